@@ -1,0 +1,95 @@
+-- The arrays of a shape while its tables are laid out.
+use Rattle.std.proofs.Common.{◌≡◌, ◌∙◌, ℕ, ◌+◌, ◌*◌, ◌^◌, ◌<◌, ◌≤◌, List, length, take, set, slice_index, get_or, cond, ltb, ap, refl, sym, arith, inl, inr, subst}
+use Rattle.std.specs.List.{sum_by, All}
+use Rattle.std.proofs.Math.Pow.{pow_mono}
+use Rattle.std.proofs.lemmas.Bool.{cases_lt, cases_eq, lt-ltb, le-ltb}
+use Rattle.std.proofs.lemmas.List.{get_or-set_same, get_or-set_other, get_or_past, get_or-take, length-set, length-take-le, ext_get_or}
+use Rattle.std.proofs.lemmas.List.Elements.{All-take}
+use Rattle.std.proofs.lemmas.List.FromFn.{fill_by_all}
+use Rattle.std.proofs.lemmas.List.Sums.{sum_by_more, sum_by-le}
+use Rattle.nb_core.specs.declared.shapes.Shape.TheInside.{Inside}
+use Rattle.nb_core.specs.Plans.{Plan, IsPlan, base_of, generations_of, table_words, word_count}
+use Rattle.nb_core.specs.Places.{IsInside, plan_of, inside_of, kept_bases, kept_exponents}
+
+-- an array of 16 with f at each place below n, and 0 from there on
+pub record IsFilled (f : ℕ → ℕ) (xs : List ℕ) (n : ℕ) : Type 0 where
+  pub size : length xs ≡ 16
+  pub filled : (k : ℕ) → k < n → get_or xs k 0 ≡ f k
+  pub empty : (k : ℕ) → n ≤ k → k < 16 → get_or xs k 0 ≡ 0
+
+pub IsFilled-more : (f : ℕ → ℕ) (xs : List ℕ) (n v : ℕ) → IsFilled f xs n → n < 16 → v ≡ f n → IsFilled f (set xs n v) (n + 1)
+IsFilled-more f xs n v h within e = record {
+  size = length-set xs n v ∙ h.size;
+  filled = λ k below. elim (cases_eq k n) [
+    | inl at ↦ ap (λ i. get_or (set xs n v) i 0) at ∙ get_or-set_same xs n v 0 (omega (arith, h.size)) ∙ e ∙ ap f (sym at)
+    | inr other ↦ get_or-set_other xs n k v 0 other ∙ h.filled k (omega (arith, other))
+  ];
+  empty = λ k above inside. get_or-set_other xs n k v 0 (λ (at : k ≡ n). absurd (omega arith)) ∙ h.empty k (omega arith) inside;
+}
+
+-- the place past the first n tables
+abbrev pub end_of : List ℕ → ℕ → ℕ
+end_of exponents n = 1 + sum_by table_words (take n exponents)
+
+-- the first n tables are laid out
+pub record AreLaid (exponents xs ys : List ℕ) (end n : ℕ) : Type 0 where
+  pub kept : IsFilled (slice_index exponents) xs n
+  pub bases : IsFilled (end_of exponents) ys n
+  pub words : end ≡ end_of exponents n
+
+-- one more table, of so many words past its headers
+pub AreLaid-more : (exponents xs ys : List ℕ) (end n words : ℕ) → AreLaid exponents xs ys end n → n < length exponents → length exponents ≤ 16 → words ≡ 2 * 2 ^ slice_index exponents n → AreLaid exponents (set xs n (slice_index exponents n)) (set ys n end) (end + (3 + words)) (n + 1)
+AreLaid-more exponents xs ys end n words h within few e = record {
+  kept = IsFilled-more _ xs n _ h.kept (omega arith) refl;
+  bases = IsFilled-more _ ys n _ h.bases (omega arith) h.words;
+  words = omega (arith, h.words, sum_by_more table_words exponents n 0 within);
+}
+
+-- a table is small, and so are the first n
+pub table-fits : (exponents : List ℕ) (n : ℕ) → All (λ e. (2 ≤ e) × (e ≤ 19)) exponents → n < length exponents → 2 ^ slice_index exponents n ≤ 2 ^ 19
+table-fits exponents n sizes within = let bounds = sizes n 0 within in pow_mono bounds.1
+
+pub end_of-le : (exponents : List ℕ) (n : ℕ) → All (λ e. (2 ≤ e) × (e ≤ 19)) exponents → n ≤ length exponents → end_of exponents n ≤ 1 + n * 1048579
+end_of-le exponents n sizes within =
+    let bound : All (λ e. table_words e ≤ 1048579) (take n exponents) = All-take (λ e. table_words e ≤ 1048579) n exponents (λ k d below.
+    let b = sizes k d below in
+    let most : 2 ^ get_or exponents k d ≤ 2 ^ 19 = pow_mono b.1 in omega arith) in
+    omega (arith, sum_by-le table_words 1048579 (take n exponents) bound, ap (λ m. m * 1048579) (length-take-le n exponents within))
+
+kept_exponents-filled : (p : Plan) (xs : List ℕ) → IsFilled (slice_index p.exponents) xs (generations_of p) → xs ≡ kept_exponents p
+unfolding kept_exponents
+kept_exponents-filled p xs h = fill_by_all (slice_index p.exponents) xs 16 0 h.size (λ k inside. elim (cases_lt k (generations_of p)) [
+  | inl below ↦ h.filled k below
+  | inr above ↦ h.empty k above inside ∙ sym (get_or_past p.exponents k 0 above)
+])
+
+kept_bases-filled : (p : Plan) (xs : List ℕ) → IsFilled (base_of p) xs (generations_of p) → xs ≡ kept_bases p
+unfolding kept_bases
+kept_bases-filled p xs h = fill_by_all (λ k. cond (ltb k (generations_of p)) (base_of p k) 0) xs 16 0 h.size (λ k inside. elim (cases_lt k (generations_of p)) [
+  | inl below ↦ h.filled k below ∙ ap (λ b. cond b (base_of p k) 0) (sym (lt-ltb k (generations_of p) below))
+  | inr above ↦ h.empty k above inside ∙ ap (λ b. cond b (base_of p k) 0) (sym (le-ltb k (generations_of p) above))
+])
+
+take-filled : (exponents xs : List ℕ) → IsFilled (slice_index exponents) xs (length exponents) → length exponents ≤ 16 → take (length exponents) xs ≡ exponents
+take-filled exponents xs h few =
+    let size : length (take (length exponents) xs) ≡ length exponents = length-take-le (length exponents) xs (omega (arith, h.size)) in
+    ext_get_or 0 _ _ size (λ i below.
+    let within : i < length exponents = omega arith in
+    get_or-take (length exponents) xs i 0 within ∙ h.filled i within)
+
+-- the fields of a shape whose tables are all laid out
+abbrev pub laid : Plan → List ℕ → List ℕ → ℕ → Inside
+laid p xs ys end = record { exponents = xs; bases = ys; words = end; generations = generations_of p; seats = p.seats; stripes = p.stripes }
+
+pub plan_of-laid : (p : Plan) (xs ys : List ℕ) (end n : ℕ) → IsPlan p → n ≡ generations_of p → AreLaid p.exponents xs ys end n → plan_of (laid p xs ys end) ≡ p
+plan_of-laid p xs ys end n plan all h =
+    ap (λ (es : List ℕ). record p { exponents = es }) (take-filled p.exponents xs (subst (IsFilled (slice_index p.exponents) xs) all h.kept) plan.few_tables)
+
+pub IsInside-laid : (p : Plan) (xs ys : List ℕ) (end n : ℕ) → IsPlan p → n ≡ generations_of p → AreLaid p.exponents xs ys end n → IsInside (laid p xs ys end)
+IsInside-laid p xs ys end n plan all h =
+    let same : plan_of (laid p xs ys end) ≡ p = plan_of-laid p xs ys end n plan all h in
+    let exponents = kept_exponents-filled p xs (subst (IsFilled (slice_index p.exponents) xs) all h.kept) in
+    let bases = kept_bases-filled p ys (subst (IsFilled (base_of p) ys) all h.bases) in
+    let words : end ≡ word_count p = h.words ∙ ap (base_of p) all in
+    let fields : laid p xs ys end ≡ inside_of p = cc in
+    record { plan = subst IsPlan (sym same) plan; fields = fields ∙ ap inside_of (sym same) }

@@ -1,0 +1,6 @@
+mod Checks
+mod Entries
+mod Filled
+mod Kept
+mod Rising
+mod Tables

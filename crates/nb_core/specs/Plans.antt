@@ -1,0 +1,121 @@
+-- The shape of a chain of tables: how many tables, how large each is, and where each word of it lies.
+use Rattle.std.specs.Prelude.{◌≡◌, ℕ, ◌+◌, ◌*◌, ◌/◌, ◌^◌, ◌<◌, ◌≤◌, suc, zero, ◌==◌, ◌&&◌, Bool, true, not, nat_le, if◌then◌else◌, List, [], ◌∷◌, length, take, sum_by, slice_index, Result, Ok, Err, All}
+use Rattle.std.specs.List.{list_all}
+use Rattle.std.specs.List.Sorted.{IsNonDecreasing}
+use Rattle.nb_core.specs.declared.shapes.ShapeFault.{ShapeFault}
+use Rattle.nb_core.specs.declared.shapes.ShapeFault.TheVariants as fault
+
+-- Table g has 2 to the power exponents[g] slots. seats may call, and a counter has stripes words.
+pub record Plan : Type 0 where
+  pub exponents : List ℕ
+  pub seats : ℕ
+  pub stripes : ℕ
+
+-- what a shape may be
+pub record IsPlan (p : Plan) : Type 0 where
+  pub some_tables : 1 ≤ length p.exponents
+  pub few_tables : length p.exponents ≤ 16
+  pub sizes : All (λ e. (2 ≤ e) × (e ≤ 19)) p.exponents
+  pub never_fall : IsNonDecreasing p.exponents
+  pub seats : (1 ≤ p.seats) × (p.seats ≤ 8)
+  pub stripes : (1 ≤ p.stripes) × (p.stripes ≤ 8)
+
+abbrev pub generations_of : Plan → ℕ
+generations_of p = length p.exponents
+
+abbrev pub size_of : Plan → ℕ → ℕ
+size_of p g = 2 ^ slice_index p.exponents g
+
+-- how many slots of its path a key may be claimed in by a fresh writer; in the last table, all
+abbrev pub limit_of : Plan → ℕ → ℕ
+limit_of p g = if suc g == generations_of p then size_of p g else 2 + size_of p g / 4
+
+-- The words of a table are three header words (next, take, done), and a key word and a value word for each slot.
+abbrev pub table_words : ℕ → ℕ
+table_words exponent = 3 + 2 * 2 ^ exponent
+
+-- The top word is word 0, and the tables follow, one after another.
+abbrev pub base_of : Plan → ℕ → ℕ
+base_of p g = 1 + sum_by table_words (take g p.exponents)
+
+abbrev pub word_count : Plan → ℕ
+word_count p = base_of p (generations_of p)
+
+abbrev pub header_place : Plan → ℕ → ℕ → ℕ
+header_place p g h = base_of p g + h
+
+abbrev pub key_place : Plan → ℕ → ℕ → ℕ
+key_place p g i = base_of p g + 3 + 2 * i
+
+abbrev pub value_place : Plan → ℕ → ℕ → ℕ
+value_place p g i = key_place p g i + 1
+
+-- the words of a chain, by name
+pub data Word : Type 0 where
+  Top : Word
+  Header : (g h : ℕ) → Word
+  Key : (g i : ℕ) → Word
+  Value : (g i : ℕ) → Word
+
+abbrev pub place_of_word : Plan → Word → ℕ
+place_of_word p Top = 0
+place_of_word p (Header g h) = header_place p g h
+place_of_word p (Key g i) = key_place p g i
+place_of_word p (Value g i) = value_place p g i
+
+abbrev pub IsWord : Plan → Word → Type 0
+IsWord p Top = Unit {0}
+IsWord p (Header g h) = (g < generations_of p) × (h < 3)
+IsWord p (Key g i) = (g < generations_of p) × (i < size_of p g)
+IsWord p (Value g i) = (g < generations_of p) × (i < size_of p g)
+
+-- No two words lie in one place, and each lies below the number of words.
+pub record HasDistinctPlaces (p : Plan) : Type 0 where
+  pub distinct : (a b : Word) → IsWord p a → IsWord p b → place_of_word p a ≡ place_of_word p b → a ≡ b
+  pub below : (a : Word) → IsWord p a → place_of_word p a < word_count p
+
+abbrev pub PlacesAreDistinct : Type 0
+PlacesAreDistinct = (p : Plan) → IsPlan p → HasDistinctPlaces p
+
+abbrev pub SizesNeverFall : Type 0
+SizesNeverFall = (p : Plan) → IsPlan p → (g : ℕ) → suc g < generations_of p → size_of p g ≤ size_of p (suc g)
+
+-- The limit of a table is a slot at least, and no more slots than the table has.
+abbrev pub LimitsFit : Type 0
+LimitsFit = (p : Plan) → IsPlan p → (g : ℕ) → g < generations_of p → (1 ≤ limit_of p g) × (limit_of p g ≤ size_of p g)
+
+abbrev pub is_within : ℕ → ℕ → ℕ → Bool
+is_within low high n = nat_le low n && nat_le n high
+
+-- no exponent is below the one before it
+abbrev pub never_falls : List ℕ → Bool
+never_falls [] = true
+never_falls (e ∷ []) = true
+never_falls (e ∷ f ∷ es) = nat_le e f && never_falls (f ∷ es)
+
+-- the plan, or the first thing that is wrong with its seats and stripes
+abbrev pub seated : List ℕ → ℕ → ℕ → Result Plan ShapeFault
+seated exponents seats stripes =
+    if not (is_within 1 8 seats) then Err fault.Seats
+    else if not (is_within 1 8 stripes) then Err fault.Stripes
+    else Ok (record { exponents = exponents; seats = seats; stripes = stripes })
+
+-- the plan of these exponents, or the first thing that is wrong with it
+abbrev pub checked_plan : List ℕ → ℕ → ℕ → Result Plan ShapeFault
+checked_plan exponents seats stripes =
+    if not (is_within 1 16 (length exponents)) then Err fault.Generations
+    else if not (list_all (is_within 2 19) exponents) then Err fault.Bits
+    else if not (never_falls exponents) then Err fault.Plan
+    else seated exponents seats stripes
+
+-- so many numbers, from first on
+abbrev pub rising : ℕ → ℕ → List ℕ
+rising first zero = []
+rising first (suc count) = first ∷ rising (suc first) count
+
+-- the plan of tables that double, or the first thing that is wrong with it
+abbrev pub checked_shape : ℕ → ℕ → ℕ → ℕ → Result Plan ShapeFault
+checked_shape bits generations seats stripes =
+    if not (is_within 2 12 bits) then Err fault.Bits
+    else if not (is_within 1 8 generations) then Err fault.Generations
+    else seated (rising bits generations) seats stripes

@@ -1,0 +1,110 @@
+//! Keys and value numbers.
+ghost use Rattle.std.specs.Prelude.{◌≡◌, ◌≤◌, nat_le, if◌then◌else◌};
+
+use std::marker::Model;
+use thiserror::Error;
+
+/// The greatest key, `2^64 - 3`: a key is stored two above itself, since two words mean an empty and a dead slot.
+pub const KEY_MAX: u64 = u64::MAX - 2;
+
+/// The greatest value number, `2^60 - 1`: a value's word also holds two flags.
+pub const VALUE_MAX: u64 = (1 << 60) - 1;
+
+/// Why a number is no key or no value number.
+#[derive(Clone, Copy, Debug, PartialEq, Eq, Hash, Error)]
+pub enum RangeFault {
+    #[error("key too large")]
+    KeyRange,
+    #[error("value too large")]
+    ValueRange,
+}
+
+/// A key of the map, a whole number up to [`KEY_MAX`]. A contract sees the number.
+#[derive(Clone, Copy, Debug, PartialEq, Eq, PartialOrd, Ord, Hash)]
+pub struct Key {
+    word: u64,
+}
+
+impl Model for Key {
+    ghost use Rattle.std.specs.Prelude.{ℕ, ◌≤◌};
+    ghost use Rattle.nb_core.specs.declared.numbers.TheConstants.{KEY_MAX};
+
+    ghost Value = { ℕ };
+
+    ghost view = { λ k. k.word };
+
+    ghost invariant = { λ k. k.word ≤ KEY_MAX };
+
+    ghost inverse = { λ n. record { word = n } };
+}
+
+impl Key {
+    pub const fn new(word: u64) -> Result<Key, RangeFault>
+        ensures { result ≡ (if nat_le word KEY_MAX then Ok word else Err RangeFault.KeyRange) }
+    {
+        if word <= KEY_MAX {
+            Ok(Key { word })
+        } else {
+            Err(RangeFault::KeyRange)
+        }
+    }
+
+    pub const fn get(self) -> u64
+        ensures number { result ≡ self }
+        ensures in_range { result ≤ KEY_MAX }
+    {
+        self.word
+    }
+
+    /// Reminds a proof of the range. It does nothing.
+    pub const fn known(self)
+        ensures { self ≤ KEY_MAX }
+    {
+        let _ = self.word;
+    }
+}
+
+/// A value number, a whole number up to [`VALUE_MAX`]. A contract sees the number.
+#[derive(Clone, Copy, Debug, PartialEq, Eq, PartialOrd, Ord, Hash)]
+pub struct Num {
+    word: u64,
+}
+
+impl Model for Num {
+    ghost use Rattle.std.specs.Prelude.{ℕ, ◌≤◌};
+    ghost use Rattle.nb_core.specs.declared.numbers.TheConstants.{VALUE_MAX};
+
+    ghost Value = { ℕ };
+
+    ghost view = { λ n. n.word };
+
+    ghost invariant = { λ n. n.word ≤ VALUE_MAX };
+
+    ghost inverse = { λ n. record { word = n } };
+}
+
+impl Num {
+    pub const fn new(word: u64) -> Result<Num, RangeFault>
+        ensures { result ≡ (if nat_le word VALUE_MAX then Ok word else Err RangeFault.ValueRange) }
+    {
+        if word <= VALUE_MAX {
+            Ok(Num { word })
+        } else {
+            Err(RangeFault::ValueRange)
+        }
+    }
+
+    pub const fn get(self) -> u64
+        ensures number { result ≡ self }
+        ensures in_range { result ≤ VALUE_MAX }
+    {
+        self.word
+    }
+
+    /// Reminds a proof of the range. It does nothing.
+    pub const fn known(self)
+        ensures { self ≤ VALUE_MAX }
+    {
+        let _ = self.word;
+    }
+}

@@ -1,0 +1,210 @@
+//! The shape of a chain of tables.
+ghost use Rattle.std.specs.Prelude.{◌≡◌, ◌<◌, ◌≤◌, All, length};
+ghost use Rattle.std.specs.List.Sorted.{IsNonDecreasing};
+ghost use Rattle.nb_core.specs.Plans.{IsPlan, base_of, checked_plan, checked_shape, generations_of, header_place, key_place, limit_of, seated, size_of, value_place, word_count};
+
+use std::marker::Model;
+use thiserror::Error;
+
+/// Why numbers make no shape.
+#[derive(Clone, Copy, Debug, PartialEq, Eq, Hash, Error)]
+pub enum ShapeFault {
+    #[error("bits out of range")]
+    Bits,
+    #[error("number of tables out of range")]
+    Generations,
+    #[error("number of seats out of range")]
+    Seats,
+    #[error("number of stripes out of range")]
+    Stripes,
+    #[error("a table smaller than the one before it")]
+    Plan,
+}
+
+/// The most tables of a chain.
+const MAX_GENERATIONS: usize = 16;
+
+/// The shape of a chain of tables: how many slots each table has, how many seats may call, and over how many
+/// stripes a size is counted. A contract sees its plan. It takes no memory, and it answers in a few instructions:
+/// it keeps where each table begins.
+#[derive(Clone, Copy, Debug, PartialEq, Eq, Hash)]
+pub struct Shape {
+    exponents: [u8; MAX_GENERATIONS],
+    bases: [u32; MAX_GENERATIONS],
+    words: u32,
+    generations: u8,
+    seats: u8,
+    stripes: u8,
+}
+
+impl Model for Shape {
+    ghost use Rattle.nb_core.specs.Plans.{Plan};
+
+    ghost Value = { Plan };
+
+    ghost use Rattle.nb_core.specs.Places.{IsInside, inside_of, plan_of};
+    ghost use Rattle.std.proofs.Common.{sym};
+
+    ghost view = { plan_of };
+
+    ghost invariant = { IsInside };
+
+    ghost inverse = { inside_of };
+
+    ghost inverse_ok = { λ a h. sym h.fields };
+}
+
+impl Shape {
+    /// Tables that double: `2^bits` slots in the first, and `generations` of them. `bits` is from 2 to 12, and the
+    /// other numbers are from 1 to 8.
+    pub fn new(
+        bits: u32,
+        generations: u32,
+        seats: usize,
+        stripes: usize,
+    ) -> Result<Shape, ShapeFault>
+        ensures { result ≡ checked_shape bits generations seats stripes }
+    {
+        if !(2..=12).contains(&bits) {
+            return Err(ShapeFault::Bits);
+        }
+        if !(1..=8).contains(&generations) {
+            return Err(ShapeFault::Generations);
+        }
+        let mut exponents = [0; 8];
+        for g in 0..generations {
+            exponents[g as usize] = bits + g;
+        }
+        Self::seated(&exponents[..generations as usize], seats, stripes)
+    }
+
+    /// The shape of these tables, unless its seats or its stripes are wrong.
+    fn seated(exponents: &[u32], seats: usize, stripes: usize) -> Result<Shape, ShapeFault>
+        requires some_tables { 1 ≤ length exponents.now }
+        requires few_tables { length exponents.now ≤ 16 }
+        requires sizes { All (λ e. (2 ≤ e) × (e ≤ 19)) exponents.now }
+        requires never_fall { IsNonDecreasing exponents.now }
+        ensures { result ≡ seated exponents.now seats stripes }
+    {
+        if !(1..=8).contains(&seats) {
+            return Err(ShapeFault::Seats);
+        }
+        if !(1..=8).contains(&stripes) {
+            return Err(ShapeFault::Stripes);
+        }
+        let mut kept = [0; MAX_GENERATIONS];
+        let mut bases = [0; MAX_GENERATIONS];
+        let mut words = 1;
+        for (g, exponent) in exponents.iter().enumerate() {
+            kept[g] = *exponent as u8;
+            bases[g] = words;
+            words += 3 + (2 << *exponent);
+        }
+        Ok(Shape {
+            exponents: kept,
+            bases,
+            words,
+            generations: exponents.len() as u8,
+            seats: seats as u8,
+            stripes: stripes as u8,
+        })
+    }
+
+    /// A table of `2^e` slots for each exponent: 1 to 16 exponents from 2 to 19, none below the one before it. There
+    /// are 1 to 8 seats and stripes.
+    pub fn with_plan(exponents: &[u32], seats: usize, stripes: usize) -> Result<Shape, ShapeFault>
+        ensures { result ≡ checked_plan exponents.now seats stripes }
+    {
+        if !(1..=MAX_GENERATIONS).contains(&exponents.len()) {
+            return Err(ShapeFault::Generations);
+        }
+        if !exponents.iter().all(|e| (2..=19).contains(e)) {
+            return Err(ShapeFault::Bits);
+        }
+        if !exponents.is_sorted() {
+            return Err(ShapeFault::Plan);
+        }
+        Self::seated(exponents, seats, stripes)
+    }
+
+    /// Reminds a proof of what a shape may be. It does nothing.
+    pub fn known(&self)
+        ensures { IsPlan self.now }
+    {
+        let _ = &self.generations;
+    }
+
+    pub fn generations(&self) -> u32
+        ensures { result ≡ generations_of self.now }
+    {
+        u32::from(self.generations)
+    }
+
+    pub fn seats(&self) -> usize
+        ensures { result ≡ self.now.seats }
+    {
+        usize::from(self.seats)
+    }
+
+    pub fn stripes(&self) -> usize
+        ensures { result ≡ self.now.stripes }
+    {
+        usize::from(self.stripes)
+    }
+
+    pub fn size_of(&self, g: u32) -> usize
+        requires { g < generations_of self.now }
+        ensures { result ≡ size_of self.now g }
+    {
+        1 << self.exponents[g as usize]
+    }
+
+    /// How many slots of its path a key may be claimed in by a fresh writer: in the last table, all.
+    pub fn limit_of(&self, g: u32) -> usize
+        requires { g < generations_of self.now }
+        ensures { result ≡ limit_of self.now g }
+    {
+        let size = self.size_of(g);
+        let generations = self.generations();
+        if g + 1 == generations {
+            size
+        } else {
+            2 + size / 4
+        }
+    }
+
+    /// The place of a header word: `h` is 0 for next, 1 for take, 2 for done.
+    pub fn header_place(&self, g: u32, h: usize) -> usize
+        requires table { g < generations_of self.now }
+        requires header { h < 3 }
+        ensures { result ≡ header_place self.now g h }
+    {
+        self.bases[g as usize] as usize + h
+    }
+
+    pub fn key_place(&self, g: u32, i: usize) -> usize
+        requires table { g < generations_of self.now }
+        requires slot { i < size_of self.now g }
+        ensures { result ≡ key_place self.now g i }
+    {
+        self.bases[g as usize] as usize + 3 + 2 * i
+    }
+
+    pub fn value_place(&self, g: u32, i: usize) -> usize
+        requires table { g < generations_of self.now }
+        requires slot { i < size_of self.now g }
+        ensures { result ≡ value_place self.now g i }
+    {
+        self.bases[g as usize] as usize + 4 + 2 * i
+    }
+
+    /// How many words a chain of this shape has.
+    pub fn words(&self) -> usize
+        ensures { result ≡ word_count self.now }
+    {
+        self.words as usize
+    }
+}
+
+#[cfg(test)]
+mod tests;

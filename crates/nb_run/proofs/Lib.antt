@@ -1,0 +1,10 @@
+mod FaultLemmas
+mod FoundLemmas
+mod Numbers
+mod PlanLemmas
+mod Reading
+mod RuleLemmas
+mod Taken
+mod Telling
+mod TextLemmas
+mod Words

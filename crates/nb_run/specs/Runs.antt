@@ -1,0 +1,36 @@
+-- What a run of a script has done, by the bytes that were read and written.
+use Rattle.std.specs.Prelude.{◌≡◌, ℕ, List, Option, Ok, Err}
+use Rattle.std.specs.Io.KnownBytes.{Appends, Consumes, IsAtEnd}
+use Rattle.nb_run.specs.Script.{Bytes, Phase, script_of}
+use Rattle.nb_run.specs.Text.{none_full, text_of}
+use Rattle.nb_run.specs.declared.script.Cause.{Cause}
+use Rattle.nb_run.specs.declared.faults.RunFault.{RunFault}
+use Rattle.nb_run.specs.declared.faults.RunFault.TheVariants as fault
+
+-- The input was read to its end, and is a script without a fault, with these phases.
+pub record HasReadScript (seats : ℕ) (unread unread' : Option Bytes) (phases : List Phase) : Type 0 where
+  pub read : Bytes
+  pub consumed : Consumes unread unread' read
+  pub ended : IsAtEnd unread'
+  pub said : script_of seats read ≡ Ok phases
+
+-- The bytes that were read have this first fault.
+pub record HasReadFault (seats : ℕ) (unread unread' : Option Bytes) (n : ℕ) (cause : Cause) : Type 0 where
+  pub read : Bytes
+  pub consumed : Consumes unread unread' read
+  pub said : script_of seats read ≡ Err (n, cause)
+
+-- When a fault comes of a script: a line's fault is the first one in the bytes that were read. Of the others the
+-- reader, the writer and the memory know.
+abbrev pub IsFaultOf : ℕ → Option Bytes → Option Bytes → RunFault → Type 0
+IsFaultOf seats unread unread' fault.Read = Unit {0}
+IsFaultOf seats unread unread' fault.Write = Unit {0}
+IsFaultOf seats unread unread' (fault.Line n cause) = HasReadFault seats unread unread' n cause
+IsFaultOf seats unread unread' fault.OutOfMemory = Unit {0}
+
+-- The input was read to its end and is a script without a fault, and the text of it was written: that of one worker,
+-- with no command refused for want of room.
+pub record HasRun (seats : ℕ) (unread unread' written written' : Option Bytes) : Type 0 where
+  pub phases : List Phase
+  pub script : HasReadScript seats unread unread' phases
+  pub told : Appends written written' (text_of none_full phases)

@@ -1,0 +1,82 @@
+//! The program: options, a script, and what is said of a fault.
+ghost use Rattle.std.specs.Prelude.{◌≡◌, ◌≢◌, ◌⊎◌, ◌↔◌, false, IsTrue, IfOk, IfErr, IsErrOf, OnOk, Result};
+ghost use Rattle.nb_run.specs.Serving.{GiveNone, GiveOptions, HasFailed, HasHelped, HasRunAsAsked, IsServeFaultOf};
+
+use crate::faults::{RunFault, ServeFault};
+use crate::options::{OptionFault, Options, read_options};
+use crate::run::run;
+use crate::streams::{Sink, Source, write_all};
+use std::alloc::Global;
+
+/// The options that the words give, if there are words.
+fn options_of(
+    alloc: Global,
+    words: Result<Vec<String>, OptionFault>,
+) -> Result<Options, OptionFault>
+    ensures given { IfOk result (λ options. GiveOptions words options.shape) }
+    ensures one_seat { IfOk result (λ options. options.shape.seats ≡ 1) }
+    ensures fault { IfErr result (GiveNone words) }
+{
+    match words {
+        Ok(words) => read_options(alloc, words.as_slice()),
+        Err(fault) => Err(fault),
+    }
+}
+
+/// Reads the options and runs the script, or writes the help that the words ask for.
+fn attend<R: Source, W: Sink>(
+    alloc: Global,
+    words: Result<Vec<String>, OptionFault>,
+    reader: &mut R,
+    writer: &mut W,
+) -> Result<(), ServeFault>
+    requires reader { R.failed reader.old ≡ false }
+    requires writer { W.failed writer.old ≡ false }
+
+    ensures ok { OnOk result (HasRunAsAsked words (R.remaining reader.old) (R.remaining reader.new) (W.contents writer.old) (W.contents writer.new)
+        ⊎ HasHelped words (W.contents writer.old) (W.contents writer.new)) }
+    ensures fault { IfErr result (IsServeFaultOf words (R.remaining reader.old) (R.remaining reader.new)) }
+    ensures read { IsErrOf result (ServeFault.Run RunFault.Read) ↔ IsTrue (R.failed reader.new) }
+    ensures write { IsErrOf result (ServeFault.Run RunFault.Write) ↔ IsTrue (W.failed writer.new) }
+    ensures silent { IfErr result (λ fault. fault ≢ ServeFault.Run RunFault.Write → writer.new ≡ writer.old) }
+{
+    match options_of(alloc, words) {
+        Ok(options) => run(alloc, &options, reader, writer).map_err(ServeFault::Run),
+        Err(OptionFault::Usage) => Err(ServeFault::Usage),
+        Err(OptionFault::OutOfMemory) => Err(ServeFault::Run(RunFault::OutOfMemory)),
+        Err(OptionFault::Help(text)) => match write_all(writer, text.as_bytes()) {
+            Ok(()) => Ok(()),
+            Err(_) => Err(ServeFault::Run(RunFault::Write)),
+        },
+    }
+}
+
+/// Runs the program on the words of its command line, and answers its exit status: 0 where the script was run or help
+/// was asked for, 1 where the reader or the writer failed, 2 for a fault of the script, 3 for words that give no
+/// options, 4 where memory ran out. A fault is told on `errors`; that `errors` fails changes no status.
+pub fn serve<R: Source, W: Sink, E: Sink>(
+    alloc: Global,
+    words: Result<Vec<String>, OptionFault>,
+    reader: &mut R,
+    writer: &mut W,
+    errors: &mut E,
+) -> u8
+    requires reader { R.failed reader.old ≡ false }
+    requires writer { W.failed writer.old ≡ false }
+    requires errors { E.failed errors.old ≡ false }
+
+    ensures done { result ≡ 0 → HasRunAsAsked words (R.remaining reader.old) (R.remaining reader.new) (W.contents writer.old) (W.contents writer.new)
+        ⊎ HasHelped words (W.contents writer.old) (W.contents writer.new) }
+    ensures quiet { result ≡ 0 → errors.new ≡ errors.old }
+
+    ensures failed { result ≢ 0 → HasFailed words (R.remaining reader.old) (R.remaining reader.new) writer.old writer.new
+        (E.contents errors.old) (E.contents errors.new) (R.failed reader.new) (W.failed writer.new) (E.failed errors.new) result }
+{
+    match attend(alloc, words, reader, writer) {
+        Ok(()) => 0,
+        Err(fault) => {
+            let _ = fault.complain(errors);
+            fault.status()
+        }
+    }
+}
