@@ -1,4 +1,4 @@
--- When each fault comes.
+-- What the words give, and when each fault comes.
 use Rattle.std.proofs.Common.{◌≡◌, ◌∙◌, ◌⊎◌, ap, sym, subst, inl, inr, refl, true, List, []}
 use Rattle.clap.specs.Words.{App, HasMatchesOf, IsAmong, Row, Text, fault_of, found_of, is_simple_and_free, matches_of, rows_of}
 use Rattle.clap.specs.declared.error.kind.ErrorKind.{ErrorKind}
@@ -8,7 +8,7 @@ use Rattle.clap.specs.declared.parser.matches.ArgMatches.{ArgMatches}
 use Rattle.nb_core.specs.Plans.{Plan}
 use Rattle.nb_run.specs.declared.options.OptionFault.{OptionFault}
 use Rattle.nb_run.specs.declared.options.OptionFault.TheVariants.{Usage, Help, OutOfMemory}
-use Rattle.nb_run.specs.Options.{GivesNone, IsDue, IsFaultOf, IsFound, IsRefused, nbrun}
+use Rattle.nb_run.specs.Options.{AreGiven, GivesNone, IsDue, IsFaultOf, IsFound, IsRefused, nbrun}
 use Rattle.nb_run.proofs.FoundLemmas.{found_same}
 
 -- the fault of an error of clap's
@@ -28,12 +28,21 @@ is_due app words k fault is kinds h = go fault (subst (λ (a : App). is_simple_a
 pub is_taken : (app : App) (words : List Text) → app ≡ nbrun → (is_simple_and_free app ≡ true → fault_of app words ≡ []) → fault_of nbrun words ≡ []
 is_taken app words is kinds = subst (λ (a : App). is_simple_and_free a ≡ true → fault_of a words ≡ []) is kinds refl
 
+rows_are : (app : App) (words : List Text) (m : ArgMatches) → app ≡ nbrun → HasMatchesOf app words m → rows_of (found_of m) ≡ matches_of nbrun words
+rows_are app words m is matched = (subst (λ (a : App). HasMatchesOf a words m) is matched refl).0
+
+-- what is found in the matches is what the words give
+pub are_given : (app : App) (words : List Text) (m : ArgMatches) (plan : Plan) → app ≡ nbrun → HasMatchesOf app words m
+    → IsFound (rows_of (found_of m)) plan → AreGiven words plan
+are_given app words m plan is matched found = subst (λ (rs : List Row). IsFound rs plan) (rows_are app words m is matched) found
+
 -- the fault of words that clap takes
 pub is_none_due : (app : App) (words : List Text) (m : ArgMatches) → app ≡ nbrun → (is_simple_and_free app ≡ true → fault_of app words ≡ []) → HasMatchesOf app words m
     → ((plan : Plan) → IsFound (rows_of (found_of m)) plan → plan.seats ≡ 1 → ⊥) → IsRefused words ⊎ GivesNone words
-is_none_due app words m is kinds matched none =
-    let rows : rows_of (found_of m) ≡ matches_of nbrun words = (subst (λ (a : App). HasMatchesOf a words m) is matched refl).0 in
-    inr (is_taken app words is kinds, subst (λ (rs : List Row). (plan : Plan) → IsFound rs plan → plan.seats ≡ 1 → ⊥) rows none)
+is_none_due app words m is kinds matched none = inr (
+  is_taken app words is kinds,
+  subst (λ (rs : List Row). (plan : Plan) → IsFound rs plan → plan.seats ≡ 1 → ⊥) (rows_are app words m is matched) none,
+)
 
 -- another number of seats leaves no plan with one
 pub seats_differ : (rows : List Row) (p : Plan) → IsFound rows p → (p.seats ≡ 1 → ⊥) → (plan : Plan) → IsFound rows plan → plan.seats ≡ 1 → ⊥

@@ -6,7 +6,8 @@ use Rattle.std.specs.Str.{all_ascii_digits}
 use Rattle.std.specs.Str.Parse.{ParsesUnsigned, digits_value, without_leading_plus}
 use Rattle.std.proofs.lemmas.Str.Parse.{IsNumeralModel, numerals_by_value, parse_plain, tells_all_ascii_digits}
 use Rattle.clap.proofs.WalkLemmas.{both}
-use Rattle.nb_run.specs.Options.{number_of, u32_of}
+use Rattle.nb_run.specs.Options.{u32_of}
+use Rattle.nb_run.specs.Script.{number_of}
 
 -- the digits that `parse` reads
 digits : IsNumeralModel (λ ds. all_ascii_digits ds ≡ true) (digits_value 10)

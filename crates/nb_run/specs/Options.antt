@@ -1,15 +1,15 @@
 -- What the words of nbrun's command line give.
-use Rattle.std.specs.Prelude.{◌≡◌, ◌≢◌, ◌==◌, ◌&&◌, ◌^◌, ◌⊎◌, ℕ, pos, List, [], ◌∷◌, length, Option, Some, None, option_and_then, option_map, if◌then◌else◌, nat_lt, codes}
+use Rattle.std.specs.Prelude.{◌≡◌, ◌≢◌, ◌==◌, ◌^◌, ◌⊎◌, ℕ, pos, List, [], ◌∷◌, Option, Some, None, option_and_then, option_map, if◌then◌else◌, nat_lt, codes}
 use Rattle.std.specs.Result.{result_ok}
 use Rattle.std.specs.List.{slice_split}
-use Rattle.std.specs.Str.{all_ascii_digits}
-use Rattle.std.specs.Str.Parse.{digits_value, without_leading_plus}
+use Rattle.std.specs.Str.Parse.{without_leading_plus}
 use Rattle.clap.specs.Words.{App, IsAmong, Row, Rule, Text, fault_of, first_of, matches_of, new_app, new_rule, one_of, with_rule}
 use Rattle.clap.specs.declared.error.kind.ErrorKind.{ErrorKind}
 use Rattle.clap.specs.declared.error.kind.ErrorKind.TheVariants as kind
 use Rattle.clap.specs.declared.error.kind.ErrorKind.TheVariants.{DisplayHelp}
 use Rattle.nb_run.specs.declared.options.OptionFault.{OptionFault}
 use Rattle.nb_run.specs.declared.options.OptionFault.TheVariants.{Usage, Help, OutOfMemory}
+use Rattle.nb_run.specs.Script.{number_of}
 use Rattle.nb_core.specs.Plans.{Plan, checked_plan, checked_shape}
 use Rattle.clap.specs.declared.builder.ArgAction.TheVariants.{Set}
 use Rattle.clap.specs.declared.builder.value_parser.ValueParser.{ValueParser}
@@ -40,12 +40,6 @@ nbrun = with_rule (with_rule (with_rule (with_rule (with_rule (new_app (codes "n
     (option_rule (codes "plan"))
 
 -- ---- what a text says
-
--- the number that a text of digits writes in base ten, leading zeros allowed
-abbrev pub number_of : Text → Option ℕ
-number_of digits =
-    if nat_lt 0 (length digits) && all_ascii_digits digits then Some (digits_value 10 digits)
-    else None
 
 -- the numbers, where each text writes one
 abbrev pub numbers_of : List Text → Option (List ℕ)

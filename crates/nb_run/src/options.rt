@@ -2,7 +2,8 @@
 ghost use Rattle.std.specs.Prelude.{◌≡◌, ◌≤◌, ◌^◌, false, ℕ, [], IfErr, IfNone, IfOk, IfSome, OnOk, map, string_bytes};
 ghost use Rattle.clap.specs.Words.{app_of, fault_of, found_of, kind_of, rows_of, rule_of};
 ghost use Rattle.nb_core.specs.Plans.{Plan};
-ghost use Rattle.nb_run.specs.Options.{AreGiven, IsDue, IsFaultOf, IsFound, nbrun, number_of, option_rule, plan_of_text};
+ghost use Rattle.nb_run.specs.Options.{AreGiven, IsDue, IsFaultOf, IsFound, nbrun, option_rule, plan_of_text};
+ghost use Rattle.nb_run.specs.Script.{number_of};
 
 use clap::error::ErrorKind;
 use clap::{Arg, ArgAction, ArgMatches, Command, value_parser};

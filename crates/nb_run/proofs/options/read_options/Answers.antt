@@ -1,6 +1,6 @@
 use Rattle.std.proofs.Common.{arith, map, string_bytes}
 use Rattle.clap.specs.Words.{app_of, kind_of}
-use Rattle.nb_run.proofs.FaultLemmas.{is_due, is_none_due, is_taken, seats_differ}
+use Rattle.nb_run.proofs.FaultLemmas.{are_given, is_due, is_none_due, is_taken, seats_differ}
 use Rattle.nb_run.proofs.options.read_options.Goals as goal
 
 pub returns-in-Err-clause-fault : goal.returns-in-Err-clause-fault
@@ -19,3 +19,7 @@ returns-then-seats-ne1-clause-fault c =
 
 pub returns-clause-taken : goal.returns-clause-taken
 returns-clause-taken c = is_taken (app_of c.in_ok-command.field-0) (map string_bytes c.args.words.now) c.in_ok-command.ensures c.in-Ok.ensures.kinds
+
+pub returns-clause-given : goal.returns-clause-given
+returns-clause-given c =
+    are_given (app_of c.in_ok-command.field-0) (map string_bytes c.args.words.now) c.in-Ok.matches _ c.in_ok-command.ensures c.in-Ok.ensures.matches c.in-Some.ensures.some
