@@ -1,6 +1,6 @@
 -- What a plain map's entries say of the finite map that they make.
 use Rattle.std.proofs.Common.{arith, ◌≡◌, ◌∙◌, sym, ap, refl, subst, ℕ, List, [], ◌∷◌, ◌++◌, length, map, Bool, ◌&&◌, cond, true, false, T, Option, Some, None}
-use Rattle.std.specs.FinMap.{FinMap, find, get, insert, remove, entries, from_entries, from_sorted, is_sorted, get-from_entries, get-from_sorted, get-insert, get-remove, entries-from_sorted, len, len-entries, same_map, nat_cmp-IsAntisymmetric}
+use Rattle.std.specs.FinMap.{find, get, insert, remove, entries, from_entries, from_sorted, is_sorted, get-from_entries, get-from_sorted, get-insert, get-remove, entries-from_sorted, len, len-entries, same_map, nat_cmp-IsAntisymmetric}
 use Rattle.std.specs.Ordering.{nat_cmp, eq_by_cmp}
 use Rattle.std.specs.Cmp.{nat_cmp_total, eq_by_cmp_equiv}
 use Rattle.std.specs.Map.{lookup}

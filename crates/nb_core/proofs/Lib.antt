@@ -2,5 +2,10 @@ mod Checks
 mod Entries
 mod Filled
 mod Kept
+mod Legality
+mod Passing
+mod Refused
+mod Replies
 mod Rising
 mod Tables
+mod Worked

@@ -55,3 +55,9 @@ abbrev pub overflows : Call → Numbers → Bool
 overflows (Get k) m = false
 overflows (Write k want change) m =
     if holds_of want (get m k) then is_past_max (changed change (get m k)) else false
+
+-- the call is a write whose condition holds, and which leaves something at its key
+abbrev pub puts : Call → Numbers → Bool
+puts (Get k) m = false
+puts (Write k want change) m =
+    if holds_of want (get m k) then is_some (changed change (get m k)) else false

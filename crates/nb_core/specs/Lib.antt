@@ -1,3 +1,9 @@
 pub mod Calls
+pub mod Histories
+pub mod History
+pub mod Meaning
 pub mod Places
 pub mod Plans
+pub mod Refusals
+pub mod States
+pub mod Tables

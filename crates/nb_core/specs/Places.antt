@@ -4,6 +4,7 @@ use Rattle.std.specs.List.{range_with_len}
 use Rattle.nb_core.specs.declared.shapes.Shape.TheInside.{Inside}
 use Rattle.nb_core.specs.Plans.{Plan, IsPlan, base_of, generations_of, word_count}
 
+-- the plan that the fields keep
 abbrev pub plan_of : Inside → Plan
 plan_of a = record { exponents = take a.generations a.exponents; seats = a.seats; stripes = a.stripes }
 

@@ -5,7 +5,8 @@ use Rattle.std.specs.List.Sorted.{IsNonDecreasing}
 use Rattle.nb_core.specs.declared.shapes.ShapeFault.{ShapeFault}
 use Rattle.nb_core.specs.declared.shapes.ShapeFault.TheVariants as fault
 
--- Table g has 2 to the power exponents[g] slots. seats may call, and a counter has stripes words.
+-- Table g has 2 to the power exponents[g] slots. There are seats for so many callers, and a size is counted over so many
+-- stripes.
 pub record Plan : Type 0 where
   pub exponents : List ℕ
   pub seats : ℕ
@@ -20,9 +21,11 @@ pub record IsPlan (p : Plan) : Type 0 where
   pub seats : (1 ≤ p.seats) × (p.seats ≤ 8)
   pub stripes : (1 ≤ p.stripes) × (p.stripes ≤ 8)
 
+-- how many tables there are
 abbrev pub generations_of : Plan → ℕ
 generations_of p = length p.exponents
 
+-- how many slots table g has
 abbrev pub size_of : Plan → ℕ → ℕ
 size_of p g = 2 ^ slice_index p.exponents g
 
@@ -30,23 +33,27 @@ size_of p g = 2 ^ slice_index p.exponents g
 abbrev pub limit_of : Plan → ℕ → ℕ
 limit_of p g = if suc g == generations_of p then size_of p g else 2 + size_of p g / 4
 
--- The words of a table are three header words (next, take, done), and a key word and a value word for each slot.
+-- how many words a table has: three header words (next, take, done), and a key word and a value word for each slot
 abbrev pub table_words : ℕ → ℕ
 table_words exponent = 3 + 2 * 2 ^ exponent
 
--- The top word is word 0, and the tables follow, one after another.
+-- where table g begins: the top word is word 0, and the tables follow, one after another
 abbrev pub base_of : Plan → ℕ → ℕ
 base_of p g = 1 + sum_by table_words (take g p.exponents)
 
+-- how many words the chain has
 abbrev pub word_count : Plan → ℕ
 word_count p = base_of p (generations_of p)
 
+-- where header word h of table g lies
 abbrev pub header_place : Plan → ℕ → ℕ → ℕ
 header_place p g h = base_of p g + h
 
+-- where the key word of slot i of table g lies
 abbrev pub key_place : Plan → ℕ → ℕ → ℕ
 key_place p g i = base_of p g + 3 + 2 * i
 
+-- where the value word of slot i of table g lies, right behind its key word
 abbrev pub value_place : Plan → ℕ → ℕ → ℕ
 value_place p g i = key_place p g i + 1
 
@@ -57,12 +64,14 @@ pub data Word : Type 0 where
   Key : (g i : ℕ) → Word
   Value : (g i : ℕ) → Word
 
+-- where a word lies
 abbrev pub place_of_word : Plan → Word → ℕ
 place_of_word p Top = 0
 place_of_word p (Header g h) = header_place p g h
 place_of_word p (Key g i) = key_place p g i
 place_of_word p (Value g i) = value_place p g i
 
+-- the chain has this word
 abbrev pub IsWord : Plan → Word → Type 0
 IsWord p Top = Unit {0}
 IsWord p (Header g h) = (g < generations_of p) × (h < 3)
@@ -74,9 +83,11 @@ pub record HasDistinctPlaces (p : Plan) : Type 0 where
   pub distinct : (a b : Word) → IsWord p a → IsWord p b → place_of_word p a ≡ place_of_word p b → a ≡ b
   pub below : (a : Word) → IsWord p a → place_of_word p a < word_count p
 
+-- each plan that a shape may be has its words in distinct places
 abbrev pub PlacesAreDistinct : Type 0
 PlacesAreDistinct = (p : Plan) → IsPlan p → HasDistinctPlaces p
 
+-- no table is smaller than the one before it
 abbrev pub SizesNeverFall : Type 0
 SizesNeverFall = (p : Plan) → IsPlan p → (g : ℕ) → suc g < generations_of p → size_of p g ≤ size_of p (suc g)
 
@@ -84,6 +95,7 @@ SizesNeverFall = (p : Plan) → IsPlan p → (g : ℕ) → suc g < generations_o
 abbrev pub LimitsFit : Type 0
 LimitsFit = (p : Plan) → IsPlan p → (g : ℕ) → g < generations_of p → (1 ≤ limit_of p g) × (limit_of p g ≤ size_of p g)
 
+-- the number is from low to high
 abbrev pub is_within : ℕ → ℕ → ℕ → Bool
 is_within low high n = nat_le low n && nat_le n high
 

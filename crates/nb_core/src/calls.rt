@@ -68,8 +68,9 @@ pub struct Reply {
     pub matched: bool,
 }
 
-/// A call of the map. One conditional write stands behind all writes of `ConcurrentMap`: `put` is a write under
-/// `Any`, `putIfAbsent` under `Absent`, `replace(k, v)` under `Present`, `replace(k, old, new)` under `Equal`.
+/// A call of the map. One conditional write stands behind all writes of `ConcurrentMap`: `put(k, v)` and `remove(k)`
+/// are writes under `Any`, `putIfAbsent(k, v)` under `Absent`, `replace(k, v)` under `Present`, and
+/// `replace(k, old, new)` and `remove(k, v)` under `Equal`. An `Add` under `Any` is `merge` by a sum.
 #[derive(Clone, Copy, Debug, PartialEq, Eq, Hash)]
 pub enum Call {
     Get {

@@ -6,13 +6,19 @@
 #![tactic(auto)]
 
 mod calls;
+mod events;
+pub mod examples;
 pub mod laws;
 mod numbers;
 mod plain;
+pub mod refusals;
 mod shapes;
+mod states;
 
 pub use calls::{Call, Change, Reply, Want};
+pub use events::Event;
 pub use numbers::{KEY_MAX, Key, Num, RangeFault, VALUE_MAX};
 pub use plain::{PlainFault, PlainMap};
 pub use shapes::{Shape, ShapeFault};
+pub use states::{KeyState, ValueState, decode_key, decode_value, encode_key, encode_value};
 pub use std::alloc::AllocError as OutOfMemory;

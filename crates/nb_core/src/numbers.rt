@@ -59,15 +59,13 @@ impl Key {
     /// Reminds a proof of the range. It does nothing.
     pub const fn known(self)
         ensures { self ≤ KEY_MAX }
-    {
-        let _ = self.word;
-    }
+    {}
 }
 
 /// A value number, a whole number up to [`VALUE_MAX`]. A contract sees the number.
 #[derive(Clone, Copy, Debug, PartialEq, Eq, PartialOrd, Ord, Hash)]
 pub struct Num {
-    word: u64,
+    number: u64,
 }
 
 impl Model for Num {
@@ -76,11 +74,11 @@ impl Model for Num {
 
     ghost Value = { ℕ };
 
-    ghost view = { λ n. n.word };
+    ghost view = { λ n. n.number };
 
-    ghost invariant = { λ n. n.word ≤ VALUE_MAX };
+    ghost invariant = { λ n. n.number ≤ VALUE_MAX };
 
-    ghost inverse = { λ n. record { word = n } };
+    ghost inverse = { λ n. record { number = n } };
 }
 
 impl Num {
@@ -88,7 +86,7 @@ impl Num {
         ensures { result ≡ (if nat_le word VALUE_MAX then Ok word else Err RangeFault.ValueRange) }
     {
         if word <= VALUE_MAX {
-            Ok(Num { word })
+            Ok(Num { number: word })
         } else {
             Err(RangeFault::ValueRange)
         }
@@ -98,13 +96,14 @@ impl Num {
         ensures number { result ≡ self }
         ensures in_range { result ≤ VALUE_MAX }
     {
-        self.word
+        self.number
     }
 
     /// Reminds a proof of the range. It does nothing.
     pub const fn known(self)
         ensures { self ≤ VALUE_MAX }
-    {
-        let _ = self.word;
-    }
+    {}
 }
+
+#[cfg(test)]
+mod tests;

@@ -77,7 +77,7 @@ fn command<'a>(alloc: Global) -> Result<Command<'a>, AllocError>
         "A table of 2^E slots for each E, in place of --bits and --generations",
     );
     Command::new(alloc, "nbrun")
-        .about("Runs a non-blocking hash map")
+        .about("Runs a script of commands, read from standard input, on a map of whole numbers")
         .arg(bits)?
         .arg(generations)?
         .arg(seats)?

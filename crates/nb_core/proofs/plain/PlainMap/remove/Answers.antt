@@ -1,4 +1,4 @@
-use Rattle.std.proofs.Common.{◌∙◌, ap, sym}
+use Rattle.std.proofs.Common.{◌∙◌, ap}
 use Rattle.std.specs.FinMap.{remove}
 use Rattle.nb_core.proofs.Entries.{removed}
 use Rattle.nb_core.proofs.plain.PlainMap.remove.Goals as goal

@@ -1,0 +1,227 @@
+-- Legal histories: when an event may follow, and the map that a history stands for.
+use Rattle.std.specs.Prelude.{◌≡◌, ◌≢◌, ℕ, suc, zero, ◌+◌, ◌<◌, ◌≤◌, ◌⊎◌, ◌==◌, ◌&&◌, Bool, true, false, if◌then◌else◌, List, [], ◌∷◌, Option, Some, None, MatchOption}
+use Rattle.std.specs.FinMap as map
+use Rattle.nb_core.specs.Calls.{Numbers, changed, holds_of, map_after, overflows, reply_of}
+use Rattle.nb_core.specs.Plans.{Plan, generations_of, limit_of, size_of}
+use Rattle.nb_core.specs.States.{IsValueState}
+use Rattle.nb_core.specs.Tables.{AreOthers, HasSlotBelow, IsComplete, IsInstalled, IsReady, IsSettledBelow, IsSlot, IsUnprimed, Tables, path_slot, tables_at}
+use Rattle.nb_core.specs.declared.numbers.TheConstants.{KEY_MAX, VALUE_MAX}
+use Rattle.nb_core.specs.declared.calls.Call.{Call}
+use Rattle.nb_core.specs.declared.calls.Call.TheVariants as call
+use Rattle.nb_core.specs.declared.calls.Change.{Change}
+use Rattle.nb_core.specs.declared.calls.Change.TheVariants as change
+use Rattle.nb_core.specs.declared.calls.Want.{Want}
+use Rattle.nb_core.specs.declared.calls.Want.TheVariants as want
+use Rattle.nb_core.specs.declared.events.Event.{Event}
+use Rattle.nb_core.specs.declared.events.Event.TheVariants.{Claim, Kill, Won, CopyIn, Prime, Finish, Install, Take, Count, Promote, Read}
+use Rattle.nb_core.specs.declared.states.KeyState.TheVariants.{Empty, Claimed}
+use Rattle.nb_core.specs.declared.states.ValueState.{ValueState}
+use Rattle.nb_core.specs.declared.states.ValueState.TheVariants.{Null, Tombstone, Live, PrimedNull, PrimedTombstone, Primed, Finished}
+
+-- ---- when an event may follow
+
+-- A key is claimed at the first empty slot of its path: by a copier where it stands in the table below, and else
+-- within the limit, once that table is complete.
+pub record MayClaim (p : Plan) (t : Tables) (g i k : ℕ) : Type 0 where
+  pub installed : IsInstalled t g
+  pub empty : t.key g i ≡ Empty
+  pub distance : ℕ
+  pub on_path : (distance < size_of p g) × (path_slot p g k distance ≡ i)
+  pub passed : AreOthers p t g k distance
+  pub reason : HasSlotBelow p t g k ⊎ (IsReady p t g × (distance < limit_of p g))
+
+-- An empty slot of a table that is being copied is closed to keys.
+pub record MayKill (t : Tables) (g i : ℕ) : Type 0 where
+  pub growing : t.next g ≡ 1
+  pub empty : t.key g i ≡ Empty
+
+-- the number that an unprimed or any other value stands for
+abbrev pub content_of : ValueState → Option ℕ
+content_of Null = None
+content_of Tombstone = None
+content_of (Live n) = Some n
+content_of PrimedNull = None
+content_of PrimedTombstone = None
+content_of (Primed n) = Some n
+content_of (Finished n) = Some n
+
+-- what a change puts in place of a value: another number, or a tombstone for a number
+abbrev pub Exchanges : Change → ValueState → ValueState → Type 0
+Exchanges change a b = MatchOption (changed change (content_of a))
+    ((b ≡ Tombstone) × ((n : ℕ) × (a ≡ Live n)))
+    (λ n. (b ≡ Live n) × (b ≢ a) × (n ≤ VALUE_MAX))
+
+-- the call is a write of this key whose condition holds of a, and puts b in its place
+abbrev pub IsExchange : Call → ℕ → ValueState → ValueState → Type 0
+IsExchange (call.Get key) k a b = ⊥
+IsExchange (call.Write key want change) k a b =
+    (key ≡ k) × (holds_of want (content_of a) ≡ true) × Exchanges change a b
+
+-- A call exchanges the value of its key, once the key's slot in the table below is finished.
+pub record MayWin (p : Plan) (t : Tables) (g i : ℕ) (a b : ValueState) (c : Call) : Type 0 where
+  pub key : ℕ
+  pub claimed : t.key g i ≡ Claimed key
+  pub stands : t.value g i ≡ a
+  pub unprimed : IsUnprimed a
+  pub settled : IsSettledBelow p t g key
+  pub exchange : IsExchange c key a b
+
+-- the key's slot in the table below is primed with this number
+abbrev pub IsPrimedBelow : Plan → Tables → ℕ → ℕ → ℕ → Type 0
+IsPrimedBelow p t zero k n = ⊥
+IsPrimedBelow p t (suc g) k n = (i : ℕ) × (i < size_of p g) × (t.key g i ≡ Claimed k) × (t.value g i ≡ Primed n)
+
+-- A copier stores over null alone.
+pub record MayCopyIn (p : Plan) (t : Tables) (g i k n : ℕ) : Type 0 where
+  pub claimed : t.key g i ≡ Claimed k
+  pub null : t.value g i ≡ Null
+  pub primed : IsPrimedBelow p t g k n
+
+-- A value is primed once there is a next table.
+pub record MayPrime (t : Tables) (g i : ℕ) : Type 0 where
+  pub growing : t.next g ≡ 1
+  pub key : ℕ
+  pub claimed : t.key g i ≡ Claimed key
+  pub unprimed : IsUnprimed (t.value g i)
+
+-- the key has a slot in the table whose value isn't null
+pub record HasValue (p : Plan) (t : Tables) (g k : ℕ) : Type 0 where
+  pub slot : ℕ
+  pub in_table : slot < size_of p g
+  pub is : t.key g slot ≡ Claimed k
+  pub some : t.value g slot ≢ Null
+
+-- A primed number is finished only after its key has a value in the next table.
+pub record MayFinish (p : Plan) (t : Tables) (g i : ℕ) : Type 0 where
+  pub key : ℕ
+  pub number : ℕ
+  pub claimed : t.key g i ≡ Claimed key
+  pub primed : t.value g i ≡ Primed number
+  pub copied : HasValue p t (suc g) key
+
+-- A table is followed by another where a key's path is crowded up to the limit, and the table below is complete.
+pub record MayInstall (p : Plan) (t : Tables) (g k : ℕ) : Type 0 where
+  pub room : suc g < generations_of p
+  pub last : t.next g ≡ 0
+  pub ready : IsReady p t g
+  pub crowded : AreOthers p t g k (limit_of p g)
+
+-- Chunks of a table are handed out once there is a next table.
+abbrev pub MayTake : Tables → ℕ → Type 0
+MayTake t g = t.next g ≡ 1
+
+-- the value has no number to copy
+abbrev pub is_empty_content : ValueState → Bool
+is_empty_content Null = true
+is_empty_content Tombstone = true
+is_empty_content _ = false
+
+-- whether the event turned a slot of a table finished, and was the seat's
+abbrev pub turns : Plan → List Event → Event → ℕ → ℕ → Bool
+turns p h (Kill s' g' i) s g = s' == s && g' == g
+turns p h (Finish s' g' i) s g = s' == s && g' == g
+turns p h (Prime s' g' i) s g = s' == s && g' == g && is_empty_content ((tables_at p h).value g i)
+turns p h _ s g = false
+
+-- how many slots of a table the events of a seat turned finished
+abbrev pub turned_by : Plan → List Event → ℕ → ℕ → ℕ
+turned_by p [] s g = 0
+turned_by p (e ∷ h) s g = (if turns p h e s g then 1 else 0) + turned_by p h s g
+
+-- how many slots of a table an event counted, where it was the seat's
+abbrev pub counts : Event → ℕ → ℕ → ℕ
+counts (Count s' g' c) s g = if s' == s && g' == g then c else 0
+counts _ s g = 0
+
+-- how many slots of a table a seat has counted
+abbrev pub counted_by : List Event → ℕ → ℕ → ℕ
+counted_by [] s g = 0
+counted_by (e ∷ h) s g = counts e s g + counted_by h s g
+
+-- A seat counts slots that its own events turned finished, each once.
+pub record MayCount (p : Plan) (h : List Event) (s g c : ℕ) : Type 0 where
+  pub some : 1 ≤ c
+  pub own : counted_by h s g + c ≤ turned_by p h s g
+
+-- The top word passes complete tables alone.
+pub record MayPromote (p : Plan) (t : Tables) (g : ℕ) : Type 0 where
+  pub complete : IsComplete p t g
+  pub higher : t.top ≤ g
+
+-- the event may come next after the history
+abbrev pub MayFollow : Plan → List Event → Event → Type 0
+MayFollow p h (Claim s g i k) = MayClaim p (tables_at p h) g i k
+MayFollow p h (Kill s g i) = MayKill (tables_at p h) g i
+MayFollow p h (Won s g i a b c r) = MayWin p (tables_at p h) g i a b c
+MayFollow p h (CopyIn s g i k n) = MayCopyIn p (tables_at p h) g i k n
+MayFollow p h (Prime s g i) = MayPrime (tables_at p h) g i
+MayFollow p h (Finish s g i) = MayFinish p (tables_at p h) g i
+MayFollow p h (Install s g k) = MayInstall p (tables_at p h) g k
+MayFollow p h (Take s g) = MayTake (tables_at p h) g
+MayFollow p h (Count s g c) = MayCount p h s g c
+MayFollow p h (Promote s g) = MayPromote p (tables_at p h) g
+MayFollow p h (Read s c r) = Unit {0}
+
+-- ---- ranges
+
+-- the number of the condition, if it has one, is a number of the map
+abbrev pub IsWantInRange : Want → Type 0
+IsWantInRange want.Any = Unit {0}
+IsWantInRange want.Absent = Unit {0}
+IsWantInRange want.Present = Unit {0}
+IsWantInRange (want.Equal n) = n ≤ VALUE_MAX
+
+-- the number of the change, if it has one, is a number of the map
+abbrev pub IsChangeInRange : Change → Type 0
+IsChangeInRange (change.Put n) = n ≤ VALUE_MAX
+IsChangeInRange change.Remove = Unit {0}
+IsChangeInRange (change.Add n) = n ≤ VALUE_MAX
+
+-- the call is one of this map: its key and its numbers are some
+abbrev pub IsCallInRange : Call → Type 0
+IsCallInRange (call.Get k) = k ≤ KEY_MAX
+IsCallInRange (call.Write k want change) = (k ≤ KEY_MAX) × IsWantInRange want × IsChangeInRange change
+
+-- the seat, the table, the slot, the keys and the numbers of an event are some
+abbrev pub IsInRange : Plan → Event → Type 0
+IsInRange p (Claim s g i k) = (s < p.seats) × IsSlot p g i × (k ≤ KEY_MAX)
+IsInRange p (Kill s g i) = (s < p.seats) × IsSlot p g i
+IsInRange p (Won s g i a b c r) = (s < p.seats) × IsSlot p g i × IsValueState a × IsValueState b × IsCallInRange c
+IsInRange p (CopyIn s g i k n) = (s < p.seats) × IsSlot p g i × (k ≤ KEY_MAX) × (n ≤ VALUE_MAX)
+IsInRange p (Prime s g i) = (s < p.seats) × IsSlot p g i
+IsInRange p (Finish s g i) = (s < p.seats) × IsSlot p g i
+IsInRange p (Install s g k) = (s < p.seats) × (g < generations_of p) × (k ≤ KEY_MAX)
+IsInRange p (Take s g) = (s < p.seats) × (g < generations_of p)
+IsInRange p (Count s g c) = (s < p.seats) × (g < generations_of p)
+IsInRange p (Promote s g) = (s < p.seats) × (g < generations_of p)
+IsInRange p (Read s c r) = (s < p.seats) × IsCallInRange c
+
+-- ---- the map, and legality
+
+-- the key of a call
+abbrev pub key_of_call : Call → ℕ
+key_of_call (call.Get k) = k
+key_of_call (call.Write k want change) = k
+
+-- the map with the value that a call's exchange put at its key
+abbrev pub after_win : Numbers → ℕ → ValueState → Numbers
+after_win m k (Live n) = map.insert m k n
+after_win m k Tombstone = map.remove m k
+after_win m k _ = m
+
+-- the map that a history stands for: its exchanges, one after another, and nothing else of it
+abbrev pub map_of : List Event → Numbers
+map_of [] = map.empty
+map_of (Won s g i a b c r ∷ h) = after_win (map_of h) (key_of_call c) b
+map_of (_ ∷ h) = map_of h
+
+-- A call replies as the map does at its event; a read leaves the map as it is. No call is an add that overflows.
+abbrev pub Replies : Numbers → Event → Type 0
+Replies m (Won s g i a b c r) = (r ≡ reply_of c m) × (overflows c m ≡ false)
+Replies m (Read s c r) = (r ≡ reply_of c m) × (overflows c m ≡ false) × (map_after c m ≡ m)
+Replies m _ = Unit {0}
+
+-- every event of the history was one that might come next, and its call replied as the map does
+abbrev pub IsLegal : Plan → List Event → Type 0
+IsLegal p [] = Unit {0}
+IsLegal p (e ∷ h) = IsLegal p h × IsInRange p e × MayFollow p h e × Replies (map_of h) e

@@ -1,0 +1,96 @@
+//! What the two words of a slot hold.
+ghost use Rattle.std.specs.Prelude.{◌≡◌, ◌≢◌, Some, IfSome, IfNone};
+ghost use Rattle.nb_core.specs.States.{IsValueState, key_state, key_word, value_state, value_word};
+
+use crate::numbers::{Key, Num};
+
+/// What the key word of a slot holds.
+#[derive(Clone, Copy, Debug, PartialEq, Eq, Hash)]
+pub enum KeyState {
+    Empty,
+    /// No key may be claimed here any more: the table is being copied.
+    Dead,
+    Claimed(Key),
+}
+
+/// What the value word of a slot holds. A primed number is about to be copied, and becomes a finished one when the next
+/// table has a value of its key. A primed null or tombstone leaves nothing to copy.
+#[derive(Clone, Copy, Debug, PartialEq, Eq, Hash)]
+pub enum ValueState {
+    /// The key never had a value in this table.
+    Null,
+    /// The key was removed.
+    Tombstone,
+    Live(Num),
+    PrimedNull,
+    PrimedTombstone,
+    Primed(Num),
+    Finished(Num),
+}
+
+/// The word of a key state.
+pub fn encode_key(state: KeyState) -> u64
+    ensures word { result ≡ key_word state }
+    ensures back { key_state result ≡ state }
+{
+    match state {
+        KeyState::Empty => 0,
+        KeyState::Dead => 1,
+        KeyState::Claimed(key) => key.get() + 2,
+    }
+}
+
+/// What a key word holds. Every word is one.
+pub fn decode_key(word: u64) -> KeyState
+    ensures state { result ≡ key_state word }
+    ensures back { key_word result ≡ word }
+{
+    match word {
+        0 => KeyState::Empty,
+        1 => KeyState::Dead,
+        _ => KeyState::Claimed(Key::new(word - 2).unwrap()),
+    }
+}
+
+/// The word of a value state.
+pub fn encode_value(state: ValueState) -> u64
+    ensures word { result ≡ value_word state }
+    ensures back { value_state result ≡ Some state }
+{
+    match state {
+        ValueState::Null => 0,
+        ValueState::PrimedNull => 1,
+        ValueState::Tombstone => 4,
+        ValueState::PrimedTombstone => 5,
+        ValueState::Live(number) => 4 * number.get() + 8,
+        ValueState::Primed(number) => 4 * number.get() + 9,
+        ValueState::Finished(number) => 4 * number.get() + 11,
+    }
+}
+
+/// What a value word holds, if it is one.
+pub fn decode_value(word: u64) -> Option<ValueState>
+    ensures state { result ≡ value_state word }
+    ensures some { IfSome result (λ state. value_word state ≡ word) }
+    ensures none { IfNone result ((state : ValueState) → IsValueState state → value_word state ≢ word) }
+{
+    match word {
+        0 => Some(ValueState::Null),
+        1 => Some(ValueState::PrimedNull),
+        4 => Some(ValueState::Tombstone),
+        5 => Some(ValueState::PrimedTombstone),
+        0..8 => None,
+        _ => {
+            let number = Num::new(word / 4 - 2).ok()?;
+            match word % 4 {
+                0 => Some(ValueState::Live(number)),
+                1 => Some(ValueState::Primed(number)),
+                3 => Some(ValueState::Finished(number)),
+                _ => None,
+            }
+        }
+    }
+}
+
+#[cfg(test)]
+mod tests;
