@@ -7,7 +7,7 @@ use thiserror::Error;
 /// The greatest key, `2^64 - 3`: a key is stored two above itself, since two words mean an empty and a dead slot.
 pub const KEY_MAX: u64 = u64::MAX - 2;
 
-/// The greatest value number, `2^60 - 1`: a value's word also holds two flags.
+/// The greatest value number, `2^60 - 1`: a value's word keeps two flags below the number, and has room above it.
 pub const VALUE_MAX: u64 = (1 << 60) - 1;
 
 /// Why a number is no key or no value number.
@@ -22,7 +22,7 @@ pub enum RangeFault {
 /// A key of the map, a whole number up to [`KEY_MAX`]. A contract sees the number.
 #[derive(Clone, Copy, Debug, PartialEq, Eq, PartialOrd, Ord, Hash)]
 pub struct Key {
-    word: u64,
+    key: u64,
 }
 
 impl Model for Key {
@@ -31,19 +31,19 @@ impl Model for Key {
 
     ghost Value = { ℕ };
 
-    ghost view = { λ k. k.word };
+    ghost view = { λ k. k.key };
 
-    ghost invariant = { λ k. k.word ≤ KEY_MAX };
+    ghost invariant = { λ k. k.key ≤ KEY_MAX };
 
-    ghost inverse = { λ n. record { word = n } };
+    ghost inverse = { λ n. record { key = n } };
 }
 
 impl Key {
-    pub const fn new(word: u64) -> Result<Key, RangeFault>
-        ensures { result ≡ (if nat_le word KEY_MAX then Ok word else Err RangeFault.KeyRange) }
+    pub const fn new(key: u64) -> Result<Key, RangeFault>
+        ensures { result ≡ (if nat_le key KEY_MAX then Ok key else Err RangeFault.KeyRange) }
     {
-        if word <= KEY_MAX {
-            Ok(Key { word })
+        if key <= KEY_MAX {
+            Ok(Key { key })
         } else {
             Err(RangeFault::KeyRange)
         }
@@ -53,7 +53,7 @@ impl Key {
         ensures number { result ≡ self }
         ensures in_range { result ≤ KEY_MAX }
     {
-        self.word
+        self.key
     }
 
     /// Reminds a proof of the range. It does nothing.
@@ -82,11 +82,11 @@ impl Model for Num {
 }
 
 impl Num {
-    pub const fn new(word: u64) -> Result<Num, RangeFault>
-        ensures { result ≡ (if nat_le word VALUE_MAX then Ok word else Err RangeFault.ValueRange) }
+    pub const fn new(number: u64) -> Result<Num, RangeFault>
+        ensures { result ≡ (if nat_le number VALUE_MAX then Ok number else Err RangeFault.ValueRange) }
     {
-        if word <= VALUE_MAX {
-            Ok(Num { number: word })
+        if number <= VALUE_MAX {
+            Ok(Num { number })
         } else {
             Err(RangeFault::ValueRange)
         }
