@@ -17,19 +17,24 @@ ghost use Rattle.nb_core.specs.declared.states.ValueState.TheVariants.{Null, Tom
 /// the last slot is closed, and key 12 gets a slot in the new table.
 pub fn grows_when_a_path_is_crowded()
     ensures legal { IsLegal grows_when_a_path_is_crowded.plan grows_when_a_path_is_crowded.events }
-    ensures slots_of_0 { slots_at grows_when_a_path_is_crowded 0 ≡ (0, Claimed 0, Finished 10) ∷ (1, Claimed 4, Finished 14) ∷ (2, Claimed 8, Finished 18) ∷ (3, Dead, Null) ∷ [] }
-    ensures slots_of_1 { slots_at grows_when_a_path_is_crowded 1 ≡ (0, Claimed 0, Live 10) ∷ (1, Claimed 8, Live 18) ∷ (4, Claimed 4, Live 14) ∷ (5, Claimed 12, Live 22) ∷ [] }
+    ensures slots_of_0 { slots_at grows_when_a_path_is_crowded 0 ≡ (0, Claimed 0, Finished 10) ∷ (1, Claimed 4, Finished 14)
+        ∷ (2, Claimed 8, Finished 18) ∷ (3, Dead, Null) ∷ [] }
+    ensures slots_of_1 { slots_at grows_when_a_path_is_crowded 1 ≡ (0, Claimed 0, Live 10) ∷ (1, Claimed 8, Live 18)
+        ∷ (4, Claimed 4, Live 14) ∷ (5, Claimed 12, Live 22) ∷ [] }
     ensures slots_of_2 { slots_at grows_when_a_path_is_crowded 2 ≡ [] }
     ensures headers_of_0 { headers_at grows_when_a_path_is_crowded 0 ≡ (1, 4, 4) }
     ensures top { top_at grows_when_a_path_is_crowded ≡ 1 }
-    ensures numbers { HasNumbers grows_when_a_path_is_crowded ((0, Some 10) ∷ (4, Some 14) ∷ (8, Some 18) ∷ (12, Some 22) ∷ []) }
+    ensures numbers { HasNumbers grows_when_a_path_is_crowded ((0, Some 10) ∷ (4, Some 14) ∷ (8, Some 18) ∷ (12, Some 22)
+        ∷ []) }
 {}
 
 /// The same, with key 4 removed before the table grows: its slot is primed and nothing is copied for it.
 pub fn a_removal_is_not_copied()
     ensures legal { IsLegal a_removal_is_not_copied.plan a_removal_is_not_copied.events }
-    ensures slots_of_0 { slots_at a_removal_is_not_copied 0 ≡ (0, Claimed 0, Finished 10) ∷ (1, Claimed 4, PrimedTombstone) ∷ (2, Claimed 8, Finished 18) ∷ (3, Dead, Null) ∷ [] }
-    ensures slots_of_1 { slots_at a_removal_is_not_copied 1 ≡ (0, Claimed 0, Live 10) ∷ (1, Claimed 8, Live 18) ∷ (4, Claimed 12, Live 22) ∷ [] }
+    ensures slots_of_0 { slots_at a_removal_is_not_copied 0 ≡ (0, Claimed 0, Finished 10) ∷ (1, Claimed 4, PrimedTombstone)
+        ∷ (2, Claimed 8, Finished 18) ∷ (3, Dead, Null) ∷ [] }
+    ensures slots_of_1 { slots_at a_removal_is_not_copied 1 ≡ (0, Claimed 0, Live 10) ∷ (1, Claimed 8, Live 18)
+        ∷ (4, Claimed 12, Live 22) ∷ [] }
     ensures slots_of_2 { slots_at a_removal_is_not_copied 2 ≡ [] }
     ensures headers_of_0 { headers_at a_removal_is_not_copied 0 ≡ (1, 4, 4) }
     ensures top { top_at a_removal_is_not_copied ≡ 1 }
@@ -39,7 +44,8 @@ pub fn a_removal_is_not_copied()
 /// Seat 0 primed a slot and stopped; seat 1, which reads its key, copies this one slot and counts it.
 pub fn copy_of_one_slot()
     ensures legal { IsLegal copy_of_one_slot.plan copy_of_one_slot.events }
-    ensures slots_of_0 { slots_at copy_of_one_slot 0 ≡ (0, Claimed 0, Finished 10) ∷ (1, Claimed 4, Live 14) ∷ (2, Claimed 8, Live 18) ∷ [] }
+    ensures slots_of_0 { slots_at copy_of_one_slot 0 ≡ (0, Claimed 0, Finished 10) ∷ (1, Claimed 4, Live 14)
+        ∷ (2, Claimed 8, Live 18) ∷ [] }
     ensures slots_of_1 { slots_at copy_of_one_slot 1 ≡ (0, Claimed 0, Live 10) ∷ [] }
     ensures headers_of_0 { headers_at copy_of_one_slot 0 ≡ (1, 0, 1) }
     ensures top { top_at copy_of_one_slot ≡ 0 }
@@ -50,23 +56,34 @@ pub fn copy_of_one_slot()
 /// on, it meets a primed tombstone where it would store, and stores nothing.
 pub fn stopped_copier()
     ensures legal { IsLegal stopped_copier.plan stopped_copier.events }
-    ensures slots_of_0 { slots_at stopped_copier 0 ≡ (0, Claimed 0, Finished 10) ∷ (1, Claimed 4, Finished 14) ∷ (2, Claimed 8, Finished 18) ∷ (3, Dead, Null) ∷ [] }
-    ensures slots_of_1 { slots_at stopped_copier 1 ≡ (0, Claimed 0, PrimedTombstone) ∷ (1, Claimed 8, Finished 18) ∷ (2, Claimed 16, Finished 26) ∷ (3, Claimed 24, Finished 34) ∷ (4, Claimed 4, Finished 14) ∷ (5, Dead, Null) ∷ (6, Dead, Null) ∷ (7, Dead, Null) ∷ [] }
-    ensures slots_of_2 { slots_at stopped_copier 2 ≡ (0, Claimed 16, Live 26) ∷ (1, Claimed 32, Live 42) ∷ (4, Claimed 4, Live 14) ∷ (8, Claimed 8, Live 18) ∷ (9, Claimed 24, Live 34) ∷ [] }
+    ensures slots_of_0 { slots_at stopped_copier 0 ≡ (0, Claimed 0, Finished 10) ∷ (1, Claimed 4, Finished 14)
+        ∷ (2, Claimed 8, Finished 18) ∷ (3, Dead, Null) ∷ [] }
+    ensures slots_of_1 { slots_at stopped_copier 1 ≡ (0, Claimed 0, PrimedTombstone) ∷ (1, Claimed 8, Finished 18)
+        ∷ (2, Claimed 16, Finished 26) ∷ (3, Claimed 24, Finished 34) ∷ (4, Claimed 4, Finished 14)
+        ∷ (5, Dead, Null) ∷ (6, Dead, Null) ∷ (7, Dead, Null) ∷ [] }
+    ensures slots_of_2 { slots_at stopped_copier 2 ≡ (0, Claimed 16, Live 26) ∷ (1, Claimed 32, Live 42)
+        ∷ (4, Claimed 4, Live 14) ∷ (8, Claimed 8, Live 18) ∷ (9, Claimed 24, Live 34) ∷ [] }
     ensures headers_of_0 { headers_at stopped_copier 0 ≡ (1, 4, 4) }
     ensures headers_of_1 { headers_at stopped_copier 1 ≡ (1, 8, 8) }
     ensures top { top_at stopped_copier ≡ 2 }
-    ensures numbers { HasNumbers stopped_copier ((0, None) ∷ (4, Some 14) ∷ (8, Some 18) ∷ (16, Some 26) ∷ (24, Some 34) ∷ (32, Some 42) ∷ []) }
+    ensures numbers { HasNumbers stopped_copier ((0, None) ∷ (4, Some 14) ∷ (8, Some 18) ∷ (16, Some 26) ∷ (24, Some 34)
+        ∷ (32, Some 42) ∷ []) }
 {}
 
 /// Three seats copy one table: two take a chunk of eight slots each, the third finds none left, and one promotes.
 pub fn three_helpers()
     ensures legal { IsLegal three_helpers.plan three_helpers.events }
-    ensures slots_of_0 { slots_at three_helpers 0 ≡ (0, Claimed 0, Finished 10) ∷ (1, Claimed 16, Finished 26) ∷ (2, Claimed 32, Finished 42) ∷ (3, Claimed 48, Finished 58) ∷ (4, Claimed 64, Finished 74) ∷ (5, Claimed 80, Finished 90) ∷ (6, Dead, Null) ∷ (7, Dead, Null) ∷ (8, Dead, Null) ∷ (9, Dead, Null) ∷ (10, Dead, Null) ∷ (11, Dead, Null) ∷ (12, Dead, Null) ∷ (13, Dead, Null) ∷ (14, Dead, Null) ∷ (15, Dead, Null) ∷ [] }
-    ensures slots_of_1 { slots_at three_helpers 1 ≡ (0, Claimed 0, Live 10) ∷ (1, Claimed 32, Live 42) ∷ (2, Claimed 64, Live 74) ∷ (16, Claimed 16, Live 26) ∷ (17, Claimed 48, Live 58) ∷ (18, Claimed 80, Live 90) ∷ [] }
+    ensures slots_of_0 { slots_at three_helpers 0 ≡ (0, Claimed 0, Finished 10) ∷ (1, Claimed 16, Finished 26)
+        ∷ (2, Claimed 32, Finished 42) ∷ (3, Claimed 48, Finished 58) ∷ (4, Claimed 64, Finished 74)
+        ∷ (5, Claimed 80, Finished 90) ∷ (6, Dead, Null) ∷ (7, Dead, Null) ∷ (8, Dead, Null)
+        ∷ (9, Dead, Null) ∷ (10, Dead, Null) ∷ (11, Dead, Null) ∷ (12, Dead, Null) ∷ (13, Dead, Null)
+        ∷ (14, Dead, Null) ∷ (15, Dead, Null) ∷ [] }
+    ensures slots_of_1 { slots_at three_helpers 1 ≡ (0, Claimed 0, Live 10) ∷ (1, Claimed 32, Live 42) ∷ (2, Claimed 64, Live 74)
+        ∷ (16, Claimed 16, Live 26) ∷ (17, Claimed 48, Live 58) ∷ (18, Claimed 80, Live 90) ∷ [] }
     ensures headers_of_0 { headers_at three_helpers 0 ≡ (1, 24, 16) }
     ensures top { top_at three_helpers ≡ 1 }
-    ensures numbers { HasNumbers three_helpers ((0, Some 10) ∷ (16, Some 26) ∷ (32, Some 42) ∷ (48, Some 58) ∷ (64, Some 74) ∷ (80, Some 90) ∷ []) }
+    ensures numbers { HasNumbers three_helpers ((0, Some 10) ∷ (16, Some 26) ∷ (32, Some 42) ∷ (48, Some 58) ∷ (64, Some 74)
+        ∷ (80, Some 90) ∷ []) }
 {}
 
 /// Seat 1 wins the exchange that seat 0 was about to make: its call, which may try once, ends with no event of its own.
@@ -88,20 +105,27 @@ pub fn contended_once_with_two_tries()
 /// A table that was filled and emptied by removals grows by tombstones alone: nothing is copied.
 pub fn filled_removed_refilled()
     ensures legal { IsLegal filled_removed_refilled.plan filled_removed_refilled.events }
-    ensures slots_of_0 { slots_at filled_removed_refilled 0 ≡ (0, Claimed 0, PrimedTombstone) ∷ (1, Claimed 1, PrimedTombstone) ∷ (2, Claimed 2, PrimedTombstone) ∷ (3, Claimed 3, PrimedTombstone) ∷ [] }
-    ensures slots_of_1 { slots_at filled_removed_refilled 1 ≡ (0, Claimed 0, Live 20) ∷ (1, Claimed 1, Live 21) ∷ (2, Claimed 2, Live 22) ∷ (3, Claimed 3, Live 23) ∷ (4, Claimed 4, Live 14) ∷ (5, Claimed 5, Live 15) ∷ (6, Claimed 6, Live 16) ∷ (7, Claimed 7, Live 17) ∷ [] }
+    ensures slots_of_0 { slots_at filled_removed_refilled 0 ≡ (0, Claimed 0, PrimedTombstone) ∷ (1, Claimed 1, PrimedTombstone)
+        ∷ (2, Claimed 2, PrimedTombstone) ∷ (3, Claimed 3, PrimedTombstone) ∷ [] }
+    ensures slots_of_1 { slots_at filled_removed_refilled 1 ≡ (0, Claimed 0, Live 20) ∷ (1, Claimed 1, Live 21)
+        ∷ (2, Claimed 2, Live 22) ∷ (3, Claimed 3, Live 23) ∷ (4, Claimed 4, Live 14)
+        ∷ (5, Claimed 5, Live 15) ∷ (6, Claimed 6, Live 16) ∷ (7, Claimed 7, Live 17) ∷ [] }
     ensures headers_of_0 { headers_at filled_removed_refilled 0 ≡ (1, 4, 4) }
     ensures top { top_at filled_removed_refilled ≡ 1 }
-    ensures numbers { HasNumbers filled_removed_refilled ((0, Some 20) ∷ (1, Some 21) ∷ (2, Some 22) ∷ (3, Some 23) ∷ (4, Some 14) ∷ (5, Some 15) ∷ (6, Some 16) ∷ (7, Some 17) ∷ []) }
+    ensures numbers { HasNumbers filled_removed_refilled ((0, Some 20) ∷ (1, Some 21) ∷ (2, Some 22) ∷ (3, Some 23)
+        ∷ (4, Some 14) ∷ (5, Some 15) ∷ (6, Some 16) ∷ (7, Some 17) ∷ []) }
     ensures full { IsCrowded filled_removed_refilled.plan filled_removed_refilled.events 8 }
 {}
 
 /// Three tables, the first two of one size.
 pub fn plan_of_three()
     ensures legal { IsLegal plan_of_three.plan plan_of_three.events }
-    ensures slots_of_0 { slots_at plan_of_three 0 ≡ (0, Claimed 0, Finished 10) ∷ (1, Claimed 4, Finished 14) ∷ (2, Claimed 8, Finished 18) ∷ (3, Dead, Null) ∷ [] }
-    ensures slots_of_1 { slots_at plan_of_three 1 ≡ (0, Claimed 0, Finished 10) ∷ (1, Claimed 4, Finished 14) ∷ (2, Claimed 8, Finished 18) ∷ (3, Dead, Null) ∷ [] }
-    ensures slots_of_2 { slots_at plan_of_three 2 ≡ (0, Claimed 0, Live 10) ∷ (1, Claimed 8, Live 18) ∷ (4, Claimed 4, Live 14) ∷ (5, Claimed 12, Live 22) ∷ [] }
+    ensures slots_of_0 { slots_at plan_of_three 0 ≡ (0, Claimed 0, Finished 10) ∷ (1, Claimed 4, Finished 14)
+        ∷ (2, Claimed 8, Finished 18) ∷ (3, Dead, Null) ∷ [] }
+    ensures slots_of_1 { slots_at plan_of_three 1 ≡ (0, Claimed 0, Finished 10) ∷ (1, Claimed 4, Finished 14)
+        ∷ (2, Claimed 8, Finished 18) ∷ (3, Dead, Null) ∷ [] }
+    ensures slots_of_2 { slots_at plan_of_three 2 ≡ (0, Claimed 0, Live 10) ∷ (1, Claimed 8, Live 18) ∷ (4, Claimed 4, Live 14)
+        ∷ (5, Claimed 12, Live 22) ∷ [] }
     ensures headers_of_0 { headers_at plan_of_three 0 ≡ (1, 4, 4) }
     ensures headers_of_1 { headers_at plan_of_three 1 ≡ (1, 4, 4) }
     ensures top { top_at plan_of_three ≡ 2 }
@@ -111,11 +135,14 @@ pub fn plan_of_three()
 /// A table whose removed keys hold its slots is followed by one of the same size.
 pub fn same_size_successor()
     ensures legal { IsLegal same_size_successor.plan same_size_successor.events }
-    ensures slots_of_0 { slots_at same_size_successor 0 ≡ (0, Claimed 0, PrimedTombstone) ∷ (1, Claimed 4, PrimedTombstone) ∷ (2, Claimed 8, PrimedTombstone) ∷ (3, Dead, Null) ∷ [] }
-    ensures slots_of_1 { slots_at same_size_successor 1 ≡ (0, Claimed 12, Live 22) ∷ (1, Claimed 16, Live 26) ∷ (2, Claimed 20, Live 30) ∷ (3, Claimed 24, Live 34) ∷ [] }
+    ensures slots_of_0 { slots_at same_size_successor 0 ≡ (0, Claimed 0, PrimedTombstone) ∷ (1, Claimed 4, PrimedTombstone)
+        ∷ (2, Claimed 8, PrimedTombstone) ∷ (3, Dead, Null) ∷ [] }
+    ensures slots_of_1 { slots_at same_size_successor 1 ≡ (0, Claimed 12, Live 22) ∷ (1, Claimed 16, Live 26)
+        ∷ (2, Claimed 20, Live 30) ∷ (3, Claimed 24, Live 34) ∷ [] }
     ensures headers_of_0 { headers_at same_size_successor 0 ≡ (1, 4, 4) }
     ensures top { top_at same_size_successor ≡ 1 }
-    ensures numbers { HasNumbers same_size_successor ((0, None) ∷ (4, None) ∷ (8, None) ∷ (12, Some 22) ∷ (16, Some 26) ∷ (20, Some 30) ∷ (24, Some 34) ∷ []) }
+    ensures numbers { HasNumbers same_size_successor ((0, None) ∷ (4, None) ∷ (8, None) ∷ (12, Some 22) ∷ (16, Some 26)
+        ∷ (20, Some 30) ∷ (24, Some 34) ∷ []) }
     ensures full { IsCrowded same_size_successor.plan same_size_successor.events 28 }
 {}
 
@@ -138,13 +165,18 @@ pub fn adds()
 /// The words of states, and words that hold none.
 pub fn words_of_states()
     ensures keys { map key_word (Empty ∷ Dead ∷ Claimed 0 ∷ Claimed KEY_MAX ∷ []) ≡ 0 ∷ 1 ∷ 2 ∷ 18446744073709551615 ∷ [] }
-    ensures values { map value_word (Null ∷ PrimedNull ∷ Tombstone ∷ PrimedTombstone ∷ Live 5 ∷ Primed 5 ∷ Finished 5 ∷ Live VALUE_MAX ∷ []) ≡ 0 ∷ 1 ∷ 4 ∷ 5 ∷ 28 ∷ 29 ∷ 31 ∷ 4611686018427387908 ∷ [] }
+    ensures values { map value_word (Null ∷ PrimedNull ∷ Tombstone ∷ PrimedTombstone ∷ Live 5 ∷ Primed 5 ∷ Finished 5
+        ∷ Live VALUE_MAX ∷ []) ≡ 0 ∷ 1 ∷ 4 ∷ 5 ∷ 28 ∷ 29 ∷ 31 ∷ 4611686018427387908 ∷ [] }
     ensures none { map value_state (2 ∷ 3 ∷ 6 ∷ 7 ∷ 30 ∷ 4611686018427387912 ∷ []) ≡ replicate 6 None }
 {}
 
 /// Where the words of chains lie, and how many there are.
 pub fn places()
-    ensures words { map word_count (plan (2 ∷ []) 1 1 ∷ plan (2 ∷ 3 ∷ 4 ∷ []) 1 1 ∷ plan (2 ∷ 2 ∷ 3 ∷ []) 1 1 ∷ plan (12 ∷ 13 ∷ 14 ∷ 15 ∷ 16 ∷ 17 ∷ 18 ∷ 19 ∷ []) 8 8 ∷ []) ≡ 12 ∷ 66 ∷ 42 ∷ 2088985 ∷ [] }
+    ensures words { map word_count (plan (2 ∷ []) 1 1
+        ∷ plan (2 ∷ 3 ∷ 4 ∷ []) 1 1
+        ∷ plan (2 ∷ 2 ∷ 3 ∷ []) 1 1
+        ∷ plan (12 ∷ 13 ∷ 14 ∷ 15 ∷ 16 ∷ 17 ∷ 18 ∷ 19 ∷ []) 8 8
+        ∷ []) ≡ 12 ∷ 66 ∷ 42 ∷ 2088985 ∷ [] }
     ensures tables { map (base_of (plan (2 ∷ 3 ∷ 4 ∷ []) 1 1)) (0 ∷ 1 ∷ 2 ∷ []) ≡ 1 ∷ 12 ∷ 31 ∷ [] }
     ensures two_of_one_size { map (base_of (plan (2 ∷ 2 ∷ 3 ∷ []) 1 1)) (0 ∷ 1 ∷ 2 ∷ []) ≡ 1 ∷ 12 ∷ 23 ∷ [] }
     ensures key { key_place (plan (2 ∷ 3 ∷ 4 ∷ []) 1 1) 1 5 ≡ 25 }
