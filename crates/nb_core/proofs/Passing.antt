@@ -323,7 +323,7 @@ may_follow-true p h (Install s g k) e =
     let c = both (is_ready p t g) (are_others p t g k (limit_of p g)) b.1 in
     record {
       room = ltb-true (suc g) (generations_of p) a.0;
-      last = eqb-true (t.next g) 0 b.0;
+      no_next = eqb-true (t.next g) 0 b.0;
       ready = is_ready-true p t g c.0;
       crowded = are_others-true p t g k (limit_of p g) c.1;
     }

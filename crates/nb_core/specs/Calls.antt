@@ -50,7 +50,7 @@ abbrev pub is_past_max : Option ℕ → Bool
 is_past_max None = false
 is_past_max (Some n) = nat_lt VALUE_MAX n
 
--- The call is an add whose condition holds and whose sum is past the greatest number: it is refused.
+-- The call would act, and would put more than the greatest number: it is refused.
 abbrev pub overflows : Call → Numbers → Bool
 overflows (Get k) m = false
 overflows (Write k want change) m =

@@ -20,8 +20,8 @@ use Rattle.nb_core.specs.declared.states.ValueState.TheVariants.{Null, Tombstone
 
 -- ---- when an event may follow
 
--- A key is claimed at the first empty slot of its path: by a copier where it stands in the table below, and else
--- within the limit, once that table is complete.
+-- A key is claimed in the first slot of its path that isn't another key's, if it is empty: at any distance where the
+-- key has a slot in the table below, and else within the limit, once the table below, if there is one, is complete.
 pub record MayClaim (p : Plan) (t : Tables) (g i k : ℕ) : Type 0 where
   pub installed : IsInstalled t g
   pub empty : t.key g i ≡ Empty
@@ -30,12 +30,12 @@ pub record MayClaim (p : Plan) (t : Tables) (g i k : ℕ) : Type 0 where
   pub passed : AreOthers p t g k distance
   pub reason : HasSlotBelow p t g k ⊎ (IsReady p t g × (distance < limit_of p g))
 
--- An empty slot of a table that is being copied is closed to keys.
+-- Once there is a next table, a slot without a key may be closed.
 pub record MayKill (t : Tables) (g i : ℕ) : Type 0 where
   pub growing : t.next g ≡ 1
   pub empty : t.key g i ≡ Empty
 
--- the number that an unprimed or any other value stands for
+-- the number in a value, if there is one
 abbrev pub content_of : ValueState → Option ℕ
 content_of Null = None
 content_of Tombstone = None
@@ -57,7 +57,7 @@ IsExchange (call.Get key) k a b = ⊥
 IsExchange (call.Write key want change) k a b =
     (key ≡ k) × (holds_of want (content_of a) ≡ true) × Exchanges change a b
 
--- A call exchanges the value of its key, once the key's slot in the table below is finished.
+-- A call exchanges the value of its key, once the key has no unfinished slot in the table below.
 pub record MayWin (p : Plan) (t : Tables) (g i : ℕ) (a b : ValueState) (c : Call) : Type 0 where
   pub key : ℕ
   pub claimed : t.key g i ≡ Claimed key
@@ -102,7 +102,7 @@ pub record MayFinish (p : Plan) (t : Tables) (g i : ℕ) : Type 0 where
 -- A table is followed by another where a key's path is crowded up to the limit, and the table below is complete.
 pub record MayInstall (p : Plan) (t : Tables) (g k : ℕ) : Type 0 where
   pub room : suc g < generations_of p
-  pub last : t.next g ≡ 0
+  pub no_next : t.next g ≡ 0
   pub ready : IsReady p t g
   pub crowded : AreOthers p t g k (limit_of p g)
 
@@ -110,7 +110,7 @@ pub record MayInstall (p : Plan) (t : Tables) (g k : ℕ) : Type 0 where
 abbrev pub MayTake : Tables → ℕ → Type 0
 MayTake t g = t.next g ≡ 1
 
--- the value has no number to copy
+-- the value is a null or a tombstone that isn't primed: priming finishes it
 abbrev pub is_empty_content : ValueState → Bool
 is_empty_content Null = true
 is_empty_content Tombstone = true
@@ -138,12 +138,12 @@ abbrev pub counted_by : List Event → ℕ → ℕ → ℕ
 counted_by [] s g = 0
 counted_by (e ∷ h) s g = counts e s g + counted_by h s g
 
--- A seat counts slots that its own events turned finished, each once.
+-- A seat counts no more slots than its own events turned finished, over all its counts.
 pub record MayCount (p : Plan) (h : List Event) (s g c : ℕ) : Type 0 where
   pub some : 1 ≤ c
   pub own : counted_by h s g + c ≤ turned_by p h s g
 
--- The top word passes complete tables alone.
+-- The top word rises past a table that is complete.
 pub record MayPromote (p : Plan) (t : Tables) (g : ℕ) : Type 0 where
   pub complete : IsComplete p t g
   pub higher : t.top ≤ g
@@ -177,12 +177,12 @@ IsChangeInRange (change.Put n) = n ≤ VALUE_MAX
 IsChangeInRange change.Remove = Unit {0}
 IsChangeInRange (change.Add n) = n ≤ VALUE_MAX
 
--- the call is one of this map: its key and its numbers are some
+-- the call's key is a key of the map, and its numbers are numbers of the map
 abbrev pub IsCallInRange : Call → Type 0
 IsCallInRange (call.Get k) = k ≤ KEY_MAX
 IsCallInRange (call.Write k want change) = (k ≤ KEY_MAX) × IsWantInRange want × IsChangeInRange change
 
--- the seat, the table, the slot, the keys and the numbers of an event are some
+-- the plan has the event's seat, table and slot, and its keys and numbers are those of the map
 abbrev pub IsInRange : Plan → Event → Type 0
 IsInRange p (Claim s g i k) = (s < p.seats) × IsSlot p g i × (k ≤ KEY_MAX)
 IsInRange p (Kill s g i) = (s < p.seats) × IsSlot p g i

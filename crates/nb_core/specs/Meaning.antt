@@ -1,5 +1,5 @@
 -- What the tables of a moment stand for, and what a history says of calls and keys.
-use Rattle.std.specs.Prelude.{◌≡◌, ℕ, ℤ, pos, suc, zero, ◌-◌, ◌+ℤ◌, ◌-ℤ◌, ◌<◌, ◌≤◌, ◌==◌, ◌&&◌, not, Bool, true, false, if◌then◌else◌, IsTrue, List, [], ◌∷◌, length, take, drop, count_by, Option, Some, None, option_map}
+use Rattle.std.specs.Prelude.{◌≡◌, ℕ, ℤ, pos, suc, zero, ◌-◌, ◌+ℤ◌, ◌-ℤ◌, ◌<◌, ◌≤◌, ◌⊎◌, ◌==◌, ◌&&◌, not, Bool, true, false, if◌then◌else◌, IsTrue, List, [], ◌∷◌, length, take, drop, count_by, Option, Some, None, option_map}
 use Rattle.std.specs.FinMap as map
 use Rattle.nb_core.specs.Calls.{Numbers}
 use Rattle.nb_core.specs.Plans.{Plan, generations_of, size_of}
@@ -93,7 +93,7 @@ abbrev pub net_of_call : Call → Reply → ℤ
 net_of_call (call.Get k) r = pos 0
 net_of_call (call.Write k want change) r = if r.matched then net_of_change change r.before else pos 0
 
--- the keys that the calls added, less those that they took out
+-- how many keys the calls added, less how many they took out
 abbrev pub net_of : List (Call × Reply) → ℤ
 net_of [] = pos 0
 net_of (c ∷ calls) = net_of_call c.0 c.1 +ℤ net_of calls
@@ -108,7 +108,7 @@ beginning h n = drop (length h - n) h
 abbrev pub HeldThrough : List Event → ℕ → ℕ → ℕ → Type 0
 HeldThrough h n m k = (l : ℕ) → n ≤ l → l ≤ m → IsTrue (map.contains_key (map_of (beginning h l)) k)
 
--- every slot of the last table is claimed by another key
+-- other keys have all slots of the last table
 abbrev pub IsCrowded : Plan → List Event → ℕ → Type 0
 IsCrowded p h k = (i : ℕ) → i < size_of p (generations_of p - 1) → IsOther ((tables_at p h).key (generations_of p - 1) i) k
 
@@ -139,3 +139,9 @@ place_from p t k g (suc tables) = first_place (option_map (λ i. (g, i)) (slot_a
 -- the key's first place from table g on, after the history
 abbrev pub place_of : Plan → List Event → ℕ → ℕ → Option (ℕ × ℕ)
 place_of p h g k = place_from p (tables_at p h) k g (generations_of p - g)
+
+-- One place comes before another: in an earlier table, or in an earlier slot of the same one. The end comes after all.
+abbrev pub IsBefore : Option (ℕ × ℕ) → Option (ℕ × ℕ) → Type 0
+IsBefore None later = ⊥
+IsBefore (Some a) None = Unit {0}
+IsBefore (Some a) (Some b) = (a.0 < b.0) ⊎ ((a.0 ≡ b.0) × (a.1 < b.1))

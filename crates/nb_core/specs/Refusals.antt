@@ -214,7 +214,7 @@ reused_key = record {
   event = Claim 0 0 0 4;
 }
 
--- an add stores the sum of an older number
+-- an add exchanges a number that no longer stands there for its sum
 abbrev pub stale_sum : Wrong
 stale_sum = record {
   plan = plan (2 ∷ []) 2 1;

@@ -49,6 +49,7 @@ pub record Tables : Type 0 where
   pub counted : ℕ → ℕ
   pub top : ℕ
 
+-- what a list of words says; a value word that no state has, which no legal history writes, is read as null
 abbrev pub tables_of : Plan → List ℕ → Tables
 tables_of p w = record {
   key = λ g i. key_state (slice_index w (key_place p g i));
@@ -80,7 +81,7 @@ IsUnprimed PrimedTombstone = ⊥
 IsUnprimed (Primed n) = ⊥
 IsUnprimed (Finished n) = ⊥
 
--- the value needs no more copying
+-- the value is primed and has nothing left to copy: it is final
 abbrev pub IsFinishedValue : ValueState → Type 0
 IsFinishedValue Null = ⊥
 IsFinishedValue Tombstone = ⊥
@@ -90,7 +91,7 @@ IsFinishedValue PrimedTombstone = Unit {0}
 IsFinishedValue (Primed n) = ⊥
 IsFinishedValue (Finished n) = Unit {0}
 
--- a slot is finished if no key may be claimed in it, or its value needs no more copying
+-- a slot is finished if it is closed to keys, or its value is final
 abbrev pub IsFinished : Tables → ℕ → ℕ → Type 0
 IsFinished t g i = (t.key g i ≡ Dead) ⊎ IsFinishedValue (t.value g i)
 

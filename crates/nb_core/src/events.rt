@@ -67,7 +67,7 @@ pub enum Event {
         g: u32,
         slots: u64,
     },
-    /// The tables up to `g` were found to be complete.
+    /// Table `g` was found to be complete: the top word rises to `g + 1`.
     Promote {
         seat: usize,
         g: u32,

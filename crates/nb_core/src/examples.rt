@@ -52,8 +52,8 @@ pub fn copy_of_one_slot()
     ensures numbers { HasNumbers copy_of_one_slot ((0, Some 10) ∷ (4, Some 14) ∷ (8, Some 18) ∷ []) }
 {}
 
-/// Seat 0 stopped after it had primed a slot. Seat 1 fills two tables more, and removes the key. When seat 0 goes
-/// on, it meets a primed tombstone where it would store, and stores nothing.
+/// Seat 0 stopped after it had primed a slot. Seat 1 removes the key and completes two tables. When seat 0 goes on, it
+/// meets a primed tombstone where it would store, and stores nothing.
 pub fn stopped_copier()
     ensures legal { IsLegal stopped_copier.plan stopped_copier.events }
     ensures slots_of_0 { slots_at stopped_copier 0 ≡ (0, Claimed 0, Finished 10) ∷ (1, Claimed 4, Finished 14)
@@ -86,7 +86,8 @@ pub fn three_helpers()
         ∷ (80, Some 90) ∷ []) }
 {}
 
-/// Seat 1 wins the exchange that seat 0 was about to make: its call, which may try once, ends with no event of its own.
+/// Seat 1 wins the exchange that seat 0 was about to make: its call, which may try once, ends with no `Won` and no
+/// `Read`.
 pub fn contended_once()
     ensures legal { IsLegal contended_once.plan contended_once.events }
     ensures slots_of_0 { slots_at contended_once 0 ≡ (3, Claimed 7, Live 6) ∷ [] }
@@ -146,7 +147,7 @@ pub fn same_size_successor()
     ensures full { IsCrowded same_size_successor.plan same_size_successor.events 28 }
 {}
 
-/// Two adds to one key at once: the second is done again on the sum of the first.
+/// An add that lost its exchange to a put is made again, on the number that was put.
 pub fn add_contended_once()
     ensures legal { IsLegal add_contended_once.plan add_contended_once.events }
     ensures slots_of_0 { slots_at add_contended_once 0 ≡ (3, Claimed 7, Live 11) ∷ [] }

@@ -7,7 +7,7 @@ use Rattle.nb_run.specs.declared.script.Cause.{Cause}
 use Rattle.nb_run.specs.declared.faults.RunFault.{RunFault}
 use Rattle.nb_run.specs.declared.faults.RunFault.TheVariants as fault
 
--- The input was read to its end, and is a script without a fault, with these phases.
+-- The input was read whole, and is a script without a fault, with these phases.
 pub record HasReadScript (seats : ℕ) (unread unread' : Option Bytes) (phases : List Phase) : Type 0 where
   pub read : Bytes
   pub consumed : Consumes unread unread' read
@@ -28,7 +28,7 @@ IsFaultOf seats unread unread' fault.Write = Unit {0}
 IsFaultOf seats unread unread' (fault.Line n cause) = HasReadFault seats unread unread' n cause
 IsFaultOf seats unread unread' fault.OutOfMemory = Unit {0}
 
--- The input was read to its end and is a script without a fault, and the text of it was written: that of one worker,
+-- The input was read whole and is a script without a fault, and the text of it was written: that of one worker,
 -- with no command refused for want of room.
 pub record HasRun (seats : ℕ) (unread unread' written written' : Option Bytes) : Type 0 where
   pub phases : List Phase

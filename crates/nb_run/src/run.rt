@@ -10,7 +10,8 @@ use crate::streams::{Sink, Source, write_all};
 use std::alloc::Global;
 
 /// Reads a script to its end, runs its commands, and writes what they answered and what the map contains at the end.
-/// The whole script is read and checked before the first command runs, and the output is written at the end.
+/// No command runs until all of the script was read and found to be without a fault, and the output is written at the
+/// end.
 ///
 /// For now there is one worker, over a plain map that is never full.
 pub fn run<R: Source, W: Sink>(
@@ -26,7 +27,7 @@ pub fn run<R: Source, W: Sink>(
     ensures ok { OnOk result (HasRun options.now.shape.seats (R.remaining reader.old) (R.remaining reader.new) (W.contents writer.old) (W.contents writer.new)) }
     ensures fault { IfErr result (IsFaultOf options.now.shape.seats (R.remaining reader.old) (R.remaining reader.new)) }
 
-    // `Read` and `Write` come just where the reader or the writer failed.
+    // These two say that the reader, or the writer, failed while this ran.
     ensures read { IsErrOf result RunFault.Read ↔ IsTrue (R.failed reader.new) }
     ensures write { IsErrOf result RunFault.Write ↔ IsTrue (W.failed writer.new) }
 
