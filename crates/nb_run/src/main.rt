@@ -35,3 +35,6 @@ fn main(rt: HostRuntime) -> ExitCode {
     let status = serve::serve(rt.alloc(), words, &mut reader, &mut writer, &mut errors);
     ExitCode::from(status)
 }
+
+#[cfg(test)]
+mod tests;
