@@ -25,16 +25,19 @@ is_due app words k fault is kinds h = go fault (subst (λ (a : App). is_simple_a
     go (Help text) (inr among) h = subst (λ (x : ErrorKind). IsAmong x (fault_of nbrun words)) h among
     go OutOfMemory faults h = tt
 
-pub is_taken : (app : App) (words : List Text) → app ≡ nbrun → (is_simple_and_free app ≡ true → fault_of app words ≡ []) → fault_of nbrun words ≡ []
+is_taken : (app : App) (words : List Text) → app ≡ nbrun → (is_simple_and_free app ≡ true → fault_of app words ≡ []) → fault_of nbrun words ≡ []
 is_taken app words is kinds = subst (λ (a : App). is_simple_and_free a ≡ true → fault_of a words ≡ []) is kinds refl
 
 rows_are : (app : App) (words : List Text) (m : ArgMatches) → app ≡ nbrun → HasMatchesOf app words m → rows_of (found_of m) ≡ matches_of nbrun words
 rows_are app words m is matched = (subst (λ (a : App). HasMatchesOf a words m) is matched refl).0
 
 -- what is found in the matches is what the words give
-pub are_given : (app : App) (words : List Text) (m : ArgMatches) (plan : Plan) → app ≡ nbrun → HasMatchesOf app words m
+pub are_given : (app : App) (words : List Text) (m : ArgMatches) (plan : Plan) → app ≡ nbrun → (is_simple_and_free app ≡ true → fault_of app words ≡ []) → HasMatchesOf app words m
     → IsFound (rows_of (found_of m)) plan → AreGiven words plan
-are_given app words m plan is matched found = subst (λ (rs : List Row). IsFound rs plan) (rows_are app words m is matched) found
+are_given app words m plan is kinds matched found = (
+  is_taken app words is kinds,
+  subst (λ (rs : List Row). IsFound rs plan) (rows_are app words m is matched) found,
+)
 
 -- the fault of words that clap takes
 pub is_none_due : (app : App) (words : List Text) (m : ArgMatches) → app ≡ nbrun → (is_simple_and_free app ≡ true → fault_of app words ≡ []) → HasMatchesOf app words m

@@ -1,6 +1,6 @@
 -- What the lines of a script say after some of the bytes that come.
-use Rattle.std.proofs.Common.{◌≡◌, ◌∙◌, ℕ, ◌+◌, ◌≤◌, sym, ap, [], ◌++◌, take, drop, subst, append_assoc, append-nil, Option}
-use Rattle.std.specs.Io.KnownBytes.{Consumes}
+use Rattle.std.proofs.Common.{◌≡◌, ◌∙◌, ℕ, ◌+◌, ◌≤◌, sym, ap, [], ◌++◌, take, drop, subst, inl, inr, append_assoc, append-nil, Option}
+use Rattle.std.specs.Io.KnownBytes.{Consumes, IsAtEnd}
 use Rattle.nb_run.specs.Script.{Bytes, script_of}
 use Rattle.std.proofs.KnownBytes.{Consumes-trans}
 use Rattle.nb_run.specs.Reading.{IsFirst, room, with_bytes}
@@ -33,30 +33,32 @@ read_more seats unread unread' unread'' old new piece h consumed same = record {
 pub fault_of_read : (seats : ℕ) (unread unread' unread'' : Option Bytes) (lines : Lines) (piece : Bytes) → HasRead seats unread unread' lines → Consumes unread' unread'' piece
     → (fault : RunFault) → IsFirst (λ more. with_bytes lines (piece ++ more)) fault → IsFaultOf seats unread unread'' fault
 fault_of_read seats unread unread' unread'' lines piece h consumed fault.Read first = tt
-fault_of_read seats unread unread' unread'' lines piece h consumed fault.Write first = tt
+fault_of_read seats unread unread' unread'' lines piece h consumed fault.Write first = absurd first
 fault_of_read seats unread unread' unread'' lines piece h consumed (fault.Line n cause) first =
     record {
       read = h.read ++ piece;
       consumed = Consumes-trans unread unread' unread'' h.read piece h.consumed consumed;
       said = ap (script_of seats) (ap (λ bytes. h.read ++ bytes) (sym (append-nil piece))) ∙ sym (h.same (piece ++ [])) ∙ first [];
+      lasting = inr (λ more. ap (script_of seats) (append_assoc h.read piece more) ∙ sym (h.same (piece ++ more)) ∙ first more);
     }
 fault_of_read seats unread unread' unread'' lines piece h consumed fault.OutOfMemory first = tt
 
-fault_of_nothing : (seats : ℕ) (unread unread' unread'' : Option Bytes) (lines : Lines) → HasRead seats unread unread' lines → Consumes unread' unread'' []
+fault_of_nothing : (seats : ℕ) (unread unread' unread'' : Option Bytes) (lines : Lines) → HasRead seats unread unread' lines → Consumes unread' unread'' [] → IsAtEnd unread''
     → (fault : RunFault) → IsFirst (λ (more : Bytes). with_bytes lines []) fault → IsFaultOf seats unread unread'' fault
-fault_of_nothing seats unread unread' unread'' lines h consumed fault.Read first = tt
-fault_of_nothing seats unread unread' unread'' lines h consumed fault.Write first = tt
-fault_of_nothing seats unread unread' unread'' lines h consumed (fault.Line n cause) first =
+fault_of_nothing seats unread unread' unread'' lines h consumed ended fault.Read first = tt
+fault_of_nothing seats unread unread' unread'' lines h consumed ended fault.Write first = absurd first
+fault_of_nothing seats unread unread' unread'' lines h consumed ended (fault.Line n cause) first =
     record {
       read = h.read ++ [];
       consumed = Consumes-trans unread unread' unread'' h.read [] h.consumed consumed;
       said = sym (h.same []) ∙ first [];
+      lasting = inl ended;
     }
-fault_of_nothing seats unread unread' unread'' lines h consumed fault.OutOfMemory first = tt
+fault_of_nothing seats unread unread' unread'' lines h consumed ended fault.OutOfMemory first = tt
 
 -- the same at the end, where the last read gave nothing
-pub fault_of_end : (seats : ℕ) (unread unread' unread'' : Option Bytes) (lines : Lines) (bytes : Bytes) (count : ℕ) → HasRead seats unread unread' lines → Consumes unread' unread'' (take count bytes) → count ≡ 0
+pub fault_of_end : (seats : ℕ) (unread unread' unread'' : Option Bytes) (lines : Lines) (bytes : Bytes) (count : ℕ) → HasRead seats unread unread' lines → Consumes unread' unread'' (take count bytes) → IsAtEnd unread'' → count ≡ 0
     → (fault : RunFault) → IsFirst (λ (more : Bytes). with_bytes lines []) fault → IsFaultOf seats unread unread'' fault
-fault_of_end seats unread unread' unread'' lines bytes count h consumed none fault first =
+fault_of_end seats unread unread' unread'' lines bytes count h consumed ended none fault first =
     let nothing : Consumes unread' unread'' [] = subst (λ n. Consumes unread' unread'' (take n bytes)) none consumed in
-    fault_of_nothing seats unread unread' unread'' lines h nothing fault first
+    fault_of_nothing seats unread unread' unread'' lines h nothing ended fault first

@@ -86,9 +86,9 @@ pub record IsFound (rows : List Row) (plan : Plan) : Type 0 where
   pub plan_found :
       plan_of (first_of (codes "plan") rows) bits generations seats stripes ≡ Some plan
 
--- the plan is of what the words give for each option, or its default
+-- clap takes the words, and the plan is of what they give for each option, or its default
 abbrev pub AreGiven : List Text → Plan → Type 0
-AreGiven words plan = IsFound (matches_of nbrun words) plan
+AreGiven words plan = (fault_of nbrun words ≡ []) × IsFound (matches_of nbrun words) plan
 
 -- ---- when there are no options
 
@@ -99,7 +99,7 @@ IsRefused words = (k : ErrorKind) × IsAmong k (fault_of nbrun words) × (k ≢ 
 -- clap takes the words, but they give no plan with one seat
 abbrev pub GivesNone : List Text → Type 0
 GivesNone words = (fault_of nbrun words ≡ [])
-    × ((plan : Plan) → AreGiven words plan → plan.seats ≡ 1 → ⊥)
+    × ((plan : Plan) → IsFound (matches_of nbrun words) plan → plan.seats ≡ 1 → ⊥)
 
 -- when each fault comes
 abbrev pub IsDue : List Text → OptionFault → Type 0

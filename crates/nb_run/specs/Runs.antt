@@ -1,5 +1,5 @@
 -- What a run of a script has done, by the bytes that were read and written.
-use Rattle.std.specs.Prelude.{◌≡◌, ℕ, List, Option, Ok, Err}
+use Rattle.std.specs.Prelude.{◌≡◌, ℕ, ◌⊎◌, ◌++◌, List, Option, Ok, Err}
 use Rattle.std.specs.Io.KnownBytes.{Appends, Consumes, IsAtEnd}
 use Rattle.nb_run.specs.Script.{Bytes, Phase, script_of}
 use Rattle.nb_run.specs.Text.{none_full, text_of}
@@ -14,17 +14,18 @@ pub record HasReadScript (seats : ℕ) (unread unread' : Option Bytes) (phases :
   pub ended : IsAtEnd unread'
   pub said : script_of seats read ≡ Ok phases
 
--- The bytes that were read have this first fault.
+-- The bytes that were read have this first fault. They are the whole input, or no more of it would change that.
 pub record HasReadFault (seats : ℕ) (unread unread' : Option Bytes) (n : ℕ) (cause : Cause) : Type 0 where
   pub read : Bytes
   pub consumed : Consumes unread unread' read
   pub said : script_of seats read ≡ Err (n, cause)
+  pub lasting : IsAtEnd unread' ⊎ ((more : Bytes) → script_of seats (read ++ more) ≡ Err (n, cause))
 
--- When a fault comes of a script: a line's fault is the first one in the bytes that were read. Of the others the
--- reader, the writer and the memory know.
+-- When a fault comes of a script: a line's fault is the first one in the bytes that were read, and a write fails only
+-- after a script without a fault. Of the others the reader and the memory know.
 abbrev pub IsFaultOf : ℕ → Option Bytes → Option Bytes → RunFault → Type 0
 IsFaultOf seats unread unread' fault.Read = Unit {0}
-IsFaultOf seats unread unread' fault.Write = Unit {0}
+IsFaultOf seats unread unread' fault.Write = (phases : List Phase) × HasReadScript seats unread unread' phases
 IsFaultOf seats unread unread' (fault.Line n cause) = HasReadFault seats unread unread' n cause
 IsFaultOf seats unread unread' fault.OutOfMemory = Unit {0}
 

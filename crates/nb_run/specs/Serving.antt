@@ -1,5 +1,5 @@
 -- What the program has done for the words of its command line.
-use Rattle.std.specs.Prelude.{◌≡◌, ◌≢◌, ◌↔◌, ℕ, Bool, false, IsTrue, map, Option, Result, Ok, Err, string_bytes}
+use Rattle.std.specs.Prelude.{◌≡◌, ◌≢◌, ◌↔◌, ◌⊎◌, ℕ, Bool, false, IsTrue, map, Option, Result, Ok, Err, string_bytes}
 use Rattle.std.specs.Io.KnownBytes.{Appends}
 use Rattle.std.specs.declared.string.String.{String}
 use Rattle.std.specs.declared.vec.Vec.{Vec}
@@ -11,6 +11,7 @@ use Rattle.nb_run.specs.Runs.{HasRun, IsFaultOf}
 use Rattle.nb_run.specs.Script.{Bytes}
 use Rattle.nb_run.specs.declared.options.OptionFault.{OptionFault}
 use Rattle.nb_run.specs.declared.options.OptionFault.TheVariants as option
+use Rattle.nb_run.specs.declared.faults.RunFault.{RunFault}
 use Rattle.nb_run.specs.declared.faults.RunFault.TheVariants as run
 use Rattle.nb_run.specs.declared.faults.ServeFault.{ServeFault}
 use Rattle.nb_run.specs.declared.faults.ServeFault.TheVariants as serve
@@ -35,16 +36,28 @@ pub record HasRunAsAsked (words : Words) (unread unread' written written' : Opti
   pub given : GiveOptions words plan
   pub run : HasRun plan.seats unread unread' written written'
 
--- The words ask for help, and its text was written.
-pub record HasHelped (words : Words) (written written' : Option Bytes) : Type 0 where
+-- The words ask for help, and its text was written. Nothing was read.
+pub record HasHelped (words : Words) (unread unread' written written' : Option Bytes) : Type 0 where
   pub text : String Global
   pub asked : GiveNone words (option.Help text)
+  pub unread_kept : unread' ≡ unread
   pub told : Appends written written' (string_bytes text)
 
--- when a fault comes
+-- The words give options, and this came of the script.
+pub record HasFault (words : Words) (unread unread' : Option Bytes) (f : RunFault) : Type 0 where
+  pub plan : Plan
+  pub given : GiveOptions words plan
+  pub due : IsFaultOf plan.seats unread unread' f
+
+-- the words ask for help, and it is the writer that failed
+abbrev pub IsHelpFault : Words → RunFault → Type 0
+IsHelpFault words f = (f ≡ run.Write) × ((text : String Global) × GiveNone words (option.Help text))
+
+-- When a fault comes: of words that give no options, of the script, of writing the help, or of the memory.
 abbrev pub IsServeFaultOf : Words → Option Bytes → Option Bytes → ServeFault → Type 0
-IsServeFaultOf words unread unread' serve.Usage = GiveNone words option.Usage
-IsServeFaultOf words unread unread' (serve.Run f) = IsFaultOf 1 unread unread' f
+IsServeFaultOf words unread unread' serve.Usage = GiveNone words option.Usage × (unread' ≡ unread)
+IsServeFaultOf words unread unread' (serve.Run run.OutOfMemory) = Unit {0}
+IsServeFaultOf words unread unread' (serve.Run f) = HasFault words unread unread' f ⊎ IsHelpFault words f
 
 -- The program ended by a fault: its status, what came of it, and what was said. Another fault than a failed write
 -- leaves the writer as it was.

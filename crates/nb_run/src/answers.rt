@@ -129,7 +129,8 @@ fn push_ending(alloc: Global, text: &mut String, map: &PlainMap) -> Result<(), A
     Ok(())
 }
 
-/// Runs the phases on a new map, and tells what they answer and what the map contains at the end.
+/// Runs the phases on a new map, and tells what they answer and what the map contains at the end. An error means that
+/// memory ran out.
 pub fn text_of(alloc: Global, phases: &[Phase]) -> Result<String, AllocError>
     ensures { IfOk result (λ text. string_bytes text ≡ text_of none_full (map (λ phase. phase.items) phases.now)) }
 {

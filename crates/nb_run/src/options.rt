@@ -39,6 +39,7 @@ impl From<AllocError> for OptionFault {
 /// What a run is to be.
 #[derive(Clone, Copy, Debug, PartialEq, Eq)]
 pub struct Options {
+    /// How the map is laid out. Its seats are the workers.
     pub shape: Shape,
 }
 
@@ -149,7 +150,6 @@ fn read_shape(matches: &ArgMatches<'_>) -> Option<Shape>
 pub fn read_options(alloc: Global, words: &[String]) -> Result<Options, OptionFault>
     ensures given { IfOk result (λ options. AreGiven (map string_bytes words.now) options.shape) }
     ensures one_seat { IfOk result (λ options. options.shape.seats ≡ 1) }
-    ensures taken { OnOk result (fault_of nbrun (map string_bytes words.now) ≡ []) }
     ensures fault { IfErr result (IsDue (map string_bytes words.now)) }
 {
     let matches = match command(alloc)?.try_get_matches_from(words) {

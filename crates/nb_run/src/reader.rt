@@ -142,7 +142,8 @@ impl Lines {
     }
 }
 
-/// Reads a script to its end, or to its first fault.
+/// Reads a script to its end, or to its first fault, in time linear in the bytes. A read of no bytes is the end; any
+/// error of the reader ends it.
 pub fn read_script<R: Source>(
     alloc: Global,
     seats: usize,

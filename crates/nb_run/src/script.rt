@@ -11,7 +11,7 @@ pub const LINE_MAX: usize = 128;
 /// The most lines of a script.
 pub const LINES_MAX: usize = 1 << 20;
 
-/// What is wrong with a line. The checks come in this order, the last three for one argument after another.
+/// What is wrong with a line. `docs/script.md` has the order of the checks; the variants don't stand in it.
 #[derive(Clone, Copy, Debug, PartialEq, Eq, Hash, Error)]
 #[error("{}", self.text())]
 pub enum Cause {
@@ -29,6 +29,7 @@ pub enum Cause {
 impl Cause {
     ghost use Rattle.nb_run.specs.Faults.{cause_text};
 
+    /// What the program says of it, after the line's number.
     pub fn text(self) -> &'static str
         ensures { result.now ≡ cause_text self }
     {

@@ -34,7 +34,7 @@ fn attend<R: Source, W: Sink>(
     requires writer { W.failed writer.old ≡ false }
 
     ensures ok { OnOk result (HasRunAsAsked words (R.remaining reader.old) (R.remaining reader.new) (W.contents writer.old) (W.contents writer.new)
-        ⊎ HasHelped words (W.contents writer.old) (W.contents writer.new)) }
+        ⊎ HasHelped words (R.remaining reader.old) (R.remaining reader.new) (W.contents writer.old) (W.contents writer.new)) }
     ensures fault { IfErr result (IsServeFaultOf words (R.remaining reader.old) (R.remaining reader.new)) }
     ensures read { IsErrOf result (ServeFault.Run RunFault.Read) ↔ IsTrue (R.failed reader.new) }
     ensures write { IsErrOf result (ServeFault.Run RunFault.Write) ↔ IsTrue (W.failed writer.new) }
@@ -66,7 +66,8 @@ pub fn serve<R: Source, W: Sink, E: Sink>(
     requires errors { E.failed errors.old ≡ false }
 
     ensures done { result ≡ 0 → HasRunAsAsked words (R.remaining reader.old) (R.remaining reader.new) (W.contents writer.old) (W.contents writer.new)
-        ⊎ HasHelped words (W.contents writer.old) (W.contents writer.new) }
+        ⊎ HasHelped words (R.remaining reader.old) (R.remaining reader.new) (W.contents writer.old) (W.contents writer.new) }
+    ensures whole { result ≡ 0 → (R.failed reader.new ≡ false) × (W.failed writer.new ≡ false) }
     ensures quiet { result ≡ 0 → errors.new ≡ errors.old }
 
     ensures failed { result ≢ 0 → HasFailed words (R.remaining reader.old) (R.remaining reader.new) writer.old writer.new

@@ -50,6 +50,7 @@ pub struct FromRead<R: Read> {
 }
 
 impl<R: Read> FromRead<R> {
+    /// Wraps a reader, of which no read has failed yet. Takes no memory.
     pub fn new(reader: R) -> FromRead<R>
         ensures same_bytes { ⟦<FromRead<R> as Source>⟧.remaining result ≡ R.remaining reader }
         ensures unfailed { ⟦<FromRead<R> as Source>⟧.failed result ≡ false }
@@ -86,6 +87,7 @@ pub struct FromWrite<W: Write> {
 }
 
 impl<W: Write> FromWrite<W> {
+    /// Wraps a writer, of which no write has failed yet. Takes no memory.
     pub fn new(writer: W) -> FromWrite<W>
         ensures same_bytes { ⟦<FromWrite<W> as Sink>⟧.contents result ≡ W.contents writer }
         ensures unfailed { ⟦<FromWrite<W> as Sink>⟧.failed result ≡ false }
@@ -113,7 +115,7 @@ impl<W: Write> Sink for FromWrite<W> {
     }
 }
 
-/// Writes all of the bytes.
+/// Writes all of the bytes. It stops at the first failure, and doesn't tell how much went out before.
 pub fn write_all<W: Sink>(writer: &mut W, bytes: &[u8]) -> Result<(), Failed>
     ensures written { OnOk result (Appends (W.contents writer.old) (W.contents writer.new) bytes.now) }
     ensures marks { W.failed writer.new ≡ (is_err result || W.failed writer.old) }

@@ -158,6 +158,18 @@ fn failures_at_every_read(rt: HostRuntime) -> Result<(), Fail> {
 }
 
 #[test]
+fn broken_line_before_a_failed_read(rt: HostRuntime) -> Result<(), Fail> {
+    let script = b"0 swap 1\n";
+    let mut reader = SlowSource {
+        unread: script.as_slice(),
+        reads_left: script.len(),
+        failed: false,
+    };
+    let fault = RunFault::Line(1, Cause::Op);
+    assert_runs(&rt, &mut reader, Err(fault), "")
+}
+
+#[test]
 fn failures_at_every_write(rt: HostRuntime) -> Result<(), Fail> {
     let text = CONDITIONAL_ANSWERS.as_bytes();
     let options = plain_options()?;

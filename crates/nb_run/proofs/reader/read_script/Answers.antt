@@ -1,4 +1,4 @@
-use Rattle.std.proofs.Common.{rules}
+use Rattle.std.proofs.Common.{arith, rules}
 use Rattle.std.proofs.lemmas.Result.{err_from_is_err_and}
 use Rattle.nb_run.proofs.Taken.{fault_of_end, fault_of_read, read_more}
 use Rattle.nb_run.proofs.reader.read_script.Goals as goal
@@ -10,7 +10,7 @@ loop-count-preserved g c =
 pub returns-in_err-end_text-clause-fault : goal.returns-in_err-end_text-clause-fault
 returns-in_err-end_text-clause-fault g c =
     let p = err_from_is_err_and c.from_residual.result c.from_residual.ensures.1 in
-    rw (p.1, p.2) (fault_of_end _ _ _ _ _ _ _ c.loop-count.invariant.0 c.in-Ok.ensures.bytes.0 c.if-count-eq0.true _ c.in_err-end_text.ensures.fault)
+    rw (p.1, p.2) (fault_of_end _ _ _ _ _ _ _ c.loop-count.invariant.0 c.in-Ok.ensures.bytes.0 (c.in-Ok.ensures.bytes.1 c.if-count-eq0.true (omega (arith, c.loop-count.invariant.2))) c.if-count-eq0.true _ c.in_err-end_text.ensures.fault)
 
 pub returns-in_err-take_all-clause-fault : goal.returns-in_err-take_all-clause-fault
 returns-in_err-take_all-clause-fault g c =
