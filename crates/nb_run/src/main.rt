@@ -20,11 +20,19 @@ use streams::{FromRead, FromWrite};
 
 /// The words of the command line. Arguments that aren't text are wrong ones.
 fn arguments(rt: &(impl Env + AllocGlobal)) -> Result<Vec<String>, OptionFault> {
-    match env::args(rt) {
-        Ok(words) => words.collect(rt.alloc()).map_err(OptionFault::from),
-        Err(error) if error.kind() == ErrorKind::OutOfMemory => Err(OptionFault::OutOfMemory),
-        Err(_) => Err(OptionFault::Usage),
+    let given = match env::args(rt) {
+        Ok(given) => given,
+        Err(error) if error.kind() == ErrorKind::OutOfMemory => {
+            return Err(OptionFault::OutOfMemory);
+        }
+        Err(_) => return Err(OptionFault::Usage),
+    };
+    // Not by `collect`, which goes on where the room that it asks for ahead is refused.
+    let mut words = Vec::new(rt.alloc());
+    for word in given {
+        words.push(word).map_err(|_| OptionFault::OutOfMemory)?;
     }
+    Ok(words)
 }
 
 fn main(rt: HostRuntime) -> ExitCode {
