@@ -1,6 +1,9 @@
--- Histories that were worked out by hand, the newest event first. They are examples: each is proved legal.
-use Rattle.std.specs.Prelude.{List, [], ◌∷◌, Bool, true, false, Option, Some, None, ℕ}
-use Rattle.nb_core.specs.Plans.{Plan}
+-- Worked histories, the newest event first. They are examples: each is proved legal.
+use Rattle.std.specs.Prelude.{◌≡◌, ℕ, suc, zero, Bool, true, false, if◌then◌else◌, List, [], ◌∷◌, All, Option, Some, None}
+use Rattle.std.specs.FinMap as map
+use Rattle.nb_core.specs.Plans.{Plan, size_of}
+use Rattle.nb_core.specs.Tables.{Tables, tables_at}
+use Rattle.nb_core.specs.History.{map_of}
 use Rattle.nb_core.specs.declared.calls.Call.TheVariants as call
 use Rattle.nb_core.specs.declared.calls.Change.TheVariants as change
 use Rattle.nb_core.specs.declared.calls.Want.TheVariants.{Any}
@@ -8,11 +11,6 @@ use Rattle.nb_core.specs.declared.calls.Reply.{Reply}
 use Rattle.nb_core.specs.declared.events.Event.{Event}
 use Rattle.nb_core.specs.declared.events.Event.TheVariants.{Claim, Kill, Won, CopyIn, Prime, Finish, Install, Take, Count, Promote, Read}
 use Rattle.nb_core.specs.declared.states.ValueState.TheVariants.{Null, Tombstone, Live}
-use Rattle.std.specs.Prelude.{◌≡◌, suc, zero, if◌then◌else◌, All}
-use Rattle.std.specs.FinMap as map
-use Rattle.nb_core.specs.Plans.{size_of}
-use Rattle.nb_core.specs.Tables.{Tables, tables_at}
-use Rattle.nb_core.specs.History.{map_of}
 use Rattle.nb_core.specs.declared.states.KeyState.{KeyState}
 use Rattle.nb_core.specs.declared.states.KeyState.TheVariants.{Empty, Dead, Claimed}
 use Rattle.nb_core.specs.declared.states.ValueState.{ValueState}
@@ -46,7 +44,7 @@ slots_from t g i (suc n) =
 abbrev pub slots_at : Worked → ℕ → List (ℕ × KeyState × ValueState)
 slots_at w g = slots_from (tables_at w.plan w.events) g 0 (size_of w.plan g)
 
--- a table's header words: whether it has a next, how many slots were handed out, and how many were counted
+-- a table's header words: next, take and done
 abbrev pub headers_at : Worked → ℕ → ℕ × ℕ × ℕ
 headers_at w g = let t = tables_at w.plan w.events in (t.next g, t.taken g, t.counted g)
 
