@@ -5,6 +5,7 @@ use Rattle.nb_core.specs.Plans.{Plan, generations_of, limit_of, size_of}
 use Rattle.nb_core.specs.Tables.{Tables, path_slot, tables_at}
 use Rattle.nb_core.specs.Histories.{is_empty}
 use Rattle.nb_core.specs.History.{content_of, counted_by, key_of_call, turned_by}
+use Rattle.nb_core.specs.Laws.{is_dead, is_finished_value}
 use Rattle.nb_core.specs.Meaning.{is_claimed_by, is_installed, slot_among}
 use Rattle.nb_core.specs.declared.numbers.TheConstants.{KEY_MAX, VALUE_MAX}
 use Rattle.nb_core.specs.declared.calls.Call.{Call}
@@ -22,11 +23,6 @@ use Rattle.nb_core.specs.declared.states.ValueState.{ValueState}
 use Rattle.nb_core.specs.declared.states.ValueState.TheVariants.{Null, Tombstone, Live, PrimedNull, PrimedTombstone, Primed, Finished}
 
 -- ---- states
-
-abbrev pub is_dead : KeyState → Bool
-is_dead Empty = false
-is_dead Dead = true
-is_dead (Claimed k) = false
 
 abbrev pub is_other : ℕ → KeyState → Bool
 is_other k Empty = false
@@ -46,15 +42,6 @@ is_unprimed PrimedNull = false
 is_unprimed PrimedTombstone = false
 is_unprimed (Primed n) = false
 is_unprimed (Finished n) = false
-
-abbrev pub is_finished_value : ValueState → Bool
-is_finished_value Null = false
-is_finished_value Tombstone = false
-is_finished_value (Live n) = false
-is_finished_value PrimedNull = true
-is_finished_value PrimedTombstone = true
-is_finished_value (Primed n) = false
-is_finished_value (Finished n) = true
 
 abbrev pub is_null : ValueState → Bool
 is_null Null = true

@@ -8,7 +8,8 @@ use Rattle.nb_core.specs.Tables.{AreOthers, HasSlotBelow, IsComplete, IsFinished
 use Rattle.nb_core.specs.Histories.{is_empty}
 use Rattle.nb_core.specs.History.{Exchanges, HasValue, IsCallInRange, IsChangeInRange, IsExchange, IsInRange, IsPrimedBelow, IsWantInRange, MayClaim, MayFinish, MayFollow, MayWin, content_of, counted_by, key_of_call, turned_by}
 use Rattle.nb_core.specs.Meaning.{is_claimed_by, is_installed, slot_among}
-use Rattle.nb_core.proofs.Legality.{all_finished, are_others, claimed_key, distance_of, exchanges_to, has_slot_below, has_value_at, is_call_in_range, is_change_in_range, is_complete, is_dead, is_exchange, is_finished, is_finished_value, is_in_range, is_live, is_null, is_other, is_primed_at, is_primed_below, is_ready, is_settled_below, is_slot, is_unprimed, is_value_in_range, is_want_in_range, may_claim_at, may_finish_of, may_follow, may_win, primed_number, same_value, settled_among}
+use Rattle.nb_core.specs.Laws.{is_dead, is_finished_value}
+use Rattle.nb_core.proofs.Legality.{all_finished, are_others, claimed_key, distance_of, exchanges_to, has_slot_below, has_value_at, is_call_in_range, is_change_in_range, is_complete, is_exchange, is_finished, is_in_range, is_live, is_null, is_other, is_primed_at, is_primed_below, is_ready, is_settled_below, is_slot, is_unprimed, is_value_in_range, is_want_in_range, may_claim_at, may_finish_of, may_follow, may_win, primed_number, same_value, settled_among}
 use Rattle.nb_core.specs.declared.numbers.TheConstants.{KEY_MAX, VALUE_MAX}
 use Rattle.nb_core.specs.declared.calls.Call.{Call}
 use Rattle.nb_core.specs.declared.calls.Call.TheVariants as call
@@ -50,7 +51,7 @@ differ a b e = eqb-false a b (not_true (eqb a b) e)
 pub below_suc : (P : ℕ → Type 0) (n : ℕ) → P n → ((i : ℕ) → i < n → P i) → (i : ℕ) → i < suc n → P i
 below_suc P n here below i h = ⊎_elim (λ lt. below i lt) (λ e. subst P (sym e) here) (last_or_below i n h)
 
-unclaimed : (k : ℕ) (s : KeyState) → not (is_claimed_by k s) ≡ true → s ≢ Claimed k
+pub unclaimed : (k : ℕ) (s : KeyState) → not (is_claimed_by k s) ≡ true → s ≢ Claimed k
 unclaimed k s e h = let here : is_claimed_by k s ≡ true = rw h (eq-eqb k k refl) in both_ways (is_claimed_by k s) (not_true _ e) here
 
 -- ---- states
@@ -70,7 +71,7 @@ is_other-true k Empty e = absurd (no_true e)
 is_other-true k Dead e = absurd (no_true e)
 is_other-true k (Claimed j) e = record { other = j; is = refl; differs = differ j k e }
 
-is_claimed_by-true : (k : ℕ) (s : KeyState) → is_claimed_by k s ≡ true → s ≡ Claimed k
+pub is_claimed_by-true : (k : ℕ) (s : KeyState) → is_claimed_by k s ≡ true → s ≡ Claimed k
 is_claimed_by-true k Empty e = cc
 is_claimed_by-true k Dead e = cc
 is_claimed_by-true k (Claimed j) e = ap Claimed (eqb-true j k e)
@@ -149,7 +150,7 @@ same_value_itself (Finished n) = eq-eqb n n refl
 
 -- ---- tables
 
-is_finished-true : (t : Tables) (g i : ℕ) → is_finished t g i ≡ true → IsFinished t g i
+pub is_finished-true : (t : Tables) (g i : ℕ) → is_finished t g i ≡ true → IsFinished t g i
 is_finished-true t g i e =
     ⊎_elim (λ dead. inl (is_dead-true (t.key g i) dead)) (λ done. inr (is_finished_value-true (t.value g i) done))
     (either (is_dead (t.key g i)) (is_finished_value (t.value g i)) e)

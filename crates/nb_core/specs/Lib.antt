@@ -1,6 +1,7 @@
 pub mod Calls
 pub mod Histories
 pub mod History
+pub mod Laws
 pub mod Meaning
 pub mod Places
 pub mod Plans

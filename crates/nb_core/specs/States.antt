@@ -1,6 +1,6 @@
 -- What the words of a slot mean.
 use Rattle.std.specs.Prelude.{ℕ, ◌+◌, ◌-◌, ◌*◌, ◌/◌, ◌%◌, ◌==◌, ◌≤◌, nat_lt, if◌then◌else◌, Option, Some, None}
-use Rattle.nb_core.specs.declared.numbers.TheConstants.{VALUE_MAX}
+use Rattle.nb_core.specs.declared.numbers.TheConstants.{KEY_MAX, VALUE_MAX}
 use Rattle.nb_core.specs.declared.states.KeyState.{KeyState}
 use Rattle.nb_core.specs.declared.states.KeyState.TheVariants.{Empty, Dead, Claimed}
 use Rattle.nb_core.specs.declared.states.ValueState.{ValueState}
@@ -44,6 +44,12 @@ value_state w =
     else if w == 5 then Some PrimedTombstone
     else if nat_lt w 8 then None
     else number_state (w / 4 - 2) (w % 4)
+
+-- the state's key, if it has one, is a key of the map
+abbrev pub IsKeyState : KeyState → Type 0
+IsKeyState Empty = Unit {0}
+IsKeyState Dead = Unit {0}
+IsKeyState (Claimed k) = k ≤ KEY_MAX
 
 -- the state's number, if it has one, is a number of the map
 abbrev pub IsValueState : ValueState → Type 0

@@ -1,4 +1,7 @@
-//! The laws of every shape. Each function carries a law as its contract; it does nothing when it runs.
+//! The laws of every shape and of every legal history, which say what holds at each moment, whatever atomic steps were made
+//! by whom. Each function carries a law as its contract and does nothing when it runs: a call of it hands the law to the
+//! proof of its caller.
+ghost use Rattle.nb_core.specs.Laws.{BeginningsAreLegal, CompletePassed, ContentOnce, CountedOnce, CrowdedAbsent, Decided, HasOneSlot, InstalledAfter, LawfulChanges, LawfulWords, Moved, OnePlace, PassedSettled, Room, SeenLasts, SizeIsNet, SlotsStay, TablesStand, TopComplete, WinNumber};
 ghost use Rattle.nb_core.specs.Plans.{LimitsFit, PlacesAreDistinct, SizesNeverFall};
 
 /// No two words of a chain lie in one place, and each lies in the chain.
@@ -14,4 +17,106 @@ pub fn sizes_never_fall()
 /// The limit of a table is a slot at least, and no more slots than the table has.
 pub fn limits_fit()
     ensures { LimitsFit }
+{}
+
+/// Each key word and value word stands for a state, a slot without a key has the value null, and the last table's header
+/// words are 0.
+pub fn lawful_words()
+    ensures { LawfulWords }
+{}
+
+/// One more event changes one word at most: a key from empty to claimed or closed, a value from null or a tombstone to a
+/// number, from a number to another one or a tombstone, from unprimed to primed, from a primed number to a finished one.
+pub fn lawful_changes()
+    ensures { LawfulChanges }
+{}
+
+/// At every moment the tables stand for the map of the won exchanges.
+pub fn stands()
+    ensures { TablesStand }
+{}
+
+/// A key has at most one slot in a table.
+pub fn one_slot()
+    ensures { HasOneSlot }
+{}
+
+/// A claimed or closed key never changes, nor does anything in a finished slot.
+pub fn stays()
+    ensures { SlotsStay }
+{}
+
+/// A slot that once got a number or a tombstone is never null again.
+pub fn content_once()
+    ensures { ContentOnce }
+{}
+
+/// A table is installed only where the one two below it is complete.
+pub fn installed_after()
+    ensures { InstalledAfter }
+{}
+
+/// What an installed table shows of a key that is passed in all tables below it is what the map has.
+pub fn decided()
+    ensures { Decided }
+{}
+
+/// Each finished slot was turned finished by just one event, and is counted once at most.
+pub fn counted()
+    ensures { CountedOnce }
+{}
+
+/// While a table isn't complete, the next one has an empty slot for each key that is still to be copied.
+pub fn room()
+    ensures { Room }
+{}
+
+/// A key for which the last table has no slot left is absent from the map.
+pub fn crowded_absent()
+    ensures { CrowdedAbsent }
+{}
+
+/// The first place of a key from a table on never changes.
+pub fn one_place()
+    ensures { OnePlace }
+{}
+
+/// What the calls of all seats added, less what they took out, is the number of the map's keys.
+pub fn size_is_net()
+    ensures { SizeIsNet }
+{}
+
+/// Each beginning of a legal history is legal.
+pub fn beginnings_are_legal()
+    ensures { BeginningsAreLegal }
+{}
+
+/// What a seat has once seen installed, claimed, passed, finished and the like is so ever after.
+pub fn seen_lasts()
+    ensures { SeenLasts }
+{}
+
+/// The key of a finished number has a value in the next table.
+pub fn moved()
+    ensures { Moved }
+{}
+
+/// Each key is passed in a complete table.
+pub fn complete_passed()
+    ensures { CompletePassed }
+{}
+
+/// A passed key has no unfinished slot in the table, so it may be written in the next one.
+pub fn passed_settled()
+    ensures { PassedSettled }
+{}
+
+/// Where a call may win an exchange, the map has at its key the number that the call replaces.
+pub fn win_number()
+    ensures { WinNumber }
+{}
+
+/// All tables below the top word are complete.
+pub fn top_complete()
+    ensures { TopComplete }
 {}

@@ -1,0 +1,152 @@
+-- The invariant of legal histories, said of the tables.
+use Rattle.std.proofs.Common.{◌≡◌, ◌∙◌, ℕ, ◌+◌, ◌<◌, ◌≤◌, ◌⊎◌, suc, ap, sym, subst, inl, inr, arith}
+use Rattle.std.proofs.lemmas.Bool.{cases_order}
+use Rattle.std.proofs.lemmas.Nat.{mod_below}
+use Rattle.nb_core.proofs.Tables.{four-le-size_of}
+use Rattle.nb_core.specs.Plans.{Plan, IsPlan, generations_of, size_of}
+use Rattle.nb_core.specs.Tables.{AreOthers, HasSlot, IsComplete, IsFinished, IsFinishedValue, IsInstalled, IsOther, IsSlot, IsUnprimed, Tables, path_slot}
+use Rattle.nb_core.specs.Laws.{HasContent}
+use Rattle.nb_core.specs.declared.numbers.TheConstants.{KEY_MAX}
+use Rattle.nb_core.specs.declared.states.KeyState.{KeyState}
+use Rattle.nb_core.specs.declared.states.KeyState.TheVariants.{Empty, Dead, Claimed}
+use Rattle.nb_core.specs.declared.states.ValueState.{ValueState}
+use Rattle.nb_core.specs.declared.states.ValueState.TheVariants.{Null, Tombstone, Live, PrimedNull, PrimedTombstone, Primed, Finished}
+
+-- the slot lies on the key's path, behind slots of other keys
+pub record IsReached (p : Plan) (t : Tables) (g i k : ℕ) : Type 0 where
+  pub distance : ℕ
+  pub in_table : distance < size_of p g
+  pub at : path_slot p g k distance ≡ i
+  pub passed : AreOthers p t g k distance
+
+-- what a claimed slot tells
+pub record IsClaimedRight (p : Plan) (t : Tables) (g i k : ℕ) : Type 0 where
+  pub key : k ≤ KEY_MAX
+  pub installed : IsInstalled t g
+  pub reached : IsReached p t g i k
+
+-- the slot has a key
+pub record HasKey (s : KeyState) : Type 0 where
+  pub key : ℕ
+  pub is : s ≡ Claimed key
+
+-- the second value may stand in the table above the first: the first is final, or the second is its copy
+abbrev pub MayBeAbove : ValueState → ValueState → Type 0
+MayBeAbove Null above = ⊥
+MayBeAbove Tombstone above = ⊥
+MayBeAbove (Live n) above = ⊥
+MayBeAbove PrimedNull above = Unit {0}
+MayBeAbove PrimedTombstone above = Unit {0}
+MayBeAbove (Primed n) above = above ≡ Live n
+MayBeAbove (Finished n) above = Unit {0}
+
+-- the key has got a number in the table, which may be gone again
+pub record HasGot (p : Plan) (t : Tables) (g k : ℕ) : Type 0 where
+  pub slot : ℕ
+  pub is_slot : IsSlot p g slot
+  pub is : t.key g slot ≡ Claimed k
+  pub content : HasContent (t.value g slot)
+
+pub record IsSound (p : Plan) (t : Tables) : Type 0 where
+  -- next words are 0 or 1, and the last table's is 0
+  pub next_is : (g : ℕ) → (t.next g ≡ 0) ⊎ ((t.next g ≡ 1) × (suc g < generations_of p))
+  -- tables are installed one after another, each once the second one below it is complete
+  pub ready : (g : ℕ) → t.next (suc g) ≡ 1 → (t.next g ≡ 1) × IsComplete p t g
+  -- a claimed slot
+  pub claimed : (g i k : ℕ) → IsSlot p g i → t.key g i ≡ Claimed k → IsClaimedRight p t g i k
+  -- a closed slot, or a primed value, is in a table that has a next one
+  pub dead : (g i : ℕ) → IsSlot p g i → t.key g i ≡ Dead → t.next g ≡ 1
+  pub growing : (g i : ℕ) → IsSlot p g i → IsUnprimed (t.value g i) ⊎ (t.next g ≡ 1)
+  -- only a claimed slot has a value
+  pub bare : (g i : ℕ) → IsSlot p g i → (t.value g i ≡ Null) ⊎ HasKey (t.key g i)
+  -- a key gets into the next table from this one, or once this one is complete
+  pub below : (g k : ℕ) → suc g < generations_of p → HasSlot p t (suc g) k → HasSlot p t g k ⊎ IsComplete p t g
+  -- a key's values in two tables
+  pub above : (g i j k : ℕ) → IsSlot p g i → IsSlot p (suc g) j → t.key g i ≡ Claimed k → t.key (suc g) j ≡ Claimed k → (t.value (suc g) j ≡ Null) ⊎ MayBeAbove (t.value g i) (t.value (suc g) j)
+  -- a finished number has been copied
+  pub moved : (g i k n : ℕ) → IsSlot p g i → t.key g i ≡ Claimed k → t.value g i ≡ Finished n → HasGot p t (suc g) k
+
+-- ---- what follows at once
+
+-- every distance on a path is a slot's
+pub path_slot-is_slot : (p : Plan) → IsPlan p → (g k d : ℕ) → g < generations_of p → IsSlot p g (path_slot p g k d)
+path_slot-is_slot p plan g k d within = (within, mod_below (k + d) (size_of p g) (omega (arith, four-le-size_of p g plan within)))
+
+-- one claim names one key
+pub claimed-same : {j k : ℕ} → Claimed j ≡ Claimed k → j ≡ k
+claimed-same e = cc
+
+-- a slot of another key isn't the key's
+pub other-not : (s : KeyState) (k : ℕ) → IsOther s k → s ≡ Claimed k → ⊥
+other-not s k other is = let e : Claimed other.other ≡ Claimed k = sym other.is ∙ is in other.differs (claimed-same e)
+
+-- on one path the key's slot is at one distance
+reached-once : (p : Plan) (t : Tables) (g i j k : ℕ) → IsReached p t g i k → IsReached p t g j k → t.key g i ≡ Claimed k → t.key g j ≡ Claimed k → i ≡ j
+reached-once p t g i j k a b a_is b_is =
+    elim (cases_order a.distance b.distance) [
+      | inl same ↦ sym a.at ∙ ap (path_slot p g k) same ∙ b.at
+      | inr (inl before) ↦ absurd (other-not (t.key g (path_slot p g k a.distance)) k (b.passed a.distance before) (ap (t.key g) a.at ∙ a_is))
+      | inr (inr after) ↦ absurd (other-not (t.key g (path_slot p g k b.distance)) k (a.passed b.distance after) (ap (t.key g) b.at ∙ b_is))
+    ]
+
+pub one_slot : (p : Plan) (t : Tables) → IsPlan p → IsSound p t → (g i j k : ℕ) → IsSlot p g i → IsSlot p g j → t.key g i ≡ Claimed k → t.key g j ≡ Claimed k → i ≡ j
+one_slot p t plan s g i j k i_slot j_slot i_is j_is =
+    reached-once p t g i j k (s.claimed g i k i_slot i_is).reached (s.claimed g j k j_slot j_is).reached i_is j_is
+
+-- a value is final, or not primed yet, and not both
+pub unprimed-not_final : (v : ValueState) → IsUnprimed v → IsFinishedValue v → ⊥
+unprimed-not_final Null a b = b
+unprimed-not_final Tombstone a b = b
+unprimed-not_final (Live n) a b = b
+unprimed-not_final PrimedNull a b = a
+unprimed-not_final PrimedTombstone a b = a
+unprimed-not_final (Primed n) a b = a
+unprimed-not_final (Finished n) a b = a
+
+-- a finished slot with a key has a final value
+pub finished-value : (t : Tables) (g i k : ℕ) → IsFinished t g i → t.key g i ≡ Claimed k → IsFinishedValue (t.value g i)
+finished-value t g i k finished is =
+    elim finished [
+      | inl dead ↦ absurd (let e : Claimed k ≡ Dead = sym is ∙ dead in cc)
+      | inr value ↦ value
+    ]
+
+-- an empty slot has no value
+pub empty-null : (p : Plan) (t : Tables) → IsSound p t → (g i : ℕ) → IsSlot p g i → t.key g i ≡ Empty → t.value g i ≡ Null
+empty-null p t s g i slot empty =
+    elim (s.bare g i slot) [
+      | inl null ↦ null
+      | inr key ↦ absurd (let e : Claimed key.key ≡ Empty = sym key.is ∙ empty in cc)
+    ]
+
+-- a complete table has no empty slot
+pub complete-not_empty : (p : Plan) (t : Tables) → IsSound p t → (g i : ℕ) → IsSlot p g i → IsComplete p t g → t.key g i ≡ Empty → ⊥
+complete-not_empty p t s g i slot complete empty =
+    elim (complete i slot.1) [
+      | inl dead ↦ (let e : Empty ≡ Dead = sym empty ∙ dead in cc)
+      | inr value ↦ subst IsFinishedValue (empty-null p t s g i slot empty) value
+    ]
+
+-- a table with a next one isn't the last
+pub next-within : (p : Plan) (t : Tables) → IsSound p t → (g : ℕ) → t.next g ≡ 1 → suc g < generations_of p
+next-within p t s g is =
+    elim (s.next_is g) [
+      | inl none ↦ absurd (omega arith)
+      | inr some ↦ some.1
+    ]
+
+-- a table with a finished slot has a next one
+pub finished-growing : (p : Plan) (t : Tables) → IsSound p t → (g i : ℕ) → IsSlot p g i → IsFinished t g i → t.next g ≡ 1
+finished-growing p t s g i slot finished =
+    elim finished [
+      | inl dead ↦ s.dead g i slot dead
+      | inr value ↦ elim (s.growing g i slot) [
+        | inl unprimed ↦ absurd (unprimed-not_final (t.value g i) unprimed value)
+        | inr next ↦ next
+      ]
+    ]
+
+pub complete-growing : (p : Plan) (t : Tables) → IsPlan p → IsSound p t → (g : ℕ) → g < generations_of p → IsComplete p t g → t.next g ≡ 1
+complete-growing p t plan s g within complete =
+    let some : 0 < size_of p g = omega (arith, four-le-size_of p g plan within) in
+    finished-growing p t s g 0 (within, some) (complete 0 some)

@@ -1,0 +1,5 @@
+use Rattle.nb_core.proofs.Following.{size_is_net}
+use Rattle.nb_core.proofs.laws.size_is_net.Goals as goal
+
+pub returns : goal.returns
+returns c = size_is_net

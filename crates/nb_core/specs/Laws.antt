@@ -1,0 +1,277 @@
+-- The laws of legal histories: what holds at every moment, whatever atomic steps were made, by whom, in which order.
+use Rattle.std.specs.Prelude.{◌≡◌, ◌≢◌, ℕ, suc, zero, ◌+◌, ◌-◌, ◌<◌, ◌≤◌, ◌⊎◌, ◌==◌, ◌&&◌, ◌||◌, ℤ, pos, ◌+ℤ◌, Bool, true, false, if◌then◌else◌, List, [], ◌∷◌, ◌++◌, length, slice_index, Option, Some, None}
+use Rattle.std.specs.FinMap as map
+use Rattle.nb_core.specs.Plans.{Plan, IsPlan, generations_of, header_place, size_of, value_place}
+use Rattle.nb_core.specs.States.{IsKeyState, value_state}
+use Rattle.nb_core.specs.Tables.{AreOthers, HasSlot, IsComplete, IsFinished, IsFinishedValue, IsInstalled, IsReady, IsSettledBelow, IsSlot, IsUnprimed, Tables, path_slot, tables_at, words_of}
+use Rattle.nb_core.specs.History.{HasValue, IsLegal, MayWin, content_of, counted_by, is_empty_content, key_of_call, map_of, turned_by}
+use Rattle.nb_core.specs.Meaning.{IsCrowded, Stands, calls_of, net_of, place_of}
+use Rattle.nb_core.specs.declared.calls.Call.{Call}
+use Rattle.nb_core.specs.declared.events.Event.{Event}
+use Rattle.nb_core.specs.declared.events.Event.TheVariants.{Claim, Kill, Won, CopyIn, Prime, Finish}
+use Rattle.nb_core.specs.declared.states.KeyState.{KeyState}
+use Rattle.nb_core.specs.declared.states.KeyState.TheVariants.{Empty, Dead, Claimed}
+use Rattle.nb_core.specs.declared.states.ValueState.{ValueState}
+use Rattle.nb_core.specs.declared.states.ValueState.TheVariants.{Null, Tombstone, Live, PrimedNull, PrimedTombstone, Primed, Finished}
+
+-- ---- words
+
+-- the word stands for a state of a value
+pub record IsValueWord (word : ℕ) : Type 0 where
+  pub state : ValueState
+  pub decodes : value_state word ≡ Some state
+
+-- Each key word and value word stands for a state. A slot without a key has the value null, and the last table's header
+-- words stay 0.
+pub record AreLawful (p : Plan) (h : List Event) : Type 0 where
+  pub keys : (g i : ℕ) → IsSlot p g i → IsKeyState ((tables_at p h).key g i)
+  pub values : (g i : ℕ) → IsSlot p g i → IsValueWord (slice_index (words_of p h) (value_place p g i))
+  pub empty : (g i : ℕ) → IsSlot p g i → (tables_at p h).key g i ≡ Empty → (tables_at p h).value g i ≡ Null
+  pub dead : (g i : ℕ) → IsSlot p g i → (tables_at p h).key g i ≡ Dead → (tables_at p h).value g i ≡ Null
+  pub last : (n : ℕ) → n < 3 → slice_index (words_of p h) (header_place p (generations_of p - 1) n) ≡ 0
+
+abbrev pub LawfulWords : Type 0
+LawfulWords = (p : Plan) → IsPlan p → (h : List Event) → IsLegal p h → AreLawful p h
+
+-- how an event may change a key
+abbrev pub IsKeyChange : Event → KeyState → KeyState → Type 0
+IsKeyChange (Claim s g i k) from to = (from ≡ Empty) × (to ≡ Claimed k)
+IsKeyChange (Kill s g i) from to = (from ≡ Empty) × (to ≡ Dead)
+IsKeyChange _ from to = ⊥
+
+-- a call puts a number in place of null, a tombstone or another number, or a tombstone in place of a number
+abbrev pub IsWonChange : ValueState → ValueState → Type 0
+IsWonChange Null (Live n) = Unit {0}
+IsWonChange Tombstone (Live n) = Unit {0}
+IsWonChange (Live m) (Live n) = n ≢ m
+IsWonChange (Live m) Tombstone = Unit {0}
+IsWonChange _ _ = ⊥
+
+-- the same value, primed
+abbrev pub primed : ValueState → ValueState
+primed Null = PrimedNull
+primed Tombstone = PrimedTombstone
+primed (Live n) = Primed n
+primed PrimedNull = PrimedNull
+primed PrimedTombstone = PrimedTombstone
+primed (Primed n) = Primed n
+primed (Finished n) = Finished n
+
+-- how an event may change a value
+abbrev pub IsValueChange : Event → ValueState → ValueState → Type 0
+IsValueChange (Won s g i a b c r) from to = (from ≡ a) × (to ≡ b) × IsWonChange a b
+IsValueChange (CopyIn s g i k n) from to = (from ≡ Null) × (to ≡ Live n)
+IsValueChange (Prime s g i) from to = IsUnprimed from × (to ≡ primed from)
+IsValueChange (Finish s g i) from to = (n : ℕ) × (from ≡ Primed n) × (to ≡ Finished n)
+IsValueChange _ from to = ⊥
+
+-- An event changes one word at most, and a key or a value only as its kind may.
+pub record IsLawfulChange (p : Plan) (e : Event) (h : List Event) : Type 0 where
+  pub length : length (words_of p (e ∷ h)) ≡ length (words_of p h)
+  pub one : (a b : ℕ) → slice_index (words_of p (e ∷ h)) a ≢ slice_index (words_of p h) a → slice_index (words_of p (e ∷ h)) b ≢ slice_index (words_of p h) b → a ≡ b
+  pub keys : (g i : ℕ) → IsSlot p g i → let t = tables_at p h in let u = tables_at p (e ∷ h) in (u.key g i ≡ t.key g i) ⊎ IsKeyChange e (t.key g i) (u.key g i)
+  pub values : (g i : ℕ) → IsSlot p g i → let t = tables_at p h in let u = tables_at p (e ∷ h) in (u.value g i ≡ t.value g i) ⊎ IsValueChange e (t.value g i) (u.value g i)
+
+abbrev pub LawfulChanges : Type 0
+LawfulChanges = (p : Plan) → IsPlan p → (e : Event) (h : List Event) → IsLegal p (e ∷ h) → IsLawfulChange p e h
+
+-- ---- what the tables stand for
+
+-- At every moment the chain of tables stands for the map that the won exchanges make.
+abbrev pub TablesStand : Type 0
+TablesStand = (p : Plan) → IsPlan p → (h : List Event) → IsLegal p h → Stands p (words_of p h) (map_of h)
+
+-- A key has at most one slot in a table.
+abbrev pub HasOneSlot : Type 0
+HasOneSlot = (p : Plan) → IsPlan p → (h : List Event) → IsLegal p h → (g i j k : ℕ) → IsSlot p g i → IsSlot p g j → (tables_at p h).key g i ≡ Claimed k → (tables_at p h).key g j ≡ Claimed k → i ≡ j
+
+-- what never changes again in a slot: a key that was claimed or closed, and all of a finished slot
+pub record Stays (t u : Tables) (g i : ℕ) : Type 0 where
+  pub key : t.key g i ≢ Empty → u.key g i ≡ t.key g i
+  pub finished : IsFinished t g i → (u.key g i ≡ t.key g i) × (u.value g i ≡ t.value g i)
+
+abbrev pub SlotsStay : Type 0
+SlotsStay = (p : Plan) → IsPlan p → (later h : List Event) → IsLegal p (later ++ h) → (g i : ℕ) → IsSlot p g i → Stays (tables_at p h) (tables_at p (later ++ h)) g i
+
+-- the key got a number in this table, which may be gone again
+abbrev pub HasContent : ValueState → Type 0
+HasContent Null = ⊥
+HasContent Tombstone = Unit {0}
+HasContent (Live n) = Unit {0}
+HasContent PrimedNull = ⊥
+HasContent PrimedTombstone = Unit {0}
+HasContent (Primed n) = Unit {0}
+HasContent (Finished n) = Unit {0}
+
+-- What was no null, primed or not, never is one again.
+abbrev pub ContentOnce : Type 0
+ContentOnce = (p : Plan) → IsPlan p → (later h : List Event) → IsLegal p (later ++ h) → (g i : ℕ) → IsSlot p g i → HasContent ((tables_at p h).value g i) → HasContent ((tables_at p (later ++ h)).value g i)
+
+-- A table is installed only where the one two below it is complete, so at most two tables have values to copy or to change.
+abbrev pub InstalledAfter : Type 0
+InstalledAfter = (p : Plan) → IsPlan p → (h : List Event) → IsLegal p h → (g : ℕ) → IsInstalled (tables_at p h) (suc (suc g)) → IsComplete p (tables_at p h) g
+
+-- ---- what a look at the tables decides
+
+-- A call need not look at the key in this table any more: its slot is finished, or other keys have its path, up to a
+-- closed slot or whole.
+pub data IsPassed (p : Plan) (t : Tables) (g k : ℕ) : Type 0 where
+  AtSlot : (i : ℕ) → i < size_of p g → t.key g i ≡ Claimed k → IsFinishedValue (t.value g i) → IsPassed p t g k
+  UpToDead : (d : ℕ) → d < size_of p g → AreOthers p t g k d → t.key g (path_slot p g k d) ≡ Dead → IsPassed p t g k
+  Whole : AreOthers p t g k (size_of p g) → IsPassed p t g k
+
+-- What a table shows of the key: absent, at an empty slot on its path or where other keys have all of it and there is no
+-- next table; and the number in the key's slot, if there is one, as long as it isn't primed.
+pub data Shows (p : Plan) (t : Tables) (g k : ℕ) (number : Option ℕ) : Type 0 where
+  AtEmpty : (d : ℕ) → d < size_of p g → AreOthers p t g k d → t.key g (path_slot p g k d) ≡ Empty → number ≡ None → Shows p t g k number
+  AtValue : (i : ℕ) → i < size_of p g → t.key g i ≡ Claimed k → IsUnprimed (t.value g i) → number ≡ content_of (t.value g i) → Shows p t g k number
+  NoNext : AreOthers p t g k (size_of p g) → t.next g ≡ 0 → number ≡ None → Shows p t g k number
+  InLast : AreOthers p t g k (size_of p g) → suc g ≡ generations_of p → number ≡ None → Shows p t g k number
+
+-- Where the key is passed in all tables below an installed one, what that one shows of it is what the map has.
+abbrev pub Decided : Type 0
+Decided =
+    (p : Plan) → IsPlan p → (h : List Event) → IsLegal p h → (g k : ℕ) → g < generations_of p → IsInstalled (tables_at p h) g
+    → ((f : ℕ) → f < g → IsPassed p (tables_at p h) f k) → (number : Option ℕ) → Shows p (tables_at p h) g k number → map.get (map_of h) k ≡ number
+
+-- ---- growth
+
+-- the event, coming after the history, turned this slot finished
+abbrev pub turns_slot : Plan → List Event → Event → ℕ → ℕ → Bool
+turns_slot p h (Kill s f j) g i = f == g && j == i
+turns_slot p h (Finish s f j) g i = f == g && j == i
+turns_slot p h (Prime s f j) g i = f == g && j == i && is_empty_content ((tables_at p h).value g i)
+turns_slot p h _ g i = false
+
+-- how many events turned the slot finished
+abbrev pub times_turned : Plan → List Event → ℕ → ℕ → ℕ
+times_turned p [] g i = 0
+times_turned p (e ∷ h) g i = (if turns_slot p h e g i then 1 else 0) + times_turned p h g i
+
+-- whether the value is final
+abbrev pub is_finished_value : ValueState → Bool
+is_finished_value Null = false
+is_finished_value Tombstone = false
+is_finished_value (Live n) = false
+is_finished_value PrimedNull = true
+is_finished_value PrimedTombstone = true
+is_finished_value (Primed n) = false
+is_finished_value (Finished n) = true
+
+abbrev pub is_dead : KeyState → Bool
+is_dead Empty = false
+is_dead Dead = true
+is_dead (Claimed k) = false
+
+-- how many of the first n slots of a table are finished
+abbrev pub finished_among : Tables → ℕ → ℕ → ℕ
+finished_among t g zero = 0
+finished_among t g (suc n) = (if is_dead (t.key g n) || is_finished_value (t.value g n) then 1 else 0) + finished_among t g n
+
+-- the sum of a number over the first n seats
+abbrev pub over_seats : (ℕ → ℕ) → ℕ → ℕ
+over_seats f zero = 0
+over_seats f (suc n) = f n + over_seats f n
+
+-- Just one event turned each finished slot finished, and none another slot. A seat counts what its own events turned,
+-- and the done word is what all seats counted: so many slots are finished, and where it is the size, all are.
+pub record AreCountedOnce (p : Plan) (h : List Event) (g : ℕ) : Type 0 where
+  pub once : (i : ℕ) → IsSlot p g i → IsFinished (tables_at p h) g i → times_turned p h g i ≡ 1
+  pub never : (i : ℕ) → IsSlot p g i → (IsFinished (tables_at p h) g i → ⊥) → times_turned p h g i ≡ 0
+  pub turned : over_seats (λ s. turned_by p h s g) p.seats ≡ finished_among (tables_at p h) g (size_of p g)
+  pub own : (s : ℕ) → counted_by h s g ≤ turned_by p h s g
+  pub done : (tables_at p h).counted g ≡ over_seats (λ s. counted_by h s g) p.seats
+  pub within : (tables_at p h).counted g ≤ finished_among (tables_at p h) g (size_of p g)
+  pub whole : (tables_at p h).counted g ≡ size_of p g → IsComplete p (tables_at p h) g
+
+abbrev pub CountedOnce : Type 0
+CountedOnce = (p : Plan) → IsPlan p → (h : List Event) → IsLegal p h → (g : ℕ) → g < generations_of p → AreCountedOnce p h g
+
+-- the key's path has an empty slot, and up to it other keys alone
+pub record HasFreeSlot (p : Plan) (t : Tables) (g k : ℕ) : Type 0 where
+  pub distance : ℕ
+  pub in_table : distance < size_of p g
+  pub passed : AreOthers p t g k distance
+  pub empty : t.key g (path_slot p g k distance) ≡ Empty
+
+-- the next table has room for what is still to be copied from table g
+pub record HasRoom (p : Plan) (t : Tables) (g : ℕ) : Type 0 where
+  pub claimed : (k : ℕ) → HasSlot p t (suc g) k → HasSlot p t g k
+  pub alive : (i : ℕ) → i < size_of p (suc g) → t.key (suc g) i ≢ Dead
+  pub free : (k : ℕ) → HasSlot p t g k → (HasSlot p t (suc g) k → ⊥) → HasFreeSlot p t (suc g) k
+
+-- While a table isn't complete the next one has room for it, whatever writers do, and if both are equally large.
+abbrev pub Room : Type 0
+Room = (p : Plan) → IsPlan p → (h : List Event) → IsLegal p h → (g : ℕ) → suc g < generations_of p → (IsComplete p (tables_at p h) g → ⊥) → HasRoom p (tables_at p h) g
+
+-- A key that the last table has no slot left for is absent.
+abbrev pub CrowdedAbsent : Type 0
+CrowdedAbsent = (p : Plan) → IsPlan p → (h : List Event) → IsLegal p h → (k : ℕ) → IsCrowded p h k → map.get (map_of h) k ≡ None
+
+-- The first place of a key from a table on is the same for ever.
+abbrev pub OnePlace : Type 0
+OnePlace = (p : Plan) → IsPlan p → (later h : List Event) → IsLegal p (later ++ h) → (g k : ℕ) → (place : ℕ × ℕ) → place_of p h g k ≡ Some place → place_of p (later ++ h) g k ≡ Some place
+
+-- ---- the size
+
+-- how many keys the calls of the first n seats added, less how many they took out
+abbrev pub net_of_seats : List Event → ℕ → ℤ
+net_of_seats h zero = pos 0
+net_of_seats h (suc n) = net_of (calls_of h n) +ℤ net_of_seats h n
+
+-- What all seats' calls added, less what they took out, is the number of keys.
+abbrev pub SizeIsNet : Type 0
+SizeIsNet = (p : Plan) → IsPlan p → (h : List Event) → IsLegal p h → net_of_seats h p.seats ≡ pos (length (map.entries (map_of h)))
+
+-- ---- what a seat may rely on
+
+-- Each beginning of a legal history is legal.
+abbrev pub BeginningsAreLegal : Type 0
+BeginningsAreLegal = (p : Plan) (later h : List Event) → IsLegal p (later ++ h) → IsLegal p h
+
+-- the slot has held this number primed, and may have finished it
+abbrev pub IsFrozen : Tables → ℕ → ℕ → ℕ → Type 0
+IsFrozen t g i n = (t.value g i ≡ Primed n) ⊎ (t.value g i ≡ Finished n)
+
+-- what is still so in later tables
+pub record Lasts (p : Plan) (t u : Tables) : Type 0 where
+  pub installed : (g : ℕ) → IsInstalled t g → IsInstalled u g
+  pub claimed : (g i k : ℕ) → IsSlot p g i → t.key g i ≡ Claimed k → u.key g i ≡ Claimed k
+  pub dead : (g i : ℕ) → IsSlot p g i → t.key g i ≡ Dead → u.key g i ≡ Dead
+  pub others : (g k d : ℕ) → g < generations_of p → AreOthers p t g k d → AreOthers p u g k d
+  pub passed : (g k : ℕ) → g < generations_of p → IsPassed p t g k → IsPassed p u g k
+  pub has_slot : (g k : ℕ) → g < generations_of p → HasSlot p t g k → HasSlot p u g k
+  pub has_value : (g k : ℕ) → g < generations_of p → HasValue p t g k → HasValue p u g k
+  pub some : (g i : ℕ) → IsSlot p g i → t.value g i ≢ Null → u.value g i ≢ Null
+  pub content : (g i : ℕ) → IsSlot p g i → HasContent (t.value g i) → HasContent (u.value g i)
+  pub frozen : (g i n : ℕ) → IsSlot p g i → IsFrozen t g i n → IsFrozen u g i n
+  pub final : (g i : ℕ) → IsSlot p g i → IsFinishedValue (t.value g i) → u.value g i ≡ t.value g i
+  pub finished : (g i : ℕ) → IsSlot p g i → IsFinished t g i → IsFinished u g i
+  pub complete : (g : ℕ) → g < generations_of p → IsComplete p t g → IsComplete p u g
+  pub ready : (g : ℕ) → g < generations_of p → IsReady p t g → IsReady p u g
+  pub settled : (g k : ℕ) → g < generations_of p → HasSlot p t g k → IsSettledBelow p t g k → IsSettledBelow p u g k
+  pub top : t.top ≤ u.top
+
+-- What a seat has seen of a claimed key, a finished slot, a passed key and the like is so for ever.
+abbrev pub SeenLasts : Type 0
+SeenLasts = (p : Plan) → IsPlan p → (later h : List Event) → IsLegal p (later ++ h) → Lasts p (tables_at p h) (tables_at p (later ++ h))
+
+-- Where a key's number is finished, the key has got a number in the next table.
+abbrev pub Moved : Type 0
+Moved = (p : Plan) → IsPlan p → (h : List Event) → IsLegal p h → (g i k n : ℕ) → IsSlot p g i → (tables_at p h).key g i ≡ Claimed k → (tables_at p h).value g i ≡ Finished n → HasValue p (tables_at p h) (suc g) k
+
+-- Every key is passed in a complete table.
+abbrev pub CompletePassed : Type 0
+CompletePassed = (p : Plan) → IsPlan p → (h : List Event) → IsLegal p h → (g k : ℕ) → g < generations_of p → IsComplete p (tables_at p h) g → IsPassed p (tables_at p h) g k
+
+-- A passed key may be written in the next table.
+abbrev pub PassedSettled : Type 0
+PassedSettled = (p : Plan) → IsPlan p → (h : List Event) → IsLegal p h → (g k : ℕ) → g < generations_of p → IsPassed p (tables_at p h) g k → IsSettledBelow p (tables_at p h) (suc g) k
+
+-- Where a call may win an exchange, the map has at its key what the call replaces.
+abbrev pub WinNumber : Type 0
+WinNumber = (p : Plan) → IsPlan p → (h : List Event) → IsLegal p h → (g i : ℕ) (a b : ValueState) (c : Call) → IsSlot p g i → MayWin p (tables_at p h) g i a b c → map.get (map_of h) (key_of_call c) ≡ content_of a
+
+-- All tables below the top word are complete.
+abbrev pub TopComplete : Type 0
+TopComplete = (p : Plan) → IsPlan p → (h : List Event) → IsLegal p h → (g : ℕ) → g < (tables_at p h).top → (g < generations_of p) × IsComplete p (tables_at p h) g
