@@ -12,6 +12,7 @@ pub mod laws;
 mod numbers;
 mod plain;
 pub mod refusals;
+mod seats;
 mod shapes;
 mod states;
 
@@ -19,6 +20,7 @@ pub use calls::{Call, Change, Reply, Want};
 pub use events::Event;
 pub use numbers::{KEY_MAX, Key, Num, RangeFault, VALUE_MAX};
 pub use plain::{PlainFault, PlainMap};
+pub use seats::NotAll;
 pub use shapes::{Shape, ShapeFault};
 pub use states::{KeyState, ValueState, decode_key, decode_value, encode_key, encode_value};
 pub use std::alloc::AllocError as OutOfMemory;

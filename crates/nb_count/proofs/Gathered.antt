@@ -1,0 +1,122 @@
+-- One token gathers the tallies of all seats, and the words that are left stand for their sum.
+use Rattle.std.proofs.Common.{◌≡◌, ◌∙◌, ℕ, zero, suc, ◌+◌, ◌%◌, ◌^◌, ◌<◌, ◌≤◌, ap, sym, subst, List, [], ◌∷◌, ◌++◌, length, length-append, take_all, get_or, sum, take, true, false, slice_index, ℤ, ◌+ℤ◌, pos, All, refl, arith}
+use lib.ListN.{get_elem?}
+use mathlib.Core.Option.{some, some-injective, some-ne-none}
+use Rattle.std.proofs.Math.ListN.{get_or-append}
+use Rattle.std.proofs.Math.Nat.{add-mod, mod-add-mod, mod-eq_of_lt}
+use Rattle.std.proofs.Math.Seq.{get_or-append_seam, take-suc}
+use Rattle.std.proofs.lemmas.Int.{ints}
+use Rattle.std.proofs.lemmas.List.Sums.{sum_by_more, sum_by_push}
+use Rattle.atomic_table.specs.Seated.{TableId}
+use Rattle.atomic_table.specs.Table.{Final, Me, Seen, State}
+use Rattle.atomic_table.specs.declared.shared.Seat.{Seat}
+use Rattle.nb_count.specs.Counts.{Counting, total_of}
+use Rattle.nb_count.specs.Gathered.{HasGathered}
+use Rattle.nb_count.specs.Inside.{IsSeat, seat_of, tally_of}
+use Rattle.nb_count.specs.Tallies.{AreSums, StripesAreFree, WordsAreTheSum, added_by, all_of, served, total, wrapped}
+use Rattle.nb_count.specs.declared.counter.CountSeat.TheInside as seat
+use Rattle.nb_count.specs.declared.tally.Size.{Size}
+use Rattle.nb_count.specs.declared.tally.Tally.{Tally}
+use Rattle.nb_count.proofs.Sums.{all_served, over_stripes, total-append, total-whole, wrapped-lt, wrapped-sum}
+
+-- ---- lists whose last was taken
+
+pub own-left : (counter : TableId) (seats left : List Counting) (s : Counting) → seats ≡ left ++ s ∷ [] → All (λ x. x.counter ≡ counter) seats → All (λ x. x.counter ≡ counter) left
+own-left counter seats left s is own k d below =
+    ap (λ x. x.counter) (sym (get_or-append left (s ∷ []) d k below) ∙ ap (λ xs. get_or xs k d) (sym is))
+    ∙ own k d (omega (arith, ap length is, length-append left (s ∷ [])))
+
+pub own-last : (counter : TableId) (seats left : List Counting) (s : Counting) → seats ≡ left ++ s ∷ [] → All (λ x. x.counter ≡ counter) seats → s.counter ≡ counter
+own-last counter seats left s is own =
+    ap (λ x. x.counter) (sym (get_or-append_seam left s [] s) ∙ ap (λ xs. get_or xs (length left) s) (sym is))
+    ∙ own (length left) s (omega (arith, ap length is, length-append left (s ∷ [])))
+
+total_of-append : (left : List Counting) (s : Counting) → total_of (left ++ s ∷ []) ≡ total_of left +ℤ s.added
+total_of-append [] s = omega (arith, ints)
+total_of-append (x ∷ left) s = omega (arith, ints, total_of-append left s)
+
+-- a list from which nothing can be taken is empty
+pub none-left : (left : List Counting) → (0 < length left → false ≡ true) → left ≡ []
+none-left [] none = refl
+none-left (x ∷ left) none = absurd (let e : false ≡ true = none (omega arith) in cc)
+
+-- ---- gathering
+
+-- one seat's token, where the others are left
+pub gathered-first : (counter : TableId) (s : seat.Inside) (last : Counting) (left seats : List Counting) → IsSeat s → seat_of s ≡ last → seats ≡ left ++ last ∷ [] → last.counter ≡ counter → HasGathered counter s.seat left seats
+gathered-first counter s last left seats is_seat view is own = record {
+  own = ap (λ v. v.counter) view ∙ own;
+  free = ap (λ m. m.1) is_seat.one;
+  count = omega (arith, ap (λ m. length m.0) is_seat.one, ap length is, length-append left (last ∷ []));
+  sum =
+    let here : added_by s.seat.me.0 ≡ last.added +ℤ pos 0 = ap (λ m. added_by m.0) is_seat.one ∙ ap (λ v. v.added +ℤ pos 0) view in
+    omega (arith, ints, ap total_of is, total_of-append left last);
+}
+
+-- one seat's token more
+pub gathered-more : (counter : TableId) (token token' : Seat (Unit {0}) (List Tally)) (s : seat.Inside) (next : Counting) (left left' seats : List Counting) → HasGathered counter token left' seats → IsSeat s → seat_of s ≡ next → left' ≡ left ++ next ∷ [] → token'.table_id ≡ token.table_id → token'.me ≡ (token.me.0 ++ s.seat.me.0, token.me.1) → HasGathered counter token' left seats
+gathered-more counter token token' s next left left' seats g is_seat view is table me = record {
+  own = table ∙ g.own;
+  free = ap (λ m. m.1) me ∙ g.free;
+  count =
+    let first = g.count in
+    omega (arith, ap (λ m. length m.0) me, length-append token.me.0 s.seat.me.0, ap (λ m. length m.0) is_seat.one, ap length is, length-append left (next ∷ []));
+  sum =
+    let here : added_by s.seat.me.0 ≡ next.added +ℤ pos 0 = ap (λ m. added_by m.0) is_seat.one ∙ ap (λ v. v.added +ℤ pos 0) view in
+    let first = g.sum in
+    omega (arith, ints, ap (λ m. added_by m.0) me, total-append (λ t. t.added) token.me.0 s.seat.me.0, ap total_of is, total_of-append left next);
+}
+
+-- ---- the words
+
+word-at : (xs : List ℕ) (i x : ℕ) → get_elem? xs i ≡ some x → (get_or xs i 0 ≡ x) × (i < length xs)
+word-at [] i x at = absurd (some-ne-none x (sym at))
+word-at (y ∷ xs) zero x at = (some-injective y x at, omega arith)
+word-at (y ∷ xs) (suc i) x at = let rest = word-at xs i x at in (rest.0, omega arith)
+
+-- one word more, in a loop
+pub sum-next : (words : List ℕ) (i so_far word : ℕ) → so_far ≡ sum (take i words) % 2 ^ 64 → get_elem? words i ≡ some word → (so_far + word) % 2 ^ 64 ≡ sum (take (i + 1) words) % 2 ^ 64
+sum-next words i so_far word is at =
+    let here = word-at words i word at in
+    ap (λ x. (x + word) % 2 ^ 64) is ∙ mod-add-mod (sum (take i words)) (2 ^ 64) word
+    ∙ ap (λ x. x % 2 ^ 64) (ap (λ x. sum (take i words) + x) (sym here.0) ∙ sym (sum_by_more (λ x. x) words i 0 here.1))
+
+-- two sums modulo 2^64
+sum-wrapped : (m n : ℕ) (a b : ℤ) → m % 2 ^ 64 ≡ wrapped a → n ≡ wrapped b → (m + n) % 2 ^ 64 ≡ wrapped (a +ℤ b)
+sum-wrapped m n a b m_is n_is =
+    add-mod m n (2 ^ 64)
+    ∙ (λ i. (m_is i + (ap (λ x. x % 2 ^ 64) n_is ∙ mod-eq_of_lt (wrapped-lt b)) i) % 2 ^ 64)
+    ∙ wrapped-sum a b
+
+-- the first words' sum is what their stripes serve
+sum-served : (words : List ℕ) (stripes : ℕ) (ts : List Tally) → length words ≡ stripes → ((i : ℕ) → i < stripes → slice_index words i ≡ wrapped (total (served stripes i) ts)) → (n : ℕ) → n ≤ stripes → sum (take n words) % 2 ^ 64 ≡ wrapped (over_stripes stripes n ts)
+sum-served words stripes ts count stands zero below = refl
+sum-served words stripes ts count stands (suc n) below =
+    ap (λ x. x % 2 ^ 64) (ap sum (take-suc words n 0 (omega arith)) ∙ sum_by_push (λ x. x) (take n words) (get_or words n 0))
+    ∙ sum-wrapped (sum (take n words)) (get_or words n 0) (over_stripes stripes n ts) (total (served stripes n) ts)
+        (sum-served words stripes ts count stands n (omega arith)) (stands n (omega arith))
+
+-- there is a word for each stripe
+all-words : (z : Size) (s : State (Unit {0}) (List Tally)) → AreSums z s → take z.stripes s.words ≡ s.words
+all-words z s rule = take_all z.stripes s.words (omega (arith, rule.words))
+
+-- the words' sum is what all seats have added
+pub words_are_the_sum : WordsAreTheSum
+words_are_the_sum z s positive rule =
+    ap (λ ws. sum ws % 2 ^ 64) (sym (all-words z s rule))
+    ∙ sum-served s.words z.stripes (all_of s.views) rule.words rule.sums z.stripes (omega arith)
+    ∙ ap wrapped (all_served z.stripes (all_of s.views) positive)
+
+pub stripes_are_free : StripesAreFree
+stripes_are_free y z s t y_positive z_positive y_rule z_rule same =
+    words_are_the_sum y s y_positive y_rule ∙ ap wrapped same ∙ sym (words_are_the_sum z t z_positive z_rule)
+
+-- where one token has all tallies, the words' sum is what they have added
+whole-sum : (z : Size) (s : State (Unit {0}) (List Tally)) (id : ℕ) (ts : List Tally) → 1 ≤ z.stripes → AreSums z s → get_elem? s.views id ≡ some ts → length ts ≡ z.seats → sum (take z.stripes s.words) % 2 ^ 64 ≡ wrapped (added_by ts)
+whole-sum z s id ts positive rule at all =
+    let whole : length (all_of s.views) ≡ length ts = rule.seats ∙ sym all in
+    ap (λ ws. sum ws % 2 ^ 64) (all-words z s rule) ∙ words_are_the_sum z s positive rule ∙ ap wrapped (total-whole (λ t. t.added) s.views id ts at whole)
+
+pub final-sum : (z : Size) (words : List ℕ) (slots : List (Unit {0})) (id : ℕ) (ts : List Tally) → 1 ≤ z.stripes → Final (Seen (AreSums z) id ts) words slots → length ts ≡ z.seats → sum (take z.stripes words) % 2 ^ 64 ≡ wrapped (added_by ts)
+final-sum z words slots id ts positive final all =
+    ap (λ ws. sum (take z.stripes ws) % 2 ^ 64) (sym final.2) ∙ whole-sum z final.0 id ts positive final.1.0 final.1.1 all

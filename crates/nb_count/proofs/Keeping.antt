@@ -1,0 +1,129 @@
+-- Each move keeps the rule of the stripes.
+use Rattle.std.proofs.Common.{◌≡◌, ◌≢◌, ◌∙◌, ℕ, zero, suc, ◌+◌, ◌%◌, ◌^◌, ◌<◌, ◌≤◌, ap, sym, subst, refl, inl, inr, Bool, true, false, cond, eqb, List, [], ◌∷◌, ◌++◌, map, length, ℤ, ◌+ℤ◌, pos, length-append, slice_index, slice_set, take, drop, arith}
+use mathlib.Core.Option.{some, none, some-injective, some-ne-none}
+use lib.ListN.{get_elem?}
+use Rattle.std.proofs.lemmas.Bool.{eq-eqb, ne_eqb}
+use Rattle.std.proofs.lemmas.Bool.Decides.{eqb_tells}
+use Rattle.std.proofs.lemmas.Int.{ints}
+use Rattle.std.proofs.lemmas.List.{get_or-set_other, get_or-set_same, length-set, set-get_or, take-append-drop}
+use Rattle.std.specs.Int.{cast_signed, w64}
+use Rattle.atomic_table.specs.Table.{Act, Allows, Joins, Me, Splits, State, keeps, opening, step, stepped}
+use Rattle.nb_count.specs.Tallies.{AreSums, adds, after_add, after_look, all_of, fresh, looks, served, total, wrapped}
+use Rattle.nb_count.specs.declared.tally.Size.{Size}
+use Rattle.nb_count.specs.declared.tally.Tally.{Tally}
+use Rattle.nb_count.proofs.Sums.{length-all_more, length-all_set, total-append, total-more, total-set, wrapped-add}
+
+-- what a stripe has gained by an add
+gained : (stripes i : ℕ) (t : Tally) (amount : ℤ) → total (served stripes i) (after_add amount t ∷ []) ≡ total (served stripes i) (t ∷ []) +ℤ cond (eqb (t.number % stripes) i) amount (pos 0)
+gained stripes i t amount =
+    elim (eqb (t.number % stripes) i) as (λ b. cond b (t.added +ℤ amount) (pos 0) +ℤ pos 0 ≡ (cond b t.added (pos 0) +ℤ pos 0) +ℤ cond b amount (pos 0)) [
+      | true ↦ omega (arith, ints)
+      | false ↦ omega (arith, ints)
+    ]
+
+module _ (z : Size) (s : State (Unit {0}) (List Tally)) (rule : AreSums z s) (id : ℕ) where
+  -- the sum that a stripe stands for, after the seat's tally has changed
+  sum-after : (i : ℕ) (t u : Tally) → get_elem? s.views id ≡ some (t ∷ []) → total (served z.stripes i) (all_of (slice_set s.views id (u ∷ []))) +ℤ total (served z.stripes i) (t ∷ []) ≡ total (served z.stripes i) (all_of s.views) +ℤ total (served z.stripes i) (u ∷ [])
+  sum-after i t u at = total-set (served z.stripes i) s.views id (t ∷ []) (u ∷ []) at
+
+  seats-after : (t u : Tally) → get_elem? s.views id ≡ some (t ∷ []) → length (all_of (slice_set s.views id (u ∷ []))) ≡ z.seats
+  seats-after t u at = omega (arith, length-all_set s.views id (t ∷ []) (u ∷ []) at, rule.seats)
+
+  -- the stripe's sum grows by what is added
+  sum-here : (t : Tally) (amount : ℤ) → get_elem? s.views id ≡ some (t ∷ []) → (i : ℕ) → i ≡ t.number % z.stripes → total (served z.stripes i) (all_of (slice_set s.views id (after_add amount t ∷ []))) ≡ total (served z.stripes i) (all_of s.views) +ℤ amount
+  sum-here t amount at i is =
+      let gain : cond (eqb (t.number % z.stripes) i) amount (pos 0) ≡ amount = ap (λ b. cond b amount (pos 0)) (eq-eqb _ _ (sym is)) in
+      omega (arith, ints, sum-after i t (after_add amount t) at, gained z.stripes i t amount)
+
+  -- and no other stripe's
+  sum-elsewhere : (t : Tally) (amount : ℤ) → get_elem? s.views id ≡ some (t ∷ []) → (i : ℕ) → i ≢ t.number % z.stripes → total (served z.stripes i) (all_of (slice_set s.views id (after_add amount t ∷ []))) ≡ total (served z.stripes i) (all_of s.views)
+  sum-elsewhere t amount at i other =
+      let gain : cond (eqb (t.number % z.stripes) i) amount (pos 0) ≡ pos 0 = ap (λ b. cond b amount (pos 0)) (ne_eqb _ _ (λ same. other (sym same))) in
+      omega (arith, ints, sum-after i t (after_add amount t) at, gained z.stripes i t amount)
+
+  words-after_add : (t : Tally) (k : ℕ) → k < 2 ^ 64 → get_elem? s.views id ≡ some (t ∷ []) → (stripe : ℕ) → stripe ≡ t.number % z.stripes → (i : ℕ) → i < z.stripes → slice_index (slice_set s.words stripe ((slice_index s.words stripe + k) % 2 ^ 64)) i ≡ wrapped (total (served z.stripes i) (all_of (slice_set s.views id (after_add (cast_signed w64 k) t ∷ []))))
+  words-after_add t k fits at stripe is i below =
+      elim (eqb_tells i stripe) [
+        | inl same ↦
+            let here : stripe < length s.words = omega (arith, rule.words, same.1) in
+            ap (slice_index (slice_set s.words stripe ((slice_index s.words stripe + k) % 2 ^ 64))) same.1
+            ∙ get_or-set_same s.words stripe _ 0 here
+            ∙ ap (λ n. (n + k) % 2 ^ 64) (ap (slice_index s.words) (sym same.1) ∙ rule.sums i below)
+            ∙ wrapped-add (total (served z.stripes i) (all_of s.views)) k fits
+            ∙ ap wrapped (sym (sum-here t (cast_signed w64 k) at i (same.1 ∙ is)))
+        | inr other ↦
+            get_or-set_other s.words stripe i _ 0 other.1 ∙ rule.sums i below
+            ∙ ap wrapped (sym (sum-elsewhere t (cast_signed w64 k) at i (λ e. other.1 (e ∙ sym is))))
+      ]
+
+  add-keeps : (t : Tally) (k : ℕ) → k < 2 ^ 64 → get_elem? s.views id ≡ some (t ∷ []) → (stripe : ℕ) → stripe ≡ t.number % z.stripes → AreSums z (stepped s stripe ((slice_index s.words stripe + k) % 2 ^ 64) id [] (after_add (cast_signed w64 k) t ∷ []) keeps)
+  add-keeps t k fits at stripe is = record {
+    words = length-set s.words stripe _ ∙ rule.words;
+    sums = words-after_add t k fits at stripe is;
+    seats = seats-after t (after_add (cast_signed w64 k) t) at;
+  }
+
+  -- a look leaves each word, and what each seat has added
+  look-keeps : (t : Tally) → get_elem? s.views id ≡ some (t ∷ []) → (stripe : ℕ) → AreSums z (stepped s stripe (slice_index s.words stripe) id [] (after_look t ∷ []) keeps)
+  look-keeps t at stripe = record {
+    words = length-set s.words stripe _ ∙ rule.words;
+    sums = λ i below. ap (λ w. slice_index w i) (set-get_or s.words stripe 0) ∙ rule.sums i below ∙ ap wrapped (omega (arith, ints, sum-after i t (after_look t) at));
+    seats = seats-after t (after_look t) at;
+  }
+
+-- ---- what each move asks
+
+pub allows-add : (z : Size) (slots id : ℕ) (me : Me (Unit {0}) (List Tally)) (t : Tally) (k stripe : ℕ) → me ≡ (t ∷ [], []) → k < 2 ^ 64 → stripe ≡ t.number % z.stripes → Allows (AreSums z) slots id me stripe (λ n. (n + k) % 2 ^ 64) (adds (step slots stripe k 0 none) me)
+allows-add z slots id me t k stripe one fits is =
+    subst (λ m. Allows (AreSums z) slots id m stripe (λ n. (n + k) % 2 ^ 64) (adds (step slots stripe k 0 none) m)) (sym one)
+    (λ s rule homes at word. (after_add (cast_signed w64 k) t ∷ [], keeps, tt, add-keeps z s rule id t k fits at stripe is, refl))
+
+pub allows-look : (z : Size) (slots id : ℕ) (me : Me (Unit {0}) (List Tally)) (t : Tally) (stripe : ℕ) → me ≡ (t ∷ [], []) → Allows (AreSums z) slots id me stripe (λ n. n) (looks (step slots stripe 0 0 none) me)
+allows-look z slots id me t stripe one =
+    subst (λ m. Allows (AreSums z) slots id m stripe (λ n. n) (looks (step slots stripe 0 0 none) m)) (sym one)
+    (λ s rule homes at word. (after_look t ∷ [], keeps, tt, look-keeps z s rule id t at stripe, refl))
+
+-- all tallies together are the same when one token gives its first one away
+pub splits : (z : Size) (id : ℕ) (v : List Tally) → Splits (AreSums z) id v (drop 1 v) (take 1 v)
+splits z id v s rule at = record {
+  words = rule.words;
+  sums = λ i below. rule.sums i below ∙ ap wrapped (sym (same_total (served z.stripes i)));
+  seats = omega (arith, length-all_more (slice_set s.views id (drop 1 v)) (take 1 v), length-all_set s.views id v (drop 1 v) at, ap length (take-append-drop 1 v), length-append (take 1 v) (drop 1 v), rule.seats);
+}
+  where
+    same_total : (f : Tally → ℤ) → total f (all_of (slice_set s.views id (drop 1 v) ++ take 1 v ∷ [])) ≡ total f (all_of s.views)
+    same_total f = omega (arith, ints, total-more f (slice_set s.views id (drop 1 v)) (take 1 v), total-set f s.views id v (drop 1 v) at, ap (total f) (take-append-drop 1 v), total-append f (take 1 v) (drop 1 v))
+
+-- and when one token takes in those of another
+pub joins : (z : Size) (id : ℕ) (v : List Tally) (other : ℕ) (w : List Tally) → Joins (AreSums z) id v other w (v ++ w) []
+joins z id v other w s rule at differs other_at = record {
+  words = rule.words;
+  sums = λ i below. rule.sums i below ∙ ap wrapped (sym (same_total (served z.stripes i)));
+  seats = omega (arith, length-all_set (slice_set s.views id (v ++ w)) other w [] other_at, length-all_set s.views id v (v ++ w) at, length-append v w, rule.seats);
+}
+  where
+    same_total : (f : Tally → ℤ) → total f (all_of (slice_set (slice_set s.views id (v ++ w)) other [])) ≡ total f (all_of s.views)
+    same_total f = omega (arith, ints, total-set f (slice_set s.views id (v ++ w)) other w [] other_at, total-set f s.views id v (v ++ w) at, total-append f v w)
+
+-- ---- the start
+
+same-choice : (b : Bool) (x : ℤ) → cond b x x ≡ x
+same-choice true x = refl
+same-choice false x = refl
+
+total-fresh : (stripes i number count : ℕ) → total (served stripes i) (fresh number count ++ []) ≡ pos 0
+total-fresh stripes i number zero = refl
+total-fresh stripes i number (suc count) =
+    omega (arith, ints, same-choice (eqb (number % stripes) i) (pos 0), total-fresh stripes i (suc number) count)
+
+length-fresh : (number count : ℕ) → length (fresh number count ++ []) ≡ count
+length-fresh number zero = refl
+length-fresh number (suc count) = omega (arith, length-fresh (suc number) count)
+
+-- all words 0, and nothing added
+pub opens : (z : Size) (words : List ℕ) → length words ≡ z.stripes → ((i : ℕ) → slice_index words i ≡ 0) → AreSums z (opening words [] (fresh 0 z.seats))
+opens z words count zeros = record {
+  words = count;
+  sums = λ i below. zeros i ∙ ap wrapped (sym (total-fresh z.stripes i 0 z.seats));
+  seats = length-fresh 0 z.seats;
+}

@@ -1,0 +1,5 @@
+mod Dealt
+mod Gathered
+mod Keeping
+mod Sums
+mod Views

@@ -1,0 +1,114 @@
+-- Sums over tallies, and sums modulo 2^64.
+use Rattle.std.proofs.Common.{◌≡◌, ◌≢◌, ◌∙◌, ℕ, zero, suc, ◌+◌, ◌%◌, ◌^◌, ◌<◌, ◌≤◌, ap, sym, refl, inl, inr, cond, eqb, Bool, true, false, List, [], ◌∷◌, ◌++◌, length, ℤ, ◌+ℤ◌, pos, negsuc, length-append, slice_set, take, drop, arith}
+use mathlib.Core.Option.{some, some-injective, some-ne-none}
+use Rattle.std.proofs.Math.Nat.{mod-lt}
+use Rattle.std.proofs.lemmas.List.{nil_from_length}
+use Rattle.std.proofs.lemmas.Bool.{cases_lt, eq-eqb, ne_eqb}
+use lib.ListN.{get_elem?}
+use Rattle.std.proofs.lemmas.Int.{ints, int_wrap-add_left, int_wrap-add_right, of_z-to_z, wrapping_add-bits}
+use Rattle.std.specs.Int.{cast_signed, cast_unsigned, int_wrap, int_rem_euclid, w64}
+use Rattle.std.specs.Int.RustNames.{FitsSigned, unsigned_abs}
+use Rattle.nb_count.specs.Tallies.{all_of, served, total, wrapped}
+use Rattle.nb_count.specs.declared.tally.Tally.{Tally}
+
+-- ---- sums over tallies
+
+pub total-append : (f : Tally → ℤ) (ts us : List Tally) → total f (ts ++ us) ≡ total f ts +ℤ total f us
+total-append f [] us = omega (arith, ints)
+total-append f (t ∷ ts) us = omega (arith, ints, total-append f ts us)
+
+-- what one token's tallies make of the sum over all tokens
+pub total-set : (f : Tally → ℤ) (views : List (List Tally)) (id : ℕ) (v w : List Tally) → get_elem? views id ≡ some v → total f (all_of (slice_set views id w)) +ℤ total f v ≡ total f (all_of views) +ℤ total f w
+total-set f [] id v w at = absurd (some-ne-none v (sym at))
+total-set f (x ∷ views) zero v w at =
+    let same : total f x ≡ total f v = ap (total f) (some-injective x v at) in
+    omega (arith, ints, total-append f w (all_of views), total-append f x (all_of views))
+total-set f (x ∷ views) (suc id) v w at =
+    omega (arith, ints, total-append f x (all_of (slice_set views id w)), total-append f x (all_of views), total-set f views id v w at)
+
+pub length-all_set : (views : List (List Tally)) (id : ℕ) (v w : List Tally) → get_elem? views id ≡ some v → length (all_of (slice_set views id w)) + length v ≡ length (all_of views) + length w
+length-all_set [] id v w at = absurd (some-ne-none v (sym at))
+length-all_set (x ∷ views) zero v w at =
+    let same : length x ≡ length v = ap length (some-injective x v at) in
+    omega (arith, length-append w (all_of views), length-append x (all_of views))
+length-all_set (x ∷ views) (suc id) v w at =
+    omega (arith, length-append x (all_of (slice_set views id w)), length-append x (all_of views), length-all_set views id v w at)
+
+-- one token more
+pub total-more : (f : Tally → ℤ) (views : List (List Tally)) (w : List Tally) → total f (all_of (views ++ w ∷ [])) ≡ total f (all_of views) +ℤ total f w
+total-more f [] w = total-append f w []  ∙ omega (arith, ints)
+total-more f (x ∷ views) w = omega (arith, ints, total-append f x (all_of (views ++ w ∷ [])), total-append f x (all_of views), total-more f views w)
+
+pub length-all_more : (views : List (List Tally)) (w : List Tally) → length (all_of (views ++ w ∷ [])) ≡ length (all_of views) + length w
+length-all_more [] w = omega (arith, length-append w [])
+length-all_more (x ∷ views) w = omega (arith, length-append x (all_of (views ++ w ∷ [])), length-append x (all_of views), length-all_more views w)
+
+-- the sum where one token has all tallies that there are
+pub total-whole : (f : Tally → ℤ) (views : List (List Tally)) (id : ℕ) (v : List Tally) → get_elem? views id ≡ some v → length (all_of views) ≡ length v → total f (all_of views) ≡ total f v
+total-whole f views id v at whole =
+    let rest : length (all_of (slice_set views id [])) ≡ 0 = omega (arith, length-all_set views id v [] at) in
+    let none : total f (all_of (slice_set views id [])) ≡ pos 0 = ap (total f) (nil_from_length _ rest) in
+    omega (arith, ints, total-set f views id v [] at)
+
+-- ---- modulo 2^64
+
+pub signed-wrapped : (z : ℤ) → cast_signed w64 (wrapped z) ≡ int_wrap w64 z
+unfolding int_wrap
+signed-wrapped z = refl
+
+pub wrapped-lt : (z : ℤ) → wrapped z < 2 ^ 64
+wrapped-lt (pos n) = mod-lt n (omega arith)
+wrapped-lt (negsuc n) = omega arith
+
+-- a word is the one that is left of a sum, where it reads so
+pub wrapped-by : (n : ℕ) (z : ℤ) → n < 2 ^ 64 → cast_signed w64 n ≡ int_wrap w64 z → n ≡ wrapped z
+wrapped-by n z fits e = sym (of_z-to_z w64 n fits) ∙ ap (cast_unsigned w64) (e ∙ sym (signed-wrapped z)) ∙ of_z-to_z w64 (wrapped z) (wrapped-lt z)
+
+-- to add to a word, and to the sum that it stands for
+pub wrapped-add : (z : ℤ) (k : ℕ) → k < 2 ^ 64 → (wrapped z + k) % 2 ^ 64 ≡ wrapped (z +ℤ cast_signed w64 k)
+wrapped-add z k fits =
+    wrapped-by ((wrapped z + k) % 2 ^ 64) (z +ℤ cast_signed w64 k) (mod-lt (wrapped z + k) (omega arith))
+      (wrapping_add-bits w64 (wrapped z) k (wrapped-lt z) fits ∙ ap (λ y. int_wrap w64 (y +ℤ cast_signed w64 k)) (signed-wrapped z) ∙ int_wrap-add_left w64 z (cast_signed w64 k))
+
+-- to add two words, and the sums that they stand for
+pub wrapped-sum : (a b : ℤ) → (wrapped a + wrapped b) % 2 ^ 64 ≡ wrapped (a +ℤ b)
+wrapped-sum a b =
+    wrapped-by ((wrapped a + wrapped b) % 2 ^ 64) (a +ℤ b) (mod-lt (wrapped a + wrapped b) (omega arith))
+      (wrapping_add-bits w64 (wrapped a) (wrapped b) (wrapped-lt a) (wrapped-lt b)
+       ∙ (λ i. int_wrap w64 (signed-wrapped a i +ℤ signed-wrapped b i)) ∙ int_wrap-add_left w64 a (int_wrap w64 b) ∙ int_wrap-add_right w64 a b)
+
+-- ---- stripes
+
+-- the sum over the first n stripes of what they serve
+abbrev pub over_stripes : ℕ → ℕ → List Tally → ℤ
+over_stripes stripes zero ts = pos 0
+over_stripes stripes (suc n) ts = over_stripes stripes n ts +ℤ total (served stripes n) ts
+
+-- of a seat that the first n stripes don't serve, they have nothing
+not_served : (stripes n : ℕ) (t : Tally) (ts : List Tally) → n ≤ t.number % stripes → over_stripes stripes n (t ∷ ts) ≡ over_stripes stripes n ts
+not_served stripes zero t ts past = refl
+not_served stripes (suc n) t ts past =
+    let other : served stripes n t ≡ pos 0 = ap (λ b. cond b t.added (pos 0)) (ne_eqb (t.number % stripes) n (λ same. absurd (omega arith))) in
+    omega (arith, ints, not_served stripes n t ts (omega arith))
+
+-- one of the first n stripes serves the seat
+is_served : (stripes n : ℕ) (t : Tally) (ts : List Tally) → t.number % stripes < n → over_stripes stripes n (t ∷ ts) ≡ t.added +ℤ over_stripes stripes n ts
+is_served stripes zero t ts below = absurd (omega arith)
+is_served stripes (suc n) t ts below =
+    elim (cases_lt (t.number % stripes) n) [
+      | inl lower ↦
+          let other : served stripes n t ≡ pos 0 = ap (λ b. cond b t.added (pos 0)) (ne_eqb (t.number % stripes) n (λ same. absurd (omega arith))) in
+          omega (arith, ints, is_served stripes n t ts lower)
+      | inr here ↦
+          let own : served stripes n t ≡ t.added = ap (λ b. cond b t.added (pos 0)) (eq-eqb (t.number % stripes) n (omega arith)) in
+          omega (arith, ints, not_served stripes n t ts here)
+    ]
+
+none_served : (stripes n : ℕ) → over_stripes stripes n [] ≡ pos 0
+none_served stripes zero = refl
+none_served stripes (suc n) = omega (arith, ints, none_served stripes n)
+
+-- all stripes together have what all seats have added
+pub all_served : (stripes : ℕ) (ts : List Tally) → 1 ≤ stripes → over_stripes stripes stripes ts ≡ total (λ t. t.added) ts
+all_served stripes [] positive = none_served stripes stripes
+all_served stripes (t ∷ ts) positive = is_served stripes stripes t ts (mod-lt t.number positive) ∙ ap (λ z. t.added +ℤ z) (all_served stripes ts positive)

@@ -1,0 +1,52 @@
+-- A counter and its seats, from within and as contracts see them.
+use Rattle.std.proofs.Common.{◌≡◌, ◌∙◌, ℕ, ◌+◌, ◌%◌, ◌<◌, ◌≤◌, ap, sym, List, [], ◌∷◌, map, arith}
+use Rattle.std.proofs.Math.Nat.{mod-lt}
+use Rattle.atomic_table.specs.Table.{Me}
+use Rattle.nb_count.specs.Counts.{Counted, Counting, with_looks}
+use Rattle.nb_count.specs.Tallies.{after_look}
+use Rattle.nb_count.specs.declared.tally.Tally.{Tally}
+use Rattle.nb_count.specs.Inside.{IsCounter, IsSeat, counter_of, seat_of, tally_of}
+use Rattle.nb_count.specs.declared.counter.Counter.TheInside as counter
+use Rattle.nb_count.specs.declared.counter.CountSeat.TheInside as seat
+
+-- a counter's own seat is of its table
+pub own-table : (c : counter.Inside) (s : seat.Inside) (counted : Counted) (counting : Counting) → counter_of c ≡ counted → seat_of s ≡ counting → counting.counter ≡ counted.id → s.seat.table_id ≡ c.table.shared.table_id
+own-table c s counted counting c_is s_is own = ap (λ v. v.counter) s_is ∙ own ∙ sym (ap (λ v. v.id) c_is)
+
+-- and its stripe is among the counter's
+pub own-stripe : (c : counter.Inside) (s : seat.Inside) → IsCounter c → IsSeat s → s.seat.table_id ≡ c.table.shared.table_id → (s.stripe < c.table.shared.table_id.words) × (s.stripe ≡ (tally_of s.seat.me.0).number % c.table.shared.key.stripes)
+own-stripe c s is_counter is_seat same =
+    let number = (tally_of s.seat.me.0).number in
+    let stripe : s.stripe ≡ number % c.size.stripes = is_seat.stripe ∙ ap (λ n. number % n) (ap (λ t. t.words) same ∙ is_counter.words) in
+    (omega (arith, mod-lt number is_counter.some, is_counter.words), stripe ∙ ap (λ z. number % z.stripes) (sym is_counter.key))
+
+-- ---- a seat after a step
+
+-- the seat's one tally, after a step that changes it so
+pub stepped-me : (me me' : Me (Unit {0}) (List Tally)) (f : Tally → Tally) → me ≡ (tally_of me.0 ∷ [], []) → me' ≡ (map f me.0, me.1) → me' ≡ (f (tally_of me.0) ∷ [], [])
+stepped-me me me' f one is = is ∙ (λ i. (map f ((one i).0), (one i).1))
+
+pub stepped-tally : (me me' : Me (Unit {0}) (List Tally)) (f : Tally → Tally) → me ≡ (tally_of me.0 ∷ [], []) → me' ≡ (map f me.0, me.1) → tally_of me'.0 ≡ f (tally_of me.0)
+stepped-tally me me' f one is = ap (λ m. tally_of m.0) (stepped-me me me' f one is)
+
+-- it is a seat as before, of the same stripe
+pub stepped-is_seat : (s t : seat.Inside) (f : Tally → Tally) → IsSeat s → t.stripe ≡ s.stripe → t.seat.table_id ≡ s.seat.table_id → t.seat.me ≡ (map f s.seat.me.0, s.seat.me.1) → (f (tally_of s.seat.me.0)).number ≡ (tally_of s.seat.me.0).number → IsSeat t
+stepped-is_seat s t f is_seat stripe table me number =
+    let after = stepped-me s.seat.me t.seat.me f is_seat.one me in
+    let tally = stepped-tally s.seat.me t.seat.me f is_seat.one me in
+    record {
+      one = after ∙ ap (λ u. (u ∷ [], [])) (sym tally);
+      stripe = stripe ∙ is_seat.stripe ∙ (λ i. (sym (ap (λ u. u.number) tally ∙ number)) i % (sym table i).words);
+    }
+
+-- as a look leaves it
+pub looked : (s t : seat.Inside) → IsSeat s → t.seat.table_id ≡ s.seat.table_id → t.seat.me ≡ (map after_look s.seat.me.0, s.seat.me.1) → seat_of t ≡ with_looks 1 (seat_of s)
+looked s t is_seat table me =
+    let tally = stepped-tally s.seat.me t.seat.me after_look is_seat.one me in
+    λ i. record { counter = table i; number = (tally i).number; added = (tally i).added; steps = (tally i).steps }
+
+pub no-looks : (s : Counting) → s ≡ with_looks 0 s
+no-looks s = ap (λ k. record s { steps = k }) (omega arith)
+
+pub looks-more : (n : ℕ) (s : Counting) → with_looks 1 (with_looks n s) ≡ with_looks (n + 1) s
+looks-more n s = ap (λ k. record s { steps = k }) (omega arith)

@@ -1,0 +1,31 @@
+-- What is in a counter and its seats, and how it is seen.
+use Rattle.std.specs.Prelude.{◌≡◌, ℕ, ◌%◌, ◌≤◌, pos, List, [], ◌∷◌}
+use Rattle.nb_count.specs.Counts.{Counted, Counting}
+use Rattle.nb_count.specs.declared.counter.Counter.TheInside as counter
+use Rattle.nb_count.specs.declared.counter.CountSeat.TheInside as seat
+use Rattle.nb_count.specs.declared.tally.Tally.{Tally}
+
+abbrev pub counter_of : counter.Inside → Counted
+counter_of c = record { id = c.table.shared.table_id; stripes = c.size.stripes; seats = c.size.seats }
+
+-- the table is the counter's, with a word for each stripe
+pub record IsCounter (c : counter.Inside) : Type 0 where
+  pub key : c.table.shared.key ≡ c.size
+  pub words : c.table.shared.table_id.words ≡ c.size.stripes
+  pub slots : c.table.shared.table_id.slots ≡ 0
+  pub some : 1 ≤ c.size.stripes
+  pub few : c.size.stripes ≤ 8
+  pub seated : 1 ≤ c.size.seats
+
+-- the one tally of a seat
+abbrev pub tally_of : List Tally → Tally
+tally_of [] = record { number = 0; added = pos 0; steps = 0 }
+tally_of (t ∷ ts) = t
+
+abbrev pub seat_of : seat.Inside → Counting
+seat_of c = let t = tally_of c.seat.me.0 in record { counter = c.seat.table_id; number = t.number; added = t.added; steps = t.steps }
+
+-- the seat knows one tally, and has its stripe
+pub record IsSeat (c : seat.Inside) : Type 0 where
+  pub one : c.seat.me ≡ (tally_of c.seat.me.0 ∷ [], [])
+  pub stripe : c.stripe ≡ (tally_of c.seat.me.0).number % c.seat.table_id.words

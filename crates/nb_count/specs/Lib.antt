@@ -1,0 +1,4 @@
+pub mod Counts
+pub mod Gathered
+pub mod Inside
+pub mod Tallies

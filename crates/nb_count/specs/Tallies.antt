@@ -1,0 +1,64 @@
+-- What the stripes of a counter stand for.
+use Rattle.std.specs.Prelude.{◌≡◌, ℕ, zero, suc, ◌+◌, ◌%◌, ◌^◌, ◌<◌, ◌≤◌, ◌==◌, if◌then◌else◌, ℤ, pos, ◌+ℤ◌, List, [], ◌∷◌, ◌++◌, map, length, sum, slice_index}
+use Rattle.std.specs.Int.{cast_signed, int_rem_euclid, w64}
+use Rattle.std.specs.Int.RustNames.{unsigned_abs}
+use Rattle.atomic_table.specs.Table.{State, Me, Step}
+use Rattle.nb_count.specs.declared.tally.Size.{Size}
+use Rattle.nb_count.specs.declared.tally.Tally.{Tally}
+
+-- z modulo 2^64
+abbrev pub wrapped : ℤ → ℕ
+wrapped z = unsigned_abs (int_rem_euclid z (pos (2 ^ 64)))
+
+-- the sum of a number over tallies
+abbrev pub total : (Tally → ℤ) → List Tally → ℤ
+total f [] = pos 0
+total f (t ∷ ts) = f t +ℤ total f ts
+
+-- what a seat has added, if the stripe serves it, of so many stripes
+abbrev pub served : ℕ → ℕ → Tally → ℤ
+served stripes i t = if t.number % stripes == i then t.added else pos 0
+
+-- seats that have added nothing, from a number on
+abbrev pub fresh : ℕ → ℕ → List Tally
+fresh number zero = []
+fresh number (suc count) = record { number = number; added = pos 0; steps = 0 } ∷ fresh (suc number) count
+
+-- the tallies of all tokens
+abbrev pub all_of : List (List Tally) → List Tally
+all_of [] = []
+all_of (v ∷ views) = v ++ all_of views
+
+-- Each stripe is the sum, modulo 2^64, of what its seats have added, and no seat's tally is lost.
+pub record AreSums (z : Size) (s : State (Unit {0}) (List Tally)) : Type 0 where
+  pub words : length s.words ≡ z.stripes
+  pub sums : (i : ℕ) → i < z.stripes → slice_index s.words i ≡ wrapped (total (served z.stripes i) (all_of s.views))
+  pub seats : length (all_of s.views) ≡ z.seats
+
+-- what seats have added in all
+abbrev pub added_by : List Tally → ℤ
+added_by ts = total (λ t. t.added) ts
+
+-- the words' sum is what all seats have added
+abbrev pub WordsAreTheSum : Type 0
+WordsAreTheSum = (z : Size) (s : State (Unit {0}) (List Tally)) → 1 ≤ z.stripes → AreSums z s → sum s.words % 2 ^ 64 ≡ wrapped (added_by (all_of s.views))
+
+-- the words' sum doesn't depend on the number of stripes
+abbrev pub StripesAreFree : Type 0
+StripesAreFree = (y z : Size) (s t : State (Unit {0}) (List Tally)) → 1 ≤ y.stripes → 1 ≤ z.stripes → AreSums y s → AreSums z t → added_by (all_of s.views) ≡ added_by (all_of t.views) → sum s.words % 2 ^ 64 ≡ sum t.words % 2 ^ 64
+
+-- a seat's tally after it has added
+abbrev pub after_add : ℤ → Tally → Tally
+after_add amount t = record { number = t.number; added = t.added +ℤ amount; steps = t.steps + 1 }
+
+-- a seat's tally after a look at a stripe
+abbrev pub after_look : Tally → Tally
+after_look t = record { number = t.number; added = t.added; steps = t.steps + 1 }
+
+-- one step added the number that the word's operand stands for
+abbrev pub adds : Step (Unit {0}) → Me (Unit {0}) (List Tally) → ℕ → Me (Unit {0}) (List Tally) → Type 0
+adds step me found me' = me' ≡ (map (after_add (cast_signed w64 step.first)) me.0, me.1)
+
+-- one step looked at a stripe
+abbrev pub looks : Step (Unit {0}) → Me (Unit {0}) (List Tally) → ℕ → Me (Unit {0}) (List Tally) → Type 0
+looks step me found me' = me' ≡ (map after_look me.0, me.1)

@@ -1,0 +1,146 @@
+//! The counter and its seats.
+ghost use Rattle.std.specs.Prelude.{◌≡◌, ◌%◌, ◌^◌, ◌<◌, ◌≤◌, ◌↔◌, [], length, sum, take, IfOk, IfErr, true, is_ok};
+ghost use Rattle.nb_count.specs.Counts.{AreOwn, seats_of, total_of, with_added, with_looks};
+ghost use Rattle.nb_count.specs.Gathered.{HasGathered};
+ghost use Rattle.nb_count.specs.Tallies.{wrapped};
+ghost use Rattle.std.specs.Mem.Slots.{IsFull, slots_items, slots_len};
+
+use crate::tally::{Adds, Deal, Gather, Looks, Size, Stripes, Tallies};
+use atomic_table::{Closed, Seat, Table};
+use nb_core::{NotAll, OutOfMemory};
+use std::alloc::Global;
+use std::marker::Model;
+
+/// A sum that many threads add to. Contracts see which counter it is, and its numbers of stripes and seats.
+#[derive(Drop)]
+pub struct Counter {
+    table: Table<(), Tallies, Size, Stripes, Global>,
+    size: Size,
+}
+
+impl Model for Counter {
+    ghost use Rattle.nb_count.specs.Counts.{Counted};
+
+    ghost Value = { Counted };
+
+    ghost use Rattle.nb_count.specs.Inside.{IsCounter, counter_of};
+
+    ghost view = { counter_of };
+
+    ghost invariant = { IsCounter };
+}
+
+/// The right of one holder to add. Contracts see its counter, its number, what it has added in all, and its steps.
+#[derive(Drop)]
+pub struct CountSeat {
+    stripe: usize,
+    seat: Seat<(), Tallies>,
+}
+
+impl Model for CountSeat {
+    ghost use Rattle.nb_count.specs.Counts.{Counting};
+
+    ghost Value = { Counting };
+
+    ghost use Rattle.nb_count.specs.Inside.{IsSeat, seat_of};
+
+    ghost view = { seat_of };
+
+    ghost invariant = { IsSeat };
+}
+
+impl Counter {
+    /// A counter at 0 with so many stripes, and its seats. It takes memory for the stripes and for the vector of seats.
+    pub fn new(
+        alloc: Global,
+        stripes: usize,
+        seats: usize,
+    ) -> Result<(Counter, Vec<CountSeat>), OutOfMemory>
+        requires stripes { (1 ≤ stripes) × (stripes ≤ 8) }
+        requires seats { (1 ≤ seats) × (seats ≤ 8) }
+        ensures counter { IfOk result (λ made. (made.0.stripes ≡ stripes) × (made.0.seats ≡ seats)) }
+        ensures seats { IfOk result (λ made. made.1.items ≡ seats_of made.0.id 0 seats) }
+    {
+        let size = Size { stripes, seats };
+        let mut dealt = Vec::with_capacity(alloc, seats)?;
+        let words = [0; 8];
+        let (table, mut rest) = Table::of_words(alloc, &words[..stripes], &size)?;
+        let counter = Counter { table, size };
+        for number in 0..seats {
+            let seat = counter.table.shared.split_seat::<Deal>(&mut rest);
+            let stripe = number % stripes;
+            dealt.push(CountSeat { stripe, seat })?;
+        }
+        Ok((counter, dealt))
+    }
+
+    /// Adds to the seat's stripe, modulo 2^64, by one step.
+    pub fn add(&self, seat: &mut CountSeat, amount: i64)
+        requires own { seat.old.counter ≡ self.now.id }
+        ensures { seat.new ≡ with_added amount seat.old }
+    {
+        self.table.shared.fetch_add::<Adds>(&mut seat.seat, seat.stripe, amount.cast_unsigned());
+    }
+
+    /// The sum of the stripes, modulo 2^64, looked at one after another, by one step each. While others add it is no more
+    /// than a guess.
+    pub fn estimate(&self, seat: &mut CountSeat) -> u64
+        requires own { seat.old.counter ≡ self.now.id }
+        ensures { seat.new ≡ with_looks self.now.stripes seat.old }
+    {
+        let mut sum = 0u64;
+        for stripe in 0..self.size.stripes {
+            sum = sum.wrapping_add(self.table.shared.load::<Looks>(&mut seat.seat, stripe));
+        }
+        sum
+    }
+
+    /// With all seats: the sum of all that they added, modulo 2^64. With another number of seats everything comes back.
+    pub fn close(self, seats: Vec<CountSeat>) -> Result<u64, NotAll<Counter, CountSeat>>
+        requires own { AreOwn self.id seats.items }
+        ensures all { (is_ok result ≡ true) ↔ (length seats.items ≡ self.seats) }
+        ensures sum { IfOk result (λ sum. sum ≡ wrapped (total_of seats.items)) }
+        ensures back { IfErr result (λ given. (given.whole ≡ self) × (given.seats.items ≡ seats.items)) }
+    {
+        if seats.len() != self.size.seats {
+            return Err(NotAll { whole: self, seats });
+        }
+        let all = self.gather(seats);
+        let Counter { table, size } = self;
+        let closed = table.close_with(all);
+        let sum = sum_of(&closed, size.stripes);
+        closed.free();
+        Ok(sum)
+    }
+
+    /// One token that knows what all these seats know.
+    fn gather(&self, seats: Vec<CountSeat>) -> Seat<(), Tallies>
+        requires own { AreOwn self.now.id seats.items }
+        requires some { 0 < length seats.items }
+        ensures { HasGathered self.now.id result [] seats.items }
+    {
+        let mut seats = seats;
+        let last = seats.pop().unwrap();
+        let CountSeat { stripe: _, mut seat } = last;
+        while let Some(other) = seats.pop() {
+            let CountSeat { stripe: _, seat: other } = other;
+            self.table.shared.join_seat::<Gather>(&mut seat, other);
+        }
+        seat
+    }
+}
+
+/// The sum of the first words, modulo 2^64.
+fn sum_of(closed: &Closed<(), Global>, count: usize) -> u64
+    requires { (count ≤ slots_len closed.now.words) × IsFull closed.now.words }
+    ensures { result ≡ sum (take count (slots_items closed.now.words)) % 2 ^ 64 }
+{
+    let mut sum = 0u64;
+    for i in 0..count {
+        sum = sum.wrapping_add(closed.word(i));
+    }
+    sum
+}
+
+#[cfg(test)]
+mod tests;

@@ -1,0 +1,66 @@
+//! What the seats of a counter know, and the rule that the stripes keep.
+ghost use Rattle.std.specs.Prelude.{[], ◌++◌, take, drop};
+
+use atomic_table::{Join, Play, Split, TableRule};
+use std::collections::LinkedList;
+
+/// What a seat has added and how many steps it has made. Contracts alone speak of it: no value of it is made.
+pub struct Tally {
+    pub number: usize,
+    pub added: i64,
+    pub steps: u64,
+}
+
+/// What one token knows: one tally in normal use, all of them while seats are made or gathered.
+pub(crate) type Tallies = LinkedList<Tally>;
+
+/// How many stripes and seats a counter has.
+#[derive(Clone, Copy)]
+pub struct Size {
+    pub stripes: usize,
+    pub seats: usize,
+}
+
+/// The rule between any two steps: each stripe is the sum of what the seats that it serves have added.
+pub(crate) struct Stripes;
+
+impl TableRule<(), Tallies, Size> for Stripes {
+    ghost use Rattle.nb_count.specs.Tallies.{AreSums, fresh};
+
+    ghost holds = { AreSums };
+
+    ghost first = { λ size. fresh 0 size.seats };
+}
+
+pub(crate) struct Adds;
+
+impl Play<(), Tallies> for Adds {
+    ghost use Rattle.nb_count.specs.Tallies.{adds};
+
+    ghost then = { adds };
+}
+
+pub(crate) struct Looks;
+
+impl Play<(), Tallies> for Looks {
+    ghost use Rattle.nb_count.specs.Tallies.{looks};
+
+    ghost then = { looks };
+}
+
+/// The first tally goes to a new token.
+pub(crate) struct Deal;
+
+impl Split<Tallies> for Deal {
+    ghost left = { λ tallies. drop 1 tallies };
+
+    ghost right = { λ tallies. take 1 tallies };
+}
+
+pub(crate) struct Gather;
+
+impl Join<Tallies> for Gather {
+    ghost both = { λ tallies others. tallies ++ others };
+
+    ghost spent = { [] };
+}
