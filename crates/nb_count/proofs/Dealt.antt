@@ -1,11 +1,12 @@
 -- The seats of a counter are dealt one after another.
-use Rattle.std.proofs.Common.{◌≡◌, ◌∙◌, ℕ, zero, suc, ◌+◌, ◌-◌, ◌%◌, ◌<◌, ◌≤◌, ap, sym, refl, List, [], ◌∷◌, ◌++◌, replicate, take, drop, length, length-take-le, slice_index, get_or, ℤ, pos, arith}
+use Rattle.std.proofs.Common.{◌≡◌, ◌∙◌, ℕ, zero, suc, ◌+◌, ◌-◌, ◌*◌, ◌/◌, ◌%◌, ◌<◌, ◌≤◌, ap, sym, refl, List, [], ◌∷◌, ◌++◌, replicate, take, drop, length, length-take-le, slice_index, pos, arith}
 use Rattle.atomic_table.specs.Seated.{TableId}
 use Rattle.atomic_table.specs.declared.shared.Seat.{Seat}
 use Rattle.nb_count.specs.Counts.{Counting, seats_of}
 use Rattle.nb_count.specs.Inside.{IsSeat, seat_of, tally_of}
 use Rattle.atomic_table.specs.Table.{opening}
 use Rattle.nb_count.specs.Tallies.{AreSums, fresh}
+use Rattle.nb_count.specs.declared.tally.TheConstants.{SPREAD}
 use Rattle.nb_count.specs.declared.tally.Size.{Size}
 use Rattle.nb_count.proofs.Keeping.{opens}
 use Rattle.nb_count.specs.declared.counter.CountSeat.TheInside as seat
@@ -42,11 +43,12 @@ seats_of-more counter first (suc count) number is =
     ∙ ap (seats_of counter first) more
 
 -- the seat that is dealt next
-pub dealt-is_seat : (stripes number seats : ℕ) (rest : List Tally) (s : seat.Inside) → number < seats → rest ≡ fresh number (seats - number) → s.seat.me ≡ (take 1 rest, []) → s.stripe ≡ number % stripes → s.seat.table_id.words ≡ stripes → IsSeat s
-dealt-is_seat stripes number seats rest s below left me stripe words =
+pub dealt-is_seat : (stripes number seats : ℕ) (rest : List Tally) (s : seat.Inside) → number < seats → rest ≡ fresh number (seats - number) → s.seat.me ≡ (take 1 rest, []) → s.place ≡ SPREAD * (number % stripes) → s.seat.table_id.words ≡ SPREAD * stripes → IsSeat s
+dealt-is_seat stripes number seats rest s below left me place words =
     let one : s.seat.me ≡ (new_tally number ∷ [], []) = me ∙ ap (λ ts. (ts, [])) (dealt-token rest number seats below left) in
     let tally : tally_of s.seat.me.0 ≡ new_tally number = ap (λ m. tally_of m.0) one in
-    record { one = one ∙ ap (λ t. (t ∷ [], [])) (sym tally); stripe = stripe ∙ (λ i. (sym tally i).number % (sym words) i) }
+    let count : s.seat.table_id.words / SPREAD ≡ stripes = ap (λ n. n / SPREAD) words ∙ omega arith in
+    record { one = one ∙ ap (λ t. (t ∷ [], [])) (sym tally); place = place ∙ (λ i. SPREAD * ((sym tally i).number % (sym count) i)) }
 
 pub dealt-seat_of : (number seats : ℕ) (rest : List Tally) (s : seat.Inside) → number < seats → rest ≡ fresh number (seats - number) → s.seat.me ≡ (take 1 rest, []) → seat_of s ≡ record { counter = s.seat.table_id; number = number; added = pos 0; steps = 0 }
 dealt-seat_of number seats rest s below left me =
@@ -65,8 +67,8 @@ dealing-more counter rest rest' dealt dealt' s number seats below d own me seat_
   own = own ∙ d.own;
   left = ap (λ m. m.0) me ∙ left-token rest.me.0 number seats below d.left;
   so_far =
-    pushed ∙ (λ i. d.so_far i ++ (dealt-seat_of number seats rest.me.0 s below d.left seat_me ∙ ap (λ t. record { counter = t; number = number; added = pos 0; steps = 0 }) (seat_own ∙ d.own)) i ∷ [])
-    ∙ seats_of-more counter 0 number number (omega arith);
+      pushed ∙ (λ i. d.so_far i ++ (dealt-seat_of number seats rest.me.0 s below d.left seat_me ∙ ap (λ t. record { counter = t; number = number; added = pos 0; steps = 0 }) (seat_own ∙ d.own)) i ∷ [])
+      ∙ seats_of-more counter 0 number number (omega arith);
 }
 
 pub dealing-done : (counter : TableId) (rest : Seat (Unit {0}) (List Tally)) (dealt : List Counting) (number seats : ℕ) → seats ≤ number → number ≤ seats → IsDealing counter rest dealt number seats → dealt ≡ seats_of counter 0 seats
@@ -74,9 +76,8 @@ dealing-done counter rest dealt number seats low high d = let all : number ≡ s
 
 -- ---- the first words
 
-pub count-words : (z : Size) → z.stripes ≤ 8 → length {A = ℕ} (take z.stripes (replicate 8 0)) ≡ z.stripes
-count-words z few = length-take-le z.stripes (replicate 8 0) few
-
+pub count-words : (z : Size) → z.stripes ≤ 8 → length {A = ℕ} (take (SPREAD * z.stripes) (replicate 64 0)) ≡ SPREAD * z.stripes
+count-words z few = length-take-le (SPREAD * z.stripes) (replicate 64 0) (omega arith)
 
 zeros-at : (n k i : ℕ) → slice_index (take n (replicate k 0)) i ≡ 0
 zeros-at zero k i = refl
@@ -84,5 +85,5 @@ zeros-at (suc n) zero i = refl
 zeros-at (suc n) (suc k) zero = refl
 zeros-at (suc n) (suc k) (suc i) = zeros-at n k i
 
-pub opens-zeros : (z : Size) → z.stripes ≤ 8 → AreSums z (opening (take z.stripes (replicate 8 0)) [] (fresh 0 z.seats))
-opens-zeros z few = opens z (take z.stripes (replicate 8 0)) (count-words z few) (zeros-at z.stripes 8)
+pub opens-zeros : (z : Size) → z.stripes ≤ 8 → AreSums z (opening (take (SPREAD * z.stripes) (replicate 64 0)) [] (fresh 0 z.seats))
+opens-zeros z few = opens z (take (SPREAD * z.stripes) (replicate 64 0)) (count-words z few) (zeros-at (SPREAD * z.stripes) 64)

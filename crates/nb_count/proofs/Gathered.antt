@@ -1,20 +1,20 @@
 -- One token gathers the tallies of all seats, and the words that are left stand for their sum.
-use Rattle.std.proofs.Common.{◌≡◌, ◌∙◌, ℕ, zero, suc, ◌+◌, ◌%◌, ◌^◌, ◌<◌, ◌≤◌, ap, sym, subst, List, [], ◌∷◌, ◌++◌, length, length-append, take_all, get_or, sum, take, true, false, slice_index, ℤ, ◌+ℤ◌, pos, All, refl, arith}
+use Rattle.std.proofs.Common.{◌≡◌, ◌∙◌, ℕ, zero, suc, ◌+◌, ◌*◌, ◌%◌, ◌^◌, ◌<◌, ◌≤◌, ap, sym, List, [], ◌∷◌, ◌++◌, length, length-append, get_or, true, false, slice_index, ℤ, ◌+ℤ◌, pos, All, add-one, refl, arith}
 use lib.ListN.{get_elem?}
 use mathlib.Core.Option.{some, some-injective, some-ne-none}
 use Rattle.std.proofs.Math.ListN.{get_or-append}
 use Rattle.std.proofs.Math.Nat.{add-mod, mod-add-mod, mod-eq_of_lt}
-use Rattle.std.proofs.Math.Seq.{get_or-append_seam, take-suc}
+use Rattle.std.proofs.Math.Seq.{get_or-append_seam}
 use Rattle.std.proofs.lemmas.Int.{ints}
-use Rattle.std.proofs.lemmas.List.Sums.{sum_by_more, sum_by_push}
 use Rattle.atomic_table.specs.Seated.{TableId}
-use Rattle.atomic_table.specs.Table.{Final, Me, Seen, State}
+use Rattle.atomic_table.specs.Table.{Final, Seen, State}
 use Rattle.atomic_table.specs.declared.shared.Seat.{Seat}
 use Rattle.nb_count.specs.Counts.{Counting, total_of}
 use Rattle.nb_count.specs.Gathered.{HasGathered}
-use Rattle.nb_count.specs.Inside.{IsSeat, seat_of, tally_of}
-use Rattle.nb_count.specs.Tallies.{AreSums, StripesAreFree, WordsAreTheSum, added_by, all_of, served, total, wrapped}
+use Rattle.nb_count.specs.Inside.{IsSeat, seat_of}
+use Rattle.nb_count.specs.Tallies.{AreSums, StripesAreFree, StripesAreTheSum, added_by, all_of, served, sum_of_stripes, total, wrapped}
 use Rattle.nb_count.specs.declared.counter.CountSeat.TheInside as seat
+use Rattle.nb_count.specs.declared.tally.TheConstants.{SPREAD}
 use Rattle.nb_count.specs.declared.tally.Size.{Size}
 use Rattle.nb_count.specs.declared.tally.Tally.{Tally}
 use Rattle.nb_count.proofs.Sums.{all_served, over_stripes, total-append, total-whole, wrapped-lt, wrapped-sum}
@@ -49,8 +49,8 @@ gathered-first counter s last left seats is_seat view is own = record {
   free = ap (λ m. m.1) is_seat.one;
   count = omega (arith, ap (λ m. length m.0) is_seat.one, ap length is, length-append left (last ∷ []));
   sum =
-    let here : added_by s.seat.me.0 ≡ last.added +ℤ pos 0 = ap (λ m. added_by m.0) is_seat.one ∙ ap (λ v. v.added +ℤ pos 0) view in
-    omega (arith, ints, ap total_of is, total_of-append left last);
+      let here : added_by s.seat.me.0 ≡ last.added +ℤ pos 0 = ap (λ m. added_by m.0) is_seat.one ∙ ap (λ v. v.added +ℤ pos 0) view in
+      omega (arith, ints, ap total_of is, total_of-append left last);
 }
 
 -- one seat's token more
@@ -59,27 +59,26 @@ gathered-more counter token token' s next left left' seats g is_seat view is tab
   own = table ∙ g.own;
   free = ap (λ m. m.1) me ∙ g.free;
   count =
-    let first = g.count in
-    omega (arith, ap (λ m. length m.0) me, length-append token.me.0 s.seat.me.0, ap (λ m. length m.0) is_seat.one, ap length is, length-append left (next ∷ []));
+      let first = g.count in
+      omega (arith, ap (λ m. length m.0) me, length-append token.me.0 s.seat.me.0, ap (λ m. length m.0) is_seat.one, ap length is, length-append left (next ∷ []));
   sum =
-    let here : added_by s.seat.me.0 ≡ next.added +ℤ pos 0 = ap (λ m. added_by m.0) is_seat.one ∙ ap (λ v. v.added +ℤ pos 0) view in
-    let first = g.sum in
-    omega (arith, ints, ap (λ m. added_by m.0) me, total-append (λ t. t.added) token.me.0 s.seat.me.0, ap total_of is, total_of-append left next);
+      let here : added_by s.seat.me.0 ≡ next.added +ℤ pos 0 = ap (λ m. added_by m.0) is_seat.one ∙ ap (λ v. v.added +ℤ pos 0) view in
+      let first = g.sum in
+      omega (arith, ints, ap (λ m. added_by m.0) me, total-append (λ t. t.added) token.me.0 s.seat.me.0, ap total_of is, total_of-append left next);
 }
 
 -- ---- the words
 
-word-at : (xs : List ℕ) (i x : ℕ) → get_elem? xs i ≡ some x → (get_or xs i 0 ≡ x) × (i < length xs)
+word-at : (xs : List ℕ) (i x : ℕ) → get_elem? xs i ≡ some x → get_or xs i 0 ≡ x
 word-at [] i x at = absurd (some-ne-none x (sym at))
-word-at (y ∷ xs) zero x at = (some-injective y x at, omega arith)
-word-at (y ∷ xs) (suc i) x at = let rest = word-at xs i x at in (rest.0, omega arith)
+word-at (y ∷ xs) zero x at = some-injective y x at
+word-at (y ∷ xs) (suc i) x at = word-at xs i x at
 
--- one word more, in a loop
-pub sum-next : (words : List ℕ) (i so_far word : ℕ) → so_far ≡ sum (take i words) % 2 ^ 64 → get_elem? words i ≡ some word → (so_far + word) % 2 ^ 64 ≡ sum (take (i + 1) words) % 2 ^ 64
+-- one stripe more, in a loop
+pub sum-next : (words : List ℕ) (i so_far word : ℕ) → so_far ≡ sum_of_stripes words i % 2 ^ 64 → get_elem? words (SPREAD * i) ≡ some word → (so_far + word) % 2 ^ 64 ≡ sum_of_stripes words (i + 1) % 2 ^ 64
 sum-next words i so_far word is at =
-    let here = word-at words i word at in
-    ap (λ x. (x + word) % 2 ^ 64) is ∙ mod-add-mod (sum (take i words)) (2 ^ 64) word
-    ∙ ap (λ x. x % 2 ^ 64) (ap (λ x. sum (take i words) + x) (sym here.0) ∙ sym (sum_by_more (λ x. x) words i 0 here.1))
+    ap (λ x. (x + word) % 2 ^ 64) is ∙ mod-add-mod (sum_of_stripes words i) (2 ^ 64) word
+    ∙ ap (λ x. (sum_of_stripes words i + x) % 2 ^ 64) (sym (word-at words (SPREAD * i) word at)) ∙ ap (λ n. sum_of_stripes words n % 2 ^ 64) (sym (add-one i))
 
 -- two sums modulo 2^64
 sum-wrapped : (m n : ℕ) (a b : ℤ) → m % 2 ^ 64 ≡ wrapped a → n ≡ wrapped b → (m + n) % 2 ^ 64 ≡ wrapped (a +ℤ b)
@@ -88,35 +87,28 @@ sum-wrapped m n a b m_is n_is =
     ∙ (λ i. (m_is i + (ap (λ x. x % 2 ^ 64) n_is ∙ mod-eq_of_lt (wrapped-lt b)) i) % 2 ^ 64)
     ∙ wrapped-sum a b
 
--- the first words' sum is what their stripes serve
-sum-served : (words : List ℕ) (stripes : ℕ) (ts : List Tally) → length words ≡ stripes → ((i : ℕ) → i < stripes → slice_index words i ≡ wrapped (total (served stripes i) ts)) → (n : ℕ) → n ≤ stripes → sum (take n words) % 2 ^ 64 ≡ wrapped (over_stripes stripes n ts)
-sum-served words stripes ts count stands zero below = refl
-sum-served words stripes ts count stands (suc n) below =
-    ap (λ x. x % 2 ^ 64) (ap sum (take-suc words n 0 (omega arith)) ∙ sum_by_push (λ x. x) (take n words) (get_or words n 0))
-    ∙ sum-wrapped (sum (take n words)) (get_or words n 0) (over_stripes stripes n ts) (total (served stripes n) ts)
-        (sum-served words stripes ts count stands n (omega arith)) (stands n (omega arith))
+-- the first stripes' sum is what they serve
+sum-served : (words : List ℕ) (stripes : ℕ) (ts : List Tally) → ((i : ℕ) → i < stripes → slice_index words (SPREAD * i) ≡ wrapped (total (served stripes i) ts)) → (n : ℕ) → n ≤ stripes → sum_of_stripes words n % 2 ^ 64 ≡ wrapped (over_stripes stripes n ts)
+sum-served words stripes ts stands zero below = refl
+sum-served words stripes ts stands (suc n) below =
+    sum-wrapped (sum_of_stripes words n) (slice_index words (SPREAD * n)) (over_stripes stripes n ts) (total (served stripes n) ts)
+    (sum-served words stripes ts stands n (omega arith)) (stands n (omega arith))
 
--- there is a word for each stripe
-all-words : (z : Size) (s : State (Unit {0}) (List Tally)) → AreSums z s → take z.stripes s.words ≡ s.words
-all-words z s rule = take_all z.stripes s.words (omega (arith, rule.words))
-
--- the words' sum is what all seats have added
-pub words_are_the_sum : WordsAreTheSum
-words_are_the_sum z s positive rule =
-    ap (λ ws. sum ws % 2 ^ 64) (sym (all-words z s rule))
-    ∙ sum-served s.words z.stripes (all_of s.views) rule.words rule.sums z.stripes (omega arith)
-    ∙ ap wrapped (all_served z.stripes (all_of s.views) positive)
+-- the stripes' sum is what all seats have added
+pub stripes_are_the_sum : StripesAreTheSum
+stripes_are_the_sum z s positive rule =
+    sum-served s.words z.stripes (all_of s.views) rule.sums z.stripes (omega arith) ∙ ap wrapped (all_served z.stripes (all_of s.views) positive)
 
 pub stripes_are_free : StripesAreFree
 stripes_are_free y z s t y_positive z_positive y_rule z_rule same =
-    words_are_the_sum y s y_positive y_rule ∙ ap wrapped same ∙ sym (words_are_the_sum z t z_positive z_rule)
+    stripes_are_the_sum y s y_positive y_rule ∙ ap wrapped same ∙ sym (stripes_are_the_sum z t z_positive z_rule)
 
--- where one token has all tallies, the words' sum is what they have added
-whole-sum : (z : Size) (s : State (Unit {0}) (List Tally)) (id : ℕ) (ts : List Tally) → 1 ≤ z.stripes → AreSums z s → get_elem? s.views id ≡ some ts → length ts ≡ z.seats → sum (take z.stripes s.words) % 2 ^ 64 ≡ wrapped (added_by ts)
+-- where one token has all tallies, the stripes' sum is what they have added
+whole-sum : (z : Size) (s : State (Unit {0}) (List Tally)) (id : ℕ) (ts : List Tally) → 1 ≤ z.stripes → AreSums z s → get_elem? s.views id ≡ some ts → length ts ≡ z.seats → sum_of_stripes s.words z.stripes % 2 ^ 64 ≡ wrapped (added_by ts)
 whole-sum z s id ts positive rule at all =
     let whole : length (all_of s.views) ≡ length ts = rule.seats ∙ sym all in
-    ap (λ ws. sum ws % 2 ^ 64) (all-words z s rule) ∙ words_are_the_sum z s positive rule ∙ ap wrapped (total-whole (λ t. t.added) s.views id ts at whole)
+    stripes_are_the_sum z s positive rule ∙ ap wrapped (total-whole (λ t. t.added) s.views id ts at whole)
 
-pub final-sum : (z : Size) (words : List ℕ) (slots : List (Unit {0})) (id : ℕ) (ts : List Tally) → 1 ≤ z.stripes → Final (Seen (AreSums z) id ts) words slots → length ts ≡ z.seats → sum (take z.stripes words) % 2 ^ 64 ≡ wrapped (added_by ts)
+pub final-sum : (z : Size) (words : List ℕ) (slots : List (Unit {0})) (id : ℕ) (ts : List Tally) → 1 ≤ z.stripes → Final (Seen (AreSums z) id ts) words slots → length ts ≡ z.seats → sum_of_stripes words z.stripes % 2 ^ 64 ≡ wrapped (added_by ts)
 final-sum z words slots id ts positive final all =
-    ap (λ ws. sum (take z.stripes ws) % 2 ^ 64) (sym final.2) ∙ whole-sum z final.0 id ts positive final.1.0 final.1.1 all
+    ap (λ ws. sum_of_stripes ws z.stripes % 2 ^ 64) (sym final.2) ∙ whole-sum z final.0 id ts positive final.1.0 final.1.1 all

@@ -1,14 +1,16 @@
 -- Each move keeps the rule of the stripes.
-use Rattle.std.proofs.Common.{◌≡◌, ◌≢◌, ◌∙◌, ℕ, zero, suc, ◌+◌, ◌%◌, ◌^◌, ◌<◌, ◌≤◌, ap, sym, subst, refl, inl, inr, Bool, true, false, cond, eqb, List, [], ◌∷◌, ◌++◌, map, length, ℤ, ◌+ℤ◌, pos, length-append, slice_index, slice_set, take, drop, arith}
-use mathlib.Core.Option.{some, none, some-injective, some-ne-none}
+use Rattle.std.proofs.Common.{◌≡◌, ◌≢◌, ◌∙◌, ℕ, zero, suc, ◌+◌, ◌*◌, ◌%◌, ◌^◌, ◌<◌, ◌≤◌, ap, sym, subst, refl, inl, inr, Bool, true, false, cond, eqb, List, [], ◌∷◌, ◌++◌, length, ℤ, ◌+ℤ◌, pos, length-append, slice_index, slice_set, take, drop, arith}
+use mathlib.Core.Option.{some, none}
 use lib.ListN.{get_elem?}
+use Rattle.std.proofs.Math.Nat.{mod-lt}
 use Rattle.std.proofs.lemmas.Bool.{eq-eqb, ne_eqb}
 use Rattle.std.proofs.lemmas.Bool.Decides.{eqb_tells}
 use Rattle.std.proofs.lemmas.Int.{ints}
 use Rattle.std.proofs.lemmas.List.{get_or-set_other, get_or-set_same, length-set, set-get_or, take-append-drop}
 use Rattle.std.specs.Int.{cast_signed, w64}
-use Rattle.atomic_table.specs.Table.{Act, Allows, Joins, Me, Splits, State, keeps, opening, step, stepped}
+use Rattle.atomic_table.specs.Table.{Allows, Joins, Me, Splits, State, keeps, opening, step, stepped}
 use Rattle.nb_count.specs.Tallies.{AreSums, adds, after_add, after_look, all_of, fresh, looks, served, total, wrapped}
+use Rattle.nb_count.specs.declared.tally.TheConstants.{SPREAD}
 use Rattle.nb_count.specs.declared.tally.Size.{Size}
 use Rattle.nb_count.specs.declared.tally.Tally.{Tally}
 use Rattle.nb_count.proofs.Sums.{length-all_more, length-all_set, total-append, total-more, total-set, wrapped-add}
@@ -41,47 +43,49 @@ module _ (z : Size) (s : State (Unit {0}) (List Tally)) (rule : AreSums z s) (id
       let gain : cond (eqb (t.number % z.stripes) i) amount (pos 0) ≡ pos 0 = ap (λ b. cond b amount (pos 0)) (ne_eqb _ _ (λ same. other (sym same))) in
       omega (arith, ints, sum-after i t (after_add amount t) at, gained z.stripes i t amount)
 
-  words-after_add : (t : Tally) (k : ℕ) → k < 2 ^ 64 → get_elem? s.views id ≡ some (t ∷ []) → (stripe : ℕ) → stripe ≡ t.number % z.stripes → (i : ℕ) → i < z.stripes → slice_index (slice_set s.words stripe ((slice_index s.words stripe + k) % 2 ^ 64)) i ≡ wrapped (total (served z.stripes i) (all_of (slice_set s.views id (after_add (cast_signed w64 k) t ∷ []))))
-  words-after_add t k fits at stripe is i below =
-      elim (eqb_tells i stripe) [
+  words-after_add : (t : Tally) (k : ℕ) → k < 2 ^ 64 → get_elem? s.views id ≡ some (t ∷ []) → (place : ℕ) → place ≡ SPREAD * (t.number % z.stripes) → t.number % z.stripes < z.stripes → (i : ℕ) → i < z.stripes → slice_index (slice_set s.words place ((slice_index s.words place + k) % 2 ^ 64)) (SPREAD * i) ≡ wrapped (total (served z.stripes i) (all_of (slice_set s.views id (after_add (cast_signed w64 k) t ∷ []))))
+  words-after_add t k fits at place is stripe i below =
+      elim (eqb_tells i (t.number % z.stripes)) [
         | inl same ↦
-            let here : stripe < length s.words = omega (arith, rule.words, same.1) in
-            ap (slice_index (slice_set s.words stripe ((slice_index s.words stripe + k) % 2 ^ 64))) same.1
-            ∙ get_or-set_same s.words stripe _ 0 here
-            ∙ ap (λ n. (n + k) % 2 ^ 64) (ap (slice_index s.words) (sym same.1) ∙ rule.sums i below)
+            let here : SPREAD * i ≡ place = omega (arith, same.1) in
+            let within : place < length s.words = omega (arith, rule.words) in
+            ap (slice_index (slice_set s.words place ((slice_index s.words place + k) % 2 ^ 64))) here
+            ∙ get_or-set_same s.words place _ 0 within
+            ∙ ap (λ n. (n + k) % 2 ^ 64) (ap (slice_index s.words) (sym here) ∙ rule.sums i below)
             ∙ wrapped-add (total (served z.stripes i) (all_of s.views)) k fits
-            ∙ ap wrapped (sym (sum-here t (cast_signed w64 k) at i (same.1 ∙ is)))
+            ∙ ap wrapped (sym (sum-here t (cast_signed w64 k) at i same.1))
         | inr other ↦
-            get_or-set_other s.words stripe i _ 0 other.1 ∙ rule.sums i below
-            ∙ ap wrapped (sym (sum-elsewhere t (cast_signed w64 k) at i (λ e. other.1 (e ∙ sym is))))
+            let apart : SPREAD * i ≢ place = λ e. other.1 (omega arith) in
+            get_or-set_other s.words place (SPREAD * i) _ 0 apart ∙ rule.sums i below
+            ∙ ap wrapped (sym (sum-elsewhere t (cast_signed w64 k) at i other.1))
       ]
 
-  add-keeps : (t : Tally) (k : ℕ) → k < 2 ^ 64 → get_elem? s.views id ≡ some (t ∷ []) → (stripe : ℕ) → stripe ≡ t.number % z.stripes → AreSums z (stepped s stripe ((slice_index s.words stripe + k) % 2 ^ 64) id [] (after_add (cast_signed w64 k) t ∷ []) keeps)
-  add-keeps t k fits at stripe is = record {
-    words = length-set s.words stripe _ ∙ rule.words;
-    sums = words-after_add t k fits at stripe is;
+  add-keeps : (t : Tally) (k : ℕ) → k < 2 ^ 64 → get_elem? s.views id ≡ some (t ∷ []) → (place : ℕ) → place ≡ SPREAD * (t.number % z.stripes) → 1 ≤ z.stripes → AreSums z (stepped s place ((slice_index s.words place + k) % 2 ^ 64) id [] (after_add (cast_signed w64 k) t ∷ []) keeps)
+  add-keeps t k fits at place is positive = record {
+    words = length-set s.words place _ ∙ rule.words;
+    sums = words-after_add t k fits at place is (mod-lt t.number positive);
     seats = seats-after t (after_add (cast_signed w64 k) t) at;
   }
 
   -- a look leaves each word, and what each seat has added
-  look-keeps : (t : Tally) → get_elem? s.views id ≡ some (t ∷ []) → (stripe : ℕ) → AreSums z (stepped s stripe (slice_index s.words stripe) id [] (after_look t ∷ []) keeps)
-  look-keeps t at stripe = record {
-    words = length-set s.words stripe _ ∙ rule.words;
-    sums = λ i below. ap (λ w. slice_index w i) (set-get_or s.words stripe 0) ∙ rule.sums i below ∙ ap wrapped (omega (arith, ints, sum-after i t (after_look t) at));
+  look-keeps : (t : Tally) → get_elem? s.views id ≡ some (t ∷ []) → (place : ℕ) → AreSums z (stepped s place (slice_index s.words place) id [] (after_look t ∷ []) keeps)
+  look-keeps t at place = record {
+    words = length-set s.words place _ ∙ rule.words;
+    sums = λ i below. ap (λ w. slice_index w (SPREAD * i)) (set-get_or s.words place 0) ∙ rule.sums i below ∙ ap wrapped (omega (arith, ints, sum-after i t (after_look t) at));
     seats = seats-after t (after_look t) at;
   }
 
 -- ---- what each move asks
 
-pub allows-add : (z : Size) (slots id : ℕ) (me : Me (Unit {0}) (List Tally)) (t : Tally) (k stripe : ℕ) → me ≡ (t ∷ [], []) → k < 2 ^ 64 → stripe ≡ t.number % z.stripes → Allows (AreSums z) slots id me stripe (λ n. (n + k) % 2 ^ 64) (adds (step slots stripe k 0 none) me)
-allows-add z slots id me t k stripe one fits is =
-    subst (λ m. Allows (AreSums z) slots id m stripe (λ n. (n + k) % 2 ^ 64) (adds (step slots stripe k 0 none) m)) (sym one)
-    (λ s rule homes at word. (after_add (cast_signed w64 k) t ∷ [], keeps, tt, add-keeps z s rule id t k fits at stripe is, refl))
+pub allows-add : (z : Size) (slots id : ℕ) (me : Me (Unit {0}) (List Tally)) (t : Tally) (k place : ℕ) → me ≡ (t ∷ [], []) → k < 2 ^ 64 → place ≡ SPREAD * (t.number % z.stripes) → 1 ≤ z.stripes → Allows (AreSums z) slots id me place (λ n. (n + k) % 2 ^ 64) (adds (step slots place k 0 none) me)
+allows-add z slots id me t k place one fits is positive =
+    subst (λ m. Allows (AreSums z) slots id m place (λ n. (n + k) % 2 ^ 64) (adds (step slots place k 0 none) m)) (sym one)
+    (λ s rule homes at word. (after_add (cast_signed w64 k) t ∷ [], keeps, tt, add-keeps z s rule id t k fits at place is positive, refl))
 
-pub allows-look : (z : Size) (slots id : ℕ) (me : Me (Unit {0}) (List Tally)) (t : Tally) (stripe : ℕ) → me ≡ (t ∷ [], []) → Allows (AreSums z) slots id me stripe (λ n. n) (looks (step slots stripe 0 0 none) me)
-allows-look z slots id me t stripe one =
-    subst (λ m. Allows (AreSums z) slots id m stripe (λ n. n) (looks (step slots stripe 0 0 none) m)) (sym one)
-    (λ s rule homes at word. (after_look t ∷ [], keeps, tt, look-keeps z s rule id t at stripe, refl))
+pub allows-look : (z : Size) (slots id : ℕ) (me : Me (Unit {0}) (List Tally)) (t : Tally) (place : ℕ) → me ≡ (t ∷ [], []) → Allows (AreSums z) slots id me place (λ n. n) (looks (step slots place 0 0 none) me)
+allows-look z slots id me t place one =
+    subst (λ m. Allows (AreSums z) slots id m place (λ n. n) (looks (step slots place 0 0 none) m)) (sym one)
+    (λ s rule homes at word. (after_look t ∷ [], keeps, tt, look-keeps z s rule id t at place, refl))
 
 -- all tallies together are the same when one token gives its first one away
 pub splits : (z : Size) (id : ℕ) (v : List Tally) → Splits (AreSums z) id v (drop 1 v) (take 1 v)
@@ -121,9 +125,9 @@ length-fresh number zero = refl
 length-fresh number (suc count) = omega (arith, length-fresh (suc number) count)
 
 -- all words 0, and nothing added
-pub opens : (z : Size) (words : List ℕ) → length words ≡ z.stripes → ((i : ℕ) → slice_index words i ≡ 0) → AreSums z (opening words [] (fresh 0 z.seats))
+pub opens : (z : Size) (words : List ℕ) → length words ≡ SPREAD * z.stripes → ((i : ℕ) → slice_index words i ≡ 0) → AreSums z (opening words [] (fresh 0 z.seats))
 opens z words count zeros = record {
   words = count;
-  sums = λ i below. zeros i ∙ ap wrapped (sym (total-fresh z.stripes i 0 z.seats));
+  sums = λ i below. zeros (SPREAD * i) ∙ ap wrapped (sym (total-fresh z.stripes i 0 z.seats));
   seats = length-fresh 0 z.seats;
 }

@@ -1,13 +1,12 @@
 -- Sums over tallies, and sums modulo 2^64.
-use Rattle.std.proofs.Common.{◌≡◌, ◌≢◌, ◌∙◌, ℕ, zero, suc, ◌+◌, ◌%◌, ◌^◌, ◌<◌, ◌≤◌, ap, sym, refl, inl, inr, cond, eqb, Bool, true, false, List, [], ◌∷◌, ◌++◌, length, ℤ, ◌+ℤ◌, pos, negsuc, length-append, slice_set, take, drop, arith}
+use Rattle.std.proofs.Common.{◌≡◌, ◌∙◌, ℕ, zero, suc, ◌+◌, ◌%◌, ◌^◌, ◌<◌, ◌≤◌, ap, sym, refl, inl, inr, cond, List, [], ◌∷◌, ◌++◌, length, ℤ, ◌+ℤ◌, pos, negsuc, length-append, slice_set, arith}
 use mathlib.Core.Option.{some, some-injective, some-ne-none}
 use Rattle.std.proofs.Math.Nat.{mod-lt}
 use Rattle.std.proofs.lemmas.List.{nil_from_length}
 use Rattle.std.proofs.lemmas.Bool.{cases_lt, eq-eqb, ne_eqb}
 use lib.ListN.{get_elem?}
 use Rattle.std.proofs.lemmas.Int.{ints, int_wrap-add_left, int_wrap-add_right, of_z-to_z, wrapping_add-bits}
-use Rattle.std.specs.Int.{cast_signed, cast_unsigned, int_wrap, int_rem_euclid, w64}
-use Rattle.std.specs.Int.RustNames.{FitsSigned, unsigned_abs}
+use Rattle.std.specs.Int.{cast_signed, cast_unsigned, int_wrap, w64}
 use Rattle.nb_count.specs.Tallies.{all_of, served, total, wrapped}
 use Rattle.nb_count.specs.declared.tally.Tally.{Tally}
 
@@ -36,7 +35,7 @@ length-all_set (x ∷ views) (suc id) v w at =
 
 -- one token more
 pub total-more : (f : Tally → ℤ) (views : List (List Tally)) (w : List Tally) → total f (all_of (views ++ w ∷ [])) ≡ total f (all_of views) +ℤ total f w
-total-more f [] w = total-append f w []  ∙ omega (arith, ints)
+total-more f [] w = total-append f w [] ∙ omega (arith, ints)
 total-more f (x ∷ views) w = omega (arith, ints, total-append f x (all_of (views ++ w ∷ [])), total-append f x (all_of views), total-more f views w)
 
 pub length-all_more : (views : List (List Tally)) (w : List Tally) → length (all_of (views ++ w ∷ [])) ≡ length (all_of views) + length w
@@ -68,14 +67,14 @@ wrapped-by n z fits e = sym (of_z-to_z w64 n fits) ∙ ap (cast_unsigned w64) (e
 pub wrapped-add : (z : ℤ) (k : ℕ) → k < 2 ^ 64 → (wrapped z + k) % 2 ^ 64 ≡ wrapped (z +ℤ cast_signed w64 k)
 wrapped-add z k fits =
     wrapped-by ((wrapped z + k) % 2 ^ 64) (z +ℤ cast_signed w64 k) (mod-lt (wrapped z + k) (omega arith))
-      (wrapping_add-bits w64 (wrapped z) k (wrapped-lt z) fits ∙ ap (λ y. int_wrap w64 (y +ℤ cast_signed w64 k)) (signed-wrapped z) ∙ int_wrap-add_left w64 z (cast_signed w64 k))
+    (wrapping_add-bits w64 (wrapped z) k (wrapped-lt z) fits ∙ ap (λ y. int_wrap w64 (y +ℤ cast_signed w64 k)) (signed-wrapped z) ∙ int_wrap-add_left w64 z (cast_signed w64 k))
 
 -- to add two words, and the sums that they stand for
 pub wrapped-sum : (a b : ℤ) → (wrapped a + wrapped b) % 2 ^ 64 ≡ wrapped (a +ℤ b)
 wrapped-sum a b =
     wrapped-by ((wrapped a + wrapped b) % 2 ^ 64) (a +ℤ b) (mod-lt (wrapped a + wrapped b) (omega arith))
-      (wrapping_add-bits w64 (wrapped a) (wrapped b) (wrapped-lt a) (wrapped-lt b)
-       ∙ (λ i. int_wrap w64 (signed-wrapped a i +ℤ signed-wrapped b i)) ∙ int_wrap-add_left w64 a (int_wrap w64 b) ∙ int_wrap-add_right w64 a b)
+    (wrapping_add-bits w64 (wrapped a) (wrapped b) (wrapped-lt a) (wrapped-lt b)
+    ∙ (λ i. int_wrap w64 (signed-wrapped a i +ℤ signed-wrapped b i)) ∙ int_wrap-add_left w64 a (int_wrap w64 b) ∙ int_wrap-add_right w64 a b)
 
 -- ---- stripes
 

@@ -1,5 +1,5 @@
 -- What one token knows that has taken in others.
-use Rattle.std.specs.Prelude.{◌≡◌, ◌+◌, List, [], length, ℤ, ◌+ℤ◌}
+use Rattle.std.specs.Prelude.{◌≡◌, ◌+◌, List, [], length, ◌+ℤ◌}
 use Rattle.atomic_table.specs.Seated.{TableId}
 use Rattle.atomic_table.specs.declared.shared.Seat.{Seat}
 use Rattle.nb_count.specs.Counts.{Counting, total_of}

@@ -1,17 +1,18 @@
 -- What is in a counter and its seats, and how it is seen.
-use Rattle.std.specs.Prelude.{◌≡◌, ℕ, ◌%◌, ◌≤◌, pos, List, [], ◌∷◌}
+use Rattle.std.specs.Prelude.{◌≡◌, ◌*◌, ◌/◌, ◌%◌, ◌≤◌, pos, List, [], ◌∷◌}
 use Rattle.nb_count.specs.Counts.{Counted, Counting}
 use Rattle.nb_count.specs.declared.counter.Counter.TheInside as counter
 use Rattle.nb_count.specs.declared.counter.CountSeat.TheInside as seat
+use Rattle.nb_count.specs.declared.tally.TheConstants.{SPREAD}
 use Rattle.nb_count.specs.declared.tally.Tally.{Tally}
 
 abbrev pub counter_of : counter.Inside → Counted
 counter_of c = record { id = c.table.shared.table_id; stripes = c.size.stripes; seats = c.size.seats }
 
--- the table is the counter's, with a word for each stripe
+-- the table is the counter's, with room for its stripes
 pub record IsCounter (c : counter.Inside) : Type 0 where
   pub key : c.table.shared.key ≡ c.size
-  pub words : c.table.shared.table_id.words ≡ c.size.stripes
+  pub words : c.table.shared.table_id.words ≡ SPREAD * c.size.stripes
   pub slots : c.table.shared.table_id.slots ≡ 0
   pub some : 1 ≤ c.size.stripes
   pub few : c.size.stripes ≤ 8
@@ -25,7 +26,7 @@ tally_of (t ∷ ts) = t
 abbrev pub seat_of : seat.Inside → Counting
 seat_of c = let t = tally_of c.seat.me.0 in record { counter = c.seat.table_id; number = t.number; added = t.added; steps = t.steps }
 
--- the seat knows one tally, and has its stripe
+-- the seat knows one tally, and the place of its stripe
 pub record IsSeat (c : seat.Inside) : Type 0 where
   pub one : c.seat.me ≡ (tally_of c.seat.me.0 ∷ [], [])
-  pub stripe : c.stripe ≡ (tally_of c.seat.me.0).number % c.seat.table_id.words
+  pub place : c.place ≡ SPREAD * ((tally_of c.seat.me.0).number % (c.seat.table_id.words / SPREAD))

@@ -1,8 +1,9 @@
 -- What the stripes of a counter stand for.
-use Rattle.std.specs.Prelude.{◌≡◌, ℕ, zero, suc, ◌+◌, ◌%◌, ◌^◌, ◌<◌, ◌≤◌, ◌==◌, if◌then◌else◌, ℤ, pos, ◌+ℤ◌, List, [], ◌∷◌, ◌++◌, map, length, sum, slice_index}
+use Rattle.std.specs.Prelude.{◌≡◌, ℕ, zero, suc, ◌+◌, ◌*◌, ◌%◌, ◌^◌, ◌<◌, ◌≤◌, ◌==◌, if◌then◌else◌, ℤ, pos, ◌+ℤ◌, List, [], ◌∷◌, ◌++◌, map, length, slice_index}
 use Rattle.std.specs.Int.{cast_signed, int_rem_euclid, w64}
 use Rattle.std.specs.Int.RustNames.{unsigned_abs}
 use Rattle.atomic_table.specs.Table.{State, Me, Step}
+use Rattle.nb_count.specs.declared.tally.TheConstants.{SPREAD}
 use Rattle.nb_count.specs.declared.tally.Size.{Size}
 use Rattle.nb_count.specs.declared.tally.Tally.{Tally}
 
@@ -29,23 +30,28 @@ abbrev pub all_of : List (List Tally) → List Tally
 all_of [] = []
 all_of (v ∷ views) = v ++ all_of views
 
--- Each stripe is the sum, modulo 2^64, of what its seats have added, and no seat's tally is lost.
+-- Each stripe is the sum, modulo 2^64, of what its seats have added; the words between two stripes mean nothing; and no seat's tally is lost.
 pub record AreSums (z : Size) (s : State (Unit {0}) (List Tally)) : Type 0 where
-  pub words : length s.words ≡ z.stripes
-  pub sums : (i : ℕ) → i < z.stripes → slice_index s.words i ≡ wrapped (total (served z.stripes i) (all_of s.views))
+  pub words : length s.words ≡ SPREAD * z.stripes
+  pub sums : (i : ℕ) → i < z.stripes → slice_index s.words (SPREAD * i) ≡ wrapped (total (served z.stripes i) (all_of s.views))
   pub seats : length (all_of s.views) ≡ z.seats
+
+-- the sum of the first n stripes
+abbrev pub sum_of_stripes : List ℕ → ℕ → ℕ
+sum_of_stripes words zero = 0
+sum_of_stripes words (suc n) = sum_of_stripes words n + slice_index words (SPREAD * n)
 
 -- what seats have added in all
 abbrev pub added_by : List Tally → ℤ
 added_by ts = total (λ t. t.added) ts
 
--- the words' sum is what all seats have added
-abbrev pub WordsAreTheSum : Type 0
-WordsAreTheSum = (z : Size) (s : State (Unit {0}) (List Tally)) → 1 ≤ z.stripes → AreSums z s → sum s.words % 2 ^ 64 ≡ wrapped (added_by (all_of s.views))
+-- the sum of the stripes is what all seats have added
+abbrev pub StripesAreTheSum : Type 0
+StripesAreTheSum = (z : Size) (s : State (Unit {0}) (List Tally)) → 1 ≤ z.stripes → AreSums z s → sum_of_stripes s.words z.stripes % 2 ^ 64 ≡ wrapped (added_by (all_of s.views))
 
--- the words' sum doesn't depend on the number of stripes
+-- the sum of the stripes doesn't depend on the number of stripes
 abbrev pub StripesAreFree : Type 0
-StripesAreFree = (y z : Size) (s t : State (Unit {0}) (List Tally)) → 1 ≤ y.stripes → 1 ≤ z.stripes → AreSums y s → AreSums z t → added_by (all_of s.views) ≡ added_by (all_of t.views) → sum s.words % 2 ^ 64 ≡ sum t.words % 2 ^ 64
+StripesAreFree = (y z : Size) (s t : State (Unit {0}) (List Tally)) → 1 ≤ y.stripes → 1 ≤ z.stripes → AreSums y s → AreSums z t → added_by (all_of s.views) ≡ added_by (all_of t.views) → sum_of_stripes s.words y.stripes % 2 ^ 64 ≡ sum_of_stripes t.words z.stripes % 2 ^ 64
 
 -- a seat's tally after it has added
 abbrev pub after_add : ℤ → Tally → Tally

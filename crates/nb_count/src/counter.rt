@@ -1,11 +1,11 @@
 //! The counter and its seats.
-ghost use Rattle.std.specs.Prelude.{◌≡◌, ◌%◌, ◌^◌, ◌<◌, ◌≤◌, ◌↔◌, [], length, sum, take, IfOk, IfErr, true, is_ok};
+ghost use Rattle.std.specs.Prelude.{◌≡◌, ◌*◌, ◌%◌, ◌^◌, ◌<◌, ◌≤◌, ◌↔◌, [], length, IfOk, IfErr, true, is_ok};
 ghost use Rattle.nb_count.specs.Counts.{AreOwn, seats_of, total_of, with_added, with_looks};
 ghost use Rattle.nb_count.specs.Gathered.{HasGathered};
-ghost use Rattle.nb_count.specs.Tallies.{wrapped};
+ghost use Rattle.nb_count.specs.Tallies.{sum_of_stripes, wrapped};
 ghost use Rattle.std.specs.Mem.Slots.{IsFull, slots_items, slots_len};
 
-use crate::tally::{Adds, Deal, Gather, Looks, Size, Stripes, Tallies};
+use crate::tally::{Adds, Deal, Gather, Looks, SPREAD, Size, Stripes, Tallies};
 use atomic_table::{Closed, Seat, Table};
 use nb_core::{NotAll, OutOfMemory};
 use std::alloc::Global;
@@ -33,7 +33,7 @@ impl Model for Counter {
 /// The right of one holder to add. Contracts see its counter, its number, what it has added in all, and its steps.
 #[derive(Drop)]
 pub struct CountSeat {
-    stripe: usize,
+    place: usize,
     seat: Seat<(), Tallies>,
 }
 
@@ -63,13 +63,13 @@ impl Counter {
     {
         let size = Size { stripes, seats };
         let mut dealt = Vec::with_capacity(alloc, seats)?;
-        let words = [0; 8];
-        let (table, mut rest) = Table::of_words(alloc, &words[..stripes], &size)?;
+        let words = [0; 8 * SPREAD];
+        let (table, mut rest) = Table::of_words(alloc, &words[..SPREAD * stripes], &size)?;
         let counter = Counter { table, size };
         for number in 0..seats {
             let seat = counter.table.shared.split_seat::<Deal>(&mut rest);
-            let stripe = number % stripes;
-            dealt.push(CountSeat { stripe, seat })?;
+            let place = SPREAD * (number % stripes);
+            dealt.push(CountSeat { place, seat })?;
         }
         Ok((counter, dealt))
     }
@@ -79,7 +79,8 @@ impl Counter {
         requires own { seat.old.counter ≡ self.now.id }
         ensures { seat.new ≡ with_added amount seat.old }
     {
-        self.table.shared.fetch_add::<Adds>(&mut seat.seat, seat.stripe, amount.cast_unsigned());
+        let words = &self.table.shared;
+        words.fetch_add::<Adds>(&mut seat.seat, seat.place, amount.cast_unsigned());
     }
 
     /// The sum of the stripes, modulo 2^64, looked at one after another, by one step each. While others add it is no more
@@ -88,9 +89,11 @@ impl Counter {
         requires own { seat.old.counter ≡ self.now.id }
         ensures { seat.new ≡ with_looks self.now.stripes seat.old }
     {
+        let words = &self.table.shared;
         let mut sum = 0u64;
         for stripe in 0..self.size.stripes {
-            sum = sum.wrapping_add(self.table.shared.load::<Looks>(&mut seat.seat, stripe));
+            let found = words.load::<Looks>(&mut seat.seat, SPREAD * stripe);
+            sum = sum.wrapping_add(found);
         }
         sum
     }
@@ -121,23 +124,26 @@ impl Counter {
     {
         let mut seats = seats;
         let last = seats.pop().unwrap();
-        let CountSeat { stripe: _, mut seat } = last;
+        let CountSeat { place: _, mut seat } = last;
         while let Some(other) = seats.pop() {
-            let CountSeat { stripe: _, seat: other } = other;
+            let CountSeat {
+                place: _,
+                seat: other,
+            } = other;
             self.table.shared.join_seat::<Gather>(&mut seat, other);
         }
         seat
     }
 }
 
-/// The sum of the first words, modulo 2^64.
+/// The sum of the stripes, modulo 2^64.
 fn sum_of(closed: &Closed<(), Global>, count: usize) -> u64
-    requires { (count ≤ slots_len closed.now.words) × IsFull closed.now.words }
-    ensures { result ≡ sum (take count (slots_items closed.now.words)) % 2 ^ 64 }
+    requires { (SPREAD * count ≤ slots_len closed.now.words) × IsFull closed.now.words }
+    ensures { result ≡ sum_of_stripes (slots_items closed.now.words) count % 2 ^ 64 }
 {
     let mut sum = 0u64;
     for i in 0..count {
-        sum = sum.wrapping_add(closed.word(i));
+        sum = sum.wrapping_add(closed.word(SPREAD * i));
     }
     sum
 }

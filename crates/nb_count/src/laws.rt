@@ -1,9 +1,9 @@
 //! What the stripes of a counter stand for. Each function carries a law as its contract and does nothing when it runs.
-ghost use Rattle.nb_count.specs.Tallies.{StripesAreFree, WordsAreTheSum};
+ghost use Rattle.nb_count.specs.Tallies.{StripesAreFree, StripesAreTheSum};
 
 /// The sum of the stripes is what all seats have added, modulo 2^64.
-pub fn words_are_the_sum()
-    ensures { WordsAreTheSum }
+pub fn stripes_are_the_sum()
+    ensures { StripesAreTheSum }
 {}
 
 /// Two counters whose seats have added the same have the same sum, however many stripes each has.

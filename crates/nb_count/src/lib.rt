@@ -8,6 +8,5 @@ mod counter;
 pub mod laws;
 mod tally;
 
-
 pub use counter::{CountSeat, Counter};
-pub use tally::Tally;
+pub use tally::{SPREAD, Tally};

@@ -4,6 +4,9 @@ ghost use Rattle.std.specs.Prelude.{[], ◌++◌, take, drop};
 use atomic_table::{Join, Play, Split, TableRule};
 use std::collections::LinkedList;
 
+/// How far apart two stripes lie, in words: 64 bytes, so that no two of them share a line of a processor's cache.
+pub const SPREAD: usize = 8;
+
 /// What a seat has added and how many steps it has made. Contracts alone speak of it: no value of it is made.
 pub struct Tally {
     pub number: usize,

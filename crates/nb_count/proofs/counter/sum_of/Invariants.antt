@@ -1,6 +1,7 @@
-use Rattle.std.proofs.Common.{◌≡◌, ◌%◌, ◌^◌, sum, take}
+use Rattle.std.proofs.Common.{◌≡◌, ◌%◌, ◌^◌}
 use Rattle.std.specs.Mem.Slots.{slots_items}
+use Rattle.nb_count.specs.Tallies.{sum_of_stripes}
 use Rattle.nb_count.proofs.counter.sum_of.Given as goal
 
 abbrev pub invariant-loop-i : goal.invariant-loop-i
-invariant-loop-i l = l.sum ≡ sum (take l.i (slots_items l.closed.words)) % 2 ^ 64
+invariant-loop-i l = l.sum ≡ sum_of_stripes (slots_items l.closed.words) l.i % 2 ^ 64

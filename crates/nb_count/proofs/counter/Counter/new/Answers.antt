@@ -1,4 +1,5 @@
-use Rattle.std.proofs.Common.{◌≡◌, ◌∙◌, ◌%◌, ap, sym, refl, arith}
+use Rattle.std.proofs.Common.{◌∙◌, ◌*◌, ◌%◌, ap, refl, arith}
+use Rattle.nb_count.specs.declared.tally.TheConstants.{SPREAD}
 use Rattle.nb_count.specs.declared.counter.CountSeat.TheInside.{Inside}
 use Rattle.nb_count.proofs.Dealt.{count-words, dealing-done, dealing-first, dealing-more, dealt-is_seat, opens-zeros}
 use Rattle.nb_count.proofs.Keeping.{splits}
@@ -17,15 +18,15 @@ split_seat-seat-requires c =
 
 pub invariant_of-push : goal.invariant_of-push
 invariant_of-push c =
-    let s : Inside = record { stripe = c.loop-number.number % c.args.stripes; seat = c.split_seat-seat.result } in
+    let s : Inside = record { place = SPREAD * (c.loop-number.number % c.args.stripes); seat = c.split_seat-seat.result } in
     dealt-is_seat c.args.stripes c.loop-number.number c.args.seats c.loop-number.rest.me.0 s c.loop-number-test.true c.loop-number.invariant.left c.split_seat-seat.ensures.4 refl
-      (ap (λ t. t.words) (c.split_seat-seat.ensures.3 ∙ c.loop-number.invariant.own) ∙ c.in_ok-table.ensures.0 ∙ count-words (record { stripes = c.args.stripes; seats = c.args.seats }) c.requires.stripes.1)
+    (ap (λ t. t.words) (c.split_seat-seat.ensures.3 ∙ c.loop-number.invariant.own) ∙ c.in_ok-table.ensures.0 ∙ count-words (record { stripes = c.args.stripes; seats = c.args.seats }) c.requires.stripes.1)
 
 pub loop-number-preserved : goal.loop-number-preserved
 loop-number-preserved c =
-    let s : Inside = record { stripe = c.loop-number.number % c.args.stripes; seat = c.split_seat-seat.result } in
+    let s : Inside = record { place = SPREAD * (c.loop-number.number % c.args.stripes); seat = c.split_seat-seat.result } in
     dealing-more _ c.loop-number.rest _ c.loop-number.dealt.items _ s c.loop-number.number c.args.seats c.loop-number-test.true c.loop-number.invariant
-      c.split_seat-seat.ensures.0 c.split_seat-seat.ensures.2 c.split_seat-seat.ensures.3 c.split_seat-seat.ensures.4 c.in_ok-push.ensures.items
+    c.split_seat-seat.ensures.0 c.split_seat-seat.ensures.2 c.split_seat-seat.ensures.3 c.split_seat-seat.ensures.4 c.in_ok-push.ensures.items
 
 pub returns-clause-seats : goal.returns-clause-seats
 returns-clause-seats c = dealing-done _ _ _ _ _ c.loop-number-test.false c.loop-number.auto.number-end c.loop-number.invariant
