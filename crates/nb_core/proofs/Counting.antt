@@ -1,21 +1,19 @@
 -- Just one event turns each finished slot finished, and what the seats count is what their own events turned.
 use Rattle.std.proofs.Common.{◌≡◌, ◌≢◌, ◌∙◌, ℕ, zero, suc, ◌+◌, ◌%◌, ◌^◌, ◌<◌, ◌≤◌, ◌⊎◌, inl, inr, sym, ap, refl, subst, Bool, true, false, cond, eqb, ◌&&◌, ◌||◌, List, [], ◌∷◌, MatchOption, Option, Some, None, slice_index, arith}
-use Rattle.std.proofs.Math.Bool.{and_assoc}
+use Rattle.std.proofs.Math.Bool.{and_assoc, or-true}
 use Rattle.std.proofs.Math.Nat.{mod-eq_of_lt}
 use Rattle.std.proofs.Math.Pow.{pow-lt}
 use Rattle.std.proofs.lemmas.Bool.{eqb-false, eqb-true, false_from_ne_true, ne_eqb}
-use Rattle.nb_core.specs.Calls.{changed}
-use Rattle.nb_core.specs.Plans.{Plan, IsPlan, generations_of, size_of}
+use Rattle.nb_core.specs.Plans.{Plan, IsPlan, Header, generations_of, size_of}
 use Rattle.nb_core.specs.Tables.{IsFinished, IsFinishedValue, IsSlot, IsUnprimed, Tables, tables_at}
-use Rattle.nb_core.specs.History.{IsExchange, IsInRange, IsLegal, MayClaim, MayFinish, MayFollow, MayKill, MayPrime, content_of, counted_by, counts, is_empty_content, turned_by, turns}
+use Rattle.nb_core.specs.History.{IsInRange, IsLegal, MayClaim, MayFinish, MayFollow, MayKill, MayPrime, counted_by, counts, is_empty_content, turned_by, turns}
 use Rattle.nb_core.specs.Laws.{CountedOnce, finished_among, is_dead, is_finished_value, over_seats, primed, times_turned, turns_slot}
-use Rattle.nb_core.proofs.Frames.{counted_after, counted_first, counted_frame, finished, key_after, key_first, key_frame, value_after, value_first, value_frame}
-use Rattle.nb_core.proofs.Passing.{below_suc, both, is_finished-true}
+use Rattle.nb_core.proofs.Frames.{finished, key_after, key_first, key_frame, value_after, value_first, value_frame}
+use Rattle.nb_core.proofs.Passing.{below_suc, is_finished-true, is_finished_value-true}
 use Rattle.nb_core.proofs.Keeping.{sound}
-use Rattle.nb_core.proofs.Sound.{HasKey, IsSound, empty-null}
-use Rattle.nb_core.specs.declared.numbers.TheConstants.{VALUE_MAX}
-use Rattle.nb_core.specs.declared.calls.Call.{Call}
-use Rattle.nb_core.specs.declared.calls.Call.TheVariants as call
+use Rattle.nb_core.proofs.Lasting.{exchange-puts, put-unprimed}
+use Rattle.nb_core.proofs.Sound.{IsSound, empty-null, unprimed-not_final}
+use Rattle.nb_core.proofs.Words.{at_slot, word-first, word_after, word_frame}
 use Rattle.nb_core.specs.declared.events.Event.{Event}
 use Rattle.nb_core.specs.declared.events.Event.TheVariants.{Claim, Kill, Won, CopyIn, Prime, Finish, Install, Take, Count, Promote, Read}
 use Rattle.nb_core.specs.declared.states.KeyState.{KeyState}
@@ -93,58 +91,28 @@ all_hold test (suc n) enough i below =
 abbrev is_finished_slot : KeyState → ValueState → Bool
 is_finished_slot x v = is_dead x || is_finished_value v
 
--- a value that isn't primed isn't final
-unprimed_unfinished : (v : ValueState) → IsUnprimed v → is_finished_value v ≡ false
-unprimed_unfinished Null u = refl
-unprimed_unfinished Tombstone u = refl
-unprimed_unfinished (Live n) u = refl
-unprimed_unfinished PrimedNull u = absurd u
-unprimed_unfinished PrimedTombstone u = absurd u
-unprimed_unfinished (Primed n) u = absurd u
-unprimed_unfinished (Finished n) u = absurd u
+-- the test fails of a value that isn't primed
+is_finished_value-unprimed : (v : ValueState) → IsUnprimed v → is_finished_value v ≡ false
+is_finished_value-unprimed v u = false_from_ne_true _ (λ e. unprimed-not_final v u (is_finished_value-true v e))
 
 -- priming finishes what has no number
-primed_finished : (v : ValueState) → IsUnprimed v → is_finished_value (primed v) ≡ is_empty_content v
-primed_finished Null u = refl
-primed_finished Tombstone u = refl
-primed_finished (Live n) u = refl
-primed_finished PrimedNull u = absurd u
-primed_finished PrimedTombstone u = absurd u
-primed_finished (Primed n) u = absurd u
-primed_finished (Finished n) u = absurd u
-
--- what a change puts isn't primed
-put_unprimed :
-    (m : Option ℕ) (a b : ValueState)
-    → MatchOption m ((b ≡ Tombstone) × ((n : ℕ) × (a ≡ Live n))) (λ n. (b ≡ Live n) × (b ≢ a) × (n ≤ VALUE_MAX))
-    → IsUnprimed b
-put_unprimed None a b e = subst IsUnprimed (sym e.0) tt
-put_unprimed (Some n) a b e = subst IsUnprimed (sym e.0) tt
-
--- nor is what a call puts
-exchanged_unprimed : (c : Call) (k : ℕ) (a b : ValueState) → IsExchange c k a b → IsUnprimed b
-exchanged_unprimed (call.Get key) k a b e = absurd e
-exchanged_unprimed (call.Write key want change) k a b e = put_unprimed (changed change (content_of a)) a b e.2
+is_finished_value-primed : (v : ValueState) → IsUnprimed v → is_finished_value (primed v) ≡ is_empty_content v
+is_finished_value-primed Null u = refl
+is_finished_value-primed Tombstone u = refl
+is_finished_value-primed (Live n) u = refl
+is_finished_value-primed _ u = absurd u
 
 -- the test holds of a final value
-final_finished : (v : ValueState) → IsFinishedValue v → is_finished_value v ≡ true
-final_finished Null final = absurd final
-final_finished Tombstone final = absurd final
-final_finished (Live n) final = absurd final
-final_finished PrimedNull final = refl
-final_finished PrimedTombstone final = refl
-final_finished (Primed n) final = absurd final
-final_finished (Finished n) final = refl
-
--- a test or a test that holds, holds
-or-true : (a : Bool) → (a || true) ≡ true
-or-true true = refl
-or-true false = refl
+is_finished_value-final : (v : ValueState) → IsFinishedValue v → is_finished_value v ≡ true
+is_finished_value-final PrimedNull final = refl
+is_finished_value-final PrimedTombstone final = refl
+is_finished_value-final (Finished n) final = refl
+is_finished_value-final _ final = absurd final
 
 -- the test holds of a finished slot
-finished_test : (x : KeyState) (v : ValueState) → (x ≡ Dead) ⊎ IsFinishedValue v → is_finished_slot x v ≡ true
-finished_test x v (inl dead) = rw dead refl
-finished_test x v (inr final) = rw (final_finished v final) (or-true (is_dead x))
+is_finished_slot-true : (x : KeyState) (v : ValueState) → (x ≡ Dead) ⊎ IsFinishedValue v → is_finished_slot x v ≡ true
+is_finished_slot-true x v (inl dead) = rw dead refl
+is_finished_slot-true x v (inr final) = rw (is_finished_value-final v final) (or-true (is_dead x))
 
 -- 1 where a slot is finished, and else 0
 abbrev slot_bit : Tables → ℕ → ℕ → ℕ
@@ -152,98 +120,49 @@ slot_bit t g i = bit (is_finished_slot (t.key g i) (t.value g i))
 
 -- ---- one slot in one step
 
--- what is so at slot j of table f is so at this slot, if it is that one; the same goes for other pairs of numbers
-same_slot : (f j g i : ℕ) (P : ℕ → ℕ → Type 0) → P f j → (eqb f g && eqb j i) ≡ true → P g i
-same_slot f j g i P here e =
-    let a = both (eqb f g) (eqb j i) e in
-    subst (λ x. P g x) (eqb-true j i a.1) (subst (λ x. P x j) (eqb-true f g a.0) here)
-
 -- claiming a key turns nothing
-claim_bit :
-    (here : Bool) (x : KeyState) (v : ValueState) (k : ℕ) → (here ≡ true → x ≡ Empty)
-    → bit (is_finished_slot (cond here (Claimed k) x) v) ≡ 0 + bit (is_finished_slot x v)
-claim_bit true x v k was = rw (was refl) (omega arith)
-claim_bit false x v k was = omega arith
-
--- closing a bare slot turns it
-kill_bit :
-    (here : Bool) (x : KeyState) (v : ValueState) → (here ≡ true → (x ≡ Empty) × (v ≡ Null))
-    → bit (is_finished_slot (cond here Dead x) v) ≡ bit here + bit (is_finished_slot x v)
-kill_bit true x v was = rw ((was refl).0, (was refl).1) refl
-kill_bit false x v was = omega arith
-
--- putting an unprimed value in the place of another turns nothing
-put_bit :
-    (here : Bool) (x : KeyState) (v b : ValueState) → (here ≡ true → IsUnprimed v) → IsUnprimed b
-    → bit (is_finished_slot x (cond here b v)) ≡ 0 + bit (is_finished_slot x v)
-put_bit true x v b was now = rw (unprimed_unfinished v (was refl), unprimed_unfinished b now) (omega arith)
-put_bit false x v b was now = omega arith
-
--- a slot with a key isn't closed
-claimed_undead : (x : KeyState) → HasKey x → is_dead x ≡ false
-claimed_undead x has = rw has.is refl
-
--- priming turns what has no number
-prime_bit :
-    (here : Bool) (x : KeyState) (v : ValueState) → (here ≡ true → (HasKey x × IsUnprimed v))
-    → bit (is_finished_slot x (cond here (primed v) v)) ≡ bit (here && is_empty_content v) + bit (is_finished_slot x v)
-prime_bit true x v was =
-    let w = was refl in
-    rw (claimed_undead x w.0, primed_finished v w.1, unprimed_unfinished v w.1) (omega arith)
-prime_bit false x v was = omega arith
-
--- finishing turns a primed number
-finish_bit :
-    (here : Bool) (x : KeyState) (v : ValueState) → (here ≡ true → (HasKey x × ((n : ℕ) × (v ≡ Primed n))))
-    → bit (is_finished_slot x (cond here (finished v) v)) ≡ bit here + bit (is_finished_slot x v)
-finish_bit true x v was = let w = was refl in rw (claimed_undead x w.0, w.1.1) refl
-finish_bit false x v was = omega arith
-
--- whether slot j of table f is this slot
-abbrev is_here : ℕ → ℕ → ℕ → ℕ → Bool
-is_here f j g i = eqb f g && eqb j i
-
--- claiming a slot of the tables turns none
 claim_step :
     (p : Plan) (t : Tables) (f j g i k : ℕ) → MayClaim p t f j k
-    → bit (is_finished_slot (cond (is_here f j g i) (Claimed k) (t.key g i)) (t.value g i)) ≡ 0 + slot_bit t g i
+    → bit (is_finished_slot (cond (eqb f g && eqb j i) (Claimed k) (t.key g i)) (t.value g i)) ≡ 0 + slot_bit t g i
 claim_step p t f j g i k may =
-    claim_bit (is_here f j g i) (t.key g i) (t.value g i) k (same_slot f j g i (λ x y. t.key x y ≡ Empty) may.empty)
+    at_slot (λ g i here. bit (is_finished_slot (cond here (Claimed k) (t.key g i)) (t.value g i)) ≡ 0 + slot_bit t g i) f j g i
+    (rw may.empty (omega arith)) (omega arith)
 
--- the same of closing a slot
+-- closing a slot turns it
 kill_step :
     (p : Plan) (t : Tables) (f j g i : ℕ) → IsSound p t → IsSlot p f j → MayKill t f j
-    → bit (is_finished_slot (cond (is_here f j g i) Dead (t.key g i)) (t.value g i)) ≡ bit (is_here f j g i) + slot_bit t g i
+    → bit (is_finished_slot (cond (eqb f g && eqb j i) Dead (t.key g i)) (t.value g i)) ≡ bit (eqb f g && eqb j i) + slot_bit t g i
 kill_step p t f j g i s slot may =
-    kill_bit (is_here f j g i) (t.key g i) (t.value g i)
-    (same_slot f j g i (λ x y. (t.key x y ≡ Empty) × (t.value x y ≡ Null)) (may.empty, empty-null p t s f j slot may.empty))
+    at_slot (λ g i here. bit (is_finished_slot (cond here Dead (t.key g i)) (t.value g i)) ≡ bit here + slot_bit t g i) f j g i
+    (rw (may.empty, empty-null p t s f j slot may.empty) refl) (omega arith)
 
--- the same of an exchange or a copy
+-- putting an unprimed value in the place of another turns nothing
 put_step :
     (t : Tables) (f j g i : ℕ) (b : ValueState) → IsUnprimed (t.value f j) → IsUnprimed b
-    → bit (is_finished_slot (t.key g i) (cond (is_here f j g i) b (t.value g i))) ≡ 0 + slot_bit t g i
+    → bit (is_finished_slot (t.key g i) (cond (eqb f g && eqb j i) b (t.value g i))) ≡ 0 + slot_bit t g i
 put_step t f j g i b was now =
-    put_bit (is_here f j g i) (t.key g i) (t.value g i) b (same_slot f j g i (λ x y. IsUnprimed (t.value x y)) was) now
+    at_slot (λ g i here. bit (is_finished_slot (t.key g i) (cond here b (t.value g i))) ≡ 0 + slot_bit t g i) f j g i
+    (rw (is_finished_value-unprimed (t.value f j) was, is_finished_value-unprimed b now) (omega arith)) (omega arith)
 
--- the same of priming
+-- priming turns what has no number
 prime_step :
     (t : Tables) (f j g i : ℕ) → MayPrime t f j
-    → bit (is_finished_slot (t.key g i) (cond (is_here f j g i) (primed (t.value g i)) (t.value g i)))
-    ≡ bit (is_here f j g i && is_empty_content (t.value g i)) + slot_bit t g i
+    → bit (is_finished_slot (t.key g i) (cond (eqb f g && eqb j i) (primed (t.value g i)) (t.value g i)))
+    ≡ bit ((eqb f g && eqb j i) && is_empty_content (t.value g i)) + slot_bit t g i
 prime_step t f j g i may =
-    prime_bit (is_here f j g i) (t.key g i) (t.value g i)
-    (same_slot f j g i (λ x y. HasKey (t.key x y) × IsUnprimed (t.value x y))
-    (record { key = may.key; is = may.claimed }, may.unprimed))
+    at_slot (λ g i here. bit (is_finished_slot (t.key g i) (cond here (primed (t.value g i)) (t.value g i)))
+        ≡ bit (here && is_empty_content (t.value g i)) + slot_bit t g i) f j g i
+    (rw (may.claimed, is_finished_value-primed (t.value f j) may.unprimed, is_finished_value-unprimed (t.value f j) may.unprimed)
+    (omega arith)) (omega arith)
 
--- the same of finishing
+-- finishing turns a primed number
 finish_step :
     (p : Plan) (t : Tables) (f j g i : ℕ) → MayFinish p t f j
-    → bit (is_finished_slot (t.key g i) (cond (is_here f j g i) (finished (t.value g i)) (t.value g i)))
-    ≡ bit (is_here f j g i) + slot_bit t g i
+    → bit (is_finished_slot (t.key g i) (cond (eqb f g && eqb j i) (finished (t.value g i)) (t.value g i)))
+    ≡ bit (eqb f g && eqb j i) + slot_bit t g i
 finish_step p t f j g i may =
-    finish_bit (is_here f j g i) (t.key g i) (t.value g i)
-    (same_slot f j g i (λ x y. HasKey (t.key x y) × ((n : ℕ) × (t.value x y ≡ Primed n)))
-    (record { key = may.key; is = may.claimed }, (may.number, may.primed)))
+    at_slot (λ g i here. bit (is_finished_slot (t.key g i) (cond here (finished (t.value g i)) (t.value g i))) ≡ bit here + slot_bit t g i)
+    f j g i (rw (may.claimed, may.primed) refl) (omega arith)
 
 -- whether a slot is finished after an event tells whether it was, and whether the event turned it
 after_event :
@@ -255,16 +174,12 @@ after_event p h (Claim s f j k) g i t_sound range may = claim_step p (tables_at 
 after_event p h (Kill s f j) g i t_sound range may = kill_step p (tables_at p h) f j g i t_sound range.1 may
 after_event p h (Won s f j a b c r) g i t_sound range may =
     put_step (tables_at p h) f j g i b (subst IsUnprimed (sym may.stands) may.unprimed)
-    (exchanged_unprimed c may.key a b may.exchange)
+    (put-unprimed a b (exchange-puts c may.key a b may.exchange))
 after_event p h (CopyIn s f j k n) g i t_sound range may =
     put_step (tables_at p h) f j g i (Live n) (subst IsUnprimed (sym may.null) tt) tt
 after_event p h (Prime s f j) g i t_sound range may = prime_step (tables_at p h) f j g i may
 after_event p h (Finish s f j) g i t_sound range may = finish_step p (tables_at p h) f j g i may
-after_event p h (Install s f k) g i t_sound range may = omega arith
-after_event p h (Take s f) g i t_sound range may = omega arith
-after_event p h (Count s f c) g i t_sound range may = omega arith
-after_event p h (Promote s f) g i t_sound range may = omega arith
-after_event p h (Read s c r) g i t_sound range may = omega arith
+after_event p h _ g i t_sound range may = omega arith
 
 -- before any event no slot is finished
 slot_first : (p : Plan) → IsPlan p → (g i : ℕ) → IsSlot p g i → slot_bit (tables_at p []) g i ≡ 0
@@ -358,20 +273,14 @@ turned_bits p (e ∷ h) plan legal g within =
 
 -- ---- counts
 
--- a count within what was turned keeps within it
-own_count :
-    (mine : Bool) (c counted turned : ℕ) → counted ≤ turned → (mine ≡ true → counted + c ≤ turned)
-    → cond mine c 0 + counted ≤ turned
-own_count true c counted turned before own = omega (arith, own refl)
-own_count false c counted turned before own = omega arith
-
 -- no event makes a seat count more slots than it turned
 own_step :
     (p : Plan) (h : List Event) (e : Event) (s g : ℕ) → MayFollow p h e → counted_by h s g ≤ turned_by p h s g
     → counts e s g + counted_by h s g ≤ bit (turns p h e s g) + turned_by p h s g
 own_step p h (Count seat f c) s g may before =
-    let less = own_count (eqb seat s && eqb f g) c (counted_by h s g) (turned_by p h s g) before
-    (same_slot seat f s g (λ x y. counted_by h x y + c ≤ turned_by p h x y) may.own) in omega arith
+    let own = may.own in
+    at_slot (λ s g here. counted_by h s g ≤ turned_by p h s g → cond here c 0 + counted_by h s g ≤ 0 + turned_by p h s g) seat f s g
+    (λ before. omega arith) (λ before. omega arith) before
 own_step p h _ s g may before = omega arith
 
 -- a seat counts no more slots than it turned
@@ -420,7 +329,7 @@ count_step :
     (p : Plan) (h : List Event) (e : Event) (g word : ℕ) → IsInRange p e
     → word ≡ over_seats (λ s. counted_by h s g) p.seats
     → over_seats (λ s. counts e s g + counted_by h s g) p.seats < 2 ^ 64
-    → counted_after e g word ≡ over_seats (λ s. counts e s g + counted_by h s g) p.seats
+    → word_after p e (Header g 2) word ≡ over_seats (λ s. counts e s g + counted_by h s g) p.seats
 count_step p h (Count seat f c) g word range before fits =
     let mine = λ (s : ℕ). cond (eqb seat s && eqb f g) c 0 in
     let sum : over_seats (λ s. mine s + counted_by h s g) p.seats ≡ cond (eqb f g) c 0 + word =
@@ -433,9 +342,9 @@ count_step p h _ g word range before fits = count_none (λ s. counted_by h s g) 
 counted_done :
     (p : Plan) (h : List Event) → IsPlan p → IsLegal p h → (g : ℕ) → g < generations_of p
     → (tables_at p h).counted g ≡ over_seats (λ s. counted_by h s g) p.seats
-counted_done p [] plan legal g within = counted_first p plan g ∙ sym (over_seats-zero p.seats)
+counted_done p [] plan legal g within = word-first p plan (Header g 2) (within, omega arith) ∙ sym (over_seats-zero p.seats)
 counted_done p (e ∷ h) plan legal g within =
-    counted_frame p e h plan legal.1 g within
+    word_frame p plan h (Header g 2) (within, omega arith) e legal.1
     ∙ count_step p h e g ((tables_at p h).counted g) legal.1 (counted_done p h plan legal.0 g within)
     (fits_word (slice_index p.exponents g) _ (plan.sizes g 0 within).1 (counted_fits p (e ∷ h) plan legal g within))
 
@@ -452,7 +361,7 @@ counted_once p plan h legal g within =
     let done = counted_done p h plan legal g within in
     let less : t.counted g ≤ finished_among t g (size_of p g) = omega (arith, counted_all p h legal g) in
     record {
-      once = λ i slot is. times_finished p h plan legal g i slot ∙ ap bit (finished_test _ _ is);
+      once = λ i slot is. times_finished p h plan legal g i slot ∙ ap bit (is_finished_slot-true _ _ is);
       never = λ i slot isnt.
           times_finished p h plan legal g i slot ∙ ap bit (false_from_ne_true _ (λ e. isnt (is_finished-true t g i e)));
       turned = turned;

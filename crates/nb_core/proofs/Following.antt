@@ -1,11 +1,10 @@
 -- Laws that follow at once from the invariant.
 use Rattle.std.proofs.Common.{◌≡◌, ℕ, ◌<◌, zero, suc, [], ◌∷◌, ◌++◌, subst, inl, inr, arith}
 use Rattle.std.proofs.lemmas.Bool.{cases_lt}
-use Rattle.nb_core.specs.Plans.{Plan, IsPlan, generations_of}
+use Rattle.nb_core.specs.Plans.{Plan, IsPlan, Top, generations_of}
 use Rattle.nb_core.specs.Tables.{IsComplete, Tables, tables_at}
 use Rattle.nb_core.specs.History.{HasValue}
 use Rattle.nb_core.specs.Laws.{CompletePassed, HasOneSlot, InstalledAfter, Moved, OnePlace, PassedSettled, Room, SizeIsNet, TopComplete}
-use Rattle.nb_core.proofs.Frames.{top_first}
 use Rattle.nb_core.proofs.Keeping.{sound}
 use Rattle.nb_core.proofs.Net.{size_is_net_by}
 use Rattle.nb_core.proofs.Lasting.{complete-stays, content-some}
@@ -13,8 +12,9 @@ use Rattle.nb_core.proofs.Later.{beginnings_are_legal, seen_lasts}
 use Rattle.nb_core.proofs.Places as places
 use Rattle.nb_core.proofs.Room as room
 use Rattle.nb_core.proofs.Shown.{win_number}
-use Rattle.nb_core.proofs.Sound.{IsSound, HasGot, complete-growing, one_slot}
+use Rattle.nb_core.proofs.Sound.{IsSound, HasGot, complete-below, complete-growing, one_slot}
 use Rattle.nb_core.proofs.Steps.{Step, TopKept, Promotes, step_of}
+use Rattle.nb_core.proofs.Words.{word-first}
 
 pub has_one_slot : HasOneSlot
 has_one_slot p plan h legal g i j k i_slot j_slot i_is j_is = one_slot p (tables_at p h) plan (sound p h plan legal) g i j k i_slot j_slot i_is j_is
@@ -42,16 +42,6 @@ one_place p plan later h legal g k place is =
     places.one_place p (tables_at p h) (tables_at p (later ++ h)) plan (sound p h plan (beginnings_are_legal p later h legal)) (sound p (later ++ h) plan legal)
     (seen_lasts p plan later h legal) g k place is
 
--- all tables up to one that has a next one but the last of them are complete
-pub lower-complete : (p : Plan) (t : Tables) → IsSound p t → (f g : ℕ) → t.next g ≡ 1 → f < g → IsComplete p t f
-lower-complete p t s f zero next below = absurd (omega arith)
-lower-complete p t s f (suc g) next below =
-    let r = s.ready g next in
-    elim (cases_lt f g) [
-      | inl lower ↦ lower-complete p t s f g r.0 lower
-      | inr upper ↦ subst (IsComplete p t) (omega arith) r.1
-    ]
-
 -- the tables below the top word are complete after a step too
 top-right : (p : Plan) (t u : Tables) → IsPlan p → IsSound p t → Step p t u → ((g : ℕ) → g < t.top → (g < generations_of p) × IsComplete p t g) → (g : ℕ) → g < u.top → (g < generations_of p) × IsComplete p u g
 top-right p t u plan s step right g below =
@@ -60,13 +50,13 @@ top-right p t u plan s step right g below =
       | Promotes f within may e ↦
           let next : t.next f ≡ 1 = complete-growing p t plan s f within may.complete in
           elim (cases_lt g f) [
-            | inl lower ↦ (omega arith, complete-stays p t u step g (omega arith) (lower-complete p t s g f next lower))
+            | inl lower ↦ (omega arith, complete-stays p t u step g (omega arith) (complete-below p t s (suc f) g (omega arith) next))
             | inr upper ↦ (omega arith, complete-stays p t u step g (omega arith) (subst (IsComplete p t) (omega arith) may.complete))
           ]
     ]
 
 pub top_complete : TopComplete
-top_complete p plan [] legal g below = absurd (omega (arith, top_first p plan))
+top_complete p plan [] legal g below = absurd (omega (arith, word-first p plan Top tt))
 top_complete p plan (e ∷ h) legal g below =
     top-right p (tables_at p h) (tables_at p (e ∷ h)) plan (sound p h plan legal.0) (step_of p e h plan legal) (top_complete p plan h legal.0) g below
 

@@ -6,8 +6,8 @@ use Rattle.nb_core.specs.Tables.{HasSlot, IsComplete, IsFinishedValue, IsSlot, I
 use Rattle.nb_core.specs.History.{IsLegal, MayClaim, MayFinish}
 use Rattle.nb_core.specs.Laws.{HasContent, primed}
 use Rattle.nb_core.proofs.Frames.{key_first, next_first, value_first}
-use Rattle.nb_core.proofs.Lasting.{IsPut, complete-stays, exchange-puts, installed-stays, key-claimed, key-was, key-was_dead, next-stays, others-stay, put-unprimed, slot-stays, value-content, value-final, value-frozen, value-primed, value-unclaimed}
-use Rattle.nb_core.proofs.Sound.{HasGot, HasKey, IsClaimedRight, IsReached, IsSound, MayBeAbove, claimed-same, complete-growing, complete-not_empty, empty-null, finished-value, next-within, one_slot, other-not}
+use Rattle.nb_core.proofs.Lasting.{complete-stays, exchange-puts, installed-stays, key-claimed, key-was, key-was_dead, next-stays, others-stay, put-unprimed, slot-stays, value-content, value-empty, value-final, value-frozen, value-primed}
+use Rattle.nb_core.proofs.Sound.{HasGot, HasKey, IsClaimedRight, IsReached, IsSound, MayBeAbove, claimed-same, complete-growing, finished-not_empty, finished-value, next-within, one_slot, other-not, primed-growing}
 use Rattle.nb_core.proofs.Steps.{NextKept, Installs, Step, ValueStep, ValueKept, Wins, Copies, Primes, Finishes, step_of}
 use Rattle.nb_core.specs.declared.events.Event.{Event}
 use Rattle.nb_core.specs.declared.states.KeyState.TheVariants.{Empty, Dead, Claimed}
@@ -94,10 +94,10 @@ keeps-growing p t u s step g i slot =
     let stays = next-stays p t g (u.next g) (step.next g) in
     elim (step.value g i slot) [
       | ValueKept e ↦ elim (s.growing g i slot) [ inl unprimed ↦ inl (subst IsUnprimed (sym e) unprimed) | inr next ↦ inr (stays next) ]
-      | Wins a b c may e ↦ inl (subst IsUnprimed (sym e) (put-unprimed b (exchange-puts c may.key a b may.exchange)))
+      | Wins a b c may e ↦ inl (subst IsUnprimed (sym e) (put-unprimed a b (exchange-puts c may.key a b may.exchange)))
       | Copies k n may e ↦ inl (subst IsUnprimed (sym e) tt)
       | Primes may e ↦ inr (stays may.growing)
-      | Finishes may e ↦ elim (s.growing g i slot) [ inl unprimed ↦ absurd (subst IsUnprimed may.primed unprimed) | inr next ↦ inr (stays next) ]
+      | Finishes may e ↦ inr (stays (primed-growing p t s g i slot (λ unprimed. subst IsUnprimed may.primed unprimed)))
     ]
 
 key-stays-some : (p : Plan) (t u : Tables) → Step p t u → (g i k : ℕ) → IsSlot p g i → t.key g i ≡ Claimed k → HasKey (u.key g i)
@@ -130,7 +130,7 @@ pub not_late : (p : Plan) (t : Tables) → IsSound p t → (g i k : ℕ) → suc
 not_late p t s g i k within slot may has =
     elim (s.below g k within has) [
       | inl below ↦ claim-is_first p t s g i k slot.0 may below
-      | inr complete ↦ complete-not_empty p t s g i slot complete may.empty
+      | inr complete ↦ finished-not_empty p t s g i slot (complete i slot.1) may.empty
     ]
 
 -- under a final value anything may stand above, and under an unprimed one nothing
@@ -138,19 +138,14 @@ final-above : (v above : ValueState) → IsFinishedValue v → MayBeAbove v abov
 final-above Null above final = final
 final-above Tombstone above final = final
 final-above (Live n) above final = final
-final-above PrimedNull above final = tt
-final-above PrimedTombstone above final = tt
 final-above (Primed n) above final = absurd final
-final-above (Finished n) above final = tt
+final-above _ above final = tt
 
 pub above-primed : (v above : ValueState) → MayBeAbove v above → IsUnprimed v → ⊥
 above-primed Null above may unprimed = may
 above-primed Tombstone above may unprimed = may
 above-primed (Live n) above may unprimed = may
-above-primed PrimedNull above may unprimed = unprimed
-above-primed PrimedTombstone above may unprimed = unprimed
-above-primed (Primed n) above may unprimed = unprimed
-above-primed (Finished n) above may unprimed = unprimed
+above-primed _ above may unprimed = unprimed
 
 -- what may stand above a value still may after a step below
 above-stays : (p : Plan) (t : Tables) (g i : ℕ) (to above : ValueState) → ValueStep p t g i to → MayBeAbove (t.value g i) above → MayBeAbove to above
@@ -190,18 +185,15 @@ keeps-above_both p t u plan s step g i j k i_slot j_slot i_is j_is =
           let primed : t.value g i ≡ Primed n = ap (t.value g) (sym slot) ∙ source.3 in
           inr (subst (MayBeAbove (u.value g i)) (sym e) (copy-above (u.value g i) n (value-frozen p t g i n (u.value g i) below (inl primed))))
       | Primes may e ↦ inr (final-above_step p t g i (u.value g i) (u.value (suc g) j) below (complete_below may.growing))
-      | Finishes may e ↦ elim (s.growing (suc g) j j_slot) [
-        | inl unprimed ↦ absurd (subst IsUnprimed may.primed unprimed)
-        | inr next ↦ inr (final-above_step p t g i (u.value g i) (u.value (suc g) j) below (complete_below next))
-      ]
+      | Finishes may e ↦
+          let next = primed-growing p t s (suc g) j j_slot (λ unprimed. subst IsUnprimed may.primed unprimed) in
+          inr (final-above_step p t g i (u.value g i) (u.value (suc g) j) below (complete_below next))
     ]
 
 keeps-above : (p : Plan) (t u : Tables) → IsPlan p → IsSound p t → Step p t u → (g i j k : ℕ) → IsSlot p g i → IsSlot p (suc g) j → u.key g i ≡ Claimed k → u.key (suc g) j ≡ Claimed k → (u.value (suc g) j ≡ Null) ⊎ MayBeAbove (u.value g i) (u.value (suc g) j)
 keeps-above p t u plan s step g i j k i_slot j_slot i_is j_is =
     elim (key-was p t (suc g) j k (u.key (suc g) j) (step.key (suc g) j j_slot) j_is) [
-      | inr claims ↦
-          let unclaimed : (q : ℕ) → t.key (suc g) j ≢ Claimed q = λ q is. let e : Empty ≡ Claimed q = sym claims.1.empty ∙ is in cc in
-          inl (value-unclaimed p t (suc g) j (u.value (suc g) j) (step.value (suc g) j j_slot) unclaimed ∙ empty-null p t s (suc g) j j_slot claims.1.empty)
+      | inr claims ↦ inl (value-empty p t s (suc g) j (u.value (suc g) j) j_slot (step.value (suc g) j j_slot) claims.1.empty)
       | inl j_was ↦ elim (key-was p t g i k (u.key g i) (step.key g i i_slot) i_is) [
         | inr claims ↦ absurd (not_late p t s g i k j_slot.0 i_slot claims.1 (record { slot = j; in_table = j_slot.1; is = j_was }))
         | inl i_was ↦ keeps-above_both p t u plan s step g i j k i_slot j_slot i_was j_was
@@ -211,12 +203,8 @@ keeps-above p t u plan s step g i j k i_slot j_slot i_is j_is =
 -- a value that is neither null nor a primed one has a content
 pub content-is : (v : ValueState) → v ≢ Null → v ≢ PrimedNull → HasContent v
 content-is Null some unprimed = some refl
-content-is Tombstone some unprimed = tt
-content-is (Live n) some unprimed = tt
 content-is PrimedNull some unprimed = unprimed refl
-content-is PrimedTombstone some unprimed = tt
-content-is (Primed n) some unprimed = tt
-content-is (Finished n) some unprimed = tt
+content-is _ some unprimed = tt
 
 pub got-stays : (p : Plan) (t u : Tables) → Step p t u → (g k : ℕ) → HasGot p t g k → HasGot p u g k
 got-stays p t u step g k got = record {
@@ -229,17 +217,16 @@ got-stays p t u step g k got = record {
 -- the value that a finished number was copied to is no primed null: its table has no next one yet
 finishes-got : (p : Plan) (t : Tables) → IsSound p t → (g i k : ℕ) → IsSlot p g i → (may : MayFinish p t g i) → HasGot p t (suc g) may.key
 finishes-got p t s g i k slot may =
-    let next : t.next g ≡ 1 = elim (s.growing g i slot) [ inl unprimed ↦ absurd (subst IsUnprimed may.primed unprimed) | inr next ↦ next ] in
+    let next = primed-growing p t s g i slot (λ unprimed. subst IsUnprimed may.primed unprimed) in
     let copied = may.copied in
     let copied_slot : IsSlot p (suc g) copied.slot = (next-within p t s g next, copied.in_table) in
     record {
       slot = copied.slot;
       is_slot = copied_slot;
       is = copied.is;
-      content = content-is (t.value (suc g) copied.slot) copied.some (λ primed_null. elim (s.growing (suc g) copied.slot copied_slot) [
-        | inl unprimed ↦ subst IsUnprimed primed_null unprimed
-        | inr next ↦ subst IsFinishedValue may.primed (finished-value t g i may.key ((s.ready g next).1 i slot.1) may.claimed)
-      ]);
+      content = content-is (t.value (suc g) copied.slot) copied.some (λ primed_null.
+          let above = primed-growing p t s (suc g) copied.slot copied_slot (λ unprimed. subst IsUnprimed primed_null unprimed) in
+          subst IsFinishedValue may.primed (finished-value t g i may.key ((s.ready g above).1 i slot.1) may.claimed));
     }
 
 primed-not_finished : (v : ValueState) (n : ℕ) → IsUnprimed v → primed v ≢ Finished n
@@ -255,11 +242,10 @@ keeps-moved : (p : Plan) (t u : Tables) → IsSound p t → Step p t u → (g i 
 keeps-moved p t u s step g i k n slot is finished =
     elim (key-was p t g i k (u.key g i) (step.key g i slot) is) [
       | inr claims ↦
-          let unclaimed : (q : ℕ) → t.key g i ≢ Claimed q = λ q is. let e : Empty ≡ Claimed q = sym claims.1.empty ∙ is in cc in
-          absurd (let e : Finished n ≡ Null = sym finished ∙ value-unclaimed p t g i (u.value g i) (step.value g i slot) unclaimed ∙ empty-null p t s g i slot claims.1.empty in cc)
+          absurd (let e : Finished n ≡ Null = sym finished ∙ value-empty p t s g i (u.value g i) slot (step.value g i slot) claims.1.empty in cc)
       | inl was ↦ elim (step.value g i slot) [
         | ValueKept e ↦ got-stays p t u step (suc g) k (s.moved g i k n slot was (sym e ∙ finished))
-        | Wins a b c may e ↦ absurd (subst IsPut (sym e ∙ finished) (exchange-puts c may.key a b may.exchange))
+        | Wins a b c may e ↦ absurd (subst IsUnprimed (sym e ∙ finished) (put-unprimed a b (exchange-puts c may.key a b may.exchange)))
         | Copies q m may e ↦ absurd (let same : Live m ≡ Finished n = sym e ∙ finished in cc)
         | Primes may e ↦ absurd (primed-not_finished (t.value g i) n may.unprimed (sym e ∙ finished))
         | Finishes may e ↦ got-stays p t u step (suc g) k (subst (HasGot p t (suc g)) (claimed-same (sym may.claimed ∙ was)) (finishes-got p t s g i k slot may))

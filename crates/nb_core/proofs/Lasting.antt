@@ -1,11 +1,12 @@
 -- What a step leaves as it is, and what it can't take away.
-use Rattle.std.proofs.Common.{◌≡◌, ◌≢◌, ◌∙◌, ℕ, ◌<◌, ◌≤◌, ◌⊎◌, zero, suc, Option, Some, None, MatchOption, sym, subst, inl, inr}
+use Rattle.std.proofs.Common.{◌≡◌, ◌≢◌, ◌∙◌, ℕ, ◌<◌, ◌≤◌, ◌⊎◌, zero, suc, Option, Some, None, MatchOption, sym, subst, refl, inl, inr}
 use Rattle.nb_core.specs.Calls.{changed}
 use Rattle.nb_core.specs.Plans.{Plan, IsPlan, generations_of}
 use Rattle.nb_core.specs.Tables.{AreOthers, HasSlot, IsComplete, IsFinished, IsFinishedValue, IsInstalled, IsOther, IsSlot, IsUnprimed, Tables, path_slot}
-use Rattle.nb_core.specs.History.{IsExchange, MayClaim, content_of}
+use Rattle.nb_core.specs.History.{IsExchange, MayClaim, content_of, key_of_call}
 use Rattle.nb_core.specs.Laws.{HasContent, IsFrozen, primed}
-use Rattle.nb_core.proofs.Sound.{claimed-same, path_slot-is_slot, unprimed-not_final}
+use Rattle.nb_core.proofs.Legality.{number_left}
+use Rattle.nb_core.proofs.Sound.{IsSound, claimed-same, empty-null, path_slot-is_slot, unprimed-not_final}
 use Rattle.nb_core.proofs.Steps.{KeyStep, KeyKept, Claims, Kills, NextStep, NextKept, Installs, Step, ValueStep, ValueKept, Wins, Copies, Primes, Finishes}
 use Rattle.nb_core.specs.declared.numbers.TheConstants.{KEY_MAX}
 use Rattle.nb_core.specs.declared.calls.Call.{Call}
@@ -17,46 +18,43 @@ use Rattle.nb_core.specs.declared.states.ValueState.TheVariants.{Null, Tombstone
 
 -- ---- values
 
--- what a call puts: a number or a tombstone
-abbrev pub IsPut : ValueState → Type 0
-IsPut Tombstone = Unit {0}
-IsPut (Live n) = Unit {0}
-IsPut _ = ⊥
+-- what an exchange puts: a tombstone in place of a number, or another number
+pub data Puts (a b : ValueState) : Type 0 where
+  PutsNone : (n : ℕ) → a ≡ Live n → b ≡ Tombstone → Puts a b
+  PutsNumber : (n : ℕ) → b ≡ Live n → b ≢ a → Puts a b
 
-exchange-of : (o : Option ℕ) (a b : ValueState) (P : ℕ → Type 0) → MatchOption o ((b ≡ Tombstone) × ((n : ℕ) × (a ≡ Live n))) (λ n. (b ≡ Live n) × (b ≢ a) × P n) → IsPut b
-exchange-of None a b P e = subst IsPut (sym e.0) tt
-exchange-of (Some n) a b P e = subst IsPut (sym e.0) tt
+exchange-of :
+    (o : Option ℕ) (a b : ValueState) (P : ℕ → Type 0)
+    → MatchOption o ((b ≡ Tombstone) × ((n : ℕ) × (a ≡ Live n))) (λ n. (b ≡ Live n) × (b ≢ a) × P n) → Puts a b
+exchange-of None a b P e = PutsNone e.1.0 e.1.1 e.0
+exchange-of (Some n) a b P e = PutsNumber n e.0 e.1
 
-pub exchange-puts : (c : Call) (k : ℕ) (a b : ValueState) → IsExchange c k a b → IsPut b
+pub exchange-puts : (c : Call) (k : ℕ) (a b : ValueState) → IsExchange c k a b → Puts a b
 exchange-puts (call.Get key) k a b e = absurd e
 exchange-puts (call.Write key want change) k a b e = exchange-of (changed change (content_of a)) a b _ e.2
 
-pub put-unprimed : (v : ValueState) → IsPut v → IsUnprimed v
-put-unprimed Null e = tt
-put-unprimed Tombstone e = tt
-put-unprimed (Live n) e = tt
-put-unprimed PrimedNull e = e
-put-unprimed PrimedTombstone e = e
-put-unprimed (Primed n) e = e
-put-unprimed (Finished n) e = e
+-- an exchange is of the call's key
+pub exchange-key : (c : Call) (k : ℕ) (a b : ValueState) → IsExchange c k a b → key_of_call c ≡ k
+exchange-key (call.Get key) k a b e = absurd e
+exchange-key (call.Write key want change) k a b e = e.0
 
-pub put-content : (v : ValueState) → IsPut v → HasContent v
-put-content Null e = e
-put-content Tombstone e = tt
-put-content (Live n) e = tt
-put-content PrimedNull e = e
-put-content PrimedTombstone e = tt
-put-content (Primed n) e = tt
-put-content (Finished n) e = tt
+pub put-unprimed : (a b : ValueState) → Puts a b → IsUnprimed b
+put-unprimed a b (PutsNone n was e) = subst IsUnprimed (sym e) tt
+put-unprimed a b (PutsNumber n e differs) = subst IsUnprimed (sym e) tt
 
-pub primed-content : (v : ValueState) → HasContent v → HasContent (primed v)
+pub put-content : (a b : ValueState) → Puts a b → HasContent b
+put-content a b (PutsNone n was e) = subst HasContent (sym e) tt
+put-content a b (PutsNumber n e differs) = subst HasContent (sym e) tt
+
+-- the map has what was put
+pub put-number : (a b : ValueState) (before : Option ℕ) → Puts a b → number_left b before ≡ content_of b
+put-number a b before (PutsNone n was e) = rw e refl
+put-number a b before (PutsNumber n e differs) = rw e refl
+
+primed-content : (v : ValueState) → HasContent v → HasContent (primed v)
 primed-content Null e = e
-primed-content Tombstone e = tt
-primed-content (Live n) e = tt
 primed-content PrimedNull e = e
-primed-content PrimedTombstone e = tt
-primed-content (Primed n) e = tt
-primed-content (Finished n) e = tt
+primed-content _ e = tt
 
 pub content-some : (v : ValueState) → HasContent v → v ≢ Null
 content-some v content null = subst HasContent null content
@@ -99,7 +97,7 @@ value-frozen p t g i n to step (inr finished) =
 -- no step makes a value null
 pub value-some : (p : Plan) (t : Tables) (g i : ℕ) (to : ValueState) → ValueStep p t g i to → t.value g i ≢ Null → to ≢ Null
 value-some p t g i to (ValueKept e) some null = some (sym e ∙ null)
-value-some p t g i to (Wins a b c may e) some null = content-some b (put-content b (exchange-puts c may.key a b may.exchange)) (sym e ∙ null)
+value-some p t g i to (Wins a b c may e) some null = content-some b (put-content a b (exchange-puts c may.key a b may.exchange)) (sym e ∙ null)
 value-some p t g i to (Copies k n may e) some null = (let same : Live n ≡ Null = sym e ∙ null in cc)
 value-some p t g i to (Primes may e) some null = primed-some (t.value g i) (sym e ∙ null)
 value-some p t g i to (Finishes may e) some null = (let same : Finished may.number ≡ Null = sym e ∙ null in cc)
@@ -107,18 +105,24 @@ value-some p t g i to (Finishes may e) some null = (let same : Finished may.numb
 -- what has a content keeps one
 pub value-content : (p : Plan) (t : Tables) (g i : ℕ) (to : ValueState) → ValueStep p t g i to → HasContent (t.value g i) → HasContent to
 value-content p t g i to (ValueKept e) content = subst HasContent (sym e) content
-value-content p t g i to (Wins a b c may e) content = subst HasContent (sym e) (put-content b (exchange-puts c may.key a b may.exchange))
+value-content p t g i to (Wins a b c may e) content = subst HasContent (sym e) (put-content a b (exchange-puts c may.key a b may.exchange))
 value-content p t g i to (Copies k n may e) content = subst HasContent (sym e) tt
 value-content p t g i to (Primes may e) content = subst HasContent (sym e) (primed-content (t.value g i) content)
 value-content p t g i to (Finishes may e) content = subst HasContent (sym e) tt
 
 -- only a claimed slot's value changes
-pub value-unclaimed : (p : Plan) (t : Tables) (g i : ℕ) (to : ValueState) → ValueStep p t g i to → ((k : ℕ) → t.key g i ≢ Claimed k) → to ≡ t.value g i
+value-unclaimed : (p : Plan) (t : Tables) (g i : ℕ) (to : ValueState) → ValueStep p t g i to → ((k : ℕ) → t.key g i ≢ Claimed k) → to ≡ t.value g i
 value-unclaimed p t g i to (ValueKept e) unclaimed = e
 value-unclaimed p t g i to (Wins a b c may e) unclaimed = absurd (unclaimed may.key may.claimed)
 value-unclaimed p t g i to (Copies k n may e) unclaimed = absurd (unclaimed k may.claimed)
 value-unclaimed p t g i to (Primes may e) unclaimed = absurd (unclaimed may.key may.claimed)
 value-unclaimed p t g i to (Finishes may e) unclaimed = absurd (unclaimed may.key may.claimed)
+
+-- an empty slot's value is null after the step too
+pub value-empty :
+    (p : Plan) (t : Tables) → IsSound p t → (g i : ℕ) (to : ValueState) → IsSlot p g i → ValueStep p t g i to → t.key g i ≡ Empty → to ≡ Null
+value-empty p t s g i to slot step empty =
+    value-unclaimed p t g i to step (λ k is. let e : Empty ≡ Claimed k = sym empty ∙ is in cc) ∙ empty-null p t s g i slot empty
 
 -- ---- keys
 

@@ -6,7 +6,7 @@ use Rattle.nb_core.specs.History.{HasValue}
 use Rattle.nb_core.specs.Laws.{BeginningsAreLegal, ContentOnce, IsPassed, AtSlot, UpToDead, Whole, Lasts, SeenLasts, SlotsStay, Stays}
 use Rattle.nb_core.proofs.Keeping.{not_late, sound}
 use Rattle.nb_core.proofs.Lasting.{complete-stays, finished-stays, installed-stays, key-claimed, key-dead, key-was, others-stay, slot-stays, value-content, value-final, value-frozen, value-some}
-use Rattle.nb_core.proofs.Sound.{IsSound, empty-null, path_slot-is_slot}
+use Rattle.nb_core.proofs.Sound.{IsSound, dead-null, finished-not_empty, path_slot-is_slot}
 use Rattle.nb_core.proofs.Steps.{Step, TopKept, Promotes, step_of}
 use Rattle.nb_core.specs.declared.states.KeyState.{KeyState}
 use Rattle.nb_core.specs.declared.states.KeyState.TheVariants.{Empty, Dead, Claimed}
@@ -134,21 +134,13 @@ key-same p t u a g i slot Empty is some = absurd (some refl)
 key-same p t u a g i slot Dead is some = a.dead g i slot is
 key-same p t u a g i slot (Claimed k) is some = a.claimed g i k slot is
 
--- a closed slot has no value
-pub dead-null : (p : Plan) (t : Tables) → IsSound p t → (g i : ℕ) → IsSlot p g i → t.key g i ≡ Dead → t.value g i ≡ Null
-dead-null p t s g i slot dead =
-    elim (s.bare g i slot) [
-      | inl null ↦ null
-      | inr key ↦ absurd (let e : Claimed key.key ≡ Dead = sym key.is ∙ dead in cc)
-    ]
-
 stays : (p : Plan) (t u : Tables) → IsSound p t → IsSound p u → Lasts p t u → (g i : ℕ) → IsSlot p g i → Stays t u g i
 stays p t u s r a g i slot = record {
   key = key-same p t u a g i slot (t.key g i) refl;
   finished = λ finished. elim finished [
     | inl dead ↦ (let still = a.dead g i slot dead in (still ∙ sym dead, dead-null p u r g i slot still ∙ sym (dead-null p t s g i slot dead)))
     | inr final ↦
-        (key-same p t u a g i slot (t.key g i) refl (λ empty. subst IsFinishedValue (empty-null p t s g i slot empty) final), a.final g i slot final)
+        (key-same p t u a g i slot (t.key g i) refl (finished-not_empty p t s g i slot (inr final)), a.final g i slot final)
   ];
 }
 

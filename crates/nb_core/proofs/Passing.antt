@@ -90,7 +90,7 @@ is_unprimed-true PrimedTombstone e = no_true e
 is_unprimed-true (Primed n) e = no_true e
 is_unprimed-true (Finished n) e = no_true e
 
-is_finished_value-true : (v : ValueState) → is_finished_value v ≡ true → IsFinishedValue v
+pub is_finished_value-true : (v : ValueState) → is_finished_value v ≡ true → IsFinishedValue v
 is_finished_value-true Null e = no_true e
 is_finished_value-true Tombstone e = no_true e
 is_finished_value-true (Live n) e = no_true e

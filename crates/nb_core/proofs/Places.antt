@@ -5,23 +5,10 @@ use Rattle.nb_core.specs.Plans.{Plan, IsPlan, generations_of, size_of}
 use Rattle.nb_core.specs.Tables.{HasSlot, IsComplete, IsInstalled, Tables}
 use Rattle.nb_core.specs.Laws.{Lasts}
 use Rattle.nb_core.specs.Meaning.{first_place, place_from, slot_among}
-use Rattle.nb_core.proofs.Room.{finished_not_empty}
 use Rattle.nb_core.proofs.Slots.{Nowhere, Somewhere, slot_among-at, slot_among-is}
-use Rattle.nb_core.proofs.Sound.{IsSound}
+use Rattle.nb_core.proofs.Sound.{IsSound, complete-below, finished-not_empty}
 use Rattle.nb_core.specs.declared.states.KeyState.{KeyState}
 use Rattle.nb_core.specs.declared.states.KeyState.TheVariants.{Empty, Dead, Claimed}
-
--- each table two below an installed one, or lower, is complete
-complete_below : (p : Plan) (t : Tables) → IsSound p t → (f g : ℕ) → suc g < f → IsInstalled t f → IsComplete p t g
-complete_below p t s zero g below installed = absurd (omega arith)
-complete_below p t s (suc zero) g below installed = absurd (omega arith)
-complete_below p t s (suc (suc f)) g below installed =
-    let ready = s.ready f installed in
-    elim (cases_order g f) [
-      | inl same ↦ subst (IsComplete p t) (sym same) ready.1
-      | inr (inl less) ↦ complete_below p t s (suc f) g (omega arith) ready.0
-      | inr (inr more) ↦ absurd (omega arith)
-    ]
 
 -- A table in which a key has no slot is complete, if the key has one in a later table.
 complete_before :
@@ -32,7 +19,7 @@ complete_before p t s f g k within below has none =
       | inl next ↦
           let above = subst (λ n. HasSlot p t n k) (sym next) has in
           elim (s.below g k (omega arith) above) [ inl here ↦ absurd (none here) | inr complete ↦ complete ]
-      | inr (inl less) ↦ complete_below p t s f g less (s.claimed f has.slot k (within, has.in_table) has.is).installed
+      | inr (inl less) ↦ complete-below p t s f g less (s.claimed f has.slot k (within, has.in_table) has.is).installed
       | inr (inr more) ↦ absurd (omega arith)
     ]
 
@@ -72,7 +59,7 @@ module _ (p : Plan) (t u : Tables) (plan : IsPlan p) (s : IsSound p t) (v : IsSo
   none_later g k within complete none later = by_key (t.key g later.slot) refl
     where
       by_key : (key : KeyState) → t.key g later.slot ≡ key → ⊥
-      by_key Empty is = finished_not_empty p t s g later.slot (within, later.in_table) (complete later.slot later.in_table) is
+      by_key Empty is = finished-not_empty p t s g later.slot (within, later.in_table) (complete later.slot later.in_table) is
       by_key Dead is = let after = lasts.dead g later.slot (within, later.in_table) is in let claimed = later.is in cc
       by_key (Claimed j) is =
           let after = lasts.claimed g later.slot j (within, later.in_table) is in

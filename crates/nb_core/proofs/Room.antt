@@ -11,7 +11,7 @@ use Rattle.nb_core.specs.Plans.{Plan, IsPlan, generations_of, size_of}
 use Rattle.nb_core.specs.Tables.{AreOthers, HasSlot, IsComplete, IsFinished, IsFinishedValue, IsOther, IsSlot, Tables, path_slot}
 use Rattle.nb_core.specs.Laws.{HasRoom, IsPassed, AtSlot, UpToDead, Whole}
 use Rattle.nb_core.proofs.Passing.{below_suc}
-use Rattle.nb_core.proofs.Sound.{IsReached, IsSound, one_slot}
+use Rattle.nb_core.proofs.Sound.{IsReached, IsSound, finished-not_empty, finished-value, one_slot, other-not}
 use Rattle.nb_core.proofs.Tables.{sizes_never_fall}
 use Rattle.nb_core.specs.declared.states.KeyState.{KeyState}
 use Rattle.nb_core.specs.declared.states.KeyState.TheVariants.{Empty, Dead, Claimed}
@@ -210,24 +210,6 @@ module _ (p : Plan) (t : Tables) (plan : IsPlan p) (s : IsSound p t) where
 
 -- ---- passed keys
 
--- a finished slot isn't empty
-pub finished_not_empty : (p : Plan) (t : Tables) → IsSound p t → (g i : ℕ) → IsSlot p g i → IsFinished t g i → t.key g i ≢ Empty
-finished_not_empty p t s g i slot (inl dead) empty = cc
-finished_not_empty p t s g i slot (inr final) empty =
-    elim (s.bare g i slot) [
-      | inl null ↦ subst IsFinishedValue null final
-      | inr claimed ↦ let is = claimed.is in cc
-    ]
-
--- the value of a finished slot that has a key is final
-finished_claimed : (t : Tables) (g i k : ℕ) → IsFinished t g i → t.key g i ≡ Claimed k → IsFinishedValue (t.value g i)
-finished_claimed t g i k (inl dead) is = absurd cc
-finished_claimed t g i k (inr final) is = final
-
--- no slot is a key's and another's
-not_others : (s : KeyState) (k : ℕ) → IsOther s k → s ≢ Claimed k
-not_others s k o is = let is_other = o.is in o.differs cc
-
 -- a key has no slot behind a closed one on its path
 none_past_dead : (p : Plan) (t : Tables) (g k d i : ℕ) → AreOthers p t g k d → t.key g (path_slot p g k d) ≡ Dead → IsReached p t g i k → t.key g i ≢ Claimed k
 none_past_dead p t g k d i passed dead reached is =
@@ -235,7 +217,7 @@ none_past_dead p t g k d i passed dead reached is =
     elim (cases_order d reached.distance) [
       | inl same ↦ let here : t.key g (path_slot p g k d) ≡ Claimed k = ap (λ e. t.key g (path_slot p g k e)) same ∙ at in cc
       | inr (inl before) ↦ let is_other = (reached.passed d before).is in cc
-      | inr (inr behind) ↦ not_others (t.key g (path_slot p g k reached.distance)) k (passed reached.distance behind) at
+      | inr (inr behind) ↦ other-not (t.key g (path_slot p g k reached.distance)) k (passed reached.distance behind) at
     ]
 
 module _ (p : Plan) (t : Tables) (plan : IsPlan p) (s : IsSound p t) (g k : ℕ) (within : g < generations_of p) where
@@ -246,11 +228,11 @@ module _ (p : Plan) (t : Tables) (plan : IsPlan p) (s : IsSound p t) (g k : ℕ)
         | Crowded passed ↦ Whole passed
         | ToEmpty d below passed empty ↦
             let i = path_slot p g k d in
-            let at = path_slot-lt p g k d below in absurd (finished_not_empty p t s g i (within, at) (complete i at) empty)
+            let at = path_slot-lt p g k d below in absurd (finished-not_empty p t s g i (within, at) (complete i at) empty)
         | ToDead d below passed dead ↦ UpToDead d below passed dead
         | ToOwn d below passed own ↦
             let i = path_slot p g k d in
-            let at = path_slot-lt p g k d below in AtSlot i at own (finished_claimed t g i k (complete i at) own)
+            let at = path_slot-lt p g k d below in AtSlot i at own (finished-value t g i k (complete i at) own)
       ]
 
   -- a passed key has no slot in the table, or a final value there
@@ -259,4 +241,4 @@ module _ (p : Plan) (t : Tables) (plan : IsPlan p) (s : IsSound p t) (g k : ℕ)
       subst (λ n. IsFinishedValue (t.value g n)) (one_slot p t plan s g j i k (within, below) (within, i_below) at is) final
   passed_settled (UpToDead d below passed dead) i i_below is =
       absurd (none_past_dead p t g k d i passed dead (s.claimed g i k (within, i_below) is).reached is)
-  passed_settled (Whole passed) i i_below is = absurd (not_others (t.key g i) k (whole_path p t g k passed i i_below) is)
+  passed_settled (Whole passed) i i_below is = absurd (other-not (t.key g i) k (whole_path p t g k passed i i_below) is)

@@ -7,12 +7,13 @@ use Rattle.nb_core.specs.History.{MayWin, content_of, key_of_call}
 use Rattle.nb_core.specs.Meaning.{is_blank, is_installed, shown_by, shown_from, value_in}
 use Rattle.nb_core.specs.Laws.{AtEmpty, AtValue, CrowdedAbsent, Decided, HasContent, InLast, IsPassed, NoNext, Shows, TablesStand, WinNumber}
 use Rattle.nb_core.proofs.Keeping.{sound}
-use Rattle.nb_core.proofs.Newest.{HasNoneFrom, HasNoneIn, IsNewest, claimed_final, complete_under, exchanged, from_it_on, newest, none_above_unprimed, none_from_slot}
+use Rattle.nb_core.proofs.Lasting.{exchange-key}
+use Rattle.nb_core.proofs.Newest.{HasNoneFrom, HasNoneIn, IsNewest, from_it_on, newest, none_above_unprimed, none_from_slot}
 use Rattle.nb_core.proofs.Passing.{below_suc}
 use Rattle.nb_core.proofs.Replies.{number_at_map}
 use Rattle.nb_core.proofs.Room.{copied_all, passed_settled}
 use Rattle.nb_core.proofs.Slots.{has_slot_or_none, value_in-none, value_in-slot, value_in-some}
-use Rattle.nb_core.proofs.Sound.{IsSound, complete-not_empty, next-within, other-not, path_slot-is_slot}
+use Rattle.nb_core.proofs.Sound.{IsSound, complete-below, finished-not_empty, finished-value, next-within, other-not, path_slot-is_slot, primed-growing}
 use Rattle.nb_core.proofs.Tables.{four-le-size_of}
 use Rattle.nb_core.specs.declared.calls.Call.{Call}
 use Rattle.nb_core.specs.declared.states.KeyState.TheVariants.{Empty, Claimed}
@@ -121,7 +122,7 @@ settled_final : (p : Plan) (t : Tables) (g k : ℕ) → IsSound p t → IsInstal
 settled_final p t zero k s installed settled = λ f below. absurd (omega arith)
 settled_final p t (suc g) k s installed settled =
     below_suc (λ f. (i : ℕ) → IsSlot p f i → t.key f i ≡ Claimed k → IsFinishedValue (t.value f i)) g (λ i slot is. settled i slot.1 is)
-    (λ f less i slot is. claimed_final t f i k is (complete_under p t s (suc g) f (omega arith) installed i slot.1))
+    (λ f less i slot is. finished-value t f i k (complete-below p t s (suc g) f (omega arith) installed i slot.1) is)
 
 -- ---- exchanges
 
@@ -130,7 +131,7 @@ won_number : (p : Plan) (t : Tables) (g i : ℕ) (a b : ValueState) (c : Call) (
     → IsSlot p g i → MayWin p t g i a b c → IsNewest p t (key_of_call c) number → number ≡ content_of a
 won_number p t g i a b c number plan s slot may is_newest =
     let k = may.key in
-    let of_call : key_of_call c ≡ k = (exchanged c k a b may.exchange).0 in
+    let of_call : key_of_call c ≡ k = exchange-key c k a b may.exchange in
     number_here p t g i k number plan s (subst (λ k. IsNewest p t k number) of_call is_newest)
     (settled_final p t g k s ((s.claimed g i k slot may.claimed).installed) may.settled) slot may.claimed (subst IsUnprimed (sym may.stands) may.unprimed)
     ∙ ap content_of may.stands
@@ -241,11 +242,7 @@ content_not_blank (Finished n) content = refl
 
 -- a table with a number that is still to copy isn't complete
 uncopied_incomplete : (p : Plan) (t : Tables) (g i k n : ℕ) → IsSlot p g i → t.key g i ≡ Claimed k → t.value g i ≡ Primed n → IsComplete p t g → ⊥
-uncopied_incomplete p t g i k n slot is primed complete = subst IsFinishedValue primed (claimed_final t g i k is (complete i slot.1))
-
--- a table with a primed value has a next one
-has_next : (p : Plan) (t : Tables) (g i : ℕ) → IsSound p t → IsSlot p g i → (IsUnprimed (t.value g i) → ⊥) → t.next g ≡ 1
-has_next p t g i s slot primed = elim (s.growing g i slot) [ inl unprimed ↦ absurd (primed unprimed) | inr next ↦ next ]
+uncopied_incomplete p t g i k n slot is primed complete = subst IsFinishedValue primed (finished-value t g i k (complete i slot.1) is)
 
 -- above the newest value, where that is a number still to copy, the key has no slot or a null value
 blank_above : (p : Plan) (t : Tables) (g i k n : ℕ) → IsSound p t → IsSlot p g i → t.key g i ≡ Claimed k
@@ -254,10 +251,10 @@ blank_above p t g i k n s slot is none primed =
     elim (look p t (suc g) k) [
       | Away away e ↦ rw e refl
       | Here j within j_is e ↦
-          let next = has_next p t g i s slot (λ unprimed. subst IsUnprimed primed unprimed) in
+          let next = primed-growing p t s g i slot (λ unprimed. subst IsUnprimed primed unprimed) in
           let j_slot : IsSlot p (suc g) j = (next-within p t s g next, within) in
           rw e (blank_without (t.value (suc g) j) (none (suc g) (omega arith) j j_slot j_is)
-          (λ final. uncopied_incomplete p t g i k n slot is primed ((s.ready g (has_next p t (suc g) j s j_slot (λ unprimed. subst IsUnprimed final unprimed))).1)))
+          (λ final. uncopied_incomplete p t g i k n slot is primed ((s.ready g (primed-growing p t s (suc g) j j_slot (λ unprimed. subst IsUnprimed final unprimed))).1)))
     ]
 
 -- below the newest value a number that was primed has been copied
@@ -266,7 +263,7 @@ copied_above : (p : Plan) (t : Tables) (f j g i k n : ℕ) → IsPlan p → IsSo
 copied_above p t f j g i k n plan s slot is content below j_slot j_is primed =
     elim (cases_order (suc f) g) [
       | inl same ↦ rw (same, value_in-some p t plan s g i k slot is) (content_not_blank (t.value g i) content)
-      | inr (inl less) ↦ absurd (uncopied_incomplete p t f j k n j_slot j_is primed (complete_under p t s g f less ((s.claimed g i k slot is).installed)))
+      | inr (inl less) ↦ absurd (uncopied_incomplete p t f j k n j_slot j_is primed (complete-below p t s g f less ((s.claimed g i k slot is).installed)))
       | inr (inr more) ↦ absurd (omega arith)
     ]
 
@@ -326,7 +323,7 @@ slot_below p t f i g k s slot is below =
       | inl same ↦ s.below g k (subst (λ f. f < generations_of p) same slot.0)
           (record { slot = i; in_table = subst (λ f. i < size_of p f) same slot.1; is = subst (λ f. t.key f i ≡ Claimed k) same is })
       | inr (inl less) ↦ absurd (omega arith)
-      | inr (inr more) ↦ inr (complete_under p t s f g more ((s.claimed f i k slot is).installed))
+      | inr (inr more) ↦ inr (complete-below p t s f g more ((s.claimed f i k slot is).installed))
     ]
 
 -- a key has no slot where other keys have its whole path
@@ -356,7 +353,7 @@ shows_newest p t g k number shown plan s is_newest within final (AtEmpty d in_ta
     none_left p t g k number plan s is_newest final (none_from_table p t g k away (λ f above i slot is content.
     elim (slot_below p t f i g k s slot is above) [
       | inl has ↦ away has.slot has.in_table has.is
-      | inr complete ↦ complete-not_empty p t s g (path_slot p g k d) (path_slot-is_slot p plan g k d within) complete empty
+      | inr complete ↦ (let slot = path_slot-is_slot p plan g k d within in finished-not_empty p t s g (path_slot p g k d) slot (complete (path_slot p g k d) slot.1) empty)
     ])) ∙ sym e
 shows_newest p t g k number shown plan s is_newest within final (AtValue i below is unprimed e) =
     number_here p t g i k number plan s is_newest final (within, below) is unprimed ∙ sym e
@@ -384,7 +381,7 @@ decided p plan h legal g k within installed passed shown shows =
 crowded_settled : (p : Plan) (t : Tables) (g k : ℕ) → IsPlan p → IsSound p t → g < generations_of p → AreOthers p t g k (size_of p g) → IsSettledBelow p t g k
 crowded_settled p t zero k plan s within others = tt
 crowded_settled p t (suc g) k plan s within others = λ i below is.
-    claimed_final t g i k is (copied_all p t plan s g k within (record { slot = i; in_table = below; is = is }) others i below)
+    finished-value t g i k (copied_all p t plan s g k within (record { slot = i; in_table = below; is = is }) others i below) is
 
 -- a table that other keys have is installed
 crowded_installed : (p : Plan) (t : Tables) (g k : ℕ) → IsPlan p → IsSound p t → g < generations_of p → AreOthers p t g k (size_of p g) → IsInstalled t g

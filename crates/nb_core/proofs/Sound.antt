@@ -1,7 +1,8 @@
 -- The invariant of legal histories, said of the tables.
-use Rattle.std.proofs.Common.{◌≡◌, ◌∙◌, ℕ, ◌+◌, ◌<◌, ◌≤◌, ◌⊎◌, suc, ap, sym, subst, inl, inr, arith}
+use Rattle.std.proofs.Common.{◌≡◌, ◌≢◌, ◌∙◌, ℕ, ◌+◌, ◌<◌, ◌≤◌, ◌⊎◌, zero, suc, ap, sym, subst, inl, inr, arith}
 use Rattle.std.proofs.lemmas.Bool.{cases_order}
 use Rattle.std.proofs.lemmas.Nat.{mod_below}
+use Rattle.nb_core.proofs.Passing.{below_suc}
 use Rattle.nb_core.proofs.Tables.{four-le-size_of}
 use Rattle.nb_core.specs.Plans.{Plan, IsPlan, generations_of, size_of}
 use Rattle.nb_core.specs.Tables.{AreOthers, HasSlot, IsComplete, IsFinished, IsFinishedValue, IsInstalled, IsOther, IsSlot, IsUnprimed, Tables, path_slot}
@@ -95,37 +96,34 @@ one_slot p t plan s g i j k i_slot j_slot i_is j_is =
 
 -- a value is final, or not primed yet, and not both
 pub unprimed-not_final : (v : ValueState) → IsUnprimed v → IsFinishedValue v → ⊥
-unprimed-not_final Null a b = b
-unprimed-not_final Tombstone a b = b
-unprimed-not_final (Live n) a b = b
-unprimed-not_final PrimedNull a b = a
-unprimed-not_final PrimedTombstone a b = a
-unprimed-not_final (Primed n) a b = a
-unprimed-not_final (Finished n) a b = a
+unprimed-not_final Null unprimed final = final
+unprimed-not_final Tombstone unprimed final = final
+unprimed-not_final (Live n) unprimed final = final
+unprimed-not_final _ unprimed final = unprimed
 
 -- a finished slot with a key has a final value
 pub finished-value : (t : Tables) (g i k : ℕ) → IsFinished t g i → t.key g i ≡ Claimed k → IsFinishedValue (t.value g i)
-finished-value t g i k finished is =
-    elim finished [
-      | inl dead ↦ absurd (let e : Claimed k ≡ Dead = sym is ∙ dead in cc)
-      | inr value ↦ value
-    ]
+finished-value t g i k (inl dead) is = absurd (let e : Claimed k ≡ Dead = sym is ∙ dead in cc)
+finished-value t g i k (inr final) is = final
 
--- an empty slot has no value
-pub empty-null : (p : Plan) (t : Tables) → IsSound p t → (g i : ℕ) → IsSlot p g i → t.key g i ≡ Empty → t.value g i ≡ Null
-empty-null p t s g i slot empty =
+-- a slot without a key has no value
+unclaimed-null : (p : Plan) (t : Tables) → IsSound p t → (g i : ℕ) → IsSlot p g i → ((k : ℕ) → t.key g i ≢ Claimed k) → t.value g i ≡ Null
+unclaimed-null p t s g i slot unclaimed =
     elim (s.bare g i slot) [
       | inl null ↦ null
-      | inr key ↦ absurd (let e : Claimed key.key ≡ Empty = sym key.is ∙ empty in cc)
+      | inr key ↦ absurd (unclaimed key.key key.is)
     ]
 
--- a complete table has no empty slot
-pub complete-not_empty : (p : Plan) (t : Tables) → IsSound p t → (g i : ℕ) → IsSlot p g i → IsComplete p t g → t.key g i ≡ Empty → ⊥
-complete-not_empty p t s g i slot complete empty =
-    elim (complete i slot.1) [
-      | inl dead ↦ (let e : Empty ≡ Dead = sym empty ∙ dead in cc)
-      | inr value ↦ subst IsFinishedValue (empty-null p t s g i slot empty) value
-    ]
+pub empty-null : (p : Plan) (t : Tables) → IsSound p t → (g i : ℕ) → IsSlot p g i → t.key g i ≡ Empty → t.value g i ≡ Null
+empty-null p t s g i slot empty = unclaimed-null p t s g i slot (λ k is. let e : Empty ≡ Claimed k = sym empty ∙ is in cc)
+
+pub dead-null : (p : Plan) (t : Tables) → IsSound p t → (g i : ℕ) → IsSlot p g i → t.key g i ≡ Dead → t.value g i ≡ Null
+dead-null p t s g i slot dead = unclaimed-null p t s g i slot (λ k is. let e : Dead ≡ Claimed k = sym dead ∙ is in cc)
+
+-- a finished slot isn't empty
+pub finished-not_empty : (p : Plan) (t : Tables) → IsSound p t → (g i : ℕ) → IsSlot p g i → IsFinished t g i → t.key g i ≢ Empty
+finished-not_empty p t s g i slot (inl dead) empty = let e : Empty ≡ Dead = sym empty ∙ dead in cc
+finished-not_empty p t s g i slot (inr final) empty = subst IsFinishedValue (empty-null p t s g i slot empty) final
 
 -- a table with a next one isn't the last
 pub next-within : (p : Plan) (t : Tables) → IsSound p t → (g : ℕ) → t.next g ≡ 1 → suc g < generations_of p
@@ -135,18 +133,28 @@ next-within p t s g is =
       | inr some ↦ some.1
     ]
 
--- a table with a finished slot has a next one
-pub finished-growing : (p : Plan) (t : Tables) → IsSound p t → (g i : ℕ) → IsSlot p g i → IsFinished t g i → t.next g ≡ 1
-finished-growing p t s g i slot finished =
-    elim finished [
-      | inl dead ↦ s.dead g i slot dead
-      | inr value ↦ elim (s.growing g i slot) [
-        | inl unprimed ↦ absurd (unprimed-not_final (t.value g i) unprimed value)
-        | inr next ↦ next
-      ]
+-- a table with a primed value has a next one
+pub primed-growing : (p : Plan) (t : Tables) → IsSound p t → (g i : ℕ) → IsSlot p g i → (IsUnprimed (t.value g i) → ⊥) → t.next g ≡ 1
+primed-growing p t s g i slot primed =
+    elim (s.growing g i slot) [
+      | inl unprimed ↦ absurd (primed unprimed)
+      | inr next ↦ next
     ]
+
+-- so has one with a finished slot
+pub finished-growing : (p : Plan) (t : Tables) → IsSound p t → (g i : ℕ) → IsSlot p g i → IsFinished t g i → t.next g ≡ 1
+finished-growing p t s g i slot (inl dead) = s.dead g i slot dead
+finished-growing p t s g i slot (inr final) = primed-growing p t s g i slot (λ unprimed. unprimed-not_final (t.value g i) unprimed final)
 
 pub complete-growing : (p : Plan) (t : Tables) → IsPlan p → IsSound p t → (g : ℕ) → g < generations_of p → IsComplete p t g → t.next g ≡ 1
 complete-growing p t plan s g within complete =
     let some : 0 < size_of p g = omega (arith, four-le-size_of p g plan within) in
     finished-growing p t s g 0 (within, some) (complete 0 some)
+
+-- each table two below an installed one, or lower, is complete
+pub complete-below : (p : Plan) (t : Tables) → IsSound p t → (f g : ℕ) → suc g < f → IsInstalled t f → IsComplete p t g
+complete-below p t s zero g below installed = absurd (omega arith)
+complete-below p t s (suc zero) g below installed = absurd (omega arith)
+complete-below p t s (suc (suc f)) g below installed =
+    let ready = s.ready f installed in
+    below_suc (IsComplete p t) f ready.1 (λ g less. complete-below p t s (suc f) g (omega arith) ready.0) g (omega arith)
