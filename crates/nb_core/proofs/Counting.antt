@@ -1,5 +1,5 @@
 -- Just one event turns each finished slot finished, and what the seats count is what their own events turned.
-use Rattle.std.proofs.Common.{◌≡◌, ◌≢◌, ◌∙◌, ℕ, zero, suc, ◌+◌, ◌%◌, ◌^◌, ◌<◌, ◌≤◌, ◌⊎◌, inl, inr, sym, ap, refl, subst, Bool, true, false, cond, eqb, ◌&&◌, ◌||◌, List, [], ◌∷◌, MatchOption, Option, Some, None, slice_index, arith}
+use Rattle.std.proofs.Common.{◌≡◌, ◌∙◌, ℕ, zero, suc, ◌+◌, ◌%◌, ◌^◌, ◌<◌, ◌≤◌, ◌⊎◌, inl, inr, sym, ap, refl, subst, Bool, true, false, cond, eqb, ◌&&◌, ◌||◌, List, [], ◌∷◌, slice_index, arith}
 use Rattle.std.proofs.Math.Bool.{and_assoc, or-true}
 use Rattle.std.proofs.Math.Nat.{mod-eq_of_lt}
 use Rattle.std.proofs.Math.Pow.{pow-lt}
@@ -15,11 +15,11 @@ use Rattle.nb_core.proofs.Lasting.{exchange-puts, put-unprimed}
 use Rattle.nb_core.proofs.Sound.{IsSound, empty-null, unprimed-not_final}
 use Rattle.nb_core.proofs.Words.{at_slot, word-first, word_after, word_frame}
 use Rattle.nb_core.specs.declared.events.Event.{Event}
-use Rattle.nb_core.specs.declared.events.Event.TheVariants.{Claim, Kill, Won, CopyIn, Prime, Finish, Install, Take, Count, Promote, Read}
+use Rattle.nb_core.specs.declared.events.Event.TheVariants.{Claim, Kill, Won, CopyIn, Prime, Finish, Count}
 use Rattle.nb_core.specs.declared.states.KeyState.{KeyState}
-use Rattle.nb_core.specs.declared.states.KeyState.TheVariants.{Empty, Dead, Claimed}
+use Rattle.nb_core.specs.declared.states.KeyState.TheVariants.{Dead, Claimed}
 use Rattle.nb_core.specs.declared.states.ValueState.{ValueState}
-use Rattle.nb_core.specs.declared.states.ValueState.TheVariants.{Null, Tombstone, Live, PrimedNull, PrimedTombstone, Primed, Finished}
+use Rattle.nb_core.specs.declared.states.ValueState.TheVariants.{Null, Tombstone, Live, PrimedNull, PrimedTombstone, Finished}
 
 -- ---- sums over the numbers below n, of seats or of slots
 

@@ -1,5 +1,5 @@
 -- Laws that follow at once from the invariant.
-use Rattle.std.proofs.Common.{◌≡◌, ℕ, ◌<◌, zero, suc, [], ◌∷◌, ◌++◌, subst, inl, inr, arith}
+use Rattle.std.proofs.Common.{◌≡◌, ℕ, ◌<◌, suc, [], ◌∷◌, ◌++◌, subst, inl, inr, arith}
 use Rattle.std.proofs.lemmas.Bool.{cases_lt}
 use Rattle.nb_core.specs.Plans.{Plan, IsPlan, Top, generations_of}
 use Rattle.nb_core.specs.Tables.{IsComplete, Tables, tables_at}

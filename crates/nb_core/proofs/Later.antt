@@ -10,7 +10,6 @@ use Rattle.nb_core.proofs.Sound.{IsSound, dead-null, finished-not_empty, path_sl
 use Rattle.nb_core.proofs.Steps.{Step, TopKept, Promotes, step_of}
 use Rattle.nb_core.specs.declared.states.KeyState.{KeyState}
 use Rattle.nb_core.specs.declared.states.KeyState.TheVariants.{Empty, Dead, Claimed}
-use Rattle.nb_core.specs.declared.states.ValueState.TheVariants.{Null}
 
 -- ---- one step
 

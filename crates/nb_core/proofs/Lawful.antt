@@ -13,11 +13,11 @@ use Rattle.nb_core.proofs.Passing.{is_finished-true}
 use Rattle.nb_core.proofs.Sound.{IsSound, dead-null, empty-null, finished-growing}
 use Rattle.nb_core.proofs.Words.{at_slot, at_table, length-word_step, one_word, word-first, word_after, word_frame}
 use Rattle.nb_core.specs.declared.events.Event.{Event}
-use Rattle.nb_core.specs.declared.events.Event.TheVariants.{Claim, Kill, Won, CopyIn, Prime, Finish, Install, Take, Count, Promote, Read}
+use Rattle.nb_core.specs.declared.events.Event.TheVariants.{Claim, Kill, Won, CopyIn, Prime, Finish, Take}
 use Rattle.nb_core.specs.declared.states.KeyState.{KeyState}
 use Rattle.nb_core.specs.declared.states.KeyState.TheVariants.{Empty, Dead, Claimed}
 use Rattle.nb_core.specs.declared.states.ValueState.{ValueState}
-use Rattle.nb_core.specs.declared.states.ValueState.TheVariants.{Null, Tombstone, Live, PrimedNull, PrimedTombstone, Primed, Finished}
+use Rattle.nb_core.specs.declared.states.ValueState.TheVariants.{Null, Tombstone, Live}
 
 -- ---- what words hold
 

@@ -1,5 +1,5 @@
 -- The newest number of a key in the tables is the one that the map has.
-use Rattle.std.proofs.Common.{◌≡◌, ◌≢◌, ◌∙◌, ℕ, ◌<◌, ◌≤◌, ◌⊎◌, zero, suc, ap, sym, refl, subst, inl, inr, cond, eqb, ◌&&◌, List, [], ◌∷◌, Option, Some, None, arith}
+use Rattle.std.proofs.Common.{◌≡◌, ◌≢◌, ◌∙◌, ℕ, ◌≤◌, zero, suc, ap, sym, refl, subst, inl, inr, cond, eqb, ◌&&◌, List, [], ◌∷◌, Option, Some, None, arith}
 use Rattle.std.proofs.lemmas.Bool.{cases_order, cond_both, eq-eqb, eqb-false, eqb-true}
 use Rattle.nb_core.specs.Plans.{Plan, IsPlan}
 use Rattle.nb_core.specs.Tables.{IsSlot, IsUnprimed, Tables, tables_at}

@@ -2,7 +2,7 @@
 use Rattle.std.proofs.Common.{◌≡◌, ◌∙◌, ℕ, ◌+◌, ◌-◌, ◌<◌, ◌≤◌, zero, suc, ap, sym, refl, subst, inl, inr, Some, None, option_map, arith}
 use Rattle.std.proofs.lemmas.Bool.{cases_order}
 use Rattle.nb_core.specs.Plans.{Plan, IsPlan, generations_of, size_of}
-use Rattle.nb_core.specs.Tables.{HasSlot, IsComplete, IsInstalled, Tables}
+use Rattle.nb_core.specs.Tables.{HasSlot, IsComplete, Tables}
 use Rattle.nb_core.specs.Laws.{Lasts}
 use Rattle.nb_core.specs.Meaning.{first_place, place_from, slot_among}
 use Rattle.nb_core.proofs.Slots.{Nowhere, Somewhere, slot_among-at, slot_among-is}

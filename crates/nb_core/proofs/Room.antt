@@ -8,7 +8,7 @@ use Rattle.std.proofs.lemmas.Map.Steps.{length-le_from_distinct_below}
 use Rattle.std.proofs.lemmas.Map.Views.{Contains-from_any}
 use Rattle.std.specs.List.{list_any, range_with_len}
 use Rattle.nb_core.specs.Plans.{Plan, IsPlan, generations_of, size_of}
-use Rattle.nb_core.specs.Tables.{AreOthers, HasSlot, IsComplete, IsFinished, IsFinishedValue, IsOther, IsSlot, Tables, path_slot}
+use Rattle.nb_core.specs.Tables.{AreOthers, HasSlot, IsComplete, IsFinished, IsFinishedValue, IsOther, Tables, path_slot}
 use Rattle.nb_core.specs.Laws.{HasRoom, IsPassed, AtSlot, UpToDead, Whole}
 use Rattle.nb_core.proofs.Passing.{below_suc}
 use Rattle.nb_core.proofs.Sound.{IsReached, IsSound, finished-not_empty, finished-value, one_slot, other-not}
