@@ -1,13 +1,12 @@
 -- Each step keeps the invariant, so it holds after every legal history.
 use Rattle.std.proofs.Common.{◌≡◌, ◌≢◌, ◌∙◌, ℕ, ◌<◌, ◌⊎◌, suc, List, [], ◌∷◌, ap, sym, subst, refl, inl, inr, arith}
-use Rattle.std.proofs.lemmas.Bool.{cases_order}
 use Rattle.nb_core.specs.Plans.{Plan, IsPlan, generations_of}
 use Rattle.nb_core.specs.Tables.{HasSlot, IsComplete, IsFinishedValue, IsSlot, IsUnprimed, Tables, path_slot, tables_at}
 use Rattle.nb_core.specs.History.{IsLegal, MayClaim, MayFinish}
 use Rattle.nb_core.specs.Laws.{HasContent, primed}
 use Rattle.nb_core.proofs.Frames.{key_first, next_first, value_first}
 use Rattle.nb_core.proofs.Lasting.{complete-stays, exchange-puts, installed-stays, key-claimed, key-was, key-was_dead, next-stays, others-stay, put-unprimed, slot-stays, value-content, value-empty, value-final, value-frozen, value-primed}
-use Rattle.nb_core.proofs.Sound.{HasGot, HasKey, IsClaimedRight, IsReached, IsSound, MayBeAbove, claimed-same, complete-growing, finished-not_empty, finished-value, next-within, one_slot, other-not, primed-growing}
+use Rattle.nb_core.proofs.Sound.{HasGot, HasKey, IsClaimedRight, IsReached, IsSound, MayBeAbove, claimed-same, complete-growing, empty-unclaimed, finished-not_empty, finished-value, next-within, no_slot-past, one_slot, primed-growing}
 use Rattle.nb_core.proofs.Steps.{NextKept, Installs, Step, ValueStep, ValueKept, Wins, Copies, Primes, Finishes, step_of}
 use Rattle.nb_core.specs.declared.events.Event.{Event}
 use Rattle.nb_core.specs.declared.states.KeyState.TheVariants.{Empty, Dead, Claimed}
@@ -116,14 +115,8 @@ keeps-bare p t u s step g i slot =
 -- a key that is being claimed has no slot in the table
 claim-is_first : (p : Plan) (t : Tables) → IsSound p t → (g i k : ℕ) → g < generations_of p → MayClaim p t g i k → HasSlot p t g k → ⊥
 claim-is_first p t s g i k within may has =
-    let r = (s.claimed g has.slot k (within, has.in_table) has.is).reached in
-    let at : t.key g (path_slot p g k r.distance) ≡ Claimed k = ap (t.key g) r.at ∙ has.is in
     let empty : t.key g (path_slot p g k may.distance) ≡ Empty = ap (t.key g) may.on_path.1 ∙ may.empty in
-    elim (cases_order r.distance may.distance) [
-      | inl same ↦ (let e : Claimed k ≡ Empty = sym at ∙ ap (λ d. t.key g (path_slot p g k d)) same ∙ empty in cc)
-      | inr (inl before) ↦ other-not _ k (may.passed r.distance before) at
-      | inr (inr after) ↦ (let other = r.passed may.distance after in let e : Claimed other.other ≡ Empty = sym other.is ∙ empty in cc)
-    ]
+    no_slot-past p t s g k may.distance within may.passed (empty-unclaimed empty) has.slot has.in_table has.is
 
 -- no slot of the key is claimed where the next table has one
 pub not_late : (p : Plan) (t : Tables) → IsSound p t → (g i k : ℕ) → suc g < generations_of p → IsSlot p g i → MayClaim p t g i k → HasSlot p t (suc g) k → ⊥
@@ -215,8 +208,8 @@ got-stays p t u step g k got = record {
 }
 
 -- the value that a finished number was copied to is no primed null: its table has no next one yet
-finishes-got : (p : Plan) (t : Tables) → IsSound p t → (g i k : ℕ) → IsSlot p g i → (may : MayFinish p t g i) → HasGot p t (suc g) may.key
-finishes-got p t s g i k slot may =
+finishes-got : (p : Plan) (t : Tables) → IsSound p t → (g i : ℕ) → IsSlot p g i → (may : MayFinish p t g i) → HasGot p t (suc g) may.key
+finishes-got p t s g i slot may =
     let next = primed-growing p t s g i slot (λ unprimed. subst IsUnprimed may.primed unprimed) in
     let copied = may.copied in
     let copied_slot : IsSlot p (suc g) copied.slot = (next-within p t s g next, copied.in_table) in
@@ -248,7 +241,7 @@ keeps-moved p t u s step g i k n slot is finished =
         | Wins a b c may e ↦ absurd (subst IsUnprimed (sym e ∙ finished) (put-unprimed a b (exchange-puts c may.key a b may.exchange)))
         | Copies q m may e ↦ absurd (let same : Live m ≡ Finished n = sym e ∙ finished in cc)
         | Primes may e ↦ absurd (primed-not_finished (t.value g i) n may.unprimed (sym e ∙ finished))
-        | Finishes may e ↦ got-stays p t u step (suc g) k (subst (HasGot p t (suc g)) (claimed-same (sym may.claimed ∙ was)) (finishes-got p t s g i k slot may))
+        | Finishes may e ↦ got-stays p t u step (suc g) k (subst (HasGot p t (suc g)) (claimed-same (sym may.claimed ∙ was)) (finishes-got p t s g i slot may))
       ]
     ]
 
@@ -274,7 +267,7 @@ record IsBlank (p : Plan) (t : Tables) : Type 0 where
   pub next : (g : ℕ) → t.next g ≡ 0
 
 blank-not_claimed : (p : Plan) (t : Tables) → IsBlank p t → (g i k : ℕ) → IsSlot p g i → t.key g i ≢ Claimed k
-blank-not_claimed p t b g i k slot is = let e : Empty ≡ Claimed k = sym (b.key g i slot) ∙ is in cc
+blank-not_claimed p t b g i k slot is = empty-unclaimed (b.key g i slot) k is
 
 blank-sound : (p : Plan) (t : Tables) → IsBlank p t → IsSound p t
 blank-sound p t b = record {

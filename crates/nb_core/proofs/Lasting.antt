@@ -6,7 +6,7 @@ use Rattle.nb_core.specs.Tables.{AreOthers, HasSlot, IsComplete, IsFinished, IsF
 use Rattle.nb_core.specs.History.{IsExchange, MayClaim, content_of, key_of_call}
 use Rattle.nb_core.specs.Laws.{HasContent, IsFrozen, primed}
 use Rattle.nb_core.proofs.Legality.{number_left}
-use Rattle.nb_core.proofs.Sound.{IsSound, claimed-same, empty-null, path_slot-is_slot, unprimed-not_final}
+use Rattle.nb_core.proofs.Sound.{IsSound, claimed-same, empty-null, empty-unclaimed, path_slot-is_slot, unprimed-not_final}
 use Rattle.nb_core.proofs.Steps.{KeyStep, KeyKept, Claims, Kills, NextStep, NextKept, Installs, Step, ValueStep, ValueKept, Wins, Copies, Primes, Finishes}
 use Rattle.nb_core.specs.declared.numbers.TheConstants.{KEY_MAX}
 use Rattle.nb_core.specs.declared.calls.Call.{Call}
@@ -122,7 +122,7 @@ value-unclaimed p t g i to (Finishes may e) unclaimed = absurd (unclaimed may.ke
 pub value-empty :
     (p : Plan) (t : Tables) → IsSound p t → (g i : ℕ) (to : ValueState) → IsSlot p g i → ValueStep p t g i to → t.key g i ≡ Empty → to ≡ Null
 value-empty p t s g i to slot step empty =
-    value-unclaimed p t g i to step (λ k is. let e : Empty ≡ Claimed k = sym empty ∙ is in cc) ∙ empty-null p t s g i slot empty
+    value-unclaimed p t g i to step (empty-unclaimed empty) ∙ empty-null p t s g i slot empty
 
 -- ---- keys
 
@@ -133,7 +133,7 @@ key-stays p t g i to (Claims k range may e) some = absurd (some may.empty)
 key-stays p t g i to (Kills may e) some = absurd (some may.empty)
 
 pub key-claimed : (p : Plan) (t : Tables) (g i k : ℕ) (to : KeyState) → KeyStep p t g i to → t.key g i ≡ Claimed k → to ≡ Claimed k
-key-claimed p t g i k to step is = key-stays p t g i to step (λ empty. let e : Claimed k ≡ Empty = sym is ∙ empty in cc) ∙ is
+key-claimed p t g i k to step is = key-stays p t g i to step (λ empty. empty-unclaimed empty k is) ∙ is
 
 pub key-dead : (p : Plan) (t : Tables) (g i : ℕ) (to : KeyState) → KeyStep p t g i to → t.key g i ≡ Dead → to ≡ Dead
 key-dead p t g i to step is = key-stays p t g i to step (λ empty. let e : Dead ≡ Empty = sym is ∙ empty in cc) ∙ is

@@ -63,9 +63,8 @@ net_of_reply (call.Write k want change) m =
 
 -- an exchange puts at the key what its change makes of the number in the value
 exchanged : (m : Numbers) (k : ℕ) (change : Change) (a b : ValueState) → Exchanges change a b → after_win m k b ≡ with_at m k (changed change (content_of a))
-exchanged m k (Put n) a b e = ap (after_win m k) e.0
 exchanged m k Remove a b e = ap (after_win m k) e.0
-exchanged m k (Add n) a b e = ap (after_win m k) e.0
+exchanged m k _ a b e = ap (after_win m k) e.0
 
 -- where the map has at the key what an exchange replaces, the exchange leaves the map that its call leaves
 win_is_call : (m : Numbers) (c : Call) (k : ℕ) (a b : ValueState) → get m (key_of_call c) ≡ content_of a → IsExchange c k a b → after_win m (key_of_call c) b ≡ map_after c m

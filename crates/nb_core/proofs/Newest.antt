@@ -1,6 +1,6 @@
 -- The newest number of a key in the tables is the one that the map has.
-use Rattle.std.proofs.Common.{◌≡◌, ◌≢◌, ◌∙◌, ℕ, ◌≤◌, zero, suc, ap, sym, refl, subst, inl, inr, cond, eqb, ◌&&◌, List, [], ◌∷◌, Option, Some, None, arith}
-use Rattle.std.proofs.lemmas.Bool.{cases_order, cond_both, eq-eqb, eqb-false, eqb-true}
+use Rattle.std.proofs.Common.{◌≡◌, ◌≢◌, ◌∙◌, ℕ, ◌≤◌, zero, suc, ap, sym, refl, subst, inl, inr, cond, eqb, List, [], ◌∷◌, Option, Some, None, arith}
+use Rattle.std.proofs.lemmas.Bool.{cases_order, cond-true, cond_both, eqb-false, eqb-true}
 use Rattle.nb_core.specs.Plans.{Plan, IsPlan}
 use Rattle.nb_core.specs.Tables.{IsSlot, IsUnprimed, Tables, tables_at}
 use Rattle.nb_core.specs.History.{IsLegal, IsPrimedBelow, MayWin, content_of, key_of_call}
@@ -11,14 +11,14 @@ use Rattle.nb_core.proofs.Lasting.{exchange-key, exchange-puts, key-claimed, key
 use Rattle.nb_core.proofs.Legality.{number_at, number_left}
 use Rattle.nb_core.proofs.Sound.{IsSound, claimed-same, complete-below, finished-value, one_slot, unprimed-not_final}
 use Rattle.nb_core.proofs.Steps.{KeyStep, Step, ValueStep, step_of}
-use Rattle.nb_core.proofs.Words.{at_slot}
+use Rattle.nb_core.proofs.Words.{at_slot, same_both}
 use Rattle.nb_core.specs.declared.calls.Call.{Call}
 use Rattle.nb_core.specs.declared.events.Event.{Event}
 use Rattle.nb_core.specs.declared.events.Event.TheVariants.{Won, CopyIn, Prime, Finish}
 use Rattle.nb_core.specs.declared.states.KeyState.{KeyState}
 use Rattle.nb_core.specs.declared.states.KeyState.TheVariants.{Empty, Claimed}
 use Rattle.nb_core.specs.declared.states.ValueState.{ValueState}
-use Rattle.nb_core.specs.declared.states.ValueState.TheVariants.{Null, Tombstone, Live, PrimedNull, PrimedTombstone, Primed, Finished}
+use Rattle.nb_core.specs.declared.states.ValueState.TheVariants.{Null, Live, PrimedNull, Primed}
 
 -- ---- values
 
@@ -34,23 +34,13 @@ same_itself a = record { there = λ h. h; back = λ h. h; number = refl }
 
 -- to prime a value leaves its number
 same_primed : (a : ValueState) → HasSame a (primed a)
-same_primed Null = record { there = λ h. h; back = λ h. h; number = refl }
-same_primed Tombstone = record { there = λ h. h; back = λ h. h; number = refl }
-same_primed (Live n) = record { there = λ h. h; back = λ h. h; number = refl }
 same_primed PrimedNull = same_itself PrimedNull
-same_primed PrimedTombstone = same_itself PrimedTombstone
-same_primed (Primed n) = same_itself (Primed n)
-same_primed (Finished n) = same_itself (Finished n)
+same_primed _ = record { there = λ h. h; back = λ h. h; number = refl }
 
 -- so does to finish it
 same_finished : (a : ValueState) → HasSame a (finished a)
-same_finished Null = same_itself Null
-same_finished Tombstone = same_itself Tombstone
-same_finished (Live n) = same_itself (Live n)
-same_finished PrimedNull = same_itself PrimedNull
-same_finished PrimedTombstone = same_itself PrimedTombstone
 same_finished (Primed n) = record { there = λ h. h; back = λ h. h; number = refl }
-same_finished (Finished n) = same_itself (Finished n)
+same_finished _ = same_itself _
 
 -- ---- tables
 
@@ -225,10 +215,6 @@ won_newest p t u g i k a b c before plan s step slot may e of_call =
     (newest_at p u plan s g i k slot is (subst HasContent (sym e) (put-content a b puts))
     (none_above_unprimed p u s g i k slot is (subst IsUnprimed (sym e) (put-unprimed a b puts))))
 
--- the test of a slot passes at that slot
-itself : {A : Type 0} (g i : ℕ) (a b : A) → cond (eqb g g && eqb i i) a b ≡ a
-itself g i a b = rw (eq-eqb g g refl, eq-eqb i i refl) refl
-
 -- before any event
 newest_first : (p : Plan) (t : Tables) → ((g i : ℕ) → IsSlot p g i → t.key g i ≡ Empty) → (k : ℕ) → IsNewest p t k None
 newest_first p t empty k = record {
@@ -244,6 +230,6 @@ newest p (Won s g i a b c r ∷ h) plan legal k =
     let slot : IsSlot p g i = legal.1.1 in
     cond_both (eqb k (key_of_call c)) (number_left b (number_at h k)) (number_at h k) (IsNewest p (tables_at p (e ∷ h)) k)
     (λ same. won_newest p (tables_at p h) (tables_at p (e ∷ h)) g i k a b c (number_at h k) plan (sound p (e ∷ h) plan legal)
-    (step_of p e h plan legal) slot legal.2 (value_frame p e h plan legal g i slot ∙ itself g i b _) (eqb-true k (key_of_call c) same))
+    (step_of p e h plan legal) slot legal.2 (value_frame p e h plan legal g i slot ∙ cond-true _ b _ (same_both g i)) (eqb-true k (key_of_call c) same))
     (λ other. quiet_newest p e h plan legal k (eqb-false k (key_of_call c) other) (newest p h plan legal.0 k))
 newest p (e ∷ h) plan legal k = quiet_newest p e h plan legal k tt (newest p h plan legal.0 k)

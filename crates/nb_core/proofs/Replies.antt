@@ -15,9 +15,9 @@ use Rattle.nb_core.specs.declared.calls.Call.{Call}
 use Rattle.nb_core.specs.declared.calls.Call.TheVariants as call
 use Rattle.nb_core.specs.declared.calls.Reply.{Reply}
 use Rattle.nb_core.specs.declared.events.Event.{Event}
-use Rattle.nb_core.specs.declared.events.Event.TheVariants.{Claim, Kill, Won, CopyIn, Prime, Finish, Install, Take, Count, Promote, Read}
+use Rattle.nb_core.specs.declared.events.Event.TheVariants.{Won, Read}
 use Rattle.nb_core.specs.declared.states.ValueState.{ValueState}
-use Rattle.nb_core.specs.declared.states.ValueState.TheVariants.{Null, Tombstone, Live, PrimedNull, PrimedTombstone, Primed, Finished}
+use Rattle.nb_core.specs.declared.states.ValueState.TheVariants.{Tombstone, Live}
 
 -- numbers compare alike where they are equal
 pub same_key : (a b : ℕ) → eq_by_cmp nat_cmp a b ≡ eqb a b
@@ -42,27 +42,14 @@ unchanged m k q o e =
 get_after_win : (m : Numbers) (k q : ℕ) (b : ValueState) → get (after_win m k b) q ≡ cond (eqb q k) (number_left b (get m q)) (get m q)
 get_after_win m k q (Live n) = get-insert nat_cmp_total m k n q ∙ ap (λ t. cond t (Some n) (get m q)) (same_key q k)
 get_after_win m k q Tombstone = get-remove nat_cmp_total m k q ∙ ap (λ t. cond t None (get m q)) (same_key q k)
-get_after_win m k q Null = sym (same_branch (eqb q k) (get m q))
-get_after_win m k q PrimedNull = sym (same_branch (eqb q k) (get m q))
-get_after_win m k q PrimedTombstone = sym (same_branch (eqb q k) (get m q))
-get_after_win m k q (Primed n) = sym (same_branch (eqb q k) (get m q))
-get_after_win m k q (Finished n) = sym (same_branch (eqb q k) (get m q))
+get_after_win m k q _ = sym (same_branch (eqb q k) (get m q))
 
 -- what the map of a history has at a key, computed
 pub number_at_map : (h : List Event) (k : ℕ) → get (map_of h) k ≡ number_at h k
 number_at_map [] k = get-empty nat_cmp k
 number_at_map (Won s g i a b c r ∷ h) k =
     get_after_win (map_of h) (key_of_call c) k b ∙ ap (λ o. cond (eqb k (key_of_call c)) (number_left b o) o) (number_at_map h k)
-number_at_map (Claim s g i q ∷ h) k = number_at_map h k
-number_at_map (Kill s g i ∷ h) k = number_at_map h k
-number_at_map (CopyIn s g i q n ∷ h) k = number_at_map h k
-number_at_map (Prime s g i ∷ h) k = number_at_map h k
-number_at_map (Finish s g i ∷ h) k = number_at_map h k
-number_at_map (Install s g q ∷ h) k = number_at_map h k
-number_at_map (Take s g ∷ h) k = number_at_map h k
-number_at_map (Count s g c ∷ h) k = number_at_map h k
-number_at_map (Promote s g ∷ h) k = number_at_map h k
-number_at_map (Read s c r ∷ h) k = number_at_map h k
+number_at_map (e ∷ h) k = number_at_map h k
 
 pub same_number-true : (a b : Option ℕ) → same_number a b ≡ true → a ≡ b
 same_number-true None None e = refl
@@ -122,15 +109,7 @@ replies-true h (Read s c r) e =
     let a = both (is_reply c r (number_at h (key_of_call c))) (leaves c (number_at h (key_of_call c))) e in
     let q = reply_is c r (map_of h) _ (number_at_map h (key_of_call c)) a.0 in
     (q.0, q.1, left_is c (map_of h) _ (number_at_map h (key_of_call c)) a.1)
-replies-true h (Claim s g i q) e = tt
-replies-true h (Kill s g i) e = tt
-replies-true h (CopyIn s g i q n) e = tt
-replies-true h (Prime s g i) e = tt
-replies-true h (Finish s g i) e = tt
-replies-true h (Install s g q) e = tt
-replies-true h (Take s g) e = tt
-replies-true h (Count s g c) e = tt
-replies-true h (Promote s g) e = tt
+replies-true h _ e = tt
 
 -- what passes is legal
 pub passes_legal : (p : Plan) (h : List Event) → passes p h ≡ true → IsLegal p h

@@ -1,7 +1,7 @@
 -- Room in the next table for all keys of one that isn't complete, and what a complete table says of a key.
 use Rattle.std.proofs.Common.{◌≡◌, ◌≢◌, ◌∙◌, ℕ, ◌+◌, ◌-◌, ◌*◌, ◌/◌, ◌%◌, ◌<◌, ◌≤◌, ◌⊎◌, zero, suc, ap, sym, refl, subst, inl, inr, true, eqb, map, length, get_or, mod-lt, mod-eq_of_lt, arith}
 use Rattle.std.proofs.Math.Nat.{add-mod-mod, add-mul-mod_self_left, div-add-mod}
-use Rattle.std.proofs.lemmas.Bool.{cases_eq, cases_lt, cases_order, eqb-true, ne_eqb}
+use Rattle.std.proofs.lemmas.Bool.{cases_eq, cases_lt, eqb-true, ne_eqb}
 use Rattle.std.proofs.lemmas.List.FromFn.{get_or-map-range_with_len, length-map-range_with_len}
 use Rattle.std.proofs.lemmas.Map.Keys.{IsDistinct-from_apart}
 use Rattle.std.proofs.lemmas.Map.Steps.{length-le_from_distinct_below}
@@ -11,24 +11,21 @@ use Rattle.nb_core.specs.Plans.{Plan, IsPlan, generations_of, size_of}
 use Rattle.nb_core.specs.Tables.{AreOthers, HasSlot, IsComplete, IsFinished, IsFinishedValue, IsOther, Tables, path_slot}
 use Rattle.nb_core.specs.Laws.{HasRoom, IsPassed, AtSlot, UpToDead, Whole}
 use Rattle.nb_core.proofs.Passing.{below_suc}
-use Rattle.nb_core.proofs.Sound.{IsReached, IsSound, finished-not_empty, finished-value, one_slot, other-not}
+use Rattle.nb_core.proofs.Sound.{IsSound, dead-unclaimed, finished-not_empty, finished-value, no_slot-past, no_slot-whole, one_slot, path_slot-is_slot}
 use Rattle.nb_core.proofs.Tables.{sizes_never_fall}
 use Rattle.nb_core.specs.declared.states.KeyState.{KeyState}
 use Rattle.nb_core.specs.declared.states.KeyState.TheVariants.{Empty, Dead, Claimed}
 use Rattle.nb_core.specs.declared.states.ValueState.{ValueState}
-use Rattle.nb_core.specs.declared.states.ValueState.TheVariants.{Null, Tombstone, Live, PrimedNull, PrimedTombstone, Primed, Finished}
+use Rattle.nb_core.specs.declared.states.ValueState.TheVariants.{PrimedNull, PrimedTombstone, Finished}
 
 -- ---- whether a table is complete
 
 -- a value is final or not
 finished_value_or_not : (v : ValueState) → IsFinishedValue v ⊎ (IsFinishedValue v → ⊥)
-finished_value_or_not Null = inr (λ final. final)
-finished_value_or_not Tombstone = inr (λ final. final)
-finished_value_or_not (Live n) = inr (λ final. final)
 finished_value_or_not PrimedNull = inl tt
 finished_value_or_not PrimedTombstone = inl tt
-finished_value_or_not (Primed n) = inr (λ final. final)
 finished_value_or_not (Finished n) = inl tt
+finished_value_or_not _ = inr (λ final. final)
 
 -- a slot is closed or not
 dead_or_not : (s : KeyState) → (s ≡ Dead) ⊎ (s ≢ Dead)
@@ -92,10 +89,6 @@ walk p t g k (suc n) =
       | ToDead d below passed is ↦ ToDead d (omega arith) passed is
       | ToOwn d below passed is ↦ ToOwn d (omega arith) passed is
     ]
-
--- a slot of a path lies in the table
-pub path_slot-lt : (p : Plan) (g k d : ℕ) → d < size_of p g → path_slot p g k d < size_of p g
-path_slot-lt p g k d below = mod-lt (k + d) (omega arith)
 
 -- round a circle of s places, each place is at some distance from any number's
 reached_round : (k i s : ℕ) → i < s → (k + (i + s - k % s) % s) % s ≡ i
@@ -203,22 +196,12 @@ module _ (p : Plan) (t : Tables) (plan : IsPlan p) (s : IsSound p t) where
         elim (walk p t (suc g) k (size_of p (suc g))) [
           | Crowded passed ↦ absurd (not_complete (copied_all g k within here passed))
           | ToEmpty d below passed empty ↦ record { distance = d; in_table = below; passed = passed; empty = empty }
-          | ToDead d below passed dead ↦ absurd (alive_above g within not_complete (path_slot p (suc g) k d) (path_slot-lt p (suc g) k d below) dead)
-          | ToOwn d below passed own ↦ absurd (none_above (record { slot = path_slot p (suc g) k d; in_table = path_slot-lt p (suc g) k d below; is = own }))
+          | ToDead d below passed dead ↦ absurd (alive_above g within not_complete (path_slot p (suc g) k d) ((path_slot-is_slot p plan (suc g) k d within).1) dead)
+          | ToOwn d below passed own ↦ absurd (none_above (record { slot = path_slot p (suc g) k d; in_table = (path_slot-is_slot p plan (suc g) k d within).1; is = own }))
         ];
   }
 
 -- ---- passed keys
-
--- a key has no slot behind a closed one on its path
-none_past_dead : (p : Plan) (t : Tables) (g k d i : ℕ) → AreOthers p t g k d → t.key g (path_slot p g k d) ≡ Dead → IsReached p t g i k → t.key g i ≢ Claimed k
-none_past_dead p t g k d i passed dead reached is =
-    let at : t.key g (path_slot p g k reached.distance) ≡ Claimed k = ap (t.key g) reached.at ∙ is in
-    elim (cases_order d reached.distance) [
-      | inl same ↦ let here : t.key g (path_slot p g k d) ≡ Claimed k = ap (λ e. t.key g (path_slot p g k e)) same ∙ at in cc
-      | inr (inl before) ↦ let is_other = (reached.passed d before).is in cc
-      | inr (inr behind) ↦ other-not (t.key g (path_slot p g k reached.distance)) k (passed reached.distance behind) at
-    ]
 
 module _ (p : Plan) (t : Tables) (plan : IsPlan p) (s : IsSound p t) (g k : ℕ) (within : g < generations_of p) where
   -- each key is passed in a complete table
@@ -228,11 +211,11 @@ module _ (p : Plan) (t : Tables) (plan : IsPlan p) (s : IsSound p t) (g k : ℕ)
         | Crowded passed ↦ Whole passed
         | ToEmpty d below passed empty ↦
             let i = path_slot p g k d in
-            let at = path_slot-lt p g k d below in absurd (finished-not_empty p t s g i (within, at) (complete i at) empty)
+            let slot = path_slot-is_slot p plan g k d within in absurd (finished-not_empty p t s g i slot (complete i slot.1) empty)
         | ToDead d below passed dead ↦ UpToDead d below passed dead
         | ToOwn d below passed own ↦
             let i = path_slot p g k d in
-            let at = path_slot-lt p g k d below in AtSlot i at own (finished-value t g i k (complete i at) own)
+            let slot = path_slot-is_slot p plan g k d within in AtSlot i slot.1 own (finished-value t g i k (complete i slot.1) own)
       ]
 
   -- a passed key has no slot in the table, or a final value there
@@ -240,5 +223,5 @@ module _ (p : Plan) (t : Tables) (plan : IsPlan p) (s : IsSound p t) (g k : ℕ)
   passed_settled (AtSlot j below at final) i i_below is =
       subst (λ n. IsFinishedValue (t.value g n)) (one_slot p t plan s g j i k (within, below) (within, i_below) at is) final
   passed_settled (UpToDead d below passed dead) i i_below is =
-      absurd (none_past_dead p t g k d i passed dead (s.claimed g i k (within, i_below) is).reached is)
-  passed_settled (Whole passed) i i_below is = absurd (other-not (t.key g i) k (whole_path p t g k passed i i_below) is)
+      absurd (no_slot-past p t s g k d within passed (dead-unclaimed dead) i i_below is)
+  passed_settled (Whole passed) i i_below is = absurd (no_slot-whole p t s g k within passed i i_below is)

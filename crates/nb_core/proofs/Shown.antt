@@ -1,6 +1,6 @@
 -- What the tables show of a key is what the map has.
-use Rattle.std.proofs.Common.{◌≡◌, ◌≢◌, ◌∙◌, ℕ, ◌+◌, ◌-◌, ◌<◌, ◌≤◌, ◌⊎◌, zero, suc, ap, sym, refl, subst, inl, inr, Bool, true, false, cond, Option, Some, None, arith}
-use Rattle.std.proofs.lemmas.Bool.{cases_order, eq-eqb}
+use Rattle.std.proofs.Common.{◌≡◌, ◌≢◌, ◌∙◌, ℕ, ◌+◌, ◌-◌, ◌<◌, ◌≤◌, ◌⊎◌, zero, suc, ap, sym, refl, subst, inl, inr, Bool, true, false, Option, Some, None, arith}
+use Rattle.std.proofs.lemmas.Bool.{cases_order, cond_both, eq-eqb}
 use Rattle.nb_core.specs.Plans.{Plan, IsPlan, generations_of, size_of}
 use Rattle.nb_core.specs.Tables.{AreOthers, HasSlot, IsComplete, IsFinishedValue, IsInstalled, IsSettledBelow, IsSlot, IsUnprimed, Tables, path_slot, tables_at}
 use Rattle.nb_core.specs.History.{MayWin, content_of, key_of_call}
@@ -12,25 +12,21 @@ use Rattle.nb_core.proofs.Newest.{HasNoneFrom, HasNoneIn, IsNewest, from_it_on, 
 use Rattle.nb_core.proofs.Passing.{below_suc}
 use Rattle.nb_core.proofs.Replies.{number_at_map}
 use Rattle.nb_core.proofs.Room.{copied_all, passed_settled}
-use Rattle.nb_core.proofs.Slots.{has_slot_or_none, value_in-none, value_in-slot, value_in-some}
-use Rattle.nb_core.proofs.Sound.{IsSound, complete-below, finished-not_empty, finished-value, next-within, other-not, path_slot-is_slot, primed-growing}
+use Rattle.nb_core.proofs.Slots.{Away, Here, has_slot_or_none, look, value_in-some}
+use Rattle.nb_core.proofs.Sound.{HasNoSlot, IsSound, complete-below, empty-unclaimed, finished-not_empty, finished-value, next-within, no_slot-past, no_slot-whole, path_slot-is_slot, primed-growing}
 use Rattle.nb_core.proofs.Tables.{four-le-size_of}
 use Rattle.nb_core.specs.declared.calls.Call.{Call}
-use Rattle.nb_core.specs.declared.states.KeyState.TheVariants.{Empty, Claimed}
+use Rattle.nb_core.specs.declared.states.KeyState.TheVariants.{Claimed}
 use Rattle.nb_core.specs.declared.states.ValueState.{ValueState}
-use Rattle.nb_core.specs.declared.states.ValueState.TheVariants.{Null, Tombstone, Live, PrimedNull, PrimedTombstone, Primed, Finished}
+use Rattle.nb_core.specs.declared.states.ValueState.TheVariants.{Null, Tombstone, Live, PrimedNull, Primed, Finished}
 
 -- ---- the search for the newest value
 
 -- the key got a number here, or not
 content_or_none : (v : ValueState) → HasContent v ⊎ (HasContent v → ⊥)
 content_or_none Null = inr (λ none. none)
-content_or_none Tombstone = inl tt
-content_or_none (Live n) = inl tt
 content_or_none PrimedNull = inr (λ none. none)
-content_or_none PrimedTombstone = inl tt
-content_or_none (Primed n) = inl tt
-content_or_none (Finished n) = inl tt
+content_or_none _ = inl tt
 
 -- where the newest value of a key is, that isn't null
 data NewestPlace (p : Plan) (t : Tables) (k : ℕ) : Type 0 where
@@ -38,7 +34,7 @@ data NewestPlace (p : Plan) (t : Tables) (k : ℕ) : Type 0 where
   There : (g i : ℕ) → IsSlot p g i → t.key g i ≡ Claimed k → HasContent (t.value g i) → HasNoneFrom p t k (suc g) → NewestPlace p t k
 
 -- where the key has no slot in a table and no number above, it has none from this table on
-none_from_table : (p : Plan) (t : Tables) (g k : ℕ) → ((i : ℕ) → i < size_of p g → t.key g i ≢ Claimed k) → HasNoneFrom p t k (suc g) → HasNoneFrom p t k g
+none_from_table : (p : Plan) (t : Tables) (g k : ℕ) → HasNoSlot p t g k → HasNoneFrom p t k (suc g) → HasNoneFrom p t k g
 none_from_table p t g k away = from_it_on (HasNoneIn p t k) g (λ i slot is content. away i slot.1 is)
 
 -- the newest value is below this table, or there is none
@@ -66,14 +62,11 @@ abbrev AreFinalBelow : Plan → Tables → ℕ → ℕ → Type 0
 AreFinalBelow p t g k = (f : ℕ) → f < g → (i : ℕ) → IsSlot p f i → t.key f i ≡ Claimed k → IsFinishedValue (t.value f i)
 
 -- a final value without a finished number has none
-final_number : (v : ValueState) → IsFinishedValue v → HasContent v → ((n : ℕ) → v ≢ Finished n) → content_of v ≡ None
-final_number Null final content unmoved = absurd content
-final_number Tombstone final content unmoved = refl
-final_number (Live n) final content unmoved = absurd final
-final_number PrimedNull final content unmoved = absurd content
-final_number PrimedTombstone final content unmoved = refl
-final_number (Primed n) final content unmoved = absurd final
-final_number (Finished n) final content unmoved = absurd (unmoved n refl)
+final_number : (v : ValueState) → IsFinishedValue v → ((n : ℕ) → v ≢ Finished n) → content_of v ≡ None
+final_number (Live n) final unmoved = absurd final
+final_number (Primed n) final unmoved = absurd final
+final_number (Finished n) final unmoved = absurd (unmoved n refl)
+final_number _ final unmoved = refl
 
 -- the newest value is no finished number, which would stand in the next table too
 not_moved : (p : Plan) (t : Tables) → IsSound p t → (g i k n : ℕ) → IsSlot p g i → t.key g i ≡ Claimed k → HasNoneFrom p t k (suc g) → t.value g i ≢ Finished n
@@ -91,7 +84,7 @@ none_left p t g k number plan s is_newest final none =
             | inl same ↦ absurd (none f (omega arith) i slot is content)
             | inr (inl less) ↦
                 is_newest.at f i slot is content above
-                ∙ final_number (t.value f i) (final f less i slot is) content (λ n. not_moved p t s f i k n slot is above)
+                ∙ final_number (t.value f i) (final f less i slot is) (λ n. not_moved p t s f i k n slot is above)
             | inr (inr more) ↦ absurd (none f (omega arith) i slot is content)
           ]
     ]
@@ -109,13 +102,10 @@ number_here p t g i k number plan s is_newest final slot is unprimed =
     ]
   where
     without_number : (v : ValueState) → (HasContent v → ⊥) → content_of v ≡ None
-    without_number Null without = refl
-    without_number Tombstone without = refl
     without_number (Live n) without = absurd (without tt)
-    without_number PrimedNull without = refl
-    without_number PrimedTombstone without = refl
     without_number (Primed n) without = absurd (without tt)
     without_number (Finished n) without = absurd (without tt)
+    without_number _ without = refl
 
 -- below an installed table in which the key is settled its values are final
 settled_final : (p : Plan) (t : Tables) (g k : ℕ) → IsSound p t → IsInstalled t g → IsSettledBelow p t g k → AreFinalBelow p t g k
@@ -144,54 +134,26 @@ win_number p plan h legal g i a b c slot may =
 
 -- ---- one look at all tables
 
--- the key's value in a table as the look finds it
-data IsLook (p : Plan) (t : Tables) (g k : ℕ) : Type 0 where
-  Away : ((i : ℕ) → i < size_of p g → t.key g i ≢ Claimed k) → value_in p t g k ≡ None → IsLook p t g k
-  Here : (i : ℕ) → i < size_of p g → t.key g i ≡ Claimed k → value_in p t g k ≡ Some (t.value g i) → IsLook p t g k
-
--- a look finds the key's slot, or none is there
-look : (p : Plan) (t : Tables) (g k : ℕ) → IsLook p t g k
-look p t g k =
-    (elim (value_in p t g k) as (λ o. value_in p t g k ≡ o → IsLook p t g k) [
-      | None ↦ λ e. Away (value_in-none p t g k e) e
-      | Some v ↦ λ e. let s = value_in-slot p t g k v e in Here s.slot s.in_table s.is (e ∙ ap Some (sym s.value))
-    ]) refl
-
 -- a value without a number, below nothing, shows none
 shown_without : (v : ValueState) (blank : Bool) → (HasContent v → ⊥) → shown_by (Some v) blank None ≡ None
-shown_without Null blank without = refl
-shown_without Tombstone blank without = refl
 shown_without (Live n) blank without = absurd (without tt)
-shown_without PrimedNull blank without = refl
-shown_without PrimedTombstone blank without = refl
 shown_without (Primed n) blank without = absurd (without tt)
-shown_without (Finished n) blank without = refl
+shown_without _ blank without = refl
 
 -- a primed value shows what is above, if a number that is still to copy isn't the newest
 shown_above : (v : ValueState) (blank : Bool) (above : Option ℕ) → (IsUnprimed v → ⊥) → ((n : ℕ) → v ≡ Primed n → blank ≡ false) → shown_by (Some v) blank above ≡ above
 shown_above Null blank above primed copied = absurd (primed tt)
 shown_above Tombstone blank above primed copied = absurd (primed tt)
 shown_above (Live n) blank above primed copied = absurd (primed tt)
-shown_above PrimedNull blank above primed copied = refl
-shown_above PrimedTombstone blank above primed copied = refl
 shown_above (Primed n) blank above primed copied = rw (copied n refl) refl
-shown_above (Finished n) blank above primed copied = refl
+shown_above _ blank above primed copied = refl
 
 -- the newest value shows its number
 shown_here : (v : ValueState) (blank : Bool) → HasContent v → ((n : ℕ) → v ≡ Primed n → blank ≡ true) → ((n : ℕ) → v ≢ Finished n)
     → shown_by (Some v) blank None ≡ content_of v
-shown_here Null blank content uncopied unmoved = refl
-shown_here Tombstone blank content uncopied unmoved = refl
-shown_here (Live n) blank content uncopied unmoved = refl
-shown_here PrimedNull blank content uncopied unmoved = refl
-shown_here PrimedTombstone blank content uncopied unmoved = refl
 shown_here (Primed n) blank content uncopied unmoved = rw (uncopied n refl) refl
 shown_here (Finished n) blank content uncopied unmoved = absurd (unmoved n refl)
-
--- a choice between equals is no choice
-same_choice : {A : Type 0} (b : Bool) (x y : A) → x ≡ y → cond b x y ≡ y
-same_choice true x y e = e
-same_choice false x y e = refl
+shown_here _ blank content uncopied unmoved = refl
 
 -- tables in which the key never got a number show none
 shown_none : (p : Plan) (t : Tables) (k g tables : ℕ) → g + tables ≡ generations_of p → HasNoneFrom p t k g → shown_from p t k g tables ≡ None
@@ -199,10 +161,10 @@ shown_none p t k g zero whole none = refl
 shown_none p t k g (suc tables) whole none =
     let rest : shown_from p t k (suc g) tables ≡ None =
     shown_none p t k (suc g) tables (omega arith) (λ f from. none f (omega arith)) in
-    same_choice (is_installed t g) _ _ (elim (look p t g k) [
+    cond_both (is_installed t g) _ None (λ shown. shown ≡ None) (λ _. elim (look p t g k) [
       | Away away e ↦ rw (e, rest) refl
       | Here i within is e ↦ rw (e, rest) (shown_without (t.value g i) _ (none g (omega arith) i (omega arith, within) is))
-    ])
+    ]) (λ _. refl)
 
 -- the table below an installed one is installed
 installed_step : (p : Plan) (t : Tables) (g : ℕ) → IsSound p t → IsInstalled t (suc g) → IsInstalled t g
@@ -223,22 +185,13 @@ installed-test t (suc g) installed = eq-eqb (t.next g) 1 installed
 -- null is blank
 blank_without : (v : ValueState) → (HasContent v → ⊥) → v ≢ PrimedNull → is_blank (Some v) ≡ true
 blank_without Null without unprimed = refl
-blank_without Tombstone without unprimed = absurd (without tt)
-blank_without (Live n) without unprimed = absurd (without tt)
 blank_without PrimedNull without unprimed = absurd (unprimed refl)
-blank_without PrimedTombstone without unprimed = absurd (without tt)
-blank_without (Primed n) without unprimed = absurd (without tt)
-blank_without (Finished n) without unprimed = absurd (without tt)
+blank_without _ without unprimed = absurd (without tt)
 
 -- what ever had a number isn't blank
 content_not_blank : (v : ValueState) → HasContent v → is_blank (Some v) ≡ false
 content_not_blank Null content = absurd content
-content_not_blank Tombstone content = refl
-content_not_blank (Live n) content = refl
-content_not_blank PrimedNull content = absurd content
-content_not_blank PrimedTombstone content = refl
-content_not_blank (Primed n) content = refl
-content_not_blank (Finished n) content = refl
+content_not_blank _ content = refl
 
 -- a table with a number that is still to copy isn't complete
 uncopied_incomplete : (p : Plan) (t : Tables) (g i k n : ℕ) → IsSlot p g i → t.key g i ≡ Claimed k → t.value g i ≡ Primed n → IsComplete p t g → ⊥
@@ -326,30 +279,11 @@ slot_below p t f i g k s slot is below =
       | inr (inr more) ↦ inr (complete-below p t s f g more ((s.claimed f i k slot is).installed))
     ]
 
--- a key has no slot where other keys have its whole path
-away_from_others : (p : Plan) (t : Tables) (g k : ℕ) → IsSound p t → g < generations_of p → AreOthers p t g k (size_of p g)
-    → (i : ℕ) → i < size_of p g → t.key g i ≢ Claimed k
-away_from_others p t g k s within others i below is =
-    let reached = (s.claimed g i k (within, below) is).reached in
-    other-not (t.key g (path_slot p g k reached.distance)) k (others reached.distance reached.in_table) (ap (t.key g) reached.at ∙ is)
-
--- nor where other keys have its path up to an empty slot
-away_from_empty : (p : Plan) (t : Tables) (g k d : ℕ) → IsSound p t → g < generations_of p → AreOthers p t g k d
-    → t.key g (path_slot p g k d) ≡ Empty → (i : ℕ) → i < size_of p g → t.key g i ≢ Claimed k
-away_from_empty p t g k d s within others empty i below is =
-    let reached = (s.claimed g i k (within, below) is).reached in
-    let there : t.key g (path_slot p g k reached.distance) ≡ Claimed k = ap (t.key g) reached.at ∙ is in
-    elim (cases_order reached.distance d) [
-      | inl same ↦ let free : t.key g (path_slot p g k reached.distance) ≡ Empty = subst (λ d. t.key g (path_slot p g k d) ≡ Empty) (sym same) empty in absurd cc
-      | inr (inl less) ↦ other-not (t.key g (path_slot p g k reached.distance)) k (others reached.distance less) there
-      | inr (inr more) ↦ let claimed = (reached.passed d more).is in absurd cc
-    ]
-
 -- what a table shows of a key that is passed below is the newest number
 shows_newest : (p : Plan) (t : Tables) (g k : ℕ) (number shown : Option ℕ) → IsPlan p → IsSound p t → IsNewest p t k number
     → g < generations_of p → AreFinalBelow p t g k → Shows p t g k shown → number ≡ shown
 shows_newest p t g k number shown plan s is_newest within final (AtEmpty d in_table others empty e) =
-    let away = away_from_empty p t g k d s within others empty in
+    let away = no_slot-past p t s g k d within others (empty-unclaimed empty) in
     none_left p t g k number plan s is_newest final (none_from_table p t g k away (λ f above i slot is content.
     elim (slot_below p t f i g k s slot is above) [
       | inl has ↦ away has.slot has.in_table has.is
@@ -358,10 +292,10 @@ shows_newest p t g k number shown plan s is_newest within final (AtEmpty d in_ta
 shows_newest p t g k number shown plan s is_newest within final (AtValue i below is unprimed e) =
     number_here p t g i k number plan s is_newest final (within, below) is unprimed ∙ sym e
 shows_newest p t g k number shown plan s is_newest within final (NoNext others none e) =
-    none_left p t g k number plan s is_newest final (none_from_table p t g k (away_from_others p t g k s within others)
+    none_left p t g k number plan s is_newest final (none_from_table p t g k (no_slot-whole p t s g k within others)
     (λ f above i slot is content. let next : t.next g ≡ 1 = installed_below p t f (suc g) s (omega arith) ((s.claimed f i k slot is).installed) in absurd (omega arith))) ∙ sym e
 shows_newest p t g k number shown plan s is_newest within final (InLast others last e) =
-    none_left p t g k number plan s is_newest final (none_from_table p t g k (away_from_others p t g k s within others)
+    none_left p t g k number plan s is_newest final (none_from_table p t g k (no_slot-whole p t s g k within others)
     (λ f above i slot is content. let in_chain = slot.0 in absurd (omega arith))) ∙ sym e
 
 -- a key passed in all tables below has final values there
@@ -397,7 +331,7 @@ crowded_none p t g k number plan s is_newest last others =
     let within : g < generations_of p = omega arith in
     none_left p t g k number plan s is_newest
     (settled_final p t g k s (crowded_installed p t g k plan s within others) (crowded_settled p t g k plan s within others))
-    (none_from_table p t g k (away_from_others p t g k s within others) (λ f above i slot is content. let in_chain = slot.0 in absurd (omega arith)))
+    (none_from_table p t g k (no_slot-whole p t s g k within others) (λ f above i slot is content. let in_chain = slot.0 in absurd (omega arith)))
 
 -- a key that the last table has no slot left for is absent
 pub crowded_absent : CrowdedAbsent

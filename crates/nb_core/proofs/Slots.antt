@@ -1,12 +1,11 @@
 -- The slot of a key in a table, and its value there, as the searches of Meaning find them.
-use Rattle.std.proofs.Common.{◌≡◌, ◌≢◌, ◌∙◌, ℕ, ◌<◌, ◌⊎◌, zero, suc, ap, sym, refl, inl, inr, true, false, cond, not, Option, Some, None, option_map, arith}
+use Rattle.std.proofs.Common.{◌≡◌, ◌≢◌, ◌∙◌, ℕ, ◌<◌, ◌⊎◌, zero, suc, ap, refl, inl, inr, true, false, cond, not, Option, Some, None, option_map, arith}
 use Rattle.nb_core.specs.Plans.{Plan, IsPlan, size_of}
 use Rattle.nb_core.specs.Tables.{HasSlot, IsSlot, Tables}
 use Rattle.nb_core.specs.Meaning.{is_claimed_by, slot_among, value_among, value_in}
 use Rattle.nb_core.proofs.Passing.{below_suc, is_claimed_by-true, unclaimed}
-use Rattle.nb_core.proofs.Sound.{IsSound, one_slot}
+use Rattle.nb_core.proofs.Sound.{HasNoSlot, IsSound, one_slot}
 use Rattle.nb_core.specs.declared.states.KeyState.TheVariants.{Claimed}
-use Rattle.nb_core.specs.declared.states.ValueState.{ValueState}
 
 -- ---- the search for a slot
 
@@ -30,7 +29,7 @@ slot_among-is t g k (suc n) =
     ] refl
 
 -- a key has a slot in a table, or no slot there is its own
-pub has_slot_or_none : (p : Plan) (t : Tables) (g k : ℕ) → HasSlot p t g k ⊎ ((i : ℕ) → i < size_of p g → t.key g i ≢ Claimed k)
+pub has_slot_or_none : (p : Plan) (t : Tables) (g k : ℕ) → HasSlot p t g k ⊎ HasNoSlot p t g k
 has_slot_or_none p t g k =
     elim (slot_among-is t g k (size_of p g)) [
       | Somewhere i below is found ↦ inl (record { slot = i; in_table = below; is = is })
@@ -68,27 +67,14 @@ pub value_in-some :
     → value_in p t g k ≡ Some (t.value g i)
 value_in-some p t plan s g i k slot is = value_in-is p t g k (Some i) (slot_among-at p t plan s g i k slot is)
 
--- the key has a slot in the table with this value
-pub record HasSlotWith (p : Plan) (t : Tables) (g k : ℕ) (v : ValueState) : Type 0 where
-  pub slot : ℕ
-  pub in_table : slot < size_of p g
-  pub is : t.key g slot ≡ Claimed k
-  pub value : t.value g slot ≡ v
+-- what a look at a table finds of a key: no slot, or a value
+pub data IsLook (p : Plan) (t : Tables) (g k : ℕ) : Type 0 where
+  Away : HasNoSlot p t g k → value_in p t g k ≡ None → IsLook p t g k
+  Here : (i : ℕ) → i < size_of p g → t.key g i ≡ Claimed k → value_in p t g k ≡ Some (t.value g i) → IsLook p t g k
 
--- where a key has a value in a table, it has a slot there with it
-pub value_in-slot : (p : Plan) (t : Tables) (g k : ℕ) (v : ValueState) → value_in p t g k ≡ Some v → HasSlotWith p t g k v
-value_in-slot p t g k v e =
+pub look : (p : Plan) (t : Tables) (g k : ℕ) → IsLook p t g k
+look p t g k =
     elim (slot_among-is t g k (size_of p g)) [
-      | Somewhere i below is found ↦
-          let same : Some (t.value g i) ≡ Some v = sym (value_in-is p t g k (Some i) found) ∙ e in
-          record { slot = i; in_table = below; is = is; value = cc }
-      | Nowhere none found ↦ let same : None ≡ Some v = sym (value_in-is p t g k None found) ∙ e in absurd cc
-    ]
-
--- where a key has no value in a table, it has no slot there
-pub value_in-none : (p : Plan) (t : Tables) (g k : ℕ) → value_in p t g k ≡ None → (i : ℕ) → i < size_of p g → t.key g i ≢ Claimed k
-value_in-none p t g k e i below is =
-    elim (slot_among-is t g k (size_of p g)) [
-      | Somewhere j j_below j_is found ↦ let same : Some (t.value g j) ≡ None = sym (value_in-is p t g k (Some j) found) ∙ e in absurd cc
-      | Nowhere none found ↦ none i below is
+      | Somewhere i below is found ↦ Here i below is (value_in-is p t g k (Some i) found)
+      | Nowhere none found ↦ Away none (value_in-is p t g k None found)
     ]

@@ -81,6 +81,37 @@ claimed-same e = cc
 pub other-not : (s : KeyState) (k : ℕ) → IsOther s k → s ≡ Claimed k → ⊥
 other-not s k other is = let e : Claimed other.other ≡ Claimed k = sym other.is ∙ is in other.differs (claimed-same e)
 
+-- a slot that is empty or closed is no key's
+pub empty-unclaimed : {s : KeyState} → s ≡ Empty → (k : ℕ) → s ≢ Claimed k
+empty-unclaimed empty k is = let e : Empty ≡ Claimed k = sym empty ∙ is in cc
+
+pub dead-unclaimed : {s : KeyState} → s ≡ Dead → (k : ℕ) → s ≢ Claimed k
+dead-unclaimed dead k is = let e : Dead ≡ Claimed k = sym dead ∙ is in cc
+
+-- the key has no slot in the table
+abbrev pub HasNoSlot : Plan → Tables → ℕ → ℕ → Type 0
+HasNoSlot p t g k = (i : ℕ) → i < size_of p g → t.key g i ≢ Claimed k
+
+-- A key has no slot in a table where other keys have its path up to a slot that is no key's,
+pub no_slot-past :
+    (p : Plan) (t : Tables) → IsSound p t → (g k d : ℕ) → g < generations_of p → AreOthers p t g k d
+    → ((j : ℕ) → t.key g (path_slot p g k d) ≢ Claimed j) → HasNoSlot p t g k
+no_slot-past p t s g k d within others unclaimed i below is =
+    let reached = (s.claimed g i k (within, below) is).reached in
+    let at : t.key g (path_slot p g k reached.distance) ≡ Claimed k = ap (t.key g) reached.at ∙ is in
+    elim (cases_order reached.distance d) [
+      | inl same ↦ unclaimed k (ap (λ d. t.key g (path_slot p g k d)) (sym same) ∙ at)
+      | inr (inl before) ↦ other-not _ k (others reached.distance before) at
+      | inr (inr after) ↦ (let other = reached.passed d after in unclaimed other.other other.is)
+    ]
+
+-- or have all of it.
+pub no_slot-whole :
+    (p : Plan) (t : Tables) → IsSound p t → (g k : ℕ) → g < generations_of p → AreOthers p t g k (size_of p g) → HasNoSlot p t g k
+no_slot-whole p t s g k within others i below is =
+    let reached = (s.claimed g i k (within, below) is).reached in
+    other-not _ k (others reached.distance reached.in_table) (ap (t.key g) reached.at ∙ is)
+
 -- on one path the key's slot is at one distance
 reached-once : (p : Plan) (t : Tables) (g i j k : ℕ) → IsReached p t g i k → IsReached p t g j k → t.key g i ≡ Claimed k → t.key g j ≡ Claimed k → i ≡ j
 reached-once p t g i j k a b a_is b_is =
@@ -103,7 +134,7 @@ unprimed-not_final _ unprimed final = unprimed
 
 -- a finished slot with a key has a final value
 pub finished-value : (t : Tables) (g i k : ℕ) → IsFinished t g i → t.key g i ≡ Claimed k → IsFinishedValue (t.value g i)
-finished-value t g i k (inl dead) is = absurd (let e : Claimed k ≡ Dead = sym is ∙ dead in cc)
+finished-value t g i k (inl dead) is = absurd (dead-unclaimed dead k is)
 finished-value t g i k (inr final) is = final
 
 -- a slot without a key has no value
@@ -115,10 +146,10 @@ unclaimed-null p t s g i slot unclaimed =
     ]
 
 pub empty-null : (p : Plan) (t : Tables) → IsSound p t → (g i : ℕ) → IsSlot p g i → t.key g i ≡ Empty → t.value g i ≡ Null
-empty-null p t s g i slot empty = unclaimed-null p t s g i slot (λ k is. let e : Empty ≡ Claimed k = sym empty ∙ is in cc)
+empty-null p t s g i slot empty = unclaimed-null p t s g i slot (empty-unclaimed empty)
 
 pub dead-null : (p : Plan) (t : Tables) → IsSound p t → (g i : ℕ) → IsSlot p g i → t.key g i ≡ Dead → t.value g i ≡ Null
-dead-null p t s g i slot dead = unclaimed-null p t s g i slot (λ k is. let e : Dead ≡ Claimed k = sym dead ∙ is in cc)
+dead-null p t s g i slot dead = unclaimed-null p t s g i slot (dead-unclaimed dead)
 
 -- a finished slot isn't empty
 pub finished-not_empty : (p : Plan) (t : Tables) → IsSound p t → (g i : ℕ) → IsSlot p g i → IsFinished t g i → t.key g i ≢ Empty

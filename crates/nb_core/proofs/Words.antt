@@ -38,7 +38,7 @@ same_word _ _ = false
 both_same : (a b c d : ℕ) → (eqb a b && eqb c d) ≡ true → (a ≡ b) × (c ≡ d)
 both_same a b c d e = let s = both (eqb a b) (eqb c d) e in (eqb-true a b s.0, eqb-true c d s.1)
 
-same_both : (a b : ℕ) → (eqb a a && eqb b b) ≡ true
+pub same_both : (a b : ℕ) → (eqb a a && eqb b b) ≡ true
 same_both a b = ap (λ x. x && eqb b b) (eq-eqb a a refl) ∙ eq-eqb b b refl
 
 same_word-true : (a b : Word) → same_word a b ≡ true → a ≡ b
