@@ -194,12 +194,12 @@ keeps-above p t u plan s step g i j k i_slot j_slot i_is j_is =
     ]
 
 -- a value that is neither null nor a primed one has a content
-pub content-is : (v : ValueState) → v ≢ Null → v ≢ PrimedNull → HasContent v
+content-is : (v : ValueState) → v ≢ Null → v ≢ PrimedNull → HasContent v
 content-is Null some unprimed = some refl
 content-is PrimedNull some unprimed = unprimed refl
 content-is _ some unprimed = tt
 
-pub got-stays : (p : Plan) (t u : Tables) → Step p t u → (g k : ℕ) → HasGot p t g k → HasGot p u g k
+got-stays : (p : Plan) (t u : Tables) → Step p t u → (g k : ℕ) → HasGot p t g k → HasGot p u g k
 got-stays p t u step g k got = record {
   slot = got.slot;
   is_slot = got.is_slot;

@@ -127,7 +127,7 @@ value-empty p t s g i to slot step empty =
 -- ---- keys
 
 -- a key that isn't empty stays
-pub key-stays : (p : Plan) (t : Tables) (g i : ℕ) (to : KeyState) → KeyStep p t g i to → t.key g i ≢ Empty → to ≡ t.key g i
+key-stays : (p : Plan) (t : Tables) (g i : ℕ) (to : KeyState) → KeyStep p t g i to → t.key g i ≢ Empty → to ≡ t.key g i
 key-stays p t g i to (KeyKept e) some = e
 key-stays p t g i to (Claims k range may e) some = absurd (some may.empty)
 key-stays p t g i to (Kills may e) some = absurd (some may.empty)
@@ -168,7 +168,7 @@ finished-stays p t u step g i slot (inr final) = inr (subst IsFinishedValue (sym
 pub complete-stays : (p : Plan) (t u : Tables) → Step p t u → (g : ℕ) → g < generations_of p → IsComplete p t g → IsComplete p u g
 complete-stays p t u step g within complete i below = finished-stays p t u step g i (within, below) (complete i below)
 
-pub other-stays : (p : Plan) (t u : Tables) → Step p t u → (g i k : ℕ) → IsSlot p g i → IsOther (t.key g i) k → IsOther (u.key g i) k
+other-stays : (p : Plan) (t u : Tables) → Step p t u → (g i k : ℕ) → IsSlot p g i → IsOther (t.key g i) k → IsOther (u.key g i) k
 other-stays p t u step g i k slot other =
     record { other = other.other; is = key-claimed p t g i other.other (u.key g i) (step.key g i slot) other.is; differs = other.differs }
 

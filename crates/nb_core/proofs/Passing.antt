@@ -38,7 +38,7 @@ pub not_true : (a : Bool) → not a ≡ true → a ≡ false
 not_true true e = cc
 not_true false e = refl
 
-pub no_true : {A : Type 0} → false ≡ true → A
+no_true : {A : Type 0} → false ≡ true → A
 no_true e = cc
 
 last_or_below : (i n : ℕ) → i < suc n → (i < n) ⊎ (i ≡ n)

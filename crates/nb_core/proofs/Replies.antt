@@ -103,7 +103,7 @@ left_here (call.Write k want change) m e =
 left_is : (c : Call) (m : Numbers) (now : Option ℕ) → get m (key_of_call c) ≡ now → leaves c now ≡ true → map_after c m ≡ m
 left_is c m now at e = left_here c m (ap (leaves c) at ∙ e)
 
-pub replies-true : (h : List Event) (e : Event) → replies h e ≡ true → Replies (map_of h) e
+replies-true : (h : List Event) (e : Event) → replies h e ≡ true → Replies (map_of h) e
 replies-true h (Won s g i a b c r) e = reply_is c r (map_of h) _ (number_at_map h (key_of_call c)) e
 replies-true h (Read s c r) e =
     let a = both (is_reply c r (number_at h (key_of_call c))) (leaves c (number_at h (key_of_call c))) e in

@@ -57,13 +57,13 @@ all_finished_or_not t g (suc n) =
     ]
 
 -- a table is complete or not
-pub complete_or_not : (p : Plan) (t : Tables) (g : ℕ) → IsComplete p t g ⊎ (IsComplete p t g → ⊥)
+complete_or_not : (p : Plan) (t : Tables) (g : ℕ) → IsComplete p t g ⊎ (IsComplete p t g → ⊥)
 complete_or_not p t g = all_finished_or_not t g (size_of p g)
 
 -- ---- along a key's path
 
 -- How far other keys have a key's path: for so many slots, or up to the first slot that isn't another key's.
-pub data Walk (p : Plan) (t : Tables) (g k n : ℕ) : Type 0 where
+data Walk (p : Plan) (t : Tables) (g k n : ℕ) : Type 0 where
   Crowded : AreOthers p t g k n → Walk p t g k n
   ToEmpty : (d : ℕ) → d < n → AreOthers p t g k d → t.key g (path_slot p g k d) ≡ Empty → Walk p t g k n
   ToDead : (d : ℕ) → d < n → AreOthers p t g k d → t.key g (path_slot p g k d) ≡ Dead → Walk p t g k n
@@ -80,7 +80,7 @@ walk_on p t g k n (Claimed j) passed is =
     ]
 
 -- each path can be walked
-pub walk : (p : Plan) (t : Tables) (g k n : ℕ) → Walk p t g k n
+walk : (p : Plan) (t : Tables) (g k n : ℕ) → Walk p t g k n
 walk p t g k zero = Crowded (λ e h. absurd (omega arith))
 walk p t g k (suc n) =
     elim (walk p t g k n) [
@@ -99,7 +99,7 @@ reached_round k i s below =
     add-mod-mod k (i + s - k % s) s ∙ ap (λ n. n % s) whole ∙ add-mul-mod_self_left i s (k / s + 1) ∙ mod-eq_of_lt below
 
 -- where other keys have a key's whole path, they have each slot of the table
-pub whole_path : (p : Plan) (t : Tables) (g k : ℕ) → AreOthers p t g k (size_of p g) → (i : ℕ) → i < size_of p g → IsOther (t.key g i) k
+whole_path : (p : Plan) (t : Tables) (g k : ℕ) → AreOthers p t g k (size_of p g) → (i : ℕ) → i < size_of p g → IsOther (t.key g i) k
 whole_path p t g k passed i below =
     let s = size_of p g in
     let away = i + s - k % s in

@@ -78,7 +78,7 @@ pub claimed-same : {j k : ℕ} → Claimed j ≡ Claimed k → j ≡ k
 claimed-same e = cc
 
 -- a slot of another key isn't the key's
-pub other-not : (s : KeyState) (k : ℕ) → IsOther s k → s ≡ Claimed k → ⊥
+other-not : (s : KeyState) (k : ℕ) → IsOther s k → s ≡ Claimed k → ⊥
 other-not s k other is = let e : Claimed other.other ≡ Claimed k = sym other.is ∙ is in other.differs (claimed-same e)
 
 -- a slot that is empty or closed is no key's

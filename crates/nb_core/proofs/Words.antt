@@ -27,7 +27,7 @@ length-words_of p (e ∷ h) = length-word_step p e (words_of p h) ∙ length-wor
 -- ---- the word of an event, and the others
 
 -- whether two words are one
-abbrev pub same_word : Word → Word → Bool
+abbrev same_word : Word → Word → Bool
 same_word Top Top = true
 same_word (Header g h) (Header f k) = eqb h k && eqb g f
 same_word (Key g i) (Key f j) = eqb g f && eqb i j
