@@ -28,22 +28,22 @@ keeps-ready p t u plan s step g is =
       | NextKept e ↦
           let before = s.ready g (sym e ∙ is) in
           let within = next-within p t s g before.0 in
-          (next-stays p t g (u.next g) (step.next g) before.0, complete-stays p t u step g (omega arith) before.1)
+          (next-stays (step.next g) before.0, complete-stays p t u step g (omega arith) before.1)
       | Installs k may e ↦
           let room = may.room in
           let next : t.next g ≡ 1 = complete-growing p t plan s g (omega arith) may.ready in
-          (next-stays p t g (u.next g) (step.next g) next, complete-stays p t u step g (omega arith) may.ready)
+          (next-stays (step.next g) next, complete-stays p t u step g (omega arith) may.ready)
     ]
 
 -- ---- keys
 
 reached-stays : (p : Plan) (t u : Tables) → IsPlan p → Step p t u → (g i k : ℕ) → g < generations_of p → IsReached p t g i k → IsReached p u g i k
 reached-stays p t u plan step g i k within r =
-    record { distance = r.distance; in_table = r.in_table; at = r.at; passed = others-stay p t u plan step g k r.distance within r.passed }
+    record { distance = r.distance; in_table = r.in_table; at = r.at; passed = others-stay p t u step plan g k r.distance within r.passed }
 
 keeps-claimed : (p : Plan) (t u : Tables) → IsPlan p → IsSound p t → Step p t u → (g i k : ℕ) → IsSlot p g i → u.key g i ≡ Claimed k → IsClaimedRight p u g i k
 keeps-claimed p t u plan s step g i k slot is =
-    elim (key-was p t g i k (u.key g i) (step.key g i slot) is) [
+    elim (key-was (step.key g i slot) is) [
       | inl was ↦
           let before = s.claimed g i k slot was in
           record {
@@ -60,16 +60,16 @@ keeps-claimed p t u plan s step g i k slot is =
               distance = may.distance;
               in_table = may.on_path.0;
               at = may.on_path.1;
-              passed = others-stay p t u plan step g k may.distance slot.0 may.passed;
+              passed = others-stay p t u step plan g k may.distance slot.0 may.passed;
             };
           }
     ]
 
 keeps-dead : (p : Plan) (t u : Tables) → IsSound p t → Step p t u → (g i : ℕ) → IsSlot p g i → u.key g i ≡ Dead → u.next g ≡ 1
 keeps-dead p t u s step g i slot is =
-    elim (key-was_dead p t g i (u.key g i) (step.key g i slot) is) [
-      | inl was ↦ next-stays p t g (u.next g) (step.next g) (s.dead g i slot was)
-      | inr next ↦ next-stays p t g (u.next g) (step.next g) next
+    elim (key-was_dead (step.key g i slot) is) [
+      | inl was ↦ next-stays (step.next g) (s.dead g i slot was)
+      | inr next ↦ next-stays (step.next g) next
     ]
 
 below-stays : (p : Plan) (t u : Tables) → Step p t u → (g k : ℕ) → g < generations_of p → HasSlot p t g k ⊎ IsComplete p t g → HasSlot p u g k ⊎ IsComplete p u g
@@ -78,7 +78,7 @@ below-stays p t u step g k within (inr complete) = inr (complete-stays p t u ste
 
 keeps-below : (p : Plan) (t u : Tables) → IsSound p t → Step p t u → (g k : ℕ) → suc g < generations_of p → HasSlot p u (suc g) k → HasSlot p u g k ⊎ IsComplete p u g
 keeps-below p t u s step g k within has =
-    elim (key-was p t (suc g) has.slot k (u.key (suc g) has.slot) (step.key (suc g) has.slot (within, has.in_table)) has.is) [
+    elim (key-was (step.key (suc g) has.slot (within, has.in_table)) has.is) [
       | inl was ↦ below-stays p t u step g k (omega arith) (s.below g k within (record { slot = has.slot; in_table = has.in_table; is = was }))
       | inr claims ↦ elim (claims.1.reason) [
         | inl copier ↦ below-stays p t u step g k (omega arith) (inl copier)
@@ -90,7 +90,7 @@ keeps-below p t u s step g k within has =
 
 keeps-growing : (p : Plan) (t u : Tables) → IsSound p t → Step p t u → (g i : ℕ) → IsSlot p g i → IsUnprimed (u.value g i) ⊎ (u.next g ≡ 1)
 keeps-growing p t u s step g i slot =
-    let stays = next-stays p t g (u.next g) (step.next g) in
+    let stays = next-stays (step.next g) in
     elim (step.value g i slot) [
       | ValueKept e ↦ elim (s.growing g i slot) [ inl unprimed ↦ inl (subst IsUnprimed (sym e) unprimed) | inr next ↦ inr (stays next) ]
       | Wins a b c may e ↦ inl (subst IsUnprimed (sym e) (put-unprimed a b (exchange-puts c may.key a b may.exchange)))
@@ -100,7 +100,7 @@ keeps-growing p t u s step g i slot =
     ]
 
 key-stays-some : (p : Plan) (t u : Tables) → Step p t u → (g i k : ℕ) → IsSlot p g i → t.key g i ≡ Claimed k → HasKey (u.key g i)
-key-stays-some p t u step g i k slot is = record { key = k; is = key-claimed p t g i k (u.key g i) (step.key g i slot) is }
+key-stays-some p t u step g i k slot is = record { key = k; is = key-claimed (step.key g i slot) is }
 
 keeps-bare : (p : Plan) (t u : Tables) → IsSound p t → Step p t u → (g i : ℕ) → IsSlot p g i → (u.value g i ≡ Null) ⊎ HasKey (u.key g i)
 keeps-bare p t u s step g i slot =
@@ -143,7 +143,7 @@ above-primed _ above may unprimed = unprimed
 -- what may stand above a value still may after a step below
 above-stays : (p : Plan) (t : Tables) (g i : ℕ) (to above : ValueState) → ValueStep p t g i to → MayBeAbove (t.value g i) above → MayBeAbove to above
 above-stays p t g i to above step may =
-    elim (value-primed p t g i to step (above-primed (t.value g i) above may)) [
+    elim (value-primed step (above-primed (t.value g i) above may)) [
       | inl e ↦ subst (λ v. MayBeAbove v above) (sym e) may
       | inr finishes ↦ subst (λ v. MayBeAbove v above) (sym finishes.2) tt
     ]
@@ -156,7 +156,7 @@ copy-above v n (inr finished) = subst (λ x. MayBeAbove x (Live n)) (sym finishe
 -- a slot with a key in a complete table is final after the step too
 final-above_step : (p : Plan) (t : Tables) (g i : ℕ) (to above : ValueState) → ValueStep p t g i to → IsFinishedValue (t.value g i) → MayBeAbove to above
 final-above_step p t g i to above step final =
-    subst (λ v. MayBeAbove v above) (sym (value-final p t g i to step final)) (final-above (t.value g i) above final)
+    subst (λ v. MayBeAbove v above) (sym (value-final step final)) (final-above (t.value g i) above final)
 
 -- both slots were the key's before
 keeps-above_both : (p : Plan) (t u : Tables) → IsPlan p → IsSound p t → Step p t u → (g i j k : ℕ) → IsSlot p g i → IsSlot p (suc g) j → t.key g i ≡ Claimed k → t.key (suc g) j ≡ Claimed k → (u.value (suc g) j ≡ Null) ⊎ MayBeAbove (u.value g i) (u.value (suc g) j)
@@ -176,7 +176,7 @@ keeps-above_both p t u plan s step g i j k i_slot j_slot i_is j_is =
           let source = may.primed in
           let slot : source.0 ≡ i = one_slot p t plan s g source.0 i k (i_slot.0, source.1) i_slot (source.2 ∙ ap Claimed same) i_is in
           let primed : t.value g i ≡ Primed n = ap (t.value g) (sym slot) ∙ source.3 in
-          inr (subst (MayBeAbove (u.value g i)) (sym e) (copy-above (u.value g i) n (value-frozen p t g i n (u.value g i) below (inl primed))))
+          inr (subst (MayBeAbove (u.value g i)) (sym e) (copy-above (u.value g i) n (value-frozen below (inl primed))))
       | Primes may e ↦ inr (final-above_step p t g i (u.value g i) (u.value (suc g) j) below (complete_below may.growing))
       | Finishes may e ↦
           let next = primed-growing p t s (suc g) j j_slot (λ unprimed. subst IsUnprimed may.primed unprimed) in
@@ -185,9 +185,9 @@ keeps-above_both p t u plan s step g i j k i_slot j_slot i_is j_is =
 
 keeps-above : (p : Plan) (t u : Tables) → IsPlan p → IsSound p t → Step p t u → (g i j k : ℕ) → IsSlot p g i → IsSlot p (suc g) j → u.key g i ≡ Claimed k → u.key (suc g) j ≡ Claimed k → (u.value (suc g) j ≡ Null) ⊎ MayBeAbove (u.value g i) (u.value (suc g) j)
 keeps-above p t u plan s step g i j k i_slot j_slot i_is j_is =
-    elim (key-was p t (suc g) j k (u.key (suc g) j) (step.key (suc g) j j_slot) j_is) [
-      | inr claims ↦ inl (value-empty p t s (suc g) j (u.value (suc g) j) j_slot (step.value (suc g) j j_slot) claims.1.empty)
-      | inl j_was ↦ elim (key-was p t g i k (u.key g i) (step.key g i i_slot) i_is) [
+    elim (key-was (step.key (suc g) j j_slot) j_is) [
+      | inr claims ↦ inl (value-empty s j_slot (step.value (suc g) j j_slot) claims.1.empty)
+      | inl j_was ↦ elim (key-was (step.key g i i_slot) i_is) [
         | inr claims ↦ absurd (not_late p t s g i k j_slot.0 i_slot claims.1 (record { slot = j; in_table = j_slot.1; is = j_was }))
         | inl i_was ↦ keeps-above_both p t u plan s step g i j k i_slot j_slot i_was j_was
       ]
@@ -203,8 +203,8 @@ got-stays : (p : Plan) (t u : Tables) → Step p t u → (g k : ℕ) → HasGot 
 got-stays p t u step g k got = record {
   slot = got.slot;
   is_slot = got.is_slot;
-  is = key-claimed p t g got.slot k (u.key g got.slot) (step.key g got.slot got.is_slot) got.is;
-  content = value-content p t g got.slot (u.value g got.slot) (step.value g got.slot got.is_slot) got.content;
+  is = key-claimed (step.key g got.slot got.is_slot) got.is;
+  content = value-content (step.value g got.slot got.is_slot) got.content;
 }
 
 -- the value that a finished number was copied to is no primed null: its table has no next one yet
@@ -233,9 +233,9 @@ primed-not_finished (Finished m) n unprimed e = unprimed
 
 keeps-moved : (p : Plan) (t u : Tables) → IsSound p t → Step p t u → (g i k n : ℕ) → IsSlot p g i → u.key g i ≡ Claimed k → u.value g i ≡ Finished n → HasGot p u (suc g) k
 keeps-moved p t u s step g i k n slot is finished =
-    elim (key-was p t g i k (u.key g i) (step.key g i slot) is) [
+    elim (key-was (step.key g i slot) is) [
       | inr claims ↦
-          absurd (let e : Finished n ≡ Null = sym finished ∙ value-empty p t s g i (u.value g i) slot (step.value g i slot) claims.1.empty in cc)
+          absurd (let e : Finished n ≡ Null = sym finished ∙ value-empty s slot (step.value g i slot) claims.1.empty in cc)
       | inl was ↦ elim (step.value g i slot) [
         | ValueKept e ↦ got-stays p t u step (suc g) k (s.moved g i k n slot was (sym e ∙ finished))
         | Wins a b c may e ↦ absurd (subst IsUnprimed (sym e ∙ finished) (put-unprimed a b (exchange-puts c may.key a b may.exchange)))

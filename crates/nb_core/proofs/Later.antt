@@ -15,19 +15,19 @@ use Rattle.nb_core.specs.declared.states.KeyState.TheVariants.{Empty, Dead, Clai
 
 passed-stays : (p : Plan) (t u : Tables) → IsPlan p → Step p t u → (g k : ℕ) → g < generations_of p → IsPassed p t g k → IsPassed p u g k
 passed-stays p t u plan step g k within (AtSlot i below is final) =
-    AtSlot i below (key-claimed p t g i k (u.key g i) (step.key g i (within, below)) is)
-    (subst IsFinishedValue (sym (value-final p t g i (u.value g i) (step.value g i (within, below)) final)) final)
+    AtSlot i below (key-claimed (step.key g i (within, below)) is)
+    (subst IsFinishedValue (sym (value-final (step.value g i (within, below)) final)) final)
 passed-stays p t u plan step g k within (UpToDead d below others dead) =
     let slot = path_slot-is_slot p plan g k d within in
-    UpToDead d below (others-stay p t u plan step g k d within others) (key-dead p t g (path_slot p g k d) (u.key g (path_slot p g k d)) (step.key g (path_slot p g k d) slot) dead)
-passed-stays p t u plan step g k within (Whole others) = Whole (others-stay p t u plan step g k (size_of p g) within others)
+    UpToDead d below (others-stay p t u step plan g k d within others) (key-dead (step.key g (path_slot p g k d) slot) dead)
+passed-stays p t u plan step g k within (Whole others) = Whole (others-stay p t u step plan g k (size_of p g) within others)
 
 value-stays : (p : Plan) (t u : Tables) → Step p t u → (g k : ℕ) → g < generations_of p → HasValue p t g k → HasValue p u g k
 value-stays p t u step g k within has = record {
   slot = has.slot;
   in_table = has.in_table;
-  is = key-claimed p t g has.slot k (u.key g has.slot) (step.key g has.slot (within, has.in_table)) has.is;
-  some = value-some p t g has.slot (u.value g has.slot) (step.value g has.slot (within, has.in_table)) has.some;
+  is = key-claimed (step.key g has.slot (within, has.in_table)) has.is;
+  some = value-some (step.value g has.slot (within, has.in_table)) has.some;
 }
 
 ready-stays : (p : Plan) (t u : Tables) → Step p t u → (g : ℕ) → g < generations_of p → IsReady p t g → IsReady p u g
@@ -39,8 +39,8 @@ settled-stays : (p : Plan) (t u : Tables) → IsSound p t → Step p t u → (g 
 settled-stays p t u s step zero k within has settled = tt
 settled-stays p t u s step (suc g) k within has settled = λ i below is.
     let slot : IsSlot p g i = (omega arith, below) in
-    elim (key-was p t g i k (u.key g i) (step.key g i slot) is) [
-      | inl was ↦ (let final = settled i below was in subst IsFinishedValue (sym (value-final p t g i (u.value g i) (step.value g i slot) final)) final)
+    elim (key-was (step.key g i slot) is) [
+      | inl was ↦ (let final = settled i below was in subst IsFinishedValue (sym (value-final (step.value g i slot) final)) final)
       | inr claims ↦ absurd (not_late p t s g i k within slot claims.1 has)
     ]
 
@@ -54,16 +54,16 @@ top-rises p t u step =
 lasts-step : (p : Plan) (t u : Tables) → IsPlan p → IsSound p t → Step p t u → Lasts p t u
 lasts-step p t u plan s step = record {
   installed = installed-stays p t u step;
-  claimed = λ g i k slot is. key-claimed p t g i k (u.key g i) (step.key g i slot) is;
-  dead = λ g i slot is. key-dead p t g i (u.key g i) (step.key g i slot) is;
-  others = others-stay p t u plan step;
+  claimed = λ g i k slot is. key-claimed (step.key g i slot) is;
+  dead = λ g i slot is. key-dead (step.key g i slot) is;
+  others = others-stay p t u step plan;
   passed = passed-stays p t u plan step;
   has_slot = slot-stays p t u step;
   has_value = value-stays p t u step;
-  some = λ g i slot some. value-some p t g i (u.value g i) (step.value g i slot) some;
-  content = λ g i slot content. value-content p t g i (u.value g i) (step.value g i slot) content;
-  frozen = λ g i n slot frozen. value-frozen p t g i n (u.value g i) (step.value g i slot) frozen;
-  final = λ g i slot final. value-final p t g i (u.value g i) (step.value g i slot) final;
+  some = λ g i slot some. value-some (step.value g i slot) some;
+  content = λ g i slot content. value-content (step.value g i slot) content;
+  frozen = λ g i n slot frozen. value-frozen (step.value g i slot) frozen;
+  final = λ g i slot final. value-final (step.value g i slot) final;
   finished = finished-stays p t u step;
   complete = complete-stays p t u step;
   ready = ready-stays p t u step;

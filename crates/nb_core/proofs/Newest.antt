@@ -118,9 +118,9 @@ claimed_before :
     (p : Plan) (t : Tables) (g i k : ℕ) (key : KeyState) (value : ValueState) → IsSound p t → IsSlot p g i
     → KeyStep p t g i key → ValueStep p t g i value → key ≡ Claimed k → HasContent value → t.key g i ≡ Claimed k
 claimed_before p t g i k key value s slot key_step value_step is content =
-    elim (key-was p t g i k key key_step is) [
+    elim (key-was key_step is) [
       | inl was ↦ was
-      | inr claims ↦ absurd (subst HasContent (value-empty p t s g i value slot value_step claims.1.empty) content)
+      | inr claims ↦ absurd (subst HasContent (value-empty s slot value_step claims.1.empty) content)
     ]
 
 -- what the key has got it keeps
@@ -132,7 +132,7 @@ content_stays p t g i k to (CopiesUp n below null e) content = absurd (subst Has
 none_before : (p : Plan) (t u : Tables) (k n : ℕ) → Step p t u
     → ((g i : ℕ) → IsSlot p g i → t.key g i ≡ Claimed k → QuietStep p t g i k (u.value g i)) → HasNoneFrom p u k n → HasNoneFrom p t k n
 none_before p t u k n step quiet none g from i slot is content =
-    none g from i slot (key-claimed p t g i k (u.key g i) (step.key g i slot) is) (content_stays p t g i k (u.value g i) (quiet g i slot is) content)
+    none g from i slot (key-claimed (step.key g i slot) is) (content_stays p t g i k (u.value g i) (quiet g i slot is) content)
 
 -- a number that is copied up was the newest
 copied_newest : (p : Plan) (t : Tables) (g i k n : ℕ) (number : Option ℕ) → IsPlan p → IsSound p t → IsNewest p t k number
@@ -210,7 +210,7 @@ won_newest : (p : Plan) (t u : Tables) (g i k : ℕ) (a b : ValueState) (c : Cal
 won_newest p t u g i k a b c before plan s step slot may e of_call =
     let puts = exchange-puts c may.key a b may.exchange in
     let same : may.key ≡ k = sym (exchange-key c may.key a b may.exchange) ∙ sym of_call in
-    let is : u.key g i ≡ Claimed k = key-claimed p t g i k (u.key g i) (step.key g i slot) (may.claimed ∙ ap Claimed same) in
+    let is : u.key g i ≡ Claimed k = key-claimed (step.key g i slot) (may.claimed ∙ ap Claimed same) in
     subst (IsNewest p u k) (ap content_of e ∙ sym (put-number a b before puts))
     (newest_at p u plan s g i k slot is (subst HasContent (sym e) (put-content a b puts))
     (none_above_unprimed p u s g i k slot is (subst IsUnprimed (sym e) (put-unprimed a b puts))))
