@@ -13,118 +13,7 @@ use Rattle.nb_core.specs.declared.states.KeyState.TheVariants.{Empty, Dead, Clai
 use Rattle.nb_core.specs.declared.states.ValueState.{ValueState}
 use Rattle.nb_core.specs.declared.states.ValueState.TheVariants.{Null, Tombstone, Live, PrimedNull, PrimedTombstone, Primed, Finished}
 
--- ---- headers
-
-keeps-next_is : (p : Plan) (t u : Tables) → IsSound p t → Step p t u → (g : ℕ) → (u.next g ≡ 0) ⊎ ((u.next g ≡ 1) × (suc g < generations_of p))
-keeps-next_is p t u s step g =
-    elim (step.next g) [
-      | NextKept e ↦ elim (s.next_is g) [ inl none ↦ inl (e ∙ none) | inr some ↦ inr (e ∙ some.0, some.1) ]
-      | Installs k may e ↦ inr (e, may.room)
-    ]
-
-keeps-ready : (p : Plan) (t u : Tables) → IsPlan p → IsSound p t → Step p t u → (g : ℕ) → u.next (suc g) ≡ 1 → (u.next g ≡ 1) × IsComplete p u g
-keeps-ready p t u plan s step g is =
-    elim (step.next (suc g)) [
-      | NextKept e ↦
-          let before = s.ready g (sym e ∙ is) in
-          let within = next-within p t s g before.0 in
-          (next-stays (step.next g) before.0, complete-stays p t u step g (omega arith) before.1)
-      | Installs k may e ↦
-          let room = may.room in
-          let next : t.next g ≡ 1 = complete-growing p t plan s g (omega arith) may.ready in
-          (next-stays (step.next g) next, complete-stays p t u step g (omega arith) may.ready)
-    ]
-
--- ---- keys
-
-reached-stays : (p : Plan) (t u : Tables) → IsPlan p → Step p t u → (g i k : ℕ) → g < generations_of p → IsReached p t g i k → IsReached p u g i k
-reached-stays p t u plan step g i k within r =
-    record { distance = r.distance; in_table = r.in_table; at = r.at; passed = others-stay p t u step plan g k r.distance within r.passed }
-
-keeps-claimed : (p : Plan) (t u : Tables) → IsPlan p → IsSound p t → Step p t u → (g i k : ℕ) → IsSlot p g i → u.key g i ≡ Claimed k → IsClaimedRight p u g i k
-keeps-claimed p t u plan s step g i k slot is =
-    elim (key-was (step.key g i slot) is) [
-      | inl was ↦
-          let before = s.claimed g i k slot was in
-          record {
-            key = before.key;
-            installed = installed-stays p t u step g before.installed;
-            reached = reached-stays p t u plan step g i k slot.0 before.reached;
-          }
-      | inr claims ↦
-          let may = claims.1 in
-          record {
-            key = claims.0;
-            installed = installed-stays p t u step g may.installed;
-            reached = record {
-              distance = may.distance;
-              in_table = may.on_path.0;
-              at = may.on_path.1;
-              passed = others-stay p t u step plan g k may.distance slot.0 may.passed;
-            };
-          }
-    ]
-
-keeps-dead : (p : Plan) (t u : Tables) → IsSound p t → Step p t u → (g i : ℕ) → IsSlot p g i → u.key g i ≡ Dead → u.next g ≡ 1
-keeps-dead p t u s step g i slot is =
-    elim (key-was_dead (step.key g i slot) is) [
-      | inl was ↦ next-stays (step.next g) (s.dead g i slot was)
-      | inr next ↦ next-stays (step.next g) next
-    ]
-
-below-stays : (p : Plan) (t u : Tables) → Step p t u → (g k : ℕ) → g < generations_of p → HasSlot p t g k ⊎ IsComplete p t g → HasSlot p u g k ⊎ IsComplete p u g
-below-stays p t u step g k within (inl has) = inl (slot-stays p t u step g k within has)
-below-stays p t u step g k within (inr complete) = inr (complete-stays p t u step g within complete)
-
-keeps-below : (p : Plan) (t u : Tables) → IsSound p t → Step p t u → (g k : ℕ) → suc g < generations_of p → HasSlot p u (suc g) k → HasSlot p u g k ⊎ IsComplete p u g
-keeps-below p t u s step g k within has =
-    elim (key-was (step.key (suc g) has.slot (within, has.in_table)) has.is) [
-      | inl was ↦ below-stays p t u step g k (omega arith) (s.below g k within (record { slot = has.slot; in_table = has.in_table; is = was }))
-      | inr claims ↦ elim (claims.1.reason) [
-        | inl copier ↦ below-stays p t u step g k (omega arith) (inl copier)
-        | inr fresh ↦ below-stays p t u step g k (omega arith) (inr fresh.0)
-      ]
-    ]
-
 -- ---- values
-
-keeps-growing : (p : Plan) (t u : Tables) → IsSound p t → Step p t u → (g i : ℕ) → IsSlot p g i → IsUnprimed (u.value g i) ⊎ (u.next g ≡ 1)
-keeps-growing p t u s step g i slot =
-    let stays = next-stays (step.next g) in
-    elim (step.value g i slot) [
-      | ValueKept e ↦ elim (s.growing g i slot) [ inl unprimed ↦ inl (subst IsUnprimed (sym e) unprimed) | inr next ↦ inr (stays next) ]
-      | Wins a b c may e ↦ inl (subst IsUnprimed (sym e) (put-unprimed a b (exchange-puts c may.key a b may.exchange)))
-      | Copies k n may e ↦ inl (subst IsUnprimed (sym e) tt)
-      | Primes may e ↦ inr (stays may.growing)
-      | Finishes may e ↦ inr (stays (primed-growing p t s g i slot (λ unprimed. subst IsUnprimed may.primed unprimed)))
-    ]
-
-key-stays-some : (p : Plan) (t u : Tables) → Step p t u → (g i k : ℕ) → IsSlot p g i → t.key g i ≡ Claimed k → HasKey (u.key g i)
-key-stays-some p t u step g i k slot is = record { key = k; is = key-claimed (step.key g i slot) is }
-
-keeps-bare : (p : Plan) (t u : Tables) → IsSound p t → Step p t u → (g i : ℕ) → IsSlot p g i → (u.value g i ≡ Null) ⊎ HasKey (u.key g i)
-keeps-bare p t u s step g i slot =
-    elim (step.value g i slot) [
-      | ValueKept e ↦ elim (s.bare g i slot) [ inl null ↦ inl (e ∙ null) | inr key ↦ inr (key-stays-some p t u step g i key.key slot key.is) ]
-      | Wins a b c may e ↦ inr (key-stays-some p t u step g i may.key slot may.claimed)
-      | Copies k n may e ↦ inr (key-stays-some p t u step g i k slot may.claimed)
-      | Primes may e ↦ inr (key-stays-some p t u step g i may.key slot may.claimed)
-      | Finishes may e ↦ inr (key-stays-some p t u step g i may.key slot may.claimed)
-    ]
-
--- a key that is being claimed has no slot in the table
-claim-is_first : (p : Plan) (t : Tables) → IsSound p t → (g i k : ℕ) → g < generations_of p → MayClaim p t g i k → HasSlot p t g k → ⊥
-claim-is_first p t s g i k within may has =
-    let empty : t.key g (path_slot p g k may.distance) ≡ Empty = ap (t.key g) may.on_path.1 ∙ may.empty in
-    no_slot-past p t s g k may.distance within may.passed (empty-unclaimed empty) has.slot has.in_table has.is
-
--- no slot of the key is claimed where the next table has one
-pub not_late : (p : Plan) (t : Tables) → IsSound p t → (g i k : ℕ) → suc g < generations_of p → IsSlot p g i → MayClaim p t g i k → HasSlot p t (suc g) k → ⊥
-not_late p t s g i k within slot may has =
-    elim (s.below g k within has) [
-      | inl below ↦ claim-is_first p t s g i k slot.0 may below
-      | inr complete ↦ finished-not_empty p t s g i slot (complete i slot.1) may.empty
-    ]
 
 -- under a final value anything may stand above, and under an unprimed one nothing
 final-above : (v above : ValueState) → IsFinishedValue v → MayBeAbove v above
@@ -140,58 +29,10 @@ above-primed Tombstone above may unprimed = may
 above-primed (Live n) above may unprimed = may
 above-primed _ above may unprimed = unprimed
 
--- what may stand above a value still may after a step below
-above-stays : (p : Plan) (t : Tables) (g i : ℕ) (to above : ValueState) → ValueStep p t g i to → MayBeAbove (t.value g i) above → MayBeAbove to above
-above-stays p t g i to above step may =
-    elim (value-primed step (above-primed (t.value g i) above may)) [
-      | inl e ↦ subst (λ v. MayBeAbove v above) (sym e) may
-      | inr finishes ↦ subst (λ v. MayBeAbove v above) (sym finishes.2) tt
-    ]
-
 -- the copy of a number may stand above it
 copy-above : (v : ValueState) (n : ℕ) → (v ≡ Primed n) ⊎ (v ≡ Finished n) → MayBeAbove v (Live n)
 copy-above v n (inl primed) = subst (λ x. MayBeAbove x (Live n)) (sym primed) refl
 copy-above v n (inr finished) = subst (λ x. MayBeAbove x (Live n)) (sym finished) tt
-
--- a slot with a key in a complete table is final after the step too
-final-above_step : (p : Plan) (t : Tables) (g i : ℕ) (to above : ValueState) → ValueStep p t g i to → IsFinishedValue (t.value g i) → MayBeAbove to above
-final-above_step p t g i to above step final =
-    subst (λ v. MayBeAbove v above) (sym (value-final step final)) (final-above (t.value g i) above final)
-
--- both slots were the key's before
-keeps-above_both : (p : Plan) (t u : Tables) → IsPlan p → IsSound p t → Step p t u → (g i j k : ℕ) → IsSlot p g i → IsSlot p (suc g) j → t.key g i ≡ Claimed k → t.key (suc g) j ≡ Claimed k → (u.value (suc g) j ≡ Null) ⊎ MayBeAbove (u.value g i) (u.value (suc g) j)
-keeps-above_both p t u plan s step g i j k i_slot j_slot i_is j_is =
-    let below = step.value g i i_slot in
-    let complete_below : t.next (suc g) ≡ 1 → IsFinishedValue (t.value g i) = λ next. finished-value t g i k ((s.ready g next).1 i i_slot.1) i_is in
-    elim (step.value (suc g) j j_slot) [
-      | ValueKept e ↦ elim (s.above g i j k i_slot j_slot i_is j_is) [
-        | inl null ↦ inl (e ∙ null)
-        | inr may ↦ inr (above-stays p t g i (u.value g i) (u.value (suc g) j) below (subst (MayBeAbove (t.value g i)) (sym e) may))
-      ]
-      | Wins a b c may e ↦
-          let same : k ≡ may.key = claimed-same (sym j_is ∙ may.claimed) in
-          inr (final-above_step p t g i (u.value g i) (u.value (suc g) j) below (may.settled i i_slot.1 (i_is ∙ ap Claimed same)))
-      | Copies k' n may e ↦
-          let same : k' ≡ k = claimed-same (sym may.claimed ∙ j_is) in
-          let source = may.primed in
-          let slot : source.0 ≡ i = one_slot p t plan s g source.0 i k (i_slot.0, source.1) i_slot (source.2 ∙ ap Claimed same) i_is in
-          let primed : t.value g i ≡ Primed n = ap (t.value g) (sym slot) ∙ source.3 in
-          inr (subst (MayBeAbove (u.value g i)) (sym e) (copy-above (u.value g i) n (value-frozen below (inl primed))))
-      | Primes may e ↦ inr (final-above_step p t g i (u.value g i) (u.value (suc g) j) below (complete_below may.growing))
-      | Finishes may e ↦
-          let next = primed-growing p t s (suc g) j j_slot (λ unprimed. subst IsUnprimed may.primed unprimed) in
-          inr (final-above_step p t g i (u.value g i) (u.value (suc g) j) below (complete_below next))
-    ]
-
-keeps-above : (p : Plan) (t u : Tables) → IsPlan p → IsSound p t → Step p t u → (g i j k : ℕ) → IsSlot p g i → IsSlot p (suc g) j → u.key g i ≡ Claimed k → u.key (suc g) j ≡ Claimed k → (u.value (suc g) j ≡ Null) ⊎ MayBeAbove (u.value g i) (u.value (suc g) j)
-keeps-above p t u plan s step g i j k i_slot j_slot i_is j_is =
-    elim (key-was (step.key (suc g) j j_slot) j_is) [
-      | inr claims ↦ inl (value-empty s j_slot (step.value (suc g) j j_slot) claims.1.empty)
-      | inl j_was ↦ elim (key-was (step.key g i i_slot) i_is) [
-        | inr claims ↦ absurd (not_late p t s g i k j_slot.0 i_slot claims.1 (record { slot = j; in_table = j_slot.1; is = j_was }))
-        | inl i_was ↦ keeps-above_both p t u plan s step g i j k i_slot j_slot i_was j_was
-      ]
-    ]
 
 -- a value that is neither null nor a primed one has a content
 content-is : (v : ValueState) → v ≢ Null → v ≢ PrimedNull → HasContent v
@@ -199,13 +40,47 @@ content-is Null some unprimed = some refl
 content-is PrimedNull some unprimed = unprimed refl
 content-is _ some unprimed = tt
 
-got-stays : (p : Plan) (t u : Tables) → Step p t u → (g k : ℕ) → HasGot p t g k → HasGot p u g k
-got-stays p t u step g k got = record {
-  slot = got.slot;
-  is_slot = got.is_slot;
-  is = key-claimed (step.key g got.slot got.is_slot) got.is;
-  content = value-content (step.value g got.slot got.is_slot) got.content;
-}
+primed-not_finished : (v : ValueState) (n : ℕ) → IsUnprimed v → primed v ≢ Finished n
+primed-not_finished Null n unprimed e = cc
+primed-not_finished Tombstone n unprimed e = cc
+primed-not_finished (Live m) n unprimed e = cc
+primed-not_finished PrimedNull n unprimed e = unprimed
+primed-not_finished PrimedTombstone n unprimed e = unprimed
+primed-not_finished (Primed m) n unprimed e = unprimed
+primed-not_finished (Finished m) n unprimed e = unprimed
+
+-- what may stand above a value still may after a step below
+above-stays :
+    {p : Plan} {t : Tables} {g i : ℕ} {to : ValueState} (above : ValueState) → ValueStep p t g i to → MayBeAbove (t.value g i) above
+    → MayBeAbove to above
+above-stays {t = t} {g = g} {i = i} above step may =
+    elim (value-primed step (above-primed (t.value g i) above may)) [
+      | inl e ↦ subst (λ v. MayBeAbove v above) (sym e) may
+      | inr finishes ↦ subst (λ v. MayBeAbove v above) (sym finishes.2) tt
+    ]
+
+-- a slot with a key in a complete table is final after the step too
+final-above_step :
+    {p : Plan} {t : Tables} {g i : ℕ} {to : ValueState} (above : ValueState) → ValueStep p t g i to → IsFinishedValue (t.value g i)
+    → MayBeAbove to above
+final-above_step {t = t} {g = g} {i = i} above step final =
+    subst (λ v. MayBeAbove v above) (sym (value-final step final)) (final-above (t.value g i) above final)
+
+-- ---- what an event needs
+
+-- a key that is being claimed has no slot in the table
+claim-is_first : (p : Plan) (t : Tables) → IsSound p t → (g i k : ℕ) → g < generations_of p → MayClaim p t g i k → HasSlot p t g k → ⊥
+claim-is_first p t s g i k within may has =
+    let empty : t.key g (path_slot p g k may.distance) ≡ Empty = ap (t.key g) may.on_path.1 ∙ may.empty in
+    no_slot-past p t s g k may.distance within may.passed (empty-unclaimed empty) has.slot has.in_table has.is
+
+-- no slot of the key is claimed where the next table has one
+pub not_late : (p : Plan) (t : Tables) → IsSound p t → (g i k : ℕ) → suc g < generations_of p → IsSlot p g i → MayClaim p t g i k → HasSlot p t (suc g) k → ⊥
+not_late p t s g i k within slot may has =
+    elim (s.below g k within has) [
+      | inl below ↦ claim-is_first p t s g i k slot.0 may below
+      | inr complete ↦ finished-not_empty p t s g i slot (complete i slot.1) may.empty
+    ]
 
 -- the value that a finished number was copied to is no primed null: its table has no next one yet
 finishes-got : (p : Plan) (t : Tables) → IsSound p t → (g i : ℕ) → IsSlot p g i → (may : MayFinish p t g i) → HasGot p t (suc g) may.key
@@ -222,43 +97,173 @@ finishes-got p t s g i slot may =
           subst IsFinishedValue may.primed (finished-value t g i may.key ((s.ready g above).1 i slot.1) may.claimed));
     }
 
-primed-not_finished : (v : ValueState) (n : ℕ) → IsUnprimed v → primed v ≢ Finished n
-primed-not_finished Null n unprimed e = cc
-primed-not_finished Tombstone n unprimed e = cc
-primed-not_finished (Live m) n unprimed e = cc
-primed-not_finished PrimedNull n unprimed e = unprimed
-primed-not_finished PrimedTombstone n unprimed e = unprimed
-primed-not_finished (Primed m) n unprimed e = unprimed
-primed-not_finished (Finished m) n unprimed e = unprimed
+-- ---- a step keeps each part of the invariant
 
-keeps-moved : (p : Plan) (t u : Tables) → IsSound p t → Step p t u → (g i k n : ℕ) → IsSlot p g i → u.key g i ≡ Claimed k → u.value g i ≡ Finished n → HasGot p u (suc g) k
-keeps-moved p t u s step g i k n slot is finished =
-    elim (key-was (step.key g i slot) is) [
-      | inr claims ↦
-          absurd (let e : Finished n ≡ Null = sym finished ∙ value-empty s slot (step.value g i slot) claims.1.empty in cc)
-      | inl was ↦ elim (step.value g i slot) [
-        | ValueKept e ↦ got-stays p t u step (suc g) k (s.moved g i k n slot was (sym e ∙ finished))
-        | Wins a b c may e ↦ absurd (subst IsUnprimed (sym e ∙ finished) (put-unprimed a b (exchange-puts c may.key a b may.exchange)))
-        | Copies q m may e ↦ absurd (let same : Live m ≡ Finished n = sym e ∙ finished in cc)
-        | Primes may e ↦ absurd (primed-not_finished (t.value g i) n may.unprimed (sym e ∙ finished))
-        | Finishes may e ↦ got-stays p t u step (suc g) k (subst (HasGot p t (suc g)) (claimed-same (sym may.claimed ∙ was)) (finishes-got p t s g i slot may))
+module _ (p : Plan) (t u : Tables) (plan : IsPlan p) (s : IsSound p t) (step : Step p t u) where
+  keeps-next_is : (g : ℕ) → (u.next g ≡ 0) ⊎ ((u.next g ≡ 1) × (suc g < generations_of p))
+  keeps-next_is g =
+      elim (step.next g) [
+        | NextKept e ↦ elim (s.next_is g) [ inl none ↦ inl (e ∙ none) | inr some ↦ inr (e ∙ some.0, some.1) ]
+        | Installs k may e ↦ inr (e, may.room)
       ]
-    ]
+
+  keeps-ready : (g : ℕ) → u.next (suc g) ≡ 1 → (u.next g ≡ 1) × IsComplete p u g
+  keeps-ready g is =
+      elim (step.next (suc g)) [
+        | NextKept e ↦
+            let before = s.ready g (sym e ∙ is) in
+            let within = next-within p t s g before.0 in
+            (next-stays (step.next g) before.0, complete-stays p t u step g (omega arith) before.1)
+        | Installs k may e ↦
+            let room = may.room in
+            let next : t.next g ≡ 1 = complete-growing p t plan s g (omega arith) may.ready in
+            (next-stays (step.next g) next, complete-stays p t u step g (omega arith) may.ready)
+      ]
+
+  reached-stays : (g i k : ℕ) → g < generations_of p → IsReached p t g i k → IsReached p u g i k
+  reached-stays g i k within r =
+      record { distance = r.distance; in_table = r.in_table; at = r.at; passed = others-stay p t u step plan g k r.distance within r.passed }
+
+  keeps-claimed : (g i k : ℕ) → IsSlot p g i → u.key g i ≡ Claimed k → IsClaimedRight p u g i k
+  keeps-claimed g i k slot is =
+      elim (key-was (step.key g i slot) is) [
+        | inl was ↦
+            let before = s.claimed g i k slot was in
+            record {
+              key = before.key;
+              installed = installed-stays p t u step g before.installed;
+              reached = reached-stays g i k slot.0 before.reached;
+            }
+        | inr claims ↦
+            let may = claims.1 in
+            record {
+              key = claims.0;
+              installed = installed-stays p t u step g may.installed;
+              reached = reached-stays g i k slot.0 (record {
+                distance = may.distance;
+                in_table = may.on_path.0;
+                at = may.on_path.1;
+                passed = may.passed;
+              });
+            }
+      ]
+
+  keeps-dead : (g i : ℕ) → IsSlot p g i → u.key g i ≡ Dead → u.next g ≡ 1
+  keeps-dead g i slot is =
+      elim (key-was_dead (step.key g i slot) is) [
+        | inl was ↦ next-stays (step.next g) (s.dead g i slot was)
+        | inr next ↦ next-stays (step.next g) next
+      ]
+
+  below-stays : (g k : ℕ) → g < generations_of p → HasSlot p t g k ⊎ IsComplete p t g → HasSlot p u g k ⊎ IsComplete p u g
+  below-stays g k within (inl has) = inl (slot-stays p t u step g k within has)
+  below-stays g k within (inr complete) = inr (complete-stays p t u step g within complete)
+
+  keeps-below : (g k : ℕ) → suc g < generations_of p → HasSlot p u (suc g) k → HasSlot p u g k ⊎ IsComplete p u g
+  keeps-below g k within has =
+      elim (key-was (step.key (suc g) has.slot (within, has.in_table)) has.is) [
+        | inl was ↦ below-stays g k (omega arith) (s.below g k within (record { slot = has.slot; in_table = has.in_table; is = was }))
+        | inr claims ↦ elim (claims.1.reason) [
+          | inl copier ↦ below-stays g k (omega arith) (inl copier)
+          | inr fresh ↦ below-stays g k (omega arith) (inr fresh.0)
+        ]
+      ]
+
+  keeps-growing : (g i : ℕ) → IsSlot p g i → IsUnprimed (u.value g i) ⊎ (u.next g ≡ 1)
+  keeps-growing g i slot =
+      let stays = next-stays (step.next g) in
+      elim (step.value g i slot) [
+        | ValueKept e ↦ elim (s.growing g i slot) [ inl unprimed ↦ inl (subst IsUnprimed (sym e) unprimed) | inr next ↦ inr (stays next) ]
+        | Wins a b c may e ↦ inl (subst IsUnprimed (sym e) (put-unprimed a b (exchange-puts c may.key a b may.exchange)))
+        | Copies k n may e ↦ inl (subst IsUnprimed (sym e) tt)
+        | Primes may e ↦ inr (stays may.growing)
+        | Finishes may e ↦ inr (stays (primed-growing p t s g i slot (λ unprimed. subst IsUnprimed may.primed unprimed)))
+      ]
+
+  key-stays-some : (g i k : ℕ) → IsSlot p g i → t.key g i ≡ Claimed k → HasKey (u.key g i)
+  key-stays-some g i k slot is = record { key = k; is = key-claimed (step.key g i slot) is }
+
+  keeps-bare : (g i : ℕ) → IsSlot p g i → (u.value g i ≡ Null) ⊎ HasKey (u.key g i)
+  keeps-bare g i slot =
+      elim (step.value g i slot) [
+        | ValueKept e ↦ elim (s.bare g i slot) [ inl null ↦ inl (e ∙ null) | inr key ↦ inr (key-stays-some g i key.key slot key.is) ]
+        | Wins a b c may e ↦ inr (key-stays-some g i may.key slot may.claimed)
+        | Copies k n may e ↦ inr (key-stays-some g i k slot may.claimed)
+        | Primes may e ↦ inr (key-stays-some g i may.key slot may.claimed)
+        | Finishes may e ↦ inr (key-stays-some g i may.key slot may.claimed)
+      ]
+
+  -- both slots were the key's before
+  keeps-above_both : (g i j k : ℕ) → IsSlot p g i → IsSlot p (suc g) j → t.key g i ≡ Claimed k → t.key (suc g) j ≡ Claimed k → (u.value (suc g) j ≡ Null) ⊎ MayBeAbove (u.value g i) (u.value (suc g) j)
+  keeps-above_both g i j k i_slot j_slot i_is j_is =
+      let below = step.value g i i_slot in
+      let complete_below : t.next (suc g) ≡ 1 → IsFinishedValue (t.value g i) = λ next. finished-value t g i k ((s.ready g next).1 i i_slot.1) i_is in
+      elim (step.value (suc g) j j_slot) [
+        | ValueKept e ↦ elim (s.above g i j k i_slot j_slot i_is j_is) [
+          | inl null ↦ inl (e ∙ null)
+          | inr may ↦ inr (above-stays _ below (subst (MayBeAbove (t.value g i)) (sym e) may))
+        ]
+        | Wins a b c may e ↦
+            let same : k ≡ may.key = claimed-same (sym j_is ∙ may.claimed) in
+            inr (final-above_step _ below (may.settled i i_slot.1 (i_is ∙ ap Claimed same)))
+        | Copies k' n may e ↦
+            let same : k' ≡ k = claimed-same (sym may.claimed ∙ j_is) in
+            let source = may.primed in
+            let slot : source.0 ≡ i = one_slot p t plan s g source.0 i k (i_slot.0, source.1) i_slot (source.2 ∙ ap Claimed same) i_is in
+            let primed : t.value g i ≡ Primed n = ap (t.value g) (sym slot) ∙ source.3 in
+            inr (subst (MayBeAbove (u.value g i)) (sym e) (copy-above (u.value g i) n (value-frozen below (inl primed))))
+        | Primes may e ↦ inr (final-above_step _ below (complete_below may.growing))
+        | Finishes may e ↦
+            let next = primed-growing p t s (suc g) j j_slot (λ unprimed. subst IsUnprimed may.primed unprimed) in
+            inr (final-above_step _ below (complete_below next))
+      ]
+
+  keeps-above : (g i j k : ℕ) → IsSlot p g i → IsSlot p (suc g) j → u.key g i ≡ Claimed k → u.key (suc g) j ≡ Claimed k → (u.value (suc g) j ≡ Null) ⊎ MayBeAbove (u.value g i) (u.value (suc g) j)
+  keeps-above g i j k i_slot j_slot i_is j_is =
+      elim (key-was (step.key (suc g) j j_slot) j_is) [
+        | inr claims ↦ inl (value-empty s j_slot (step.value (suc g) j j_slot) claims.1.empty)
+        | inl j_was ↦ elim (key-was (step.key g i i_slot) i_is) [
+          | inr claims ↦ absurd (not_late p t s g i k j_slot.0 i_slot claims.1 (record { slot = j; in_table = j_slot.1; is = j_was }))
+          | inl i_was ↦ keeps-above_both g i j k i_slot j_slot i_was j_was
+        ]
+      ]
+
+  got-stays : (g k : ℕ) → HasGot p t g k → HasGot p u g k
+  got-stays g k got = record {
+    slot = got.slot;
+    is_slot = got.is_slot;
+    is = key-claimed (step.key g got.slot got.is_slot) got.is;
+    content = value-content (step.value g got.slot got.is_slot) got.content;
+  }
+
+  keeps-moved : (g i k n : ℕ) → IsSlot p g i → u.key g i ≡ Claimed k → u.value g i ≡ Finished n → HasGot p u (suc g) k
+  keeps-moved g i k n slot is finished =
+      elim (key-was (step.key g i slot) is) [
+        | inr claims ↦
+            absurd (let e : Finished n ≡ Null = sym finished ∙ value-empty s slot (step.value g i slot) claims.1.empty in cc)
+        | inl was ↦ elim (step.value g i slot) [
+          | ValueKept e ↦ got-stays (suc g) k (s.moved g i k n slot was (sym e ∙ finished))
+          | Wins a b c may e ↦ absurd (subst IsUnprimed (sym e ∙ finished) (put-unprimed a b (exchange-puts c may.key a b may.exchange)))
+          | Copies q m may e ↦ absurd (let same : Live m ≡ Finished n = sym e ∙ finished in cc)
+          | Primes may e ↦ absurd (primed-not_finished (t.value g i) n may.unprimed (sym e ∙ finished))
+          | Finishes may e ↦ got-stays (suc g) k (subst (HasGot p t (suc g)) (claimed-same (sym may.claimed ∙ was)) (finishes-got p t s g i slot may))
+        ]
+      ]
+
+  keeps : IsSound p u
+  keeps = record {
+    next_is = keeps-next_is;
+    ready = keeps-ready;
+    claimed = keeps-claimed;
+    dead = keeps-dead;
+    growing = keeps-growing;
+    bare = keeps-bare;
+    below = keeps-below;
+    above = keeps-above;
+    moved = keeps-moved;
+  }
 
 -- ---- the invariant
-
-keeps : (p : Plan) (t u : Tables) → IsPlan p → IsSound p t → Step p t u → IsSound p u
-keeps p t u plan s step = record {
-  next_is = keeps-next_is p t u s step;
-  ready = keeps-ready p t u plan s step;
-  claimed = keeps-claimed p t u plan s step;
-  dead = keeps-dead p t u s step;
-  growing = keeps-growing p t u s step;
-  bare = keeps-bare p t u s step;
-  below = keeps-below p t u s step;
-  above = keeps-above p t u plan s step;
-  moved = keeps-moved p t u s step;
-}
 
 -- tables with nothing in them
 record IsBlank (p : Plan) (t : Tables) : Type 0 where

@@ -87,6 +87,9 @@ module _ {p : Plan} {t : Tables} {g i : ℕ} {to : ValueState} where
         | inr finishes ↦ absurd (subst IsFinishedValue finishes.1 final)
       ]
 
+  pub value-still_final : ValueStep p t g i to → IsFinishedValue (t.value g i) → IsFinishedValue to
+  value-still_final step final = subst IsFinishedValue (sym (value-final step final)) final
+
   -- a number that is primed stays, primed or finished
   pub value-frozen : {n : ℕ} → ValueStep p t g i to → IsFrozen t g i n → (to ≡ Primed n) ⊎ (to ≡ Finished n)
   value-frozen {n} step (inl primed) =
@@ -165,7 +168,7 @@ module _ (p : Plan) (t u : Tables) (step : Step p t u) where
 
   pub finished-stays : (g i : ℕ) → IsSlot p g i → IsFinished t g i → IsFinished u g i
   finished-stays g i slot (inl dead) = inl (key-dead (step.key g i slot) dead)
-  finished-stays g i slot (inr final) = inr (subst IsFinishedValue (sym (value-final (step.value g i slot) final)) final)
+  finished-stays g i slot (inr final) = inr (value-still_final (step.value g i slot) final)
 
   pub complete-stays : (g : ℕ) → g < generations_of p → IsComplete p t g → IsComplete p u g
   complete-stays g within complete i below = finished-stays g i (within, below) (complete i below)

@@ -5,7 +5,7 @@ use Rattle.nb_core.specs.Tables.{HasSlot, IsFinishedValue, IsReady, IsSettledBel
 use Rattle.nb_core.specs.History.{HasValue}
 use Rattle.nb_core.specs.Laws.{BeginningsAreLegal, ContentOnce, IsPassed, AtSlot, UpToDead, Whole, Lasts, SeenLasts, SlotsStay, Stays}
 use Rattle.nb_core.proofs.Keeping.{not_late, sound}
-use Rattle.nb_core.proofs.Lasting.{complete-stays, finished-stays, installed-stays, key-claimed, key-dead, key-was, others-stay, slot-stays, value-content, value-final, value-frozen, value-some}
+use Rattle.nb_core.proofs.Lasting.{complete-stays, finished-stays, installed-stays, key-claimed, key-dead, key-was, others-stay, slot-stays, value-content, value-final, value-frozen, value-some, value-still_final}
 use Rattle.nb_core.proofs.Sound.{IsSound, dead-null, finished-not_empty, path_slot-is_slot}
 use Rattle.nb_core.proofs.Steps.{Step, TopKept, Promotes, step_of}
 use Rattle.nb_core.specs.declared.states.KeyState.{KeyState}
@@ -13,63 +13,63 @@ use Rattle.nb_core.specs.declared.states.KeyState.TheVariants.{Empty, Dead, Clai
 
 -- ---- one step
 
-passed-stays : (p : Plan) (t u : Tables) → IsPlan p → Step p t u → (g k : ℕ) → g < generations_of p → IsPassed p t g k → IsPassed p u g k
-passed-stays p t u plan step g k within (AtSlot i below is final) =
-    AtSlot i below (key-claimed (step.key g i (within, below)) is)
-    (subst IsFinishedValue (sym (value-final (step.value g i (within, below)) final)) final)
-passed-stays p t u plan step g k within (UpToDead d below others dead) =
-    let slot = path_slot-is_slot p plan g k d within in
-    UpToDead d below (others-stay p t u step plan g k d within others) (key-dead (step.key g (path_slot p g k d) slot) dead)
-passed-stays p t u plan step g k within (Whole others) = Whole (others-stay p t u step plan g k (size_of p g) within others)
+module _ (p : Plan) (t u : Tables) (plan : IsPlan p) (s : IsSound p t) (step : Step p t u) where
+  passed-stays : (g k : ℕ) → g < generations_of p → IsPassed p t g k → IsPassed p u g k
+  passed-stays g k within (AtSlot i below is final) =
+      AtSlot i below (key-claimed (step.key g i (within, below)) is) (value-still_final (step.value g i (within, below)) final)
+  passed-stays g k within (UpToDead d below others dead) =
+      let slot = path_slot-is_slot p plan g k d within in
+      UpToDead d below (others-stay p t u step plan g k d within others) (key-dead (step.key g (path_slot p g k d) slot) dead)
+  passed-stays g k within (Whole others) = Whole (others-stay p t u step plan g k (size_of p g) within others)
 
-value-stays : (p : Plan) (t u : Tables) → Step p t u → (g k : ℕ) → g < generations_of p → HasValue p t g k → HasValue p u g k
-value-stays p t u step g k within has = record {
-  slot = has.slot;
-  in_table = has.in_table;
-  is = key-claimed (step.key g has.slot (within, has.in_table)) has.is;
-  some = value-some (step.value g has.slot (within, has.in_table)) has.some;
-}
+  value-stays : (g k : ℕ) → g < generations_of p → HasValue p t g k → HasValue p u g k
+  value-stays g k within has = record {
+    slot = has.slot;
+    in_table = has.in_table;
+    is = key-claimed (step.key g has.slot (within, has.in_table)) has.is;
+    some = value-some (step.value g has.slot (within, has.in_table)) has.some;
+  }
 
-ready-stays : (p : Plan) (t u : Tables) → Step p t u → (g : ℕ) → g < generations_of p → IsReady p t g → IsReady p u g
-ready-stays p t u step zero within ready = tt
-ready-stays p t u step (suc g) within ready = complete-stays p t u step g (omega arith) ready
+  ready-stays : (g : ℕ) → g < generations_of p → IsReady p t g → IsReady p u g
+  ready-stays zero within ready = tt
+  ready-stays (suc g) within ready = complete-stays p t u step g (omega arith) ready
 
--- a key with a slot above gets none below, so what is settled is so for ever
-settled-stays : (p : Plan) (t u : Tables) → IsSound p t → Step p t u → (g k : ℕ) → g < generations_of p → HasSlot p t g k → IsSettledBelow p t g k → IsSettledBelow p u g k
-settled-stays p t u s step zero k within has settled = tt
-settled-stays p t u s step (suc g) k within has settled = λ i below is.
-    let slot : IsSlot p g i = (omega arith, below) in
-    elim (key-was (step.key g i slot) is) [
-      | inl was ↦ (let final = settled i below was in subst IsFinishedValue (sym (value-final (step.value g i slot) final)) final)
-      | inr claims ↦ absurd (not_late p t s g i k within slot claims.1 has)
-    ]
+  -- a key with a slot above gets none below, so what is settled is so for ever
+  settled-stays : (g k : ℕ) → g < generations_of p → HasSlot p t g k → IsSettledBelow p t g k → IsSettledBelow p u g k
+  settled-stays zero k within has settled = tt
+  settled-stays (suc g) k within has settled = λ i below is.
+      let slot : IsSlot p g i = (omega arith, below) in
+      elim (key-was (step.key g i slot) is) [
+        | inl was ↦ value-still_final (step.value g i slot) (settled i below was)
+        | inr claims ↦ absurd (not_late p t s g i k within slot claims.1 has)
+      ]
 
-top-rises : (p : Plan) (t u : Tables) → Step p t u → t.top ≤ u.top
-top-rises p t u step =
-    elim (step.top) [
-      | TopKept e ↦ omega arith
-      | Promotes g within may e ↦ (let higher = may.higher in omega arith)
-    ]
+  top-rises : t.top ≤ u.top
+  top-rises =
+      elim (step.top) [
+        | TopKept e ↦ omega arith
+        | Promotes g within may e ↦ (let higher = may.higher in omega arith)
+      ]
 
-lasts-step : (p : Plan) (t u : Tables) → IsPlan p → IsSound p t → Step p t u → Lasts p t u
-lasts-step p t u plan s step = record {
-  installed = installed-stays p t u step;
-  claimed = λ g i k slot is. key-claimed (step.key g i slot) is;
-  dead = λ g i slot is. key-dead (step.key g i slot) is;
-  others = others-stay p t u step plan;
-  passed = passed-stays p t u plan step;
-  has_slot = slot-stays p t u step;
-  has_value = value-stays p t u step;
-  some = λ g i slot some. value-some (step.value g i slot) some;
-  content = λ g i slot content. value-content (step.value g i slot) content;
-  frozen = λ g i n slot frozen. value-frozen (step.value g i slot) frozen;
-  final = λ g i slot final. value-final (step.value g i slot) final;
-  finished = finished-stays p t u step;
-  complete = complete-stays p t u step;
-  ready = ready-stays p t u step;
-  settled = settled-stays p t u s step;
-  top = top-rises p t u step;
-}
+  lasts-step : Lasts p t u
+  lasts-step = record {
+    installed = installed-stays p t u step;
+    claimed = λ g i k slot is. key-claimed (step.key g i slot) is;
+    dead = λ g i slot is. key-dead (step.key g i slot) is;
+    others = others-stay p t u step plan;
+    passed = passed-stays;
+    has_slot = slot-stays p t u step;
+    has_value = value-stays;
+    some = λ g i slot some. value-some (step.value g i slot) some;
+    content = λ g i slot content. value-content (step.value g i slot) content;
+    frozen = λ g i n slot frozen. value-frozen (step.value g i slot) frozen;
+    final = λ g i slot final. value-final (step.value g i slot) final;
+    finished = finished-stays p t u step;
+    complete = complete-stays p t u step;
+    ready = ready-stays;
+    settled = settled-stays;
+    top = top-rises;
+  }
 
 -- ---- many steps
 
