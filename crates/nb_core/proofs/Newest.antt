@@ -9,7 +9,7 @@ use Rattle.nb_core.proofs.Frames.{finished, key_first, value_after, value_frame}
 use Rattle.nb_core.proofs.Keeping.{above-primed, sound}
 use Rattle.nb_core.proofs.Lasting.{exchange-key, exchange-puts, key-claimed, key-was, put-content, put-number, put-unprimed, value-empty}
 use Rattle.nb_core.proofs.Legality.{number_at, number_left}
-use Rattle.nb_core.proofs.Sound.{IsSound, claimed-same, complete-below, finished-value, one_slot, unprimed-not_final}
+use Rattle.nb_core.proofs.Sound.{IsSound, claimed-same, complete-below, empty-unclaimed, finished-value, one_slot, unprimed-not_final}
 use Rattle.nb_core.proofs.Steps.{KeyStep, Step, ValueStep, step_of}
 use Rattle.nb_core.proofs.Words.{at_slot, same_both}
 use Rattle.nb_core.specs.declared.calls.Call.{Call}
@@ -29,18 +29,18 @@ record HasSame (a b : ValueState) : Type 0 where
   number : content_of b ≡ content_of a
 
 -- a value has the same as itself
-same_itself : (a : ValueState) → HasSame a a
-same_itself a = record { there = λ h. h; back = λ h. h; number = refl }
+HasSame-refl : (a : ValueState) → HasSame a a
+HasSame-refl a = record { there = λ h. h; back = λ h. h; number = refl }
 
 -- to prime a value leaves its number
-same_primed : (a : ValueState) → HasSame a (primed a)
-same_primed PrimedNull = same_itself PrimedNull
-same_primed _ = record { there = λ h. h; back = λ h. h; number = refl }
+HasSame-primed : (a : ValueState) → HasSame a (primed a)
+HasSame-primed PrimedNull = HasSame-refl PrimedNull
+HasSame-primed _ = record { there = λ h. h; back = λ h. h; number = refl }
 
 -- so does to finish it
-same_finished : (a : ValueState) → HasSame a (finished a)
-same_finished (Primed n) = record { there = λ h. h; back = λ h. h; number = refl }
-same_finished _ = same_itself _
+HasSame-finished : (a : ValueState) → HasSame a (finished a)
+HasSame-finished (Primed n) = record { there = λ h. h; back = λ h. h; number = refl }
+HasSame-finished _ = HasSame-refl _
 
 -- ---- tables
 
@@ -53,58 +53,57 @@ abbrev pub HasNoneFrom : Plan → Tables → ℕ → ℕ → Type 0
 HasNoneFrom p t k g = (f : ℕ) → g ≤ f → HasNoneIn p t k f
 
 -- what holds of a number and of all above it holds from it on
-pub from_it_on : (P : ℕ → Type 0) (g : ℕ) → P g → ((f : ℕ) → suc g ≤ f → P f) → (f : ℕ) → g ≤ f → P f
-from_it_on P g here above f from =
+pub from_suc : (P : ℕ → Type 0) (g : ℕ) → P g → ((f : ℕ) → suc g ≤ f → P f) → (f : ℕ) → g ≤ f → P f
+from_suc P g here above f from =
     elim (cases_order g f) [
       | inl same ↦ subst P same here
       | inr (inl less) ↦ above f less
       | inr (inr more) ↦ absurd (omega arith)
     ]
 
--- where the key has none in its slot and none above, it has none from this table on
-pub none_from_slot : (p : Plan) (t : Tables) → IsPlan p → IsSound p t → (g i k : ℕ) → IsSlot p g i → t.key g i ≡ Claimed k
-    → (HasContent (t.value g i) → ⊥) → HasNoneFrom p t k (suc g) → HasNoneFrom p t k g
-none_from_slot p t plan s g i k slot is none =
-    from_it_on (HasNoneIn p t k) g
-    (λ j j_slot j_is content. none (subst (λ j. HasContent (t.value g j)) (one_slot p t plan s g j i k j_slot slot j_is is) content))
-
--- above an unprimed value the key never got a number
-pub none_above_unprimed : (p : Plan) (t : Tables) → IsSound p t → (g i k : ℕ) → IsSlot p g i → t.key g i ≡ Claimed k
-    → IsUnprimed (t.value g i) → HasNoneFrom p t k (suc g)
-none_above_unprimed p t s g i k slot is unprimed =
-    from_it_on (HasNoneIn p t k) (suc g)
-    (λ j j_slot j_is content. elim (s.above g i j k slot j_slot is j_is) [
-      | inl null ↦ subst HasContent null content
-      | inr may ↦ above-primed (t.value g i) (t.value (suc g) j) may unprimed
-    ])
-    (λ f above j j_slot j_is content.
-    unprimed-not_final (t.value g i) unprimed
-    (finished-value t g i k (complete-below p t s f g above (s.claimed f j k j_slot j_is).installed i slot.1) is))
-
--- ---- the newest number
-
 -- The number is the one in the key's newest value that isn't null: above it the key never got a number. Where the key
 -- never got one at all, it is none.
 pub record IsNewest (p : Plan) (t : Tables) (k : ℕ) (number : Option ℕ) : Type 0 where
-  pub at : (g i : ℕ) → IsSlot p g i → t.key g i ≡ Claimed k → HasContent (t.value g i) → HasNoneFrom p t k (suc g) → number ≡ content_of (t.value g i)
+  pub at :
+      (g i : ℕ) → IsSlot p g i → t.key g i ≡ Claimed k → HasContent (t.value g i) → HasNoneFrom p t k (suc g)
+      → number ≡ content_of (t.value g i)
   pub never : HasNoneFrom p t k 0 → number ≡ None
 
--- a value above which the key never got a number has the newest one
-newest_at : (p : Plan) (t : Tables) → IsPlan p → IsSound p t → (g i k : ℕ) → IsSlot p g i → t.key g i ≡ Claimed k
-    → HasContent (t.value g i) → HasNoneFrom p t k (suc g) → IsNewest p t k (content_of (t.value g i))
-newest_at p t plan s g i k slot is content none = record {
-  at = λ f j j_slot j_is j_content j_none.
-      elim (cases_order f g) [
-        | inl same ↦ at_table f same j j_slot j_is
-        | inr (inl less) ↦ absurd (j_none g less i slot is content)
-        | inr (inr more) ↦ absurd (none f more j j_slot j_is j_content)
-      ];
-  never = λ nowhere. absurd (nowhere g (omega arith) i slot is content);
-}
-  where
-    at_table : (f : ℕ) → f ≡ g → (j : ℕ) → IsSlot p f j → t.key f j ≡ Claimed k → content_of (t.value g i) ≡ content_of (t.value f j)
-    at_table f same = subst (λ f. (j : ℕ) → IsSlot p f j → t.key f j ≡ Claimed k → content_of (t.value g i) ≡ content_of (t.value f j)) (sym same)
-        (λ j j_slot j_is. ap (λ j. content_of (t.value g j)) (one_slot p t plan s g i j k slot j_slot is j_is))
+module _ (p : Plan) (t : Tables) (plan : IsPlan p) (s : IsSound p t) (k g i : ℕ) (slot : IsSlot p g i) (is : t.key g i ≡ Claimed k) where
+  -- where the key has none in its slot and none above, it has none from this table on
+  pub HasNoneFrom-slot : (HasContent (t.value g i) → ⊥) → HasNoneFrom p t k (suc g) → HasNoneFrom p t k g
+  HasNoneFrom-slot none =
+      from_suc (HasNoneIn p t k) g
+      (λ j j_slot j_is content. none (subst (λ j. HasContent (t.value g j)) (one_slot p t plan s g j i k j_slot slot j_is is) content))
+
+  -- above an unprimed value the key never got a number
+  pub HasNoneFrom-unprimed : IsUnprimed (t.value g i) → HasNoneFrom p t k (suc g)
+  HasNoneFrom-unprimed unprimed =
+      from_suc (HasNoneIn p t k) (suc g)
+      (λ j j_slot j_is content. elim (s.above g i j k slot j_slot is j_is) [
+        | inl null ↦ subst HasContent null content
+        | inr may ↦ above-primed (t.value g i) (t.value (suc g) j) may unprimed
+      ])
+      (λ f above j j_slot j_is content.
+      let installed = (s.claimed f j k j_slot j_is).installed in
+      unprimed-not_final (t.value g i) unprimed (finished-value t g i k (complete-below p t s f g above installed i slot.1) is))
+
+  -- a value above which the key never got a number has the newest one
+  IsNewest-at : HasContent (t.value g i) → HasNoneFrom p t k (suc g) → IsNewest p t k (content_of (t.value g i))
+  IsNewest-at content none = record {
+    at = λ f j j_slot j_is j_content j_none.
+        elim (cases_order f g) [
+          | inl same ↦ in_table f same j j_slot j_is
+          | inr (inl less) ↦ absurd (j_none g less i slot is content)
+          | inr (inr more) ↦ absurd (none f more j j_slot j_is j_content)
+        ];
+    never = λ nowhere. absurd (nowhere g (omega arith) i slot is content);
+  }
+    where
+      in_table : (f : ℕ) → f ≡ g → (j : ℕ) → IsSlot p f j → t.key f j ≡ Claimed k → content_of (t.value g i) ≡ content_of (t.value f j)
+      in_table f same =
+          subst (λ f. (j : ℕ) → IsSlot p f j → t.key f j ≡ Claimed k → content_of (t.value g i) ≡ content_of (t.value f j)) (sym same)
+          (λ j j_slot j_is. ap (λ j. content_of (t.value g j)) (one_slot p t plan s g i j k slot j_slot is j_is))
 
 -- ---- a step without an exchange on the key
 
@@ -113,49 +112,49 @@ data QuietStep (p : Plan) (t : Tables) (g i k : ℕ) (to : ValueState) : Type 0 
   Stays : HasSame (t.value g i) to → QuietStep p t g i k to
   CopiesUp : (n : ℕ) → IsPrimedBelow p t g k n → t.value g i ≡ Null → to ≡ Live n → QuietStep p t g i k to
 
--- a slot of a key that has got a number was the key's before the step
-claimed_before :
-    (p : Plan) (t : Tables) (g i k : ℕ) (key : KeyState) (value : ValueState) → IsSound p t → IsSlot p g i
-    → KeyStep p t g i key → ValueStep p t g i value → key ≡ Claimed k → HasContent value → t.key g i ≡ Claimed k
-claimed_before p t g i k key value s slot key_step value_step is content =
-    elim (key-was key_step is) [
-      | inl was ↦ was
-      | inr claims ↦ absurd (subst HasContent (value-empty s slot value_step claims.1.empty) content)
-    ]
-
 -- what the key has got it keeps
-content_stays : (p : Plan) (t : Tables) (g i k : ℕ) (to : ValueState) → QuietStep p t g i k to → HasContent (t.value g i) → HasContent to
-content_stays p t g i k to (Stays same) content = same.there content
-content_stays p t g i k to (CopiesUp n below null e) content = absurd (subst HasContent null content)
+quiet-content : {p : Plan} {t : Tables} {g i k : ℕ} {to : ValueState} → QuietStep p t g i k to → HasContent (t.value g i) → HasContent to
+quiet-content (Stays same) content = same.there content
+quiet-content (CopiesUp n below null e) content = absurd (subst HasContent null content)
 
--- in such a step the key stays without a number where it has none afterwards
-none_before : (p : Plan) (t u : Tables) (k n : ℕ) → Step p t u
-    → ((g i : ℕ) → IsSlot p g i → t.key g i ≡ Claimed k → QuietStep p t g i k (u.value g i)) → HasNoneFrom p u k n → HasNoneFrom p t k n
-none_before p t u k n step quiet none g from i slot is content =
-    none g from i slot (key-claimed (step.key g i slot) is) (content_stays p t g i k (u.value g i) (quiet g i slot is) content)
+module _
+    (p : Plan) (t u : Tables) (plan : IsPlan p) (s : IsSound p t) (step : Step p t u) (k : ℕ)
+    (quiet : (g i : ℕ) → IsSlot p g i → t.key g i ≡ Claimed k → QuietStep p t g i k (u.value g i)) where
+  -- a slot of a key that has got a number was the key's before the step
+  claimed-before : (g i : ℕ) → IsSlot p g i → u.key g i ≡ Claimed k → HasContent (u.value g i) → t.key g i ≡ Claimed k
+  claimed-before g i slot is content =
+      elim (key-was (step.key g i slot) is) [
+        | inl was ↦ was
+        | inr claims ↦ absurd (subst HasContent (value-empty s slot (step.value g i slot) claims.1.empty) content)
+      ]
 
--- a number that is copied up was the newest
-copied_newest : (p : Plan) (t : Tables) (g i k n : ℕ) (number : Option ℕ) → IsPlan p → IsSound p t → IsNewest p t k number
-    → IsSlot p g i → t.key g i ≡ Claimed k → t.value g i ≡ Null → IsPrimedBelow p t g k n → HasNoneFrom p t k (suc g) → number ≡ Some n
-copied_newest p t zero i k n number plan s newest slot is null below none = absurd below
-copied_newest p t (suc g) i k n number plan s newest slot is null below none =
-    newest.at g below.0 (omega arith, below.1) below.2 (subst HasContent (sym below.3) tt)
-    (none_from_slot p t plan s (suc g) i k slot is (λ content. subst HasContent null content) none)
-    ∙ ap content_of below.3
+  -- where the key has no number after the step it had none before
+  none-before : (g : ℕ) → HasNoneFrom p u k g → HasNoneFrom p t k g
+  none-before g none f from i slot is content =
+      none f from i slot (key-claimed (step.key f i slot) is) (quiet-content (quiet f i slot is) content)
 
--- what is newest stays so in such a step
-newest_stays : (p : Plan) (t u : Tables) (k : ℕ) (number : Option ℕ) → IsPlan p → IsSound p t → Step p t u
-    → ((g i : ℕ) → IsSlot p g i → t.key g i ≡ Claimed k → QuietStep p t g i k (u.value g i)) → IsNewest p t k number → IsNewest p u k number
-newest_stays p t u k number plan s step quiet newest = record {
-  at = λ g i slot is content none.
-      let before = claimed_before p t g i k (u.key g i) (u.value g i) s slot (step.key g i slot) (step.value g i slot) is content in
-      let none_there = none_before p t u k (suc g) step quiet none in
-      elim (quiet g i slot before) [
-        | Stays same ↦ newest.at g i slot before (same.back content) none_there ∙ sym same.number
-        | CopiesUp n below null e ↦ copied_newest p t g i k n number plan s newest slot before null below none_there ∙ sym (ap content_of e)
-      ];
-  never = λ none. newest.never (none_before p t u k 0 step quiet none);
-}
+  -- a number that is copied up was the newest
+  copied-newest :
+      (number : Option ℕ) → IsNewest p t k number → (g i n : ℕ) → IsSlot p g i → t.key g i ≡ Claimed k → t.value g i ≡ Null
+      → IsPrimedBelow p t g k n → HasNoneFrom p t k (suc g) → number ≡ Some n
+  copied-newest number newest zero i n slot is null below none = absurd below
+  copied-newest number newest (suc g) i n slot is null below none =
+      newest.at g below.0 (omega arith, below.1) below.2 (subst HasContent (sym below.3) tt)
+      (HasNoneFrom-slot p t plan s k (suc g) i slot is (λ content. subst HasContent null content) none)
+      ∙ ap content_of below.3
+
+  -- what is newest stays so
+  IsNewest-quiet : (number : Option ℕ) → IsNewest p t k number → IsNewest p u k number
+  IsNewest-quiet number newest = record {
+    at = λ g i slot is content none.
+        let was = claimed-before g i slot is content in
+        let none_was = none-before (suc g) none in
+        elim (quiet g i slot was) [
+          | Stays same ↦ newest.at g i slot was (same.back content) none_was ∙ sym same.number
+          | CopiesUp n below null e ↦ copied-newest number newest g i n slot was null below none_was ∙ sym (ap content_of e)
+        ];
+    never = λ none. newest.never (none-before 0 none);
+  }
 
 -- ---- events
 
@@ -165,71 +164,74 @@ IsElsewhere (Won s g i a b c r) k = k ≢ key_of_call c
 IsElsewhere _ k = Unit {0}
 
 -- a value that is left as it was
-quiet_kept : (p : Plan) (t : Tables) (g i k : ℕ) → t.key g i ≡ Claimed k → QuietStep p t g i k (t.value g i)
-quiet_kept p t g i k is = Stays (same_itself (t.value g i))
+quiet-kept : (p : Plan) (t : Tables) (g i k : ℕ) → t.key g i ≡ Claimed k → QuietStep p t g i k (t.value g i)
+quiet-kept p t g i k is = Stays (HasSame-refl (t.value g i))
 
 -- what an event makes of the values of a key that it has no exchange on
-quiet_after :
+quiet-after :
     (p : Plan) (e : Event) (h : List Event) → IsLegal p (e ∷ h) → (k : ℕ) → IsElsewhere e k → (g i : ℕ)
     → let t = tables_at p h in t.key g i ≡ Claimed k → QuietStep p t g i k (value_after e g i (t.value g i))
-quiet_after p (Won s f j a b c r) h legal k other g i =
+quiet-after p (Won s f j a b c r) h legal k other g i =
     let t = tables_at p h in
     let may = legal.2 in
     at_slot (λ g i here. t.key g i ≡ Claimed k → QuietStep p t g i k (cond here b (t.value g i))) f j g i
-    (λ is. absurd (other (claimed-same (sym is ∙ may.claimed) ∙ sym (exchange-key c may.key a b may.exchange)))) (quiet_kept p t g i k)
-quiet_after p (CopyIn s f j q n) h legal k other g i =
+    (λ is. absurd (other (claimed-same (sym is ∙ may.claimed) ∙ sym (exchange-key c may.key a b may.exchange)))) (quiet-kept p t g i k)
+quiet-after p (CopyIn s f j q n) h legal k other g i =
     let t = tables_at p h in
     let may = legal.2 in
     at_slot (λ g i here. t.key g i ≡ Claimed k → QuietStep p t g i k (cond here (Live n) (t.value g i))) f j g i
-    (λ is. CopiesUp n (subst (λ q. IsPrimedBelow p t f q n) (claimed-same (sym may.claimed ∙ is)) may.primed) may.null refl) (quiet_kept p t g i k)
-quiet_after p (Prime s f j) h legal k other g i =
+    (λ is. CopiesUp n (subst (λ q. IsPrimedBelow p t f q n) (claimed-same (sym may.claimed ∙ is)) may.primed) may.null refl) (quiet-kept p t g i k)
+quiet-after p (Prime s f j) h legal k other g i =
     let t = tables_at p h in
     at_slot (λ g i here. t.key g i ≡ Claimed k → QuietStep p t g i k (cond here (primed (t.value g i)) (t.value g i))) f j g i
-    (λ is. Stays (same_primed (t.value f j))) (quiet_kept p t g i k)
-quiet_after p (Finish s f j) h legal k other g i =
+    (λ is. Stays (HasSame-primed (t.value f j))) (quiet-kept p t g i k)
+quiet-after p (Finish s f j) h legal k other g i =
     let t = tables_at p h in
     at_slot (λ g i here. t.key g i ≡ Claimed k → QuietStep p t g i k (cond here (finished (t.value g i)) (t.value g i))) f j g i
-    (λ is. Stays (same_finished (t.value f j))) (quiet_kept p t g i k)
-quiet_after p _ h legal k other g i = quiet_kept p (tables_at p h) g i k
+    (λ is. Stays (HasSame-finished (t.value f j))) (quiet-kept p t g i k)
+quiet-after p _ h legal k other g i = quiet-kept p (tables_at p h) g i k
 
-quiet :
+quiet_step :
     (p : Plan) (e : Event) (h : List Event) → IsPlan p → IsLegal p (e ∷ h) → (k : ℕ) → IsElsewhere e k → (g i : ℕ)
     → IsSlot p g i → (tables_at p h).key g i ≡ Claimed k → QuietStep p (tables_at p h) g i k ((tables_at p (e ∷ h)).value g i)
-quiet p e h plan legal k other g i slot is =
-    subst (QuietStep p (tables_at p h) g i k) (sym (value_frame p e h plan legal g i slot)) (quiet_after p e h legal k other g i is)
+quiet_step p e h plan legal k other g i slot is =
+    subst (QuietStep p (tables_at p h) g i k) (sym (value_frame p e h plan legal g i slot)) (quiet-after p e h legal k other g i is)
 
 -- after an event without an exchange on the key
-quiet_newest : (p : Plan) (e : Event) (h : List Event) → IsPlan p → IsLegal p (e ∷ h) → (k : ℕ) → IsElsewhere e k
+IsNewest-elsewhere :
+    (p : Plan) (e : Event) (h : List Event) → IsPlan p → IsLegal p (e ∷ h) → (k : ℕ) → IsElsewhere e k
     → IsNewest p (tables_at p h) k (number_at h k) → IsNewest p (tables_at p (e ∷ h)) k (number_at h k)
-quiet_newest p e h plan legal k other before =
-    newest_stays p (tables_at p h) (tables_at p (e ∷ h)) k (number_at h k) plan (sound p h plan legal.0) (step_of p e h plan legal) (quiet p e h plan legal k other) before
+IsNewest-elsewhere p e h plan legal k other =
+    IsNewest-quiet p (tables_at p h) (tables_at p (e ∷ h)) plan (sound p h plan legal.0) (step_of p e h plan legal) k
+    (quiet_step p e h plan legal k other) (number_at h k)
 
 -- what an exchange on the key leaves in its slot is the newest
-won_newest : (p : Plan) (t u : Tables) (g i k : ℕ) (a b : ValueState) (c : Call) (before : Option ℕ) → IsPlan p → IsSound p u
-    → Step p t u → IsSlot p g i → MayWin p t g i a b c → u.value g i ≡ b → k ≡ key_of_call c → IsNewest p u k (number_left b before)
-won_newest p t u g i k a b c before plan s step slot may e of_call =
+IsNewest-won :
+    (p : Plan) (t u : Tables) → IsPlan p → IsSound p u → Step p t u → (k g i : ℕ) (a b : ValueState) (c : Call) (before : Option ℕ)
+    → IsSlot p g i → MayWin p t g i a b c → u.value g i ≡ b → k ≡ key_of_call c → IsNewest p u k (number_left b before)
+IsNewest-won p t u plan s step k g i a b c before slot may e of_call =
     let puts = exchange-puts c may.key a b may.exchange in
     let same : may.key ≡ k = sym (exchange-key c may.key a b may.exchange) ∙ sym of_call in
     let is : u.key g i ≡ Claimed k = key-claimed (step.key g i slot) (may.claimed ∙ ap Claimed same) in
     subst (IsNewest p u k) (ap content_of e ∙ sym (put-number a b before puts))
-    (newest_at p u plan s g i k slot is (subst HasContent (sym e) (put-content a b puts))
-    (none_above_unprimed p u s g i k slot is (subst IsUnprimed (sym e) (put-unprimed a b puts))))
+    (IsNewest-at p u plan s k g i slot is (subst HasContent (sym e) (put-content a b puts))
+    (HasNoneFrom-unprimed p u plan s k g i slot is (subst IsUnprimed (sym e) (put-unprimed a b puts))))
 
 -- before any event
-newest_first : (p : Plan) (t : Tables) → ((g i : ℕ) → IsSlot p g i → t.key g i ≡ Empty) → (k : ℕ) → IsNewest p t k None
-newest_first p t empty k = record {
-  at = λ g i slot is content none. let free : t.key g i ≡ Empty = empty g i slot in absurd cc;
+IsNewest-first : (p : Plan) (t : Tables) → ((g i : ℕ) → IsSlot p g i → t.key g i ≡ Empty) → (k : ℕ) → IsNewest p t k None
+IsNewest-first p t empty k = record {
+  at = λ g i slot is content none. absurd (empty-unclaimed (empty g i slot) k is);
   never = λ none. refl;
 }
 
 -- The number of a legal history is the newest of its tables.
 pub newest : (p : Plan) (h : List Event) → IsPlan p → IsLegal p h → (k : ℕ) → IsNewest p (tables_at p h) k (number_at h k)
-newest p [] plan legal k = newest_first p (tables_at p []) (key_first p plan) k
+newest p [] plan legal k = IsNewest-first p (tables_at p []) (key_first p plan) k
 newest p (Won s g i a b c r ∷ h) plan legal k =
     let e = Won s g i a b c r in
     let slot : IsSlot p g i = legal.1.1 in
     cond_both (eqb k (key_of_call c)) (number_left b (number_at h k)) (number_at h k) (IsNewest p (tables_at p (e ∷ h)) k)
-    (λ same. won_newest p (tables_at p h) (tables_at p (e ∷ h)) g i k a b c (number_at h k) plan (sound p (e ∷ h) plan legal)
-    (step_of p e h plan legal) slot legal.2 (value_frame p e h plan legal g i slot ∙ cond-true _ b _ (same_both g i)) (eqb-true k (key_of_call c) same))
-    (λ other. quiet_newest p e h plan legal k (eqb-false k (key_of_call c) other) (newest p h plan legal.0 k))
-newest p (e ∷ h) plan legal k = quiet_newest p e h plan legal k tt (newest p h plan legal.0 k)
+    (λ same. IsNewest-won p (tables_at p h) (tables_at p (e ∷ h)) plan (sound p (e ∷ h) plan legal) (step_of p e h plan legal) k g i a b c
+    (number_at h k) slot legal.2 (value_frame p e h plan legal g i slot ∙ cond-true _ b _ (same_both g i)) (eqb-true k (key_of_call c) same))
+    (λ other. IsNewest-elsewhere p e h plan legal k (eqb-false k (key_of_call c) other) (newest p h plan legal.0 k))
+newest p (e ∷ h) plan legal k = IsNewest-elsewhere p e h plan legal k tt (newest p h plan legal.0 k)
