@@ -10,12 +10,11 @@ use Rattle.nb_core.proofs.Keeping.{above-primed, sound}
 use Rattle.nb_core.proofs.Lasting.{exchange-key, exchange-puts, key-claimed, key-was, put-content, put-number, put-unprimed, value-empty}
 use Rattle.nb_core.proofs.Legality.{number_at, number_left}
 use Rattle.nb_core.proofs.Sound.{IsSound, claimed-same, complete-below, empty-unclaimed, finished-value, one_slot, unprimed-not_final}
-use Rattle.nb_core.proofs.Steps.{KeyStep, Step, ValueStep, step_of}
+use Rattle.nb_core.proofs.Steps.{Step, step_of}
 use Rattle.nb_core.proofs.Words.{at_slot, same_both}
 use Rattle.nb_core.specs.declared.calls.Call.{Call}
 use Rattle.nb_core.specs.declared.events.Event.{Event}
 use Rattle.nb_core.specs.declared.events.Event.TheVariants.{Won, CopyIn, Prime, Finish}
-use Rattle.nb_core.specs.declared.states.KeyState.{KeyState}
 use Rattle.nb_core.specs.declared.states.KeyState.TheVariants.{Empty, Claimed}
 use Rattle.nb_core.specs.declared.states.ValueState.{ValueState}
 use Rattle.nb_core.specs.declared.states.ValueState.TheVariants.{Null, Live, PrimedNull, Primed}
