@@ -9,8 +9,8 @@ use Rattle.nb_core.proofs.Keeping.{sound}
 use Rattle.nb_core.proofs.Net.{size_is_net_by}
 use Rattle.nb_core.proofs.Lasting.{complete-stays, content-some}
 use Rattle.nb_core.proofs.Later.{beginnings_are_legal, seen_lasts}
-use Rattle.nb_core.proofs.Places as places
-use Rattle.nb_core.proofs.Room as room
+use Rattle.nb_core.proofs.Places.{place_from-same}
+use Rattle.nb_core.proofs.Room.{complete-passed, incomplete-room, passed-settled}
 use Rattle.nb_core.proofs.Shown.{win_number}
 use Rattle.nb_core.proofs.Sound.{IsSound, HasGot, complete-below, complete-growing, one_slot}
 use Rattle.nb_core.proofs.Steps.{Step, TopKept, Promotes, step_of}
@@ -29,17 +29,17 @@ pub moved : Moved
 moved p plan h legal g i k n slot is finished = got-value p (tables_at p h) (suc g) k ((sound p h plan legal).moved g i k n slot is finished)
 
 pub complete_passed : CompletePassed
-complete_passed p plan h legal g k within complete = room.complete_passed p (tables_at p h) plan (sound p h plan legal) g k within complete
+complete_passed p plan h legal g k within complete = complete-passed p (tables_at p h) plan (sound p h plan legal) g k within complete
 
 pub passed_settled : PassedSettled
-passed_settled p plan h legal g k within passed = room.passed_settled p (tables_at p h) plan (sound p h plan legal) g k within passed
+passed_settled p plan h legal g k within passed = passed-settled p (tables_at p h) plan (sound p h plan legal) g k within passed
 
 pub has_room : Room
-has_room p plan h legal g within incomplete = room.room p (tables_at p h) plan (sound p h plan legal) g within incomplete
+has_room p plan h legal g within incomplete = incomplete-room p (tables_at p h) plan (sound p h plan legal) g within incomplete
 
 pub one_place : OnePlace
 one_place p plan later h legal g k place is =
-    places.one_place p (tables_at p h) (tables_at p (later ++ h)) plan (sound p h plan (beginnings_are_legal p later h legal)) (sound p (later ++ h) plan legal)
+    place_from-same p (tables_at p h) (tables_at p (later ++ h)) plan (sound p h plan (beginnings_are_legal p later h legal)) (sound p (later ++ h) plan legal)
     (seen_lasts p plan later h legal) g k place is
 
 -- the tables below the top word are complete after a step too

@@ -6,19 +6,22 @@ use Rattle.nb_core.specs.Tables.{HasSlot, IsComplete, Tables}
 use Rattle.nb_core.specs.Laws.{Lasts}
 use Rattle.nb_core.specs.Meaning.{first_place, place_from, slot_among}
 use Rattle.nb_core.proofs.Slots.{Nowhere, Somewhere, slot_among-at, slot_among-is}
-use Rattle.nb_core.proofs.Sound.{IsSound, complete-below, finished-not_empty}
+use Rattle.nb_core.proofs.Sound.{HasNoSlot, IsSound, claimed-same, complete-below, dead-unclaimed, finished-not_empty}
 use Rattle.nb_core.specs.declared.states.KeyState.{KeyState}
 use Rattle.nb_core.specs.declared.states.KeyState.TheVariants.{Empty, Dead, Claimed}
 
 -- A table in which a key has no slot is complete, if the key has one in a later table.
-complete_before :
-    (p : Plan) (t : Tables) → IsSound p t → (f g k : ℕ) → f < generations_of p → g < f → HasSlot p t f k → (HasSlot p t g k → ⊥)
+no_slot-complete :
+    (p : Plan) (t : Tables) → IsSound p t → (f g k : ℕ) → f < generations_of p → g < f → HasSlot p t f k → HasNoSlot p t g k
     → IsComplete p t g
-complete_before p t s f g k within below has none =
+no_slot-complete p t s f g k within below has none =
     elim (cases_order (suc g) f) [
       | inl next ↦
           let above = subst (λ n. HasSlot p t n k) (sym next) has in
-          elim (s.below g k (omega arith) above) [ inl here ↦ absurd (none here) | inr complete ↦ complete ]
+          elim (s.below g k (omega arith) above) [
+            | inl here ↦ absurd (none here.slot here.in_table here.is)
+            | inr complete ↦ complete
+          ]
       | inr (inl less) ↦ complete-below p t s f g less (s.claimed f has.slot k (within, has.in_table) has.is).installed
       | inr (inr more) ↦ absurd (omega arith)
     ]
@@ -55,32 +58,31 @@ place_from-some p t k g (suc n) place e =
 
 module _ (p : Plan) (t u : Tables) (plan : IsPlan p) (s : IsSound p t) (v : IsSound p u) (lasts : Lasts p t u) where
   -- a key that a complete table has no slot for gets none there
-  none_later : (g k : ℕ) → g < generations_of p → IsComplete p t g → (HasSlot p t g k → ⊥) → HasSlot p u g k → ⊥
-  none_later g k within complete none later = by_key (t.key g later.slot) refl
+  no_slot-later : (g k : ℕ) → g < generations_of p → IsComplete p t g → HasNoSlot p t g k → HasNoSlot p u g k
+  no_slot-later g k within complete none i below later = by_key (t.key g i) refl
     where
-      by_key : (key : KeyState) → t.key g later.slot ≡ key → ⊥
-      by_key Empty is = finished-not_empty p t s g later.slot (within, later.in_table) (complete later.slot later.in_table) is
-      by_key Dead is = let after = lasts.dead g later.slot (within, later.in_table) is in let claimed = later.is in cc
+      by_key : (key : KeyState) → t.key g i ≡ key → ⊥
+      by_key Empty is = finished-not_empty p t s g i (within, below) (complete i below) is
+      by_key Dead is = dead-unclaimed (lasts.dead g i (within, below) is) k later
       by_key (Claimed j) is =
-          let after = lasts.claimed g later.slot j (within, later.in_table) is in
-          let claimed = later.is in
-          let same : j ≡ k = cc in
-          none (record { slot = later.slot; in_table = later.in_table; is = is ∙ ap Claimed same })
+          let same : j ≡ k = claimed-same (sym (lasts.claimed g i j (within, below) is) ∙ later) in
+          none i below (is ∙ ap Claimed same)
 
   -- where a key has no slot in a table, and one in a higher table, none is found in the first one later
-  not_found_later : (f g k : ℕ) → f < generations_of p → g < f → HasSlot p t f k → (HasSlot p t g k → ⊥) → slot_among u g k (size_of p g) ≡ None
-  not_found_later f g k within below has none =
+  slot_among-later :
+      (f g k : ℕ) → f < generations_of p → g < f → HasSlot p t f k → HasNoSlot p t g k → slot_among u g k (size_of p g) ≡ None
+  slot_among-later f g k within below has none =
       elim (slot_among-is u g k (size_of p g)) as (λ found. slot_among u g k (size_of p g) ≡ None) [
         | Somewhere i i_below is found ↦
-            let complete = complete_before p t s f g k within below has none in
-            absurd (none_later g k (omega arith) complete none (record { slot = i; in_table = i_below; is = is }))
+            let complete = no_slot-complete p t s f g k within below has none in
+            absurd (no_slot-later g k (omega arith) complete none i i_below is)
         | Nowhere _ found ↦ found
       ]
 
   -- the first place of a key in so many tables is the same later
-  same_place : (k g n : ℕ) (place : ℕ × ℕ) → n ≤ generations_of p - g → place_from p t k g n ≡ Some place → place_from p u k g n ≡ Some place
-  same_place k g zero place few e = absurd cc
-  same_place k g (suc n) place few e =
+  place_from-later : (k g n : ℕ) (place : ℕ × ℕ) → n ≤ generations_of p - g → place_from p t k g n ≡ Some place → place_from p u k g n ≡ Some place
+  place_from-later k g zero place few e = absurd cc
+  place_from-later k g (suc n) place few e =
       elim (slot_among-is t g k (size_of p g)) [
         | Somewhere i below is found ↦
             let within : g < generations_of p = omega arith in
@@ -89,10 +91,10 @@ module _ (p : Plan) (t u : Tables) (plan : IsPlan p) (s : IsSound p t) (v : IsSo
         | Nowhere none found ↦
             let rest = sym (place_from-next p t k g n found) ∙ e in
             let at = place_from-some p t k (suc g) n place rest in
-            let later = not_found_later place.0 g k (omega arith) (omega arith) at.has (λ has. none has.slot has.in_table has.is) in
-            place_from-next p u k g n later ∙ same_place k (suc g) n place (omega arith) rest
+            let later = slot_among-later place.0 g k (omega arith) (omega arith) at.has none in
+            place_from-next p u k g n later ∙ place_from-later k (suc g) n place (omega arith) rest
       ]
 
   -- the first place of a key from a table on is the same in later tables
-  pub one_place : (g k : ℕ) (place : ℕ × ℕ) → place_from p t k g (generations_of p - g) ≡ Some place → place_from p u k g (generations_of p - g) ≡ Some place
-  one_place g k place e = same_place k g (generations_of p - g) place (omega arith) e
+  pub place_from-same : (g k : ℕ) (place : ℕ × ℕ) → place_from p t k g (generations_of p - g) ≡ Some place → place_from p u k g (generations_of p - g) ≡ Some place
+  place_from-same g k place e = place_from-later k g (generations_of p - g) place (omega arith) e

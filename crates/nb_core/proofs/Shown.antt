@@ -11,7 +11,7 @@ use Rattle.nb_core.proofs.Lasting.{exchange-key}
 use Rattle.nb_core.proofs.Newest.{HasNoneFrom, HasNoneFrom-slot, HasNoneFrom-unprimed, HasNoneIn, IsNewest, from_suc, newest}
 use Rattle.nb_core.proofs.Passing.{below_suc}
 use Rattle.nb_core.proofs.Replies.{number_at_map}
-use Rattle.nb_core.proofs.Room.{copied_all, passed_settled}
+use Rattle.nb_core.proofs.Room.{crowded-complete_below, passed-settled}
 use Rattle.nb_core.proofs.Slots.{Away, Here, has_slot_or_none, look, value_in-some}
 use Rattle.nb_core.proofs.Sound.{HasNoSlot, IsSound, complete-below, empty-unclaimed, finished-not_empty, finished-value, next-within, no_slot-past, no_slot-whole, path_slot-is_slot, primed-growing}
 use Rattle.nb_core.proofs.Tables.{four-le-size_of}
@@ -141,7 +141,7 @@ module _ (p : Plan) (t : Tables) (plan : IsPlan p) (s : IsSound p t) (k : ℕ) w
 
   -- a key passed in all tables below has final values there
   passed-final : (g : ℕ) → ((f : ℕ) → f < g → IsPassed p t f k) → AreFinalBelow p t g k
-  passed-final g passed f below i slot is = passed_settled p t plan s f k slot.0 (passed f below) i slot.1 is
+  passed-final g passed f below i slot is = passed-settled p t plan s f k slot.0 (passed f below) i slot.1 is
 
   -- a key has a slot in each table below one where it has a slot, or the table is complete
   slot-below : (f i g : ℕ) → IsSlot p f i → t.key f i ≡ Claimed k → g < f → HasSlot p t g k ⊎ IsComplete p t g
@@ -164,7 +164,7 @@ module _ (p : Plan) (t : Tables) (plan : IsPlan p) (s : IsSound p t) (k : ℕ) w
   crowded-settled : (g : ℕ) → g < generations_of p → AreOthers p t g k (size_of p g) → IsSettledBelow p t g k
   crowded-settled zero within others = tt
   crowded-settled (suc g) within others = λ i below is.
-      let complete = copied_all p t plan s g k within (record { slot = i; in_table = below; is = is }) others in
+      let complete = crowded-complete_below p t plan s g k within (record { slot = i; in_table = below; is = is }) others in
       finished-value t g i k (complete i below) is
 
   -- ---- what the tables show

@@ -15,9 +15,9 @@ pub data IsFound (t : Tables) (g k n : ℕ) (found : Option ℕ) : Type 0 where
   Nowhere : ((i : ℕ) → i < n → t.key g i ≢ Claimed k) → found ≡ None → IsFound t g k n found
 
 -- what is found among n slots is found among one more that isn't the key's
-found_among_more : (t : Tables) (g k n : ℕ) (found : Option ℕ) → t.key g n ≢ Claimed k → IsFound t g k n found → IsFound t g k (suc n) found
-found_among_more t g k n found away (Somewhere i below is e) = Somewhere i (omega arith) is e
-found_among_more t g k n found away (Nowhere none e) = Nowhere (below_suc (λ i. t.key g i ≢ Claimed k) n away none) e
+IsFound-suc : (t : Tables) (g k n : ℕ) (found : Option ℕ) → t.key g n ≢ Claimed k → IsFound t g k n found → IsFound t g k (suc n) found
+IsFound-suc t g k n found away (Somewhere i below is e) = Somewhere i (omega arith) is e
+IsFound-suc t g k n found away (Nowhere none e) = Nowhere (below_suc (λ i. t.key g i ≢ Claimed k) n away none) e
 
 -- the search finds a slot of the key, or none is there
 pub slot_among-is : (t : Tables) (g k n : ℕ) → IsFound t g k n (slot_among t g k n)
@@ -25,7 +25,7 @@ slot_among-is t g k zero = Nowhere (λ i below. absurd (omega arith)) refl
 slot_among-is t g k (suc n) =
     elim (is_claimed_by k (t.key g n)) as (λ b. is_claimed_by k (t.key g n) ≡ b → IsFound t g k (suc n) (cond b (Some n) (slot_among t g k n))) [
       | true ↦ λ here. Somewhere n (omega arith) (is_claimed_by-true k (t.key g n) here) refl
-      | false ↦ λ away. found_among_more t g k n (slot_among t g k n) (unclaimed k (t.key g n) (ap not away)) (slot_among-is t g k n)
+      | false ↦ λ away. IsFound-suc t g k n (slot_among t g k n) (unclaimed k (t.key g n) (ap not away)) (slot_among-is t g k n)
     ] refl
 
 -- a key has a slot in a table, or no slot there is its own
