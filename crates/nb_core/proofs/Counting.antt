@@ -161,8 +161,9 @@ slot_bit-finish :
     → bit (is_finished_slot (t.key g i) (cond (eqb f g && eqb j i) (finished (t.value g i)) (t.value g i)))
     ≡ bit (eqb f g && eqb j i) + slot_bit t g i
 slot_bit-finish p t f j g i may =
-    at_slot (λ g i here. bit (is_finished_slot (t.key g i) (cond here (finished (t.value g i)) (t.value g i))) ≡ bit here + slot_bit t g i)
-    f j g i (rw (may.claimed, may.primed) refl) (omega arith)
+    at_slot (λ g i here.
+        bit (is_finished_slot (t.key g i) (cond here (finished (t.value g i)) (t.value g i))) ≡ bit here + slot_bit t g i) f j g i
+    (rw (may.claimed, may.primed) refl) (omega arith)
 
 -- whether a slot is finished after an event tells whether it was, and whether the event turned it
 slot_bit-event :
@@ -215,7 +216,8 @@ over_seats-of_seat seat n c test below =
     over_seats-same _ _ n (λ s lt. cond-and (eqb seat s) test c) ∙ over_seats-one_at (λ s. cond test c 0) seat n below
 
 -- something happens in one slot, if it is of this table
-over_seats-of_slot : (table : Bool) (slot n : ℕ) → (table ≡ true → slot < n) → over_seats (λ i. bit (table && eqb slot i)) n ≡ bit table
+over_seats-of_slot :
+    (table : Bool) (slot n : ℕ) → (table ≡ true → slot < n) → over_seats (λ i. bit (table && eqb slot i)) n ≡ bit table
 over_seats-of_slot true slot n below = over_seats-one_at (λ i. 1) slot n (below refl)
 over_seats-of_slot false slot n below = over_seats-zero n
 
@@ -236,9 +238,11 @@ turns-sum :
     (p : Plan) (h : List Event) (e : Event) (g : ℕ) → IsInRange p e
     → over_seats (λ s. bit (turns p h e s g)) p.seats ≡ over_seats (λ i. bit (turns_slot p h e g i)) (size_of p g)
 turns-sum p h (Kill s f j) g range =
-    over_seats-of_seat s p.seats 1 (eqb f g) range.0 ∙ sym (over_seats-of_slot (eqb f g) j (size_of p g) (in_same_table p f j g range.1))
+    over_seats-of_seat s p.seats 1 (eqb f g) range.0
+    ∙ sym (over_seats-of_slot (eqb f g) j (size_of p g) (in_same_table p f j g range.1))
 turns-sum p h (Finish s f j) g range =
-    over_seats-of_seat s p.seats 1 (eqb f g) range.0 ∙ sym (over_seats-of_slot (eqb f g) j (size_of p g) (in_same_table p f j g range.1))
+    over_seats-of_seat s p.seats 1 (eqb f g) range.0
+    ∙ sym (over_seats-of_slot (eqb f g) j (size_of p g) (in_same_table p f j g range.1))
 turns-sum p h (Prime s f j) g range =
     let test = λ (i : ℕ). is_empty_content ((tables_at p h).value g i) in
     over_seats-same _ _ p.seats (λ x lt. ap bit (and_assoc (eqb s x) (eqb f g) (test j)))

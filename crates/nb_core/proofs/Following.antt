@@ -17,33 +17,39 @@ use Rattle.nb_core.proofs.Steps.{Step, TopKept, Promotes, step_of}
 use Rattle.nb_core.proofs.Words.{word-first}
 
 pub has_one_slot : HasOneSlot
-has_one_slot p plan h legal g i j k i_slot j_slot i_is j_is = one_slot p (tables_at p h) plan (sound p h plan legal) g i j k i_slot j_slot i_is j_is
+has_one_slot p plan h legal = one_slot p (tables_at p h) plan (sound p h plan legal)
 
 pub installed_after : InstalledAfter
 installed_after p plan h legal g installed = ((sound p h plan legal).ready g installed).1
 
 got-value : (p : Plan) (t : Tables) (g k : ℕ) → HasGot p t g k → HasValue p t g k
-got-value p t g k got = record { slot = got.slot; in_table = got.is_slot.1; is = got.is; some = content-some (t.value g got.slot) got.content }
+got-value p t g k got =
+    let some = content-some (t.value g got.slot) got.content in
+    record { slot = got.slot; in_table = got.is_slot.1; is = got.is; some = some }
 
 pub moved : Moved
-moved p plan h legal g i k n slot is finished = got-value p (tables_at p h) (suc g) k ((sound p h plan legal).moved g i k n slot is finished)
+moved p plan h legal g i k n slot is finished =
+    got-value p (tables_at p h) (suc g) k ((sound p h plan legal).moved g i k n slot is finished)
 
 pub complete_passed : CompletePassed
-complete_passed p plan h legal g k within complete = complete-passed p (tables_at p h) plan (sound p h plan legal) g k within complete
+complete_passed p plan h legal = complete-passed p (tables_at p h) plan (sound p h plan legal)
 
 pub passed_settled : PassedSettled
-passed_settled p plan h legal g k within passed = passed-settled p (tables_at p h) plan (sound p h plan legal) g k within passed
+passed_settled p plan h legal = passed-settled p (tables_at p h) plan (sound p h plan legal)
 
 pub has_room : Room
-has_room p plan h legal g within incomplete = incomplete-room p (tables_at p h) plan (sound p h plan legal) g within incomplete
+has_room p plan h legal = incomplete-room p (tables_at p h) plan (sound p h plan legal)
 
 pub one_place : OnePlace
-one_place p plan later h legal g k place is =
-    place_from-same p (tables_at p h) (tables_at p (later ++ h)) plan (sound p h plan (beginnings_are_legal p later h legal)) (sound p (later ++ h) plan legal)
-    (seen_lasts p plan later h legal) g k place is
+one_place p plan later h legal =
+    place_from-same p (tables_at p h) (tables_at p (later ++ h)) plan (sound p h plan (beginnings_are_legal p later h legal))
+    (sound p (later ++ h) plan legal) (seen_lasts p plan later h legal)
 
 -- the tables below the top word are complete after a step too
-top-right : (p : Plan) (t u : Tables) → IsPlan p → IsSound p t → Step p t u → ((g : ℕ) → g < t.top → (g < generations_of p) × IsComplete p t g) → (g : ℕ) → g < u.top → (g < generations_of p) × IsComplete p u g
+top-right :
+    (p : Plan) (t u : Tables) → IsPlan p → IsSound p t → Step p t u
+    → ((g : ℕ) → g < t.top → (g < generations_of p) × IsComplete p t g) → (g : ℕ) → g < u.top
+    → (g < generations_of p) × IsComplete p u g
 top-right p t u plan s step right g below =
     elim (step.top) [
       | TopKept e ↦ (let before = right g (omega arith) in (before.0, complete-stays p t u step g before.0 before.1))
@@ -58,7 +64,8 @@ top-right p t u plan s step right g below =
 pub top_complete : TopComplete
 top_complete p plan [] legal g below = absurd (omega (arith, word-first p plan Top tt))
 top_complete p plan (e ∷ h) legal g below =
-    top-right p (tables_at p h) (tables_at p (e ∷ h)) plan (sound p h plan legal.0) (step_of p e h plan legal) (top_complete p plan h legal.0) g below
+    top-right p (tables_at p h) (tables_at p (e ∷ h)) plan (sound p h plan legal.0) (step_of p e h plan legal)
+    (top_complete p plan h legal.0) g below
 
 pub size_is_net : SizeIsNet
 size_is_net = size_is_net_by win_number

@@ -56,7 +56,8 @@ key_state-word (Claimed k) = grind (arith, nat_tests)
 -- what a key's word stands for after an event
 key_states : (p : Plan) (e : Event) (g i x : ℕ) → key_state (word_after p e (Key g i) x) ≡ key_after e g i (key_state x)
 key_states p (Claim s f j k) g i x =
-    at_slot (λ g i here. key_state (cond here (k + 2) x) ≡ cond here (Claimed k) (key_state x)) f j g i (key_state-word (Claimed k)) refl
+    at_slot (λ g i here. key_state (cond here (k + 2) x) ≡ cond here (Claimed k) (key_state x)) f j g i
+    (key_state-word (Claimed k)) refl
 key_states p (Kill s f j) g i x =
     at_slot (λ g i here. key_state (cond here 1 x) ≡ cond here Dead (key_state x)) f j g i refl refl
 key_states p _ g i x = refl
@@ -91,7 +92,9 @@ or_one : (x : ℕ) → bit_or x 1 + x % 2 ≡ x + 1
 or_one x = ap (λ y. bit_or x 1 + y) (sym (and_mask x 1)) ∙ or_add_and x 1
 
 or_two : (x : ℕ) → bit_or x 2 + (x / 2 % 2) * 2 ≡ x + 2
-or_two x = ap (λ y. bit_or x 2 + y * 2) (sym (bit_at_lowest (x / 2)) ∙ sym (bit_at-suc x 0)) ∙ ap (λ y. bit_or x 2 + y) (sym (and_pow x 1)) ∙ or_add_and x 2
+or_two x =
+    ap (λ y. bit_or x 2 + y * 2) (sym (bit_at_lowest (x / 2)) ∙ sym (bit_at-suc x 0))
+    ∙ ap (λ y. bit_or x 2 + y) (sym (and_pow x 1)) ∙ or_add_and x 2
 
 primed-word : (v : ValueState) → bit_or (value_word v) 1 ≡ value_word (primed v)
 primed-word Null = refl
@@ -150,13 +153,15 @@ word_after-value p (CopyIn s f j k n) h legal words g i =
 word_after-value p (Prime s f j) h legal words g i =
     let word = value_word_at p h in
     let value = (tables_at p h).value in
-    at_slot (λ g i here. IsSlot p g i → IsWordOf (cond here (bit_or (word g i) 1) (word g i)) (cond here (primed (value g i)) (value g i)))
-    f j g i (λ slot. primed-word_of _ _ (words f j slot)) (words g i)
+    at_slot (λ g i here.
+        IsSlot p g i → IsWordOf (cond here (bit_or (word g i) 1) (word g i)) (cond here (primed (value g i)) (value g i))) f j g i
+    (λ slot. primed-word_of _ _ (words f j slot)) (words g i)
 word_after-value p (Finish s f j) h legal words g i =
     let word = value_word_at p h in
     let value = (tables_at p h).value in
-    at_slot (λ g i here. IsSlot p g i → IsWordOf (cond here (bit_or (word g i) 2) (word g i)) (cond here (finished (value g i)) (value g i)))
-    f j g i (λ slot. finished-word_of _ legal.2.number _ legal.2.primed (words f j slot)) (words g i)
+    at_slot (λ g i here.
+        IsSlot p g i → IsWordOf (cond here (bit_or (word g i) 2) (word g i)) (cond here (finished (value g i)) (value g i))) f j g i
+    (λ slot. finished-word_of _ legal.2.number _ legal.2.primed (words f j slot)) (words g i)
 word_after-value p _ h legal words g i = words g i
 
 -- the same of the words after the event

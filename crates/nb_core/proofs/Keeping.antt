@@ -75,7 +75,9 @@ claim-is_first p t s g i k within may has =
     no_slot-past p t s g k may.distance within may.passed (empty-unclaimed empty) has.slot has.in_table has.is
 
 -- no slot of the key is claimed where the next table has one
-pub not_late : (p : Plan) (t : Tables) → IsSound p t → (g i k : ℕ) → suc g < generations_of p → IsSlot p g i → MayClaim p t g i k → HasSlot p t (suc g) k → ⊥
+pub not_late :
+    (p : Plan) (t : Tables) → IsSound p t → (g i k : ℕ) → suc g < generations_of p → IsSlot p g i → MayClaim p t g i k
+    → HasSlot p t (suc g) k → ⊥
 not_late p t s g i k within slot may has =
     elim (s.below g k within has) [
       | inl below ↦ claim-is_first p t s g i k slot.0 may below
@@ -122,7 +124,8 @@ module _ (p : Plan) (t u : Tables) (plan : IsPlan p) (s : IsSound p t) (step : S
 
   reached-stays : (g i k : ℕ) → g < generations_of p → IsReached p t g i k → IsReached p u g i k
   reached-stays g i k within r =
-      record { distance = r.distance; in_table = r.in_table; at = r.at; passed = others-stay p t u step plan g k r.distance within r.passed }
+      let passed = others-stay p t u step plan g k r.distance within r.passed in
+      record { distance = r.distance; in_table = r.in_table; at = r.at; passed = passed }
 
   keeps-claimed : (g i k : ℕ) → IsSlot p g i → u.key g i ≡ Claimed k → IsClaimedRight p u g i k
   keeps-claimed g i k slot is =
@@ -173,7 +176,10 @@ module _ (p : Plan) (t u : Tables) (plan : IsPlan p) (s : IsSound p t) (step : S
   keeps-growing g i slot =
       let stays = next-stays (step.next g) in
       elim (step.value g i slot) [
-        | ValueKept e ↦ elim (s.growing g i slot) [ inl unprimed ↦ inl (subst IsUnprimed (sym e) unprimed) | inr next ↦ inr (stays next) ]
+        | ValueKept e ↦ elim (s.growing g i slot) [
+          | inl unprimed ↦ inl (subst IsUnprimed (sym e) unprimed)
+          | inr next ↦ inr (stays next)
+        ]
         | Wins a b c may e ↦ inl (subst IsUnprimed (sym e) (put-unprimed a b (exchange-puts c may.key a b may.exchange)))
         | Copies k n may e ↦ inl (subst IsUnprimed (sym e) tt)
         | Primes may e ↦ inr (stays may.growing)
@@ -194,10 +200,13 @@ module _ (p : Plan) (t u : Tables) (plan : IsPlan p) (s : IsSound p t) (step : S
       ]
 
   -- both slots were the key's before
-  keeps-above_both : (g i j k : ℕ) → IsSlot p g i → IsSlot p (suc g) j → t.key g i ≡ Claimed k → t.key (suc g) j ≡ Claimed k → (u.value (suc g) j ≡ Null) ⊎ MayBeAbove (u.value g i) (u.value (suc g) j)
+  keeps-above_both :
+      (g i j k : ℕ) → IsSlot p g i → IsSlot p (suc g) j → t.key g i ≡ Claimed k → t.key (suc g) j ≡ Claimed k
+      → (u.value (suc g) j ≡ Null) ⊎ MayBeAbove (u.value g i) (u.value (suc g) j)
   keeps-above_both g i j k i_slot j_slot i_is j_is =
       let below = step.value g i i_slot in
-      let complete_below : t.next (suc g) ≡ 1 → IsFinishedValue (t.value g i) = λ next. finished-value t g i k ((s.ready g next).1 i i_slot.1) i_is in
+      let complete_below : t.next (suc g) ≡ 1 → IsFinishedValue (t.value g i) =
+      λ next. finished-value t g i k ((s.ready g next).1 i i_slot.1) i_is in
       elim (step.value (suc g) j j_slot) [
         | ValueKept e ↦ elim (s.above g i j k i_slot j_slot i_is j_is) [
           | inl null ↦ inl (e ∙ null)
@@ -218,7 +227,9 @@ module _ (p : Plan) (t u : Tables) (plan : IsPlan p) (s : IsSound p t) (step : S
             inr (final-above_step _ below (complete_below next))
       ]
 
-  keeps-above : (g i j k : ℕ) → IsSlot p g i → IsSlot p (suc g) j → u.key g i ≡ Claimed k → u.key (suc g) j ≡ Claimed k → (u.value (suc g) j ≡ Null) ⊎ MayBeAbove (u.value g i) (u.value (suc g) j)
+  keeps-above :
+      (g i j k : ℕ) → IsSlot p g i → IsSlot p (suc g) j → u.key g i ≡ Claimed k → u.key (suc g) j ≡ Claimed k
+      → (u.value (suc g) j ≡ Null) ⊎ MayBeAbove (u.value g i) (u.value (suc g) j)
   keeps-above g i j k i_slot j_slot i_is j_is =
       elim (key-was (step.key (suc g) j j_slot) j_is) [
         | inr claims ↦ inl (value-empty s j_slot (step.value (suc g) j j_slot) claims.1.empty)
@@ -243,10 +254,13 @@ module _ (p : Plan) (t u : Tables) (plan : IsPlan p) (s : IsSound p t) (step : S
             absurd (let e : Finished n ≡ Null = sym finished ∙ value-empty s slot (step.value g i slot) claims.1.empty in cc)
         | inl was ↦ elim (step.value g i slot) [
           | ValueKept e ↦ got-stays (suc g) k (s.moved g i k n slot was (sym e ∙ finished))
-          | Wins a b c may e ↦ absurd (subst IsUnprimed (sym e ∙ finished) (put-unprimed a b (exchange-puts c may.key a b may.exchange)))
+          | Wins a b c may e ↦
+              absurd (subst IsUnprimed (sym e ∙ finished) (put-unprimed a b (exchange-puts c may.key a b may.exchange)))
           | Copies q m may e ↦ absurd (let same : Live m ≡ Finished n = sym e ∙ finished in cc)
           | Primes may e ↦ absurd (primed-not_finished (t.value g i) n may.unprimed (sym e ∙ finished))
-          | Finishes may e ↦ got-stays (suc g) k (subst (HasGot p t (suc g)) (claimed-same (sym may.claimed ∙ was)) (finishes-got p t s g i slot may))
+          | Finishes may e ↦
+              let same : may.key ≡ k = claimed-same (sym may.claimed ∙ was) in
+              got-stays (suc g) k (subst (HasGot p t (suc g)) same (finishes-got p t s g i slot may))
         ]
       ]
 
@@ -288,5 +302,6 @@ blank-sound p t b = record {
 }
 
 pub sound : (p : Plan) (h : List Event) → IsPlan p → IsLegal p h → IsSound p (tables_at p h)
-sound p [] plan legal = blank-sound p (tables_at p []) (record { key = key_first p plan; value = value_first p plan; next = next_first p plan })
+sound p [] plan legal =
+    blank-sound p (tables_at p []) (record { key = key_first p plan; value = value_first p plan; next = next_first p plan })
 sound p (e ∷ h) plan legal = keeps p (tables_at p h) (tables_at p (e ∷ h)) plan (sound p h plan legal.0) (step_of p e h plan legal)

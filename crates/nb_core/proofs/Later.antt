@@ -120,15 +120,19 @@ beginnings_are_legal p (e ∷ later) h legal = beginnings_are_legal p later h le
 pub seen_lasts : SeenLasts
 seen_lasts p plan [] h legal = lasts-none p (tables_at p h)
 seen_lasts p plan (e ∷ later) h legal =
-    lasts-then p (tables_at p h) (tables_at p (later ++ h)) (tables_at p (e ∷ later ++ h)) (seen_lasts p plan later h legal.0)
-    (lasts-step p (tables_at p (later ++ h)) (tables_at p (e ∷ later ++ h)) plan (sound p (later ++ h) plan legal.0) (step_of p e (later ++ h) plan legal))
+    let t = tables_at p (later ++ h) in
+    let u = tables_at p (e ∷ later ++ h) in
+    lasts-then p (tables_at p h) t u (seen_lasts p plan later h legal.0)
+    (lasts-step p t u plan (sound p (later ++ h) plan legal.0) (step_of p e (later ++ h) plan legal))
 
 pub content_once : ContentOnce
 content_once p plan later h legal g i slot content = (seen_lasts p plan later h legal).content g i slot content
 
 -- ---- what stays in a slot
 
-key-same : (p : Plan) (t u : Tables) → Lasts p t u → (g i : ℕ) → IsSlot p g i → (s : KeyState) → t.key g i ≡ s → s ≢ Empty → u.key g i ≡ s
+-- a key that isn't empty is the same in later tables
+key-same :
+    (p : Plan) (t u : Tables) → Lasts p t u → (g i : ℕ) → IsSlot p g i → (s : KeyState) → t.key g i ≡ s → s ≢ Empty → u.key g i ≡ s
 key-same p t u a g i slot Empty is some = absurd (some refl)
 key-same p t u a g i slot Dead is some = a.dead g i slot is
 key-same p t u a g i slot (Claimed k) is some = a.claimed g i k slot is
@@ -137,7 +141,9 @@ stays : (p : Plan) (t u : Tables) → IsSound p t → IsSound p u → Lasts p t 
 stays p t u s r a g i slot = record {
   key = key-same p t u a g i slot (t.key g i) refl;
   finished = λ finished. elim finished [
-    | inl dead ↦ (let still = a.dead g i slot dead in (still ∙ sym dead, dead-null p u r g i slot still ∙ sym (dead-null p t s g i slot dead)))
+    | inl dead ↦
+        let still = a.dead g i slot dead in
+        (still ∙ sym dead, dead-null p u r g i slot still ∙ sym (dead-null p t s g i slot dead))
     | inr final ↦
         (key-same p t u a g i slot (t.key g i) refl (finished-not_empty p t s g i slot (inr final)), a.final g i slot final)
   ];
@@ -145,5 +151,5 @@ stays p t u s r a g i slot = record {
 
 pub slots_stay : SlotsStay
 slots_stay p plan later h legal g i slot =
-    stays p (tables_at p h) (tables_at p (later ++ h)) (sound p h plan (beginnings_are_legal p later h legal)) (sound p (later ++ h) plan legal)
-    (seen_lasts p plan later h legal) g i slot
+    stays p (tables_at p h) (tables_at p (later ++ h)) (sound p h plan (beginnings_are_legal p later h legal))
+    (sound p (later ++ h) plan legal) (seen_lasts p plan later h legal) g i slot

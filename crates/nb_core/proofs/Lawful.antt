@@ -1,5 +1,6 @@
 -- The words of a legal history: what they may hold, and how they may change.
-use Rattle.std.proofs.Common.{◌≡◌, ◌≢◌, ◌∙◌, ℕ, ◌-◌, ◌+◌, ◌%◌, ◌^◌, ◌<◌, ◌≤◌, ◌⊎◌, zero, suc, true, false, cond, ◌||◌, List, [], ◌∷◌, slice_index, ap, sym, subst, subst₂, refl, inl, inr, arith}
+use Rattle.std.proofs.Common.{◌≡◌, ◌≢◌, ◌∙◌, ℕ, ◌-◌, ◌+◌, ◌%◌, ◌^◌, ◌<◌, ◌≤◌, ◌⊎◌, zero, suc, cond, ◌||◌, List, [], ◌∷◌, slice_index, ap, sym, subst, subst₂, refl, inl, inr, arith}
+use Rattle.std.proofs.lemmas.Bool.{cond_both}
 use Rattle.nb_core.specs.Plans.{Plan, IsPlan, Header, generations_of, header_place, size_of}
 use Rattle.nb_core.specs.States.{IsKeyState, value_state}
 use Rattle.nb_core.specs.Tables.{IsSlot, IsUnprimed, chunk_of, Tables, tables_at, words_of}
@@ -55,22 +56,27 @@ last-taken p (e ∷ h) plan legal =
     ∙ taken-kept p e h legal last (last-next p (tables_at p h) (sound p h plan legal.0)) ∙ last-taken p h plan legal.0
 
 -- where there is no next table no slot is finished
-none-finished : (p : Plan) (t : Tables) → IsSound p t → (g : ℕ) → g < generations_of p → t.next g ≡ 0 → (n : ℕ) → n ≤ size_of p g → finished_among t g n ≡ 0
+none-finished :
+    (p : Plan) (t : Tables) → IsSound p t → (g : ℕ) → g < generations_of p → t.next g ≡ 0 → (n : ℕ) → n ≤ size_of p g
+    → finished_among t g n ≡ 0
 none-finished p t s g within none zero below = refl
 none-finished p t s g within none (suc n) below =
-    elim (is_dead (t.key g n) || is_finished_value (t.value g n)) as (λ b. (is_dead (t.key g n) || is_finished_value (t.value g n)) ≡ b → cond b 1 0 + finished_among t g n ≡ 0) [
-      | true ↦ λ e. absurd (let next = finished-growing p t s g n (within, below) (is_finished-true t g n e) in omega arith)
-      | false ↦ λ e. omega (arith, none-finished p t s g within none n (omega arith))
-    ] refl
+    let test = is_dead (t.key g n) || is_finished_value (t.value g n) in
+    cond_both test 1 0 (λ bit. bit + finished_among t g n ≡ 0)
+    (λ e. absurd (let next = finished-growing p t s g n (within, below) (is_finished-true t g n e) in omega arith))
+    (λ e. omega (arith, none-finished p t s g within none n (omega arith)))
 
 last-counted : (p : Plan) (h : List Event) → IsPlan p → IsLegal p h → (tables_at p h).counted (generations_of p - 1) ≡ 0
 last-counted p h plan legal =
     let last = generations_of p - 1 in
     let s = sound p h plan legal in
     let counts = counted_once p plan h legal last (last-within p plan) in
-    omega (arith, counts.within, none-finished p (tables_at p h) s last (last-within p plan) (last-next p (tables_at p h) s) (size_of p last) (omega arith))
+    let none = last-next p (tables_at p h) s in
+    omega (arith, counts.within, none-finished p (tables_at p h) s last (last-within p plan) none (size_of p last) (omega arith))
 
-last-headers : (p : Plan) (h : List Event) → IsPlan p → IsLegal p h → (n : ℕ) → n < 3 → slice_index (words_of p h) (header_place p (generations_of p - 1) n) ≡ 0
+last-headers :
+    (p : Plan) (h : List Event) → IsPlan p → IsLegal p h → (n : ℕ) → n < 3
+    → slice_index (words_of p h) (header_place p (generations_of p - 1) n) ≡ 0
 last-headers p h plan legal zero header = last-next p (tables_at p h) (sound p h plan legal)
 last-headers p h plan legal (suc zero) header = last-taken p h plan legal
 last-headers p h plan legal (suc (suc zero)) header = last-counted p h plan legal
@@ -81,7 +87,9 @@ lawful_words p plan h legal =
     let s = sound p h plan legal in
     record {
       keys = λ g i slot. key-lawful p (tables_at p h) s g i slot _ refl;
-      values = λ g i slot. let w = value_words p h plan legal g i slot in record { state = (tables_at p h).value g i; decodes = ap value_state w.is ∙ value_state-word _ w.in_range };
+      values = λ g i slot.
+          let w = value_words p h plan legal g i slot in
+          record { state = (tables_at p h).value g i; decodes = ap value_state w.is ∙ value_state-word _ w.in_range };
       empty = λ g i slot is. empty-null p (tables_at p h) s g i slot is;
       dead = λ g i slot is. dead-null p (tables_at p h) s g i slot is;
       last = last-headers p h plan legal;
@@ -97,7 +105,8 @@ put-changes_to _ n unprimed differs = unprimed
 
 put-changes : (a b : ValueState) → IsUnprimed a → Puts a b → IsWonChange a b
 put-changes a b unprimed (PutsNone n was e) = subst₂ IsWonChange (sym was) (sym e) tt
-put-changes a b unprimed (PutsNumber n e differs) = subst (IsWonChange a) (sym e) (put-changes_to a n unprimed (λ same. differs (e ∙ same)))
+put-changes a b unprimed (PutsNumber n e differs) =
+    subst (IsWonChange a) (sym e) (put-changes_to a n unprimed (λ same. differs (e ∙ same)))
 
 -- an event changes a key only as its kind may
 key-change :
@@ -136,9 +145,15 @@ value-change p (Finish s f j) h legal g i =
 value-change p _ h legal g i = inl refl
 
 pub lawful_changes : LawfulChanges
-lawful_changes p plan e h legal = record {
-  length = length-word_step p e (words_of p h);
-  one = one_word p e (words_of p h);
-  keys = λ g i slot. subst (λ y. (y ≡ (tables_at p h).key g i) ⊎ IsKeyChange e ((tables_at p h).key g i) y) (sym (key_frame p e h plan legal.1 g i slot)) (key-change p e h legal g i);
-  values = λ g i slot. subst (λ y. (y ≡ (tables_at p h).value g i) ⊎ IsValueChange e ((tables_at p h).value g i) y) (sym (value_frame p e h plan legal g i slot)) (value-change p e h legal g i);
-}
+lawful_changes p plan e h legal =
+    let t = tables_at p h in
+    record {
+      length = length-word_step p e (words_of p h);
+      one = one_word p e (words_of p h);
+      keys = λ g i slot.
+          subst (λ y. (y ≡ t.key g i) ⊎ IsKeyChange e (t.key g i) y) (sym (key_frame p e h plan legal.1 g i slot))
+          (key-change p e h legal g i);
+      values = λ g i slot.
+          subst (λ y. (y ≡ t.value g i) ⊎ IsValueChange e (t.value g i) y) (sym (value_frame p e h plan legal g i slot))
+          (value-change p e h legal g i);
+    }

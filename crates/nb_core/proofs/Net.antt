@@ -46,7 +46,9 @@ net-remove m k (Some v) at =
     let some : 1 ≤ len m = len-positive m k v at in omega (arith, ints)
 
 -- a change of what the map has at a key does its net to the number of keys
-net-with_at : (m : Numbers) (k : ℕ) (change : Change) (o : Option ℕ) → get m k ≡ o → pos (len (with_at m k (changed change o))) ≡ net_of_change change o +ℤ pos (len m)
+net-with_at :
+    (m : Numbers) (k : ℕ) (change : Change) (o : Option ℕ) → get m k ≡ o
+    → pos (len (with_at m k (changed change o))) ≡ net_of_change change o +ℤ pos (len m)
 net-with_at m k (Put n) o at = net-insert m k n o at
 net-with_at m k Remove o at = net-remove m k o at
 net-with_at m k (Add n) None at = net-insert m k _ None at
@@ -56,18 +58,24 @@ net-with_at m k (Add n) (Some v) at = net-insert m k _ (Some v) at
 net-map_after : (c : Call) (m : Numbers) → pos (len (map_after c m)) ≡ net_of_call c (reply_of c m) +ℤ pos (len m)
 net-map_after (call.Get k) m = omega (arith, ints)
 net-map_after (call.Write k want change) m =
-    elim (holds_of want (get m k)) as (λ b. pos (len (cond b (with_at m k (changed change (get m k))) m)) ≡ cond b (net_of_change change (get m k)) (pos 0) +ℤ pos (len m)) [
+    elim (holds_of want (get m k)) as (λ b.
+        pos (len (cond b (with_at m k (changed change (get m k))) m))
+        ≡ cond b (net_of_change change (get m k)) (pos 0) +ℤ pos (len m)) [
       | true ↦ net-with_at m k change (get m k) refl
       | false ↦ omega (arith, ints)
     ]
 
 -- an exchange puts at the key what its change makes of the number in the value
-after_win-exchange : (m : Numbers) (k : ℕ) (change : Change) (a b : ValueState) → Exchanges change a b → after_win m k b ≡ with_at m k (changed change (content_of a))
+after_win-exchange :
+    (m : Numbers) (k : ℕ) (change : Change) (a b : ValueState) → Exchanges change a b
+    → after_win m k b ≡ with_at m k (changed change (content_of a))
 after_win-exchange m k Remove a b e = ap (after_win m k) e.0
 after_win-exchange m k _ a b e = ap (after_win m k) e.0
 
 -- where the map has at the key what an exchange replaces, the exchange leaves the map that its call leaves
-after_win-call : (m : Numbers) (c : Call) (k : ℕ) (a b : ValueState) → get m (key_of_call c) ≡ content_of a → IsExchange c k a b → after_win m (key_of_call c) b ≡ map_after c m
+after_win-call :
+    (m : Numbers) (c : Call) (k : ℕ) (a b : ValueState) → get m (key_of_call c) ≡ content_of a → IsExchange c k a b
+    → after_win m (key_of_call c) b ≡ map_after c m
 after_win-call m (call.Get key) k a b at e = absurd e
 after_win-call m (call.Write key want change) k a b at e =
     let holds : holds_of want (get m key) ≡ true = ap (holds_of want) at ∙ e.1 in
@@ -76,7 +84,9 @@ after_win-call m (call.Write key want change) k a b at e =
 -- ---- what a call adds to the sum over the seats
 
 -- where the calls of each of the first n seats are the same, so is the sum
-net_of_seats-same : (h later : List Event) (n : ℕ) → ((s : ℕ) → s < n → calls_of later s ≡ calls_of h s) → net_of_seats later n ≡ net_of_seats h n
+net_of_seats-same :
+    (h later : List Event) (n : ℕ) → ((s : ℕ) → s < n → calls_of later s ≡ calls_of h s)
+    → net_of_seats later n ≡ net_of_seats h n
 net_of_seats-same h later zero same = refl
 net_of_seats-same h later (suc n) same =
     let here = ap net_of (same n (omega arith)) in
@@ -87,17 +97,22 @@ record HasCall (h later : List Event) (s : ℕ) (c : Call) (r : Reply) : Type 0 
   calls : (n : ℕ) → calls_of later n ≡ cond (eqb s n) ((c, r) ∷ calls_of h n) (calls_of h n)
 
 -- the calls of another seat are the same
-calls_of-other : (h later : List Event) (s : ℕ) (c : Call) (r : Reply) → HasCall h later s c r → (n : ℕ) → (s ≡ n → ⊥) → calls_of later n ≡ calls_of h n
+calls_of-other :
+    (h later : List Event) (s : ℕ) (c : Call) (r : Reply) → HasCall h later s c r → (n : ℕ) → (s ≡ n → ⊥)
+    → calls_of later n ≡ calls_of h n
 calls_of-other h later s c r has n other = has.calls n ∙ cond-false (eqb s n) _ _ (ne_eqb s n other)
 
 -- one call more adds its net to the sum
-net_of_seats-more : (h later : List Event) (s : ℕ) (c : Call) (r : Reply) → HasCall h later s c r → (n : ℕ) → s < n → net_of_seats later n ≡ net_of_call c r +ℤ net_of_seats h n
+net_of_seats-more :
+    (h later : List Event) (s : ℕ) (c : Call) (r : Reply) → HasCall h later s c r → (n : ℕ) → s < n
+    → net_of_seats later n ≡ net_of_call c r +ℤ net_of_seats h n
 net_of_seats-more h later s c r has zero within = absurd (omega arith)
 net_of_seats-more h later s c r has (suc n) within =
     elim (cases_order s n) [
       | inl own ↦
           let here = ap net_of (has.calls n ∙ cond-true (eqb s n) _ _ (eq-eqb s n own)) in
-          let rest = net_of_seats-same h later n (λ i below. calls_of-other h later s c r has i (λ same. omega arith)) in omega (arith, ints)
+          let rest = net_of_seats-same h later n (λ i below. calls_of-other h later s c r has i (λ same. omega arith)) in
+          omega (arith, ints)
       | inr (inl below) ↦
           let here = ap net_of (calls_of-other h later s c r has n (λ same. omega arith)) in
           let rest = net_of_seats-more h later s c r has n below in omega (arith, ints)
@@ -113,7 +128,9 @@ record AddsAlike (p : Plan) (e : Event) (h : List Event) : Type 0 where
   seats : net_of_seats (e ∷ h) p.seats ≡ net +ℤ net_of_seats h p.seats
 
 -- an event with a call adds the call's net to both
-adds_alike-call : (p : Plan) (e : Event) (h : List Event) (s : ℕ) (c : Call) (r : Reply) → s < p.seats → map_of (e ∷ h) ≡ map_after c (map_of h) → r ≡ reply_of c (map_of h) → HasCall h (e ∷ h) s c r → AddsAlike p e h
+adds_alike-call :
+    (p : Plan) (e : Event) (h : List Event) (s : ℕ) (c : Call) (r : Reply) → s < p.seats
+    → map_of (e ∷ h) ≡ map_after c (map_of h) → r ≡ reply_of c (map_of h) → HasCall h (e ∷ h) s c r → AddsAlike p e h
 adds_alike-call p e h s c r within map reply has = record {
   net = net_of_call c r;
   keys = ap (λ m. pos (len m)) map ∙ net-map_after c (map_of h) ∙ ap (λ r. net_of_call c r +ℤ pos (len (map_of h))) (sym reply);

@@ -68,7 +68,8 @@ pub record IsNewest (p : Plan) (t : Tables) (k : ℕ) (number : Option ℕ) : Ty
       → number ≡ content_of (t.value g i)
   pub never : HasNoneFrom p t k 0 → number ≡ None
 
-module _ (p : Plan) (t : Tables) (plan : IsPlan p) (s : IsSound p t) (k g i : ℕ) (slot : IsSlot p g i) (is : t.key g i ≡ Claimed k) where
+module _
+    (p : Plan) (t : Tables) (plan : IsPlan p) (s : IsSound p t) (k g i : ℕ) (slot : IsSlot p g i) (is : t.key g i ≡ Claimed k) where
   -- where the key has none in its slot and none above, it has none from this table on
   pub HasNoneFrom-slot : (HasContent (t.value g i) → ⊥) → HasNoneFrom p t k (suc g) → HasNoneFrom p t k g
   HasNoneFrom-slot none =
@@ -112,7 +113,8 @@ data QuietStep (p : Plan) (t : Tables) (g i k : ℕ) (to : ValueState) : Type 0 
   CopiesUp : (n : ℕ) → IsPrimedBelow p t g k n → t.value g i ≡ Null → to ≡ Live n → QuietStep p t g i k to
 
 -- what the key has got it keeps
-quiet-content : {p : Plan} {t : Tables} {g i k : ℕ} {to : ValueState} → QuietStep p t g i k to → HasContent (t.value g i) → HasContent to
+quiet-content :
+    {p : Plan} {t : Tables} {g i k : ℕ} {to : ValueState} → QuietStep p t g i k to → HasContent (t.value g i) → HasContent to
 quiet-content (Stays same) content = same.there content
 quiet-content (CopiesUp n below null e) content = absurd (subst HasContent null content)
 
@@ -179,7 +181,8 @@ quiet-after p (CopyIn s f j q n) h legal k other g i =
     let t = tables_at p h in
     let may = legal.2 in
     at_slot (λ g i here. t.key g i ≡ Claimed k → QuietStep p t g i k (cond here (Live n) (t.value g i))) f j g i
-    (λ is. CopiesUp n (subst (λ q. IsPrimedBelow p t f q n) (claimed-same (sym may.claimed ∙ is)) may.primed) may.null refl) (quiet-kept p t g i k)
+    (λ is. CopiesUp n (subst (λ q. IsPrimedBelow p t f q n) (claimed-same (sym may.claimed ∙ is)) may.primed) may.null refl)
+    (quiet-kept p t g i k)
 quiet-after p (Prime s f j) h legal k other g i =
     let t = tables_at p h in
     at_slot (λ g i here. t.key g i ≡ Claimed k → QuietStep p t g i k (cond here (primed (t.value g i)) (t.value g i))) f j g i
@@ -230,7 +233,9 @@ newest p (Won s g i a b c r ∷ h) plan legal k =
     let e = Won s g i a b c r in
     let slot : IsSlot p g i = legal.1.1 in
     cond_both (eqb k (key_of_call c)) (number_left b (number_at h k)) (number_at h k) (IsNewest p (tables_at p (e ∷ h)) k)
-    (λ same. IsNewest-won p (tables_at p h) (tables_at p (e ∷ h)) plan (sound p (e ∷ h) plan legal) (step_of p e h plan legal) k g i a b c
-    (number_at h k) slot legal.2 (value_frame p e h plan legal g i slot ∙ cond-true _ b _ (same_both g i)) (eqb-true k (key_of_call c) same))
+    (λ same.
+    let put = value_frame p e h plan legal g i slot ∙ cond-true _ b _ (same_both g i) in
+    IsNewest-won p (tables_at p h) (tables_at p (e ∷ h)) plan (sound p (e ∷ h) plan legal) (step_of p e h plan legal) k g i a b c
+    (number_at h k) slot legal.2 put (eqb-true k (key_of_call c) same))
     (λ other. IsNewest-elsewhere p e h plan legal k (eqb-false k (key_of_call c) other) (newest p h plan legal.0 k))
 newest p (e ∷ h) plan legal k = IsNewest-elsewhere p e h plan legal k tt (newest p h plan legal.0 k)

@@ -33,11 +33,14 @@ record IsPlaced (p : Plan) (t : Tables) (g k n f : ℕ) : Type 0 where
   has : HasSlot p t f k
 
 -- the first place of a key is in the first table where it has a slot
-place_from-found : (p : Plan) (t : Tables) (k g n i : ℕ) → slot_among t g k (size_of p g) ≡ Some i → place_from p t k g (suc n) ≡ Some (g, i)
+place_from-found :
+    (p : Plan) (t : Tables) (k g n i : ℕ) → slot_among t g k (size_of p g) ≡ Some i → place_from p t k g (suc n) ≡ Some (g, i)
 place_from-found p t k g n i found = ap (λ o. first_place (option_map (λ j. (g, j)) o) (place_from p t k (suc g) n)) found
 
 -- it is not in a table where the key has none
-place_from-next : (p : Plan) (t : Tables) (k g n : ℕ) → slot_among t g k (size_of p g) ≡ None → place_from p t k g (suc n) ≡ place_from p t k (suc g) n
+place_from-next :
+    (p : Plan) (t : Tables) (k g n : ℕ) → slot_among t g k (size_of p g) ≡ None
+    → place_from p t k g (suc n) ≡ place_from p t k (suc g) n
 place_from-next p t k g n found = ap (λ o. first_place (option_map (λ j. (g, j)) o) (place_from p t k (suc g) n)) found
 
 -- a key has a slot in the table of its first place
@@ -48,7 +51,8 @@ place_from-some p t k g (suc n) place e =
       | Somewhere i below is found ↦
           let first = place_from-found p t k g n i found in
           let same : g ≡ place.0 = ap (λ q. q.0) (let both : (g, i) ≡ place = cc in both) in
-          subst (IsPlaced p t g k (suc n)) same (record { not_before = omega arith; not_after = omega arith; has = record { slot = i; in_table = below; is = is } })
+          let has : HasSlot p t g k = record { slot = i; in_table = below; is = is } in
+          subst (IsPlaced p t g k (suc n)) same (record { not_before = omega arith; not_after = omega arith; has = has })
       | Nowhere none found ↦
           let rest = place_from-some p t k (suc g) n place (sym (place_from-next p t k g n found) ∙ e) in
           record { not_before = omega arith; not_after = omega arith; has = rest.has }
@@ -80,7 +84,9 @@ module _ (p : Plan) (t u : Tables) (plan : IsPlan p) (s : IsSound p t) (v : IsSo
       ]
 
   -- the first place of a key in so many tables is the same later
-  place_from-later : (k g n : ℕ) (place : ℕ × ℕ) → n ≤ generations_of p - g → place_from p t k g n ≡ Some place → place_from p u k g n ≡ Some place
+  place_from-later :
+      (k g n : ℕ) (place : ℕ × ℕ) → n ≤ generations_of p - g → place_from p t k g n ≡ Some place
+      → place_from p u k g n ≡ Some place
   place_from-later k g zero place few e = absurd cc
   place_from-later k g (suc n) place few e =
       elim (slot_among-is t g k (size_of p g)) [
@@ -96,5 +102,7 @@ module _ (p : Plan) (t u : Tables) (plan : IsPlan p) (s : IsSound p t) (v : IsSo
       ]
 
   -- the first place of a key from a table on is the same in later tables
-  pub place_from-same : (g k : ℕ) (place : ℕ × ℕ) → place_from p t k g (generations_of p - g) ≡ Some place → place_from p u k g (generations_of p - g) ≡ Some place
+  pub place_from-same :
+      (g k : ℕ) (place : ℕ × ℕ) → place_from p t k g (generations_of p - g) ≡ Some place
+      → place_from p u k g (generations_of p - g) ≡ Some place
   place_from-same g k place e = place_from-later k g (generations_of p - g) place (omega arith) e

@@ -26,13 +26,16 @@ data Walk (p : Plan) (t : Tables) (g k n : ℕ) : Type 0 where
   ToOwn : (d : ℕ) → d < n → AreOthers p t g k d → t.key g (path_slot p g k d) ≡ Claimed k → Walk p t g k n
 
 -- one slot more, where other keys have all before it
-walk-suc : (p : Plan) (t : Tables) (g k n : ℕ) (s : KeyState) → AreOthers p t g k n → t.key g (path_slot p g k n) ≡ s → Walk p t g k (suc n)
+walk-suc :
+    (p : Plan) (t : Tables) (g k n : ℕ) (s : KeyState) → AreOthers p t g k n → t.key g (path_slot p g k n) ≡ s → Walk p t g k (suc n)
 walk-suc p t g k n Empty passed is = ToEmpty n (omega arith) passed is
 walk-suc p t g k n Dead passed is = ToDead n (omega arith) passed is
 walk-suc p t g k n (Claimed j) passed is =
     elim (cases_eq j k) [
       | inl same ↦ ToOwn n (omega arith) passed (is ∙ ap Claimed same)
-      | inr differs ↦ Crowded (below_suc (λ e. IsOther (t.key g (path_slot p g k e)) k) n (record { other = j; is = is; differs = differs }) passed)
+      | inr differs ↦
+          let other : IsOther (t.key g (path_slot p g k n)) k = record { other = j; is = is; differs = differs } in
+          Crowded (below_suc (λ e. IsOther (t.key g (path_slot p g k e)) k) n other passed)
     ]
 
 -- each path can be walked
@@ -87,7 +90,8 @@ module _ (n m : ℕ) (f : (i : ℕ) → i < n → ℕ) (x : ℕ) (within : (i : 
   last-within i (inr above) = x_within
 
   module _ (left_out : (i : ℕ) (h : i < n) → f i h ≢ x) (one : (i j : ℕ) (h : i < n) (l : j < n) → f i h ≡ f j l → i ≡ j) where
-    last-apart : (i j : ℕ) (c : (i < n) ⊎ (n ≤ i)) (d : (j < n) ⊎ (n ≤ j)) → i < j → j < suc n → with_last n f x i c ≢ with_last n f x j d
+    last-apart :
+        (i j : ℕ) (c : (i < n) ⊎ (n ≤ i)) (d : (j < n) ⊎ (n ≤ j)) → i < j → j < suc n → with_last n f x i c ≢ with_last n f x j d
     last-apart i j (inl h) (inl l) less _ e = let same = one i j h l e in omega arith
     last-apart i j (inl h) (inr l) less _ e = left_out i h e
     last-apart i j (inr h) (inl l) less _ e = omega arith
@@ -131,12 +135,14 @@ module _ (p : Plan) (t : Tables) (plan : IsPlan p) (s : IsSound p t) where
       (λ i h same. (from i h).differs (one_key t g _ _ _ _ same (from i h).is has.is))
       (λ i j h l same.
       let key : (from i h).key ≡ (from j l).key = one_key t g _ _ _ _ same (from i h).is (from j l).is in
-      one_slot p t plan s (suc g) i j (from i h).key (within, h) (within, l) (from i h).is_above ((from j l).is_above ∙ ap Claimed (sym key))) in
+      let j_is = (from j l).is_above ∙ ap Claimed (sym key) in
+      one_slot p t plan s (suc g) i j (from i h).key (within, h) (within, l) (from i h).is_above j_is) in
       let rising : size_of p g ≤ size_of p (suc g) = sizes_never_fall p plan g within in
       omega arith
 
   -- Where a key has a slot in a table, and other keys have all of the next one, those didn't all come from this one: it is complete.
-  pub crowded-complete_below : (g k : ℕ) → suc g < generations_of p → HasSlot p t g k → AreOthers p t (suc g) k (size_of p (suc g)) → IsComplete p t g
+  pub crowded-complete_below :
+      (g k : ℕ) → suc g < generations_of p → HasSlot p t g k → AreOthers p t (suc g) k (size_of p (suc g)) → IsComplete p t g
   crowded-complete_below g k within has passed =
       elim (each_or (IsFromBelow p t g k) (IsComplete p t g) (size_of p (suc g)) from_below) [
         | inl from ↦ absurd (too_many g k within has from)
@@ -147,12 +153,20 @@ module _ (p : Plan) (t : Tables) (plan : IsPlan p) (s : IsSound p t) where
       from_below i h =
           let o = others-whole p t (suc g) k passed i h in
           elim (s.below g o.other within (record { slot = i; in_table = h; is = o.is })) [
-            | inl below ↦ inl (record { key = o.other; slot = below.slot; in_table = below.in_table; is = below.is; is_above = o.is; differs = o.differs })
+            | inl below ↦ inl (record {
+              key = o.other;
+              slot = below.slot;
+              in_table = below.in_table;
+              is = below.is;
+              is_above = o.is;
+              differs = o.differs;
+            })
             | inr complete ↦ inr complete
           ]
 
   -- while a table isn't complete, the next one has no closed slot
-  incomplete-alive : (g : ℕ) → suc g < generations_of p → (IsComplete p t g → ⊥) → (i : ℕ) → i < size_of p (suc g) → t.key (suc g) i ≢ Dead
+  incomplete-alive :
+      (g : ℕ) → suc g < generations_of p → (IsComplete p t g → ⊥) → (i : ℕ) → i < size_of p (suc g) → t.key (suc g) i ≢ Dead
   incomplete-alive g within not_complete i below dead = not_complete (s.ready g (s.dead (suc g) i (within, below) dead)).1
 
   -- while a table isn't complete, the next one has room for what is still to be copied

@@ -49,7 +49,9 @@ shown_by-without (Primed n) blank without = absurd (without tt)
 shown_by-without _ blank without = refl
 
 -- a primed value shows what is above, if a number that is still to copy isn't the newest
-shown_by-primed : (v : ValueState) (blank : Bool) (above : Option ℕ) → (IsUnprimed v → ⊥) → ((n : ℕ) → v ≡ Primed n → blank ≡ false) → shown_by (Some v) blank above ≡ above
+shown_by-primed :
+    (v : ValueState) (blank : Bool) (above : Option ℕ) → (IsUnprimed v → ⊥) → ((n : ℕ) → v ≡ Primed n → blank ≡ false)
+    → shown_by (Some v) blank above ≡ above
 shown_by-primed Null blank above primed copied = absurd (primed tt)
 shown_by-primed Tombstone blank above primed copied = absurd (primed tt)
 shown_by-primed (Live n) blank above primed copied = absurd (primed tt)
@@ -136,7 +138,8 @@ module _ (p : Plan) (t : Tables) (plan : IsPlan p) (s : IsSound p t) (k : ℕ) w
   settled-final : (g : ℕ) → IsInstalled t g → IsSettledBelow p t g k → AreFinalBelow p t g k
   settled-final zero installed settled = λ f below. absurd (omega arith)
   settled-final (suc g) installed settled =
-      below_suc (λ f. (i : ℕ) → IsSlot p f i → t.key f i ≡ Claimed k → IsFinishedValue (t.value f i)) g (λ i slot is. settled i slot.1 is)
+      below_suc (λ f. (i : ℕ) → IsSlot p f i → t.key f i ≡ Claimed k → IsFinishedValue (t.value f i)) g
+      (λ i slot is. settled i slot.1 is)
       (λ f less i slot is. finished-value t f i k (complete-below p t s (suc g) f (omega arith) installed i slot.1) is)
 
   -- a key passed in all tables below has final values there
@@ -183,8 +186,10 @@ module _ (p : Plan) (t : Tables) (plan : IsPlan p) (s : IsSound p t) (k : ℕ) w
   uncopied-not_complete : (g i n : ℕ) → IsSlot p g i → t.key g i ≡ Claimed k → t.value g i ≡ Primed n → IsComplete p t g → ⊥
   uncopied-not_complete g i n slot is primed complete = subst IsFinishedValue primed (finished-value t g i k (complete i slot.1) is)
 
-  -- the newest value
-  module _ (g i : ℕ) (slot : IsSlot p g i) (is : t.key g i ≡ Claimed k) (content : HasContent (t.value g i)) (none : HasNoneFrom p t k (suc g)) where
+  -- of the newest value:
+  module _
+      (g i : ℕ) (slot : IsSlot p g i) (is : t.key g i ≡ Claimed k) (content : HasContent (t.value g i))
+      (none : HasNoneFrom p t k (suc g)) where
     -- where it is a number still to copy, the key has no slot in the next table, or a null value
     is_blank-above : (n : ℕ) → t.value g i ≡ Primed n → is_blank (value_in p t (suc g) k) ≡ true
     is_blank-above n primed =
@@ -199,19 +204,23 @@ module _ (p : Plan) (t : Tables) (plan : IsPlan p) (s : IsSound p t) (k : ℕ) w
         ]
 
     -- below it a number that was primed has been copied
-    is_blank-copied : (f j n : ℕ) → f < g → IsSlot p f j → t.key f j ≡ Claimed k → t.value f j ≡ Primed n → is_blank (value_in p t (suc f) k) ≡ false
+    is_blank-copied :
+        (f j n : ℕ) → f < g → IsSlot p f j → t.key f j ≡ Claimed k → t.value f j ≡ Primed n
+        → is_blank (value_in p t (suc f) k) ≡ false
     is_blank-copied f j n below j_slot j_is primed =
         elim (cases_order (suc f) g) [
           | inl same ↦ rw (same, value_in-some p t plan s g i k slot is) (is_blank-content (t.value g i) content)
           | inr (inl less) ↦
-              absurd (uncopied-not_complete f j n j_slot j_is primed (complete-below p t s g f less (s.claimed g i k slot is).installed))
+              let complete = complete-below p t s g f less (s.claimed g i k slot is).installed in
+              absurd (uncopied-not_complete f j n j_slot j_is primed complete)
           | inr (inr more) ↦ absurd (omega arith)
         ]
 
     -- its table shows its number,
     shown_from-newest : (tables : ℕ) → g + suc tables ≡ generations_of p → shown_from p t k g (suc tables) ≡ content_of (t.value g i)
     shown_from-newest tables whole =
-        rw (is_installed-holds t g (s.claimed g i k slot is).installed, value_in-some p t plan s g i k slot is, shown_from-none (suc g) tables (omega arith) none)
+        let installed = is_installed-holds t g (s.claimed g i k slot is).installed in
+        rw (installed, value_in-some p t plan s g i k slot is, shown_from-none (suc g) tables (omega arith) none)
         (shown_by-newest (t.value g i) _ content is_blank-above (λ n. newest-not_moved g i n slot is none))
 
     -- and so do all tables below it
@@ -219,10 +228,13 @@ module _ (p : Plan) (t : Tables) (plan : IsPlan p) (s : IsSound p t) (k : ℕ) w
     shown_from-below f zero whole below = let within = slot.0 in absurd (omega arith)
     shown_from-below f (suc tables) whole below =
         elim (cases_order f g) [
-          | inl same ↦ subst (λ f. shown_from p t k f (suc tables) ≡ content_of (t.value g i)) (sym same) (shown_from-newest tables (omega arith))
+          | inl same ↦
+              subst (λ f. shown_from p t k f (suc tables) ≡ content_of (t.value g i)) (sym same)
+              (shown_from-newest tables (omega arith))
           | inr (inl less) ↦
               let rest = shown_from-below (suc f) tables (omega arith) (omega arith) in
-              rw (is_installed-holds t f (installed-below g f (omega arith) (s.claimed g i k slot is).installed)) (elim (look p t f k) [
+              let installed = installed-below g f (omega arith) (s.claimed g i k slot is).installed in
+              rw (is_installed-holds t f installed) (elim (look p t f k) [
                 | Away away e ↦ rw e rest
                 | Here j within j_is e ↦
                     let within_tables = slot.0 in
@@ -244,7 +256,8 @@ module _ (p : Plan) (t : Tables) (plan : IsPlan p) (s : IsSound p t) (k : ℕ) w
         elim newest_place [
           | Never none ↦ shown_from-none 0 (generations_of p) (omega arith) none ∙ sym (is_newest.never none)
           | There g i slot is content none ↦
-              shown_from-below g i slot is content none 0 (generations_of p) (omega arith) (omega arith) ∙ sym (is_newest.at g i slot is content none)
+              shown_from-below g i slot is content none 0 (generations_of p) (omega arith) (omega arith)
+              ∙ sym (is_newest.at g i slot is content none)
         ]
 
     -- where the key's values below a table are final, and the key never got a number there or above, it has none
@@ -271,7 +284,8 @@ module _ (p : Plan) (t : Tables) (plan : IsPlan p) (s : IsSound p t) (k : ℕ) w
         elim (content_or_none (t.value g i)) [
           | inl content ↦ is_newest.at g i slot is content above
           | inr without ↦
-              number-none g final (HasNoneFrom-slot p t plan s k g i slot is without above) ∙ sym (content_of-without (t.value g i) without)
+              number-none g final (HasNoneFrom-slot p t plan s k g i slot is without above)
+              ∙ sym (content_of-without (t.value g i) without)
         ]
 
     -- what a table shows of a key whose values below are final is the newest number
@@ -286,9 +300,11 @@ module _ (p : Plan) (t : Tables) (plan : IsPlan p) (s : IsSound p t) (k : ℕ) w
     number-shown g shown within final (AtValue i below is unprimed e) = number-unprimed g i final (within, below) is unprimed ∙ sym e
     number-shown g shown within final (NoNext others no_next e) =
         number-none g final (HasNoneFrom-no_slot g (no_slot-whole p t s g k within others) (λ f above i slot is content.
-        let next : t.next g ≡ 1 = installed-below f (suc g) (omega arith) (s.claimed f i k slot is).installed in absurd (omega arith))) ∙ sym e
+        let next : t.next g ≡ 1 = installed-below f (suc g) (omega arith) (s.claimed f i k slot is).installed in
+        absurd (omega arith))) ∙ sym e
     number-shown g shown within final (InLast others last e) =
-        number-none g final (HasNoneFrom-no_slot g (no_slot-whole p t s g k within others) (HasNoneFrom-past (suc g) (omega arith))) ∙ sym e
+        number-none g final (HasNoneFrom-no_slot g (no_slot-whole p t s g k within others) (HasNoneFrom-past (suc g) (omega arith)))
+        ∙ sym e
 
     -- a key that the last table has no slot for has no number
     number-crowded : (g : ℕ) → suc g ≡ generations_of p → AreOthers p t g k (size_of p g) → number ≡ None
@@ -324,7 +340,8 @@ pub decided : Decided
 decided p plan h legal g k within installed passed shown shows =
     let s = sound p h plan legal in
     number_at_map h k
-    ∙ number-shown p (tables_at p h) plan s k _ (newest p h plan legal k) g shown within (passed-final p (tables_at p h) plan s k g passed) shows
+    ∙ number-shown p (tables_at p h) plan s k _ (newest p h plan legal k) g shown within
+    (passed-final p (tables_at p h) plan s k g passed) shows
 
 pub crowded_absent : CrowdedAbsent
 crowded_absent p plan h legal k crowded =

@@ -1,5 +1,6 @@
 -- The slot of a key in a table, and its value there, as the searches of Meaning find them.
 use Rattle.std.proofs.Common.{◌≡◌, ◌≢◌, ◌∙◌, ℕ, ◌<◌, ◌⊎◌, zero, suc, ap, refl, inl, inr, true, false, cond, not, Option, Some, None, option_map, arith}
+use Rattle.std.proofs.lemmas.Bool.{cond_both}
 use Rattle.nb_core.specs.Plans.{Plan, IsPlan, size_of}
 use Rattle.nb_core.specs.Tables.{HasSlot, IsSlot, Tables}
 use Rattle.nb_core.specs.Meaning.{is_claimed_by, slot_among, value_among, value_in}
@@ -23,10 +24,9 @@ IsFound-suc t g k n found away (Nowhere none e) = Nowhere (below_suc (λ i. t.ke
 pub slot_among-is : (t : Tables) (g k n : ℕ) → IsFound t g k n (slot_among t g k n)
 slot_among-is t g k zero = Nowhere (λ i below. absurd (omega arith)) refl
 slot_among-is t g k (suc n) =
-    elim (is_claimed_by k (t.key g n)) as (λ b. is_claimed_by k (t.key g n) ≡ b → IsFound t g k (suc n) (cond b (Some n) (slot_among t g k n))) [
-      | true ↦ λ here. Somewhere n (omega arith) (is_claimed_by-true k (t.key g n) here) refl
-      | false ↦ λ away. IsFound-suc t g k n (slot_among t g k n) (unclaimed k (t.key g n) (ap not away)) (slot_among-is t g k n)
-    ] refl
+    cond_both (is_claimed_by k (t.key g n)) (Some n) (slot_among t g k n) (IsFound t g k (suc n))
+    (λ here. Somewhere n (omega arith) (is_claimed_by-true k (t.key g n) here) refl)
+    (λ away. IsFound-suc t g k n (slot_among t g k n) (unclaimed k (t.key g n) (ap not away)) (slot_among-is t g k n))
 
 -- a key has a slot in a table, or no slot there is its own
 pub has_slot_or_none : (p : Plan) (t : Tables) (g k : ℕ) → HasSlot p t g k ⊎ HasNoSlot p t g k
@@ -52,13 +52,16 @@ slot_among-at p t plan s g i k slot is =
 value_among-is : (t : Tables) (g k n : ℕ) → value_among t g k n ≡ option_map (t.value g) (slot_among t g k n)
 value_among-is t g k zero = refl
 value_among-is t g k (suc n) =
-    elim (is_claimed_by k (t.key g n)) as (λ b. cond b (Some (t.value g n)) (value_among t g k n) ≡ option_map (t.value g) (cond b (Some n) (slot_among t g k n))) [
+    elim (is_claimed_by k (t.key g n)) as (λ b.
+        cond b (Some (t.value g n)) (value_among t g k n) ≡ option_map (t.value g) (cond b (Some n) (slot_among t g k n))) [
       | true ↦ refl
       | false ↦ value_among-is t g k n
     ]
 
 -- a key's value in a table, by what the search for its slot finds
-value_in-is : (p : Plan) (t : Tables) (g k : ℕ) (o : Option ℕ) → slot_among t g k (size_of p g) ≡ o → value_in p t g k ≡ option_map (t.value g) o
+value_in-is :
+    (p : Plan) (t : Tables) (g k : ℕ) (o : Option ℕ) → slot_among t g k (size_of p g) ≡ o
+    → value_in p t g k ≡ option_map (t.value g) o
 value_in-is p t g k o found = value_among-is t g k (size_of p g) ∙ ap (option_map (t.value g)) found
 
 -- a key's value in a table is the one in its slot

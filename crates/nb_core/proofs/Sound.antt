@@ -63,7 +63,9 @@ pub record IsSound (p : Plan) (t : Tables) : Type 0 where
   -- a key gets into the next table from this one, or once this one is complete
   pub below : (g k : ℕ) → suc g < generations_of p → HasSlot p t (suc g) k → HasSlot p t g k ⊎ IsComplete p t g
   -- a key's values in two tables
-  pub above : (g i j k : ℕ) → IsSlot p g i → IsSlot p (suc g) j → t.key g i ≡ Claimed k → t.key (suc g) j ≡ Claimed k → (t.value (suc g) j ≡ Null) ⊎ MayBeAbove (t.value g i) (t.value (suc g) j)
+  pub above :
+      (g i j k : ℕ) → IsSlot p g i → IsSlot p (suc g) j → t.key g i ≡ Claimed k → t.key (suc g) j ≡ Claimed k
+      → (t.value (suc g) j ≡ Null) ⊎ MayBeAbove (t.value g i) (t.value (suc g) j)
   -- a finished number has been copied
   pub moved : (g i k n : ℕ) → IsSlot p g i → t.key g i ≡ Claimed k → t.value g i ≡ Finished n → HasGot p t (suc g) k
 
@@ -113,15 +115,19 @@ no_slot-whole p t s g k within others i below is =
     other-not _ k (others reached.distance reached.in_table) (ap (t.key g) reached.at ∙ is)
 
 -- on one path the key's slot is at one distance
-reached-once : (p : Plan) (t : Tables) (g i j k : ℕ) → IsReached p t g i k → IsReached p t g j k → t.key g i ≡ Claimed k → t.key g j ≡ Claimed k → i ≡ j
+reached-once :
+    (p : Plan) (t : Tables) (g i j k : ℕ) → IsReached p t g i k → IsReached p t g j k → t.key g i ≡ Claimed k
+    → t.key g j ≡ Claimed k → i ≡ j
 reached-once p t g i j k a b a_is b_is =
     elim (cases_order a.distance b.distance) [
       | inl same ↦ sym a.at ∙ ap (path_slot p g k) same ∙ b.at
-      | inr (inl before) ↦ absurd (other-not (t.key g (path_slot p g k a.distance)) k (b.passed a.distance before) (ap (t.key g) a.at ∙ a_is))
-      | inr (inr after) ↦ absurd (other-not (t.key g (path_slot p g k b.distance)) k (a.passed b.distance after) (ap (t.key g) b.at ∙ b_is))
+      | inr (inl before) ↦ absurd (other-not _ k (b.passed a.distance before) (ap (t.key g) a.at ∙ a_is))
+      | inr (inr after) ↦ absurd (other-not _ k (a.passed b.distance after) (ap (t.key g) b.at ∙ b_is))
     ]
 
-pub one_slot : (p : Plan) (t : Tables) → IsPlan p → IsSound p t → (g i j k : ℕ) → IsSlot p g i → IsSlot p g j → t.key g i ≡ Claimed k → t.key g j ≡ Claimed k → i ≡ j
+pub one_slot :
+    (p : Plan) (t : Tables) → IsPlan p → IsSound p t → (g i j k : ℕ) → IsSlot p g i → IsSlot p g j → t.key g i ≡ Claimed k
+    → t.key g j ≡ Claimed k → i ≡ j
 one_slot p t plan s g i j k i_slot j_slot i_is j_is =
     reached-once p t g i j k (s.claimed g i k i_slot i_is).reached (s.claimed g j k j_slot j_is).reached i_is j_is
 
@@ -138,7 +144,8 @@ finished-value t g i k (inl dead) is = absurd (dead-unclaimed dead k is)
 finished-value t g i k (inr final) is = final
 
 -- a slot without a key has no value
-unclaimed-null : (p : Plan) (t : Tables) → IsSound p t → (g i : ℕ) → IsSlot p g i → ((k : ℕ) → t.key g i ≢ Claimed k) → t.value g i ≡ Null
+unclaimed-null :
+    (p : Plan) (t : Tables) → IsSound p t → (g i : ℕ) → IsSlot p g i → ((k : ℕ) → t.key g i ≢ Claimed k) → t.value g i ≡ Null
 unclaimed-null p t s g i slot unclaimed =
     elim (s.bare g i slot) [
       | inl null ↦ null
@@ -175,9 +182,12 @@ primed-growing p t s g i slot primed =
 -- so has one with a finished slot
 pub finished-growing : (p : Plan) (t : Tables) → IsSound p t → (g i : ℕ) → IsSlot p g i → IsFinished t g i → t.next g ≡ 1
 finished-growing p t s g i slot (inl dead) = s.dead g i slot dead
-finished-growing p t s g i slot (inr final) = primed-growing p t s g i slot (λ unprimed. unprimed-not_final (t.value g i) unprimed final)
+finished-growing p t s g i slot (inr final) =
+    primed-growing p t s g i slot (λ unprimed. unprimed-not_final (t.value g i) unprimed final)
 
-pub complete-growing : (p : Plan) (t : Tables) → IsPlan p → IsSound p t → (g : ℕ) → g < generations_of p → IsComplete p t g → t.next g ≡ 1
+-- and a complete table
+pub complete-growing :
+    (p : Plan) (t : Tables) → IsPlan p → IsSound p t → (g : ℕ) → g < generations_of p → IsComplete p t g → t.next g ≡ 1
 complete-growing p t plan s g within complete =
     let some : 0 < size_of p g = omega (arith, four-le-size_of p g plan within) in
     finished-growing p t s g 0 (within, some) (complete 0 some)

@@ -70,7 +70,8 @@ value_step p (CopyIn s f j k n) h legal g i =
     at_slot (λ g i here. ValueStep p t g i (cond here (Live n) (t.value g i))) f j g i (Copies k n legal.2 refl) (ValueKept refl)
 value_step p (Prime s f j) h legal g i =
     let t = tables_at p h in
-    at_slot (λ g i here. ValueStep p t g i (cond here (primed (t.value g i)) (t.value g i))) f j g i (Primes legal.2 refl) (ValueKept refl)
+    at_slot (λ g i here. ValueStep p t g i (cond here (primed (t.value g i)) (t.value g i))) f j g i
+    (Primes legal.2 refl) (ValueKept refl)
 value_step p (Finish s f j) h legal g i =
     let t = tables_at p h in
     at_slot (λ g i here. ValueStep p t g i (cond here (finished (t.value g i)) (t.value g i))) f j g i

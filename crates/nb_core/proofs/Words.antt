@@ -1,6 +1,6 @@
 -- What one event changes in the words of a chain.
-use Rattle.std.proofs.Common.{◌≡◌, ◌≢◌, ◌∙◌, ℕ, suc, ◌+◌, ◌%◌, ◌^◌, ◌<◌, max, bit_or, Bool, true, false, cond, eqb, ◌&&◌, List, [], ◌∷◌, length, slice_index, slice_set, ap, sym, subst, subst₂, inl, inr, refl, arith}
-use Rattle.std.proofs.lemmas.Bool.{eq-eqb, eqb-true}
+use Rattle.std.proofs.Common.{◌≡◌, ◌≢◌, ◌∙◌, ℕ, suc, ◌+◌, ◌%◌, ◌^◌, max, bit_or, Bool, true, false, cond, eqb, ◌&&◌, List, [], ◌∷◌, length, slice_index, slice_set, ap, sym, subst, subst₂, inl, inr, refl, arith}
+use Rattle.std.proofs.lemmas.Bool.{cond_both, eq-eqb, eqb-true}
 use Rattle.std.proofs.lemmas.Bool.Decides.{eqb_tells}
 use Rattle.std.proofs.lemmas.List.{get_or-set_other, get_or-set_same, get_or-replicate, length-replicate, length-set}
 use Rattle.nb_core.specs.Plans.{Plan, IsPlan, IsWord, Word, Top, Header, Key, Value, place_of_word, word_count}
@@ -78,15 +78,14 @@ word-changed :
 word-changed p plan w length_is a b a_word b_word f =
     let places = places_are_distinct p plan in
     let place = place_of_word p in
-    elim (same_word a b) as (λ t. same_word a b ≡ t → slice_index (changed_at w (place a) f) (place b) ≡ cond t (f (slice_index w (place b))) (slice_index w (place b))) [
-      | true ↦ λ e.
-          let within : place a < length w = omega (arith, places.below a a_word) in
-          subst (λ c. slice_index (changed_at w (place a) f) (place c) ≡ f (slice_index w (place c))) (same_word-true a b e)
-          (get_or-set_same w (place a) (f (slice_index w (place a))) 0 within)
-      | false ↦ λ e. get_or-set_other w (place a) (place b) (f (slice_index w (place a))) 0
-          (λ same. let one : a ≡ b = places.distinct a b a_word b_word (sym same) in
-          let t : same_word a b ≡ true = ap (same_word a) (sym one) ∙ same_word-refl a in cc)
-    ] refl
+    let u = changed_at w (place a) f in
+    let x = slice_index w (place b) in
+    cond_both (same_word a b) (f x) x (λ y. slice_index u (place b) ≡ y)
+    (λ same. subst (λ b. slice_index u (place b) ≡ f (slice_index w (place b))) (same_word-true a b same)
+        (get_or-set_same w (place a) (f (slice_index w (place a))) 0 (omega (arith, places.below a a_word))))
+    (λ other. get_or-set_other w (place a) (place b) (f (slice_index w (place a))) 0 (λ same.
+        let one : a ≡ b = places.distinct a b a_word b_word (sym same) in
+        let t : same_word a b ≡ true = ap (same_word a) (sym one) ∙ same_word-refl a in cc))
 
 -- what an event makes of a word
 abbrev pub word_after : Plan → Event → Word → ℕ → ℕ
