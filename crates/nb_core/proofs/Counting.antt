@@ -8,12 +8,12 @@ use Rattle.nb_core.specs.Plans.{Plan, IsPlan, Header, generations_of, size_of}
 use Rattle.nb_core.specs.Tables.{IsFinished, IsFinishedValue, IsSlot, IsUnprimed, Tables, tables_at}
 use Rattle.nb_core.specs.History.{IsInRange, IsLegal, MayClaim, MayFinish, MayFollow, MayKill, MayPrime, counted_by, counts, is_empty_content, turned_by, turns}
 use Rattle.nb_core.specs.Laws.{CountedOnce, finished_among, is_dead, is_finished_value, over_seats, primed, times_turned, turns_slot}
-use Rattle.nb_core.proofs.Frames.{finished, key_after, key_first, key_frame, value_after, value_first, value_frame}
+use Rattle.nb_core.proofs.Frames.{finished, key_after, key-first, key-frame, value_after, value-first, value-frame}
 use Rattle.nb_core.proofs.Passing.{below_suc, is_finished-true, is_finished_value-true}
 use Rattle.nb_core.proofs.Keeping.{sound}
 use Rattle.nb_core.proofs.Lasting.{exchange-puts, put-unprimed}
 use Rattle.nb_core.proofs.Sound.{IsSound, empty-null, unprimed-not_final}
-use Rattle.nb_core.proofs.Words.{at_slot, word-first, word_after, word_frame}
+use Rattle.nb_core.proofs.Words.{at_slot, word-first, word_after, word-frame}
 use Rattle.nb_core.specs.declared.events.Event.{Event}
 use Rattle.nb_core.specs.declared.events.Event.TheVariants.{Claim, Kill, Won, CopyIn, Prime, Finish, Count}
 use Rattle.nb_core.specs.declared.states.KeyState.{KeyState}
@@ -184,14 +184,14 @@ slot_bit-event p h _ g i t_sound range may = omega arith
 
 -- before any event no slot is finished
 slot_bit-first : (p : Plan) → IsPlan p → (g i : ℕ) → IsSlot p g i → slot_bit (tables_at p []) g i ≡ 0
-slot_bit-first p plan g i slot = ap bit (λ k. is_finished_slot (key_first p plan g i slot k) (value_first p plan g i slot k))
+slot_bit-first p plan g i slot = ap bit (λ k. is_finished_slot (key-first p plan g i slot k) (value-first p plan g i slot k))
 
 -- a slot is finished after an event if it was, or the event turned it, but not both
 slot_bit-next :
     (p : Plan) (e : Event) (h : List Event) → IsPlan p → IsLegal p (e ∷ h) → (g i : ℕ) → IsSlot p g i
     → slot_bit (tables_at p (e ∷ h)) g i ≡ bit (turns_slot p h e g i) + slot_bit (tables_at p h) g i
 slot_bit-next p e h plan legal g i slot =
-    ap bit (λ k. is_finished_slot (key_frame p e h plan legal.1 g i slot k) (value_frame p e h plan legal g i slot k))
+    ap bit (λ k. is_finished_slot (key-frame p e h plan legal.1 g i slot k) (value-frame p e h plan legal g i slot k))
     ∙ slot_bit-event p h e g i (sound p h plan legal.0) legal.1 legal.2
 
 -- so just one event turned a finished slot, and none another one
@@ -348,7 +348,7 @@ counted-done :
     → (tables_at p h).counted g ≡ over_seats (λ s. counted_by h s g) p.seats
 counted-done p [] plan legal g within = word-first p plan (Header g 2) (within, omega arith) ∙ sym (over_seats-zero p.seats)
 counted-done p (e ∷ h) plan legal g within =
-    word_frame p plan h (Header g 2) (within, omega arith) e legal.1
+    word-frame p plan h (Header g 2) (within, omega arith) e legal.1
     ∙ word_after-counted p h e g ((tables_at p h).counted g) legal.1 (counted-done p h plan legal.0 g within)
     (size-fits (slice_index p.exponents g) _ (plan.sizes g 0 within).1 (counted_by-fits p (e ∷ h) plan legal g within))
 

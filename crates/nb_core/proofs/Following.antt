@@ -22,6 +22,7 @@ has_one_slot p plan h legal = one_slot p (tables_at p h) plan (sound p h plan le
 pub installed_after : InstalledAfter
 installed_after p plan h legal g installed = ((sound p h plan legal).ready g installed).1
 
+-- a key that has got a number in a table has a value there
 got-value : (p : Plan) (t : Tables) (g k : ℕ) → HasGot p t g k → HasValue p t g k
 got-value p t g k got =
     let some = content-some (t.value g got.slot) got.content in

@@ -8,7 +8,7 @@ use Rattle.std.proofs.lemmas.Nat.Bits.{and_pow, bit_at-suc, bit_at_lowest}
 use Rattle.std.specs.Int.Bits.{or_add_and}
 use Rattle.std.specs.Option.{unwrap_or}
 use Rattle.nb_core.proofs.Tables.{base_of-le}
-use Rattle.nb_core.proofs.Words.{at_slot, length-words_of, word-first, word_after, word_frame}
+use Rattle.nb_core.proofs.Words.{at_slot, length-words_of, word-first, word_after, word-frame}
 use Rattle.nb_core.specs.Plans.{Plan, IsPlan, Header, Key, Value, generations_of, value_place}
 use Rattle.nb_core.specs.States.{IsValueState, key_state, key_word, value_state, value_word}
 use Rattle.nb_core.specs.Tables.{IsSlot, tables_at, words_of}
@@ -54,18 +54,19 @@ key_state-word Dead = refl
 key_state-word (Claimed k) = grind (arith, nat_tests)
 
 -- what a key's word stands for after an event
-key_states : (p : Plan) (e : Event) (g i x : ℕ) → key_state (word_after p e (Key g i) x) ≡ key_after e g i (key_state x)
-key_states p (Claim s f j k) g i x =
+key_state-word_after : (p : Plan) (e : Event) (g i x : ℕ) → key_state (word_after p e (Key g i) x) ≡ key_after e g i (key_state x)
+key_state-word_after p (Claim s f j k) g i x =
     at_slot (λ g i here. key_state (cond here (k + 2) x) ≡ cond here (Claimed k) (key_state x)) f j g i
     (key_state-word (Claimed k)) refl
-key_states p (Kill s f j) g i x =
+key_state-word_after p (Kill s f j) g i x =
     at_slot (λ g i here. key_state (cond here 1 x) ≡ cond here Dead (key_state x)) f j g i refl refl
-key_states p _ g i x = refl
+key_state-word_after p _ g i x = refl
 
-pub key_frame :
+-- each key after an event
+pub key-frame :
     (p : Plan) (e : Event) (h : List Event) → IsPlan p → IsInRange p e → (g i : ℕ) → IsSlot p g i
     → (tables_at p (e ∷ h)).key g i ≡ key_after e g i ((tables_at p h).key g i)
-key_frame p e h plan range g i slot = ap key_state (word_frame p plan h (Key g i) slot e range) ∙ key_states p e g i _
+key-frame p e h plan range g i slot = ap key_state (word-frame p plan h (Key g i) slot e range) ∙ key_state-word_after p e g i _
 
 -- ---- values
 
@@ -78,6 +79,7 @@ pub record IsWordOf (x : ℕ) (v : ValueState) : Type 0 where
   pub in_range : IsValueState v
   pub is : x ≡ value_word v
 
+-- a value's word stands for it, if its number is the map's
 pub value_state-word : (v : ValueState) → IsValueState v → value_state (value_word v) ≡ Some v
 value_state-word Null range = refl
 value_state-word Tombstone range = refl
@@ -96,6 +98,7 @@ or_two x =
     ap (λ y. bit_or x 2 + y * 2) (sym (bit_at_lowest (x / 2)) ∙ sym (bit_at-suc x 0))
     ∙ ap (λ y. bit_or x 2 + y) (sym (and_pow x 1)) ∙ or_add_and x 2
 
+-- to set the lowest bit of a word primes its value
 primed-word : (v : ValueState) → bit_or (value_word v) 1 ≡ value_word (primed v)
 primed-word Null = refl
 primed-word Tombstone = refl
@@ -105,6 +108,7 @@ primed-word PrimedTombstone = refl
 primed-word (Primed n) = omega (arith, or_one (4 * n + 9))
 primed-word (Finished n) = omega (arith, or_one (4 * n + 11))
 
+-- a primed value's number is the map's, if the value's is
 primed-range : (v : ValueState) → IsValueState v → IsValueState (primed v)
 primed-range (Live n) range = range
 primed-range (Primed n) range = range
@@ -125,8 +129,8 @@ finished-word_of x n v primed =
 says : (x : ℕ) (v : ValueState) → IsWordOf x v → value_of x ≡ v
 says x v w = ap (λ o. unwrap_or o Null) (ap value_state w.is ∙ value_state-word v w.in_range)
 
-said : (x : ℕ) (v : ValueState) → IsWordOf x v → IsWordOf x (value_of x)
-said x v w = subst (IsWordOf x) (sym (says x v w)) w
+says-itself : (x : ℕ) (v : ValueState) → IsWordOf x v → IsWordOf x (value_of x)
+says-itself x v w = subst (IsWordOf x) (sym (says x v w)) w
 
 -- the word of a slot's value
 abbrev value_word_at : Plan → List Event → ℕ → ℕ → ℕ
@@ -169,17 +173,19 @@ next-value_word :
     (p : Plan) (e : Event) (h : List Event) → IsPlan p → IsLegal p (e ∷ h) → AreValueWords p h → (g i : ℕ) → IsSlot p g i
     → IsWordOf (value_word_at p (e ∷ h) g i) (value_after e g i ((tables_at p h).value g i))
 next-value_word p e h plan legal words g i slot =
-    subst (λ x. IsWordOf x (value_after e g i ((tables_at p h).value g i))) (sym (word_frame p plan h (Value g i) slot e legal.1))
+    subst (λ x. IsWordOf x (value_after e g i ((tables_at p h).value g i))) (sym (word-frame p plan h (Value g i) slot e legal.1))
     (word_after-value p e h legal words g i slot)
 
+-- each value word of a legal history is a state's
 pub value_words : (p : Plan) (h : List Event) → IsPlan p → IsLegal p h → AreValueWords p h
-value_words p [] plan legal g i slot = said _ Null (record { in_range = tt; is = word-first p plan (Value g i) slot })
-value_words p (e ∷ h) plan legal g i slot = said _ _ (next-value_word p e h plan legal (value_words p h plan legal.0) g i slot)
+value_words p [] plan legal g i slot = says-itself _ Null (record { in_range = tt; is = word-first p plan (Value g i) slot })
+value_words p (e ∷ h) plan legal g i slot = says-itself _ _ (next-value_word p e h plan legal (value_words p h plan legal.0) g i slot)
 
-pub value_frame :
+-- each value after an event of a legal history
+pub value-frame :
     (p : Plan) (e : Event) (h : List Event) → IsPlan p → IsLegal p (e ∷ h) → (g i : ℕ) → IsSlot p g i
     → (tables_at p (e ∷ h)).value g i ≡ value_after e g i ((tables_at p h).value g i)
-value_frame p e h plan legal g i slot = says _ _ (next-value_word p e h plan legal (value_words p h plan legal.0) g i slot)
+value-frame p e h plan legal g i slot = says _ _ (next-value_word p e h plan legal (value_words p h plan legal.0) g i slot)
 
 -- ---- next words
 
@@ -192,12 +198,13 @@ after-past : (p : Plan) (e : Event) → IsInRange p e → (g : ℕ) → generati
 after-past p (Install s f k) range g past = ap (λ b. cond b 1 0) (ne_eqb f g (λ same. omega (arith, range.1)))
 after-past p _ range g past = refl
 
-pub next_frame :
+-- each next word after an event
+pub next-frame :
     (p : Plan) (e : Event) (h : List Event) → IsPlan p → IsInRange p e → (g : ℕ)
     → (tables_at p (e ∷ h)).next g ≡ word_after p e (Header g 0) ((tables_at p h).next g)
-next_frame p e h plan range g =
+next-frame p e h plan range g =
     elim (cases_lt g (generations_of p)) [
-      | inl within ↦ word_frame p plan h (Header g 0) (within, omega arith) e range
+      | inl within ↦ word-frame p plan h (Header g 0) (within, omega arith) e range
       | inr past ↦
           next-past p (e ∷ h) g past ∙ sym (after-past p e range g past)
           ∙ ap (word_after p e (Header g 0)) (sym (next-past p h g past))
@@ -205,14 +212,17 @@ next_frame p e h plan range g =
 
 -- ---- before any event
 
-pub key_first : (p : Plan) → IsPlan p → (g i : ℕ) → IsSlot p g i → (tables_at p []).key g i ≡ Empty
-key_first p plan g i slot = ap key_state (word-first p plan (Key g i) slot)
+-- before any event each key is empty,
+pub key-first : (p : Plan) → IsPlan p → (g i : ℕ) → IsSlot p g i → (tables_at p []).key g i ≡ Empty
+key-first p plan g i slot = ap key_state (word-first p plan (Key g i) slot)
 
-pub value_first : (p : Plan) → IsPlan p → (g i : ℕ) → IsSlot p g i → (tables_at p []).value g i ≡ Null
-value_first p plan g i slot = ap value_of (word-first p plan (Value g i) slot)
+-- each value is null,
+pub value-first : (p : Plan) → IsPlan p → (g i : ℕ) → IsSlot p g i → (tables_at p []).value g i ≡ Null
+value-first p plan g i slot = ap value_of (word-first p plan (Value g i) slot)
 
-pub next_first : (p : Plan) → IsPlan p → (g : ℕ) → (tables_at p []).next g ≡ 0
-next_first p plan g =
+-- and each next word is 0
+pub next-first : (p : Plan) → IsPlan p → (g : ℕ) → (tables_at p []).next g ≡ 0
+next-first p plan g =
     elim (cases_lt g (generations_of p)) [
       | inl within ↦ word-first p plan (Header g 0) (within, omega arith)
       | inr past ↦ next-past p [] g past

@@ -4,7 +4,7 @@ use Rattle.nb_core.specs.Plans.{Plan, IsPlan, generations_of}
 use Rattle.nb_core.specs.Tables.{HasSlot, IsComplete, IsFinishedValue, IsSlot, IsUnprimed, Tables, path_slot, tables_at}
 use Rattle.nb_core.specs.History.{IsLegal, MayClaim, MayFinish}
 use Rattle.nb_core.specs.Laws.{HasContent, primed}
-use Rattle.nb_core.proofs.Frames.{key_first, next_first, value_first}
+use Rattle.nb_core.proofs.Frames.{key-first, next-first, value-first}
 use Rattle.nb_core.proofs.Lasting.{complete-stays, exchange-puts, installed-stays, key-claimed, key-was, key-was_dead, next-stays, others-stay, put-unprimed, slot-stays, value-content, value-empty, value-final, value-frozen, value-primed}
 use Rattle.nb_core.proofs.Sound.{HasGot, HasKey, IsClaimedRight, IsReached, IsSound, MayBeAbove, claimed-same, complete-growing, empty-unclaimed, finished-not_empty, finished-value, next-within, no_slot-past, one_slot, primed-growing}
 use Rattle.nb_core.proofs.Steps.{NextKept, Installs, Step, ValueStep, ValueKept, Wins, Copies, Primes, Finishes, step_of}
@@ -40,6 +40,7 @@ content-is Null some unprimed = some refl
 content-is PrimedNull some unprimed = unprimed refl
 content-is _ some unprimed = tt
 
+-- priming makes no finished number of a value that isn't primed
 primed-not_finished : (v : ValueState) (n : ℕ) → IsUnprimed v → primed v ≢ Finished n
 primed-not_finished Null n unprimed e = cc
 primed-not_finished Tombstone n unprimed e = cc
@@ -69,18 +70,18 @@ final-above_step {t = t} {g = g} {i = i} above step final =
 -- ---- what an event needs
 
 -- a key that is being claimed has no slot in the table
-claim-is_first : (p : Plan) (t : Tables) → IsSound p t → (g i k : ℕ) → g < generations_of p → MayClaim p t g i k → HasSlot p t g k → ⊥
-claim-is_first p t s g i k within may has =
+claim-first : (p : Plan) (t : Tables) → IsSound p t → (g i k : ℕ) → g < generations_of p → MayClaim p t g i k → HasSlot p t g k → ⊥
+claim-first p t s g i k within may has =
     let empty : t.key g (path_slot p g k may.distance) ≡ Empty = ap (t.key g) may.on_path.1 ∙ may.empty in
     no_slot-past p t s g k may.distance within may.passed (empty-unclaimed empty) has.slot has.in_table has.is
 
 -- no slot of the key is claimed where the next table has one
-pub not_late :
+pub claim-not_late :
     (p : Plan) (t : Tables) → IsSound p t → (g i k : ℕ) → suc g < generations_of p → IsSlot p g i → MayClaim p t g i k
     → HasSlot p t (suc g) k → ⊥
-not_late p t s g i k within slot may has =
+claim-not_late p t s g i k within slot may has =
     elim (s.below g k within has) [
-      | inl below ↦ claim-is_first p t s g i k slot.0 may below
+      | inl below ↦ claim-first p t s g i k slot.0 may below
       | inr complete ↦ finished-not_empty p t s g i slot (complete i slot.1) may.empty
     ]
 
@@ -102,6 +103,7 @@ finishes-got p t s g i slot may =
 -- ---- a step keeps each part of the invariant
 
 module _ (p : Plan) (t u : Tables) (plan : IsPlan p) (s : IsSound p t) (step : Step p t u) where
+  -- next words are 0 or 1
   keeps-next_is : (g : ℕ) → (u.next g ≡ 0) ⊎ ((u.next g ≡ 1) × (suc g < generations_of p))
   keeps-next_is g =
       elim (step.next g) [
@@ -109,6 +111,7 @@ module _ (p : Plan) (t u : Tables) (plan : IsPlan p) (s : IsSound p t) (step : S
         | Installs k may e ↦ inr (e, may.room)
       ]
 
+  -- tables are installed in order
   keeps-ready : (g : ℕ) → u.next (suc g) ≡ 1 → (u.next g ≡ 1) × IsComplete p u g
   keeps-ready g is =
       elim (step.next (suc g)) [
@@ -122,11 +125,13 @@ module _ (p : Plan) (t u : Tables) (plan : IsPlan p) (s : IsSound p t) (step : S
             (next-stays (step.next g) next, complete-stays p t u step g (omega arith) may.ready)
       ]
 
+  -- what other keys have before a key's slot they keep
   reached-stays : (g i k : ℕ) → g < generations_of p → IsReached p t g i k → IsReached p u g i k
   reached-stays g i k within r =
       let passed = others-stay p t u step plan g k r.distance within r.passed in
       record { distance = r.distance; in_table = r.in_table; at = r.at; passed = passed }
 
+  -- claimed slots
   keeps-claimed : (g i k : ℕ) → IsSlot p g i → u.key g i ≡ Claimed k → IsClaimedRight p u g i k
   keeps-claimed g i k slot is =
       elim (key-was (step.key g i slot) is) [
@@ -151,6 +156,7 @@ module _ (p : Plan) (t u : Tables) (plan : IsPlan p) (s : IsSound p t) (step : S
             }
       ]
 
+  -- closed slots are in a table that has a next one,
   keeps-dead : (g i : ℕ) → IsSlot p g i → u.key g i ≡ Dead → u.next g ≡ 1
   keeps-dead g i slot is =
       elim (key-was_dead (step.key g i slot) is) [
@@ -158,6 +164,7 @@ module _ (p : Plan) (t u : Tables) (plan : IsPlan p) (s : IsSound p t) (step : S
         | inr next ↦ next-stays (step.next g) next
       ]
 
+  -- where a key came from
   below-stays : (g k : ℕ) → g < generations_of p → HasSlot p t g k ⊎ IsComplete p t g → HasSlot p u g k ⊎ IsComplete p u g
   below-stays g k within (inl has) = inl (slot-stays p t u step g k within has)
   below-stays g k within (inr complete) = inr (complete-stays p t u step g within complete)
@@ -172,6 +179,7 @@ module _ (p : Plan) (t u : Tables) (plan : IsPlan p) (s : IsSound p t) (step : S
         ]
       ]
 
+  -- and so are primed values
   keeps-growing : (g i : ℕ) → IsSlot p g i → IsUnprimed (u.value g i) ⊎ (u.next g ≡ 1)
   keeps-growing g i slot =
       let stays = next-stays (step.next g) in
@@ -186,17 +194,19 @@ module _ (p : Plan) (t u : Tables) (plan : IsPlan p) (s : IsSound p t) (step : S
         | Finishes may e ↦ inr (stays (primed-growing p t s g i slot (λ unprimed. subst IsUnprimed may.primed unprimed)))
       ]
 
-  key-stays-some : (g i k : ℕ) → IsSlot p g i → t.key g i ≡ Claimed k → HasKey (u.key g i)
-  key-stays-some g i k slot is = record { key = k; is = key-claimed (step.key g i slot) is }
+  -- a slot with a key has one after the step
+  has_key-stays : (g i k : ℕ) → IsSlot p g i → t.key g i ≡ Claimed k → HasKey (u.key g i)
+  has_key-stays g i k slot is = record { key = k; is = key-claimed (step.key g i slot) is }
 
+  -- only claimed slots have a value
   keeps-bare : (g i : ℕ) → IsSlot p g i → (u.value g i ≡ Null) ⊎ HasKey (u.key g i)
   keeps-bare g i slot =
       elim (step.value g i slot) [
-        | ValueKept e ↦ elim (s.bare g i slot) [ inl null ↦ inl (e ∙ null) | inr key ↦ inr (key-stays-some g i key.key slot key.is) ]
-        | Wins a b c may e ↦ inr (key-stays-some g i may.key slot may.claimed)
-        | Copies k n may e ↦ inr (key-stays-some g i k slot may.claimed)
-        | Primes may e ↦ inr (key-stays-some g i may.key slot may.claimed)
-        | Finishes may e ↦ inr (key-stays-some g i may.key slot may.claimed)
+        | ValueKept e ↦ elim (s.bare g i slot) [ inl null ↦ inl (e ∙ null) | inr key ↦ inr (has_key-stays g i key.key slot key.is) ]
+        | Wins a b c may e ↦ inr (has_key-stays g i may.key slot may.claimed)
+        | Copies k n may e ↦ inr (has_key-stays g i k slot may.claimed)
+        | Primes may e ↦ inr (has_key-stays g i may.key slot may.claimed)
+        | Finishes may e ↦ inr (has_key-stays g i may.key slot may.claimed)
       ]
 
   -- both slots were the key's before
@@ -227,6 +237,7 @@ module _ (p : Plan) (t u : Tables) (plan : IsPlan p) (s : IsSound p t) (step : S
             inr (final-above_step _ below (complete_below next))
       ]
 
+  -- a key's values in two tables
   keeps-above :
       (g i j k : ℕ) → IsSlot p g i → IsSlot p (suc g) j → u.key g i ≡ Claimed k → u.key (suc g) j ≡ Claimed k
       → (u.value (suc g) j ≡ Null) ⊎ MayBeAbove (u.value g i) (u.value (suc g) j)
@@ -234,11 +245,12 @@ module _ (p : Plan) (t u : Tables) (plan : IsPlan p) (s : IsSound p t) (step : S
       elim (key-was (step.key (suc g) j j_slot) j_is) [
         | inr claims ↦ inl (value-empty s j_slot (step.value (suc g) j j_slot) claims.1.empty)
         | inl j_was ↦ elim (key-was (step.key g i i_slot) i_is) [
-          | inr claims ↦ absurd (not_late p t s g i k j_slot.0 i_slot claims.1 (record { slot = j; in_table = j_slot.1; is = j_was }))
+          | inr claims ↦ absurd (claim-not_late p t s g i k j_slot.0 i_slot claims.1 (record { slot = j; in_table = j_slot.1; is = j_was }))
           | inl i_was ↦ keeps-above_both g i j k i_slot j_slot i_was j_was
         ]
       ]
 
+  -- what a key got in a table it has there
   got-stays : (g k : ℕ) → HasGot p t g k → HasGot p u g k
   got-stays g k got = record {
     slot = got.slot;
@@ -247,6 +259,7 @@ module _ (p : Plan) (t u : Tables) (plan : IsPlan p) (s : IsSound p t) (step : S
     content = value-content (step.value g got.slot got.is_slot) got.content;
   }
 
+  -- finished numbers have been copied
   keeps-moved : (g i k n : ℕ) → IsSlot p g i → u.key g i ≡ Claimed k → u.value g i ≡ Finished n → HasGot p u (suc g) k
   keeps-moved g i k n slot is finished =
       elim (key-was (step.key g i slot) is) [
@@ -264,8 +277,9 @@ module _ (p : Plan) (t u : Tables) (plan : IsPlan p) (s : IsSound p t) (step : S
         ]
       ]
 
-  keeps : IsSound p u
-  keeps = record {
+  -- all of it
+  keeps-sound : IsSound p u
+  keeps-sound = record {
     next_is = keeps-next_is;
     ready = keeps-ready;
     claimed = keeps-claimed;
@@ -288,6 +302,7 @@ record IsBlank (p : Plan) (t : Tables) : Type 0 where
 blank-not_claimed : (p : Plan) (t : Tables) → IsBlank p t → (g i k : ℕ) → IsSlot p g i → t.key g i ≢ Claimed k
 blank-not_claimed p t b g i k slot is = empty-unclaimed (b.key g i slot) k is
 
+-- such tables are sound
 blank-sound : (p : Plan) (t : Tables) → IsBlank p t → IsSound p t
 blank-sound p t b = record {
   next_is = λ g. inl (b.next g);
@@ -301,7 +316,8 @@ blank-sound p t b = record {
   moved = λ g i k n slot is finished. absurd (blank-not_claimed p t b g i k slot is);
 }
 
+-- so the tables of each legal history are
 pub sound : (p : Plan) (h : List Event) → IsPlan p → IsLegal p h → IsSound p (tables_at p h)
 sound p [] plan legal =
-    blank-sound p (tables_at p []) (record { key = key_first p plan; value = value_first p plan; next = next_first p plan })
-sound p (e ∷ h) plan legal = keeps p (tables_at p h) (tables_at p (e ∷ h)) plan (sound p h plan legal.0) (step_of p e h plan legal)
+    blank-sound p (tables_at p []) (record { key = key-first p plan; value = value-first p plan; next = next-first p plan })
+sound p (e ∷ h) plan legal = keeps-sound p (tables_at p h) (tables_at p (e ∷ h)) plan (sound p h plan legal.0) (step_of p e h plan legal)

@@ -23,12 +23,14 @@ pub data Puts (a b : ValueState) : Type 0 where
   PutsNone : (n : ℕ) → a ≡ Live n → b ≡ Tombstone → Puts a b
   PutsNumber : (n : ℕ) → b ≡ Live n → b ≢ a → Puts a b
 
+-- by what is put: a number or none
 exchange-of :
     (o : Option ℕ) (a b : ValueState) (P : ℕ → Type 0)
     → MatchOption o ((b ≡ Tombstone) × ((n : ℕ) × (a ≡ Live n))) (λ n. (b ≡ Live n) × (b ≢ a) × P n) → Puts a b
 exchange-of None a b P e = PutsNone e.1.0 e.1.1 e.0
 exchange-of (Some n) a b P e = PutsNumber n e.0 e.1
 
+-- an exchange puts a number or a tombstone
 pub exchange-puts : (c : Call) (k : ℕ) (a b : ValueState) → IsExchange c k a b → Puts a b
 exchange-puts (call.Get key) k a b e = absurd e
 exchange-puts (call.Write key want change) k a b e = exchange-of (changed change (content_of a)) a b _ e.2
@@ -38,10 +40,12 @@ pub exchange-key : (c : Call) (k : ℕ) (a b : ValueState) → IsExchange c k a 
 exchange-key (call.Get key) k a b e = absurd e
 exchange-key (call.Write key want change) k a b e = e.0
 
+-- what is put isn't primed
 pub put-unprimed : (a b : ValueState) → Puts a b → IsUnprimed b
 put-unprimed a b (PutsNone n was e) = subst IsUnprimed (sym e) tt
 put-unprimed a b (PutsNumber n e differs) = subst IsUnprimed (sym e) tt
 
+-- and is a content
 pub put-content : (a b : ValueState) → Puts a b → HasContent b
 put-content a b (PutsNone n was e) = subst HasContent (sym e) tt
 put-content a b (PutsNumber n e differs) = subst HasContent (sym e) tt
@@ -51,14 +55,17 @@ pub put-number : (a b : ValueState) (before : Option ℕ) → Puts a b → numbe
 put-number a b before (PutsNone n was e) = rw e refl
 put-number a b before (PutsNumber n e differs) = rw e refl
 
+-- a content is one when it is primed
 primed-content : (v : ValueState) → HasContent v → HasContent (primed v)
 primed-content Null e = e
 primed-content PrimedNull e = e
 primed-content _ e = tt
 
+-- a content isn't null
 pub content-some : (v : ValueState) → HasContent v → v ≢ Null
 content-some v content null = subst HasContent null content
 
+-- nor is a primed value
 primed-some : (v : ValueState) → primed v ≢ Null
 primed-some Null e = cc
 primed-some Tombstone e = cc
@@ -87,6 +94,7 @@ module _ {p : Plan} {t : Tables} {g i : ℕ} {to : ValueState} where
         | inr finishes ↦ absurd (subst IsFinishedValue finishes.1 final)
       ]
 
+  -- and is still final
   pub value-still_final : ValueStep p t g i to → IsFinishedValue (t.value g i) → IsFinishedValue to
   value-still_final step final = subst IsFinishedValue (sym (value-final step final)) final
 
@@ -136,9 +144,11 @@ module _ {p : Plan} {t : Tables} {g i : ℕ} {to : KeyState} where
   key-stays (Claims k range may e) some = absurd (some may.empty)
   key-stays (Kills may e) some = absurd (some may.empty)
 
+  -- so does a claim,
   pub key-claimed : {k : ℕ} → KeyStep p t g i to → t.key g i ≡ Claimed k → to ≡ Claimed k
   key-claimed {k} step is = key-stays step (λ empty. empty-unclaimed empty k is) ∙ is
 
+  -- and so does a closed slot
   pub key-dead : KeyStep p t g i to → t.key g i ≡ Dead → to ≡ Dead
   key-dead step is = key-stays step (λ empty. let e : Dead ≡ Empty = sym is ∙ empty in cc) ∙ is
 
@@ -157,28 +167,34 @@ module _ {p : Plan} {t : Tables} {g i : ℕ} {to : KeyState} where
 
 -- ---- tables
 
+-- a table that has a next one keeps it
 pub next-stays : {p : Plan} {t : Tables} {g to : ℕ} → NextStep p t g to → t.next g ≡ 1 → to ≡ 1
 next-stays (NextKept e) is = e ∙ is
 next-stays (Installs k may e) is = e
 
 module _ (p : Plan) (t u : Tables) (step : Step p t u) where
+  -- so an installed table stays installed,
   pub installed-stays : (g : ℕ) → IsInstalled t g → IsInstalled u g
   installed-stays zero is = tt
   installed-stays (suc g) is = next-stays (step.next g) is
 
+  -- a finished slot finished,
   pub finished-stays : (g i : ℕ) → IsSlot p g i → IsFinished t g i → IsFinished u g i
   finished-stays g i slot (inl dead) = inl (key-dead (step.key g i slot) dead)
   finished-stays g i slot (inr final) = inr (value-still_final (step.value g i slot) final)
 
+  -- a complete table complete,
   pub complete-stays : (g : ℕ) → g < generations_of p → IsComplete p t g → IsComplete p u g
   complete-stays g within complete i below = finished-stays g i (within, below) (complete i below)
 
+  -- slots of other keys such,
   pub others-stay : IsPlan p → (g k d : ℕ) → g < generations_of p → AreOthers p t g k d → AreOthers p u g k d
   others-stay plan g k d within others e below =
       let other = others e below in
       let slot = path_slot-is_slot p plan g k e within in
       record { other = other.other; is = key-claimed (step.key g (path_slot p g k e) slot) other.is; differs = other.differs }
 
+  -- and a key's slot the key's
   pub slot-stays : (g k : ℕ) → g < generations_of p → HasSlot p t g k → HasSlot p u g k
   slot-stays g k within has =
       record { slot = has.slot; in_table = has.in_table; is = key-claimed (step.key g has.slot (within, has.in_table)) has.is }

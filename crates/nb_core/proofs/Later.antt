@@ -4,7 +4,7 @@ use Rattle.nb_core.specs.Plans.{Plan, IsPlan, generations_of, size_of}
 use Rattle.nb_core.specs.Tables.{HasSlot, IsFinishedValue, IsReady, IsSettledBelow, IsSlot, Tables, path_slot, tables_at}
 use Rattle.nb_core.specs.History.{HasValue}
 use Rattle.nb_core.specs.Laws.{BeginningsAreLegal, ContentOnce, IsPassed, AtSlot, UpToDead, Whole, Lasts, SeenLasts, SlotsStay, Stays}
-use Rattle.nb_core.proofs.Keeping.{not_late, sound}
+use Rattle.nb_core.proofs.Keeping.{claim-not_late, sound}
 use Rattle.nb_core.proofs.Lasting.{complete-stays, finished-stays, installed-stays, key-claimed, key-dead, key-was, others-stay, slot-stays, value-content, value-final, value-frozen, value-some, value-still_final}
 use Rattle.nb_core.proofs.Sound.{IsSound, dead-null, finished-not_empty, path_slot-is_slot}
 use Rattle.nb_core.proofs.Steps.{Step, TopKept, Promotes, step_of}
@@ -14,6 +14,7 @@ use Rattle.nb_core.specs.declared.states.KeyState.TheVariants.{Empty, Dead, Clai
 -- ---- one step
 
 module _ (p : Plan) (t u : Tables) (plan : IsPlan p) (s : IsSound p t) (step : Step p t u) where
+  -- a passed key stays passed,
   passed-stays : (g k : ℕ) → g < generations_of p → IsPassed p t g k → IsPassed p u g k
   passed-stays g k within (AtSlot i below is final) =
       AtSlot i below (key-claimed (step.key g i (within, below)) is) (value-still_final (step.value g i (within, below)) final)
@@ -22,6 +23,7 @@ module _ (p : Plan) (t u : Tables) (plan : IsPlan p) (s : IsSound p t) (step : S
       UpToDead d below (others-stay p t u step plan g k d within others) (key-dead (step.key g (path_slot p g k d) slot) dead)
   passed-stays g k within (Whole others) = Whole (others-stay p t u step plan g k (size_of p g) within others)
 
+  -- a key with a value keeps one,
   value-stays : (g k : ℕ) → g < generations_of p → HasValue p t g k → HasValue p u g k
   value-stays g k within has = record {
     slot = has.slot;
@@ -30,6 +32,7 @@ module _ (p : Plan) (t u : Tables) (plan : IsPlan p) (s : IsSound p t) (step : S
     some = value-some (step.value g has.slot (within, has.in_table)) has.some;
   }
 
+  -- a table that may be used may be used,
   ready-stays : (g : ℕ) → g < generations_of p → IsReady p t g → IsReady p u g
   ready-stays zero within ready = tt
   ready-stays (suc g) within ready = complete-stays p t u step g (omega arith) ready
@@ -41,9 +44,10 @@ module _ (p : Plan) (t u : Tables) (plan : IsPlan p) (s : IsSound p t) (step : S
       let slot : IsSlot p g i = (omega arith, below) in
       elim (key-was (step.key g i slot) is) [
         | inl was ↦ value-still_final (step.value g i slot) (settled i below was)
-        | inr claims ↦ absurd (not_late p t s g i k within slot claims.1 has)
+        | inr claims ↦ absurd (claim-not_late p t s g i k within slot claims.1 has)
       ]
 
+  -- and the top word never falls
   top-rises : t.top ≤ u.top
   top-rises =
       elim (step.top) [
@@ -51,6 +55,7 @@ module _ (p : Plan) (t u : Tables) (plan : IsPlan p) (s : IsSound p t) (step : S
         | Promotes g within may e ↦ (let higher = may.higher in omega arith)
       ]
 
+  -- all that, of one step
   lasts-step : Lasts p t u
   lasts-step = record {
     installed = installed-stays p t u step;
@@ -73,6 +78,7 @@ module _ (p : Plan) (t u : Tables) (plan : IsPlan p) (s : IsSound p t) (step : S
 
 -- ---- many steps
 
+-- of no step
 lasts-none : (p : Plan) (t : Tables) → Lasts p t t
 lasts-none p t = record {
   installed = λ g is. is;
@@ -93,6 +99,7 @@ lasts-none p t = record {
   top = omega arith;
 }
 
+-- and of one step after others
 lasts-then : (p : Plan) (t u v : Tables) → Lasts p t u → Lasts p u v → Lasts p t v
 lasts-then p t u v a b = record {
   installed = λ g is. b.installed g (a.installed g is);
@@ -137,6 +144,7 @@ key-same p t u a g i slot Empty is some = absurd (some refl)
 key-same p t u a g i slot Dead is some = a.dead g i slot is
 key-same p t u a g i slot (Claimed k) is some = a.claimed g i k slot is
 
+-- a slot's key stays, and a finished slot's value
 stays : (p : Plan) (t u : Tables) → IsSound p t → IsSound p u → Lasts p t u → (g i : ℕ) → IsSlot p g i → Stays t u g i
 stays p t u s r a g i slot = record {
   key = key-same p t u a g i slot (t.key g i) refl;

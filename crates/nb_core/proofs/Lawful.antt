@@ -7,12 +7,12 @@ use Rattle.nb_core.specs.Tables.{IsSlot, IsUnprimed, chunk_of, Tables, tables_at
 use Rattle.nb_core.specs.History.{IsLegal}
 use Rattle.nb_core.specs.Laws.{IsKeyChange, IsValueChange, IsWonChange, LawfulChanges, LawfulWords, finished_among, is_dead, is_finished_value, primed}
 use Rattle.nb_core.proofs.Counting.{counted_once}
-use Rattle.nb_core.proofs.Frames.{finished, key_after, key_frame, value_after, value_frame, value_state-word, value_words}
+use Rattle.nb_core.proofs.Frames.{finished, key_after, key-frame, value_after, value-frame, value_state-word, value_words}
 use Rattle.nb_core.proofs.Keeping.{sound}
 use Rattle.nb_core.proofs.Lasting.{PutsNone, PutsNumber, Puts, exchange-puts}
 use Rattle.nb_core.proofs.Passing.{is_finished-true}
 use Rattle.nb_core.proofs.Sound.{IsSound, dead-null, empty-null, finished-growing}
-use Rattle.nb_core.proofs.Words.{at_slot, at_table, length-word_step, one_word, word-first, word_after, word_frame}
+use Rattle.nb_core.proofs.Words.{at_slot, at_table, length-word_step, one_word, word-first, word_after, word-frame}
 use Rattle.nb_core.specs.declared.events.Event.{Event}
 use Rattle.nb_core.specs.declared.events.Event.TheVariants.{Claim, Kill, Won, CopyIn, Prime, Finish, Take}
 use Rattle.nb_core.specs.declared.states.KeyState.{KeyState}
@@ -22,6 +22,7 @@ use Rattle.nb_core.specs.declared.states.ValueState.TheVariants.{Null, Tombstone
 
 -- ---- what words hold
 
+-- a slot's key is a key of the map
 key-lawful : (p : Plan) (t : Tables) → IsSound p t → (g i : ℕ) → IsSlot p g i → (s : KeyState) → t.key g i ≡ s → IsKeyState s
 key-lawful p t s g i slot Empty is = tt
 key-lawful p t s g i slot Dead is = tt
@@ -45,14 +46,16 @@ taken-kept p (Take s f) h legal g none =
     (λ none. let some = legal.2 in omega arith) (λ none. refl) none
 taken-kept p _ h legal g none = refl
 
+-- there is a last table
 last-within : (p : Plan) → IsPlan p → generations_of p - 1 < generations_of p
 last-within p plan = omega (arith, plan.some_tables)
 
+-- no chunk of the last table is handed out,
 last-taken : (p : Plan) (h : List Event) → IsPlan p → IsLegal p h → (tables_at p h).taken (generations_of p - 1) ≡ 0
 last-taken p [] plan legal = word-first p plan (Header (generations_of p - 1) 1) (last-within p plan, omega arith)
 last-taken p (e ∷ h) plan legal =
     let last = generations_of p - 1 in
-    word_frame p plan h (Header last 1) (last-within p plan, omega arith) e legal.1
+    word-frame p plan h (Header last 1) (last-within p plan, omega arith) e legal.1
     ∙ taken-kept p e h legal last (last-next p (tables_at p h) (sound p h plan legal.0)) ∙ last-taken p h plan legal.0
 
 -- where there is no next table no slot is finished
@@ -66,6 +69,7 @@ none-finished p t s g within none (suc n) below =
     (λ e. absurd (let next = finished-growing p t s g n (within, below) (is_finished-true t g n e) in omega arith))
     (λ e. omega (arith, none-finished p t s g within none n (omega arith)))
 
+-- and no slot of it is counted
 last-counted : (p : Plan) (h : List Event) → IsPlan p → IsLegal p h → (tables_at p h).counted (generations_of p - 1) ≡ 0
 last-counted p h plan legal =
     let last = generations_of p - 1 in
@@ -74,6 +78,7 @@ last-counted p h plan legal =
     let none = last-next p (tables_at p h) s in
     omega (arith, counts.within, none-finished p (tables_at p h) s last (last-within p plan) none (size_of p last) (omega arith))
 
+-- so the last table's header words are 0
 last-headers :
     (p : Plan) (h : List Event) → IsPlan p → IsLegal p h → (n : ℕ) → n < 3
     → slice_index (words_of p h) (header_place p (generations_of p - 1) n) ≡ 0
@@ -97,12 +102,14 @@ lawful_words p plan h legal =
 
 -- ---- how words change
 
+-- a number in place of a value that isn't primed and isn't that number is a call's change
 put-changes_to : (a : ValueState) (n : ℕ) → IsUnprimed a → Live n ≢ a → IsWonChange a (Live n)
 put-changes_to Null n unprimed differs = tt
 put-changes_to Tombstone n unprimed differs = tt
 put-changes_to (Live m) n unprimed differs = λ same. differs (ap Live same)
 put-changes_to _ n unprimed differs = unprimed
 
+-- so is all that is put in place of such a value
 put-changes : (a b : ValueState) → IsUnprimed a → Puts a b → IsWonChange a b
 put-changes a b unprimed (PutsNone n was e) = subst₂ IsWonChange (sym was) (sym e) tt
 put-changes a b unprimed (PutsNumber n e differs) =
@@ -151,9 +158,9 @@ lawful_changes p plan e h legal =
       length = length-word_step p e (words_of p h);
       one = one_word p e (words_of p h);
       keys = λ g i slot.
-          subst (λ y. (y ≡ t.key g i) ⊎ IsKeyChange e (t.key g i) y) (sym (key_frame p e h plan legal.1 g i slot))
+          subst (λ y. (y ≡ t.key g i) ⊎ IsKeyChange e (t.key g i) y) (sym (key-frame p e h plan legal.1 g i slot))
           (key-change p e h legal g i);
       values = λ g i slot.
-          subst (λ y. (y ≡ t.value g i) ⊎ IsValueChange e (t.value g i) y) (sym (value_frame p e h plan legal g i slot))
+          subst (λ y. (y ≡ t.value g i) ⊎ IsValueChange e (t.value g i) y) (sym (value-frame p e h plan legal g i slot))
           (value-change p e h legal g i);
     }

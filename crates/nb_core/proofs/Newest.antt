@@ -5,7 +5,7 @@ use Rattle.nb_core.specs.Plans.{Plan, IsPlan}
 use Rattle.nb_core.specs.Tables.{IsSlot, IsUnprimed, Tables, tables_at}
 use Rattle.nb_core.specs.History.{IsLegal, IsPrimedBelow, MayWin, content_of, key_of_call}
 use Rattle.nb_core.specs.Laws.{HasContent, primed}
-use Rattle.nb_core.proofs.Frames.{finished, key_first, value_after, value_frame}
+use Rattle.nb_core.proofs.Frames.{finished, key-first, value_after, value-frame}
 use Rattle.nb_core.proofs.Keeping.{above-primed, sound}
 use Rattle.nb_core.proofs.Lasting.{exchange-key, exchange-puts, key-claimed, key-was, put-content, put-number, put-unprimed, value-empty}
 use Rattle.nb_core.proofs.Legality.{number_at, number_left}
@@ -193,11 +193,12 @@ quiet-after p (Finish s f j) h legal k other g i =
     (λ is. Stays (HasSame-finished (t.value f j))) (quiet-kept p t g i k)
 quiet-after p _ h legal k other g i = quiet-kept p (tables_at p h) g i k
 
+-- the same of the values after the event
 quiet_step :
     (p : Plan) (e : Event) (h : List Event) → IsPlan p → IsLegal p (e ∷ h) → (k : ℕ) → IsElsewhere e k → (g i : ℕ)
     → IsSlot p g i → (tables_at p h).key g i ≡ Claimed k → QuietStep p (tables_at p h) g i k ((tables_at p (e ∷ h)).value g i)
 quiet_step p e h plan legal k other g i slot is =
-    subst (QuietStep p (tables_at p h) g i k) (sym (value_frame p e h plan legal g i slot)) (quiet-after p e h legal k other g i is)
+    subst (QuietStep p (tables_at p h) g i k) (sym (value-frame p e h plan legal g i slot)) (quiet-after p e h legal k other g i is)
 
 -- after an event without an exchange on the key
 IsNewest-elsewhere :
@@ -228,13 +229,13 @@ IsNewest-first p t empty k = record {
 
 -- The number of a legal history is the newest of its tables.
 pub newest : (p : Plan) (h : List Event) → IsPlan p → IsLegal p h → (k : ℕ) → IsNewest p (tables_at p h) k (number_at h k)
-newest p [] plan legal k = IsNewest-first p (tables_at p []) (key_first p plan) k
+newest p [] plan legal k = IsNewest-first p (tables_at p []) (key-first p plan) k
 newest p (Won s g i a b c r ∷ h) plan legal k =
     let e = Won s g i a b c r in
     let slot : IsSlot p g i = legal.1.1 in
     cond_both (eqb k (key_of_call c)) (number_left b (number_at h k)) (number_at h k) (IsNewest p (tables_at p (e ∷ h)) k)
     (λ same.
-    let put = value_frame p e h plan legal g i slot ∙ cond-true _ b _ (same_both g i) in
+    let put = value-frame p e h plan legal g i slot ∙ cond-true _ b _ (same_both g i) in
     IsNewest-won p (tables_at p h) (tables_at p (e ∷ h)) plan (sound p (e ∷ h) plan legal) (step_of p e h plan legal) k g i a b c
     (number_at h k) slot legal.2 put (eqb-true k (key_of_call c) same))
     (λ other. IsNewest-elsewhere p e h plan legal k (eqb-false k (key_of_call c) other) (newest p h plan legal.0 k))

@@ -26,11 +26,11 @@ data Walk (p : Plan) (t : Tables) (g k n : ℕ) : Type 0 where
   ToOwn : (d : ℕ) → d < n → AreOthers p t g k d → t.key g (path_slot p g k d) ≡ Claimed k → Walk p t g k n
 
 -- one slot more, where other keys have all before it
-walk-suc :
+path-walk_suc :
     (p : Plan) (t : Tables) (g k n : ℕ) (s : KeyState) → AreOthers p t g k n → t.key g (path_slot p g k n) ≡ s → Walk p t g k (suc n)
-walk-suc p t g k n Empty passed is = ToEmpty n (omega arith) passed is
-walk-suc p t g k n Dead passed is = ToDead n (omega arith) passed is
-walk-suc p t g k n (Claimed j) passed is =
+path-walk_suc p t g k n Empty passed is = ToEmpty n (omega arith) passed is
+path-walk_suc p t g k n Dead passed is = ToDead n (omega arith) passed is
+path-walk_suc p t g k n (Claimed j) passed is =
     elim (cases_eq j k) [
       | inl same ↦ ToOwn n (omega arith) passed (is ∙ ap Claimed same)
       | inr differs ↦
@@ -39,11 +39,11 @@ walk-suc p t g k n (Claimed j) passed is =
     ]
 
 -- each path can be walked
-walk : (p : Plan) (t : Tables) (g k n : ℕ) → Walk p t g k n
-walk p t g k zero = Crowded (λ e h. absurd (omega arith))
-walk p t g k (suc n) =
-    elim (walk p t g k n) [
-      | Crowded passed ↦ walk-suc p t g k n (t.key g (path_slot p g k n)) passed refl
+path-walk : (p : Plan) (t : Tables) (g k n : ℕ) → Walk p t g k n
+path-walk p t g k zero = Crowded (λ e h. absurd (omega arith))
+path-walk p t g k (suc n) =
+    elim (path-walk p t g k n) [
+      | Crowded passed ↦ path-walk_suc p t g k n (t.key g (path_slot p g k n)) passed refl
       | ToEmpty d below passed is ↦ ToEmpty d (omega arith) passed is
       | ToDead d below passed is ↦ ToDead d (omega arith) passed is
       | ToOwn d below passed is ↦ ToOwn d (omega arith) passed is
@@ -85,11 +85,13 @@ with_last n f x i (inr above) = x
 
 -- n different numbers below m that leave out another one below m are fewer than m
 module _ (n m : ℕ) (f : (i : ℕ) → i < n → ℕ) (x : ℕ) (within : (i : ℕ) (h : i < n) → f i h < m) (x_within : x < m) where
+  -- the numbers with the last one are below m,
   last-within : (i : ℕ) (c : (i < n) ⊎ (n ≤ i)) → with_last n f x i c < m
   last-within i (inl below) = within i below
   last-within i (inr above) = x_within
 
   module _ (left_out : (i : ℕ) (h : i < n) → f i h ≢ x) (one : (i j : ℕ) (h : i < n) (l : j < n) → f i h ≡ f j l → i ≡ j) where
+    -- and different,
     last-apart :
         (i j : ℕ) (c : (i < n) ⊎ (n ≤ i)) (d : (j < n) ⊎ (n ≤ j)) → i < j → j < suc n → with_last n f x i c ≢ with_last n f x j d
     last-apart i j (inl h) (inl l) less _ e = let same = one i j h l e in omega arith
@@ -97,6 +99,7 @@ module _ (n m : ℕ) (f : (i : ℕ) → i < n → ℕ) (x : ℕ) (within : (i : 
     last-apart i j (inr h) (inl l) less _ e = omega arith
     last-apart i j (inr h) (inr l) less below e = omega arith
 
+    -- so that they are m at most
     fewer : n < m
     fewer =
         pigeonhole (suc n) m (λ i. with_last n f x i (cases_lt i n))
@@ -176,7 +179,7 @@ module _ (p : Plan) (t : Tables) (plan : IsPlan p) (s : IsSound p t) where
     alive = incomplete-alive g within not_complete;
     free = λ k here none_above.
         let slot_at = λ (d : ℕ). path_slot-is_slot p plan (suc g) k d within in
-        elim (walk p t (suc g) k (size_of p (suc g))) [
+        elim (path-walk p t (suc g) k (size_of p (suc g))) [
           | Crowded passed ↦ absurd (not_complete (crowded-complete_below g k within here passed))
           | ToEmpty d below passed empty ↦ record { distance = d; in_table = below; passed = passed; empty = empty }
           | ToDead d below passed dead ↦ absurd (incomplete-alive g within not_complete (path_slot p (suc g) k d) (slot_at d).1 dead)
@@ -190,7 +193,7 @@ module _ (p : Plan) (t : Tables) (plan : IsPlan p) (s : IsSound p t) (g k : ℕ)
   -- each key is passed in a complete table
   pub complete-passed : IsComplete p t g → IsPassed p t g k
   complete-passed complete =
-      elim (walk p t g k (size_of p g)) [
+      elim (path-walk p t g k (size_of p g)) [
         | Crowded passed ↦ Whole passed
         | ToEmpty d below passed empty ↦
             let i = path_slot p g k d in

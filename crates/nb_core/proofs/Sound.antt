@@ -48,6 +48,7 @@ pub record HasGot (p : Plan) (t : Tables) (g k : ℕ) : Type 0 where
   pub is : t.key g slot ≡ Claimed k
   pub content : HasContent (t.value g slot)
 
+-- what holds of the tables of each legal history
 pub record IsSound (p : Plan) (t : Tables) : Type 0 where
   -- next words are 0 or 1, and the last table's is 0
   pub next_is : (g : ℕ) → (t.next g ≡ 0) ⊎ ((t.next g ≡ 1) × (suc g < generations_of p))
@@ -125,6 +126,7 @@ reached-once p t g i j k a b a_is b_is =
       | inr (inr after) ↦ absurd (other-not _ k (a.passed b.distance after) (ap (t.key g) b.at ∙ b_is))
     ]
 
+-- a key has one slot in a table at most
 pub one_slot :
     (p : Plan) (t : Tables) → IsPlan p → IsSound p t → (g i j k : ℕ) → IsSlot p g i → IsSlot p g j → t.key g i ≡ Claimed k
     → t.key g j ≡ Claimed k → i ≡ j

@@ -6,8 +6,8 @@ use Rattle.nb_core.specs.History.{IsLegal, MayClaim, MayCopyIn, MayFinish, MayIn
 use Rattle.nb_core.specs.Laws.{primed}
 use Rattle.nb_core.specs.declared.numbers.TheConstants.{KEY_MAX}
 use Rattle.nb_core.specs.declared.calls.Call.{Call}
-use Rattle.nb_core.proofs.Frames.{finished, key_after, key_frame, next_frame, value_after, value_frame}
-use Rattle.nb_core.proofs.Words.{at_slot, at_table, word_after, word_frame}
+use Rattle.nb_core.proofs.Frames.{finished, key_after, key-frame, next-frame, value_after, value-frame}
+use Rattle.nb_core.proofs.Words.{at_slot, at_table, word_after, word-frame}
 use Rattle.nb_core.specs.declared.events.Event.{Event}
 use Rattle.nb_core.specs.declared.events.Event.TheVariants.{Claim, Kill, Won, CopyIn, Prime, Finish, Install, Promote}
 use Rattle.nb_core.specs.declared.states.KeyState.{KeyState}
@@ -47,61 +47,61 @@ pub record Step (p : Plan) (t u : Tables) : Type 0 where
   pub top : TopStep p t u.top
 
 -- what an event does to a key is a step
-key_step :
+key-step :
     (p : Plan) (e : Event) (h : List Event) → IsLegal p (e ∷ h) → (g i : ℕ)
     → let t = tables_at p h in KeyStep p t g i (key_after e g i (t.key g i))
-key_step p (Claim s f j k) h legal g i =
+key-step p (Claim s f j k) h legal g i =
     let t = tables_at p h in
     at_slot (λ g i here. KeyStep p t g i (cond here (Claimed k) (t.key g i))) f j g i (Claims k legal.1.2 legal.2 refl) (KeyKept refl)
-key_step p (Kill s f j) h legal g i =
+key-step p (Kill s f j) h legal g i =
     let t = tables_at p h in
     at_slot (λ g i here. KeyStep p t g i (cond here Dead (t.key g i))) f j g i (Kills legal.2 refl) (KeyKept refl)
-key_step p _ h legal g i = KeyKept refl
+key-step p _ h legal g i = KeyKept refl
 
 -- so is what it does to a value
-value_step :
+value-step :
     (p : Plan) (e : Event) (h : List Event) → IsLegal p (e ∷ h) → (g i : ℕ)
     → let t = tables_at p h in ValueStep p t g i (value_after e g i (t.value g i))
-value_step p (Won s f j a b c r) h legal g i =
+value-step p (Won s f j a b c r) h legal g i =
     let t = tables_at p h in
     at_slot (λ g i here. ValueStep p t g i (cond here b (t.value g i))) f j g i (Wins a b c legal.2 refl) (ValueKept refl)
-value_step p (CopyIn s f j k n) h legal g i =
+value-step p (CopyIn s f j k n) h legal g i =
     let t = tables_at p h in
     at_slot (λ g i here. ValueStep p t g i (cond here (Live n) (t.value g i))) f j g i (Copies k n legal.2 refl) (ValueKept refl)
-value_step p (Prime s f j) h legal g i =
+value-step p (Prime s f j) h legal g i =
     let t = tables_at p h in
     at_slot (λ g i here. ValueStep p t g i (cond here (primed (t.value g i)) (t.value g i))) f j g i
     (Primes legal.2 refl) (ValueKept refl)
-value_step p (Finish s f j) h legal g i =
+value-step p (Finish s f j) h legal g i =
     let t = tables_at p h in
     at_slot (λ g i here. ValueStep p t g i (cond here (finished (t.value g i)) (t.value g i))) f j g i
     (Finishes legal.2 (ap finished legal.2.primed)) (ValueKept refl)
-value_step p _ h legal g i = ValueKept refl
+value-step p _ h legal g i = ValueKept refl
 
 -- to a next word
-next_step :
+next-step :
     (p : Plan) (e : Event) (h : List Event) → IsLegal p (e ∷ h) → (g : ℕ)
     → let t = tables_at p h in NextStep p t g (word_after p e (Header g 0) (t.next g))
-next_step p (Install s f k) h legal g =
+next-step p (Install s f k) h legal g =
     let t = tables_at p h in
     at_table (λ g here. NextStep p t g (cond here 1 (t.next g))) f g (Installs k legal.2 refl) (NextKept refl)
-next_step p _ h legal g = NextKept refl
+next-step p _ h legal g = NextKept refl
 
 -- and to the top word
-top_step : (p : Plan) (e : Event) (h : List Event) → IsLegal p (e ∷ h) → let t = tables_at p h in TopStep p t (word_after p e Top t.top)
-top_step p (Promote s f) h legal = Promotes f legal.1.1 legal.2 (rises ((tables_at p h).top) f legal.2.higher)
+top-step : (p : Plan) (e : Event) (h : List Event) → IsLegal p (e ∷ h) → let t = tables_at p h in TopStep p t (word_after p e Top t.top)
+top-step p (Promote s f) h legal = Promotes f legal.1.1 legal.2 (rises ((tables_at p h).top) f legal.2.higher)
   where
     rises : (top g : ℕ) → top ≤ g → max top (suc g) ≡ suc g
     rises top g low = omega arith
-top_step p _ h legal = TopKept refl
+top-step p _ h legal = TopKept refl
 
 -- each event of a legal history is a step
 pub step_of : (p : Plan) (e : Event) (h : List Event) → IsPlan p → IsLegal p (e ∷ h) → Step p (tables_at p h) (tables_at p (e ∷ h))
 step_of p e h plan legal =
     let t = tables_at p h in
     record {
-      key = λ g i slot. subst (KeyStep p t g i) (sym (key_frame p e h plan legal.1 g i slot)) (key_step p e h legal g i);
-      value = λ g i slot. subst (ValueStep p t g i) (sym (value_frame p e h plan legal g i slot)) (value_step p e h legal g i);
-      next = λ g. subst (NextStep p t g) (sym (next_frame p e h plan legal.1 g)) (next_step p e h legal g);
-      top = subst (TopStep p t) (sym (word_frame p plan h Top tt e legal.1)) (top_step p e h legal);
+      key = λ g i slot. subst (KeyStep p t g i) (sym (key-frame p e h plan legal.1 g i slot)) (key-step p e h legal g i);
+      value = λ g i slot. subst (ValueStep p t g i) (sym (value-frame p e h plan legal g i slot)) (value-step p e h legal g i);
+      next = λ g. subst (NextStep p t g) (sym (next-frame p e h plan legal.1 g)) (next-step p e h legal g);
+      top = subst (TopStep p t) (sym (word-frame p plan h Top tt e legal.1)) (top-step p e h legal);
     }

@@ -38,9 +38,11 @@ same_word _ _ = false
 both_same : (a b c d : ℕ) → (eqb a b && eqb c d) ≡ true → (a ≡ b) × (c ≡ d)
 both_same a b c d e = let s = both (eqb a b) (eqb c d) e in (eqb-true a b s.0, eqb-true c d s.1)
 
+-- a test of equal numbers passes where they are the same
 pub same_both : (a b : ℕ) → (eqb a a && eqb b b) ≡ true
 same_both a b = ap (λ x. x && eqb b b) (eq-eqb a a refl) ∙ eq-eqb b b refl
 
+-- words that the test finds to be one are one
 same_word-true : (a b : Word) → same_word a b ≡ true → a ≡ b
 same_word-true Top Top e = refl
 same_word-true (Header g h) (Header f k) e = let s = both_same h k g f e in cc
@@ -48,6 +50,7 @@ same_word-true (Key g i) (Key f j) e = let s = both_same g f i j e in cc
 same_word-true (Value g i) (Value f j) e = let s = both_same g f i j e in cc
 same_word-true _ _ e = cc
 
+-- and a word is one with itself
 same_word-refl : (a : Word) → same_word a a ≡ true
 same_word-refl Top = refl
 same_word-refl (Header g h) = same_both h g
@@ -102,26 +105,27 @@ word_after p (Promote s g) a x = cond (same_word Top a) (max x (suc g)) x
 word_after p (Read s c r) a x = x
 
 module _ (p : Plan) (plan : IsPlan p) (h : List Event) (a : Word) (a_word : IsWord p a) where
-  changes :
+  -- a word among those of a history, after a change of another one or of itself
+  word-frame_at :
       (b : Word) → IsWord p b → (f : ℕ → ℕ) → let x = slice_index (words_of p h) (place_of_word p a) in
       slice_index (changed_at (words_of p h) (place_of_word p b) f) (place_of_word p a) ≡ cond (same_word b a) (f x) x
-  changes b b_word f = word-changed p plan (words_of p h) (length-words_of p h) b a b_word a_word f
+  word-frame_at b b_word f = word-changed p plan (words_of p h) (length-words_of p h) b a b_word a_word f
 
   -- each word after an event
-  pub word_frame :
+  pub word-frame :
       (e : Event) → IsInRange p e
       → slice_index (words_of p (e ∷ h)) (place_of_word p a) ≡ word_after p e a (slice_index (words_of p h) (place_of_word p a))
-  word_frame (Claim s g i k) range = changes (Key g i) range.1 (λ x. key_word (Claimed k))
-  word_frame (Kill s g i) range = changes (Key g i) range.1 (λ x. key_word Dead)
-  word_frame (Won s g i v b c r) range = changes (Value g i) range.1 (λ x. value_word b)
-  word_frame (CopyIn s g i k n) range = changes (Value g i) range.1 (λ x. value_word (Live n))
-  word_frame (Prime s g i) range = changes (Value g i) range.1 (λ x. bit_or x 1)
-  word_frame (Finish s g i) range = changes (Value g i) range.1 (λ x. bit_or x 2)
-  word_frame (Install s g k) range = changes (Header g 0) (range.1, omega arith) (λ x. 1)
-  word_frame (Take s g) range = changes (Header g 1) (range.1, omega arith) (λ x. (x + chunk_of p g) % 2 ^ 64)
-  word_frame (Count s g c) range = changes (Header g 2) (range.1, omega arith) (λ x. (x + c) % 2 ^ 64)
-  word_frame (Promote s g) range = changes Top tt (λ x. max x (suc g))
-  word_frame (Read s c r) range = refl
+  word-frame (Claim s g i k) range = word-frame_at (Key g i) range.1 (λ x. key_word (Claimed k))
+  word-frame (Kill s g i) range = word-frame_at (Key g i) range.1 (λ x. key_word Dead)
+  word-frame (Won s g i v b c r) range = word-frame_at (Value g i) range.1 (λ x. value_word b)
+  word-frame (CopyIn s g i k n) range = word-frame_at (Value g i) range.1 (λ x. value_word (Live n))
+  word-frame (Prime s g i) range = word-frame_at (Value g i) range.1 (λ x. bit_or x 1)
+  word-frame (Finish s g i) range = word-frame_at (Value g i) range.1 (λ x. bit_or x 2)
+  word-frame (Install s g k) range = word-frame_at (Header g 0) (range.1, omega arith) (λ x. 1)
+  word-frame (Take s g) range = word-frame_at (Header g 1) (range.1, omega arith) (λ x. (x + chunk_of p g) % 2 ^ 64)
+  word-frame (Count s g c) range = word-frame_at (Header g 2) (range.1, omega arith) (λ x. (x + c) % 2 ^ 64)
+  word-frame (Promote s g) range = word-frame_at Top tt (λ x. max x (suc g))
+  word-frame (Read s c r) range = refl
 
 -- before any event
 pub word-first : (p : Plan) → IsPlan p → (a : Word) → IsWord p a → slice_index (words_of p []) (place_of_word p a) ≡ 0
