@@ -1,13 +1,14 @@
 -- Each step keeps the invariant, so it holds after every legal history.
-use Rattle.std.proofs.Common.{◌≡◌, ◌≢◌, ◌∙◌, ℕ, ◌<◌, ◌⊎◌, suc, List, [], ◌∷◌, ap, sym, subst, refl, inl, inr, arith}
+use Rattle.std.proofs.Common.{◌≡◌, ◌≢◌, ◌∙◌, ℕ, ◌<◌, ◌≤◌, ◌⊎◌, suc, List, [], ◌∷◌, ap, sym, subst, refl, inl, inr, arith}
 use Rattle.nb_core.specs.Plans.{Plan, IsPlan, generations_of}
 use Rattle.nb_core.specs.Tables.{HasSlot, IsComplete, IsFinishedValue, IsSlot, IsUnprimed, Tables, path_slot, tables_at}
 use Rattle.nb_core.specs.History.{IsLegal, MayClaim, MayFinish}
 use Rattle.nb_core.specs.Laws.{HasContent, primed}
 use Rattle.nb_core.proofs.Frames.{key-first, next-first, value-first}
 use Rattle.nb_core.proofs.Lasting.{complete-stays, exchange-puts, installed-stays, key-claimed, key-was, key-was_dead, next-stays, others-stay, put-unprimed, slot-stays, value-content, value-empty, value-final, value-frozen, value-primed}
-use Rattle.nb_core.proofs.Sound.{HasGot, HasKey, IsClaimedRight, IsReached, IsSound, MayBeAbove, claimed-same, complete-growing, empty-unclaimed, finished-not_empty, finished-value, next-within, no_slot-past, one_slot, primed-growing}
+use Rattle.nb_core.proofs.Sound.{HasGot, HasKey, IsClaimedRight, IsSound, MayBeAbove, claimed-same, complete-growing, empty-unclaimed, finished-not_empty, finished-value, next-within, no_slot-past, one_slot, primed-growing}
 use Rattle.nb_core.proofs.Steps.{NextKept, Installs, Step, ValueStep, ValueKept, Wins, Copies, Primes, Finishes, step_of}
+use Rattle.nb_core.specs.declared.numbers.TheConstants.{KEY_MAX}
 use Rattle.nb_core.specs.declared.events.Event.{Event}
 use Rattle.nb_core.specs.declared.states.KeyState.TheVariants.{Empty, Dead, Claimed}
 use Rattle.nb_core.specs.declared.states.ValueState.{ValueState}
@@ -75,6 +76,14 @@ claim-first p t s g i k within may has =
     let empty : t.key g (path_slot p g k may.distance) ≡ Empty = ap (t.key g) may.on_path.1 ∙ may.empty in
     no_slot-past p t s g k may.distance within may.passed (empty-unclaimed empty) has.slot has.in_table has.is
 
+-- the slot that is claimed is what a claimed one has to be
+claim-right : (p : Plan) (t : Tables) (g i k : ℕ) → k ≤ KEY_MAX → MayClaim p t g i k → IsClaimedRight p t g i k
+claim-right p t g i k fits may = record {
+  key = fits;
+  installed = may.installed;
+  reached = record { distance = may.distance; in_table = may.on_path.0; at = may.on_path.1; passed = may.passed };
+}
+
 -- no slot of the key is claimed where the next table has one
 pub claim-not_late :
     (p : Plan) (t : Tables) → IsSound p t → (g i k : ℕ) → suc g < generations_of p → IsSlot p g i → MayClaim p t g i k
@@ -125,36 +134,20 @@ module _ (p : Plan) (t u : Tables) (plan : IsPlan p) (s : IsSound p t) (step : S
             (next-stays (step.next g) next, complete-stays p t u step g (omega arith) may.ready)
       ]
 
-  -- what other keys have before a key's slot they keep
-  reached-stays : (g i k : ℕ) → g < generations_of p → IsReached p t g i k → IsReached p u g i k
-  reached-stays g i k within r =
-      let passed = others-stay p t u step plan g k r.distance within r.passed in
-      record { distance = r.distance; in_table = r.in_table; at = r.at; passed = passed }
-
   -- claimed slots
   keeps-claimed : (g i k : ℕ) → IsSlot p g i → u.key g i ≡ Claimed k → IsClaimedRight p u g i k
   keeps-claimed g i k slot is =
-      elim (key-was (step.key g i slot) is) [
-        | inl was ↦
-            let before = s.claimed g i k slot was in
-            record {
-              key = before.key;
-              installed = installed-stays p t u step g before.installed;
-              reached = reached-stays g i k slot.0 before.reached;
-            }
-        | inr claims ↦
-            let may = claims.1 in
-            record {
-              key = claims.0;
-              installed = installed-stays p t u step g may.installed;
-              reached = reached-stays g i k slot.0 (record {
-                distance = may.distance;
-                in_table = may.on_path.0;
-                at = may.on_path.1;
-                passed = may.passed;
-              });
-            }
-      ]
+      let before : IsClaimedRight p t g i k = elim (key-was (step.key g i slot) is) [
+        | inl was ↦ s.claimed g i k slot was
+        | inr claims ↦ claim-right p t g i k claims.0 claims.1
+      ] in
+      let r = before.reached in
+      let passed = others-stay p t u step plan g k r.distance slot.0 r.passed in
+      record {
+        key = before.key;
+        installed = installed-stays p t u step g before.installed;
+        reached = record { distance = r.distance; in_table = r.in_table; at = r.at; passed = passed };
+      }
 
   -- closed slots are in a table that has a next one,
   keeps-dead : (g i : ℕ) → IsSlot p g i → u.key g i ≡ Dead → u.next g ≡ 1
@@ -162,21 +155,6 @@ module _ (p : Plan) (t u : Tables) (plan : IsPlan p) (s : IsSound p t) (step : S
       elim (key-was_dead (step.key g i slot) is) [
         | inl was ↦ next-stays (step.next g) (s.dead g i slot was)
         | inr next ↦ next-stays (step.next g) next
-      ]
-
-  -- where a key came from
-  below-stays : (g k : ℕ) → g < generations_of p → HasSlot p t g k ⊎ IsComplete p t g → HasSlot p u g k ⊎ IsComplete p u g
-  below-stays g k within (inl has) = inl (slot-stays p t u step g k within has)
-  below-stays g k within (inr complete) = inr (complete-stays p t u step g within complete)
-
-  keeps-below : (g k : ℕ) → suc g < generations_of p → HasSlot p u (suc g) k → HasSlot p u g k ⊎ IsComplete p u g
-  keeps-below g k within has =
-      elim (key-was (step.key (suc g) has.slot (within, has.in_table)) has.is) [
-        | inl was ↦ below-stays g k (omega arith) (s.below g k within (record { slot = has.slot; in_table = has.in_table; is = was }))
-        | inr claims ↦ elim (claims.1.reason) [
-          | inl copier ↦ below-stays g k (omega arith) (inl copier)
-          | inr fresh ↦ below-stays g k (omega arith) (inr fresh.0)
-        ]
       ]
 
   -- and so are primed values
@@ -192,6 +170,21 @@ module _ (p : Plan) (t u : Tables) (plan : IsPlan p) (s : IsSound p t) (step : S
         | Copies k n may e ↦ inl (subst IsUnprimed (sym e) tt)
         | Primes may e ↦ inr (stays may.growing)
         | Finishes may e ↦ inr (stays (primed-growing p t s g i slot (λ unprimed. subst IsUnprimed may.primed unprimed)))
+      ]
+
+  -- where a key came from
+  below-stays : (g k : ℕ) → g < generations_of p → HasSlot p t g k ⊎ IsComplete p t g → HasSlot p u g k ⊎ IsComplete p u g
+  below-stays g k within (inl has) = inl (slot-stays p t u step g k within has)
+  below-stays g k within (inr complete) = inr (complete-stays p t u step g within complete)
+
+  keeps-below : (g k : ℕ) → suc g < generations_of p → HasSlot p u (suc g) k → HasSlot p u g k ⊎ IsComplete p u g
+  keeps-below g k within has =
+      elim (key-was (step.key (suc g) has.slot (within, has.in_table)) has.is) [
+        | inl was ↦ below-stays g k (omega arith) (s.below g k within (record { slot = has.slot; in_table = has.in_table; is = was }))
+        | inr claims ↦ elim (claims.1.reason) [
+          | inl copier ↦ below-stays g k (omega arith) (inl copier)
+          | inr fresh ↦ below-stays g k (omega arith) (inr fresh.0)
+        ]
       ]
 
   -- a slot with a key has one after the step
@@ -245,7 +238,8 @@ module _ (p : Plan) (t u : Tables) (plan : IsPlan p) (s : IsSound p t) (step : S
       elim (key-was (step.key (suc g) j j_slot) j_is) [
         | inr claims ↦ inl (value-empty s j_slot (step.value (suc g) j j_slot) claims.1.empty)
         | inl j_was ↦ elim (key-was (step.key g i i_slot) i_is) [
-          | inr claims ↦ absurd (claim-not_late p t s g i k j_slot.0 i_slot claims.1 (record { slot = j; in_table = j_slot.1; is = j_was }))
+          | inr claims ↦
+              absurd (claim-not_late p t s g i k j_slot.0 i_slot claims.1 (record { slot = j; in_table = j_slot.1; is = j_was }))
           | inl i_was ↦ keeps-above_both g i j k i_slot j_slot i_was j_was
         ]
       ]
@@ -299,21 +293,18 @@ record IsBlank (p : Plan) (t : Tables) : Type 0 where
   pub value : (g i : ℕ) → IsSlot p g i → t.value g i ≡ Null
   pub next : (g : ℕ) → t.next g ≡ 0
 
-blank-not_claimed : (p : Plan) (t : Tables) → IsBlank p t → (g i k : ℕ) → IsSlot p g i → t.key g i ≢ Claimed k
-blank-not_claimed p t b g i k slot is = empty-unclaimed (b.key g i slot) k is
-
 -- such tables are sound
 blank-sound : (p : Plan) (t : Tables) → IsBlank p t → IsSound p t
 blank-sound p t b = record {
   next_is = λ g. inl (b.next g);
   ready = λ g next. absurd (let e = b.next (suc g) in omega arith);
-  claimed = λ g i k slot is. absurd (blank-not_claimed p t b g i k slot is);
+  claimed = λ g i k slot is. absurd (empty-unclaimed (b.key g i slot) k is);
   dead = λ g i slot is. absurd (let e : Empty ≡ Dead = sym (b.key g i slot) ∙ is in cc);
   growing = λ g i slot. inl (subst IsUnprimed (sym (b.value g i slot)) tt);
   bare = λ g i slot. inl (b.value g i slot);
-  below = λ g k within has. absurd (blank-not_claimed p t b (suc g) has.slot k (within, has.in_table) has.is);
-  above = λ g i j k i_slot j_slot i_is j_is. absurd (blank-not_claimed p t b g i k i_slot i_is);
-  moved = λ g i k n slot is finished. absurd (blank-not_claimed p t b g i k slot is);
+  below = λ g k within has. absurd (empty-unclaimed (b.key (suc g) has.slot (within, has.in_table)) k has.is);
+  above = λ g i j k i_slot j_slot i_is j_is. absurd (empty-unclaimed (b.key g i i_slot) k i_is);
+  moved = λ g i k n slot is finished. absurd (empty-unclaimed (b.key g i slot) k is);
 }
 
 -- so the tables of each legal history are

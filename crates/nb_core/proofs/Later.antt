@@ -32,7 +32,7 @@ module _ (p : Plan) (t u : Tables) (plan : IsPlan p) (s : IsSound p t) (step : S
     some = value-some (step.value g has.slot (within, has.in_table)) has.some;
   }
 
-  -- a table that may be used may be used,
+  -- a ready table stays ready,
   ready-stays : (g : ℕ) → g < generations_of p → IsReady p t g → IsReady p u g
   ready-stays zero within ready = tt
   ready-stays (suc g) within ready = complete-stays p t u step g (omega arith) ready
