@@ -11,7 +11,7 @@ use Rattle.nb_core.specs.Laws.{CountedOnce, finished_among, is_dead, is_finished
 use Rattle.nb_core.proofs.Frames.{finished, key_after, key-first, key-frame, value_after, value-first, value-frame}
 use Rattle.nb_core.proofs.Passing.{below_suc, is_finished-true, is_finished_value-true}
 use Rattle.nb_core.proofs.Keeping.{sound}
-use Rattle.nb_core.proofs.Lasting.{exchange-puts, put-unprimed}
+use Rattle.nb_core.proofs.Lasting.{put-unprimed, win-puts}
 use Rattle.nb_core.proofs.Sound.{IsSound, empty-null, unprimed-not_final}
 use Rattle.nb_core.proofs.Words.{at_slot, word-first, word_after, word-frame}
 use Rattle.nb_core.specs.declared.events.Event.{Event}
@@ -175,7 +175,7 @@ slot_bit-event p h (Claim s f j k) g i t_sound range may = slot_bit-claim p (tab
 slot_bit-event p h (Kill s f j) g i t_sound range may = slot_bit-kill p (tables_at p h) f j g i t_sound range.1 may
 slot_bit-event p h (Won s f j a b c r) g i t_sound range may =
     slot_bit-put (tables_at p h) f j g i b (subst IsUnprimed (sym may.stands) may.unprimed)
-    (put-unprimed a b (exchange-puts c may.key a b may.exchange))
+    (put-unprimed (win-puts may))
 slot_bit-event p h (CopyIn s f j k n) g i t_sound range may =
     slot_bit-put (tables_at p h) f j g i (Live n) (subst IsUnprimed (sym may.null) tt) tt
 slot_bit-event p h (Prime s f j) g i t_sound range may = slot_bit-prime (tables_at p h) f j g i may

@@ -5,7 +5,7 @@ use Rattle.nb_core.specs.Tables.{HasSlot, IsComplete, IsFinishedValue, IsSlot, I
 use Rattle.nb_core.specs.History.{IsLegal, MayClaim, MayFinish}
 use Rattle.nb_core.specs.Laws.{HasContent, primed}
 use Rattle.nb_core.proofs.Frames.{key-first, next-first, value-first}
-use Rattle.nb_core.proofs.Lasting.{complete-stays, exchange-puts, installed-stays, key-claimed, key-was, key-was_dead, next-stays, others-stay, put-unprimed, slot-stays, value-content, value-empty, value-final, value-frozen, value-primed}
+use Rattle.nb_core.proofs.Lasting.{complete-stays, installed-stays, key-claimed, key-was, key-was_dead, next-stays, others-stay, put-unprimed, slot-stays, value-content, value-empty, value-final, value-frozen, value-primed, win-puts}
 use Rattle.nb_core.proofs.Sound.{HasGot, HasKey, IsClaimedRight, IsSound, MayBeAbove, claimed-same, complete-growing, empty-unclaimed, finished-not_empty, finished-value, next-within, no_slot-past, one_slot, primed-growing}
 use Rattle.nb_core.proofs.Steps.{NextKept, Installs, Step, ValueStep, ValueKept, Wins, Copies, Primes, Finishes, step_of}
 use Rattle.nb_core.specs.declared.numbers.TheConstants.{KEY_MAX}
@@ -166,7 +166,7 @@ module _ (p : Plan) (t u : Tables) (plan : IsPlan p) (s : IsSound p t) (step : S
           | inl unprimed ↦ inl (subst IsUnprimed (sym e) unprimed)
           | inr next ↦ inr (stays next)
         ]
-        | Wins a b c may e ↦ inl (subst IsUnprimed (sym e) (put-unprimed a b (exchange-puts c may.key a b may.exchange)))
+        | Wins a b c may e ↦ inl (subst IsUnprimed (sym e) (put-unprimed (win-puts may)))
         | Copies k n may e ↦ inl (subst IsUnprimed (sym e) tt)
         | Primes may e ↦ inr (stays may.growing)
         | Finishes may e ↦ inr (stays (primed-growing p t s g i slot (λ unprimed. subst IsUnprimed may.primed unprimed)))
@@ -262,7 +262,7 @@ module _ (p : Plan) (t u : Tables) (plan : IsPlan p) (s : IsSound p t) (step : S
         | inl was ↦ elim (step.value g i slot) [
           | ValueKept e ↦ got-stays (suc g) k (s.moved g i k n slot was (sym e ∙ finished))
           | Wins a b c may e ↦
-              absurd (subst IsUnprimed (sym e ∙ finished) (put-unprimed a b (exchange-puts c may.key a b may.exchange)))
+              absurd (subst IsUnprimed (sym e ∙ finished) (put-unprimed (win-puts may)))
           | Copies q m may e ↦ absurd (let same : Live m ≡ Finished n = sym e ∙ finished in cc)
           | Primes may e ↦ absurd (primed-not_finished (t.value g i) n may.unprimed (sym e ∙ finished))
           | Finishes may e ↦

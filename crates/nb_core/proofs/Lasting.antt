@@ -3,7 +3,7 @@ use Rattle.std.proofs.Common.{◌≡◌, ◌≢◌, ◌∙◌, ℕ, ◌<◌, ◌
 use Rattle.nb_core.specs.Calls.{changed}
 use Rattle.nb_core.specs.Plans.{Plan, IsPlan, generations_of}
 use Rattle.nb_core.specs.Tables.{AreOthers, HasSlot, IsComplete, IsFinished, IsFinishedValue, IsInstalled, IsSlot, IsUnprimed, Tables, path_slot}
-use Rattle.nb_core.specs.History.{IsExchange, MayClaim, content_of, key_of_call}
+use Rattle.nb_core.specs.History.{IsExchange, MayClaim, MayWin, content_of, key_of_call}
 use Rattle.nb_core.specs.Laws.{HasContent, IsFrozen, primed}
 use Rattle.nb_core.proofs.Legality.{number_left}
 use Rattle.nb_core.proofs.Sound.{IsSound, claimed-same, empty-null, empty-unclaimed, path_slot-is_slot, unprimed-not_final}
@@ -30,30 +30,37 @@ exchange-of :
 exchange-of None a b P e = PutsNone e.1.0 e.1.1 e.0
 exchange-of (Some n) a b P e = PutsNumber n e.0 e.1
 
--- an exchange puts a number or a tombstone
-pub exchange-puts : (c : Call) (k : ℕ) (a b : ValueState) → IsExchange c k a b → Puts a b
+exchange-puts : (c : Call) (k : ℕ) (a b : ValueState) → IsExchange c k a b → Puts a b
 exchange-puts (call.Get key) k a b e = absurd e
 exchange-puts (call.Write key want change) k a b e = exchange-of (changed change (content_of a)) a b _ e.2
 
--- an exchange is of the call's key
-pub exchange-key : (c : Call) (k : ℕ) (a b : ValueState) → IsExchange c k a b → key_of_call c ≡ k
+exchange-key : (c : Call) (k : ℕ) (a b : ValueState) → IsExchange c k a b → key_of_call c ≡ k
 exchange-key (call.Get key) k a b e = absurd e
 exchange-key (call.Write key want change) k a b e = e.0
 
--- what is put isn't primed
-pub put-unprimed : (a b : ValueState) → Puts a b → IsUnprimed b
-put-unprimed a b (PutsNone n was e) = subst IsUnprimed (sym e) tt
-put-unprimed a b (PutsNumber n e differs) = subst IsUnprimed (sym e) tt
+-- a call that may win puts a number or a tombstone,
+pub win-puts : {p : Plan} {t : Tables} {g i : ℕ} {a b : ValueState} {c : Call} → MayWin p t g i a b c → Puts a b
+win-puts {a = a} {b = b} {c = c} may = exchange-puts c may.key a b may.exchange
 
--- and is a content
-pub put-content : (a b : ValueState) → Puts a b → HasContent b
-put-content a b (PutsNone n was e) = subst HasContent (sym e) tt
-put-content a b (PutsNumber n e differs) = subst HasContent (sym e) tt
+-- at its key
+pub win-key : {p : Plan} {t : Tables} {g i : ℕ} {a b : ValueState} {c : Call} → (may : MayWin p t g i a b c) → key_of_call c ≡ may.key
+win-key {a = a} {b = b} {c = c} may = exchange-key c may.key a b may.exchange
 
--- the map has what was put
-pub put-number : (a b : ValueState) (before : Option ℕ) → Puts a b → number_left b before ≡ content_of b
-put-number a b before (PutsNone n was e) = rw e refl
-put-number a b before (PutsNumber n e differs) = rw e refl
+module _ {a b : ValueState} where
+  -- what is put isn't primed
+  pub put-unprimed : Puts a b → IsUnprimed b
+  put-unprimed (PutsNone n was e) = subst IsUnprimed (sym e) tt
+  put-unprimed (PutsNumber n e differs) = subst IsUnprimed (sym e) tt
+
+  -- and is a content
+  pub put-content : Puts a b → HasContent b
+  put-content (PutsNone n was e) = subst HasContent (sym e) tt
+  put-content (PutsNumber n e differs) = subst HasContent (sym e) tt
+
+  -- the map has what was put
+  pub put-number : (before : Option ℕ) → Puts a b → number_left b before ≡ content_of b
+  put-number before (PutsNone n was e) = rw e refl
+  put-number before (PutsNumber n e differs) = rw e refl
 
 -- a content is one when it is primed
 primed-content : (v : ValueState) → HasContent v → HasContent (primed v)
@@ -110,7 +117,7 @@ module _ {p : Plan} {t : Tables} {g i : ℕ} {to : ValueState} where
   -- no step makes a value null
   pub value-some : ValueStep p t g i to → t.value g i ≢ Null → to ≢ Null
   value-some (ValueKept e) some null = some (sym e ∙ null)
-  value-some (Wins a b c may e) some null = content-some b (put-content a b (exchange-puts c may.key a b may.exchange)) (sym e ∙ null)
+  value-some (Wins a b c may e) some null = content-some b (put-content (win-puts may)) (sym e ∙ null)
   value-some (Copies k n may e) some null = (let same : Live n ≡ Null = sym e ∙ null in cc)
   value-some (Primes may e) some null = primed-some (t.value g i) (sym e ∙ null)
   value-some (Finishes may e) some null = (let same : Finished may.number ≡ Null = sym e ∙ null in cc)
@@ -118,7 +125,7 @@ module _ {p : Plan} {t : Tables} {g i : ℕ} {to : ValueState} where
   -- what has a content keeps one
   pub value-content : ValueStep p t g i to → HasContent (t.value g i) → HasContent to
   value-content (ValueKept e) content = subst HasContent (sym e) content
-  value-content (Wins a b c may e) content = subst HasContent (sym e) (put-content a b (exchange-puts c may.key a b may.exchange))
+  value-content (Wins a b c may e) content = subst HasContent (sym e) (put-content (win-puts may))
   value-content (Copies k n may e) content = subst HasContent (sym e) tt
   value-content (Primes may e) content = subst HasContent (sym e) (primed-content (t.value g i) content)
   value-content (Finishes may e) content = subst HasContent (sym e) tt

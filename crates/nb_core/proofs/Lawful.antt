@@ -9,7 +9,7 @@ use Rattle.nb_core.specs.Laws.{IsKeyChange, IsValueChange, IsWonChange, LawfulCh
 use Rattle.nb_core.proofs.Counting.{counted_once}
 use Rattle.nb_core.proofs.Frames.{finished, key_after, key-frame, value_after, value-frame, value_state-word, value_words}
 use Rattle.nb_core.proofs.Keeping.{sound}
-use Rattle.nb_core.proofs.Lasting.{PutsNone, PutsNumber, Puts, exchange-puts}
+use Rattle.nb_core.proofs.Lasting.{PutsNone, PutsNumber, Puts, win-puts}
 use Rattle.nb_core.proofs.Passing.{is_finished-true}
 use Rattle.nb_core.proofs.Sound.{IsSound, dead-null, empty-null, finished-growing}
 use Rattle.nb_core.proofs.Words.{at_slot, at_table, length-word_step, one_word, word-first, word_after, word-frame}
@@ -136,7 +136,7 @@ value-change :
 value-change p (Won s f j a b c r) h legal g i =
     let x = (tables_at p h).value in
     at_slot (λ g i here. let y = cond here b (x g i) in (y ≡ x g i) ⊎ IsValueChange (Won s f j a b c r) (x g i) y) f j g i
-    (inr (legal.2.stands, refl, put-changes a b legal.2.unprimed (exchange-puts c legal.2.key a b legal.2.exchange))) (inl refl)
+    (inr (legal.2.stands, refl, put-changes a b legal.2.unprimed (win-puts legal.2))) (inl refl)
 value-change p (CopyIn s f j k n) h legal g i =
     let x = (tables_at p h).value in
     at_slot (λ g i here. let y = cond here (Live n) (x g i) in (y ≡ x g i) ⊎ IsValueChange (CopyIn s f j k n) (x g i) y) f j g i

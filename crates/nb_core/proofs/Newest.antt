@@ -7,7 +7,7 @@ use Rattle.nb_core.specs.History.{IsLegal, IsPrimedBelow, MayWin, content_of, ke
 use Rattle.nb_core.specs.Laws.{HasContent, primed}
 use Rattle.nb_core.proofs.Frames.{finished, key-first, value_after, value-frame}
 use Rattle.nb_core.proofs.Keeping.{above-primed, sound}
-use Rattle.nb_core.proofs.Lasting.{exchange-key, exchange-puts, key-claimed, key-was, put-content, put-number, put-unprimed, value-empty}
+use Rattle.nb_core.proofs.Lasting.{key-claimed, key-was, put-content, put-number, put-unprimed, value-empty, win-key, win-puts}
 use Rattle.nb_core.proofs.Legality.{number_at, number_left}
 use Rattle.nb_core.proofs.Sound.{IsSound, claimed-same, complete-below, empty-unclaimed, finished-value, one_slot, unprimed-not_final}
 use Rattle.nb_core.proofs.Steps.{Step, step_of}
@@ -176,7 +176,7 @@ quiet-after p (Won s f j a b c r) h legal k other g i =
     let t = tables_at p h in
     let may = legal.2 in
     at_slot (λ g i here. t.key g i ≡ Claimed k → QuietStep p t g i k (cond here b (t.value g i))) f j g i
-    (λ is. absurd (other (claimed-same (sym is ∙ may.claimed) ∙ sym (exchange-key c may.key a b may.exchange)))) (quiet-kept p t g i k)
+    (λ is. absurd (other (claimed-same (sym is ∙ may.claimed) ∙ sym (win-key may)))) (quiet-kept p t g i k)
 quiet-after p (CopyIn s f j q n) h legal k other g i =
     let t = tables_at p h in
     let may = legal.2 in
@@ -213,12 +213,12 @@ IsNewest-won :
     (p : Plan) (t u : Tables) → IsPlan p → IsSound p u → Step p t u → (k g i : ℕ) (a b : ValueState) (c : Call) (before : Option ℕ)
     → IsSlot p g i → MayWin p t g i a b c → u.value g i ≡ b → k ≡ key_of_call c → IsNewest p u k (number_left b before)
 IsNewest-won p t u plan s step k g i a b c before slot may e of_call =
-    let puts = exchange-puts c may.key a b may.exchange in
-    let same : may.key ≡ k = sym (exchange-key c may.key a b may.exchange) ∙ sym of_call in
+    let puts = win-puts may in
+    let same : may.key ≡ k = sym (win-key may) ∙ sym of_call in
     let is : u.key g i ≡ Claimed k = key-claimed (step.key g i slot) (may.claimed ∙ ap Claimed same) in
-    subst (IsNewest p u k) (ap content_of e ∙ sym (put-number a b before puts))
-    (IsNewest-at p u plan s k g i slot is (subst HasContent (sym e) (put-content a b puts))
-    (HasNoneFrom-unprimed p u plan s k g i slot is (subst IsUnprimed (sym e) (put-unprimed a b puts))))
+    subst (IsNewest p u k) (ap content_of e ∙ sym (put-number before puts))
+    (IsNewest-at p u plan s k g i slot is (subst HasContent (sym e) (put-content puts))
+    (HasNoneFrom-unprimed p u plan s k g i slot is (subst IsUnprimed (sym e) (put-unprimed puts))))
 
 -- before any event
 IsNewest-first : (p : Plan) (t : Tables) → ((g i : ℕ) → IsSlot p g i → t.key g i ≡ Empty) → (k : ℕ) → IsNewest p t k None

@@ -7,7 +7,7 @@ use Rattle.nb_core.specs.History.{MayWin, content_of, key_of_call}
 use Rattle.nb_core.specs.Meaning.{is_blank, is_installed, shown_by, shown_from, value_in}
 use Rattle.nb_core.specs.Laws.{AtEmpty, AtValue, CrowdedAbsent, Decided, HasContent, InLast, IsPassed, NoNext, Shows, TablesStand, WinNumber}
 use Rattle.nb_core.proofs.Keeping.{sound}
-use Rattle.nb_core.proofs.Lasting.{exchange-key}
+use Rattle.nb_core.proofs.Lasting.{win-key}
 use Rattle.nb_core.proofs.Newest.{HasNoneFrom, HasNoneFrom-slot, HasNoneFrom-unprimed, HasNoneIn, IsNewest, from_suc, newest}
 use Rattle.nb_core.proofs.Passing.{below_suc}
 use Rattle.nb_core.proofs.Replies.{number_at_map}
@@ -319,7 +319,7 @@ number-won :
     → MayWin p t g i a b c → IsNewest p t (key_of_call c) number → number ≡ content_of a
 number-won p t plan s g i a b c number slot may is_newest =
     let k = may.key in
-    let of_call : key_of_call c ≡ k = exchange-key c k a b may.exchange in
+    let of_call : key_of_call c ≡ k = win-key may in
     number-unprimed p t plan s k number (subst (λ k. IsNewest p t k number) of_call is_newest) g i
     (settled-final p t plan s k g (s.claimed g i k slot may.claimed).installed may.settled) slot may.claimed
     (subst IsUnprimed (sym may.stands) may.unprimed)

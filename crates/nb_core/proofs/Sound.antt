@@ -70,7 +70,7 @@ pub record IsSound (p : Plan) (t : Tables) : Type 0 where
   -- a finished number has been copied
   pub moved : (g i k n : ℕ) → IsSlot p g i → t.key g i ≡ Claimed k → t.value g i ≡ Finished n → HasGot p t (suc g) k
 
--- ---- what follows at once
+-- ---- slots
 
 -- every distance on a path is a slot's
 pub path_slot-is_slot : (p : Plan) → IsPlan p → (g k d : ℕ) → g < generations_of p → IsSlot p g (path_slot p g k d)
@@ -95,25 +95,88 @@ dead-unclaimed dead k is = let e : Dead ≡ Claimed k = sym dead ∙ is in cc
 abbrev pub HasNoSlot : Plan → Tables → ℕ → ℕ → Type 0
 HasNoSlot p t g k = (i : ℕ) → i < size_of p g → t.key g i ≢ Claimed k
 
--- A key has no slot in a table where other keys have its path up to a slot that is no key's,
-pub no_slot-past :
-    (p : Plan) (t : Tables) → IsSound p t → (g k d : ℕ) → g < generations_of p → AreOthers p t g k d
-    → ((j : ℕ) → t.key g (path_slot p g k d) ≢ Claimed j) → HasNoSlot p t g k
-no_slot-past p t s g k d within others unclaimed i below is =
-    let reached = (s.claimed g i k (within, below) is).reached in
-    let at : t.key g (path_slot p g k reached.distance) ≡ Claimed k = ap (t.key g) reached.at ∙ is in
-    elim (cases_order reached.distance d) [
-      | inl same ↦ unclaimed k (ap (λ d. t.key g (path_slot p g k d)) (sym same) ∙ at)
-      | inr (inl before) ↦ other-not _ k (others reached.distance before) at
-      | inr (inr after) ↦ (let other = reached.passed d after in unclaimed other.other other.is)
-    ]
+-- a value is final, or not primed yet, and not both
+pub unprimed-not_final : (v : ValueState) → IsUnprimed v → IsFinishedValue v → ⊥
+unprimed-not_final Null unprimed final = final
+unprimed-not_final Tombstone unprimed final = final
+unprimed-not_final (Live n) unprimed final = final
+unprimed-not_final _ unprimed final = unprimed
 
--- or have all of it.
-pub no_slot-whole :
-    (p : Plan) (t : Tables) → IsSound p t → (g k : ℕ) → g < generations_of p → AreOthers p t g k (size_of p g) → HasNoSlot p t g k
-no_slot-whole p t s g k within others i below is =
-    let reached = (s.claimed g i k (within, below) is).reached in
-    other-not _ k (others reached.distance reached.in_table) (ap (t.key g) reached.at ∙ is)
+-- a finished slot with a key has a final value
+pub finished-value : (t : Tables) (g i k : ℕ) → IsFinished t g i → t.key g i ≡ Claimed k → IsFinishedValue (t.value g i)
+finished-value t g i k (inl dead) is = absurd (dead-unclaimed dead k is)
+finished-value t g i k (inr final) is = final
+
+-- ---- what the invariant says
+
+module _ (p : Plan) (t : Tables) (s : IsSound p t) where
+  -- A key has no slot in a table where other keys have its path up to a slot that is no key's,
+  pub no_slot-past :
+      (g k d : ℕ) → g < generations_of p → AreOthers p t g k d
+      → ((j : ℕ) → t.key g (path_slot p g k d) ≢ Claimed j) → HasNoSlot p t g k
+  no_slot-past g k d within others unclaimed i below is =
+      let reached = (s.claimed g i k (within, below) is).reached in
+      let at : t.key g (path_slot p g k reached.distance) ≡ Claimed k = ap (t.key g) reached.at ∙ is in
+      elim (cases_order reached.distance d) [
+        | inl same ↦ unclaimed k (ap (λ d. t.key g (path_slot p g k d)) (sym same) ∙ at)
+        | inr (inl before) ↦ other-not _ k (others reached.distance before) at
+        | inr (inr after) ↦ (let other = reached.passed d after in unclaimed other.other other.is)
+      ]
+
+  -- or have all of it.
+  pub no_slot-whole : (g k : ℕ) → g < generations_of p → AreOthers p t g k (size_of p g) → HasNoSlot p t g k
+  no_slot-whole g k within others i below is =
+      let reached = (s.claimed g i k (within, below) is).reached in
+      other-not _ k (others reached.distance reached.in_table) (ap (t.key g) reached.at ∙ is)
+
+  -- a slot without a key has no value
+  unclaimed-null : (g i : ℕ) → IsSlot p g i → ((k : ℕ) → t.key g i ≢ Claimed k) → t.value g i ≡ Null
+  unclaimed-null g i slot unclaimed =
+      elim (s.bare g i slot) [
+        | inl null ↦ null
+        | inr key ↦ absurd (unclaimed key.key key.is)
+      ]
+
+  pub empty-null : (g i : ℕ) → IsSlot p g i → t.key g i ≡ Empty → t.value g i ≡ Null
+  empty-null g i slot empty = unclaimed-null g i slot (empty-unclaimed empty)
+
+  pub dead-null : (g i : ℕ) → IsSlot p g i → t.key g i ≡ Dead → t.value g i ≡ Null
+  dead-null g i slot dead = unclaimed-null g i slot (dead-unclaimed dead)
+
+  -- a finished slot isn't empty
+  pub finished-not_empty : (g i : ℕ) → IsSlot p g i → IsFinished t g i → t.key g i ≢ Empty
+  finished-not_empty g i slot (inl dead) empty = let e : Empty ≡ Dead = sym empty ∙ dead in cc
+  finished-not_empty g i slot (inr final) empty = subst IsFinishedValue (empty-null g i slot empty) final
+
+  -- a table with a next one isn't the last
+  pub next-within : (g : ℕ) → t.next g ≡ 1 → suc g < generations_of p
+  next-within g is =
+      elim (s.next_is g) [
+        | inl none ↦ absurd (omega arith)
+        | inr some ↦ some.1
+      ]
+
+  -- a table with a primed value has a next one
+  pub primed-growing : (g i : ℕ) → IsSlot p g i → (IsUnprimed (t.value g i) → ⊥) → t.next g ≡ 1
+  primed-growing g i slot primed =
+      elim (s.growing g i slot) [
+        | inl unprimed ↦ absurd (primed unprimed)
+        | inr next ↦ next
+      ]
+
+  -- so has one with a finished slot
+  pub finished-growing : (g i : ℕ) → IsSlot p g i → IsFinished t g i → t.next g ≡ 1
+  finished-growing g i slot (inl dead) = s.dead g i slot dead
+  finished-growing g i slot (inr final) =
+      primed-growing g i slot (λ unprimed. unprimed-not_final (t.value g i) unprimed final)
+
+  -- each table two below an installed one, or lower, is complete
+  pub complete-below : (f g : ℕ) → suc g < f → IsInstalled t f → IsComplete p t g
+  complete-below zero g below installed = absurd (omega arith)
+  complete-below (suc zero) g below installed = absurd (omega arith)
+  complete-below (suc (suc f)) g below installed =
+      let ready = s.ready f installed in
+      below_suc (IsComplete p t) f ready.1 (λ g less. complete-below (suc f) g (omega arith) ready.0) g (omega arith)
 
 -- on one path the key's slot is at one distance
 reached-once :
@@ -133,71 +196,9 @@ pub one_slot :
 one_slot p t plan s g i j k i_slot j_slot i_is j_is =
     reached-once p t g i j k (s.claimed g i k i_slot i_is).reached (s.claimed g j k j_slot j_is).reached i_is j_is
 
--- a value is final, or not primed yet, and not both
-pub unprimed-not_final : (v : ValueState) → IsUnprimed v → IsFinishedValue v → ⊥
-unprimed-not_final Null unprimed final = final
-unprimed-not_final Tombstone unprimed final = final
-unprimed-not_final (Live n) unprimed final = final
-unprimed-not_final _ unprimed final = unprimed
-
--- a finished slot with a key has a final value
-pub finished-value : (t : Tables) (g i k : ℕ) → IsFinished t g i → t.key g i ≡ Claimed k → IsFinishedValue (t.value g i)
-finished-value t g i k (inl dead) is = absurd (dead-unclaimed dead k is)
-finished-value t g i k (inr final) is = final
-
--- a slot without a key has no value
-unclaimed-null :
-    (p : Plan) (t : Tables) → IsSound p t → (g i : ℕ) → IsSlot p g i → ((k : ℕ) → t.key g i ≢ Claimed k) → t.value g i ≡ Null
-unclaimed-null p t s g i slot unclaimed =
-    elim (s.bare g i slot) [
-      | inl null ↦ null
-      | inr key ↦ absurd (unclaimed key.key key.is)
-    ]
-
-pub empty-null : (p : Plan) (t : Tables) → IsSound p t → (g i : ℕ) → IsSlot p g i → t.key g i ≡ Empty → t.value g i ≡ Null
-empty-null p t s g i slot empty = unclaimed-null p t s g i slot (empty-unclaimed empty)
-
-pub dead-null : (p : Plan) (t : Tables) → IsSound p t → (g i : ℕ) → IsSlot p g i → t.key g i ≡ Dead → t.value g i ≡ Null
-dead-null p t s g i slot dead = unclaimed-null p t s g i slot (dead-unclaimed dead)
-
--- a finished slot isn't empty
-pub finished-not_empty : (p : Plan) (t : Tables) → IsSound p t → (g i : ℕ) → IsSlot p g i → IsFinished t g i → t.key g i ≢ Empty
-finished-not_empty p t s g i slot (inl dead) empty = let e : Empty ≡ Dead = sym empty ∙ dead in cc
-finished-not_empty p t s g i slot (inr final) empty = subst IsFinishedValue (empty-null p t s g i slot empty) final
-
--- a table with a next one isn't the last
-pub next-within : (p : Plan) (t : Tables) → IsSound p t → (g : ℕ) → t.next g ≡ 1 → suc g < generations_of p
-next-within p t s g is =
-    elim (s.next_is g) [
-      | inl none ↦ absurd (omega arith)
-      | inr some ↦ some.1
-    ]
-
--- a table with a primed value has a next one
-pub primed-growing : (p : Plan) (t : Tables) → IsSound p t → (g i : ℕ) → IsSlot p g i → (IsUnprimed (t.value g i) → ⊥) → t.next g ≡ 1
-primed-growing p t s g i slot primed =
-    elim (s.growing g i slot) [
-      | inl unprimed ↦ absurd (primed unprimed)
-      | inr next ↦ next
-    ]
-
--- so has one with a finished slot
-pub finished-growing : (p : Plan) (t : Tables) → IsSound p t → (g i : ℕ) → IsSlot p g i → IsFinished t g i → t.next g ≡ 1
-finished-growing p t s g i slot (inl dead) = s.dead g i slot dead
-finished-growing p t s g i slot (inr final) =
-    primed-growing p t s g i slot (λ unprimed. unprimed-not_final (t.value g i) unprimed final)
-
 -- and a complete table
 pub complete-growing :
     (p : Plan) (t : Tables) → IsPlan p → IsSound p t → (g : ℕ) → g < generations_of p → IsComplete p t g → t.next g ≡ 1
 complete-growing p t plan s g within complete =
     let some : 0 < size_of p g = omega (arith, four-le-size_of p g plan within) in
     finished-growing p t s g 0 (within, some) (complete 0 some)
-
--- each table two below an installed one, or lower, is complete
-pub complete-below : (p : Plan) (t : Tables) → IsSound p t → (f g : ℕ) → suc g < f → IsInstalled t f → IsComplete p t g
-complete-below p t s zero g below installed = absurd (omega arith)
-complete-below p t s (suc zero) g below installed = absurd (omega arith)
-complete-below p t s (suc (suc f)) g below installed =
-    let ready = s.ready f installed in
-    below_suc (IsComplete p t) f ready.1 (λ g less. complete-below p t s (suc f) g (omega arith) ready.0) g (omega arith)
