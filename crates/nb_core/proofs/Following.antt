@@ -17,7 +17,7 @@ use Rattle.nb_core.proofs.Steps.{Step, TopKept, Promotes, step_of}
 use Rattle.nb_core.proofs.Words.{word-first}
 
 pub has_one_slot : HasOneSlot
-has_one_slot p plan h legal = one_slot p (tables_at p h) plan (sound p h plan legal)
+has_one_slot p plan h legal = one_slot p (tables_at p h) (sound p h plan legal)
 
 pub installed_after : InstalledAfter
 installed_after p plan h legal g installed = ((sound p h plan legal).ready g installed).1
@@ -43,7 +43,7 @@ has_room p plan h legal = incomplete-room p (tables_at p h) plan (sound p h plan
 
 pub one_place : OnePlace
 one_place p plan later h legal =
-    place_from-same p (tables_at p h) (tables_at p (later ++ h)) plan (sound p h plan (beginnings_are_legal p later h legal))
+    place_from-same p (tables_at p h) (tables_at p (later ++ h)) (sound p h plan (beginnings_are_legal p later h legal))
     (sound p (later ++ h) plan legal) (seen_lasts p plan later h legal)
 
 -- the tables below the top word are complete after a step too

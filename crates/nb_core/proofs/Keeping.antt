@@ -221,7 +221,7 @@ module _ (p : Plan) (t u : Tables) (plan : IsPlan p) (s : IsSound p t) (step : S
         | Copies k' n may e ↦
             let same : k' ≡ k = claimed-same (sym may.claimed ∙ j_is) in
             let source = may.primed in
-            let slot : source.0 ≡ i = one_slot p t plan s g source.0 i k (i_slot.0, source.1) i_slot (source.2 ∙ ap Claimed same) i_is in
+            let slot : source.0 ≡ i = one_slot p t s g source.0 i k (i_slot.0, source.1) i_slot (source.2 ∙ ap Claimed same) i_is in
             let primed : t.value g i ≡ Primed n = ap (t.value g) (sym slot) ∙ source.3 in
             inr (subst (MayBeAbove (u.value g i)) (sym e) (copy-above (u.value g i) n (value-frozen below (inl primed))))
         | Primes may e ↦ inr (final-above_step _ below (complete_below may.growing))

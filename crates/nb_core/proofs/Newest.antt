@@ -69,12 +69,12 @@ pub record IsNewest (p : Plan) (t : Tables) (k : ℕ) (number : Option ℕ) : Ty
   pub never : HasNoneFrom p t k 0 → number ≡ None
 
 module _
-    (p : Plan) (t : Tables) (plan : IsPlan p) (s : IsSound p t) (k g i : ℕ) (slot : IsSlot p g i) (is : t.key g i ≡ Claimed k) where
+    (p : Plan) (t : Tables) (s : IsSound p t) (k g i : ℕ) (slot : IsSlot p g i) (is : t.key g i ≡ Claimed k) where
   -- where the key has none in its slot and none above, it has none from this table on
   pub HasNoneFrom-slot : (HasContent (t.value g i) → ⊥) → HasNoneFrom p t k (suc g) → HasNoneFrom p t k g
   HasNoneFrom-slot none =
       from_suc (HasNoneIn p t k) g
-      (λ j j_slot j_is content. none (subst (λ j. HasContent (t.value g j)) (one_slot p t plan s g j i k j_slot slot j_is is) content))
+      (λ j j_slot j_is content. none (subst (λ j. HasContent (t.value g j)) (one_slot p t s g j i k j_slot slot j_is is) content))
 
   -- above an unprimed value the key never got a number
   pub HasNoneFrom-unprimed : IsUnprimed (t.value g i) → HasNoneFrom p t k (suc g)
@@ -103,7 +103,7 @@ module _
       in_table : (f : ℕ) → f ≡ g → (j : ℕ) → IsSlot p f j → t.key f j ≡ Claimed k → content_of (t.value g i) ≡ content_of (t.value f j)
       in_table f same =
           subst (λ f. (j : ℕ) → IsSlot p f j → t.key f j ≡ Claimed k → content_of (t.value g i) ≡ content_of (t.value f j)) (sym same)
-          (λ j j_slot j_is. ap (λ j. content_of (t.value g j)) (one_slot p t plan s g i j k slot j_slot is j_is))
+          (λ j j_slot j_is. ap (λ j. content_of (t.value g j)) (one_slot p t s g i j k slot j_slot is j_is))
 
 -- ---- a step without an exchange on the key
 
@@ -119,7 +119,7 @@ quiet-content (Stays same) content = same.there content
 quiet-content (CopiesUp n below null e) content = absurd (subst HasContent null content)
 
 module _
-    (p : Plan) (t u : Tables) (plan : IsPlan p) (s : IsSound p t) (step : Step p t u) (k : ℕ)
+    (p : Plan) (t u : Tables) (s : IsSound p t) (step : Step p t u) (k : ℕ)
     (quiet : (g i : ℕ) → IsSlot p g i → t.key g i ≡ Claimed k → QuietStep p t g i k (u.value g i)) where
   -- a slot of a key that has got a number was the key's before the step
   claimed-before : (g i : ℕ) → IsSlot p g i → u.key g i ≡ Claimed k → HasContent (u.value g i) → t.key g i ≡ Claimed k
@@ -141,7 +141,7 @@ module _
   copied-newest number newest zero i n slot is null below none = absurd below
   copied-newest number newest (suc g) i n slot is null below none =
       newest.at g below.0 (omega arith, below.1) below.2 (subst HasContent (sym below.3) tt)
-      (HasNoneFrom-slot p t plan s k (suc g) i slot is (λ content. subst HasContent null content) none)
+      (HasNoneFrom-slot p t s k (suc g) i slot is (λ content. subst HasContent null content) none)
       ∙ ap content_of below.3
 
   -- what is newest stays so
@@ -205,20 +205,20 @@ IsNewest-elsewhere :
     (p : Plan) (e : Event) (h : List Event) → IsPlan p → IsLegal p (e ∷ h) → (k : ℕ) → IsElsewhere e k
     → IsNewest p (tables_at p h) k (number_at h k) → IsNewest p (tables_at p (e ∷ h)) k (number_at h k)
 IsNewest-elsewhere p e h plan legal k other =
-    IsNewest-quiet p (tables_at p h) (tables_at p (e ∷ h)) plan (sound p h plan legal.0) (step_of p e h plan legal) k
+    IsNewest-quiet p (tables_at p h) (tables_at p (e ∷ h)) (sound p h plan legal.0) (step_of p e h plan legal) k
     (quiet_step p e h plan legal k other) (number_at h k)
 
 -- what an exchange on the key leaves in its slot is the newest
 IsNewest-won :
-    (p : Plan) (t u : Tables) → IsPlan p → IsSound p u → Step p t u → (k g i : ℕ) (a b : ValueState) (c : Call) (before : Option ℕ)
+    (p : Plan) (t u : Tables) → IsSound p u → Step p t u → (k g i : ℕ) (a b : ValueState) (c : Call) (before : Option ℕ)
     → IsSlot p g i → MayWin p t g i a b c → u.value g i ≡ b → k ≡ key_of_call c → IsNewest p u k (number_left b before)
-IsNewest-won p t u plan s step k g i a b c before slot may e of_call =
+IsNewest-won p t u s step k g i a b c before slot may e of_call =
     let puts = win-puts may in
     let same : may.key ≡ k = sym (win-key may) ∙ sym of_call in
     let is : u.key g i ≡ Claimed k = key-claimed (step.key g i slot) (may.claimed ∙ ap Claimed same) in
     subst (IsNewest p u k) (ap content_of e ∙ sym (put-number before puts))
-    (IsNewest-at p u plan s k g i slot is (subst HasContent (sym e) (put-content puts))
-    (HasNoneFrom-unprimed p u plan s k g i slot is (subst IsUnprimed (sym e) (put-unprimed puts))))
+    (IsNewest-at p u s k g i slot is (subst HasContent (sym e) (put-content puts))
+    (HasNoneFrom-unprimed p u s k g i slot is (subst IsUnprimed (sym e) (put-unprimed puts))))
 
 -- before any event
 IsNewest-first : (p : Plan) (t : Tables) → ((g i : ℕ) → IsSlot p g i → t.key g i ≡ Empty) → (k : ℕ) → IsNewest p t k None
@@ -236,7 +236,7 @@ newest p (Won s g i a b c r ∷ h) plan legal k =
     cond_both (eqb k (key_of_call c)) (number_left b (number_at h k)) (number_at h k) (IsNewest p (tables_at p (e ∷ h)) k)
     (λ same.
     let put = value-frame p e h plan legal g i slot ∙ cond-true _ b _ (same_both g i) in
-    IsNewest-won p (tables_at p h) (tables_at p (e ∷ h)) plan (sound p (e ∷ h) plan legal) (step_of p e h plan legal) k g i a b c
+    IsNewest-won p (tables_at p h) (tables_at p (e ∷ h)) (sound p (e ∷ h) plan legal) (step_of p e h plan legal) k g i a b c
     (number_at h k) slot legal.2 put (eqb-true k (key_of_call c) same))
     (λ other. IsNewest-elsewhere p e h plan legal k (eqb-false k (key_of_call c) other) (newest p h plan legal.0 k))
 newest p (e ∷ h) plan legal k = IsNewest-elsewhere p e h plan legal k tt (newest p h plan legal.0 k)

@@ -1,7 +1,7 @@
 -- The first place of a key is the same for ever.
 use Rattle.std.proofs.Common.{◌≡◌, ◌∙◌, ℕ, ◌+◌, ◌-◌, ◌<◌, ◌≤◌, zero, suc, ap, sym, refl, subst, inl, inr, Some, None, option_map, arith}
 use Rattle.std.proofs.lemmas.Bool.{cases_order}
-use Rattle.nb_core.specs.Plans.{Plan, IsPlan, generations_of, size_of}
+use Rattle.nb_core.specs.Plans.{Plan, generations_of, size_of}
 use Rattle.nb_core.specs.Tables.{HasSlot, IsComplete, Tables}
 use Rattle.nb_core.specs.Laws.{Lasts}
 use Rattle.nb_core.specs.Meaning.{first_place, place_from, slot_among}
@@ -60,7 +60,7 @@ place_from-some p t k g (suc n) place e =
 
 -- ---- later tables
 
-module _ (p : Plan) (t u : Tables) (plan : IsPlan p) (s : IsSound p t) (v : IsSound p u) (lasts : Lasts p t u) where
+module _ (p : Plan) (t u : Tables) (s : IsSound p t) (v : IsSound p u) (lasts : Lasts p t u) where
   -- a key that a complete table has no slot for gets none there
   no_slot-later : (g k : ℕ) → g < generations_of p → IsComplete p t g → HasNoSlot p t g k → HasNoSlot p u g k
   no_slot-later g k within complete none i below later = by_key (t.key g i) refl
@@ -92,7 +92,7 @@ module _ (p : Plan) (t u : Tables) (plan : IsPlan p) (s : IsSound p t) (v : IsSo
       elim (slot_among-is t g k (size_of p g)) [
         | Somewhere i below is found ↦
             let within : g < generations_of p = omega arith in
-            let later = slot_among-at p u plan v g i k (within, below) (lasts.claimed g i k (within, below) is) in
+            let later = slot_among-at p u v g i k (within, below) (lasts.claimed g i k (within, below) is) in
             place_from-found p u k g n i later ∙ sym (place_from-found p t k g n i found) ∙ e
         | Nowhere none found ↦
             let rest = sym (place_from-next p t k g n found) ∙ e in

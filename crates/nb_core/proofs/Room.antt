@@ -139,7 +139,7 @@ module _ (p : Plan) (t : Tables) (plan : IsPlan p) (s : IsSound p t) where
       (λ i j h l same.
       let key : (from i h).key ≡ (from j l).key = one_key t g _ _ _ _ same (from i h).is (from j l).is in
       let j_is = (from j l).is_above ∙ ap Claimed (sym key) in
-      one_slot p t plan s (suc g) i j (from i h).key (within, h) (within, l) (from i h).is_above j_is) in
+      one_slot p t s (suc g) i j (from i h).key (within, h) (within, l) (from i h).is_above j_is) in
       let rising : size_of p g ≤ size_of p (suc g) = sizes_never_fall p plan g within in
       omega arith
 
@@ -209,7 +209,7 @@ module _ (p : Plan) (t : Tables) (plan : IsPlan p) (s : IsSound p t) (g k : ℕ)
   -- a passed key has no slot in the table, or a final value there
   pub passed-settled : IsPassed p t g k → (i : ℕ) → i < size_of p g → t.key g i ≡ Claimed k → IsFinishedValue (t.value g i)
   passed-settled (AtSlot j below at final) i i_below is =
-      subst (λ n. IsFinishedValue (t.value g n)) (one_slot p t plan s g j i k (within, below) (within, i_below) at is) final
+      subst (λ n. IsFinishedValue (t.value g n)) (one_slot p t s g j i k (within, below) (within, i_below) at is) final
   passed-settled (UpToDead d below passed dead) i i_below is =
       absurd (no_slot-past p t s g k d within passed (dead-unclaimed dead) i i_below is)
   passed-settled (Whole passed) i i_below is = absurd (no_slot-whole p t s g k within passed i i_below is)

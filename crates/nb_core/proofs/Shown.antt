@@ -111,7 +111,7 @@ module _ (p : Plan) (t : Tables) (plan : IsPlan p) (s : IsSound p t) (k : ℕ) w
             let slot : IsSlot p g has.slot = (omega arith, has.in_table) in
             elim (content_or_none (t.value g has.slot)) [
               | inl content ↦ There g has.slot slot has.is content none
-              | inr without ↦ newest_place-below g (omega arith) (HasNoneFrom-slot p t plan s k g has.slot slot has.is without none)
+              | inr without ↦ newest_place-below g (omega arith) (HasNoneFrom-slot p t s k g has.slot slot has.is without none)
             ]
       ]
 
@@ -209,7 +209,7 @@ module _ (p : Plan) (t : Tables) (plan : IsPlan p) (s : IsSound p t) (k : ℕ) w
         → is_blank (value_in p t (suc f) k) ≡ false
     is_blank-copied f j n below j_slot j_is primed =
         elim (cases_order (suc f) g) [
-          | inl same ↦ rw (same, value_in-some p t plan s g i k slot is) (is_blank-content (t.value g i) content)
+          | inl same ↦ rw (same, value_in-some p t s g i k slot is) (is_blank-content (t.value g i) content)
           | inr (inl less) ↦
               let complete = complete-below p t s g f less (s.claimed g i k slot is).installed in
               absurd (uncopied-not_complete f j n j_slot j_is primed complete)
@@ -220,7 +220,7 @@ module _ (p : Plan) (t : Tables) (plan : IsPlan p) (s : IsSound p t) (k : ℕ) w
     shown_from-newest : (tables : ℕ) → g + suc tables ≡ generations_of p → shown_from p t k g (suc tables) ≡ content_of (t.value g i)
     shown_from-newest tables whole =
         let installed = is_installed-holds t g (s.claimed g i k slot is).installed in
-        rw (installed, value_in-some p t plan s g i k slot is, shown_from-none (suc g) tables (omega arith) none)
+        rw (installed, value_in-some p t s g i k slot is, shown_from-none (suc g) tables (omega arith) none)
         (shown_by-newest (t.value g i) _ content is_blank-above (λ n. newest-not_moved g i n slot is none))
 
     -- and so do all tables below it
@@ -240,7 +240,7 @@ module _ (p : Plan) (t : Tables) (plan : IsPlan p) (s : IsSound p t) (k : ℕ) w
                     let within_tables = slot.0 in
                     let j_slot : IsSlot p f j = (omega arith, within) in
                     rw e (shown_by-primed (t.value f j) _ _
-                    (λ unprimed. HasNoneFrom-unprimed p t plan s k f j j_slot j_is unprimed g less i slot is content)
+                    (λ unprimed. HasNoneFrom-unprimed p t s k f j j_slot j_is unprimed g less i slot is content)
                     (λ n primed. is_blank-copied f j n less j_slot j_is primed)
                     ∙ rest)
               ])
@@ -280,11 +280,11 @@ module _ (p : Plan) (t : Tables) (plan : IsPlan p) (s : IsSound p t) (k : ℕ) w
         (g i : ℕ) → AreFinalBelow p t g k → IsSlot p g i → t.key g i ≡ Claimed k → IsUnprimed (t.value g i)
         → number ≡ content_of (t.value g i)
     number-unprimed g i final slot is unprimed =
-        let above = HasNoneFrom-unprimed p t plan s k g i slot is unprimed in
+        let above = HasNoneFrom-unprimed p t s k g i slot is unprimed in
         elim (content_or_none (t.value g i)) [
           | inl content ↦ is_newest.at g i slot is content above
           | inr without ↦
-              number-none g final (HasNoneFrom-slot p t plan s k g i slot is without above)
+              number-none g final (HasNoneFrom-slot p t s k g i slot is without above)
               ∙ sym (content_of-without (t.value g i) without)
         ]
 

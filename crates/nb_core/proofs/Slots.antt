@@ -1,7 +1,7 @@
 -- The slot of a key in a table, and its value there, as the searches of Meaning find them.
 use Rattle.std.proofs.Common.{◌≡◌, ◌≢◌, ◌∙◌, ℕ, ◌<◌, ◌⊎◌, zero, suc, ap, refl, inl, inr, true, false, cond, not, Option, Some, None, option_map, arith}
 use Rattle.std.proofs.lemmas.Bool.{cond_both}
-use Rattle.nb_core.specs.Plans.{Plan, IsPlan, size_of}
+use Rattle.nb_core.specs.Plans.{Plan, size_of}
 use Rattle.nb_core.specs.Tables.{HasSlot, IsSlot, Tables}
 use Rattle.nb_core.specs.Meaning.{is_claimed_by, slot_among, value_among, value_in}
 use Rattle.nb_core.proofs.Passing.{below_suc, is_claimed_by-true, unclaimed}
@@ -38,11 +38,11 @@ has_slot_or_none p t g k =
 
 -- a key's slot in a table is the one that the search finds
 pub slot_among-at :
-    (p : Plan) (t : Tables) → IsPlan p → IsSound p t → (g i k : ℕ) → IsSlot p g i → t.key g i ≡ Claimed k
+    (p : Plan) (t : Tables) → IsSound p t → (g i k : ℕ) → IsSlot p g i → t.key g i ≡ Claimed k
     → slot_among t g k (size_of p g) ≡ Some i
-slot_among-at p t plan s g i k slot is =
+slot_among-at p t s g i k slot is =
     elim (slot_among-is t g k (size_of p g)) [
-      | Somewhere j below j_is found ↦ found ∙ ap Some (one_slot p t plan s g j i k (slot.0, below) slot j_is is)
+      | Somewhere j below j_is found ↦ found ∙ ap Some (one_slot p t s g j i k (slot.0, below) slot j_is is)
       | Nowhere none found ↦ absurd (none i slot.1 is)
     ]
 
@@ -66,9 +66,9 @@ value_in-is p t g k o found = value_among-is t g k (size_of p g) ∙ ap (option_
 
 -- a key's value in a table is the one in its slot
 pub value_in-some :
-    (p : Plan) (t : Tables) → IsPlan p → IsSound p t → (g i k : ℕ) → IsSlot p g i → t.key g i ≡ Claimed k
+    (p : Plan) (t : Tables) → IsSound p t → (g i k : ℕ) → IsSlot p g i → t.key g i ≡ Claimed k
     → value_in p t g k ≡ Some (t.value g i)
-value_in-some p t plan s g i k slot is = value_in-is p t g k (Some i) (slot_among-at p t plan s g i k slot is)
+value_in-some p t s g i k slot is = value_in-is p t g k (Some i) (slot_among-at p t s g i k slot is)
 
 -- what a look at a table finds of a key: no slot, or a value
 pub data IsLook (p : Plan) (t : Tables) (g k : ℕ) : Type 0 where

@@ -129,6 +129,17 @@ module _ (p : Plan) (t : Tables) (s : IsSound p t) where
       let reached = (s.claimed g i k (within, below) is).reached in
       other-not _ k (others reached.distance reached.in_table) (ap (t.key g) reached.at ∙ is)
 
+  -- a key has one slot in a table at most
+  pub one_slot : (g i j k : ℕ) → IsSlot p g i → IsSlot p g j → t.key g i ≡ Claimed k → t.key g j ≡ Claimed k → i ≡ j
+  one_slot g i j k i_slot j_slot i_is j_is =
+      let a = (s.claimed g i k i_slot i_is).reached in
+      let b = (s.claimed g j k j_slot j_is).reached in
+      elim (cases_order a.distance b.distance) [
+        | inl same ↦ sym a.at ∙ ap (path_slot p g k) same ∙ b.at
+        | inr (inl before) ↦ absurd (other-not _ k (b.passed a.distance before) (ap (t.key g) a.at ∙ i_is))
+        | inr (inr after) ↦ absurd (other-not _ k (a.passed b.distance after) (ap (t.key g) b.at ∙ j_is))
+      ]
+
   -- a slot without a key has no value
   unclaimed-null : (g i : ℕ) → IsSlot p g i → ((k : ℕ) → t.key g i ≢ Claimed k) → t.value g i ≡ Null
   unclaimed-null g i slot unclaimed =
@@ -178,25 +189,7 @@ module _ (p : Plan) (t : Tables) (s : IsSound p t) where
       let ready = s.ready f installed in
       below_suc (IsComplete p t) f ready.1 (λ g less. complete-below (suc f) g (omega arith) ready.0) g (omega arith)
 
--- on one path the key's slot is at one distance
-reached-once :
-    (p : Plan) (t : Tables) (g i j k : ℕ) → IsReached p t g i k → IsReached p t g j k → t.key g i ≡ Claimed k
-    → t.key g j ≡ Claimed k → i ≡ j
-reached-once p t g i j k a b a_is b_is =
-    elim (cases_order a.distance b.distance) [
-      | inl same ↦ sym a.at ∙ ap (path_slot p g k) same ∙ b.at
-      | inr (inl before) ↦ absurd (other-not _ k (b.passed a.distance before) (ap (t.key g) a.at ∙ a_is))
-      | inr (inr after) ↦ absurd (other-not _ k (a.passed b.distance after) (ap (t.key g) b.at ∙ b_is))
-    ]
-
--- a key has one slot in a table at most
-pub one_slot :
-    (p : Plan) (t : Tables) → IsPlan p → IsSound p t → (g i j k : ℕ) → IsSlot p g i → IsSlot p g j → t.key g i ≡ Claimed k
-    → t.key g j ≡ Claimed k → i ≡ j
-one_slot p t plan s g i j k i_slot j_slot i_is j_is =
-    reached-once p t g i j k (s.claimed g i k i_slot i_is).reached (s.claimed g j k j_slot j_is).reached i_is j_is
-
--- and a complete table
+-- a complete table has a next one
 pub complete-growing :
     (p : Plan) (t : Tables) → IsPlan p → IsSound p t → (g : ℕ) → g < generations_of p → IsComplete p t g → t.next g ≡ 1
 complete-growing p t plan s g within complete =
