@@ -50,7 +50,7 @@ taken-kept p _ h legal g none = refl
 last-within : (p : Plan) → IsPlan p → generations_of p - 1 < generations_of p
 last-within p plan = omega (arith, plan.some_tables)
 
--- no chunk of the last table is handed out,
+-- no chunk of the last table is handed out
 last-taken : (p : Plan) (h : List Event) → IsPlan p → IsLegal p h → (tables_at p h).taken (generations_of p - 1) ≡ 0
 last-taken p [] plan legal = word-first p plan (Header (generations_of p - 1) 1) (last-within p plan, omega arith)
 last-taken p (e ∷ h) plan legal =
@@ -69,7 +69,7 @@ none-finished p t s g within none (suc n) below =
     (λ e. absurd (let next = finished-growing p t s g n (within, below) (is_finished-true t g n e) in omega arith))
     (λ e. omega (arith, none-finished p t s g within none n (omega arith)))
 
--- and no slot of it is counted
+-- no slot of the last table is counted
 last-counted : (p : Plan) (h : List Event) → IsPlan p → IsLegal p h → (tables_at p h).counted (generations_of p - 1) ≡ 0
 last-counted p h plan legal =
     let last = generations_of p - 1 in

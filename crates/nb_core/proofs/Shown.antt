@@ -59,11 +59,11 @@ shown_by-primed (Primed n) blank above primed copied = rw (copied n refl) refl
 shown_by-primed _ blank above primed copied = refl
 
 -- the newest value shows its number
-shown_by-newest : (v : ValueState) (blank : Bool) → HasContent v → ((n : ℕ) → v ≡ Primed n → blank ≡ true) → ((n : ℕ) → v ≢ Finished n)
+shown_by-newest : (v : ValueState) (blank : Bool) → ((n : ℕ) → v ≡ Primed n → blank ≡ true) → ((n : ℕ) → v ≢ Finished n)
     → shown_by (Some v) blank None ≡ content_of v
-shown_by-newest (Primed n) blank content uncopied unmoved = rw (uncopied n refl) refl
-shown_by-newest (Finished n) blank content uncopied unmoved = absurd (unmoved n refl)
-shown_by-newest _ blank content uncopied unmoved = refl
+shown_by-newest (Primed n) blank uncopied unmoved = rw (uncopied n refl) refl
+shown_by-newest (Finished n) blank uncopied unmoved = absurd (unmoved n refl)
+shown_by-newest _ blank uncopied unmoved = refl
 
 -- null is blank
 is_blank-without : (v : ValueState) → (HasContent v → ⊥) → v ≢ PrimedNull → is_blank (Some v) ≡ true
@@ -221,7 +221,7 @@ module _ (p : Plan) (t : Tables) (plan : IsPlan p) (s : IsSound p t) (k : ℕ) w
     shown_from-newest tables whole =
         let installed = is_installed-holds t g (s.claimed g i k slot is).installed in
         rw (installed, value_in-some p t s g i k slot is, shown_from-none (suc g) tables (omega arith) none)
-        (shown_by-newest (t.value g i) _ content is_blank-above (λ n. newest-not_moved g i n slot is none))
+        (shown_by-newest (t.value g i) _ is_blank-above (λ n. newest-not_moved g i n slot is none))
 
     -- and so do all tables below it
     shown_from-below : (f tables : ℕ) → f + tables ≡ generations_of p → f ≤ g → shown_from p t k f tables ≡ content_of (t.value g i)
