@@ -151,7 +151,7 @@ slot_bit-prime :
     ≡ bit ((eqb f g && eqb j i) && is_empty_content (t.value g i)) + slot_bit t g i
 slot_bit-prime t f j g i may =
     at_slot (λ g i here. bit (is_finished_slot (t.key g i) (cond here (primed (t.value g i)) (t.value g i)))
-        ≡ bit (here && is_empty_content (t.value g i)) + slot_bit t g i) f j g i
+    ≡ bit (here && is_empty_content (t.value g i)) + slot_bit t g i) f j g i
     (rw (may.claimed, is_finished_value-primed (t.value f j) may.unprimed, is_finished_value-unprimed (t.value f j) may.unprimed)
     (omega arith)) (omega arith)
 
@@ -162,7 +162,7 @@ slot_bit-finish :
     ≡ bit (eqb f g && eqb j i) + slot_bit t g i
 slot_bit-finish p t f j g i may =
     at_slot (λ g i here.
-        bit (is_finished_slot (t.key g i) (cond here (finished (t.value g i)) (t.value g i))) ≡ bit here + slot_bit t g i) f j g i
+    bit (is_finished_slot (t.key g i) (cond here (finished (t.value g i)) (t.value g i))) ≡ bit here + slot_bit t g i) f j g i
     (rw (may.claimed, may.primed) refl) (omega arith)
 
 -- whether a slot is finished after an event tells whether it was, and whether the event turned it

@@ -158,13 +158,13 @@ word_after-value p (Prime s f j) h legal words g i =
     let word = value_word_at p h in
     let value = (tables_at p h).value in
     at_slot (λ g i here.
-        IsSlot p g i → IsWordOf (cond here (bit_or (word g i) 1) (word g i)) (cond here (primed (value g i)) (value g i))) f j g i
+    IsSlot p g i → IsWordOf (cond here (bit_or (word g i) 1) (word g i)) (cond here (primed (value g i)) (value g i))) f j g i
     (λ slot. primed-word_of _ _ (words f j slot)) (words g i)
 word_after-value p (Finish s f j) h legal words g i =
     let word = value_word_at p h in
     let value = (tables_at p h).value in
     at_slot (λ g i here.
-        IsSlot p g i → IsWordOf (cond here (bit_or (word g i) 2) (word g i)) (cond here (finished (value g i)) (value g i))) f j g i
+    IsSlot p g i → IsWordOf (cond here (bit_or (word g i) 2) (word g i)) (cond here (finished (value g i)) (value g i))) f j g i
     (λ slot. finished-word_of _ legal.2.number _ legal.2.primed (words f j slot)) (words g i)
 word_after-value p _ h legal words g i = words g i
 

@@ -59,8 +59,8 @@ net-map_after : (c : Call) (m : Numbers) → pos (len (map_after c m)) ≡ net_o
 net-map_after (call.Get k) m = omega (arith, ints)
 net-map_after (call.Write k want change) m =
     elim (holds_of want (get m k)) as (λ b.
-        pos (len (cond b (with_at m k (changed change (get m k))) m))
-        ≡ cond b (net_of_change change (get m k)) (pos 0) +ℤ pos (len m)) [
+    pos (len (cond b (with_at m k (changed change (get m k))) m))
+    ≡ cond b (net_of_change change (get m k)) (pos 0) +ℤ pos (len m)) [
       | true ↦ net-with_at m k change (get m k) refl
       | false ↦ omega (arith, ints)
     ]

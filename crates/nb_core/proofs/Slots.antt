@@ -53,7 +53,7 @@ value_among-is : (t : Tables) (g k n : ℕ) → value_among t g k n ≡ option_m
 value_among-is t g k zero = refl
 value_among-is t g k (suc n) =
     elim (is_claimed_by k (t.key g n)) as (λ b.
-        cond b (Some (t.value g n)) (value_among t g k n) ≡ option_map (t.value g) (cond b (Some n) (slot_among t g k n))) [
+    cond b (Some (t.value g n)) (value_among t g k n) ≡ option_map (t.value g) (cond b (Some n) (slot_among t g k n))) [
       | true ↦ refl
       | false ↦ value_among-is t g k n
     ]

@@ -85,10 +85,10 @@ word-changed p plan w length_is a b a_word b_word f =
     let x = slice_index w (place b) in
     cond_both (same_word a b) (f x) x (λ y. slice_index u (place b) ≡ y)
     (λ same. subst (λ b. slice_index u (place b) ≡ f (slice_index w (place b))) (same_word-true a b same)
-        (get_or-set_same w (place a) (f (slice_index w (place a))) 0 (omega (arith, places.below a a_word))))
+    (get_or-set_same w (place a) (f (slice_index w (place a))) 0 (omega (arith, places.below a a_word))))
     (λ other. get_or-set_other w (place a) (place b) (f (slice_index w (place a))) 0 (λ same.
-        let one : a ≡ b = places.distinct a b a_word b_word (sym same) in
-        let t : same_word a b ≡ true = ap (same_word a) (sym one) ∙ same_word-refl a in cc))
+    let one : a ≡ b = places.distinct a b a_word b_word (sym same) in
+    let t : same_word a b ≡ true = ap (same_word a) (sym one) ∙ same_word-refl a in cc))
 
 -- what an event makes of a word
 abbrev pub word_after : Plan → Event → Word → ℕ → ℕ
