@@ -9,9 +9,9 @@ use Rattle.nb_core.specs.Tables.{IsFinished, IsFinishedValue, IsSlot, IsUnprimed
 use Rattle.nb_core.specs.History.{IsInRange, IsLegal, MayClaim, MayFinish, MayFollow, MayKill, MayPrime, counted_by, counts, is_empty_content, turned_by, turns}
 use Rattle.nb_core.specs.Laws.{CountedOnce, finished_among, is_dead, is_finished_value, over_seats, primed, times_turned, turns_slot}
 use Rattle.nb_core.proofs.Frames.{finished, key_after, key-first, key-frame, value_after, value-first, value-frame}
-use Rattle.nb_core.proofs.Passing.{below_suc, is_finished-true, is_finished_value-true}
 use Rattle.nb_core.proofs.Keeping.{sound}
 use Rattle.nb_core.proofs.Lasting.{put-unprimed, win-puts}
+use Rattle.nb_core.proofs.Passing.{below_suc, is_finished-true, is_finished_value-true}
 use Rattle.nb_core.proofs.Sound.{IsSound, empty-null, unprimed-not_final}
 use Rattle.nb_core.proofs.Words.{at_slot, word-first, word_after, word-frame}
 use Rattle.nb_core.specs.declared.events.Event.{Event}

@@ -6,9 +6,9 @@ use Rattle.nb_core.specs.Tables.{IsComplete, Tables, tables_at}
 use Rattle.nb_core.specs.History.{HasValue}
 use Rattle.nb_core.specs.Laws.{CompletePassed, HasOneSlot, InstalledAfter, Moved, OnePlace, PassedSettled, Room, SizeIsNet, TopComplete}
 use Rattle.nb_core.proofs.Keeping.{sound}
-use Rattle.nb_core.proofs.Net.{size_is_net_by}
 use Rattle.nb_core.proofs.Lasting.{complete-stays, content-some}
 use Rattle.nb_core.proofs.Later.{beginnings_are_legal, seen_lasts}
+use Rattle.nb_core.proofs.Net.{size_is_net_by}
 use Rattle.nb_core.proofs.Places.{place_from-same}
 use Rattle.nb_core.proofs.Room.{complete-passed, incomplete-room, passed-settled}
 use Rattle.nb_core.proofs.Shown.{win_number}

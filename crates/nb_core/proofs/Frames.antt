@@ -7,13 +7,13 @@ use Rattle.std.proofs.lemmas.Nat.{and_mask}
 use Rattle.std.proofs.lemmas.Nat.Bits.{and_pow, bit_at-suc, bit_at_lowest}
 use Rattle.std.specs.Int.Bits.{or_add_and}
 use Rattle.std.specs.Option.{unwrap_or}
-use Rattle.nb_core.proofs.Tables.{base_of-le}
-use Rattle.nb_core.proofs.Words.{at_slot, length-words_of, word-first, word_after, word-frame}
 use Rattle.nb_core.specs.Plans.{Plan, IsPlan, Header, Key, Value, generations_of, value_place}
 use Rattle.nb_core.specs.States.{IsValueState, key_state, key_word, value_state, value_word}
 use Rattle.nb_core.specs.Tables.{IsSlot, tables_at, words_of}
 use Rattle.nb_core.specs.History.{IsInRange, IsLegal}
 use Rattle.nb_core.specs.Laws.{primed}
+use Rattle.nb_core.proofs.Tables.{base_of-le}
+use Rattle.nb_core.proofs.Words.{at_slot, length-words_of, word-first, word_after, word-frame}
 use Rattle.nb_core.specs.declared.events.Event.{Event}
 use Rattle.nb_core.specs.declared.events.Event.TheVariants.{Claim, Kill, Won, CopyIn, Prime, Finish, Install}
 use Rattle.nb_core.specs.declared.states.KeyState.{KeyState}

@@ -3,8 +3,8 @@ use Rattle.std.proofs.Common.{◌≡◌, ◌∙◌, ℕ, ◌+◌, ◌-◌, ◌<�
 use Rattle.std.proofs.lemmas.Bool.{cases_order}
 use Rattle.nb_core.specs.Plans.{Plan, generations_of, size_of}
 use Rattle.nb_core.specs.Tables.{HasSlot, IsComplete, Tables}
-use Rattle.nb_core.specs.Laws.{Lasts}
 use Rattle.nb_core.specs.Meaning.{first_place, place_from, slot_among}
+use Rattle.nb_core.specs.Laws.{Lasts}
 use Rattle.nb_core.proofs.Slots.{Nowhere, Somewhere, slot_among-at, slot_among-is}
 use Rattle.nb_core.proofs.Sound.{HasNoSlot, IsSound, claimed-same, complete-below, dead-unclaimed, finished-not_empty}
 use Rattle.nb_core.specs.declared.states.KeyState.{KeyState}
