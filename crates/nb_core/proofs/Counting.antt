@@ -317,16 +317,16 @@ size-fits : (e n : ℕ) → e ≤ 19 → n ≤ 2 ^ e → n < 2 ^ 64
 size-fits e n small fits = let less : 2 ^ e < 2 ^ 64 = pow-lt {i = e} {j = 64} (omega arith) in omega arith
 
 -- adding to the done word doesn't wrap
-word-add :
+done-add :
     (here : Bool) (word c all limit : ℕ) → all ≡ cond here c 0 + word → all < limit
     → cond here ((word + c) % limit) word ≡ all
-word-add true word c all limit sum fits =
+done-add true word c all limit sum fits =
     let below : word + c < limit = omega arith in mod-eq_of_lt below ∙ omega arith
-word-add false word c all limit sum fits = omega arith
+done-add false word c all limit sum fits = omega arith
 
 -- an event that counts nothing leaves the sum
-word-none : (a : ℕ → ℕ) (n word : ℕ) → word ≡ over_seats a n → word ≡ over_seats (λ s. 0 + a s) n
-word-none a n word before = omega (arith, over_seats-plus (λ s. 0) a n, over_seats-zero n)
+done-none : (a : ℕ → ℕ) (n word : ℕ) → word ≡ over_seats a n → word ≡ over_seats (λ s. 0 + a s) n
+done-none a n word before = omega (arith, over_seats-plus (λ s. 0) a n, over_seats-zero n)
 
 -- where the done word is what the seats counted, it still is after an event
 word_after-counted :
@@ -339,8 +339,8 @@ word_after-counted p h (Count seat f c) g word range before fits =
     let sum : over_seats (λ s. mine s + counted_by h s g) p.seats ≡ cond (eqb f g) c 0 + word =
     over_seats-plus mine (λ s. counted_by h s g) p.seats
     ∙ (λ k. over_seats-of_seat seat p.seats c (eqb f g) range.0 k + sym before k) in
-    word-add (eqb f g) word c _ (2 ^ 64) sum fits
-word_after-counted p h _ g word range before fits = word-none (λ s. counted_by h s g) p.seats word before
+    done-add (eqb f g) word c _ (2 ^ 64) sum fits
+word_after-counted p h _ g word range before fits = done-none (λ s. counted_by h s g) p.seats word before
 
 -- the done word is what all seats counted
 counted-done :

@@ -60,12 +60,16 @@ from_suc P g here above f from =
       | inr (inr more) ↦ absurd (omega arith)
     ]
 
--- The number is the one in the key's newest value that isn't null: above it the key never got a number. Where the key
--- never got one at all, it is none.
+-- the slot has the key's newest value that isn't null: above it the key never got a number
+pub record IsNewestAt (p : Plan) (t : Tables) (k g i : ℕ) : Type 0 where
+  pub slot : IsSlot p g i
+  pub is : t.key g i ≡ Claimed k
+  pub content : HasContent (t.value g i)
+  pub none_above : HasNoneFrom p t k (suc g)
+
+-- The number is the one in the key's newest value. Where the key never got one at all, it is none.
 pub record IsNewest (p : Plan) (t : Tables) (k : ℕ) (number : Option ℕ) : Type 0 where
-  pub at :
-      (g i : ℕ) → IsSlot p g i → t.key g i ≡ Claimed k → HasContent (t.value g i) → HasNoneFrom p t k (suc g)
-      → number ≡ content_of (t.value g i)
+  pub at : (g i : ℕ) → IsNewestAt p t k g i → number ≡ content_of (t.value g i)
   pub never : HasNoneFrom p t k 0 → number ≡ None
 
 module _
@@ -88,22 +92,22 @@ module _
       let installed = (s.claimed f j k j_slot j_is).installed in
       unprimed-not_final (t.value g i) unprimed (finished-value t g i k (complete-below p t s f g above installed i slot.1) is))
 
-  -- a value above which the key never got a number has the newest one
-  IsNewest-at : HasContent (t.value g i) → HasNoneFrom p t k (suc g) → IsNewest p t k (content_of (t.value g i))
-  IsNewest-at content none = record {
-    at = λ f j j_slot j_is j_content j_none.
-        elim (cases_order f g) [
-          | inl same ↦ in_table f same j j_slot j_is
-          | inr (inl less) ↦ absurd (j_none g less i slot is content)
-          | inr (inr more) ↦ absurd (none f more j j_slot j_is j_content)
-        ];
-    never = λ nowhere. absurd (nowhere g (omega arith) i slot is content);
-  }
-    where
-      in_table : (f : ℕ) → f ≡ g → (j : ℕ) → IsSlot p f j → t.key f j ≡ Claimed k → content_of (t.value g i) ≡ content_of (t.value f j)
-      in_table f same =
-          subst (λ f. (j : ℕ) → IsSlot p f j → t.key f j ≡ Claimed k → content_of (t.value g i) ≡ content_of (t.value f j)) (sym same)
-          (λ j j_slot j_is. ap (λ j. content_of (t.value g j)) (one_slot p t s g i j k slot j_slot is j_is))
+-- the newest value has the newest number
+IsNewest-at : (p : Plan) (t : Tables) → IsSound p t → (k g i : ℕ) → IsNewestAt p t k g i → IsNewest p t k (content_of (t.value g i))
+IsNewest-at p t s k g i here = record {
+  at = λ f j there.
+      elim (cases_order f g) [
+        | inl same ↦ in_table f same j there.slot there.is
+        | inr (inl less) ↦ absurd (there.none_above g less i here.slot here.is here.content)
+        | inr (inr more) ↦ absurd (here.none_above f more j there.slot there.is there.content)
+      ];
+  never = λ nowhere. absurd (nowhere g (omega arith) i here.slot here.is here.content);
+}
+  where
+    in_table : (f : ℕ) → f ≡ g → (j : ℕ) → IsSlot p f j → t.key f j ≡ Claimed k → content_of (t.value g i) ≡ content_of (t.value f j)
+    in_table f same =
+        subst (λ f. (j : ℕ) → IsSlot p f j → t.key f j ≡ Claimed k → content_of (t.value g i) ≡ content_of (t.value f j)) (sym same)
+        (λ j j_slot j_is. ap (λ j. content_of (t.value g j)) (one_slot p t s g i j k here.slot j_slot here.is j_is))
 
 -- ---- a step without an exchange on the key
 
@@ -140,19 +144,24 @@ module _
       → IsPrimedBelow p t g k n → HasNoneFrom p t k (suc g) → number ≡ Some n
   copied-newest number newest zero i n slot is null below none = absurd below
   copied-newest number newest (suc g) i n slot is null below none =
-      newest.at g below.0 (omega arith, below.1) below.2 (subst HasContent (sym below.3) tt)
-      (HasNoneFrom-slot p t s k (suc g) i slot is (λ content. subst HasContent null content) none)
-      ∙ ap content_of below.3
+      newest.at g below.0 (record {
+        slot = (omega arith, below.1);
+        is = below.2;
+        content = subst HasContent (sym below.3) tt;
+        none_above = HasNoneFrom-slot p t s k (suc g) i slot is (λ content. subst HasContent null content) none;
+      }) ∙ ap content_of below.3
 
   -- what is newest stays so
   IsNewest-quiet : (number : Option ℕ) → IsNewest p t k number → IsNewest p u k number
   IsNewest-quiet number newest = record {
-    at = λ g i slot is content none.
-        let was = claimed-before g i slot is content in
-        let none_was = none-before (suc g) none in
-        elim (quiet g i slot was) [
-          | Stays same ↦ newest.at g i slot was (same.back content) none_was ∙ sym same.number
-          | CopiesUp n below null e ↦ copied-newest number newest g i n slot was null below none_was ∙ sym (ap content_of e)
+    at = λ g i here.
+        let was = claimed-before g i here.slot here.is here.content in
+        let none = none-before (suc g) here.none_above in
+        elim (quiet g i here.slot was) [
+          | Stays same ↦
+              newest.at g i (record { slot = here.slot; is = was; content = same.back here.content; none_above = none })
+              ∙ sym same.number
+          | CopiesUp n below null e ↦ copied-newest number newest g i n here.slot was null below none ∙ sym (ap content_of e)
         ];
     never = λ none. newest.never (none-before 0 none);
   }
@@ -217,13 +226,17 @@ IsNewest-won p t u s step k g i a b c before slot may e of_call =
     let same : may.key ≡ k = sym (win-key may) ∙ sym of_call in
     let is : u.key g i ≡ Claimed k = key-claimed (step.key g i slot) (may.claimed ∙ ap Claimed same) in
     subst (IsNewest p u k) (ap content_of e ∙ sym (put-number before puts))
-    (IsNewest-at p u s k g i slot is (subst HasContent (sym e) (put-content puts))
-    (HasNoneFrom-unprimed p u s k g i slot is (subst IsUnprimed (sym e) (put-unprimed puts))))
+    (IsNewest-at p u s k g i (record {
+      slot = slot;
+      is = is;
+      content = subst HasContent (sym e) (put-content puts);
+      none_above = HasNoneFrom-unprimed p u s k g i slot is (subst IsUnprimed (sym e) (put-unprimed puts));
+    }))
 
 -- before any event
 IsNewest-first : (p : Plan) (t : Tables) → ((g i : ℕ) → IsSlot p g i → t.key g i ≡ Empty) → (k : ℕ) → IsNewest p t k None
 IsNewest-first p t empty k = record {
-  at = λ g i slot is content none. absurd (empty-unclaimed (empty g i slot) k is);
+  at = λ g i here. absurd (empty-unclaimed (empty g i here.slot) k here.is);
   never = λ none. refl;
 }
 

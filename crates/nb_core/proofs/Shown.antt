@@ -1,6 +1,6 @@
 -- What the tables show of a key is what the map has.
 use Rattle.std.proofs.Common.{◌≡◌, ◌≢◌, ◌∙◌, ℕ, ◌+◌, ◌-◌, ◌<◌, ◌≤◌, ◌⊎◌, zero, suc, ap, sym, refl, subst, inl, inr, Bool, true, false, Option, Some, None, arith}
-use Rattle.std.proofs.lemmas.Bool.{cases_order, cond_both, eq-eqb}
+use Rattle.std.proofs.lemmas.Bool.{cases_lt, cases_order, cond_both, eq-eqb}
 use Rattle.nb_core.specs.Plans.{Plan, IsPlan, generations_of, size_of}
 use Rattle.nb_core.specs.Tables.{AreOthers, HasSlot, IsComplete, IsFinishedValue, IsInstalled, IsSettledBelow, IsSlot, IsUnprimed, Tables, path_slot, tables_at}
 use Rattle.nb_core.specs.History.{MayWin, content_of, key_of_call}
@@ -8,7 +8,7 @@ use Rattle.nb_core.specs.Meaning.{is_blank, is_installed, shown_by, shown_from, 
 use Rattle.nb_core.specs.Laws.{AtEmpty, AtValue, CrowdedAbsent, Decided, HasContent, InLast, IsPassed, NoNext, Shows, TablesStand, WinNumber}
 use Rattle.nb_core.proofs.Keeping.{sound}
 use Rattle.nb_core.proofs.Lasting.{win-key}
-use Rattle.nb_core.proofs.Newest.{HasNoneFrom, HasNoneFrom-slot, HasNoneFrom-unprimed, HasNoneIn, IsNewest, from_suc, newest}
+use Rattle.nb_core.proofs.Newest.{HasNoneFrom, HasNoneFrom-slot, HasNoneFrom-unprimed, HasNoneIn, IsNewest, IsNewestAt, from_suc, newest}
 use Rattle.nb_core.proofs.Passing.{below_suc}
 use Rattle.nb_core.proofs.Replies.{number_at_map}
 use Rattle.nb_core.proofs.Room.{crowded-complete_below, passed-settled}
@@ -81,7 +81,7 @@ is_blank-content _ content = refl
 -- where the newest value of a key is, that isn't null
 data NewestPlace (p : Plan) (t : Tables) (k : ℕ) : Type 0 where
   Never : HasNoneFrom p t k 0 → NewestPlace p t k
-  There : (g i : ℕ) → IsSlot p g i → t.key g i ≡ Claimed k → HasContent (t.value g i) → HasNoneFrom p t k (suc g) → NewestPlace p t k
+  There : (g i : ℕ) → IsNewestAt p t k g i → NewestPlace p t k
 
 -- the key's values below the table are final
 abbrev AreFinalBelow : Plan → Tables → ℕ → ℕ → Type 0
@@ -110,7 +110,7 @@ module _ (p : Plan) (t : Tables) (plan : IsPlan p) (s : IsSound p t) (k : ℕ) w
         | inl has ↦
             let slot : IsSlot p g has.slot = (omega arith, has.in_table) in
             elim (content_or_none (t.value g has.slot)) [
-              | inl content ↦ There g has.slot slot has.is content none
+              | inl content ↦ There g has.slot (record { slot = slot; is = has.is; content = content; none_above = none })
               | inr without ↦ newest_place-below g (omega arith) (HasNoneFrom-slot p t s k g has.slot slot has.is without none)
             ]
       ]
@@ -120,9 +120,10 @@ module _ (p : Plan) (t : Tables) (plan : IsPlan p) (s : IsSound p t) (k : ℕ) w
   newest_place = newest_place-below (generations_of p) (omega arith) (HasNoneFrom-past (generations_of p) (omega arith))
 
   -- the newest value is no finished number, which would stand in the next table too
-  newest-not_moved : (g i n : ℕ) → IsSlot p g i → t.key g i ≡ Claimed k → HasNoneFrom p t k (suc g) → t.value g i ≢ Finished n
-  newest-not_moved g i n slot is none e =
-      let got = s.moved g i k n slot is e in none (suc g) (omega arith) got.slot got.is_slot got.is got.content
+  newest-not_moved : (g i n : ℕ) → IsNewestAt p t k g i → t.value g i ≢ Finished n
+  newest-not_moved g i n here e =
+      let got = s.moved g i k n here.slot here.is e in
+      here.none_above (suc g) (omega arith) got.slot got.is_slot got.is got.content
 
   -- tables up to an installed one are installed
   installed-below : (f g : ℕ) → g < suc f → IsInstalled t f → IsInstalled t g
@@ -187,20 +188,18 @@ module _ (p : Plan) (t : Tables) (plan : IsPlan p) (s : IsSound p t) (k : ℕ) w
   uncopied-not_complete g i n slot is primed complete = subst IsFinishedValue primed (finished-value t g i k (complete i slot.1) is)
 
   -- of the newest value:
-  module _
-      (g i : ℕ) (slot : IsSlot p g i) (is : t.key g i ≡ Claimed k) (content : HasContent (t.value g i))
-      (none : HasNoneFrom p t k (suc g)) where
+  module _ (g i : ℕ) (here : IsNewestAt p t k g i) where
     -- where it is a number still to copy, the key has no slot in the next table, or a null value
     is_blank-above : (n : ℕ) → t.value g i ≡ Primed n → is_blank (value_in p t (suc g) k) ≡ true
     is_blank-above n primed =
         elim (look p t (suc g) k) [
           | Away away e ↦ rw e refl
           | Here j within j_is e ↦
-              let next = primed-growing p t s g i slot (λ unprimed. subst IsUnprimed primed unprimed) in
+              let next = primed-growing p t s g i here.slot (λ unprimed. subst IsUnprimed primed unprimed) in
               let j_slot : IsSlot p (suc g) j = (next-within p t s g next, within) in
-              rw e (is_blank-without (t.value (suc g) j) (none (suc g) (omega arith) j j_slot j_is) (λ final.
+              rw e (is_blank-without (t.value (suc g) j) (here.none_above (suc g) (omega arith) j j_slot j_is) (λ final.
               let above = primed-growing p t s (suc g) j j_slot (λ unprimed. subst IsUnprimed final unprimed) in
-              uncopied-not_complete g i n slot is primed (s.ready g above).1))
+              uncopied-not_complete g i n here.slot here.is primed (s.ready g above).1))
         ]
 
     -- below it a number that was primed has been copied
@@ -209,9 +208,9 @@ module _ (p : Plan) (t : Tables) (plan : IsPlan p) (s : IsSound p t) (k : ℕ) w
         → is_blank (value_in p t (suc f) k) ≡ false
     is_blank-copied f j n below j_slot j_is primed =
         elim (cases_order (suc f) g) [
-          | inl same ↦ rw (same, value_in-some p t s g i k slot is) (is_blank-content (t.value g i) content)
+          | inl same ↦ rw (same, value_in-some p t s g i k here.slot here.is) (is_blank-content (t.value g i) here.content)
           | inr (inl less) ↦
-              let complete = complete-below p t s g f less (s.claimed g i k slot is).installed in
+              let complete = complete-below p t s g f less (s.claimed g i k here.slot here.is).installed in
               absurd (uncopied-not_complete f j n j_slot j_is primed complete)
           | inr (inr more) ↦ absurd (omega arith)
         ]
@@ -219,13 +218,13 @@ module _ (p : Plan) (t : Tables) (plan : IsPlan p) (s : IsSound p t) (k : ℕ) w
     -- its table shows its number,
     shown_from-newest : (tables : ℕ) → g + suc tables ≡ generations_of p → shown_from p t k g (suc tables) ≡ content_of (t.value g i)
     shown_from-newest tables whole =
-        let installed = is_installed-holds t g (s.claimed g i k slot is).installed in
-        rw (installed, value_in-some p t s g i k slot is, shown_from-none (suc g) tables (omega arith) none)
-        (shown_by-newest (t.value g i) _ is_blank-above (λ n. newest-not_moved g i n slot is none))
+        let installed = is_installed-holds t g (s.claimed g i k here.slot here.is).installed in
+        rw (installed, value_in-some p t s g i k here.slot here.is, shown_from-none (suc g) tables (omega arith) here.none_above)
+        (shown_by-newest (t.value g i) _ is_blank-above (λ n. newest-not_moved g i n here))
 
     -- and so do all tables below it
     shown_from-below : (f tables : ℕ) → f + tables ≡ generations_of p → f ≤ g → shown_from p t k f tables ≡ content_of (t.value g i)
-    shown_from-below f zero whole below = let within = slot.0 in absurd (omega arith)
+    shown_from-below f zero whole below = let within = here.slot.0 in absurd (omega arith)
     shown_from-below f (suc tables) whole below =
         elim (cases_order f g) [
           | inl same ↦
@@ -233,14 +232,14 @@ module _ (p : Plan) (t : Tables) (plan : IsPlan p) (s : IsSound p t) (k : ℕ) w
               (shown_from-newest tables (omega arith))
           | inr (inl less) ↦
               let rest = shown_from-below (suc f) tables (omega arith) (omega arith) in
-              let installed = installed-below g f (omega arith) (s.claimed g i k slot is).installed in
+              let installed = installed-below g f (omega arith) (s.claimed g i k here.slot here.is).installed in
               rw (is_installed-holds t f installed) (elim (look p t f k) [
                 | Away away e ↦ rw e rest
                 | Here j within j_is e ↦
-                    let within_tables = slot.0 in
+                    let within_tables = here.slot.0 in
                     let j_slot : IsSlot p f j = (omega arith, within) in
                     rw e (shown_by-primed (t.value f j) _ _
-                    (λ unprimed. HasNoneFrom-unprimed p t s k f j j_slot j_is unprimed g less i slot is content)
+                    (λ unprimed. HasNoneFrom-unprimed p t s k f j j_slot j_is unprimed g less i here.slot here.is here.content)
                     (λ n primed. is_blank-copied f j n less j_slot j_is primed)
                     ∙ rest)
               ])
@@ -255,9 +254,7 @@ module _ (p : Plan) (t : Tables) (plan : IsPlan p) (s : IsSound p t) (k : ℕ) w
     shown_from-number =
         elim newest_place [
           | Never none ↦ shown_from-none 0 (generations_of p) (omega arith) none ∙ sym (is_newest.never none)
-          | There g i slot is content none ↦
-              shown_from-below g i slot is content none 0 (generations_of p) (omega arith) (omega arith)
-              ∙ sym (is_newest.at g i slot is content none)
+          | There g i here ↦ shown_from-below g i here 0 (generations_of p) (omega arith) (omega arith) ∙ sym (is_newest.at g i here)
         ]
 
     -- where the key's values below a table are final, and the key never got a number there or above, it has none
@@ -265,13 +262,12 @@ module _ (p : Plan) (t : Tables) (plan : IsPlan p) (s : IsSound p t) (k : ℕ) w
     number-none g final none =
         elim newest_place [
           | Never never ↦ is_newest.never never
-          | There f i slot is content above ↦
-              elim (cases_order f g) [
-                | inl same ↦ absurd (none f (omega arith) i slot is content)
-                | inr (inl less) ↦
-                    is_newest.at f i slot is content above
-                    ∙ content_of-final (t.value f i) (final f less i slot is) (λ n. newest-not_moved f i n slot is above)
-                | inr (inr more) ↦ absurd (none f (omega arith) i slot is content)
+          | There f i here ↦
+              elim (cases_lt f g) [
+                | inl less ↦
+                    is_newest.at f i here
+                    ∙ content_of-final (t.value f i) (final f less i here.slot here.is) (λ n. newest-not_moved f i n here)
+                | inr more ↦ absurd (none f more i here.slot here.is here.content)
               ]
         ]
 
@@ -282,7 +278,7 @@ module _ (p : Plan) (t : Tables) (plan : IsPlan p) (s : IsSound p t) (k : ℕ) w
     number-unprimed g i final slot is unprimed =
         let above = HasNoneFrom-unprimed p t s k g i slot is unprimed in
         elim (content_or_none (t.value g i)) [
-          | inl content ↦ is_newest.at g i slot is content above
+          | inl content ↦ is_newest.at g i (record { slot = slot; is = is; content = content; none_above = above })
           | inr without ↦
               number-none g final (HasNoneFrom-slot p t s k g i slot is without above)
               ∙ sym (content_of-without (t.value g i) without)
