@@ -172,11 +172,12 @@ module _ (p : Plan) (t u : Tables) (plan : IsPlan p) (s : IsSound p t) (step : S
         | Finishes may e ↦ inr (stays (primed-growing p t s g i slot (λ unprimed. subst IsUnprimed may.primed unprimed)))
       ]
 
-  -- where a key came from
+  -- the key still has a slot, or the table is still complete
   below-stays : (g k : ℕ) → g < generations_of p → HasSlot p t g k ⊎ IsComplete p t g → HasSlot p u g k ⊎ IsComplete p u g
   below-stays g k within (inl has) = inl (slot-stays p t u step g k within has)
   below-stays g k within (inr complete) = inr (complete-stays p t u step g within complete)
 
+  -- a key gets into the next table from this one, or once this one is complete
   keeps-below : (g k : ℕ) → suc g < generations_of p → HasSlot p u (suc g) k → HasSlot p u g k ⊎ IsComplete p u g
   keeps-below g k within has =
       elim (key-was (step.key (suc g) has.slot (within, has.in_table)) has.is) [

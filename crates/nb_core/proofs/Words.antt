@@ -34,11 +34,11 @@ same_word (Key g i) (Key f j) = eqb g f && eqb i j
 same_word (Value g i) (Value f j) = eqb g f && eqb i j
 same_word _ _ = false
 
--- two tests of equal numbers
+-- two tests that pass
 both_same : (a b c d : ℕ) → (eqb a b && eqb c d) ≡ true → (a ≡ b) × (c ≡ d)
 both_same a b c d e = let s = both (eqb a b) (eqb c d) e in (eqb-true a b s.0, eqb-true c d s.1)
 
--- a test of equal numbers passes where they are the same
+-- both tests pass of the same numbers
 pub same_both : (a b : ℕ) → (eqb a a && eqb b b) ≡ true
 same_both a b = ap (λ x. x && eqb b b) (eq-eqb a a refl) ∙ eq-eqb b b refl
 
@@ -57,7 +57,8 @@ same_word-refl (Header g h) = same_both h g
 same_word-refl (Key g i) = same_both g i
 same_word-refl (Value g i) = same_both g i
 
--- What holds at the event's own slot, j of table f, and holds of another slot as such, holds at each slot.
+-- What holds of slot j of table f as the event's own, and of slot i of table g as another one, holds of the latter by the test
+-- whether it is the event's own.
 pub at_slot : (P : ℕ → ℕ → Bool → Type 0) (f j g i : ℕ) → P f j true → P g i false → P g i (eqb f g && eqb j i)
 at_slot P f j g i here elsewhere =
     elim (eqb f g && eqb j i) as (λ t. (eqb f g && eqb j i) ≡ t → P g i t) [
@@ -105,7 +106,7 @@ word_after p (Promote s g) a x = cond (same_word Top a) (max x (suc g)) x
 word_after p (Read s c r) a x = x
 
 module _ (p : Plan) (plan : IsPlan p) (h : List Event) (a : Word) (a_word : IsWord p a) where
-  -- a word among those of a history, after a change of another one or of itself
+  -- a word of a history after a change of a word
   word-frame_at :
       (b : Word) → IsWord p b → (f : ℕ → ℕ) → let x = slice_index (words_of p h) (place_of_word p a) in
       slice_index (changed_at (words_of p h) (place_of_word p b) f) (place_of_word p a) ≡ cond (same_word b a) (f x) x
