@@ -85,13 +85,13 @@ with_last n f x i (inr above) = x
 
 -- n different numbers below m that leave out another one below m are fewer than m
 module _ (n m : ℕ) (f : (i : ℕ) → i < n → ℕ) (x : ℕ) (within : (i : ℕ) (h : i < n) → f i h < m) (x_within : x < m) where
-  -- the numbers with the last one are below m,
+  -- with the other one as the last they are below m,
   last-within : (i : ℕ) (c : (i < n) ⊎ (n ≤ i)) → with_last n f x i c < m
   last-within i (inl below) = within i below
   last-within i (inr above) = x_within
 
   module _ (left_out : (i : ℕ) (h : i < n) → f i h ≢ x) (one : (i j : ℕ) (h : i < n) (l : j < n) → f i h ≡ f j l → i ≡ j) where
-    -- and different,
+    -- and still different,
     last-apart :
         (i j : ℕ) (c : (i < n) ⊎ (n ≤ i)) (d : (j < n) ⊎ (n ≤ j)) → i < j → j < suc n → with_last n f x i c ≢ with_last n f x j d
     last-apart i j (inl h) (inl l) less _ e = let same = one i j h l e in omega arith
@@ -99,7 +99,7 @@ module _ (n m : ℕ) (f : (i : ℕ) → i < n → ℕ) (x : ℕ) (within : (i : 
     last-apart i j (inr h) (inl l) less _ e = omega arith
     last-apart i j (inr h) (inr l) less below e = omega arith
 
-    -- so that they are m at most
+    -- so that they are fewer than m without it
     fewer : n < m
     fewer =
         pigeonhole (suc n) m (λ i. with_last n f x i (cases_lt i n))
