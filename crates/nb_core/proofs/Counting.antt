@@ -459,5 +459,6 @@ counted_once p plan h legal g within =
       own = λ s. counted_own p h legal s g;
       done = done;
       within = less;
+      fits = omega (arith, done, counted_fits p h plan legal g within);
       whole = λ all. all_finished t g (size_of p g) (omega arith);
     }

@@ -4,7 +4,7 @@ use Rattle.nb_core.specs.Calls.{changed}
 use Rattle.nb_core.specs.Plans.{Plan, IsPlan, generations_of}
 use Rattle.nb_core.specs.Tables.{AreOthers, HasSlot, IsComplete, IsFinished, IsFinishedValue, IsInstalled, IsOther, IsSlot, IsUnprimed, Tables, path_slot}
 use Rattle.nb_core.specs.History.{IsExchange, MayClaim, content_of}
-use Rattle.nb_core.specs.Laws.{HasContent, IsFrozen, primed}
+use Rattle.nb_core.specs.Laws.{HasContent, IsPrimedOrFinished, primed}
 use Rattle.nb_core.proofs.Sound.{claimed-same, path_slot-is_slot, unprimed-not_final}
 use Rattle.nb_core.proofs.Steps.{KeyStep, KeyKept, Claims, Kills, NextStep, NextKept, Installs, Step, ValueStep, ValueKept, Wins, Copies, Primes, Finishes}
 use Rattle.nb_core.specs.declared.numbers.TheConstants.{KEY_MAX}
@@ -87,7 +87,7 @@ value-final p t g i to step final =
     ]
 
 -- a number that is primed stays, primed or finished
-pub value-frozen : (p : Plan) (t : Tables) (g i n : ℕ) (to : ValueState) → ValueStep p t g i to → IsFrozen t g i n → (to ≡ Primed n) ⊎ (to ≡ Finished n)
+pub value-frozen : (p : Plan) (t : Tables) (g i n : ℕ) (to : ValueState) → ValueStep p t g i to → IsPrimedOrFinished t g i n → (to ≡ Primed n) ⊎ (to ≡ Finished n)
 value-frozen p t g i n to step (inl primed) =
     elim (value-primed p t g i to step (λ unprimed. subst IsUnprimed primed unprimed)) [
       | inl e ↦ inl (e ∙ primed)

@@ -14,7 +14,7 @@ use Rattle.nb_core.proofs.Later.{dead-null}
 use Rattle.nb_core.proofs.Passing.{is_finished-true}
 use Rattle.nb_core.proofs.Sound.{IsSound, empty-null, finished-growing}
 use Rattle.nb_core.proofs.Steps.{at_slot}
-use Rattle.nb_core.proofs.Words.{length-words_of, length-word_step, one_word, word-first, word-set}
+use Rattle.nb_core.proofs.Words.{length-words_of, one_word, word-first, word-set}
 use Rattle.nb_core.specs.declared.calls.Call.{Call}
 use Rattle.nb_core.specs.declared.calls.Call.TheVariants as call
 use Rattle.nb_core.specs.declared.events.Event.{Event}
@@ -95,11 +95,12 @@ pub lawful_words : LawfulWords
 lawful_words p plan h legal =
     let s = sound p h plan legal in
     record {
+      length = length-words_of p h;
       keys = λ g i slot. key-lawful p (tables_at p h) s g i slot _ refl;
       values = λ g i slot. let w = value_words p h plan legal g i slot in record { state = (tables_at p h).value g i; decodes = ap value_state w.is ∙ value_state-word _ w.in_range };
-      empty = λ g i slot is. empty-null p (tables_at p h) s g i slot is;
-      dead = λ g i slot is. dead-null p (tables_at p h) s g i slot is;
-      last = last-headers p h plan legal;
+      empty_is_null = λ g i slot is. empty-null p (tables_at p h) s g i slot is;
+      dead_is_null = λ g i slot is. dead-null p (tables_at p h) s g i slot is;
+      last_headers = last-headers p h plan legal;
     }
 
 -- ---- how words change
@@ -121,15 +122,15 @@ won-change : (c : Call) (k : ℕ) (a b : ValueState) → IsUnprimed a → IsExch
 won-change (call.Get key) k a b unprimed e = absurd e
 won-change (call.Write key want change) k a b unprimed e = won-of (changed change (content_of a)) a b _ unprimed e.2
 
-key-change : (p : Plan) (e : Event) (h : List Event) → IsLegal p (e ∷ h) → (g i : ℕ) → let x = (tables_at p h).key g i in (key_after e g i x ≡ x) ⊎ IsKeyChange e x (key_after e g i x)
+key-change : (p : Plan) (e : Event) (h : List Event) → IsLegal p (e ∷ h) → (g i : ℕ) → let x = (tables_at p h).key g i in (key_after e g i x ≡ x) ⊎ IsKeyChange e g i x (key_after e g i x)
 key-change p (Claim s f j k) h legal g i =
     let x = (tables_at p h).key g i in
-    at_slot (λ y. (y ≡ x) ⊎ IsKeyChange (Claim s f j k) x y) f g j i (Claimed k) x
-    (λ same_table same_slot. inr (subst₂ (λ a b. (tables_at p h).key a b ≡ Empty) same_table same_slot legal.2.empty, refl)) (inl refl)
+    at_slot (λ y. (y ≡ x) ⊎ IsKeyChange (Claim s f j k) g i x y) f g j i (Claimed k) x
+    (λ same_table same_slot. inr (same_table, same_slot, subst₂ (λ a b. (tables_at p h).key a b ≡ Empty) same_table same_slot legal.2.empty, refl)) (inl refl)
 key-change p (Kill s f j) h legal g i =
     let x = (tables_at p h).key g i in
-    at_slot (λ y. (y ≡ x) ⊎ IsKeyChange (Kill s f j) x y) f g j i Dead x
-    (λ same_table same_slot. inr (subst₂ (λ a b. (tables_at p h).key a b ≡ Empty) same_table same_slot legal.2.empty, refl)) (inl refl)
+    at_slot (λ y. (y ≡ x) ⊎ IsKeyChange (Kill s f j) g i x y) f g j i Dead x
+    (λ same_table same_slot. inr (same_table, same_slot, subst₂ (λ a b. (tables_at p h).key a b ≡ Empty) same_table same_slot legal.2.empty, refl)) (inl refl)
 key-change p (Won s f j a b c r) h legal g i = inl refl
 key-change p (CopyIn s f j k n) h legal g i = inl refl
 key-change p (Prime s f j) h legal g i = inl refl
@@ -140,27 +141,27 @@ key-change p (Count s f c) h legal g i = inl refl
 key-change p (Promote s f) h legal g i = inl refl
 key-change p (Read s c r) h legal g i = inl refl
 
-value-change : (p : Plan) (e : Event) (h : List Event) → IsLegal p (e ∷ h) → (g i : ℕ) → let x = (tables_at p h).value g i in (value_after e g i x ≡ x) ⊎ IsValueChange e x (value_after e g i x)
+value-change : (p : Plan) (e : Event) (h : List Event) → IsLegal p (e ∷ h) → (g i : ℕ) → let x = (tables_at p h).value g i in (value_after e g i x ≡ x) ⊎ IsValueChange e g i x (value_after e g i x)
 value-change p (Claim s f j k) h legal g i = inl refl
 value-change p (Kill s f j) h legal g i = inl refl
 value-change p (Won s f j a b c r) h legal g i =
     let x = (tables_at p h).value g i in
-    at_slot (λ y. (y ≡ x) ⊎ IsValueChange (Won s f j a b c r) x y) f g j i b x
-    (λ same_table same_slot. inr (subst₂ (λ u v. (tables_at p h).value u v ≡ a) same_table same_slot legal.2.stands, refl, won-change c legal.2.key a b legal.2.unprimed legal.2.exchange)) (inl refl)
+    at_slot (λ y. (y ≡ x) ⊎ IsValueChange (Won s f j a b c r) g i x y) f g j i b x
+    (λ same_table same_slot. inr (same_table, same_slot, subst₂ (λ u v. (tables_at p h).value u v ≡ a) same_table same_slot legal.2.stands, refl, won-change c legal.2.key a b legal.2.unprimed legal.2.exchange)) (inl refl)
 value-change p (CopyIn s f j k n) h legal g i =
     let x = (tables_at p h).value g i in
-    at_slot (λ y. (y ≡ x) ⊎ IsValueChange (CopyIn s f j k n) x y) f g j i (Live n) x
-    (λ same_table same_slot. inr (subst₂ (λ u v. (tables_at p h).value u v ≡ Null) same_table same_slot legal.2.null, refl)) (inl refl)
+    at_slot (λ y. (y ≡ x) ⊎ IsValueChange (CopyIn s f j k n) g i x y) f g j i (Live n) x
+    (λ same_table same_slot. inr (same_table, same_slot, subst₂ (λ u v. (tables_at p h).value u v ≡ Null) same_table same_slot legal.2.null, refl)) (inl refl)
 value-change p (Prime s f j) h legal g i =
     let x = (tables_at p h).value g i in
-    at_slot (λ y. (y ≡ x) ⊎ IsValueChange (Prime s f j) x y) f g j i (primed x) x
-    (λ same_table same_slot. inr (subst₂ (λ u v. IsUnprimed ((tables_at p h).value u v)) same_table same_slot legal.2.unprimed, refl)) (inl refl)
+    at_slot (λ y. (y ≡ x) ⊎ IsValueChange (Prime s f j) g i x y) f g j i (primed x) x
+    (λ same_table same_slot. inr (same_table, same_slot, subst₂ (λ u v. IsUnprimed ((tables_at p h).value u v)) same_table same_slot legal.2.unprimed, refl)) (inl refl)
 value-change p (Finish s f j) h legal g i =
     let x = (tables_at p h).value g i in
-    at_slot (λ y. (y ≡ x) ⊎ IsValueChange (Finish s f j) x y) f g j i (finished x) x
+    at_slot (λ y. (y ≡ x) ⊎ IsValueChange (Finish s f j) g i x y) f g j i (finished x) x
     (λ same_table same_slot.
     let was = subst₂ (λ u v. (tables_at p h).value u v ≡ Primed legal.2.number) same_table same_slot legal.2.primed in
-    inr (legal.2.number, was, ap finished was)) (inl refl)
+    inr (same_table, same_slot, (legal.2.number, was, ap finished was))) (inl refl)
 value-change p (Install s f k) h legal g i = inl refl
 value-change p (Take s f) h legal g i = inl refl
 value-change p (Count s f c) h legal g i = inl refl
@@ -169,8 +170,7 @@ value-change p (Read s c r) h legal g i = inl refl
 
 pub lawful_changes : LawfulChanges
 lawful_changes p plan e h legal = record {
-  length = length-word_step p e (words_of p h);
   one = one_word p e (words_of p h);
-  keys = λ g i slot. subst (λ y. (y ≡ (tables_at p h).key g i) ⊎ IsKeyChange e ((tables_at p h).key g i) y) (sym (key_frame p e h plan legal.1 g i slot)) (key-change p e h legal g i);
-  values = λ g i slot. subst (λ y. (y ≡ (tables_at p h).value g i) ⊎ IsValueChange e ((tables_at p h).value g i) y) (sym (value_frame p e h plan legal g i slot)) (value-change p e h legal g i);
+  keys = λ g i slot. subst (λ y. (y ≡ (tables_at p h).key g i) ⊎ IsKeyChange e g i ((tables_at p h).key g i) y) (sym (key_frame p e h plan legal.1 g i slot)) (key-change p e h legal g i);
+  values = λ g i slot. subst (λ y. (y ≡ (tables_at p h).value g i) ⊎ IsValueChange e g i ((tables_at p h).value g i) y) (sym (value_frame p e h plan legal g i slot)) (value-change p e h legal g i);
 }

@@ -10,6 +10,7 @@ mod Lasting
 mod Later
 mod Lawful
 mod Legality
+mod Linked
 mod Net
 mod Newest
 mod Passing

@@ -6,9 +6,13 @@ ghost use Rattle.std.specs.Prelude.{◌≡◌, List, [], ◌∷◌, Some, None, 
 ghost use Rattle.nb_core.specs.Plans.{base_of, key_place, limit_of, value_place, word_count};
 ghost use Rattle.nb_core.specs.States.{key_word, value_state, value_word};
 ghost use Rattle.nb_core.specs.Tables.{chunk_of};
-ghost use Rattle.nb_core.specs.Histories.{HasNumbers, headers_at, plan, slots_at, top_at, grows_when_a_path_is_crowded, a_removal_is_not_copied, copy_of_one_slot, stopped_copier, three_helpers, contended_once, contended_once_with_two_tries, filled_removed_refilled, plan_of_three, same_size_successor, add_contended_once, adds};
+ghost use Rattle.nb_core.specs.Histories.{HasNumbers, headers_at, plan, slots_at, top_at, grows_when_a_path_is_crowded, a_removal_is_not_copied, copy_of_one_slot, stopped_copier, three_helpers, contended_once, contended_once_with_two_tries, filled_removed_refilled, plan_of_three, same_size_successor, add_contended_once, adds, full_in_the_middle, half_copied};
+ghost use Rattle.nb_core.specs.Laws.{finished_among, net_of_seats};
+ghost use Rattle.nb_core.specs.Plans.{IsPlan};
+ghost use Rattle.nb_core.specs.Tables.{tables_at};
+ghost use Rattle.std.specs.Prelude.{pos};
 ghost use Rattle.nb_core.specs.History.{IsLegal};
-ghost use Rattle.nb_core.specs.Meaning.{IsCrowded};
+ghost use Rattle.nb_core.specs.Meaning.{IsCrowded, place_of};
 ghost use Rattle.nb_core.specs.declared.numbers.TheConstants.{KEY_MAX, VALUE_MAX};
 ghost use Rattle.nb_core.specs.declared.states.KeyState.TheVariants.{Claimed, Dead, Empty};
 ghost use Rattle.nb_core.specs.declared.states.ValueState.TheVariants.{Null, Tombstone, Live, PrimedNull, PrimedTombstone, Primed, Finished};
@@ -190,4 +194,27 @@ pub fn limits_and_chunks()
     ensures limits { map (limit_of (plan (2 ∷ 3 ∷ 4 ∷ 5 ∷ 5 ∷ []) 1 1)) (0 ∷ 1 ∷ 2 ∷ 3 ∷ 4 ∷ []) ≡ 3 ∷ 4 ∷ 6 ∷ 10 ∷ 32 ∷ [] }
     ensures last { map (λ bits. limit_of (plan (bits ∷ []) 1 1) 0) (2 ∷ 3 ∷ 4 ∷ 5 ∷ []) ≡ 4 ∷ 8 ∷ 16 ∷ 32 ∷ [] }
     ensures chunks { map (chunk_of (plan (2 ∷ 3 ∷ 4 ∷ 5 ∷ []) 1 1)) (0 ∷ 1 ∷ 2 ∷ 3 ∷ []) ≡ 4 ∷ 8 ∷ 8 ∷ 8 ∷ [] }
+{}
+
+/// Tried.
+pub fn full_in_the_middle()
+    ensures legal { IsLegal full_in_the_middle.plan full_in_the_middle.events }
+    ensures slots_of_1 { slots_at full_in_the_middle 1 ≡ (0, Claimed 0, Null) ∷ (1, Claimed 1, Null) ∷ (2, Claimed 2, Null) ∷ (3, Claimed 3, Null) ∷ [] }
+    ensures headers_of_1 { headers_at full_in_the_middle 1 ≡ (0, 0, 0) }
+    ensures finished { finished_among (tables_at full_in_the_middle.plan full_in_the_middle.events) 0 4 ≡ 4 }
+{}
+
+/// Tried.
+pub fn half_copied()
+    ensures legal { IsLegal half_copied.plan half_copied.events }
+    ensures slots_of_1 { slots_at half_copied 1 ≡ (0, Claimed 0, Live 10) ∷ [] }
+    ensures finished { finished_among (tables_at half_copied.plan half_copied.events) 0 4 ≡ 1 }
+{}
+
+/// Tried.
+pub fn places_of_keys()
+    ensures first { place_of stopped_copier.plan stopped_copier.events 0 16 ≡ Some (1, 2) }
+    ensures later { place_of stopped_copier.plan stopped_copier.events 2 16 ≡ Some (2, 0) }
+    ensures none { place_of stopped_copier.plan stopped_copier.events 0 5 ≡ None }
+    ensures net { net_of_seats stopped_copier.events 2 ≡ pos 5 }
 {}

@@ -1,7 +1,7 @@
 //! The laws of every shape and of every legal history, which say what holds at each moment, whatever atomic steps were made
 //! by whom. Each function carries a law as its contract and does nothing when it runs: a call of it hands the law to the
 //! proof of its caller.
-ghost use Rattle.nb_core.specs.Laws.{BeginningsAreLegal, CompletePassed, ContentOnce, CountedOnce, CrowdedAbsent, Decided, HasOneSlot, InstalledAfter, LawfulChanges, LawfulWords, Moved, OnePlace, PassedSettled, Room, SeenLasts, SizeIsNet, SlotsStay, TablesStand, TopComplete, WinNumber};
+ghost use Rattle.nb_core.specs.Laws.{BeginningsAreLegal, ClaimedOnPath, CompletePassed, ContentOnce, CountedOnce, CrowdedAbsent, Decided, HasOneSlot, InstalledAfter, LawfulChanges, LawfulWords, Moved, OnePlace, PassedAbove, PassedSettled, Room, SeenLasts, SizeIsNet, SlotsStay, TablesAreLinked, TablesStand, TopComplete, WholeCrowded, WinNumber};
 ghost use Rattle.nb_core.specs.Plans.{LimitsFit, PlacesAreDistinct, SizesNeverFall};
 
 /// No two words of a chain lie in one place, and each lies in the chain.
@@ -119,4 +119,24 @@ pub fn win_number()
 /// All tables below the top word are complete.
 pub fn top_complete()
     ensures { TopComplete }
+{}
+
+/// Tables are there one after another; keys, closed slots and primed values are only where there is a table, or a next one.
+pub fn linked()
+    ensures { TablesAreLinked }
+{}
+
+/// A key's slot lies on its path, behind slots of other keys.
+pub fn on_path()
+    ensures { ClaimedOnPath }
+{}
+
+/// Where other keys have a key's whole path in the last table, they have all of its slots.
+pub fn whole_crowded()
+    ensures { WholeCrowded }
+{}
+
+/// Where a key with a slot in a table is passed in the next one, the table is complete.
+pub fn passed_above()
+    ensures { PassedAbove }
 {}
