@@ -6,6 +6,7 @@ mod Following
 mod Frames
 mod Keeping
 mod Kept
+mod Keys
 mod Lasting
 mod Later
 mod Lawful
@@ -13,10 +14,12 @@ mod Legality
 mod Linked
 mod Net
 mod Newest
+mod Others
 mod Passing
 mod Places
 mod Refused
 mod Replies
+mod Replying
 mod Rising
 mod Room
 mod Shown

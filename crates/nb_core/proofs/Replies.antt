@@ -71,7 +71,7 @@ same_number-true (Some n) None e = cc
 same_number-true (Some n) (Some m) e = ap Some (eqb-true n m e)
 
 -- to set a key to what stands there changes nothing
-with_at-same : (m : Numbers) (k : ℕ) (o : Option ℕ) → get m k ≡ o → with_at m k o ≡ m
+pub with_at-same : (m : Numbers) (k : ℕ) (o : Option ℕ) → get m k ≡ o → with_at m k o ≡ m
 with_at-same m k None e = same_map nat_cmp_total nat_cmp-IsAntisymmetric _ _ (λ q. get-remove nat_cmp_total m k q ∙ ap (λ t. cond t None (get m q)) (same_key q k) ∙ unchanged m k q None e)
 with_at-same m k (Some n) e = same_map nat_cmp_total nat_cmp-IsAntisymmetric _ _ (λ q. get-insert nat_cmp_total m k n q ∙ ap (λ t. cond t (Some n) (get m q)) (same_key q k) ∙ unchanged m k q (Some n) e)
 

@@ -1,7 +1,7 @@
 //! The laws of every shape and of every legal history, which say what holds at each moment, whatever atomic steps were made
 //! by whom. Each function carries a law as its contract and does nothing when it runs: a call of it hands the law to the
 //! proof of its caller.
-ghost use Rattle.nb_core.specs.Laws.{BeginningsAreLegal, ClaimedOnPath, CompletePassed, ContentOnce, CountedOnce, CrowdedAbsent, Decided, HasOneSlot, InstalledAfter, LawfulChanges, LawfulWords, Moved, OnePlace, PassedAbove, PassedSettled, Room, SeenLasts, SizeIsNet, SlotsStay, TablesAreLinked, TablesStand, TopComplete, WholeCrowded, WinNumber};
+ghost use Rattle.nb_core.specs.Laws.{BeginningsAreLegal, ClaimedOnPath, CompletePassed, ContentOnce, CountedOnce, CrowdedAbsent, Decided, FewKeys, HasOneSlot, InstalledAfter, LawfulChanges, LawfulWords, LostExchange, MapInRange, Moved, OnePlace, OwnLasts, PassedAbove, PassedOverAdds, PassedSettled, ReadReplies, Room, SeenLasts, SizeIsNet, SlotsStay, TablesAreLinked, TablesStand, TopComplete, WholeCrowded, WinNumber, WinReplies};
 ghost use Rattle.nb_core.specs.Plans.{LimitsFit, PlacesAreDistinct, SizesNeverFall};
 
 /// No two words of a chain lie in one place, and each lies in the chain.
@@ -139,4 +139,39 @@ pub fn whole_crowded()
 /// Where a key with a slot in a table is passed in the next one, the table is complete.
 pub fn passed_above()
     ensures { PassedAbove }
+{}
+
+/// A seat whose exchange another unprimed value kept from winning was passed over by an exchange of another seat.
+pub fn lost_exchange()
+    ensures { LostExchange }
+{}
+
+/// The exchanges of others since an earlier moment are those up to one in between, and those since then.
+pub fn passed_over_adds()
+    ensures { PassedOverAdds }
+{}
+
+/// Events of other seats leave a seat's calls, and what it counted and turned finished, as they are.
+pub fn own_lasts()
+    ensures { OwnLasts }
+{}
+
+/// A call that may win an exchange may reply the number that it replaces, and that its condition held.
+pub fn win_replies()
+    ensures { WinReplies }
+{}
+
+/// A call that leaves alone what the map has at its key may reply it.
+pub fn read_replies()
+    ensures { ReadReplies }
+{}
+
+/// The map has keys and numbers of their ranges alone.
+pub fn map_in_range()
+    ensures { MapInRange }
+{}
+
+/// The map has no more keys than there are.
+pub fn few_keys()
+    ensures { FewKeys }
 {}
