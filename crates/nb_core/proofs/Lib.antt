@@ -22,6 +22,7 @@ mod Replies
 mod Replying
 mod Rising
 mod Room
+mod Searches
 mod Shown
 mod Slots
 mod Sound

@@ -43,11 +43,11 @@ record IsPlaced (p : Plan) (t : Tables) (g k n f : ℕ) : Type 0 where
   has : HasSlot p t f k
 
 -- the first place of a key is in the first table where it has a slot
-place_from-found : (p : Plan) (t : Tables) (k g n i : ℕ) → slot_among t g k (size_of p g) ≡ Some i → place_from p t k g (suc n) ≡ Some (g, i)
+pub place_from-found : (p : Plan) (t : Tables) (k g n i : ℕ) → slot_among t g k (size_of p g) ≡ Some i → place_from p t k g (suc n) ≡ Some (g, i)
 place_from-found p t k g n i found = ap (λ o. first_place (option_map (λ j. (g, j)) o) (place_from p t k (suc g) n)) found
 
 -- it is not in a table where the key has none
-place_from-next : (p : Plan) (t : Tables) (k g n : ℕ) → slot_among t g k (size_of p g) ≡ None → place_from p t k g (suc n) ≡ place_from p t k (suc g) n
+pub place_from-next : (p : Plan) (t : Tables) (k g n : ℕ) → slot_among t g k (size_of p g) ≡ None → place_from p t k g (suc n) ≡ place_from p t k (suc g) n
 place_from-next p t k g n found = ap (λ o. first_place (option_map (λ j. (g, j)) o) (place_from p t k (suc g) n)) found
 
 -- a key has a slot in the table of its first place

@@ -80,7 +80,7 @@ not_moved p t s g i k n slot is none e =
     let got = s.moved g i k n slot is e in none (suc g) (omega arith) got.slot got.is_slot got.is got.content
 
 -- where the key's values below a table are final, and the key never got a number there or above, it has none
-none_left : (p : Plan) (t : Tables) (g k : ℕ) (number : Option ℕ) → IsPlan p → IsSound p t → IsNewest p t k number
+pub none_left : (p : Plan) (t : Tables) (g k : ℕ) (number : Option ℕ) → IsPlan p → IsSound p t → IsNewest p t k number
     → AreFinalBelow p t g k → HasNoneFrom p t k g → number ≡ None
 none_left p t g k number plan s is_newest final none =
     elim (find p t plan s k) [

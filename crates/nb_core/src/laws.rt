@@ -1,7 +1,7 @@
 //! The laws of every shape and of every legal history, which say what holds at each moment, whatever atomic steps were made
 //! by whom. Each function carries a law as its contract and does nothing when it runs: a call of it hands the law to the
 //! proof of its caller.
-ghost use Rattle.nb_core.specs.Laws.{BeginningsAreLegal, ClaimedOnPath, CompletePassed, ContentOnce, CountedOnce, CrowdedAbsent, Decided, FewKeys, HasOneSlot, InstalledAfter, LawfulChanges, LawfulWords, LostExchange, MapInRange, Moved, OnePlace, OwnLasts, PassedAbove, PassedOverAdds, PassedSettled, ReadReplies, Room, SeenLasts, SizeIsNet, SlotsStay, TablesAreLinked, TablesStand, TopComplete, WholeCrowded, WinNumber, WinReplies};
+ghost use Rattle.nb_core.specs.Laws.{BeginningsAreLegal, ClaimedOnPath, CompletePassed, ContentOnce, CountedOnce, CrowdedAbsent, Decided, FewKeys, HasOneSlot, HeldHasPlace, InstalledAfter, LawfulChanges, LawfulWords, LostExchange, MapInRange, Moved, OnePlace, OwnLasts, PassedAbove, PassedOverAdds, PassedSettled, PlaceIs, ReadReplies, Room, SeenLasts, SizeIsNet, SlotsStay, TablesAreLinked, TablesStand, TopComplete, WholeCrowded, WinNumber, WinReplies};
 ghost use Rattle.nb_core.specs.Plans.{LimitsFit, PlacesAreDistinct, SizesNeverFall};
 
 /// No two words of a chain lie in one place, and each lies in the chain.
@@ -174,4 +174,14 @@ pub fn map_in_range()
 /// The map has no more keys than there are.
 pub fn few_keys()
     ensures { FewKeys }
+{}
+
+/// From a table on below which all are complete, a key that the map has a number of has a place.
+pub fn held_has_place()
+    ensures { HeldHasPlace }
+{}
+
+/// The place of a key from a table on is its slot in the first table there that has one.
+pub fn place_is()
+    ensures { PlaceIs }
 {}
