@@ -1,3 +1,4 @@
+mod Accepted
 mod Checks
 mod Counting
 mod Entries

@@ -443,7 +443,7 @@ adds = record {
       ∷ [];
 }
 
--- a full table with room for a next one
+-- full in the middle: a table whose slots are all claimed, and which has no next one yet
 abbrev pub full_in_the_middle : Worked
 full_in_the_middle = record {
   plan = plan (2 ∷ 2 ∷ 2 ∷ []) 1 1;
@@ -465,7 +465,7 @@ full_in_the_middle = record {
       ∷ [];
 }
 
--- a table half copied into one of the same size
+-- half copied: a table and the next one are of the same size
 abbrev pub half_copied : Worked
 half_copied = record {
   plan = plan (2 ∷ 2 ∷ []) 1 1;
