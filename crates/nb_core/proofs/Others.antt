@@ -137,29 +137,33 @@ lost_exchange p plan later h legal g i k s slot is settled unprimed differs none
 
 -- ---- a seat's own
 
--- no seat is another's
+-- a test of the seat fails for another one
 other_seat : (r s : ℕ) (b : Bool) → r ≢ s → (eqb r s && b) ≡ false
 other_seat r s b other = ap (λ t. t && b) (ne_eqb r s other)
 
+-- an event of another seat is no call of this one
 calls-kept : (e : Event) (h : List Event) (s : ℕ) → seat_of_event e ≢ s → calls_of (e ∷ h) s ≡ calls_of h s
 calls-kept (Won r g i a b c reply) h s other = cond-false (eqb r s) _ _ (ne_eqb r s other)
 calls-kept (Read r c reply) h s other = cond-false (eqb r s) _ _ (ne_eqb r s other)
 calls-kept e h s other = refl
 
-counted-kept : (e : Event) (h : List Event) (s g : ℕ) → seat_of_event e ≢ s → counts e s g ≡ 0
-counted-kept (Count r f c) h s g other = cond-false (eqb r s && eqb f g) c 0 (other_seat r s (eqb f g) other)
-counted-kept e h s g other = refl
+-- it counts nothing for this seat
+counted-kept : (e : Event) (s g : ℕ) → seat_of_event e ≢ s → counts e s g ≡ 0
+counted-kept (Count r f c) s g other = cond-false (eqb r s && eqb f g) c 0 (other_seat r s (eqb f g) other)
+counted-kept e s g other = refl
 
+-- and turns nothing finished for it
 turned-kept : (p : Plan) (e : Event) (h : List Event) (s g : ℕ) → seat_of_event e ≢ s → turns p h e s g ≡ false
 turned-kept p (Kill r f j) h s g other = other_seat r s (eqb f g) other
 turned-kept p (Finish r f j) h s g other = other_seat r s (eqb f g) other
 turned-kept p (Prime r f j) h s g other = ap (λ t. t && is_empty_content ((tables_at p h).value g j)) (other_seat r s (eqb f g) other)
 turned-kept p e h s g other = refl
 
+-- one event more of another seat
 own-step : (p : Plan) (e : Event) (later h : List Event) (s : ℕ) → seat_of_event e ≢ s → HasOwnStill p later h s → HasOwnStill p (e ∷ later) h s
 own-step p e later h s other own = record {
   calls = calls-kept e (later ++ h) s other ∙ own.calls;
-  counted = λ g. omega (arith, counted-kept e (later ++ h) s g other, own.counted g);
+  counted = λ g. omega (arith, counted-kept e s g other, own.counted g);
   turned = λ g. ap (λ t. cond t 1 0 + turned_by p (later ++ h) s g) (turned-kept p e (later ++ h) s g other) ∙ omega (arith, own.turned g);
 }
 

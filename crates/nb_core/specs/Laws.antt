@@ -38,7 +38,7 @@ pub record AreLawful (p : Plan) (h : List Event) : Type 0 where
 abbrev pub LawfulWords : Type 0
 LawfulWords = (p : Plan) → IsPlan p → (h : List Event) → IsLegal p h → AreLawful p h
 
--- how an event may change the key of a slot: its own slot's alone
+-- how an event may change the key in slot i of table g: the slot is its own
 abbrev pub IsKeyChange : Event → (g i : ℕ) → KeyState → KeyState → Type 0
 IsKeyChange (Claim s f j k) g i from to = (f ≡ g) × (j ≡ i) × (from ≡ Empty) × (to ≡ Claimed k)
 IsKeyChange (Kill s f j) g i from to = (f ≡ g) × (j ≡ i) × (from ≡ Empty) × (to ≡ Dead)
@@ -62,7 +62,7 @@ primed PrimedTombstone = PrimedTombstone
 primed (Primed n) = Primed n
 primed (Finished n) = Finished n
 
--- how an event may change the value of a slot: its own slot's alone
+-- how an event may change the value in slot i of table g: the slot is its own
 abbrev pub IsValueChange : Event → (g i : ℕ) → ValueState → ValueState → Type 0
 IsValueChange (Won s f j a b c r) g i from to = (f ≡ g) × (j ≡ i) × (from ≡ a) × (to ≡ b) × IsWonChange a b
 IsValueChange (CopyIn s f j k n) g i from to = (f ≡ g) × (j ≡ i) × (from ≡ Null) × (to ≡ Live n)
@@ -258,9 +258,9 @@ pub record Lasts (p : Plan) (t u : Tables) : Type 0 where
   pub has_value : (g k : ℕ) → g < generations_of p → HasValue p t g k → HasValue p u g k
   -- a value that isn't null
   pub not_null : (g i : ℕ) → IsSlot p g i → t.value g i ≢ Null → u.value g i ≢ Null
-  -- a value that was a number or a tombstone, which is never null again, primed or not
+  -- a value that was ever a number or a tombstone
   pub content : (g i : ℕ) → IsSlot p g i → HasContent (t.value g i) → HasContent (u.value g i)
-  -- the number of a primed value
+  -- a number that is primed, or finished
   pub primed_or_finished : (g i n : ℕ) → IsSlot p g i → IsPrimedOrFinished t g i n → IsPrimedOrFinished u g i n
   -- a final value
   pub final : (g i : ℕ) → IsSlot p g i → IsFinishedValue (t.value g i) → u.value g i ≡ t.value g i
@@ -268,9 +268,9 @@ pub record Lasts (p : Plan) (t u : Tables) : Type 0 where
   pub finished : (g i : ℕ) → IsSlot p g i → IsFinished t g i → IsFinished u g i
   -- a complete table
   pub complete : (g : ℕ) → g < generations_of p → IsComplete p t g → IsComplete p u g
-  -- a table above a complete one
+  -- that the table below, if there is one, is complete
   pub ready : (g : ℕ) → g < generations_of p → IsReady p t g → IsReady p u g
-  -- a key with a slot here that has no unfinished slot in the table below
+  -- that a key with a slot here has no unfinished slot in the table below
   pub settled : (g k : ℕ) → g < generations_of p → HasSlot p t g k → IsSettledBelow p t g k → IsSettledBelow p u g k
   -- the top word, which never falls
   pub top : t.top ≤ u.top
@@ -307,7 +307,7 @@ pub record AreLinked (p : Plan) (t : Tables) : Type 0 where
   pub next : (g : ℕ) → (t.next g ≡ 0) ⊎ (t.next g ≡ 1)
   -- no more tables are there than the plan has
   pub within : (g : ℕ) → IsInstalled t g → g < generations_of p
-  -- below a table that is there, each is
+  -- the table below one that is there is there too
   pub before : (g : ℕ) → IsInstalled t (suc g) → IsInstalled t g
   -- only a table that is there has keys
   pub claimed : (g i k : ℕ) → IsSlot p g i → t.key g i ≡ Claimed k → IsInstalled t g
@@ -317,10 +317,10 @@ pub record AreLinked (p : Plan) (t : Tables) : Type 0 where
   pub primed : (g i : ℕ) → IsSlot p g i → IsUnprimed (t.value g i) ⊎ IsInstalled t (suc g)
   -- above a complete table there is a next one
   pub complete : (g : ℕ) → g < generations_of p → IsComplete p t g → IsInstalled t (suc g)
-  -- the top word tells a table that is there
+  -- the top word is the number of a table that is there
   pub top : IsInstalled t t.top
 
--- Tables are there one after another, and only a table that has a next one is copied.
+-- Tables come one after another: only one that is there has keys, and only one that has a next one is copied.
 abbrev pub TablesAreLinked : Type 0
 TablesAreLinked = (p : Plan) → IsPlan p → (h : List Event) → IsLegal p h → AreLinked p (tables_at p h)
 
@@ -346,15 +346,15 @@ PassedAbove = (p : Plan) → IsPlan p → (h : List Event) → IsLegal p h → (
 
 -- ---- what other seats did meanwhile
 
--- Where a seat made no call since it saw a value in a key's slot, and an unprimed value stands there that is another, then
--- another seat won an exchange on the key meanwhile.
+-- Where a seat has made no call since a moment, and another value stands in a key's slot than then, which isn't primed,
+-- another seat has won an exchange on the key since: no copy put it there, as the key had no unfinished slot below.
 abbrev pub LostExchange : Type 0
 LostExchange =
     (p : Plan) → IsPlan p → (later h : List Event) → IsLegal p (later ++ h) → (g i k s : ℕ) → IsSlot p g i
     → (tables_at p h).key g i ≡ Claimed k → IsSettledBelow p (tables_at p h) g k → IsUnprimed ((tables_at p (later ++ h)).value g i)
     → (tables_at p (later ++ h)).value g i ≢ (tables_at p h).value g i → calls_of later s ≡ [] → 1 ≤ passed_over (later ++ h) (length h) k s
 
--- The exchanges that others won since an earlier moment are those up to one in between, and those since then.
+-- The exchanges that others won since a moment are those up to a later moment, and those since then.
 abbrev pub PassedOverAdds : Type 0
 PassedOverAdds =
     (later mid h : List Event) (k s : ℕ)
@@ -404,7 +404,7 @@ MapInRange = (p : Plan) → IsPlan p → (h : List Event) → IsLegal p h → (k
 abbrev pub FewKeys : Type 0
 FewKeys = (p : Plan) → IsPlan p → (h : List Event) → IsLegal p h → length (map.entries (map_of h)) ≤ KEY_MAX + 1
 
--- A key that the map has a number of has a place, from a table on below which all are complete.
+-- Where all tables below one are complete, each key of the map has a place from that table on.
 abbrev pub HeldHasPlace : Type 0
 HeldHasPlace =
     (p : Plan) → IsPlan p → (h : List Event) → IsLegal p h → (g k n : ℕ) → g < generations_of p → ((f : ℕ) → f < g → IsComplete p (tables_at p h) f)

@@ -19,14 +19,15 @@ pub fn limits_fit()
     ensures { LimitsFit }
 {}
 
-/// Each key word and value word stands for a state, a slot without a key has the value null, and the last table's header
-/// words are 0.
+/// There are as many words as the plan says. Each key word and value word stands for a state, a slot without a key has the
+/// value null, and the last table's header words are 0.
 pub fn lawful_words()
     ensures { LawfulWords }
 {}
 
-/// One more event changes one word at most: a key from empty to claimed or closed, a value from null or a tombstone to a
-/// number, from a number to another one or a tombstone, from unprimed to primed, from a primed number to a finished one.
+/// One more event changes one word at most, and of keys and values only those of its own slot: a key from empty to claimed
+/// or closed, a value from null or a tombstone to a number, from a number to another one or a tombstone, from unprimed to
+/// primed, from a primed number to a finished one.
 pub fn lawful_changes()
     ensures { LawfulChanges }
 {}
@@ -46,7 +47,7 @@ pub fn stays()
     ensures { SlotsStay }
 {}
 
-/// A slot that once got a number or a tombstone is never null again.
+/// A value that was ever a number or a tombstone is never null again, primed or not.
 pub fn content_once()
     ensures { ContentOnce }
 {}
@@ -121,7 +122,7 @@ pub fn top_complete()
     ensures { TopComplete }
 {}
 
-/// Tables are there one after another; keys, closed slots and primed values are only where there is a table, or a next one.
+/// Tables come one after another: only one that is there has keys, and only one that has a next one is copied.
 pub fn linked()
     ensures { TablesAreLinked }
 {}
@@ -141,12 +142,13 @@ pub fn passed_above()
     ensures { PassedAbove }
 {}
 
-/// A seat whose exchange another unprimed value kept from winning was passed over by an exchange of another seat.
+/// Where a seat has made no call since a moment, and another unprimed value stands in a key's slot than then, another seat
+/// has won an exchange on the key since.
 pub fn lost_exchange()
     ensures { LostExchange }
 {}
 
-/// The exchanges of others since an earlier moment are those up to one in between, and those since then.
+/// The exchanges that others won since a moment are those up to a later moment, and those since then.
 pub fn passed_over_adds()
     ensures { PassedOverAdds }
 {}
@@ -176,7 +178,7 @@ pub fn few_keys()
     ensures { FewKeys }
 {}
 
-/// From a table on below which all are complete, a key that the map has a number of has a place.
+/// Where all tables below one are complete, each key of the map has a place from that table on.
 pub fn held_has_place()
     ensures { HeldHasPlace }
 {}
