@@ -372,5 +372,6 @@ counted_once p plan h legal g within =
       own = λ s. counted_by-own p h legal s g;
       done = done;
       within = less;
+      fits = omega (arith, done, counted_by-fits p h plan legal g within);
       whole = λ all. finished_among-all t g (size_of p g) (omega arith);
     }

@@ -5,7 +5,7 @@ use Rattle.nb_core.specs.Tables.{HasSlot, IsComplete, IsFinishedValue, IsSlot, I
 use Rattle.nb_core.specs.History.{IsLegal, MayClaim, MayFinish}
 use Rattle.nb_core.specs.Laws.{HasContent, primed}
 use Rattle.nb_core.proofs.Frames.{key-first, next-first, value-first}
-use Rattle.nb_core.proofs.Lasting.{complete-stays, installed-stays, key-claimed, key-was, key-was_dead, next-stays, others-stay, put-unprimed, slot-stays, value-content, value-empty, value-final, value-frozen, value-primed, win-puts}
+use Rattle.nb_core.proofs.Lasting.{complete-stays, installed-stays, key-claimed, key-was, key-was_dead, next-stays, others-stay, put-unprimed, slot-stays, value-content, value-empty, value-final, value-primed_or_finished, value-primed, win-puts}
 use Rattle.nb_core.proofs.Sound.{HasGot, HasKey, IsClaimedRight, IsSound, MayBeAbove, claimed-same, complete-growing, empty-unclaimed, finished-not_empty, finished-value, next-within, no_slot-past, one_slot, primed-growing}
 use Rattle.nb_core.proofs.Steps.{NextKept, Installs, Step, ValueStep, ValueKept, Wins, Copies, Primes, Finishes, step_of}
 use Rattle.nb_core.specs.declared.numbers.TheConstants.{KEY_MAX}
@@ -224,7 +224,7 @@ module _ (p : Plan) (t u : Tables) (plan : IsPlan p) (s : IsSound p t) (step : S
             let source = may.primed in
             let slot : source.0 ≡ i = one_slot p t s g source.0 i k (i_slot.0, source.1) i_slot (source.2 ∙ ap Claimed same) i_is in
             let primed : t.value g i ≡ Primed n = ap (t.value g) (sym slot) ∙ source.3 in
-            inr (subst (MayBeAbove (u.value g i)) (sym e) (copy-above (u.value g i) n (value-frozen below (inl primed))))
+            inr (subst (MayBeAbove (u.value g i)) (sym e) (copy-above (u.value g i) n (value-primed_or_finished below (inl primed))))
         | Primes may e ↦ inr (final-above_step _ below (complete_below may.growing))
         | Finishes may e ↦
             let next = primed-growing p t s (suc g) j j_slot (λ unprimed. subst IsUnprimed may.primed unprimed) in

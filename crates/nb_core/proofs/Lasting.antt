@@ -4,7 +4,7 @@ use Rattle.nb_core.specs.Calls.{changed}
 use Rattle.nb_core.specs.Plans.{Plan, IsPlan, generations_of}
 use Rattle.nb_core.specs.Tables.{AreOthers, HasSlot, IsComplete, IsFinished, IsFinishedValue, IsInstalled, IsSlot, IsUnprimed, Tables, path_slot}
 use Rattle.nb_core.specs.History.{IsExchange, MayClaim, MayWin, content_of, key_of_call}
-use Rattle.nb_core.specs.Laws.{HasContent, IsFrozen, primed}
+use Rattle.nb_core.specs.Laws.{HasContent, IsPrimedOrFinished, primed}
 use Rattle.nb_core.proofs.Legality.{number_left}
 use Rattle.nb_core.proofs.Sound.{IsSound, claimed-same, empty-null, empty-unclaimed, path_slot-is_slot, unprimed-not_final}
 use Rattle.nb_core.proofs.Steps.{KeyStep, KeyKept, Claims, Kills, NextStep, NextKept, Installs, Step, ValueStep, ValueKept, Wins, Copies, Primes, Finishes}
@@ -106,13 +106,13 @@ module _ {p : Plan} {t : Tables} {g i : ℕ} {to : ValueState} where
   value-still_final step final = subst IsFinishedValue (sym (value-final step final)) final
 
   -- a number that is primed stays, primed or finished
-  pub value-frozen : {n : ℕ} → ValueStep p t g i to → IsFrozen t g i n → (to ≡ Primed n) ⊎ (to ≡ Finished n)
-  value-frozen {n} step (inl primed) =
+  pub value-primed_or_finished : {n : ℕ} → ValueStep p t g i to → IsPrimedOrFinished t g i n → (to ≡ Primed n) ⊎ (to ≡ Finished n)
+  value-primed_or_finished {n} step (inl primed) =
       elim (value-primed step (λ unprimed. subst IsUnprimed primed unprimed)) [
         | inl e ↦ inl (e ∙ primed)
         | inr finishes ↦ inr (let same : Primed finishes.0 ≡ Primed n = sym finishes.1 ∙ primed in let is = finishes.2 in cc)
       ]
-  value-frozen step (inr finished) = inr (value-final step (subst IsFinishedValue (sym finished) tt) ∙ finished)
+  value-primed_or_finished step (inr finished) = inr (value-final step (subst IsFinishedValue (sym finished) tt) ∙ finished)
 
   -- no step makes a value null
   pub value-some : ValueStep p t g i to → t.value g i ≢ Null → to ≢ Null

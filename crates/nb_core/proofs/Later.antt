@@ -5,7 +5,7 @@ use Rattle.nb_core.specs.Tables.{HasSlot, IsFinishedValue, IsReady, IsSettledBel
 use Rattle.nb_core.specs.History.{HasValue}
 use Rattle.nb_core.specs.Laws.{BeginningsAreLegal, ContentOnce, IsPassed, AtSlot, UpToDead, Whole, Lasts, SeenLasts, SlotsStay, Stays}
 use Rattle.nb_core.proofs.Keeping.{claim-not_late, sound}
-use Rattle.nb_core.proofs.Lasting.{complete-stays, finished-stays, installed-stays, key-claimed, key-dead, key-was, others-stay, slot-stays, value-content, value-final, value-frozen, value-some, value-still_final}
+use Rattle.nb_core.proofs.Lasting.{complete-stays, finished-stays, installed-stays, key-claimed, key-dead, key-was, others-stay, slot-stays, value-content, value-final, value-primed_or_finished, value-some, value-still_final}
 use Rattle.nb_core.proofs.Sound.{IsSound, dead-null, finished-not_empty, path_slot-is_slot}
 use Rattle.nb_core.proofs.Steps.{Step, TopKept, Promotes, step_of}
 use Rattle.nb_core.specs.declared.states.KeyState.{KeyState}
@@ -65,9 +65,9 @@ module _ (p : Plan) (t u : Tables) (plan : IsPlan p) (s : IsSound p t) (step : S
     passed = passed-stays;
     has_slot = slot-stays p t u step;
     has_value = value-stays;
-    some = λ g i slot some. value-some (step.value g i slot) some;
+    not_null = λ g i slot some. value-some (step.value g i slot) some;
     content = λ g i slot content. value-content (step.value g i slot) content;
-    frozen = λ g i n slot frozen. value-frozen (step.value g i slot) frozen;
+    primed_or_finished = λ g i n slot is. value-primed_or_finished (step.value g i slot) is;
     final = λ g i slot final. value-final (step.value g i slot) final;
     finished = finished-stays p t u step;
     complete = complete-stays p t u step;
@@ -88,9 +88,9 @@ lasts-none p t = record {
   passed = λ g k within is. is;
   has_slot = λ g k within is. is;
   has_value = λ g k within is. is;
-  some = λ g i slot is. is;
+  not_null = λ g i slot is. is;
   content = λ g i slot is. is;
-  frozen = λ g i n slot is. is;
+  primed_or_finished = λ g i n slot is. is;
   final = λ g i slot is. refl;
   finished = λ g i slot is. is;
   complete = λ g within is. is;
@@ -109,9 +109,9 @@ lasts-then p t u v a b = record {
   passed = λ g k within is. b.passed g k within (a.passed g k within is);
   has_slot = λ g k within is. b.has_slot g k within (a.has_slot g k within is);
   has_value = λ g k within is. b.has_value g k within (a.has_value g k within is);
-  some = λ g i slot is. b.some g i slot (a.some g i slot is);
+  not_null = λ g i slot is. b.not_null g i slot (a.not_null g i slot is);
   content = λ g i slot is. b.content g i slot (a.content g i slot is);
-  frozen = λ g i n slot is. b.frozen g i n slot (a.frozen g i n slot is);
+  primed_or_finished = λ g i n slot is. b.primed_or_finished g i n slot (a.primed_or_finished g i n slot is);
   final = λ g i slot is. let first = a.final g i slot is in b.final g i slot (subst IsFinishedValue (sym first) is) ∙ first;
   finished = λ g i slot is. b.finished g i slot (a.finished g i slot is);
   complete = λ g within is. b.complete g within (a.complete g within is);

@@ -12,7 +12,7 @@ use Rattle.nb_core.proofs.Keeping.{sound}
 use Rattle.nb_core.proofs.Lasting.{PutsNone, PutsNumber, Puts, win-puts}
 use Rattle.nb_core.proofs.Passing.{is_finished-true}
 use Rattle.nb_core.proofs.Sound.{IsSound, dead-null, empty-null, finished-growing}
-use Rattle.nb_core.proofs.Words.{at_slot, at_table, length-word_step, one_word, word-first, word_after, word-frame}
+use Rattle.nb_core.proofs.Words.{at_slot, at_table, length-words_of, one_word, word-first, word_after, word-frame}
 use Rattle.nb_core.specs.declared.events.Event.{Event}
 use Rattle.nb_core.specs.declared.events.Event.TheVariants.{Claim, Kill, Won, CopyIn, Prime, Finish, Take}
 use Rattle.nb_core.specs.declared.states.KeyState.{KeyState}
@@ -91,13 +91,14 @@ pub lawful_words : LawfulWords
 lawful_words p plan h legal =
     let s = sound p h plan legal in
     record {
+      length = length-words_of p h;
       keys = λ g i slot. key-lawful p (tables_at p h) s g i slot _ refl;
       values = λ g i slot.
           let w = value_words p h plan legal g i slot in
           record { state = (tables_at p h).value g i; decodes = ap value_state w.is ∙ value_state-word _ w.in_range };
-      empty = λ g i slot is. empty-null p (tables_at p h) s g i slot is;
-      dead = λ g i slot is. dead-null p (tables_at p h) s g i slot is;
-      last = last-headers p h plan legal;
+      empty_is_null = λ g i slot is. empty-null p (tables_at p h) s g i slot is;
+      dead_is_null = λ g i slot is. dead-null p (tables_at p h) s g i slot is;
+      last_headers = last-headers p h plan legal;
     }
 
 -- ---- how words change
@@ -118,49 +119,48 @@ put-changes a b unprimed (PutsNumber n e differs) =
 -- an event changes a key only as its kind may
 key-change :
     (p : Plan) (e : Event) (h : List Event) → IsLegal p (e ∷ h) → (g i : ℕ)
-    → let x = (tables_at p h).key g i in (key_after e g i x ≡ x) ⊎ IsKeyChange e x (key_after e g i x)
+    → let x = (tables_at p h).key g i in (key_after e g i x ≡ x) ⊎ IsKeyChange e g i x (key_after e g i x)
 key-change p (Claim s f j k) h legal g i =
     let x = (tables_at p h).key in
-    at_slot (λ g i here. let y = cond here (Claimed k) (x g i) in (y ≡ x g i) ⊎ IsKeyChange (Claim s f j k) (x g i) y) f j g i
-    (inr (legal.2.empty, refl)) (inl refl)
+    at_slot (λ g i here. let y = cond here (Claimed k) (x g i) in (y ≡ x g i) ⊎ IsKeyChange (Claim s f j k) g i (x g i) y) f j g i
+    (inr (refl, refl, legal.2.empty, refl)) (inl refl)
 key-change p (Kill s f j) h legal g i =
     let x = (tables_at p h).key in
-    at_slot (λ g i here. let y = cond here Dead (x g i) in (y ≡ x g i) ⊎ IsKeyChange (Kill s f j) (x g i) y) f j g i
-    (inr (legal.2.empty, refl)) (inl refl)
+    at_slot (λ g i here. let y = cond here Dead (x g i) in (y ≡ x g i) ⊎ IsKeyChange (Kill s f j) g i (x g i) y) f j g i
+    (inr (refl, refl, legal.2.empty, refl)) (inl refl)
 key-change p _ h legal g i = inl refl
 
 -- and a value
 value-change :
     (p : Plan) (e : Event) (h : List Event) → IsLegal p (e ∷ h) → (g i : ℕ)
-    → let x = (tables_at p h).value g i in (value_after e g i x ≡ x) ⊎ IsValueChange e x (value_after e g i x)
+    → let x = (tables_at p h).value g i in (value_after e g i x ≡ x) ⊎ IsValueChange e g i x (value_after e g i x)
 value-change p (Won s f j a b c r) h legal g i =
     let x = (tables_at p h).value in
-    at_slot (λ g i here. let y = cond here b (x g i) in (y ≡ x g i) ⊎ IsValueChange (Won s f j a b c r) (x g i) y) f j g i
-    (inr (legal.2.stands, refl, put-changes a b legal.2.unprimed (win-puts legal.2))) (inl refl)
+    at_slot (λ g i here. let y = cond here b (x g i) in (y ≡ x g i) ⊎ IsValueChange (Won s f j a b c r) g i (x g i) y) f j g i
+    (inr (refl, refl, legal.2.stands, refl, put-changes a b legal.2.unprimed (win-puts legal.2))) (inl refl)
 value-change p (CopyIn s f j k n) h legal g i =
     let x = (tables_at p h).value in
-    at_slot (λ g i here. let y = cond here (Live n) (x g i) in (y ≡ x g i) ⊎ IsValueChange (CopyIn s f j k n) (x g i) y) f j g i
-    (inr (legal.2.null, refl)) (inl refl)
+    at_slot (λ g i here. let y = cond here (Live n) (x g i) in (y ≡ x g i) ⊎ IsValueChange (CopyIn s f j k n) g i (x g i) y) f j g i
+    (inr (refl, refl, legal.2.null, refl)) (inl refl)
 value-change p (Prime s f j) h legal g i =
     let x = (tables_at p h).value in
-    at_slot (λ g i here. let y = cond here (primed (x g i)) (x g i) in (y ≡ x g i) ⊎ IsValueChange (Prime s f j) (x g i) y) f j g i
-    (inr (legal.2.unprimed, refl)) (inl refl)
+    at_slot (λ g i here. let y = cond here (primed (x g i)) (x g i) in (y ≡ x g i) ⊎ IsValueChange (Prime s f j) g i (x g i) y) f j g i
+    (inr (refl, refl, legal.2.unprimed, refl)) (inl refl)
 value-change p (Finish s f j) h legal g i =
     let x = (tables_at p h).value in
-    at_slot (λ g i here. let y = cond here (finished (x g i)) (x g i) in (y ≡ x g i) ⊎ IsValueChange (Finish s f j) (x g i) y) f j g i
-    (inr (legal.2.number, legal.2.primed, ap finished legal.2.primed)) (inl refl)
+    at_slot (λ g i here. let y = cond here (finished (x g i)) (x g i) in (y ≡ x g i) ⊎ IsValueChange (Finish s f j) g i (x g i) y) f j g i
+    (inr (refl, refl, (legal.2.number, legal.2.primed, ap finished legal.2.primed))) (inl refl)
 value-change p _ h legal g i = inl refl
 
 pub lawful_changes : LawfulChanges
 lawful_changes p plan e h legal =
     let t = tables_at p h in
     record {
-      length = length-word_step p e (words_of p h);
       one = one_word p e (words_of p h);
       keys = λ g i slot.
-          subst (λ y. (y ≡ t.key g i) ⊎ IsKeyChange e (t.key g i) y) (sym (key-frame p e h plan legal.1 g i slot))
+          subst (λ y. (y ≡ t.key g i) ⊎ IsKeyChange e g i (t.key g i) y) (sym (key-frame p e h plan legal.1 g i slot))
           (key-change p e h legal g i);
       values = λ g i slot.
-          subst (λ y. (y ≡ t.value g i) ⊎ IsValueChange e (t.value g i) y) (sym (value-frame p e h plan legal g i slot))
+          subst (λ y. (y ≡ t.value g i) ⊎ IsValueChange e g i (t.value g i) y) (sym (value-frame p e h plan legal g i slot))
           (value-change p e h legal g i);
     }

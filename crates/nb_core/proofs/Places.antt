@@ -4,7 +4,7 @@ use Rattle.std.proofs.lemmas.Bool.{cases_order}
 use Rattle.nb_core.specs.Plans.{Plan, generations_of, size_of}
 use Rattle.nb_core.specs.Tables.{HasSlot, IsComplete, Tables}
 use Rattle.nb_core.specs.Meaning.{first_place, place_from, slot_among}
-use Rattle.nb_core.specs.Laws.{Lasts}
+use Rattle.nb_core.specs.Laws.{IsFirstPlace, Lasts}
 use Rattle.nb_core.proofs.Slots.{Nowhere, Somewhere, slot_among-at, slot_among-is}
 use Rattle.nb_core.proofs.Sound.{HasNoSlot, IsSound, claimed-same, complete-below, dead-unclaimed, finished-not_empty}
 use Rattle.nb_core.specs.declared.states.KeyState.{KeyState}
@@ -26,36 +26,46 @@ no_slot-complete p t s f g k within below has none =
       | inr (inr more) ↦ absurd (omega arith)
     ]
 
--- the key's place is in one of so many tables from table g on
-record IsPlaced (p : Plan) (t : Tables) (g k n f : ℕ) : Type 0 where
-  not_before : g ≤ f
-  not_after : f < g + n
-  has : HasSlot p t f k
-
 -- the first place of a key is in the first table where it has a slot
-place_from-found :
+pub place_from-found :
     (p : Plan) (t : Tables) (k g n i : ℕ) → slot_among t g k (size_of p g) ≡ Some i → place_from p t k g (suc n) ≡ Some (g, i)
 place_from-found p t k g n i found = ap (λ o. first_place (option_map (λ j. (g, j)) o) (place_from p t k (suc g) n)) found
 
 -- it is not in a table where the key has none
-place_from-next :
+pub place_from-next :
     (p : Plan) (t : Tables) (k g n : ℕ) → slot_among t g k (size_of p g) ≡ None
     → place_from p t k g (suc n) ≡ place_from p t k (suc g) n
 place_from-next p t k g n found = ap (λ o. first_place (option_map (λ j. (g, j)) o) (place_from p t k (suc g) n)) found
 
--- a key has a slot in the table of its first place
-place_from-some : (p : Plan) (t : Tables) (k g n : ℕ) (place : ℕ × ℕ) → place_from p t k g n ≡ Some place → IsPlaced p t g k n place.0
-place_from-some p t k g zero place e = absurd cc
-place_from-some p t k g (suc n) place e =
+-- a place behind a table without a slot of the key is the first one from that table on
+first_place-behind :
+    (p : Plan) (t : Tables) (g k f i : ℕ) → HasNoSlot p t g k → IsFirstPlace p t (suc g) k f i → IsFirstPlace p t g k f i
+first_place-behind p t g k f i away first = record {
+  from = omega (arith, first.from);
+  slot = first.slot;
+  is = first.is;
+  none = λ e from before has. elim (cases_order g e) [
+    | inl same ↦ (let here = subst (λ e. HasSlot p t e k) (sym same) has in away here.slot here.in_table here.is)
+    | inr (inl below) ↦ first.none e below before has
+    | inr (inr above) ↦ absurd (omega arith)
+  ];
+}
+
+-- what is found is the first place
+pub place_from-first :
+    (p : Plan) (t : Tables) (k g n : ℕ) (place : ℕ × ℕ) → n ≤ generations_of p - g → place_from p t k g n ≡ Some place
+    → IsFirstPlace p t g k place.0 place.1
+place_from-first p t k g zero place few e = absurd cc
+place_from-first p t k g (suc n) place few e =
     elim (slot_among-is t g k (size_of p g)) [
       | Somewhere i below is found ↦
           let first = place_from-found p t k g n i found in
-          let same : g ≡ place.0 = ap (λ q. q.0) (let both : (g, i) ≡ place = cc in both) in
-          let has : HasSlot p t g k = record { slot = i; in_table = below; is = is } in
-          subst (IsPlaced p t g k (suc n)) same (record { not_before = omega arith; not_after = omega arith; has = has })
+          let here : (g, i) ≡ place = cc in
+          subst (λ q. IsFirstPlace p t g k q.0 q.1) here
+          (record { from = omega arith; slot = (omega arith, below); is = is; none = λ e from before has. omega arith })
       | Nowhere none found ↦
-          let rest = place_from-some p t k (suc g) n place (sym (place_from-next p t k g n found) ∙ e) in
-          record { not_before = omega arith; not_after = omega arith; has = rest.has }
+          let rest = sym (place_from-next p t k g n found) ∙ e in
+          first_place-behind p t g k place.0 place.1 none (place_from-first p t k (suc g) n place (omega arith) rest)
     ]
 
 -- ---- later tables
@@ -96,8 +106,9 @@ module _ (p : Plan) (t u : Tables) (s : IsSound p t) (v : IsSound p u) (lasts : 
             place_from-found p u k g n i later ∙ sym (place_from-found p t k g n i found) ∙ e
         | Nowhere none found ↦
             let rest = sym (place_from-next p t k g n found) ∙ e in
-            let at = place_from-some p t k (suc g) n place rest in
-            let later = slot_among-later place.0 g k (omega arith) (omega arith) at.has none in
+            let first = place_from-first p t k (suc g) n place (omega arith) rest in
+            let has : HasSlot p t place.0 k = record { slot = place.1; in_table = first.slot.1; is = first.is } in
+            let later = slot_among-later place.0 g k first.slot.0 first.from has none in
             place_from-next p u k g n later ∙ place_from-later k (suc g) n place (omega arith) rest
       ]
 

@@ -1,6 +1,6 @@
 -- The map's number at a key, and the replies of calls, as they compute.
-use Rattle.std.proofs.Common.{◌≡◌, ◌∙◌, ℕ, sym, ap, refl, Bool, true, false, not, cond, ◌||◌, eqb, ltb, List, [], ◌∷◌, Option, Some, None, arith}
-use Rattle.std.proofs.lemmas.Bool.{eqb-true, ltb-true, ne_eqb}
+use Rattle.std.proofs.Common.{◌≡◌, ◌∙◌, ℕ, sym, ap, refl, Bool, true, false, not, cond, ◌||◌, eqb, ltb, List, [], ◌∷◌, Option, Some, None, arith, inl, inr}
+use Rattle.std.proofs.lemmas.Bool.{cond-false, eqb-true, ltb-true, ne_eqb}
 use Rattle.std.specs.FinMap.{get, get-insert, get-remove, get-empty, same_map, nat_cmp-IsAntisymmetric}
 use Rattle.std.specs.Ordering.{nat_cmp, eq_by_cmp, is_eq}
 use Rattle.std.specs.declared.cmp.Ordering.TheVariants.{Less, Equal, Greater}
@@ -9,8 +9,9 @@ use Rattle.nb_core.specs.Calls.{Numbers, changed, holds_of, is_past_max, map_aft
 use Rattle.nb_core.specs.Plans.{Plan}
 use Rattle.nb_core.specs.Tables.{tables_at}
 use Rattle.nb_core.specs.History.{IsLegal, Replies, after_win, key_of_call, map_of}
+use Rattle.nb_core.specs.Laws.{LeavesAlone}
 use Rattle.nb_core.proofs.Legality.{is_reply, leaves, number_at, number_left, is_in_range, may_follow, passes, replies, same_number}
-use Rattle.nb_core.proofs.Passing.{both, is_in_range-true, may_follow-true}
+use Rattle.nb_core.proofs.Passing.{both, either, is_in_range-true, may_follow-true, not_true}
 use Rattle.nb_core.specs.declared.calls.Call.{Call}
 use Rattle.nb_core.specs.declared.calls.Call.TheVariants as call
 use Rattle.nb_core.specs.declared.calls.Reply.{Reply}
@@ -91,24 +92,34 @@ reply_here (call.Write k want change) r m e =
 reply_is : (c : Call) (r : Reply) (m : Numbers) (now : Option ℕ) → get m (key_of_call c) ≡ now → is_reply c r now ≡ true → (r ≡ reply_of c m) × (overflows c m ≡ false)
 reply_is c r m now at e = reply_here c r m (ap (is_reply c r) at ∙ e)
 
-left_here : (c : Call) (m : Numbers) → leaves c (get m (key_of_call c)) ≡ true → map_after c m ≡ m
-left_here (call.Get k) m e = refl
-left_here (call.Write k want change) m e =
-    let now = get m k in
-    elim (holds_of want now) as (λ b. (not b || same_number (changed change now) now) ≡ true → cond b (with_at m k (changed change now)) m ≡ m) [
-      | true ↦ λ same. ap (with_at m k) (same_number-true (changed change now) now same) ∙ with_at-same m k now refl
-      | false ↦ λ same. refl
-    ] e
+-- a call that leaves the number at its key alone leaves the map as it is
+pub map_after-left : (c : Call) (m : Numbers) → LeavesAlone c (get m (key_of_call c)) → map_after c m ≡ m
+map_after-left (call.Get k) m alone = refl
+map_after-left (call.Write k want change) m (inl fails) = cond-false _ _ _ fails
+map_after-left (call.Write k want change) m (inr same) =
+    let number = get m k in
+    elim (holds_of want number) as (λ b. cond b (with_at m k (changed change number)) m ≡ m) [
+      | true ↦ ap (with_at m k) same ∙ with_at-same m k number refl
+      | false ↦ refl
+    ]
 
-left_is : (c : Call) (m : Numbers) (now : Option ℕ) → get m (key_of_call c) ≡ now → leaves c now ≡ true → map_after c m ≡ m
-left_is c m now at e = left_here c m (ap (leaves c) at ∙ e)
+leaves-true : (c : Call) (number : Option ℕ) → leaves c number ≡ true → LeavesAlone c number
+leaves-true (call.Get k) number e = tt
+leaves-true (call.Write k want change) number e =
+    elim (either (not (holds_of want number)) (same_number (changed change number) number) e) [
+      | inl fails ↦ inl (not_true (holds_of want number) fails)
+      | inr same ↦ inr (same_number-true (changed change number) number same)
+    ]
 
 replies-true : (h : List Event) (e : Event) → replies h e ≡ true → Replies (map_of h) e
 replies-true h (Won s g i a b c r) e = reply_is c r (map_of h) _ (number_at_map h (key_of_call c)) e
 replies-true h (Read s c r) e =
-    let a = both (is_reply c r (number_at h (key_of_call c))) (leaves c (number_at h (key_of_call c))) e in
-    let q = reply_is c r (map_of h) _ (number_at_map h (key_of_call c)) a.0 in
-    (q.0, q.1, left_is c (map_of h) _ (number_at_map h (key_of_call c)) a.1)
+    let k = key_of_call c in
+    let at = number_at_map h k in
+    let a = both (is_reply c r (number_at h k)) (leaves c (number_at h k)) e in
+    let reply = reply_is c r (map_of h) _ at a.0 in
+    let alone = leaves-true c (get (map_of h) k) (ap (leaves c) at ∙ a.1) in
+    (reply.0, reply.1, map_after-left c (map_of h) alone)
 replies-true h _ e = tt
 
 -- what passes is legal

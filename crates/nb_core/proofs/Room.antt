@@ -58,7 +58,7 @@ reached-round k i s below =
     add-mod-mod k (i + s - k % s) s ∙ ap (λ n. n % s) whole ∙ add-mul-mod_self_left i s (k / s + 1) ∙ mod-eq_of_lt below
 
 -- where other keys have a key's whole path, they have each slot of the table
-others-whole : (p : Plan) (t : Tables) (g k : ℕ) → AreOthers p t g k (size_of p g) → (i : ℕ) → i < size_of p g → IsOther (t.key g i) k
+pub others-whole : (p : Plan) (t : Tables) (g k : ℕ) → AreOthers p t g k (size_of p g) → (i : ℕ) → i < size_of p g → IsOther (t.key g i) k
 others-whole p t g k passed i below =
     let s = size_of p g in
     let away = i + s - k % s in

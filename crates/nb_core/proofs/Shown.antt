@@ -13,7 +13,7 @@ use Rattle.nb_core.proofs.Passing.{below_suc}
 use Rattle.nb_core.proofs.Replies.{number_at_map}
 use Rattle.nb_core.proofs.Room.{crowded-complete_below, passed-settled}
 use Rattle.nb_core.proofs.Slots.{Away, Here, has_slot_or_none, look, value_in-some}
-use Rattle.nb_core.proofs.Sound.{HasNoSlot, IsSound, complete-below, empty-unclaimed, finished-not_empty, finished-value, next-within, no_slot-past, no_slot-whole, path_slot-is_slot, primed-growing}
+use Rattle.nb_core.proofs.Sound.{HasNoSlot, IsSound, complete-below, empty-unclaimed, finished-not_empty, finished-value, installed-below, next-within, no_slot-past, no_slot-whole, path_slot-is_slot, primed-growing}
 use Rattle.nb_core.proofs.Tables.{four-le-size_of}
 use Rattle.nb_core.specs.declared.calls.Call.{Call}
 use Rattle.nb_core.specs.declared.states.KeyState.TheVariants.{Claimed}
@@ -125,16 +125,6 @@ module _ (p : Plan) (t : Tables) (plan : IsPlan p) (s : IsSound p t) (k : ℕ) w
       let got = s.moved g i k n here.slot here.is e in
       here.none_above (suc g) (omega arith) got.slot got.is_slot got.is got.content
 
-  -- tables up to an installed one are installed
-  installed-below : (f g : ℕ) → g < suc f → IsInstalled t f → IsInstalled t g
-  installed-below zero g below installed = below_suc (IsInstalled t) 0 installed (λ f none. absurd (omega arith)) g below
-  installed-below (suc f) g below installed =
-      below_suc (IsInstalled t) (suc f) installed (λ g less. installed-below f g less (next_below f installed)) g below
-    where
-      next_below : (g : ℕ) → IsInstalled t (suc g) → IsInstalled t g
-      next_below zero installed = tt
-      next_below (suc g) installed = (s.ready g installed).0
-
   -- below an installed table in which the key is settled its values are final
   settled-final : (g : ℕ) → IsInstalled t g → IsSettledBelow p t g k → AreFinalBelow p t g k
   settled-final zero installed settled = λ f below. absurd (omega arith)
@@ -232,7 +222,7 @@ module _ (p : Plan) (t : Tables) (plan : IsPlan p) (s : IsSound p t) (k : ℕ) w
               (shown_from-newest tables (omega arith))
           | inr (inl less) ↦
               let rest = shown_from-below (suc f) tables (omega arith) (omega arith) in
-              let installed = installed-below g f (omega arith) (s.claimed g i k here.slot here.is).installed in
+              let installed = installed-below p t s g f (omega arith) (s.claimed g i k here.slot here.is).installed in
               rw (is_installed-holds t f installed) (elim (look p t f k) [
                 | Away away e ↦ rw e rest
                 | Here j within j_is e ↦
@@ -258,7 +248,7 @@ module _ (p : Plan) (t : Tables) (plan : IsPlan p) (s : IsSound p t) (k : ℕ) w
         ]
 
     -- where the key's values below a table are final, and the key never got a number there or above, it has none
-    number-none : (g : ℕ) → AreFinalBelow p t g k → HasNoneFrom p t k g → number ≡ None
+    pub number-none : (g : ℕ) → AreFinalBelow p t g k → HasNoneFrom p t k g → number ≡ None
     number-none g final none =
         elim newest_place [
           | Never never ↦ is_newest.never never
@@ -296,7 +286,7 @@ module _ (p : Plan) (t : Tables) (plan : IsPlan p) (s : IsSound p t) (k : ℕ) w
     number-shown g shown within final (AtValue i below is unprimed e) = number-unprimed g i final (within, below) is unprimed ∙ sym e
     number-shown g shown within final (NoNext others no_next e) =
         number-none g final (HasNoneFrom-no_slot g (no_slot-whole p t s g k within others) (λ f above i slot is content.
-        let next : t.next g ≡ 1 = installed-below f (suc g) (omega arith) (s.claimed f i k slot is).installed in
+        let next : t.next g ≡ 1 = installed-below p t s f (suc g) (omega arith) (s.claimed f i k slot is).installed in
         absurd (omega arith))) ∙ sym e
     number-shown g shown within final (InLast others last e) =
         number-none g final (HasNoneFrom-no_slot g (no_slot-whole p t s g k within others) (HasNoneFrom-past (suc g) (omega arith)))

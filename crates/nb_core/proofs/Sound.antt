@@ -4,7 +4,7 @@ use Rattle.std.proofs.lemmas.Bool.{cases_order}
 use Rattle.std.proofs.lemmas.Nat.{mod_below}
 use Rattle.nb_core.specs.Plans.{Plan, IsPlan, generations_of, size_of}
 use Rattle.nb_core.specs.Tables.{AreOthers, HasSlot, IsComplete, IsFinished, IsFinishedValue, IsInstalled, IsOther, IsSlot, IsUnprimed, Tables, path_slot}
-use Rattle.nb_core.specs.Laws.{HasContent}
+use Rattle.nb_core.specs.Laws.{HasContent, IsOnPath}
 use Rattle.nb_core.proofs.Passing.{below_suc}
 use Rattle.nb_core.proofs.Tables.{four-le-size_of}
 use Rattle.nb_core.specs.declared.numbers.TheConstants.{KEY_MAX}
@@ -13,18 +13,11 @@ use Rattle.nb_core.specs.declared.states.KeyState.TheVariants.{Empty, Dead, Clai
 use Rattle.nb_core.specs.declared.states.ValueState.{ValueState}
 use Rattle.nb_core.specs.declared.states.ValueState.TheVariants.{Null, Tombstone, Live, PrimedNull, PrimedTombstone, Primed, Finished}
 
--- the slot lies on the key's path, behind slots of other keys
-pub record IsReached (p : Plan) (t : Tables) (g i k : ℕ) : Type 0 where
-  pub distance : ℕ
-  pub in_table : distance < size_of p g
-  pub at : path_slot p g k distance ≡ i
-  pub passed : AreOthers p t g k distance
-
 -- what a claimed slot tells
 pub record IsClaimedRight (p : Plan) (t : Tables) (g i k : ℕ) : Type 0 where
   pub key : k ≤ KEY_MAX
   pub installed : IsInstalled t g
-  pub reached : IsReached p t g i k
+  pub reached : IsOnPath p t g i k
 
 -- the slot has a key
 pub record HasKey (s : KeyState) : Type 0 where
@@ -180,6 +173,16 @@ module _ (p : Plan) (t : Tables) (s : IsSound p t) where
   finished-growing g i slot (inl dead) = s.dead g i slot dead
   finished-growing g i slot (inr final) =
       primed-growing g i slot (λ unprimed. unprimed-not_final (t.value g i) unprimed final)
+
+  -- tables up to an installed one are installed
+  pub installed-below : (f g : ℕ) → g < suc f → IsInstalled t f → IsInstalled t g
+  installed-below zero g below installed = below_suc (IsInstalled t) 0 installed (λ f none. absurd (omega arith)) g below
+  installed-below (suc f) g below installed =
+      below_suc (IsInstalled t) (suc f) installed (λ g less. installed-below f g less (next_below f installed)) g below
+    where
+      next_below : (g : ℕ) → IsInstalled t (suc g) → IsInstalled t g
+      next_below zero installed = tt
+      next_below (suc g) installed = (s.ready g installed).0
 
   -- each table two below an installed one, or lower, is complete
   pub complete-below : (f g : ℕ) → suc g < f → IsInstalled t f → IsComplete p t g
