@@ -148,7 +148,8 @@ value-change p (Prime s f j) h legal g i =
     (inr (refl, refl, legal.2.unprimed, refl)) (inl refl)
 value-change p (Finish s f j) h legal g i =
     let x = (tables_at p h).value in
-    at_slot (λ g i here. let y = cond here (finished (x g i)) (x g i) in (y ≡ x g i) ⊎ IsValueChange (Finish s f j) g i (x g i) y) f j g i
+    at_slot
+    (λ g i here. let y = cond here (finished (x g i)) (x g i) in (y ≡ x g i) ⊎ IsValueChange (Finish s f j) g i (x g i) y) f j g i
     (inr (refl, refl, (legal.2.number, legal.2.primed, ap finished legal.2.primed))) (inl refl)
 value-change p _ h legal g i = inl refl
 

@@ -1,5 +1,5 @@
 -- Which tables are there, and where on the paths of keys their slots lie.
-use Rattle.std.proofs.Common.{◌≡◌, ℕ, ◌-◌, ◌<◌, zero, suc, inl, inr, arith}
+use Rattle.std.proofs.Common.{ℕ, ◌-◌, ◌<◌, zero, suc, inl, inr, arith}
 use Rattle.nb_core.specs.Plans.{Plan, IsPlan, generations_of}
 use Rattle.nb_core.specs.Tables.{HasSlot, IsComplete, IsInstalled, Tables, path_slot, tables_at}
 use Rattle.nb_core.specs.Laws.{AtSlot, ClaimedOnPath, IsPassed, PassedAbove, TablesAreLinked, UpToDead, Whole, WholeCrowded}

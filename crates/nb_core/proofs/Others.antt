@@ -7,19 +7,18 @@ use Rattle.std.proofs.lemmas.List.Elements.{All-head, All-tail}
 use Rattle.std.proofs.lemmas.List.Sums.{sum_by-append, sum_by-cons}
 use Rattle.nb_core.specs.Plans.{Plan, IsPlan}
 use Rattle.nb_core.specs.Tables.{HasSlot, IsFinishedValue, IsSettledBelow, IsSlot, IsUnprimed, Tables, tables_at}
-use Rattle.nb_core.specs.History.{IsLegal, IsPrimedBelow, MayWin, counts, is_empty_content, key_of_call, seat_of_event, turned_by, turns}
+use Rattle.nb_core.specs.History.{IsLegal, IsPrimedBelow, counts, is_empty_content, key_of_call, seat_of_event, turned_by, turns}
 use Rattle.nb_core.specs.Meaning.{calls_of, is_win_of_another, passed_over}
 use Rattle.nb_core.specs.Laws.{HasOwnStill, IsValueChange, LostExchange, OwnLasts, PassedOverAdds, primed}
 use Rattle.nb_core.proofs.Lasting.{win-key}
 use Rattle.nb_core.proofs.Later.{seen_lasts}
 use Rattle.nb_core.proofs.Lawful.{lawful_changes}
-use Rattle.nb_core.proofs.Sound.{claimed-same}
-use Rattle.nb_core.specs.declared.calls.Call.{Call}
+use Rattle.nb_core.proofs.Sound.{one_key}
 use Rattle.nb_core.specs.declared.events.Event.{Event}
-use Rattle.nb_core.specs.declared.events.Event.TheVariants.{Claim, Kill, Won, CopyIn, Prime, Finish, Install, Take, Count, Promote, Read}
+use Rattle.nb_core.specs.declared.events.Event.TheVariants.{Kill, Won, CopyIn, Prime, Finish, Count, Read}
 use Rattle.nb_core.specs.declared.states.KeyState.TheVariants.{Claimed}
 use Rattle.nb_core.specs.declared.states.ValueState.{ValueState}
-use Rattle.nb_core.specs.declared.states.ValueState.TheVariants.{Null, Tombstone, Live, PrimedNull, PrimedTombstone, Primed, Finished}
+use Rattle.nb_core.specs.declared.states.ValueState.TheVariants.{Null}
 
 -- ---- exchanges of others
 
@@ -68,11 +67,6 @@ settled-not_primed : (p : Plan) (t : Tables) (g k n : ℕ) → IsSettledBelow p 
 settled-not_primed p t zero k n settled primed = primed
 settled-not_primed p t (suc g) k n settled primed = subst IsFinishedValue primed.3 (settled primed.0 primed.1 primed.2)
 
--- keys in one slot are one key
-one_key : (t : Tables) (f j g i l k : ℕ) → t.key f j ≡ Claimed l → f ≡ g → j ≡ i → t.key g i ≡ Claimed k → l ≡ k
-one_key t f j g i l k was same_table same_slot is =
-    claimed-same (sym was ∙ ap (λ x. t.key x j) same_table ∙ ap (t.key g) same_slot ∙ is)
-
 -- an exchange on the key is another seat's, where this one made no call
 won-another : (r s k key : ℕ) → eqb r s ≡ false → key ≡ k → (eqb key k && not (eqb r s)) ≡ true
 won-another r s k key own same = ap (λ t. t && not (eqb r s)) (eq-eqb key k same) ∙ ap not own
@@ -85,10 +79,10 @@ changed-won :
 changed-won p (Won r f j a b c reply) h legal later g i k s to is settled unprimed change none =
     let may = legal.2 in
     won-another r s k (key_of_call c) (not_added (eqb r s) (c, reply) (calls_of later s) none).0
-    (win-key may ∙ one_key (tables_at p h) f j g i may.key k may.claimed change.0 change.1 is)
+    (win-key may ∙ one_key (tables_at p h) f g j i may.key k change.0 change.1 may.claimed is)
 changed-won p (CopyIn r f j l n) h legal later g i k s to is settled unprimed change none =
     let t = tables_at p h in
-    let same = one_key t f j g i l k legal.2.claimed change.0 change.1 is in
+    let same = one_key t f g j i l k change.0 change.1 legal.2.claimed is in
     absurd (settled-not_primed p t g k n settled (subst₂ (λ x y. IsPrimedBelow p t x y n) change.0 same legal.2.primed))
 changed-won p (Prime r f j) h legal later g i k s to is settled unprimed change none =
     absurd (primed-not_unprimed ((tables_at p h).value g i) (subst IsUnprimed change.3 unprimed))

@@ -1,5 +1,5 @@
 -- The first place of a key is the same for ever.
-use Rattle.std.proofs.Common.{◌≡◌, ◌∙◌, ℕ, ◌+◌, ◌-◌, ◌<◌, ◌≤◌, zero, suc, ap, sym, refl, subst, inl, inr, Some, None, option_map, arith}
+use Rattle.std.proofs.Common.{◌≡◌, ◌∙◌, ℕ, ◌-◌, ◌<◌, ◌≤◌, zero, suc, ap, sym, refl, subst, inl, inr, Some, None, option_map, arith}
 use Rattle.std.proofs.lemmas.Bool.{cases_order}
 use Rattle.nb_core.specs.Plans.{Plan, generations_of, size_of}
 use Rattle.nb_core.specs.Tables.{HasSlot, IsComplete, Tables}

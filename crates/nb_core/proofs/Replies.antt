@@ -28,6 +28,7 @@ same_key a b =
       | false ↦ λ ge. elim (eqb a b) as (λ t. is_eq (cond t Equal Greater) ≡ t) [ true ↦ refl | false ↦ refl ]
     ] refl
 
+-- a choice between a thing and itself is that thing
 same_branch : {A : Type 0} (b : Bool) (x : A) → cond b x x ≡ x
 same_branch true x = refl
 same_branch false x = refl
@@ -40,18 +41,20 @@ unchanged m k q o e =
       | false ↦ λ other. refl
     ] refl
 
-get_after_win : (m : Numbers) (k q : ℕ) (b : ValueState) → get (after_win m k b) q ≡ cond (eqb q k) (number_left b (get m q)) (get m q)
-get_after_win m k q (Live n) = get-insert nat_cmp_total m k n q ∙ ap (λ t. cond t (Some n) (get m q)) (same_key q k)
-get_after_win m k q Tombstone = get-remove nat_cmp_total m k q ∙ ap (λ t. cond t None (get m q)) (same_key q k)
-get_after_win m k q _ = sym (same_branch (eqb q k) (get m q))
+-- what the map has at a key after an exchange
+get-after_win : (m : Numbers) (k q : ℕ) (b : ValueState) → get (after_win m k b) q ≡ cond (eqb q k) (number_left b (get m q)) (get m q)
+get-after_win m k q (Live n) = get-insert nat_cmp_total m k n q ∙ ap (λ t. cond t (Some n) (get m q)) (same_key q k)
+get-after_win m k q Tombstone = get-remove nat_cmp_total m k q ∙ ap (λ t. cond t None (get m q)) (same_key q k)
+get-after_win m k q _ = sym (same_branch (eqb q k) (get m q))
 
 -- what the map of a history has at a key, computed
 pub number_at_map : (h : List Event) (k : ℕ) → get (map_of h) k ≡ number_at h k
 number_at_map [] k = get-empty nat_cmp k
 number_at_map (Won s g i a b c r ∷ h) k =
-    get_after_win (map_of h) (key_of_call c) k b ∙ ap (λ o. cond (eqb k (key_of_call c)) (number_left b o) o) (number_at_map h k)
+    get-after_win (map_of h) (key_of_call c) k b ∙ ap (λ o. cond (eqb k (key_of_call c)) (number_left b o) o) (number_at_map h k)
 number_at_map (e ∷ h) k = number_at_map h k
 
+-- what passes the test of two numbers, or none, is the same
 pub same_number-true : (a b : Option ℕ) → same_number a b ≡ true → a ≡ b
 same_number-true None None e = refl
 same_number-true None (Some m) e = cc
@@ -60,24 +63,36 @@ same_number-true (Some n) (Some m) e = ap Some (eqb-true n m e)
 
 -- to set a key to what stands there changes nothing
 with_at-same : (m : Numbers) (k : ℕ) (o : Option ℕ) → get m k ≡ o → with_at m k o ≡ m
-with_at-same m k None e = same_map nat_cmp_total nat_cmp-IsAntisymmetric _ _ (λ q. get-remove nat_cmp_total m k q ∙ ap (λ t. cond t None (get m q)) (same_key q k) ∙ unchanged m k q None e)
-with_at-same m k (Some n) e = same_map nat_cmp_total nat_cmp-IsAntisymmetric _ _ (λ q. get-insert nat_cmp_total m k n q ∙ ap (λ t. cond t (Some n) (get m q)) (same_key q k) ∙ unchanged m k q (Some n) e)
+with_at-same m k None e =
+    same_map nat_cmp_total nat_cmp-IsAntisymmetric _ _
+    (λ q. get-remove nat_cmp_total m k q ∙ ap (λ t. cond t None (get m q)) (same_key q k) ∙ unchanged m k q None e)
+with_at-same m k (Some n) e =
+    same_map nat_cmp_total nat_cmp-IsAntisymmetric _ _
+    (λ q. get-insert nat_cmp_total m k n q ∙ ap (λ t. cond t (Some n) (get m q)) (same_key q k) ∙ unchanged m k q (Some n) e)
 
-same_reply : (r : Reply) (before : Option ℕ) (matched : Bool) → r.before ≡ before → r.matched ≡ matched → r ≡ record { before = before; matched = matched }
+-- a reply is what it says
+same_reply :
+    (r : Reply) (before : Option ℕ) (matched : Bool) → r.before ≡ before → r.matched ≡ matched
+    → r ≡ record { before = before; matched = matched }
 same_reply r before matched p q = λ i. record { before = p i; matched = q i }
 
+-- a reply that passes the test says whether the condition held
 matched_is : (holds matched : Bool) → cond holds matched (not matched) ≡ true → matched ≡ holds
 matched_is true true e = refl
 matched_is true false e = cc
 matched_is false true e = cc
 matched_is false false e = refl
 
+-- a call whose condition fails, or whose number fits, doesn't overflow
 not_past : (holds past : Bool) → (not holds || not past) ≡ true → cond holds past false ≡ false
 not_past true true e = cc
 not_past true false e = refl
 not_past false past e = refl
 
-reply_here : (c : Call) (r : Reply) (m : Numbers) → is_reply c r (get m (key_of_call c)) ≡ true → (r ≡ reply_of c m) × (overflows c m ≡ false)
+-- a reply that passes the test, with what the map has at the call's key, is the map's,
+reply_here :
+    (c : Call) (r : Reply) (m : Numbers) → is_reply c r (get m (key_of_call c)) ≡ true
+    → (r ≡ reply_of c m) × (overflows c m ≡ false)
 reply_here (call.Get k) r m e =
     let a = both (same_number r.before (get m k)) r.matched e in
     (same_reply r (get m k) true (same_number-true r.before (get m k) a.0) a.1, refl)
@@ -89,7 +104,10 @@ reply_here (call.Write k want change) r m e =
       not_past (holds_of want now) (is_past_max (changed change now)) b.1,
     )
 
-reply_is : (c : Call) (r : Reply) (m : Numbers) (now : Option ℕ) → get m (key_of_call c) ≡ now → is_reply c r now ≡ true → (r ≡ reply_of c m) × (overflows c m ≡ false)
+-- also with that computed
+reply_is :
+    (c : Call) (r : Reply) (m : Numbers) (now : Option ℕ) → get m (key_of_call c) ≡ now → is_reply c r now ≡ true
+    → (r ≡ reply_of c m) × (overflows c m ≡ false)
 reply_is c r m now at e = reply_here c r m (ap (is_reply c r) at ∙ e)
 
 -- a call that leaves the number at its key alone leaves the map as it is
@@ -103,6 +121,7 @@ map_after-left (call.Write k want change) m (inr same) =
       | false ↦ refl
     ]
 
+-- what passes the test leaves its key's number alone
 leaves-true : (c : Call) (number : Option ℕ) → leaves c number ≡ true → LeavesAlone c number
 leaves-true (call.Get k) number e = tt
 leaves-true (call.Write k want change) number e =
@@ -111,6 +130,7 @@ leaves-true (call.Write k want change) number e =
       | inr same ↦ inr (same_number-true (changed change number) number same)
     ]
 
+-- replies that pass the test are right
 replies-true : (h : List Event) (e : Event) → replies h e ≡ true → Replies (map_of h) e
 replies-true h (Won s g i a b c r) e = reply_is c r (map_of h) _ (number_at_map h (key_of_call c)) e
 replies-true h (Read s c r) e =

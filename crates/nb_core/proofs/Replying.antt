@@ -44,6 +44,7 @@ win_replies p plan h legal s g i a b c slot may =
 abbrev FitsIfSome : Option ℕ → Type 0
 FitsIfSome number = (n : ℕ) → number ≡ Some n → n ≤ VALUE_MAX
 
+-- and then it passes the test
 is_past_max-fits : (number : Option ℕ) → FitsIfSome number → is_past_max number ≡ false
 is_past_max-fits None fits = refl
 is_past_max-fits (Some n) fits = le-ltb VALUE_MAX n (fits n refl)

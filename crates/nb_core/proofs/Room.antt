@@ -11,7 +11,7 @@ use Rattle.nb_core.specs.Plans.{Plan, IsPlan, generations_of, size_of}
 use Rattle.nb_core.specs.Tables.{AreOthers, HasSlot, IsComplete, IsFinishedValue, IsOther, Tables, path_slot}
 use Rattle.nb_core.specs.Laws.{HasRoom, IsPassed, AtSlot, UpToDead, Whole}
 use Rattle.nb_core.proofs.Passing.{below_suc}
-use Rattle.nb_core.proofs.Sound.{IsSound, dead-unclaimed, finished-not_empty, finished-value, no_slot-past, no_slot-whole, one_slot, path_slot-is_slot}
+use Rattle.nb_core.proofs.Sound.{IsSound, dead-unclaimed, finished-not_empty, finished-value, no_slot-past, no_slot-whole, one_key, one_slot, path_slot-is_slot}
 use Rattle.nb_core.proofs.Tables.{sizes_never_fall}
 use Rattle.nb_core.specs.declared.states.KeyState.{KeyState}
 use Rattle.nb_core.specs.declared.states.KeyState.TheVariants.{Empty, Dead, Claimed}
@@ -58,7 +58,8 @@ reached-round k i s below =
     add-mod-mod k (i + s - k % s) s ∙ ap (λ n. n % s) whole ∙ add-mul-mod_self_left i s (k / s + 1) ∙ mod-eq_of_lt below
 
 -- where other keys have a key's whole path, they have each slot of the table
-pub others-whole : (p : Plan) (t : Tables) (g k : ℕ) → AreOthers p t g k (size_of p g) → (i : ℕ) → i < size_of p g → IsOther (t.key g i) k
+pub others-whole :
+    (p : Plan) (t : Tables) (g k : ℕ) → AreOthers p t g k (size_of p g) → (i : ℕ) → i < size_of p g → IsOther (t.key g i) k
 others-whole p t g k passed i below =
     let s = size_of p g in
     let away = i + s - k % s in
@@ -116,10 +117,6 @@ each_or P Q (suc n) each =
       | inl last ↦ elim (each_or P Q n (λ i h. each i (omega arith))) [ inr so ↦ inr so | inl below ↦ inl (below_suc P n last below) ]
     ]
 
--- a slot has one key
-one_key : (t : Tables) (g i j k l : ℕ) → i ≡ j → t.key g i ≡ Claimed k → t.key g j ≡ Claimed l → k ≡ l
-one_key t g i j k l same i_is j_is = cc
-
 -- a slot of the next table has another key than k, which has a slot in this table too
 record IsFromBelow (p : Plan) (t : Tables) (g k i : ℕ) : Type 0 where
   key : ℕ
@@ -135,9 +132,9 @@ module _ (p : Plan) (t : Tables) (plan : IsPlan p) (s : IsSound p t) where
   too_many g k within has from =
       let less : size_of p (suc g) < size_of p g =
       fewer (size_of p (suc g)) (size_of p g) (λ i h. (from i h).slot) has.slot (λ i h. (from i h).in_table) has.in_table
-      (λ i h same. (from i h).differs (one_key t g _ _ _ _ same (from i h).is has.is))
+      (λ i h same. (from i h).differs (one_key t g g _ _ _ _ refl same (from i h).is has.is))
       (λ i j h l same.
-      let key : (from i h).key ≡ (from j l).key = one_key t g _ _ _ _ same (from i h).is (from j l).is in
+      let key : (from i h).key ≡ (from j l).key = one_key t g g _ _ _ _ refl same (from i h).is (from j l).is in
       let j_is = (from j l).is_above ∙ ap Claimed (sym key) in
       one_slot p t s (suc g) i j (from i h).key (within, h) (within, l) (from i h).is_above j_is) in
       let rising : size_of p g ≤ size_of p (suc g) = sizes_never_fall p plan g within in
@@ -183,7 +180,8 @@ module _ (p : Plan) (t : Tables) (plan : IsPlan p) (s : IsSound p t) where
           | Crowded passed ↦ absurd (not_complete (crowded-complete_below g k within here passed))
           | ToEmpty d below passed empty ↦ record { distance = d; in_table = below; passed = passed; empty = empty }
           | ToDead d below passed dead ↦ absurd (incomplete-alive g within not_complete (path_slot p (suc g) k d) (slot_at d).1 dead)
-          | ToOwn d below passed own ↦ absurd (none_above (record { slot = path_slot p (suc g) k d; in_table = (slot_at d).1; is = own }))
+          | ToOwn d below passed own ↦
+              absurd (none_above (record { slot = path_slot p (suc g) k d; in_table = (slot_at d).1; is = own }))
         ];
   }
 

@@ -73,6 +73,10 @@ path_slot-is_slot p plan g k d within = (within, mod_below (k + d) (size_of p g)
 pub claimed-same : {j k : ℕ} → Claimed j ≡ Claimed k → j ≡ k
 claimed-same e = cc
 
+-- a slot has one key
+pub one_key : (t : Tables) (f g i j k l : ℕ) → f ≡ g → i ≡ j → t.key f i ≡ Claimed k → t.key g j ≡ Claimed l → k ≡ l
+one_key t f g i j k l same_table same_slot i_is j_is = cc
+
 -- a slot of another key isn't the key's
 other-not : (s : KeyState) (k : ℕ) → IsOther s k → s ≡ Claimed k → ⊥
 other-not s k other is = let e : Claimed other.other ≡ Claimed k = sym other.is ∙ is in other.differs (claimed-same e)

@@ -15,7 +15,7 @@ use Rattle.nb_core.specs.declared.states.KeyState.TheVariants.{Dead, Claimed}
 use Rattle.nb_core.specs.declared.states.ValueState.TheVariants.{Live}
 
 -- an event leaves the number of words
-pub length-word_step : (p : Plan) (e : Event) (w : List ℕ) → length (word_step p e w) ≡ length w
+length-word_step : (p : Plan) (e : Event) (w : List ℕ) → length (word_step p e w) ≡ length w
 length-word_step p (Read s c r) w = refl
 length-word_step p _ w = length-set w _ _
 
