@@ -104,7 +104,7 @@ others-won p plan (e ∷ later) h legal g i k s slot is settled unprimed differs
             arith,
             one_more,
             others-won p plan later h legal.0 g i k s slot is settled (subst IsUnprimed same unprimed) (λ e. differs (same ∙ e))
-            (no_calls-before e later s none),
+                (no_calls-before e later s none),
           )
       | inr change ↦
           let lasts = seen_lasts p plan later h legal.0 in
