@@ -17,7 +17,7 @@ pub record IsFilled (f : ℕ → ℕ) (xs : List ℕ) (n : ℕ) : Type 0 where
   pub filled : (k : ℕ) → k < n → get_or xs k 0 ≡ f k
   pub empty : (k : ℕ) → n ≤ k → k < 16 → get_or xs k 0 ≡ 0
 
-pub IsFilled-more : (f : ℕ → ℕ) (xs : List ℕ) (n v : ℕ) → IsFilled f xs n → n < 16 → v ≡ f n → IsFilled f (set xs n v) (n + 1)
+IsFilled-more : (f : ℕ → ℕ) (xs : List ℕ) (n v : ℕ) → IsFilled f xs n → n < 16 → v ≡ f n → IsFilled f (set xs n v) (n + 1)
 IsFilled-more f xs n v h within e = record {
   size = length-set xs n v ∙ h.size;
   filled = λ k below. elim (cases_eq k n) [
@@ -28,7 +28,7 @@ IsFilled-more f xs n v h within e = record {
 }
 
 -- the place past the first n tables
-abbrev pub end_of : List ℕ → ℕ → ℕ
+abbrev end_of : List ℕ → ℕ → ℕ
 end_of exponents n = 1 + sum_by table_words (take n exponents)
 
 -- the first n tables are laid out
@@ -78,7 +78,7 @@ take-filled exponents xs h few =
     get_or-take (length exponents) xs i 0 within ∙ h.filled i within)
 
 -- the fields of a shape whose tables are all laid out
-abbrev pub laid : Plan → List ℕ → List ℕ → ℕ → Inside
+abbrev laid : Plan → List ℕ → List ℕ → ℕ → Inside
 laid p xs ys end = record { exponents = xs; bases = ys; words = end; generations = generations_of p; seats = p.seats; stripes = p.stripes }
 
 pub plan_of-laid : (p : Plan) (xs ys : List ℕ) (end n : ℕ) → IsPlan p → n ≡ generations_of p → AreLaid p.exponents xs ys end n → plan_of (laid p xs ys end) ≡ p

@@ -1,247 +1,47 @@
 -- Each step keeps the invariant, so it holds after every legal history.
-use Rattle.std.proofs.Common.{◌≡◌, ◌≢◌, ◌∙◌, ℕ, ◌<◌, ◌⊎◌, suc, List, [], ◌∷◌, ap, sym, subst, refl, inl, inr, arith}
-use Rattle.std.proofs.lemmas.Bool.{cases_order}
+use Rattle.std.proofs.Common.{◌≡◌, ◌≢◌, ◌∙◌, ℕ, ◌<◌, ◌≤◌, ◌⊎◌, suc, List, [], ◌∷◌, ap, sym, subst, refl, inl, inr, arith}
 use Rattle.nb_core.specs.Plans.{Plan, IsPlan, generations_of}
 use Rattle.nb_core.specs.Tables.{HasSlot, IsComplete, IsFinishedValue, IsSlot, IsUnprimed, Tables, path_slot, tables_at}
 use Rattle.nb_core.specs.History.{IsLegal, MayClaim, MayFinish}
 use Rattle.nb_core.specs.Laws.{HasContent, primed}
-use Rattle.nb_core.proofs.Frames.{key_first, next_first, value_first}
-use Rattle.nb_core.proofs.Lasting.{IsPut, complete-stays, exchange-puts, installed-stays, key-claimed, key-was, key-was_dead, next-stays, others-stay, put-unprimed, slot-stays, value-content, value-final, value-frozen, value-primed, value-unclaimed}
-use Rattle.nb_core.proofs.Sound.{HasGot, HasKey, IsClaimedRight, IsReached, IsSound, MayBeAbove, claimed-same, complete-growing, complete-not_empty, empty-null, finished-value, next-within, one_slot, other-not}
+use Rattle.nb_core.proofs.Frames.{key-first, next-first, value-first}
+use Rattle.nb_core.proofs.Lasting.{complete-stays, installed-stays, key-claimed, key-was, key-was_dead, next-stays, others-stay, put-unprimed, slot-stays, value-content, value-empty, value-final, value-primed_or_finished, value-primed, win-puts}
+use Rattle.nb_core.proofs.Sound.{HasGot, HasKey, IsClaimedRight, IsSound, MayBeAbove, claimed-same, complete-growing, empty-unclaimed, finished-not_empty, finished-value, next-within, no_slot-past, one_slot, primed-growing}
 use Rattle.nb_core.proofs.Steps.{NextKept, Installs, Step, ValueStep, ValueKept, Wins, Copies, Primes, Finishes, step_of}
+use Rattle.nb_core.specs.declared.numbers.TheConstants.{KEY_MAX}
 use Rattle.nb_core.specs.declared.events.Event.{Event}
 use Rattle.nb_core.specs.declared.states.KeyState.TheVariants.{Empty, Dead, Claimed}
 use Rattle.nb_core.specs.declared.states.ValueState.{ValueState}
 use Rattle.nb_core.specs.declared.states.ValueState.TheVariants.{Null, Tombstone, Live, PrimedNull, PrimedTombstone, Primed, Finished}
 
--- ---- headers
-
-keeps-next_is : (p : Plan) (t u : Tables) → IsSound p t → Step p t u → (g : ℕ) → (u.next g ≡ 0) ⊎ ((u.next g ≡ 1) × (suc g < generations_of p))
-keeps-next_is p t u s step g =
-    elim (step.next g) [
-      | NextKept e ↦ elim (s.next_is g) [ inl none ↦ inl (e ∙ none) | inr some ↦ inr (e ∙ some.0, some.1) ]
-      | Installs k may e ↦ inr (e, may.room)
-    ]
-
-keeps-ready : (p : Plan) (t u : Tables) → IsPlan p → IsSound p t → Step p t u → (g : ℕ) → u.next (suc g) ≡ 1 → (u.next g ≡ 1) × IsComplete p u g
-keeps-ready p t u plan s step g is =
-    elim (step.next (suc g)) [
-      | NextKept e ↦
-          let before = s.ready g (sym e ∙ is) in
-          let within = next-within p t s g before.0 in
-          (next-stays p t g (u.next g) (step.next g) before.0, complete-stays p t u step g (omega arith) before.1)
-      | Installs k may e ↦
-          let room = may.room in
-          let next : t.next g ≡ 1 = complete-growing p t plan s g (omega arith) may.ready in
-          (next-stays p t g (u.next g) (step.next g) next, complete-stays p t u step g (omega arith) may.ready)
-    ]
-
--- ---- keys
-
-reached-stays : (p : Plan) (t u : Tables) → IsPlan p → Step p t u → (g i k : ℕ) → g < generations_of p → IsReached p t g i k → IsReached p u g i k
-reached-stays p t u plan step g i k within r =
-    record { distance = r.distance; in_table = r.in_table; at = r.at; passed = others-stay p t u plan step g k r.distance within r.passed }
-
-keeps-claimed : (p : Plan) (t u : Tables) → IsPlan p → IsSound p t → Step p t u → (g i k : ℕ) → IsSlot p g i → u.key g i ≡ Claimed k → IsClaimedRight p u g i k
-keeps-claimed p t u plan s step g i k slot is =
-    elim (key-was p t g i k (u.key g i) (step.key g i slot) is) [
-      | inl was ↦
-          let before = s.claimed g i k slot was in
-          record {
-            key = before.key;
-            installed = installed-stays p t u step g before.installed;
-            reached = reached-stays p t u plan step g i k slot.0 before.reached;
-          }
-      | inr claims ↦
-          let may = claims.1 in
-          record {
-            key = claims.0;
-            installed = installed-stays p t u step g may.installed;
-            reached = record {
-              distance = may.distance;
-              in_table = may.on_path.0;
-              at = may.on_path.1;
-              passed = others-stay p t u plan step g k may.distance slot.0 may.passed;
-            };
-          }
-    ]
-
-keeps-dead : (p : Plan) (t u : Tables) → IsSound p t → Step p t u → (g i : ℕ) → IsSlot p g i → u.key g i ≡ Dead → u.next g ≡ 1
-keeps-dead p t u s step g i slot is =
-    elim (key-was_dead p t g i (u.key g i) (step.key g i slot) is) [
-      | inl was ↦ next-stays p t g (u.next g) (step.next g) (s.dead g i slot was)
-      | inr next ↦ next-stays p t g (u.next g) (step.next g) next
-    ]
-
-below-stays : (p : Plan) (t u : Tables) → Step p t u → (g k : ℕ) → g < generations_of p → HasSlot p t g k ⊎ IsComplete p t g → HasSlot p u g k ⊎ IsComplete p u g
-below-stays p t u step g k within (inl has) = inl (slot-stays p t u step g k within has)
-below-stays p t u step g k within (inr complete) = inr (complete-stays p t u step g within complete)
-
-keeps-below : (p : Plan) (t u : Tables) → IsSound p t → Step p t u → (g k : ℕ) → suc g < generations_of p → HasSlot p u (suc g) k → HasSlot p u g k ⊎ IsComplete p u g
-keeps-below p t u s step g k within has =
-    elim (key-was p t (suc g) has.slot k (u.key (suc g) has.slot) (step.key (suc g) has.slot (within, has.in_table)) has.is) [
-      | inl was ↦ below-stays p t u step g k (omega arith) (s.below g k within (record { slot = has.slot; in_table = has.in_table; is = was }))
-      | inr claims ↦ elim (claims.1.reason) [
-        | inl copier ↦ below-stays p t u step g k (omega arith) (inl copier)
-        | inr fresh ↦ below-stays p t u step g k (omega arith) (inr fresh.0)
-      ]
-    ]
-
 -- ---- values
-
-keeps-growing : (p : Plan) (t u : Tables) → IsSound p t → Step p t u → (g i : ℕ) → IsSlot p g i → IsUnprimed (u.value g i) ⊎ (u.next g ≡ 1)
-keeps-growing p t u s step g i slot =
-    let stays = next-stays p t g (u.next g) (step.next g) in
-    elim (step.value g i slot) [
-      | ValueKept e ↦ elim (s.growing g i slot) [ inl unprimed ↦ inl (subst IsUnprimed (sym e) unprimed) | inr next ↦ inr (stays next) ]
-      | Wins a b c may e ↦ inl (subst IsUnprimed (sym e) (put-unprimed b (exchange-puts c may.key a b may.exchange)))
-      | Copies k n may e ↦ inl (subst IsUnprimed (sym e) tt)
-      | Primes may e ↦ inr (stays may.growing)
-      | Finishes may e ↦ elim (s.growing g i slot) [ inl unprimed ↦ absurd (subst IsUnprimed may.primed unprimed) | inr next ↦ inr (stays next) ]
-    ]
-
-key-stays-some : (p : Plan) (t u : Tables) → Step p t u → (g i k : ℕ) → IsSlot p g i → t.key g i ≡ Claimed k → HasKey (u.key g i)
-key-stays-some p t u step g i k slot is = record { key = k; is = key-claimed p t g i k (u.key g i) (step.key g i slot) is }
-
-keeps-bare : (p : Plan) (t u : Tables) → IsSound p t → Step p t u → (g i : ℕ) → IsSlot p g i → (u.value g i ≡ Null) ⊎ HasKey (u.key g i)
-keeps-bare p t u s step g i slot =
-    elim (step.value g i slot) [
-      | ValueKept e ↦ elim (s.bare g i slot) [ inl null ↦ inl (e ∙ null) | inr key ↦ inr (key-stays-some p t u step g i key.key slot key.is) ]
-      | Wins a b c may e ↦ inr (key-stays-some p t u step g i may.key slot may.claimed)
-      | Copies k n may e ↦ inr (key-stays-some p t u step g i k slot may.claimed)
-      | Primes may e ↦ inr (key-stays-some p t u step g i may.key slot may.claimed)
-      | Finishes may e ↦ inr (key-stays-some p t u step g i may.key slot may.claimed)
-    ]
-
--- a key that is being claimed has no slot in the table
-claim-is_first : (p : Plan) (t : Tables) → IsSound p t → (g i k : ℕ) → g < generations_of p → MayClaim p t g i k → HasSlot p t g k → ⊥
-claim-is_first p t s g i k within may has =
-    let r = (s.claimed g has.slot k (within, has.in_table) has.is).reached in
-    let at : t.key g (path_slot p g k r.distance) ≡ Claimed k = ap (t.key g) r.at ∙ has.is in
-    let empty : t.key g (path_slot p g k may.distance) ≡ Empty = ap (t.key g) may.on_path.1 ∙ may.empty in
-    elim (cases_order r.distance may.distance) [
-      | inl same ↦ (let e : Claimed k ≡ Empty = sym at ∙ ap (λ d. t.key g (path_slot p g k d)) same ∙ empty in cc)
-      | inr (inl before) ↦ other-not _ k (may.passed r.distance before) at
-      | inr (inr after) ↦ (let other = r.passed may.distance after in let e : Claimed other.other ≡ Empty = sym other.is ∙ empty in cc)
-    ]
-
--- no slot of the key is claimed where the next table has one
-pub not_late : (p : Plan) (t : Tables) → IsSound p t → (g i k : ℕ) → suc g < generations_of p → IsSlot p g i → MayClaim p t g i k → HasSlot p t (suc g) k → ⊥
-not_late p t s g i k within slot may has =
-    elim (s.below g k within has) [
-      | inl below ↦ claim-is_first p t s g i k slot.0 may below
-      | inr complete ↦ complete-not_empty p t s g i slot complete may.empty
-    ]
 
 -- under a final value anything may stand above, and under an unprimed one nothing
 final-above : (v above : ValueState) → IsFinishedValue v → MayBeAbove v above
 final-above Null above final = final
 final-above Tombstone above final = final
 final-above (Live n) above final = final
-final-above PrimedNull above final = tt
-final-above PrimedTombstone above final = tt
 final-above (Primed n) above final = absurd final
-final-above (Finished n) above final = tt
+final-above _ above final = tt
 
 pub above-primed : (v above : ValueState) → MayBeAbove v above → IsUnprimed v → ⊥
 above-primed Null above may unprimed = may
 above-primed Tombstone above may unprimed = may
 above-primed (Live n) above may unprimed = may
-above-primed PrimedNull above may unprimed = unprimed
-above-primed PrimedTombstone above may unprimed = unprimed
-above-primed (Primed n) above may unprimed = unprimed
-above-primed (Finished n) above may unprimed = unprimed
-
--- what may stand above a value still may after a step below
-above-stays : (p : Plan) (t : Tables) (g i : ℕ) (to above : ValueState) → ValueStep p t g i to → MayBeAbove (t.value g i) above → MayBeAbove to above
-above-stays p t g i to above step may =
-    elim (value-primed p t g i to step (above-primed (t.value g i) above may)) [
-      | inl e ↦ subst (λ v. MayBeAbove v above) (sym e) may
-      | inr finishes ↦ subst (λ v. MayBeAbove v above) (sym finishes.2) tt
-    ]
+above-primed _ above may unprimed = unprimed
 
 -- the copy of a number may stand above it
 copy-above : (v : ValueState) (n : ℕ) → (v ≡ Primed n) ⊎ (v ≡ Finished n) → MayBeAbove v (Live n)
 copy-above v n (inl primed) = subst (λ x. MayBeAbove x (Live n)) (sym primed) refl
 copy-above v n (inr finished) = subst (λ x. MayBeAbove x (Live n)) (sym finished) tt
 
--- a slot with a key in a complete table is final after the step too
-final-above_step : (p : Plan) (t : Tables) (g i : ℕ) (to above : ValueState) → ValueStep p t g i to → IsFinishedValue (t.value g i) → MayBeAbove to above
-final-above_step p t g i to above step final =
-    subst (λ v. MayBeAbove v above) (sym (value-final p t g i to step final)) (final-above (t.value g i) above final)
-
--- both slots were the key's before
-keeps-above_both : (p : Plan) (t u : Tables) → IsPlan p → IsSound p t → Step p t u → (g i j k : ℕ) → IsSlot p g i → IsSlot p (suc g) j → t.key g i ≡ Claimed k → t.key (suc g) j ≡ Claimed k → (u.value (suc g) j ≡ Null) ⊎ MayBeAbove (u.value g i) (u.value (suc g) j)
-keeps-above_both p t u plan s step g i j k i_slot j_slot i_is j_is =
-    let below = step.value g i i_slot in
-    let complete_below : t.next (suc g) ≡ 1 → IsFinishedValue (t.value g i) = λ next. finished-value t g i k ((s.ready g next).1 i i_slot.1) i_is in
-    elim (step.value (suc g) j j_slot) [
-      | ValueKept e ↦ elim (s.above g i j k i_slot j_slot i_is j_is) [
-        | inl null ↦ inl (e ∙ null)
-        | inr may ↦ inr (above-stays p t g i (u.value g i) (u.value (suc g) j) below (subst (MayBeAbove (t.value g i)) (sym e) may))
-      ]
-      | Wins a b c may e ↦
-          let same : k ≡ may.key = claimed-same (sym j_is ∙ may.claimed) in
-          inr (final-above_step p t g i (u.value g i) (u.value (suc g) j) below (may.settled i i_slot.1 (i_is ∙ ap Claimed same)))
-      | Copies k' n may e ↦
-          let same : k' ≡ k = claimed-same (sym may.claimed ∙ j_is) in
-          let source = may.primed in
-          let slot : source.0 ≡ i = one_slot p t plan s g source.0 i k (i_slot.0, source.1) i_slot (source.2 ∙ ap Claimed same) i_is in
-          let primed : t.value g i ≡ Primed n = ap (t.value g) (sym slot) ∙ source.3 in
-          inr (subst (MayBeAbove (u.value g i)) (sym e) (copy-above (u.value g i) n (value-frozen p t g i n (u.value g i) below (inl primed))))
-      | Primes may e ↦ inr (final-above_step p t g i (u.value g i) (u.value (suc g) j) below (complete_below may.growing))
-      | Finishes may e ↦ elim (s.growing (suc g) j j_slot) [
-        | inl unprimed ↦ absurd (subst IsUnprimed may.primed unprimed)
-        | inr next ↦ inr (final-above_step p t g i (u.value g i) (u.value (suc g) j) below (complete_below next))
-      ]
-    ]
-
-keeps-above : (p : Plan) (t u : Tables) → IsPlan p → IsSound p t → Step p t u → (g i j k : ℕ) → IsSlot p g i → IsSlot p (suc g) j → u.key g i ≡ Claimed k → u.key (suc g) j ≡ Claimed k → (u.value (suc g) j ≡ Null) ⊎ MayBeAbove (u.value g i) (u.value (suc g) j)
-keeps-above p t u plan s step g i j k i_slot j_slot i_is j_is =
-    elim (key-was p t (suc g) j k (u.key (suc g) j) (step.key (suc g) j j_slot) j_is) [
-      | inr claims ↦
-          let unclaimed : (q : ℕ) → t.key (suc g) j ≢ Claimed q = λ q is. let e : Empty ≡ Claimed q = sym claims.1.empty ∙ is in cc in
-          inl (value-unclaimed p t (suc g) j (u.value (suc g) j) (step.value (suc g) j j_slot) unclaimed ∙ empty-null p t s (suc g) j j_slot claims.1.empty)
-      | inl j_was ↦ elim (key-was p t g i k (u.key g i) (step.key g i i_slot) i_is) [
-        | inr claims ↦ absurd (not_late p t s g i k j_slot.0 i_slot claims.1 (record { slot = j; in_table = j_slot.1; is = j_was }))
-        | inl i_was ↦ keeps-above_both p t u plan s step g i j k i_slot j_slot i_was j_was
-      ]
-    ]
-
 -- a value that is neither null nor a primed one has a content
-pub content-is : (v : ValueState) → v ≢ Null → v ≢ PrimedNull → HasContent v
+content-is : (v : ValueState) → v ≢ Null → v ≢ PrimedNull → HasContent v
 content-is Null some unprimed = some refl
-content-is Tombstone some unprimed = tt
-content-is (Live n) some unprimed = tt
 content-is PrimedNull some unprimed = unprimed refl
-content-is PrimedTombstone some unprimed = tt
-content-is (Primed n) some unprimed = tt
-content-is (Finished n) some unprimed = tt
+content-is _ some unprimed = tt
 
-pub got-stays : (p : Plan) (t u : Tables) → Step p t u → (g k : ℕ) → HasGot p t g k → HasGot p u g k
-got-stays p t u step g k got = record {
-  slot = got.slot;
-  is_slot = got.is_slot;
-  is = key-claimed p t g got.slot k (u.key g got.slot) (step.key g got.slot got.is_slot) got.is;
-  content = value-content p t g got.slot (u.value g got.slot) (step.value g got.slot got.is_slot) got.content;
-}
-
--- the value that a finished number was copied to is no primed null: its table has no next one yet
-finishes-got : (p : Plan) (t : Tables) → IsSound p t → (g i k : ℕ) → IsSlot p g i → (may : MayFinish p t g i) → HasGot p t (suc g) may.key
-finishes-got p t s g i k slot may =
-    let next : t.next g ≡ 1 = elim (s.growing g i slot) [ inl unprimed ↦ absurd (subst IsUnprimed may.primed unprimed) | inr next ↦ next ] in
-    let copied = may.copied in
-    let copied_slot : IsSlot p (suc g) copied.slot = (next-within p t s g next, copied.in_table) in
-    record {
-      slot = copied.slot;
-      is_slot = copied_slot;
-      is = copied.is;
-      content = content-is (t.value (suc g) copied.slot) copied.some (λ primed_null. elim (s.growing (suc g) copied.slot copied_slot) [
-        | inl unprimed ↦ subst IsUnprimed primed_null unprimed
-        | inr next ↦ subst IsFinishedValue may.primed (finished-value t g i may.key ((s.ready g next).1 i slot.1) may.claimed)
-      ]);
-    }
-
+-- priming makes no finished number of a value that isn't primed
 primed-not_finished : (v : ValueState) (n : ℕ) → IsUnprimed v → primed v ≢ Finished n
 primed-not_finished Null n unprimed e = cc
 primed-not_finished Tombstone n unprimed e = cc
@@ -251,35 +51,242 @@ primed-not_finished PrimedTombstone n unprimed e = unprimed
 primed-not_finished (Primed m) n unprimed e = unprimed
 primed-not_finished (Finished m) n unprimed e = unprimed
 
-keeps-moved : (p : Plan) (t u : Tables) → IsSound p t → Step p t u → (g i k n : ℕ) → IsSlot p g i → u.key g i ≡ Claimed k → u.value g i ≡ Finished n → HasGot p u (suc g) k
-keeps-moved p t u s step g i k n slot is finished =
-    elim (key-was p t g i k (u.key g i) (step.key g i slot) is) [
-      | inr claims ↦
-          let unclaimed : (q : ℕ) → t.key g i ≢ Claimed q = λ q is. let e : Empty ≡ Claimed q = sym claims.1.empty ∙ is in cc in
-          absurd (let e : Finished n ≡ Null = sym finished ∙ value-unclaimed p t g i (u.value g i) (step.value g i slot) unclaimed ∙ empty-null p t s g i slot claims.1.empty in cc)
-      | inl was ↦ elim (step.value g i slot) [
-        | ValueKept e ↦ got-stays p t u step (suc g) k (s.moved g i k n slot was (sym e ∙ finished))
-        | Wins a b c may e ↦ absurd (subst IsPut (sym e ∙ finished) (exchange-puts c may.key a b may.exchange))
-        | Copies q m may e ↦ absurd (let same : Live m ≡ Finished n = sym e ∙ finished in cc)
-        | Primes may e ↦ absurd (primed-not_finished (t.value g i) n may.unprimed (sym e ∙ finished))
-        | Finishes may e ↦ got-stays p t u step (suc g) k (subst (HasGot p t (suc g)) (claimed-same (sym may.claimed ∙ was)) (finishes-got p t s g i k slot may))
-      ]
+-- what may stand above a value still may after a step below
+above-stays :
+    {p : Plan} {t : Tables} {g i : ℕ} {to : ValueState} (above : ValueState) → ValueStep p t g i to → MayBeAbove (t.value g i) above
+    → MayBeAbove to above
+above-stays {t = t} {g = g} {i = i} above step may =
+    elim (value-primed step (above-primed (t.value g i) above may)) [
+      | inl e ↦ subst (λ v. MayBeAbove v above) (sym e) may
+      | inr finishes ↦ subst (λ v. MayBeAbove v above) (sym finishes.2) tt
     ]
 
--- ---- the invariant
+-- a slot with a key in a complete table is final after the step too
+final-above_step :
+    {p : Plan} {t : Tables} {g i : ℕ} {to : ValueState} (above : ValueState) → ValueStep p t g i to → IsFinishedValue (t.value g i)
+    → MayBeAbove to above
+final-above_step {t = t} {g = g} {i = i} above step final =
+    subst (λ v. MayBeAbove v above) (sym (value-final step final)) (final-above (t.value g i) above final)
 
-keeps : (p : Plan) (t u : Tables) → IsPlan p → IsSound p t → Step p t u → IsSound p u
-keeps p t u plan s step = record {
-  next_is = keeps-next_is p t u s step;
-  ready = keeps-ready p t u plan s step;
-  claimed = keeps-claimed p t u plan s step;
-  dead = keeps-dead p t u s step;
-  growing = keeps-growing p t u s step;
-  bare = keeps-bare p t u s step;
-  below = keeps-below p t u s step;
-  above = keeps-above p t u plan s step;
-  moved = keeps-moved p t u s step;
+-- ---- what an event needs
+
+-- a key that is being claimed has no slot in the table
+claim-first : (p : Plan) (t : Tables) → IsSound p t → (g i k : ℕ) → g < generations_of p → MayClaim p t g i k → HasSlot p t g k → ⊥
+claim-first p t s g i k within may has =
+    let empty : t.key g (path_slot p g k may.distance) ≡ Empty = ap (t.key g) may.on_path.1 ∙ may.empty in
+    no_slot-past p t s g k may.distance within may.passed (empty-unclaimed empty) has.slot has.in_table has.is
+
+-- the slot that is claimed is what a claimed one has to be
+claim-right : (p : Plan) (t : Tables) (g i k : ℕ) → k ≤ KEY_MAX → MayClaim p t g i k → IsClaimedRight p t g i k
+claim-right p t g i k fits may = record {
+  key = fits;
+  installed = may.installed;
+  reached = record { distance = may.distance; in_table = may.on_path.0; at = may.on_path.1; passed = may.passed };
 }
+
+-- no slot of the key is claimed where the next table has one
+pub claim-not_late :
+    (p : Plan) (t : Tables) → IsSound p t → (g i k : ℕ) → suc g < generations_of p → IsSlot p g i → MayClaim p t g i k
+    → HasSlot p t (suc g) k → ⊥
+claim-not_late p t s g i k within slot may has =
+    elim (s.below g k within has) [
+      | inl below ↦ claim-first p t s g i k slot.0 may below
+      | inr complete ↦ finished-not_empty p t s g i slot (complete i slot.1) may.empty
+    ]
+
+-- the value that a finished number was copied to is no primed null: its table has no next one yet
+finishes-got : (p : Plan) (t : Tables) → IsSound p t → (g i : ℕ) → IsSlot p g i → (may : MayFinish p t g i) → HasGot p t (suc g) may.key
+finishes-got p t s g i slot may =
+    let next = primed-growing p t s g i slot (λ unprimed. subst IsUnprimed may.primed unprimed) in
+    let copied = may.copied in
+    let copied_slot : IsSlot p (suc g) copied.slot = (next-within p t s g next, copied.in_table) in
+    record {
+      slot = copied.slot;
+      is_slot = copied_slot;
+      is = copied.is;
+      content = content-is (t.value (suc g) copied.slot) copied.some (λ primed_null.
+          let above = primed-growing p t s (suc g) copied.slot copied_slot (λ unprimed. subst IsUnprimed primed_null unprimed) in
+          subst IsFinishedValue may.primed (finished-value t g i may.key ((s.ready g above).1 i slot.1) may.claimed));
+    }
+
+-- ---- a step keeps each part of the invariant
+
+module _ (p : Plan) (t u : Tables) (plan : IsPlan p) (s : IsSound p t) (step : Step p t u) where
+  -- next words are 0 or 1
+  keeps-next_is : (g : ℕ) → (u.next g ≡ 0) ⊎ ((u.next g ≡ 1) × (suc g < generations_of p))
+  keeps-next_is g =
+      elim (step.next g) [
+        | NextKept e ↦ elim (s.next_is g) [ inl none ↦ inl (e ∙ none) | inr some ↦ inr (e ∙ some.0, some.1) ]
+        | Installs k may e ↦ inr (e, may.room)
+      ]
+
+  -- tables are installed in order
+  keeps-ready : (g : ℕ) → u.next (suc g) ≡ 1 → (u.next g ≡ 1) × IsComplete p u g
+  keeps-ready g is =
+      elim (step.next (suc g)) [
+        | NextKept e ↦
+            let before = s.ready g (sym e ∙ is) in
+            let within = next-within p t s g before.0 in
+            (next-stays (step.next g) before.0, complete-stays p t u step g (omega arith) before.1)
+        | Installs k may e ↦
+            let room = may.room in
+            let next : t.next g ≡ 1 = complete-growing p t plan s g (omega arith) may.ready in
+            (next-stays (step.next g) next, complete-stays p t u step g (omega arith) may.ready)
+      ]
+
+  -- claimed slots
+  keeps-claimed : (g i k : ℕ) → IsSlot p g i → u.key g i ≡ Claimed k → IsClaimedRight p u g i k
+  keeps-claimed g i k slot is =
+      let before : IsClaimedRight p t g i k = elim (key-was (step.key g i slot) is) [
+        | inl was ↦ s.claimed g i k slot was
+        | inr claims ↦ claim-right p t g i k claims.0 claims.1
+      ] in
+      let r = before.reached in
+      let passed = others-stay p t u step plan g k r.distance slot.0 r.passed in
+      record {
+        key = before.key;
+        installed = installed-stays p t u step g before.installed;
+        reached = record { distance = r.distance; in_table = r.in_table; at = r.at; passed = passed };
+      }
+
+  -- closed slots are in a table that has a next one,
+  keeps-dead : (g i : ℕ) → IsSlot p g i → u.key g i ≡ Dead → u.next g ≡ 1
+  keeps-dead g i slot is =
+      elim (key-was_dead (step.key g i slot) is) [
+        | inl was ↦ next-stays (step.next g) (s.dead g i slot was)
+        | inr next ↦ next-stays (step.next g) next
+      ]
+
+  -- and so are primed values
+  keeps-growing : (g i : ℕ) → IsSlot p g i → IsUnprimed (u.value g i) ⊎ (u.next g ≡ 1)
+  keeps-growing g i slot =
+      let stays = next-stays (step.next g) in
+      elim (step.value g i slot) [
+        | ValueKept e ↦ elim (s.growing g i slot) [
+          | inl unprimed ↦ inl (subst IsUnprimed (sym e) unprimed)
+          | inr next ↦ inr (stays next)
+        ]
+        | Wins a b c may e ↦ inl (subst IsUnprimed (sym e) (put-unprimed (win-puts may)))
+        | Copies k n may e ↦ inl (subst IsUnprimed (sym e) tt)
+        | Primes may e ↦ inr (stays may.growing)
+        | Finishes may e ↦ inr (stays (primed-growing p t s g i slot (λ unprimed. subst IsUnprimed may.primed unprimed)))
+      ]
+
+  -- the key still has a slot, or the table is still complete
+  below-stays : (g k : ℕ) → g < generations_of p → HasSlot p t g k ⊎ IsComplete p t g → HasSlot p u g k ⊎ IsComplete p u g
+  below-stays g k within (inl has) = inl (slot-stays p t u step g k within has)
+  below-stays g k within (inr complete) = inr (complete-stays p t u step g within complete)
+
+  -- a key gets into the next table from this one, or once this one is complete
+  keeps-below : (g k : ℕ) → suc g < generations_of p → HasSlot p u (suc g) k → HasSlot p u g k ⊎ IsComplete p u g
+  keeps-below g k within has =
+      elim (key-was (step.key (suc g) has.slot (within, has.in_table)) has.is) [
+        | inl was ↦ below-stays g k (omega arith) (s.below g k within (record { slot = has.slot; in_table = has.in_table; is = was }))
+        | inr claims ↦ elim (claims.1.reason) [
+          | inl copier ↦ below-stays g k (omega arith) (inl copier)
+          | inr fresh ↦ below-stays g k (omega arith) (inr fresh.0)
+        ]
+      ]
+
+  -- a slot with a key has one after the step
+  has_key-stays : (g i k : ℕ) → IsSlot p g i → t.key g i ≡ Claimed k → HasKey (u.key g i)
+  has_key-stays g i k slot is = record { key = k; is = key-claimed (step.key g i slot) is }
+
+  -- only claimed slots have a value
+  keeps-bare : (g i : ℕ) → IsSlot p g i → (u.value g i ≡ Null) ⊎ HasKey (u.key g i)
+  keeps-bare g i slot =
+      elim (step.value g i slot) [
+        | ValueKept e ↦ elim (s.bare g i slot) [ inl null ↦ inl (e ∙ null) | inr key ↦ inr (has_key-stays g i key.key slot key.is) ]
+        | Wins a b c may e ↦ inr (has_key-stays g i may.key slot may.claimed)
+        | Copies k n may e ↦ inr (has_key-stays g i k slot may.claimed)
+        | Primes may e ↦ inr (has_key-stays g i may.key slot may.claimed)
+        | Finishes may e ↦ inr (has_key-stays g i may.key slot may.claimed)
+      ]
+
+  -- both slots were the key's before
+  keeps-above_both :
+      (g i j k : ℕ) → IsSlot p g i → IsSlot p (suc g) j → t.key g i ≡ Claimed k → t.key (suc g) j ≡ Claimed k
+      → (u.value (suc g) j ≡ Null) ⊎ MayBeAbove (u.value g i) (u.value (suc g) j)
+  keeps-above_both g i j k i_slot j_slot i_is j_is =
+      let below = step.value g i i_slot in
+      let complete_below : t.next (suc g) ≡ 1 → IsFinishedValue (t.value g i) =
+      λ next. finished-value t g i k ((s.ready g next).1 i i_slot.1) i_is in
+      elim (step.value (suc g) j j_slot) [
+        | ValueKept e ↦ elim (s.above g i j k i_slot j_slot i_is j_is) [
+          | inl null ↦ inl (e ∙ null)
+          | inr may ↦ inr (above-stays _ below (subst (MayBeAbove (t.value g i)) (sym e) may))
+        ]
+        | Wins a b c may e ↦
+            let same : k ≡ may.key = claimed-same (sym j_is ∙ may.claimed) in
+            inr (final-above_step _ below (may.settled i i_slot.1 (i_is ∙ ap Claimed same)))
+        | Copies k' n may e ↦
+            let same : k' ≡ k = claimed-same (sym may.claimed ∙ j_is) in
+            let source = may.primed in
+            let slot : source.0 ≡ i = one_slot p t s g source.0 i k (i_slot.0, source.1) i_slot (source.2 ∙ ap Claimed same) i_is in
+            let primed : t.value g i ≡ Primed n = ap (t.value g) (sym slot) ∙ source.3 in
+            inr (subst (MayBeAbove (u.value g i)) (sym e) (copy-above (u.value g i) n (value-primed_or_finished below (inl primed))))
+        | Primes may e ↦ inr (final-above_step _ below (complete_below may.growing))
+        | Finishes may e ↦
+            let next = primed-growing p t s (suc g) j j_slot (λ unprimed. subst IsUnprimed may.primed unprimed) in
+            inr (final-above_step _ below (complete_below next))
+      ]
+
+  -- a key's values in two tables
+  keeps-above :
+      (g i j k : ℕ) → IsSlot p g i → IsSlot p (suc g) j → u.key g i ≡ Claimed k → u.key (suc g) j ≡ Claimed k
+      → (u.value (suc g) j ≡ Null) ⊎ MayBeAbove (u.value g i) (u.value (suc g) j)
+  keeps-above g i j k i_slot j_slot i_is j_is =
+      elim (key-was (step.key (suc g) j j_slot) j_is) [
+        | inr claims ↦ inl (value-empty s j_slot (step.value (suc g) j j_slot) claims.1.empty)
+        | inl j_was ↦ elim (key-was (step.key g i i_slot) i_is) [
+          | inr claims ↦
+              absurd (claim-not_late p t s g i k j_slot.0 i_slot claims.1 (record { slot = j; in_table = j_slot.1; is = j_was }))
+          | inl i_was ↦ keeps-above_both g i j k i_slot j_slot i_was j_was
+        ]
+      ]
+
+  -- what a key got in a table it has there
+  got-stays : (g k : ℕ) → HasGot p t g k → HasGot p u g k
+  got-stays g k got = record {
+    slot = got.slot;
+    is_slot = got.is_slot;
+    is = key-claimed (step.key g got.slot got.is_slot) got.is;
+    content = value-content (step.value g got.slot got.is_slot) got.content;
+  }
+
+  -- finished numbers have been copied
+  keeps-moved : (g i k n : ℕ) → IsSlot p g i → u.key g i ≡ Claimed k → u.value g i ≡ Finished n → HasGot p u (suc g) k
+  keeps-moved g i k n slot is finished =
+      elim (key-was (step.key g i slot) is) [
+        | inr claims ↦
+            absurd (let e : Finished n ≡ Null = sym finished ∙ value-empty s slot (step.value g i slot) claims.1.empty in cc)
+        | inl was ↦ elim (step.value g i slot) [
+          | ValueKept e ↦ got-stays (suc g) k (s.moved g i k n slot was (sym e ∙ finished))
+          | Wins a b c may e ↦
+              absurd (subst IsUnprimed (sym e ∙ finished) (put-unprimed (win-puts may)))
+          | Copies q m may e ↦ absurd (let same : Live m ≡ Finished n = sym e ∙ finished in cc)
+          | Primes may e ↦ absurd (primed-not_finished (t.value g i) n may.unprimed (sym e ∙ finished))
+          | Finishes may e ↦
+              let same : may.key ≡ k = claimed-same (sym may.claimed ∙ was) in
+              got-stays (suc g) k (subst (HasGot p t (suc g)) same (finishes-got p t s g i slot may))
+        ]
+      ]
+
+  -- all of it
+  keeps-sound : IsSound p u
+  keeps-sound = record {
+    next_is = keeps-next_is;
+    ready = keeps-ready;
+    claimed = keeps-claimed;
+    dead = keeps-dead;
+    growing = keeps-growing;
+    bare = keeps-bare;
+    below = keeps-below;
+    above = keeps-above;
+    moved = keeps-moved;
+  }
+
+-- ---- the invariant
 
 -- tables with nothing in them
 record IsBlank (p : Plan) (t : Tables) : Type 0 where
@@ -287,22 +294,22 @@ record IsBlank (p : Plan) (t : Tables) : Type 0 where
   pub value : (g i : ℕ) → IsSlot p g i → t.value g i ≡ Null
   pub next : (g : ℕ) → t.next g ≡ 0
 
-blank-not_claimed : (p : Plan) (t : Tables) → IsBlank p t → (g i k : ℕ) → IsSlot p g i → t.key g i ≢ Claimed k
-blank-not_claimed p t b g i k slot is = let e : Empty ≡ Claimed k = sym (b.key g i slot) ∙ is in cc
-
+-- such tables are sound
 blank-sound : (p : Plan) (t : Tables) → IsBlank p t → IsSound p t
 blank-sound p t b = record {
   next_is = λ g. inl (b.next g);
   ready = λ g next. absurd (let e = b.next (suc g) in omega arith);
-  claimed = λ g i k slot is. absurd (blank-not_claimed p t b g i k slot is);
+  claimed = λ g i k slot is. absurd (empty-unclaimed (b.key g i slot) k is);
   dead = λ g i slot is. absurd (let e : Empty ≡ Dead = sym (b.key g i slot) ∙ is in cc);
   growing = λ g i slot. inl (subst IsUnprimed (sym (b.value g i slot)) tt);
   bare = λ g i slot. inl (b.value g i slot);
-  below = λ g k within has. absurd (blank-not_claimed p t b (suc g) has.slot k (within, has.in_table) has.is);
-  above = λ g i j k i_slot j_slot i_is j_is. absurd (blank-not_claimed p t b g i k i_slot i_is);
-  moved = λ g i k n slot is finished. absurd (blank-not_claimed p t b g i k slot is);
+  below = λ g k within has. absurd (empty-unclaimed (b.key (suc g) has.slot (within, has.in_table)) k has.is);
+  above = λ g i j k i_slot j_slot i_is j_is. absurd (empty-unclaimed (b.key g i i_slot) k i_is);
+  moved = λ g i k n slot is finished. absurd (empty-unclaimed (b.key g i slot) k is);
 }
 
+-- so the tables of each legal history are
 pub sound : (p : Plan) (h : List Event) → IsPlan p → IsLegal p h → IsSound p (tables_at p h)
-sound p [] plan legal = blank-sound p (tables_at p []) (record { key = key_first p plan; value = value_first p plan; next = next_first p plan })
-sound p (e ∷ h) plan legal = keeps p (tables_at p h) (tables_at p (e ∷ h)) plan (sound p h plan legal.0) (step_of p e h plan legal)
+sound p [] plan legal =
+    blank-sound p (tables_at p []) (record { key = key-first p plan; value = value-first p plan; next = next-first p plan })
+sound p (e ∷ h) plan legal = keeps-sound p (tables_at p h) (tables_at p (e ∷ h)) plan (sound p h plan legal.0) (step_of p e h plan legal)

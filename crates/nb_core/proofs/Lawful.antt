@@ -1,31 +1,28 @@
 -- The words of a legal history: what they may hold, and how they may change.
-use Rattle.std.proofs.Common.{◌≡◌, ◌≢◌, ◌∙◌, ℕ, ◌-◌, ◌+◌, ◌<◌, ◌≤◌, ◌⊎◌, zero, suc, Bool, true, false, cond, eqb, ◌&&◌, ◌||◌, Option, Some, None, MatchOption, List, [], ◌∷◌, slice_index, ap, sym, subst, subst₂, refl, inl, inr, arith}
-use Rattle.std.proofs.lemmas.Bool.{ne_eqb}
-use Rattle.nb_core.specs.Calls.{changed}
-use Rattle.nb_core.specs.Plans.{Plan, IsPlan, Top, Header, Key, Value, generations_of, header_place, size_of}
+use Rattle.std.proofs.Common.{◌≡◌, ◌≢◌, ◌∙◌, ℕ, ◌-◌, ◌+◌, ◌%◌, ◌^◌, ◌<◌, ◌≤◌, ◌⊎◌, zero, suc, cond, ◌||◌, List, [], ◌∷◌, slice_index, ap, sym, subst, subst₂, refl, inl, inr, arith}
+use Rattle.std.proofs.lemmas.Bool.{cond_both}
+use Rattle.nb_core.specs.Plans.{Plan, IsPlan, Header, generations_of, header_place, size_of}
 use Rattle.nb_core.specs.States.{IsKeyState, value_state}
-use Rattle.nb_core.specs.Tables.{IsSlot, IsUnprimed, Tables, tables_at, words_of}
-use Rattle.nb_core.specs.History.{IsExchange, IsLegal, content_of}
+use Rattle.nb_core.specs.Tables.{IsSlot, IsUnprimed, chunk_of, Tables, tables_at, words_of}
+use Rattle.nb_core.specs.History.{IsLegal}
 use Rattle.nb_core.specs.Laws.{IsKeyChange, IsValueChange, IsWonChange, LawfulChanges, LawfulWords, finished_among, is_dead, is_finished_value, primed}
 use Rattle.nb_core.proofs.Counting.{counted_once}
-use Rattle.nb_core.proofs.Frames.{finished, key_after, key_frame, never_put, value_after, value_frame, value_state-word, value_words}
+use Rattle.nb_core.proofs.Frames.{finished, key_after, key-frame, value_after, value-frame, value_state-word, value_words}
 use Rattle.nb_core.proofs.Keeping.{sound}
-use Rattle.nb_core.proofs.Later.{dead-null}
+use Rattle.nb_core.proofs.Lasting.{PutsNone, PutsNumber, Puts, win-puts}
 use Rattle.nb_core.proofs.Passing.{is_finished-true}
-use Rattle.nb_core.proofs.Sound.{IsSound, empty-null, finished-growing}
-use Rattle.nb_core.proofs.Steps.{at_slot}
-use Rattle.nb_core.proofs.Words.{length-words_of, length-word_step, one_word, word-first, word-set}
-use Rattle.nb_core.specs.declared.calls.Call.{Call}
-use Rattle.nb_core.specs.declared.calls.Call.TheVariants as call
+use Rattle.nb_core.proofs.Sound.{IsSound, dead-null, empty-null, finished-growing}
+use Rattle.nb_core.proofs.Words.{at_slot, at_table, length-words_of, one_word, word-first, word_after, word-frame}
 use Rattle.nb_core.specs.declared.events.Event.{Event}
-use Rattle.nb_core.specs.declared.events.Event.TheVariants.{Claim, Kill, Won, CopyIn, Prime, Finish, Install, Take, Count, Promote, Read}
+use Rattle.nb_core.specs.declared.events.Event.TheVariants.{Claim, Kill, Won, CopyIn, Prime, Finish, Take}
 use Rattle.nb_core.specs.declared.states.KeyState.{KeyState}
 use Rattle.nb_core.specs.declared.states.KeyState.TheVariants.{Empty, Dead, Claimed}
 use Rattle.nb_core.specs.declared.states.ValueState.{ValueState}
-use Rattle.nb_core.specs.declared.states.ValueState.TheVariants.{Null, Tombstone, Live, PrimedNull, PrimedTombstone, Primed, Finished}
+use Rattle.nb_core.specs.declared.states.ValueState.TheVariants.{Null, Tombstone, Live}
 
 -- ---- what words hold
 
+-- a slot's key is a key of the map
 key-lawful : (p : Plan) (t : Tables) → IsSound p t → (g i : ℕ) → IsSlot p g i → (s : KeyState) → t.key g i ≡ s → IsKeyState s
 key-lawful p t s g i slot Empty is = tt
 key-lawful p t s g i slot Dead is = tt
@@ -39,53 +36,52 @@ last-next p t s =
       | inr some ↦ absurd (omega arith)
     ]
 
-put-none : (b : Bool) (x y : ℕ) → b ≡ false → cond (b && true) x y ≡ y
-put-none true x y e = cc
-put-none false x y e = refl
-
 -- chunks are handed out only where there is a next table
-taken-kept : (p : Plan) (e : Event) (h : List Event) → IsPlan p → IsLegal p (e ∷ h) → (g : ℕ) → g < generations_of p → (tables_at p h).next g ≡ 0 → (tables_at p (e ∷ h)).taken g ≡ (tables_at p h).taken g
-taken-kept p (Claim s f j k) h plan legal g within none = word-set p plan (words_of p h) (length-words_of p h) (Key f j) (Header g 1) legal.1.1 (within, omega arith) _
-taken-kept p (Kill s f j) h plan legal g within none = word-set p plan (words_of p h) (length-words_of p h) (Key f j) (Header g 1) legal.1.1 (within, omega arith) _
-taken-kept p (Won s f j a b c r) h plan legal g within none = word-set p plan (words_of p h) (length-words_of p h) (Value f j) (Header g 1) legal.1.1 (within, omega arith) _
-taken-kept p (CopyIn s f j k n) h plan legal g within none = word-set p plan (words_of p h) (length-words_of p h) (Value f j) (Header g 1) legal.1.1 (within, omega arith) _
-taken-kept p (Prime s f j) h plan legal g within none = word-set p plan (words_of p h) (length-words_of p h) (Value f j) (Header g 1) legal.1.1 (within, omega arith) _
-taken-kept p (Finish s f j) h plan legal g within none = word-set p plan (words_of p h) (length-words_of p h) (Value f j) (Header g 1) legal.1.1 (within, omega arith) _
-taken-kept p (Install s f k) h plan legal g within none =
-    word-set p plan (words_of p h) (length-words_of p h) (Header f 0) (Header g 1) (legal.1.1, omega arith) (within, omega arith) _ ∙ never_put (eqb f g) _ _
-taken-kept p (Take s f) h plan legal g within none =
-    word-set p plan (words_of p h) (length-words_of p h) (Header f 1) (Header g 1) (legal.1.1, omega arith) (within, omega arith) _
-    ∙ put-none (eqb f g) _ _ (ne_eqb f g (λ same. let taken : (tables_at p h).next g ≡ 1 = subst (λ x. (tables_at p h).next x ≡ 1) same legal.2 in omega arith))
-taken-kept p (Count s f c) h plan legal g within none =
-    word-set p plan (words_of p h) (length-words_of p h) (Header f 2) (Header g 1) (legal.1.1, omega arith) (within, omega arith) _ ∙ never_put (eqb f g) _ _
-taken-kept p (Promote s f) h plan legal g within none = word-set p plan (words_of p h) (length-words_of p h) Top (Header g 1) tt (within, omega arith) _
-taken-kept p (Read s c r) h plan legal g within none = refl
+taken-kept :
+    (p : Plan) (e : Event) (h : List Event) → IsLegal p (e ∷ h) → (g : ℕ) → let t = tables_at p h in
+    t.next g ≡ 0 → word_after p e (Header g 1) (t.taken g) ≡ t.taken g
+taken-kept p (Take s f) h legal g none =
+    let t = tables_at p h in
+    at_table (λ g here. t.next g ≡ 0 → cond here ((t.taken g + chunk_of p f) % 2 ^ 64) (t.taken g) ≡ t.taken g) f g
+    (λ none. let some = legal.2 in omega arith) (λ none. refl) none
+taken-kept p _ h legal g none = refl
 
+-- there is a last table
 last-within : (p : Plan) → IsPlan p → generations_of p - 1 < generations_of p
 last-within p plan = omega (arith, plan.some_tables)
 
+-- no chunk of the last table is handed out
 last-taken : (p : Plan) (h : List Event) → IsPlan p → IsLegal p h → (tables_at p h).taken (generations_of p - 1) ≡ 0
 last-taken p [] plan legal = word-first p plan (Header (generations_of p - 1) 1) (last-within p plan, omega arith)
 last-taken p (e ∷ h) plan legal =
-    taken-kept p e h plan legal (generations_of p - 1) (last-within p plan) (last-next p (tables_at p h) (sound p h plan legal.0)) ∙ last-taken p h plan legal.0
+    let last = generations_of p - 1 in
+    word-frame p plan h (Header last 1) (last-within p plan, omega arith) e legal.1
+    ∙ taken-kept p e h legal last (last-next p (tables_at p h) (sound p h plan legal.0)) ∙ last-taken p h plan legal.0
 
 -- where there is no next table no slot is finished
-none-finished : (p : Plan) (t : Tables) → IsSound p t → (g : ℕ) → g < generations_of p → t.next g ≡ 0 → (n : ℕ) → n ≤ size_of p g → finished_among t g n ≡ 0
+none-finished :
+    (p : Plan) (t : Tables) → IsSound p t → (g : ℕ) → g < generations_of p → t.next g ≡ 0 → (n : ℕ) → n ≤ size_of p g
+    → finished_among t g n ≡ 0
 none-finished p t s g within none zero below = refl
 none-finished p t s g within none (suc n) below =
-    elim (is_dead (t.key g n) || is_finished_value (t.value g n)) as (λ b. (is_dead (t.key g n) || is_finished_value (t.value g n)) ≡ b → cond b 1 0 + finished_among t g n ≡ 0) [
-      | true ↦ λ e. absurd (let next = finished-growing p t s g n (within, below) (is_finished-true t g n e) in omega arith)
-      | false ↦ λ e. omega (arith, none-finished p t s g within none n (omega arith))
-    ] refl
+    let test = is_dead (t.key g n) || is_finished_value (t.value g n) in
+    cond_both test 1 0 (λ bit. bit + finished_among t g n ≡ 0)
+    (λ e. absurd (let next = finished-growing p t s g n (within, below) (is_finished-true t g n e) in omega arith))
+    (λ e. omega (arith, none-finished p t s g within none n (omega arith)))
 
+-- no slot of the last table is counted
 last-counted : (p : Plan) (h : List Event) → IsPlan p → IsLegal p h → (tables_at p h).counted (generations_of p - 1) ≡ 0
 last-counted p h plan legal =
     let last = generations_of p - 1 in
     let s = sound p h plan legal in
     let counts = counted_once p plan h legal last (last-within p plan) in
-    omega (arith, counts.within, none-finished p (tables_at p h) s last (last-within p plan) (last-next p (tables_at p h) s) (size_of p last) (omega arith))
+    let none = last-next p (tables_at p h) s in
+    omega (arith, counts.within, none-finished p (tables_at p h) s last (last-within p plan) none (size_of p last) (omega arith))
 
-last-headers : (p : Plan) (h : List Event) → IsPlan p → IsLegal p h → (n : ℕ) → n < 3 → slice_index (words_of p h) (header_place p (generations_of p - 1) n) ≡ 0
+-- so the last table's header words are 0
+last-headers :
+    (p : Plan) (h : List Event) → IsPlan p → IsLegal p h → (n : ℕ) → n < 3
+    → slice_index (words_of p h) (header_place p (generations_of p - 1) n) ≡ 0
 last-headers p h plan legal zero header = last-next p (tables_at p h) (sound p h plan legal)
 last-headers p h plan legal (suc zero) header = last-taken p h plan legal
 last-headers p h plan legal (suc (suc zero)) header = last-counted p h plan legal
@@ -95,82 +91,77 @@ pub lawful_words : LawfulWords
 lawful_words p plan h legal =
     let s = sound p h plan legal in
     record {
+      length = length-words_of p h;
       keys = λ g i slot. key-lawful p (tables_at p h) s g i slot _ refl;
-      values = λ g i slot. let w = value_words p h plan legal g i slot in record { state = (tables_at p h).value g i; decodes = ap value_state w.is ∙ value_state-word _ w.in_range };
-      empty = λ g i slot is. empty-null p (tables_at p h) s g i slot is;
-      dead = λ g i slot is. dead-null p (tables_at p h) s g i slot is;
-      last = last-headers p h plan legal;
+      values = λ g i slot.
+          let w = value_words p h plan legal g i slot in
+          record { state = (tables_at p h).value g i; decodes = ap value_state w.is ∙ value_state-word _ w.in_range };
+      empty_is_null = λ g i slot is. empty-null p (tables_at p h) s g i slot is;
+      dead_is_null = λ g i slot is. dead-null p (tables_at p h) s g i slot is;
+      last_headers = last-headers p h plan legal;
     }
 
 -- ---- how words change
 
-won-null : (a : ValueState) (n : ℕ) → IsUnprimed a → Live n ≢ a → IsWonChange a (Live n)
-won-null Null n unprimed differs = tt
-won-null Tombstone n unprimed differs = tt
-won-null (Live m) n unprimed differs = λ same. differs (ap Live same)
-won-null PrimedNull n unprimed differs = unprimed
-won-null PrimedTombstone n unprimed differs = unprimed
-won-null (Primed m) n unprimed differs = unprimed
-won-null (Finished m) n unprimed differs = unprimed
+-- a number in place of a value that isn't primed and isn't that number is a call's change
+put-changes_to : (a : ValueState) (n : ℕ) → IsUnprimed a → Live n ≢ a → IsWonChange a (Live n)
+put-changes_to Null n unprimed differs = tt
+put-changes_to Tombstone n unprimed differs = tt
+put-changes_to (Live m) n unprimed differs = λ same. differs (ap Live same)
+put-changes_to _ n unprimed differs = unprimed
 
-won-of : (o : Option ℕ) (a b : ValueState) (P : ℕ → Type 0) → IsUnprimed a → MatchOption o ((b ≡ Tombstone) × ((n : ℕ) × (a ≡ Live n))) (λ n. (b ≡ Live n) × (b ≢ a) × P n) → IsWonChange a b
-won-of None a b P unprimed e = subst₂ IsWonChange (sym e.1.1) (sym e.0) tt
-won-of (Some n) a b P unprimed e = subst (IsWonChange a) (sym e.0) (won-null a n unprimed (λ same. e.1 (e.0 ∙ same)))
+-- so is all that is put in place of such a value
+put-changes : (a b : ValueState) → IsUnprimed a → Puts a b → IsWonChange a b
+put-changes a b unprimed (PutsNone n was e) = subst₂ IsWonChange (sym was) (sym e) tt
+put-changes a b unprimed (PutsNumber n e differs) =
+    subst (IsWonChange a) (sym e) (put-changes_to a n unprimed (λ same. differs (e ∙ same)))
 
-won-change : (c : Call) (k : ℕ) (a b : ValueState) → IsUnprimed a → IsExchange c k a b → IsWonChange a b
-won-change (call.Get key) k a b unprimed e = absurd e
-won-change (call.Write key want change) k a b unprimed e = won-of (changed change (content_of a)) a b _ unprimed e.2
-
-key-change : (p : Plan) (e : Event) (h : List Event) → IsLegal p (e ∷ h) → (g i : ℕ) → let x = (tables_at p h).key g i in (key_after e g i x ≡ x) ⊎ IsKeyChange e x (key_after e g i x)
+-- an event changes a key only as its kind may
+key-change :
+    (p : Plan) (e : Event) (h : List Event) → IsLegal p (e ∷ h) → (g i : ℕ)
+    → let x = (tables_at p h).key g i in (key_after e g i x ≡ x) ⊎ IsKeyChange e g i x (key_after e g i x)
 key-change p (Claim s f j k) h legal g i =
-    let x = (tables_at p h).key g i in
-    at_slot (λ y. (y ≡ x) ⊎ IsKeyChange (Claim s f j k) x y) f g j i (Claimed k) x
-    (λ same_table same_slot. inr (subst₂ (λ a b. (tables_at p h).key a b ≡ Empty) same_table same_slot legal.2.empty, refl)) (inl refl)
+    let x = (tables_at p h).key in
+    at_slot (λ g i here. let y = cond here (Claimed k) (x g i) in (y ≡ x g i) ⊎ IsKeyChange (Claim s f j k) g i (x g i) y) f j g i
+    (inr (refl, refl, legal.2.empty, refl)) (inl refl)
 key-change p (Kill s f j) h legal g i =
-    let x = (tables_at p h).key g i in
-    at_slot (λ y. (y ≡ x) ⊎ IsKeyChange (Kill s f j) x y) f g j i Dead x
-    (λ same_table same_slot. inr (subst₂ (λ a b. (tables_at p h).key a b ≡ Empty) same_table same_slot legal.2.empty, refl)) (inl refl)
-key-change p (Won s f j a b c r) h legal g i = inl refl
-key-change p (CopyIn s f j k n) h legal g i = inl refl
-key-change p (Prime s f j) h legal g i = inl refl
-key-change p (Finish s f j) h legal g i = inl refl
-key-change p (Install s f k) h legal g i = inl refl
-key-change p (Take s f) h legal g i = inl refl
-key-change p (Count s f c) h legal g i = inl refl
-key-change p (Promote s f) h legal g i = inl refl
-key-change p (Read s c r) h legal g i = inl refl
+    let x = (tables_at p h).key in
+    at_slot (λ g i here. let y = cond here Dead (x g i) in (y ≡ x g i) ⊎ IsKeyChange (Kill s f j) g i (x g i) y) f j g i
+    (inr (refl, refl, legal.2.empty, refl)) (inl refl)
+key-change p _ h legal g i = inl refl
 
-value-change : (p : Plan) (e : Event) (h : List Event) → IsLegal p (e ∷ h) → (g i : ℕ) → let x = (tables_at p h).value g i in (value_after e g i x ≡ x) ⊎ IsValueChange e x (value_after e g i x)
-value-change p (Claim s f j k) h legal g i = inl refl
-value-change p (Kill s f j) h legal g i = inl refl
+-- and a value
+value-change :
+    (p : Plan) (e : Event) (h : List Event) → IsLegal p (e ∷ h) → (g i : ℕ)
+    → let x = (tables_at p h).value g i in (value_after e g i x ≡ x) ⊎ IsValueChange e g i x (value_after e g i x)
 value-change p (Won s f j a b c r) h legal g i =
-    let x = (tables_at p h).value g i in
-    at_slot (λ y. (y ≡ x) ⊎ IsValueChange (Won s f j a b c r) x y) f g j i b x
-    (λ same_table same_slot. inr (subst₂ (λ u v. (tables_at p h).value u v ≡ a) same_table same_slot legal.2.stands, refl, won-change c legal.2.key a b legal.2.unprimed legal.2.exchange)) (inl refl)
+    let x = (tables_at p h).value in
+    at_slot (λ g i here. let y = cond here b (x g i) in (y ≡ x g i) ⊎ IsValueChange (Won s f j a b c r) g i (x g i) y) f j g i
+    (inr (refl, refl, legal.2.stands, refl, put-changes a b legal.2.unprimed (win-puts legal.2))) (inl refl)
 value-change p (CopyIn s f j k n) h legal g i =
-    let x = (tables_at p h).value g i in
-    at_slot (λ y. (y ≡ x) ⊎ IsValueChange (CopyIn s f j k n) x y) f g j i (Live n) x
-    (λ same_table same_slot. inr (subst₂ (λ u v. (tables_at p h).value u v ≡ Null) same_table same_slot legal.2.null, refl)) (inl refl)
+    let x = (tables_at p h).value in
+    at_slot (λ g i here. let y = cond here (Live n) (x g i) in (y ≡ x g i) ⊎ IsValueChange (CopyIn s f j k n) g i (x g i) y) f j g i
+    (inr (refl, refl, legal.2.null, refl)) (inl refl)
 value-change p (Prime s f j) h legal g i =
-    let x = (tables_at p h).value g i in
-    at_slot (λ y. (y ≡ x) ⊎ IsValueChange (Prime s f j) x y) f g j i (primed x) x
-    (λ same_table same_slot. inr (subst₂ (λ u v. IsUnprimed ((tables_at p h).value u v)) same_table same_slot legal.2.unprimed, refl)) (inl refl)
+    let x = (tables_at p h).value in
+    at_slot (λ g i here. let y = cond here (primed (x g i)) (x g i) in (y ≡ x g i) ⊎ IsValueChange (Prime s f j) g i (x g i) y) f j g i
+    (inr (refl, refl, legal.2.unprimed, refl)) (inl refl)
 value-change p (Finish s f j) h legal g i =
-    let x = (tables_at p h).value g i in
-    at_slot (λ y. (y ≡ x) ⊎ IsValueChange (Finish s f j) x y) f g j i (finished x) x
-    (λ same_table same_slot.
-    let was = subst₂ (λ u v. (tables_at p h).value u v ≡ Primed legal.2.number) same_table same_slot legal.2.primed in
-    inr (legal.2.number, was, ap finished was)) (inl refl)
-value-change p (Install s f k) h legal g i = inl refl
-value-change p (Take s f) h legal g i = inl refl
-value-change p (Count s f c) h legal g i = inl refl
-value-change p (Promote s f) h legal g i = inl refl
-value-change p (Read s c r) h legal g i = inl refl
+    let x = (tables_at p h).value in
+    at_slot
+    (λ g i here. let y = cond here (finished (x g i)) (x g i) in (y ≡ x g i) ⊎ IsValueChange (Finish s f j) g i (x g i) y) f j g i
+    (inr (refl, refl, (legal.2.number, legal.2.primed, ap finished legal.2.primed))) (inl refl)
+value-change p _ h legal g i = inl refl
 
 pub lawful_changes : LawfulChanges
-lawful_changes p plan e h legal = record {
-  length = length-word_step p e (words_of p h);
-  one = one_word p e (words_of p h);
-  keys = λ g i slot. subst (λ y. (y ≡ (tables_at p h).key g i) ⊎ IsKeyChange e ((tables_at p h).key g i) y) (sym (key_frame p e h plan legal.1 g i slot)) (key-change p e h legal g i);
-  values = λ g i slot. subst (λ y. (y ≡ (tables_at p h).value g i) ⊎ IsValueChange e ((tables_at p h).value g i) y) (sym (value_frame p e h plan legal g i slot)) (value-change p e h legal g i);
-}
+lawful_changes p plan e h legal =
+    let t = tables_at p h in
+    record {
+      one = one_word p e (words_of p h);
+      keys = λ g i slot.
+          subst (λ y. (y ≡ t.key g i) ⊎ IsKeyChange e g i (t.key g i) y) (sym (key-frame p e h plan legal.1 g i slot))
+          (key-change p e h legal g i);
+      values = λ g i slot.
+          subst (λ y. (y ≡ t.value g i) ⊎ IsValueChange e g i (t.value g i) y) (sym (value-frame p e h plan legal g i slot))
+          (value-change p e h legal g i);
+    }

@@ -38,7 +38,7 @@ pub not_true : (a : Bool) → not a ≡ true → a ≡ false
 not_true true e = cc
 not_true false e = refl
 
-pub no_true : {A : Type 0} → false ≡ true → A
+no_true : {A : Type 0} → false ≡ true → A
 no_true e = cc
 
 last_or_below : (i n : ℕ) → i < suc n → (i < n) ⊎ (i ≡ n)
@@ -90,7 +90,7 @@ is_unprimed-true PrimedTombstone e = no_true e
 is_unprimed-true (Primed n) e = no_true e
 is_unprimed-true (Finished n) e = no_true e
 
-is_finished_value-true : (v : ValueState) → is_finished_value v ≡ true → IsFinishedValue v
+pub is_finished_value-true : (v : ValueState) → is_finished_value v ≡ true → IsFinishedValue v
 is_finished_value-true Null e = no_true e
 is_finished_value-true Tombstone e = no_true e
 is_finished_value-true (Live n) e = no_true e

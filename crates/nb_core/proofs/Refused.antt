@@ -40,7 +40,7 @@ same_live a b e = cc
 -- ---- values of a key
 
 -- the values of the key's slots pass a test
-abbrev pub values_pass : (ValueState → Bool) → Tables → ℕ → ℕ → ℕ → Bool
+abbrev values_pass : (ValueState → Bool) → Tables → ℕ → ℕ → ℕ → Bool
 values_pass f t g k zero = true
 values_pass f t g k (suc n) = (not (is_claimed_by k (t.key g n)) || f (t.value g n)) && values_pass f t g k n
 

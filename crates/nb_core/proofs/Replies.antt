@@ -1,6 +1,6 @@
 -- The map's number at a key, and the replies of calls, as they compute.
-use Rattle.std.proofs.Common.{◌≡◌, ◌∙◌, ℕ, sym, ap, refl, Bool, true, false, not, cond, ◌||◌, eqb, ltb, List, [], ◌∷◌, Option, Some, None, arith}
-use Rattle.std.proofs.lemmas.Bool.{eqb-true, ltb-true, ne_eqb}
+use Rattle.std.proofs.Common.{◌≡◌, ◌∙◌, ℕ, sym, ap, refl, Bool, true, false, not, cond, ◌||◌, eqb, ltb, List, [], ◌∷◌, Option, Some, None, arith, inl, inr}
+use Rattle.std.proofs.lemmas.Bool.{cond-false, eqb-true, ltb-true, ne_eqb}
 use Rattle.std.specs.FinMap.{get, get-insert, get-remove, get-empty, same_map, nat_cmp-IsAntisymmetric}
 use Rattle.std.specs.Ordering.{nat_cmp, eq_by_cmp, is_eq}
 use Rattle.std.specs.declared.cmp.Ordering.TheVariants.{Less, Equal, Greater}
@@ -9,15 +9,16 @@ use Rattle.nb_core.specs.Calls.{Numbers, changed, holds_of, is_past_max, map_aft
 use Rattle.nb_core.specs.Plans.{Plan}
 use Rattle.nb_core.specs.Tables.{tables_at}
 use Rattle.nb_core.specs.History.{IsLegal, Replies, after_win, key_of_call, map_of}
+use Rattle.nb_core.specs.Laws.{LeavesAlone}
 use Rattle.nb_core.proofs.Legality.{is_reply, leaves, number_at, number_left, is_in_range, may_follow, passes, replies, same_number}
-use Rattle.nb_core.proofs.Passing.{both, is_in_range-true, may_follow-true}
+use Rattle.nb_core.proofs.Passing.{both, either, is_in_range-true, may_follow-true, not_true}
 use Rattle.nb_core.specs.declared.calls.Call.{Call}
 use Rattle.nb_core.specs.declared.calls.Call.TheVariants as call
 use Rattle.nb_core.specs.declared.calls.Reply.{Reply}
 use Rattle.nb_core.specs.declared.events.Event.{Event}
-use Rattle.nb_core.specs.declared.events.Event.TheVariants.{Claim, Kill, Won, CopyIn, Prime, Finish, Install, Take, Count, Promote, Read}
+use Rattle.nb_core.specs.declared.events.Event.TheVariants.{Won, Read}
 use Rattle.nb_core.specs.declared.states.ValueState.{ValueState}
-use Rattle.nb_core.specs.declared.states.ValueState.TheVariants.{Null, Tombstone, Live, PrimedNull, PrimedTombstone, Primed, Finished}
+use Rattle.nb_core.specs.declared.states.ValueState.TheVariants.{Tombstone, Live}
 
 -- numbers compare alike where they are equal
 pub same_key : (a b : ℕ) → eq_by_cmp nat_cmp a b ≡ eqb a b
@@ -27,6 +28,7 @@ same_key a b =
       | false ↦ λ ge. elim (eqb a b) as (λ t. is_eq (cond t Equal Greater) ≡ t) [ true ↦ refl | false ↦ refl ]
     ] refl
 
+-- a choice between a thing and itself is that thing
 same_branch : {A : Type 0} (b : Bool) (x : A) → cond b x x ≡ x
 same_branch true x = refl
 same_branch false x = refl
@@ -39,31 +41,20 @@ unchanged m k q o e =
       | false ↦ λ other. refl
     ] refl
 
-get_after_win : (m : Numbers) (k q : ℕ) (b : ValueState) → get (after_win m k b) q ≡ cond (eqb q k) (number_left b (get m q)) (get m q)
-get_after_win m k q (Live n) = get-insert nat_cmp_total m k n q ∙ ap (λ t. cond t (Some n) (get m q)) (same_key q k)
-get_after_win m k q Tombstone = get-remove nat_cmp_total m k q ∙ ap (λ t. cond t None (get m q)) (same_key q k)
-get_after_win m k q Null = sym (same_branch (eqb q k) (get m q))
-get_after_win m k q PrimedNull = sym (same_branch (eqb q k) (get m q))
-get_after_win m k q PrimedTombstone = sym (same_branch (eqb q k) (get m q))
-get_after_win m k q (Primed n) = sym (same_branch (eqb q k) (get m q))
-get_after_win m k q (Finished n) = sym (same_branch (eqb q k) (get m q))
+-- what the map has at a key after an exchange
+get-after_win : (m : Numbers) (k q : ℕ) (b : ValueState) → get (after_win m k b) q ≡ cond (eqb q k) (number_left b (get m q)) (get m q)
+get-after_win m k q (Live n) = get-insert nat_cmp_total m k n q ∙ ap (λ t. cond t (Some n) (get m q)) (same_key q k)
+get-after_win m k q Tombstone = get-remove nat_cmp_total m k q ∙ ap (λ t. cond t None (get m q)) (same_key q k)
+get-after_win m k q _ = sym (same_branch (eqb q k) (get m q))
 
 -- what the map of a history has at a key, computed
 pub number_at_map : (h : List Event) (k : ℕ) → get (map_of h) k ≡ number_at h k
 number_at_map [] k = get-empty nat_cmp k
 number_at_map (Won s g i a b c r ∷ h) k =
-    get_after_win (map_of h) (key_of_call c) k b ∙ ap (λ o. cond (eqb k (key_of_call c)) (number_left b o) o) (number_at_map h k)
-number_at_map (Claim s g i q ∷ h) k = number_at_map h k
-number_at_map (Kill s g i ∷ h) k = number_at_map h k
-number_at_map (CopyIn s g i q n ∷ h) k = number_at_map h k
-number_at_map (Prime s g i ∷ h) k = number_at_map h k
-number_at_map (Finish s g i ∷ h) k = number_at_map h k
-number_at_map (Install s g q ∷ h) k = number_at_map h k
-number_at_map (Take s g ∷ h) k = number_at_map h k
-number_at_map (Count s g c ∷ h) k = number_at_map h k
-number_at_map (Promote s g ∷ h) k = number_at_map h k
-number_at_map (Read s c r ∷ h) k = number_at_map h k
+    get-after_win (map_of h) (key_of_call c) k b ∙ ap (λ o. cond (eqb k (key_of_call c)) (number_left b o) o) (number_at_map h k)
+number_at_map (e ∷ h) k = number_at_map h k
 
+-- what passes the test of two numbers, or none, is the same
 pub same_number-true : (a b : Option ℕ) → same_number a b ≡ true → a ≡ b
 same_number-true None None e = refl
 same_number-true None (Some m) e = cc
@@ -72,24 +63,36 @@ same_number-true (Some n) (Some m) e = ap Some (eqb-true n m e)
 
 -- to set a key to what stands there changes nothing
 with_at-same : (m : Numbers) (k : ℕ) (o : Option ℕ) → get m k ≡ o → with_at m k o ≡ m
-with_at-same m k None e = same_map nat_cmp_total nat_cmp-IsAntisymmetric _ _ (λ q. get-remove nat_cmp_total m k q ∙ ap (λ t. cond t None (get m q)) (same_key q k) ∙ unchanged m k q None e)
-with_at-same m k (Some n) e = same_map nat_cmp_total nat_cmp-IsAntisymmetric _ _ (λ q. get-insert nat_cmp_total m k n q ∙ ap (λ t. cond t (Some n) (get m q)) (same_key q k) ∙ unchanged m k q (Some n) e)
+with_at-same m k None e =
+    same_map nat_cmp_total nat_cmp-IsAntisymmetric _ _
+    (λ q. get-remove nat_cmp_total m k q ∙ ap (λ t. cond t None (get m q)) (same_key q k) ∙ unchanged m k q None e)
+with_at-same m k (Some n) e =
+    same_map nat_cmp_total nat_cmp-IsAntisymmetric _ _
+    (λ q. get-insert nat_cmp_total m k n q ∙ ap (λ t. cond t (Some n) (get m q)) (same_key q k) ∙ unchanged m k q (Some n) e)
 
-same_reply : (r : Reply) (before : Option ℕ) (matched : Bool) → r.before ≡ before → r.matched ≡ matched → r ≡ record { before = before; matched = matched }
+-- a reply is what it says
+same_reply :
+    (r : Reply) (before : Option ℕ) (matched : Bool) → r.before ≡ before → r.matched ≡ matched
+    → r ≡ record { before = before; matched = matched }
 same_reply r before matched p q = λ i. record { before = p i; matched = q i }
 
+-- a reply that passes the test says whether the condition held
 matched_is : (holds matched : Bool) → cond holds matched (not matched) ≡ true → matched ≡ holds
 matched_is true true e = refl
 matched_is true false e = cc
 matched_is false true e = cc
 matched_is false false e = refl
 
+-- a call whose condition fails, or whose number fits, doesn't overflow
 not_past : (holds past : Bool) → (not holds || not past) ≡ true → cond holds past false ≡ false
 not_past true true e = cc
 not_past true false e = refl
 not_past false past e = refl
 
-reply_here : (c : Call) (r : Reply) (m : Numbers) → is_reply c r (get m (key_of_call c)) ≡ true → (r ≡ reply_of c m) × (overflows c m ≡ false)
+-- a reply that passes the test, with what the map has at the call's key, is the map's,
+reply_here :
+    (c : Call) (r : Reply) (m : Numbers) → is_reply c r (get m (key_of_call c)) ≡ true
+    → (r ≡ reply_of c m) × (overflows c m ≡ false)
 reply_here (call.Get k) r m e =
     let a = both (same_number r.before (get m k)) r.matched e in
     (same_reply r (get m k) true (same_number-true r.before (get m k) a.0) a.1, refl)
@@ -101,36 +104,43 @@ reply_here (call.Write k want change) r m e =
       not_past (holds_of want now) (is_past_max (changed change now)) b.1,
     )
 
-reply_is : (c : Call) (r : Reply) (m : Numbers) (now : Option ℕ) → get m (key_of_call c) ≡ now → is_reply c r now ≡ true → (r ≡ reply_of c m) × (overflows c m ≡ false)
+-- also with that computed
+reply_is :
+    (c : Call) (r : Reply) (m : Numbers) (now : Option ℕ) → get m (key_of_call c) ≡ now → is_reply c r now ≡ true
+    → (r ≡ reply_of c m) × (overflows c m ≡ false)
 reply_is c r m now at e = reply_here c r m (ap (is_reply c r) at ∙ e)
 
-left_here : (c : Call) (m : Numbers) → leaves c (get m (key_of_call c)) ≡ true → map_after c m ≡ m
-left_here (call.Get k) m e = refl
-left_here (call.Write k want change) m e =
-    let now = get m k in
-    elim (holds_of want now) as (λ b. (not b || same_number (changed change now) now) ≡ true → cond b (with_at m k (changed change now)) m ≡ m) [
-      | true ↦ λ same. ap (with_at m k) (same_number-true (changed change now) now same) ∙ with_at-same m k now refl
-      | false ↦ λ same. refl
-    ] e
+-- a call that leaves the number at its key alone leaves the map as it is
+pub map_after-left : (c : Call) (m : Numbers) → LeavesAlone c (get m (key_of_call c)) → map_after c m ≡ m
+map_after-left (call.Get k) m alone = refl
+map_after-left (call.Write k want change) m (inl fails) = cond-false _ _ _ fails
+map_after-left (call.Write k want change) m (inr same) =
+    let number = get m k in
+    elim (holds_of want number) as (λ b. cond b (with_at m k (changed change number)) m ≡ m) [
+      | true ↦ ap (with_at m k) same ∙ with_at-same m k number refl
+      | false ↦ refl
+    ]
 
-left_is : (c : Call) (m : Numbers) (now : Option ℕ) → get m (key_of_call c) ≡ now → leaves c now ≡ true → map_after c m ≡ m
-left_is c m now at e = left_here c m (ap (leaves c) at ∙ e)
+-- what passes the test leaves its key's number alone
+leaves-true : (c : Call) (number : Option ℕ) → leaves c number ≡ true → LeavesAlone c number
+leaves-true (call.Get k) number e = tt
+leaves-true (call.Write k want change) number e =
+    elim (either (not (holds_of want number)) (same_number (changed change number) number) e) [
+      | inl fails ↦ inl (not_true (holds_of want number) fails)
+      | inr same ↦ inr (same_number-true (changed change number) number same)
+    ]
 
-pub replies-true : (h : List Event) (e : Event) → replies h e ≡ true → Replies (map_of h) e
+-- replies that pass the test are right
+replies-true : (h : List Event) (e : Event) → replies h e ≡ true → Replies (map_of h) e
 replies-true h (Won s g i a b c r) e = reply_is c r (map_of h) _ (number_at_map h (key_of_call c)) e
 replies-true h (Read s c r) e =
-    let a = both (is_reply c r (number_at h (key_of_call c))) (leaves c (number_at h (key_of_call c))) e in
-    let q = reply_is c r (map_of h) _ (number_at_map h (key_of_call c)) a.0 in
-    (q.0, q.1, left_is c (map_of h) _ (number_at_map h (key_of_call c)) a.1)
-replies-true h (Claim s g i q) e = tt
-replies-true h (Kill s g i) e = tt
-replies-true h (CopyIn s g i q n) e = tt
-replies-true h (Prime s g i) e = tt
-replies-true h (Finish s g i) e = tt
-replies-true h (Install s g q) e = tt
-replies-true h (Take s g) e = tt
-replies-true h (Count s g c) e = tt
-replies-true h (Promote s g) e = tt
+    let k = key_of_call c in
+    let at = number_at_map h k in
+    let a = both (is_reply c r (number_at h k)) (leaves c (number_at h k)) e in
+    let reply = reply_is c r (map_of h) _ at a.0 in
+    let alone = leaves-true c (get (map_of h) k) (ap (leaves c) at ∙ a.1) in
+    (reply.0, reply.1, map_after-left c (map_of h) alone)
+replies-true h _ e = tt
 
 -- what passes is legal
 pub passes_legal : (p : Plan) (h : List Event) → passes p h ≡ true → IsLegal p h

@@ -5,7 +5,7 @@ use Rattle.std.specs.List.Sorted.{IsNonDecreasing}
 use Rattle.std.proofs.lemmas.List.{take_more_set}
 use Rattle.nb_core.specs.Plans.{rising}
 
-pub length-rising : (first count : ℕ) → length (rising first count) ≡ count
+length-rising : (first count : ℕ) → length (rising first count) ≡ count
 length-rising first zero = refl
 length-rising first (suc n) = ap suc (length-rising (suc first) n)
 

@@ -1,116 +1,69 @@
 -- Room in the next table for all keys of one that isn't complete, and what a complete table says of a key.
 use Rattle.std.proofs.Common.{◌≡◌, ◌≢◌, ◌∙◌, ℕ, ◌+◌, ◌-◌, ◌*◌, ◌/◌, ◌%◌, ◌<◌, ◌≤◌, ◌⊎◌, zero, suc, ap, sym, refl, subst, inl, inr, true, eqb, map, length, get_or, mod-lt, mod-eq_of_lt, arith}
 use Rattle.std.proofs.Math.Nat.{add-mod-mod, add-mul-mod_self_left, div-add-mod}
-use Rattle.std.proofs.lemmas.Bool.{cases_eq, cases_lt, cases_order, eqb-true, ne_eqb}
+use Rattle.std.proofs.lemmas.Bool.{cases_eq, cases_lt, eqb-true, ne_eqb}
 use Rattle.std.proofs.lemmas.List.FromFn.{get_or-map-range_with_len, length-map-range_with_len}
 use Rattle.std.proofs.lemmas.Map.Keys.{IsDistinct-from_apart}
 use Rattle.std.proofs.lemmas.Map.Steps.{length-le_from_distinct_below}
 use Rattle.std.proofs.lemmas.Map.Views.{Contains-from_any}
 use Rattle.std.specs.List.{list_any, range_with_len}
 use Rattle.nb_core.specs.Plans.{Plan, IsPlan, generations_of, size_of}
-use Rattle.nb_core.specs.Tables.{AreOthers, HasSlot, IsComplete, IsFinished, IsFinishedValue, IsOther, IsSlot, Tables, path_slot}
+use Rattle.nb_core.specs.Tables.{AreOthers, HasSlot, IsComplete, IsFinishedValue, IsOther, Tables, path_slot}
 use Rattle.nb_core.specs.Laws.{HasRoom, IsPassed, AtSlot, UpToDead, Whole}
 use Rattle.nb_core.proofs.Passing.{below_suc}
-use Rattle.nb_core.proofs.Sound.{IsReached, IsSound, one_slot}
+use Rattle.nb_core.proofs.Sound.{IsSound, dead-unclaimed, finished-not_empty, finished-value, no_slot-past, no_slot-whole, one_key, one_slot, path_slot-is_slot}
 use Rattle.nb_core.proofs.Tables.{sizes_never_fall}
 use Rattle.nb_core.specs.declared.states.KeyState.{KeyState}
 use Rattle.nb_core.specs.declared.states.KeyState.TheVariants.{Empty, Dead, Claimed}
-use Rattle.nb_core.specs.declared.states.ValueState.{ValueState}
-use Rattle.nb_core.specs.declared.states.ValueState.TheVariants.{Null, Tombstone, Live, PrimedNull, PrimedTombstone, Primed, Finished}
-
--- ---- whether a table is complete
-
--- a value is final or not
-finished_value_or_not : (v : ValueState) → IsFinishedValue v ⊎ (IsFinishedValue v → ⊥)
-finished_value_or_not Null = inr (λ final. final)
-finished_value_or_not Tombstone = inr (λ final. final)
-finished_value_or_not (Live n) = inr (λ final. final)
-finished_value_or_not PrimedNull = inl tt
-finished_value_or_not PrimedTombstone = inl tt
-finished_value_or_not (Primed n) = inr (λ final. final)
-finished_value_or_not (Finished n) = inl tt
-
--- a slot is closed or not
-dead_or_not : (s : KeyState) → (s ≡ Dead) ⊎ (s ≢ Dead)
-dead_or_not Empty = inr (λ e. cc)
-dead_or_not Dead = inl refl
-dead_or_not (Claimed k) = inr (λ e. cc)
-
--- a slot is finished or not
-finished_or_not : (t : Tables) (g i : ℕ) → IsFinished t g i ⊎ (IsFinished t g i → ⊥)
-finished_or_not t g i =
-    elim (dead_or_not (t.key g i)) [
-      | inl dead ↦ inl (inl dead)
-      | inr alive ↦ elim (finished_value_or_not (t.value g i)) [
-        | inl final ↦ inl (inr final)
-        | inr not_final ↦ inr (λ finished. elim finished [ inl dead ↦ alive dead | inr final ↦ not_final final ])
-      ]
-    ]
-
--- of so many slots all are finished, or not all
-all_finished_or_not : (t : Tables) (g n : ℕ) → ((i : ℕ) → i < n → IsFinished t g i) ⊎ (((i : ℕ) → i < n → IsFinished t g i) → ⊥)
-all_finished_or_not t g zero = inl (λ i h. absurd (omega arith))
-all_finished_or_not t g (suc n) =
-    elim (finished_or_not t g n) [
-      | inr unfinished ↦ inr (λ all. unfinished (all n (omega arith)))
-      | inl last ↦ elim (all_finished_or_not t g n) [
-        | inl below ↦ inl (below_suc (IsFinished t g) n last below)
-        | inr not_all ↦ inr (λ all. not_all (λ i h. all i (omega arith)))
-      ]
-    ]
-
--- a table is complete or not
-pub complete_or_not : (p : Plan) (t : Tables) (g : ℕ) → IsComplete p t g ⊎ (IsComplete p t g → ⊥)
-complete_or_not p t g = all_finished_or_not t g (size_of p g)
 
 -- ---- along a key's path
 
 -- How far other keys have a key's path: for so many slots, or up to the first slot that isn't another key's.
-pub data Walk (p : Plan) (t : Tables) (g k n : ℕ) : Type 0 where
+data Walk (p : Plan) (t : Tables) (g k n : ℕ) : Type 0 where
   Crowded : AreOthers p t g k n → Walk p t g k n
   ToEmpty : (d : ℕ) → d < n → AreOthers p t g k d → t.key g (path_slot p g k d) ≡ Empty → Walk p t g k n
   ToDead : (d : ℕ) → d < n → AreOthers p t g k d → t.key g (path_slot p g k d) ≡ Dead → Walk p t g k n
   ToOwn : (d : ℕ) → d < n → AreOthers p t g k d → t.key g (path_slot p g k d) ≡ Claimed k → Walk p t g k n
 
 -- one slot more, where other keys have all before it
-walk_on : (p : Plan) (t : Tables) (g k n : ℕ) (s : KeyState) → AreOthers p t g k n → t.key g (path_slot p g k n) ≡ s → Walk p t g k (suc n)
-walk_on p t g k n Empty passed is = ToEmpty n (omega arith) passed is
-walk_on p t g k n Dead passed is = ToDead n (omega arith) passed is
-walk_on p t g k n (Claimed j) passed is =
+path-walk_suc :
+    (p : Plan) (t : Tables) (g k n : ℕ) (s : KeyState) → AreOthers p t g k n → t.key g (path_slot p g k n) ≡ s → Walk p t g k (suc n)
+path-walk_suc p t g k n Empty passed is = ToEmpty n (omega arith) passed is
+path-walk_suc p t g k n Dead passed is = ToDead n (omega arith) passed is
+path-walk_suc p t g k n (Claimed j) passed is =
     elim (cases_eq j k) [
       | inl same ↦ ToOwn n (omega arith) passed (is ∙ ap Claimed same)
-      | inr differs ↦ Crowded (below_suc (λ e. IsOther (t.key g (path_slot p g k e)) k) n (record { other = j; is = is; differs = differs }) passed)
+      | inr differs ↦
+          let other : IsOther (t.key g (path_slot p g k n)) k = record { other = j; is = is; differs = differs } in
+          Crowded (below_suc (λ e. IsOther (t.key g (path_slot p g k e)) k) n other passed)
     ]
 
 -- each path can be walked
-pub walk : (p : Plan) (t : Tables) (g k n : ℕ) → Walk p t g k n
-walk p t g k zero = Crowded (λ e h. absurd (omega arith))
-walk p t g k (suc n) =
-    elim (walk p t g k n) [
-      | Crowded passed ↦ walk_on p t g k n (t.key g (path_slot p g k n)) passed refl
+path-walk : (p : Plan) (t : Tables) (g k n : ℕ) → Walk p t g k n
+path-walk p t g k zero = Crowded (λ e h. absurd (omega arith))
+path-walk p t g k (suc n) =
+    elim (path-walk p t g k n) [
+      | Crowded passed ↦ path-walk_suc p t g k n (t.key g (path_slot p g k n)) passed refl
       | ToEmpty d below passed is ↦ ToEmpty d (omega arith) passed is
       | ToDead d below passed is ↦ ToDead d (omega arith) passed is
       | ToOwn d below passed is ↦ ToOwn d (omega arith) passed is
     ]
 
--- a slot of a path lies in the table
-pub path_slot-lt : (p : Plan) (g k d : ℕ) → d < size_of p g → path_slot p g k d < size_of p g
-path_slot-lt p g k d below = mod-lt (k + d) (omega arith)
-
 -- round a circle of s places, each place is at some distance from any number's
-reached_round : (k i s : ℕ) → i < s → (k + (i + s - k % s) % s) % s ≡ i
-reached_round k i s below =
+reached-round : (k i s : ℕ) → i < s → (k + (i + s - k % s) % s) % s ≡ i
+reached-round k i s below =
     let positive : 0 < s = omega arith in
     let rest : k % s < s = mod-lt k positive in
     let whole : k + (i + s - k % s) ≡ i + s * (k / s + 1) = omega (arith, div-add-mod k s) in
     add-mod-mod k (i + s - k % s) s ∙ ap (λ n. n % s) whole ∙ add-mul-mod_self_left i s (k / s + 1) ∙ mod-eq_of_lt below
 
 -- where other keys have a key's whole path, they have each slot of the table
-pub whole_path : (p : Plan) (t : Tables) (g k : ℕ) → AreOthers p t g k (size_of p g) → (i : ℕ) → i < size_of p g → IsOther (t.key g i) k
-whole_path p t g k passed i below =
+pub others-whole :
+    (p : Plan) (t : Tables) (g k : ℕ) → AreOthers p t g k (size_of p g) → (i : ℕ) → i < size_of p g → IsOther (t.key g i) k
+others-whole p t g k passed i below =
     let s = size_of p g in
     let away = i + s - k % s in
-    subst (λ j. IsOther (t.key g j) k) (reached_round k i s below) (passed (away % s) (mod-lt away (omega arith)))
+    subst (λ j. IsOther (t.key g j) k) (reached-round k i s below) (passed (away % s) (mod-lt away (omega arith)))
 
 -- ---- how many different numbers there are
 
@@ -133,27 +86,36 @@ with_last n f x i (inr above) = x
 
 -- n different numbers below m that leave out another one below m are fewer than m
 module _ (n m : ℕ) (f : (i : ℕ) → i < n → ℕ) (x : ℕ) (within : (i : ℕ) (h : i < n) → f i h < m) (x_within : x < m) where
-  last_within : (i : ℕ) (c : (i < n) ⊎ (n ≤ i)) → with_last n f x i c < m
-  last_within i (inl below) = within i below
-  last_within i (inr above) = x_within
+  -- with the other one as the last they are below m,
+  last-within : (i : ℕ) (c : (i < n) ⊎ (n ≤ i)) → with_last n f x i c < m
+  last-within i (inl below) = within i below
+  last-within i (inr above) = x_within
 
   module _ (left_out : (i : ℕ) (h : i < n) → f i h ≢ x) (one : (i j : ℕ) (h : i < n) (l : j < n) → f i h ≡ f j l → i ≡ j) where
-    last_apart : (i j : ℕ) (c : (i < n) ⊎ (n ≤ i)) (d : (j < n) ⊎ (n ≤ j)) → i < j → j < suc n → with_last n f x i c ≢ with_last n f x j d
-    last_apart i j (inl h) (inl l) less _ e = let same = one i j h l e in omega arith
-    last_apart i j (inl h) (inr l) less _ e = left_out i h e
-    last_apart i j (inr h) (inl l) less _ e = omega arith
-    last_apart i j (inr h) (inr l) less below e = omega arith
+    -- and still different,
+    last-apart :
+        (i j : ℕ) (c : (i < n) ⊎ (n ≤ i)) (d : (j < n) ⊎ (n ≤ j)) → i < j → j < suc n → with_last n f x i c ≢ with_last n f x j d
+    last-apart i j (inl h) (inl l) less _ e = let same = one i j h l e in omega arith
+    last-apart i j (inl h) (inr l) less _ e = left_out i h e
+    last-apart i j (inr h) (inl l) less _ e = omega arith
+    last-apart i j (inr h) (inr l) less below e = omega arith
 
+    -- so that they are fewer than m without it
     fewer : n < m
     fewer =
         pigeonhole (suc n) m (λ i. with_last n f x i (cases_lt i n))
-        (λ i h. last_within i (cases_lt i n)) (λ i j less h. last_apart i j (cases_lt i n) (cases_lt j n) less h)
+        (λ i h. last-within i (cases_lt i n)) (λ i j less h. last-apart i j (cases_lt i n) (cases_lt j n) less h)
 
 -- ---- the next table has room
 
--- a slot has one key
-one_key : (t : Tables) (g i j k l : ℕ) → i ≡ j → t.key g i ≡ Claimed k → t.key g j ≡ Claimed l → k ≡ l
-one_key t g i j k l same i_is j_is = cc
+-- where each number below n has a property, unless something is so, each has, or it is so
+each_or : (P : ℕ → Type 0) (Q : Type 0) (n : ℕ) → ((i : ℕ) → i < n → P i ⊎ Q) → ((i : ℕ) → i < n → P i) ⊎ Q
+each_or P Q zero each = inl (λ i h. absurd (omega arith))
+each_or P Q (suc n) each =
+    elim (each n (omega arith)) [
+      | inr so ↦ inr so
+      | inl last ↦ elim (each_or P Q n (λ i h. each i (omega arith))) [ inr so ↦ inr so | inl below ↦ inl (below_suc P n last below) ]
+    ]
 
 -- a slot of the next table has another key than k, which has a slot in this table too
 record IsFromBelow (p : Plan) (t : Tables) (g k i : ℕ) : Type 0 where
@@ -170,93 +132,82 @@ module _ (p : Plan) (t : Tables) (plan : IsPlan p) (s : IsSound p t) where
   too_many g k within has from =
       let less : size_of p (suc g) < size_of p g =
       fewer (size_of p (suc g)) (size_of p g) (λ i h. (from i h).slot) has.slot (λ i h. (from i h).in_table) has.in_table
-      (λ i h same. (from i h).differs (one_key t g _ _ _ _ same (from i h).is has.is))
+      (λ i h same. (from i h).differs (one_key t g g _ _ _ _ refl same (from i h).is has.is))
       (λ i j h l same.
-      let key : (from i h).key ≡ (from j l).key = one_key t g _ _ _ _ same (from i h).is (from j l).is in
-      one_slot p t plan s (suc g) i j (from i h).key (within, h) (within, l) (from i h).is_above ((from j l).is_above ∙ ap Claimed (sym key))) in
+      let key : (from i h).key ≡ (from j l).key = one_key t g g _ _ _ _ refl same (from i h).is (from j l).is in
+      let j_is = (from j l).is_above ∙ ap Claimed (sym key) in
+      one_slot p t s (suc g) i j (from i h).key (within, h) (within, l) (from i h).is_above j_is) in
       let rising : size_of p g ≤ size_of p (suc g) = sizes_never_fall p plan g within in
       omega arith
 
   -- Where a key has a slot in a table, and other keys have all of the next one, those didn't all come from this one: it is complete.
-  pub copied_all : (g k : ℕ) → suc g < generations_of p → HasSlot p t g k → AreOthers p t (suc g) k (size_of p (suc g)) → IsComplete p t g
-  copied_all g k within has passed =
-      elim (complete_or_not p t g) [
-        | inl complete ↦ complete
-        | inr not_complete ↦ absurd (too_many g k within has (λ i h.
-            let o = whole_path p t (suc g) k passed i h in
-            elim (s.below g o.other within (record { slot = i; in_table = h; is = o.is })) [
-              | inl below ↦ record { key = o.other; slot = below.slot; in_table = below.in_table; is = below.is; is_above = o.is; differs = o.differs }
-              | inr complete ↦ absurd (not_complete complete)
-            ]))
+  pub crowded-complete_below :
+      (g k : ℕ) → suc g < generations_of p → HasSlot p t g k → AreOthers p t (suc g) k (size_of p (suc g)) → IsComplete p t g
+  crowded-complete_below g k within has passed =
+      elim (each_or (IsFromBelow p t g k) (IsComplete p t g) (size_of p (suc g)) from_below) [
+        | inl from ↦ absurd (too_many g k within has from)
+        | inr complete ↦ complete
       ]
+    where
+      from_below : (i : ℕ) → i < size_of p (suc g) → IsFromBelow p t g k i ⊎ IsComplete p t g
+      from_below i h =
+          let o = others-whole p t (suc g) k passed i h in
+          elim (s.below g o.other within (record { slot = i; in_table = h; is = o.is })) [
+            | inl below ↦ inl (record {
+              key = o.other;
+              slot = below.slot;
+              in_table = below.in_table;
+              is = below.is;
+              is_above = o.is;
+              differs = o.differs;
+            })
+            | inr complete ↦ inr complete
+          ]
 
   -- while a table isn't complete, the next one has no closed slot
-  alive_above : (g : ℕ) → suc g < generations_of p → (IsComplete p t g → ⊥) → (i : ℕ) → i < size_of p (suc g) → t.key (suc g) i ≢ Dead
-  alive_above g within not_complete i below dead = not_complete (s.ready g (s.dead (suc g) i (within, below) dead)).1
+  incomplete-alive :
+      (g : ℕ) → suc g < generations_of p → (IsComplete p t g → ⊥) → (i : ℕ) → i < size_of p (suc g) → t.key (suc g) i ≢ Dead
+  incomplete-alive g within not_complete i below dead = not_complete (s.ready g (s.dead (suc g) i (within, below) dead)).1
 
   -- while a table isn't complete, the next one has room for what is still to be copied
-  pub room : (g : ℕ) → suc g < generations_of p → (IsComplete p t g → ⊥) → HasRoom p t g
-  room g within not_complete = record {
+  pub incomplete-room : (g : ℕ) → suc g < generations_of p → (IsComplete p t g → ⊥) → HasRoom p t g
+  incomplete-room g within not_complete = record {
     claimed = λ k above. elim (s.below g k within above) [ inl here ↦ here | inr complete ↦ absurd (not_complete complete) ];
-    alive = alive_above g within not_complete;
+    alive = incomplete-alive g within not_complete;
     free = λ k here none_above.
-        elim (walk p t (suc g) k (size_of p (suc g))) [
-          | Crowded passed ↦ absurd (not_complete (copied_all g k within here passed))
+        let slot_at = λ (d : ℕ). path_slot-is_slot p plan (suc g) k d within in
+        elim (path-walk p t (suc g) k (size_of p (suc g))) [
+          | Crowded passed ↦ absurd (not_complete (crowded-complete_below g k within here passed))
           | ToEmpty d below passed empty ↦ record { distance = d; in_table = below; passed = passed; empty = empty }
-          | ToDead d below passed dead ↦ absurd (alive_above g within not_complete (path_slot p (suc g) k d) (path_slot-lt p (suc g) k d below) dead)
-          | ToOwn d below passed own ↦ absurd (none_above (record { slot = path_slot p (suc g) k d; in_table = path_slot-lt p (suc g) k d below; is = own }))
+          | ToDead d below passed dead ↦ absurd (incomplete-alive g within not_complete (path_slot p (suc g) k d) (slot_at d).1 dead)
+          | ToOwn d below passed own ↦
+              absurd (none_above (record { slot = path_slot p (suc g) k d; in_table = (slot_at d).1; is = own }))
         ];
   }
 
 -- ---- passed keys
 
--- a finished slot isn't empty
-pub finished_not_empty : (p : Plan) (t : Tables) → IsSound p t → (g i : ℕ) → IsSlot p g i → IsFinished t g i → t.key g i ≢ Empty
-finished_not_empty p t s g i slot (inl dead) empty = cc
-finished_not_empty p t s g i slot (inr final) empty =
-    elim (s.bare g i slot) [
-      | inl null ↦ subst IsFinishedValue null final
-      | inr claimed ↦ let is = claimed.is in cc
-    ]
-
--- the value of a finished slot that has a key is final
-finished_claimed : (t : Tables) (g i k : ℕ) → IsFinished t g i → t.key g i ≡ Claimed k → IsFinishedValue (t.value g i)
-finished_claimed t g i k (inl dead) is = absurd cc
-finished_claimed t g i k (inr final) is = final
-
--- no slot is a key's and another's
-not_others : (s : KeyState) (k : ℕ) → IsOther s k → s ≢ Claimed k
-not_others s k o is = let is_other = o.is in o.differs cc
-
--- a key has no slot behind a closed one on its path
-none_past_dead : (p : Plan) (t : Tables) (g k d i : ℕ) → AreOthers p t g k d → t.key g (path_slot p g k d) ≡ Dead → IsReached p t g i k → t.key g i ≢ Claimed k
-none_past_dead p t g k d i passed dead reached is =
-    let at : t.key g (path_slot p g k reached.distance) ≡ Claimed k = ap (t.key g) reached.at ∙ is in
-    elim (cases_order d reached.distance) [
-      | inl same ↦ let here : t.key g (path_slot p g k d) ≡ Claimed k = ap (λ e. t.key g (path_slot p g k e)) same ∙ at in cc
-      | inr (inl before) ↦ let is_other = (reached.passed d before).is in cc
-      | inr (inr behind) ↦ not_others (t.key g (path_slot p g k reached.distance)) k (passed reached.distance behind) at
-    ]
-
 module _ (p : Plan) (t : Tables) (plan : IsPlan p) (s : IsSound p t) (g k : ℕ) (within : g < generations_of p) where
   -- each key is passed in a complete table
-  pub complete_passed : IsComplete p t g → IsPassed p t g k
-  complete_passed complete =
-      elim (walk p t g k (size_of p g)) [
+  pub complete-passed : IsComplete p t g → IsPassed p t g k
+  complete-passed complete =
+      elim (path-walk p t g k (size_of p g)) [
         | Crowded passed ↦ Whole passed
         | ToEmpty d below passed empty ↦
             let i = path_slot p g k d in
-            let at = path_slot-lt p g k d below in absurd (finished_not_empty p t s g i (within, at) (complete i at) empty)
+            let slot = path_slot-is_slot p plan g k d within in
+            absurd (finished-not_empty p t s g i slot (complete i slot.1) empty)
         | ToDead d below passed dead ↦ UpToDead d below passed dead
         | ToOwn d below passed own ↦
             let i = path_slot p g k d in
-            let at = path_slot-lt p g k d below in AtSlot i at own (finished_claimed t g i k (complete i at) own)
+            let slot = path_slot-is_slot p plan g k d within in
+            AtSlot i slot.1 own (finished-value t g i k (complete i slot.1) own)
       ]
 
   -- a passed key has no slot in the table, or a final value there
-  pub passed_settled : IsPassed p t g k → (i : ℕ) → i < size_of p g → t.key g i ≡ Claimed k → IsFinishedValue (t.value g i)
-  passed_settled (AtSlot j below at final) i i_below is =
-      subst (λ n. IsFinishedValue (t.value g n)) (one_slot p t plan s g j i k (within, below) (within, i_below) at is) final
-  passed_settled (UpToDead d below passed dead) i i_below is =
-      absurd (none_past_dead p t g k d i passed dead (s.claimed g i k (within, i_below) is).reached is)
-  passed_settled (Whole passed) i i_below is = absurd (not_others (t.key g i) k (whole_path p t g k passed i i_below) is)
+  pub passed-settled : IsPassed p t g k → (i : ℕ) → i < size_of p g → t.key g i ≡ Claimed k → IsFinishedValue (t.value g i)
+  passed-settled (AtSlot j below at final) i i_below is =
+      subst (λ n. IsFinishedValue (t.value g n)) (one_slot p t s g j i k (within, below) (within, i_below) at is) final
+  passed-settled (UpToDead d below passed dead) i i_below is =
+      absurd (no_slot-past p t s g k d within passed (dead-unclaimed dead) i i_below is)
+  passed-settled (Whole passed) i i_below is = absurd (no_slot-whole p t s g k within passed i i_below is)

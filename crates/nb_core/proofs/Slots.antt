@@ -1,12 +1,12 @@
 -- The slot of a key in a table, and its value there, as the searches of Meaning find them.
-use Rattle.std.proofs.Common.{◌≡◌, ◌≢◌, ◌∙◌, ℕ, ◌<◌, ◌⊎◌, zero, suc, ap, sym, refl, inl, inr, true, false, cond, not, Option, Some, None, option_map, arith}
-use Rattle.nb_core.specs.Plans.{Plan, IsPlan, size_of}
+use Rattle.std.proofs.Common.{◌≡◌, ◌≢◌, ◌∙◌, ℕ, ◌<◌, ◌⊎◌, zero, suc, ap, refl, inl, inr, true, false, cond, not, Option, Some, None, option_map, arith}
+use Rattle.std.proofs.lemmas.Bool.{cond_both}
+use Rattle.nb_core.specs.Plans.{Plan, size_of}
 use Rattle.nb_core.specs.Tables.{HasSlot, IsSlot, Tables}
 use Rattle.nb_core.specs.Meaning.{is_claimed_by, slot_among, value_among, value_in}
 use Rattle.nb_core.proofs.Passing.{below_suc, is_claimed_by-true, unclaimed}
-use Rattle.nb_core.proofs.Sound.{IsSound, one_slot}
+use Rattle.nb_core.proofs.Sound.{HasNoSlot, IsSound, one_slot}
 use Rattle.nb_core.specs.declared.states.KeyState.TheVariants.{Claimed}
-use Rattle.nb_core.specs.declared.states.ValueState.{ValueState}
 
 -- ---- the search for a slot
 
@@ -16,21 +16,20 @@ pub data IsFound (t : Tables) (g k n : ℕ) (found : Option ℕ) : Type 0 where
   Nowhere : ((i : ℕ) → i < n → t.key g i ≢ Claimed k) → found ≡ None → IsFound t g k n found
 
 -- what is found among n slots is found among one more that isn't the key's
-found_among_more : (t : Tables) (g k n : ℕ) (found : Option ℕ) → t.key g n ≢ Claimed k → IsFound t g k n found → IsFound t g k (suc n) found
-found_among_more t g k n found away (Somewhere i below is e) = Somewhere i (omega arith) is e
-found_among_more t g k n found away (Nowhere none e) = Nowhere (below_suc (λ i. t.key g i ≢ Claimed k) n away none) e
+IsFound-suc : (t : Tables) (g k n : ℕ) (found : Option ℕ) → t.key g n ≢ Claimed k → IsFound t g k n found → IsFound t g k (suc n) found
+IsFound-suc t g k n found away (Somewhere i below is e) = Somewhere i (omega arith) is e
+IsFound-suc t g k n found away (Nowhere none e) = Nowhere (below_suc (λ i. t.key g i ≢ Claimed k) n away none) e
 
 -- the search finds a slot of the key, or none is there
 pub slot_among-is : (t : Tables) (g k n : ℕ) → IsFound t g k n (slot_among t g k n)
 slot_among-is t g k zero = Nowhere (λ i below. absurd (omega arith)) refl
 slot_among-is t g k (suc n) =
-    elim (is_claimed_by k (t.key g n)) as (λ b. is_claimed_by k (t.key g n) ≡ b → IsFound t g k (suc n) (cond b (Some n) (slot_among t g k n))) [
-      | true ↦ λ here. Somewhere n (omega arith) (is_claimed_by-true k (t.key g n) here) refl
-      | false ↦ λ away. found_among_more t g k n (slot_among t g k n) (unclaimed k (t.key g n) (ap not away)) (slot_among-is t g k n)
-    ] refl
+    cond_both (is_claimed_by k (t.key g n)) (Some n) (slot_among t g k n) (IsFound t g k (suc n))
+    (λ here. Somewhere n (omega arith) (is_claimed_by-true k (t.key g n) here) refl)
+    (λ away. IsFound-suc t g k n (slot_among t g k n) (unclaimed k (t.key g n) (ap not away)) (slot_among-is t g k n))
 
 -- a key has a slot in a table, or no slot there is its own
-pub has_slot_or_none : (p : Plan) (t : Tables) (g k : ℕ) → HasSlot p t g k ⊎ ((i : ℕ) → i < size_of p g → t.key g i ≢ Claimed k)
+pub has_slot_or_none : (p : Plan) (t : Tables) (g k : ℕ) → HasSlot p t g k ⊎ HasNoSlot p t g k
 has_slot_or_none p t g k =
     elim (slot_among-is t g k (size_of p g)) [
       | Somewhere i below is found ↦ inl (record { slot = i; in_table = below; is = is })
@@ -39,11 +38,11 @@ has_slot_or_none p t g k =
 
 -- a key's slot in a table is the one that the search finds
 pub slot_among-at :
-    (p : Plan) (t : Tables) → IsPlan p → IsSound p t → (g i k : ℕ) → IsSlot p g i → t.key g i ≡ Claimed k
+    (p : Plan) (t : Tables) → IsSound p t → (g i k : ℕ) → IsSlot p g i → t.key g i ≡ Claimed k
     → slot_among t g k (size_of p g) ≡ Some i
-slot_among-at p t plan s g i k slot is =
+slot_among-at p t s g i k slot is =
     elim (slot_among-is t g k (size_of p g)) [
-      | Somewhere j below j_is found ↦ found ∙ ap Some (one_slot p t plan s g j i k (slot.0, below) slot j_is is)
+      | Somewhere j below j_is found ↦ found ∙ ap Some (one_slot p t s g j i k (slot.0, below) slot j_is is)
       | Nowhere none found ↦ absurd (none i slot.1 is)
     ]
 
@@ -53,42 +52,32 @@ slot_among-at p t plan s g i k slot is =
 value_among-is : (t : Tables) (g k n : ℕ) → value_among t g k n ≡ option_map (t.value g) (slot_among t g k n)
 value_among-is t g k zero = refl
 value_among-is t g k (suc n) =
-    elim (is_claimed_by k (t.key g n)) as (λ b. cond b (Some (t.value g n)) (value_among t g k n) ≡ option_map (t.value g) (cond b (Some n) (slot_among t g k n))) [
+    elim (is_claimed_by k (t.key g n)) as (λ b.
+    cond b (Some (t.value g n)) (value_among t g k n) ≡ option_map (t.value g) (cond b (Some n) (slot_among t g k n))) [
       | true ↦ refl
       | false ↦ value_among-is t g k n
     ]
 
 -- a key's value in a table, by what the search for its slot finds
-value_in-is : (p : Plan) (t : Tables) (g k : ℕ) (o : Option ℕ) → slot_among t g k (size_of p g) ≡ o → value_in p t g k ≡ option_map (t.value g) o
+value_in-is :
+    (p : Plan) (t : Tables) (g k : ℕ) (o : Option ℕ) → slot_among t g k (size_of p g) ≡ o
+    → value_in p t g k ≡ option_map (t.value g) o
 value_in-is p t g k o found = value_among-is t g k (size_of p g) ∙ ap (option_map (t.value g)) found
 
 -- a key's value in a table is the one in its slot
 pub value_in-some :
-    (p : Plan) (t : Tables) → IsPlan p → IsSound p t → (g i k : ℕ) → IsSlot p g i → t.key g i ≡ Claimed k
+    (p : Plan) (t : Tables) → IsSound p t → (g i k : ℕ) → IsSlot p g i → t.key g i ≡ Claimed k
     → value_in p t g k ≡ Some (t.value g i)
-value_in-some p t plan s g i k slot is = value_in-is p t g k (Some i) (slot_among-at p t plan s g i k slot is)
+value_in-some p t s g i k slot is = value_in-is p t g k (Some i) (slot_among-at p t s g i k slot is)
 
--- the key has a slot in the table with this value
-pub record HasSlotWith (p : Plan) (t : Tables) (g k : ℕ) (v : ValueState) : Type 0 where
-  pub slot : ℕ
-  pub in_table : slot < size_of p g
-  pub is : t.key g slot ≡ Claimed k
-  pub value : t.value g slot ≡ v
+-- what a look at a table finds of a key: no slot, or a value
+pub data IsLook (p : Plan) (t : Tables) (g k : ℕ) : Type 0 where
+  Away : HasNoSlot p t g k → value_in p t g k ≡ None → IsLook p t g k
+  Here : (i : ℕ) → i < size_of p g → t.key g i ≡ Claimed k → value_in p t g k ≡ Some (t.value g i) → IsLook p t g k
 
--- where a key has a value in a table, it has a slot there with it
-pub value_in-slot : (p : Plan) (t : Tables) (g k : ℕ) (v : ValueState) → value_in p t g k ≡ Some v → HasSlotWith p t g k v
-value_in-slot p t g k v e =
+pub look : (p : Plan) (t : Tables) (g k : ℕ) → IsLook p t g k
+look p t g k =
     elim (slot_among-is t g k (size_of p g)) [
-      | Somewhere i below is found ↦
-          let same : Some (t.value g i) ≡ Some v = sym (value_in-is p t g k (Some i) found) ∙ e in
-          record { slot = i; in_table = below; is = is; value = cc }
-      | Nowhere none found ↦ let same : None ≡ Some v = sym (value_in-is p t g k None found) ∙ e in absurd cc
-    ]
-
--- where a key has no value in a table, it has no slot there
-pub value_in-none : (p : Plan) (t : Tables) (g k : ℕ) → value_in p t g k ≡ None → (i : ℕ) → i < size_of p g → t.key g i ≢ Claimed k
-value_in-none p t g k e i below is =
-    elim (slot_among-is t g k (size_of p g)) [
-      | Somewhere j j_below j_is found ↦ let same : Some (t.value g j) ≡ None = sym (value_in-is p t g k (Some j) found) ∙ e in absurd cc
-      | Nowhere none found ↦ none i below is
+      | Somewhere i below is found ↦ Here i below is (value_in-is p t g k (Some i) found)
+      | Nowhere none found ↦ Away none (value_in-is p t g k None found)
     ]

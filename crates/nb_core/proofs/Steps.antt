@@ -1,16 +1,15 @@
 -- What may have happened to each word of the tables in one step of a legal history, and why.
-use Rattle.std.proofs.Common.{◌≡◌, ℕ, ◌<◌, ◌≤◌, ◌&&◌, max, suc, true, false, cond, eqb, List, ◌∷◌, ap, sym, subst, subst₂, refl, arith}
-use Rattle.std.proofs.lemmas.Bool.{eqb-true}
-use Rattle.nb_core.specs.Plans.{Plan, IsPlan, generations_of}
+use Rattle.std.proofs.Common.{◌≡◌, ℕ, ◌<◌, ◌≤◌, max, suc, cond, List, ◌∷◌, ap, sym, subst, refl, arith}
+use Rattle.nb_core.specs.Plans.{Plan, IsPlan, Top, Header, generations_of}
 use Rattle.nb_core.specs.Tables.{IsSlot, Tables, tables_at}
 use Rattle.nb_core.specs.History.{IsLegal, MayClaim, MayCopyIn, MayFinish, MayInstall, MayKill, MayPrime, MayPromote, MayWin}
 use Rattle.nb_core.specs.Laws.{primed}
+use Rattle.nb_core.proofs.Frames.{finished, key_after, key-frame, next-frame, value_after, value-frame}
+use Rattle.nb_core.proofs.Words.{at_slot, at_table, word_after, word-frame}
 use Rattle.nb_core.specs.declared.numbers.TheConstants.{KEY_MAX}
 use Rattle.nb_core.specs.declared.calls.Call.{Call}
-use Rattle.nb_core.proofs.Frames.{finished, key_after, key_frame, next_after, next_frame, top_after, top_frame, value_after, value_frame}
-use Rattle.nb_core.proofs.Words.{both_same}
 use Rattle.nb_core.specs.declared.events.Event.{Event}
-use Rattle.nb_core.specs.declared.events.Event.TheVariants.{Claim, Kill, Won, CopyIn, Prime, Finish, Install, Take, Count, Promote, Read}
+use Rattle.nb_core.specs.declared.events.Event.TheVariants.{Claim, Kill, Won, CopyIn, Prime, Finish, Install, Promote}
 use Rattle.nb_core.specs.declared.states.KeyState.{KeyState}
 use Rattle.nb_core.specs.declared.states.KeyState.TheVariants.{Dead, Claimed}
 use Rattle.nb_core.specs.declared.states.ValueState.{ValueState}
@@ -47,95 +46,62 @@ pub record Step (p : Plan) (t u : Tables) : Type 0 where
   pub next : (g : ℕ) → NextStep p t g (u.next g)
   pub top : TopStep p t u.top
 
--- what holds at the event's own slot, and at the others, holds at each
-pub at_slot : {X : Type 0} (P : X → Type 0) (f g j i : ℕ) (a b : X) → (f ≡ g → j ≡ i → P a) → P b → P (cond (eqb f g && eqb j i) a b)
-at_slot P f g j i a b here elsewhere =
-    elim (eqb f g && eqb j i) as (λ t. (eqb f g && eqb j i) ≡ t → P (cond t a b)) [
-      | true ↦ λ e. let same = both_same f g j i e in here same.0 same.1
-      | false ↦ λ e. elsewhere
-    ] refl
+-- what an event does to a key is a step
+key-step :
+    (p : Plan) (e : Event) (h : List Event) → IsLegal p (e ∷ h) → (g i : ℕ)
+    → let t = tables_at p h in KeyStep p t g i (key_after e g i (t.key g i))
+key-step p (Claim s f j k) h legal g i =
+    let t = tables_at p h in
+    at_slot (λ g i here. KeyStep p t g i (cond here (Claimed k) (t.key g i))) f j g i (Claims k legal.1.2 legal.2 refl) (KeyKept refl)
+key-step p (Kill s f j) h legal g i =
+    let t = tables_at p h in
+    at_slot (λ g i here. KeyStep p t g i (cond here Dead (t.key g i))) f j g i (Kills legal.2 refl) (KeyKept refl)
+key-step p _ h legal g i = KeyKept refl
 
-key_moves : (p : Plan) (e : Event) (h : List Event) → IsLegal p (e ∷ h) → (g i : ℕ) → KeyStep p (tables_at p h) g i (key_after e g i ((tables_at p h).key g i))
-key_moves p (Claim s f j k) h legal g i =
-    at_slot (KeyStep p (tables_at p h) g i) f g j i (Claimed k) _
-    (λ same_table same_slot. subst₂ (λ x y. KeyStep p (tables_at p h) x y (Claimed k)) same_table same_slot (Claims k legal.1.2 legal.2 refl))
-    (KeyKept refl)
-key_moves p (Kill s f j) h legal g i =
-    at_slot (KeyStep p (tables_at p h) g i) f g j i Dead _
-    (λ same_table same_slot. subst₂ (λ x y. KeyStep p (tables_at p h) x y Dead) same_table same_slot (Kills legal.2 refl))
-    (KeyKept refl)
-key_moves p (Won s f j a b c r) h legal g i = KeyKept refl
-key_moves p (CopyIn s f j k n) h legal g i = KeyKept refl
-key_moves p (Prime s f j) h legal g i = KeyKept refl
-key_moves p (Finish s f j) h legal g i = KeyKept refl
-key_moves p (Install s f k) h legal g i = KeyKept refl
-key_moves p (Take s f) h legal g i = KeyKept refl
-key_moves p (Count s f c) h legal g i = KeyKept refl
-key_moves p (Promote s f) h legal g i = KeyKept refl
-key_moves p (Read s c r) h legal g i = KeyKept refl
+-- so is what it does to a value
+value-step :
+    (p : Plan) (e : Event) (h : List Event) → IsLegal p (e ∷ h) → (g i : ℕ)
+    → let t = tables_at p h in ValueStep p t g i (value_after e g i (t.value g i))
+value-step p (Won s f j a b c r) h legal g i =
+    let t = tables_at p h in
+    at_slot (λ g i here. ValueStep p t g i (cond here b (t.value g i))) f j g i (Wins a b c legal.2 refl) (ValueKept refl)
+value-step p (CopyIn s f j k n) h legal g i =
+    let t = tables_at p h in
+    at_slot (λ g i here. ValueStep p t g i (cond here (Live n) (t.value g i))) f j g i (Copies k n legal.2 refl) (ValueKept refl)
+value-step p (Prime s f j) h legal g i =
+    let t = tables_at p h in
+    at_slot (λ g i here. ValueStep p t g i (cond here (primed (t.value g i)) (t.value g i))) f j g i
+    (Primes legal.2 refl) (ValueKept refl)
+value-step p (Finish s f j) h legal g i =
+    let t = tables_at p h in
+    at_slot (λ g i here. ValueStep p t g i (cond here (finished (t.value g i)) (t.value g i))) f j g i
+    (Finishes legal.2 (ap finished legal.2.primed)) (ValueKept refl)
+value-step p _ h legal g i = ValueKept refl
 
-value_moves : (p : Plan) (e : Event) (h : List Event) → IsLegal p (e ∷ h) → (g i : ℕ) → ValueStep p (tables_at p h) g i (value_after e g i ((tables_at p h).value g i))
-value_moves p (Claim s f j k) h legal g i = ValueKept refl
-value_moves p (Kill s f j) h legal g i = ValueKept refl
-value_moves p (Won s f j a b c r) h legal g i =
-    at_slot (ValueStep p (tables_at p h) g i) f g j i b _
-    (λ same_table same_slot. subst₂ (λ x y. ValueStep p (tables_at p h) x y b) same_table same_slot (Wins a b c legal.2 refl))
-    (ValueKept refl)
-value_moves p (CopyIn s f j k n) h legal g i =
-    at_slot (ValueStep p (tables_at p h) g i) f g j i (Live n) _
-    (λ same_table same_slot. subst₂ (λ x y. ValueStep p (tables_at p h) x y (Live n)) same_table same_slot (Copies k n legal.2 refl))
-    (ValueKept refl)
-value_moves p (Prime s f j) h legal g i =
-    at_slot (ValueStep p (tables_at p h) g i) f g j i (primed ((tables_at p h).value g i)) _
-    (λ same_table same_slot. subst₂ (λ x y. ValueStep p (tables_at p h) x y (primed ((tables_at p h).value x y))) same_table same_slot (Primes legal.2 refl))
-    (ValueKept refl)
-value_moves p (Finish s f j) h legal g i =
-    at_slot (ValueStep p (tables_at p h) g i) f g j i (finished ((tables_at p h).value g i)) _
-    (λ same_table same_slot. subst₂ (λ x y. ValueStep p (tables_at p h) x y (finished ((tables_at p h).value x y))) same_table same_slot (Finishes legal.2 (ap finished legal.2.primed)))
-    (ValueKept refl)
-value_moves p (Install s f k) h legal g i = ValueKept refl
-value_moves p (Take s f) h legal g i = ValueKept refl
-value_moves p (Count s f c) h legal g i = ValueKept refl
-value_moves p (Promote s f) h legal g i = ValueKept refl
-value_moves p (Read s c r) h legal g i = ValueKept refl
+-- to a next word
+next-step :
+    (p : Plan) (e : Event) (h : List Event) → IsLegal p (e ∷ h) → (g : ℕ)
+    → let t = tables_at p h in NextStep p t g (word_after p e (Header g 0) (t.next g))
+next-step p (Install s f k) h legal g =
+    let t = tables_at p h in
+    at_table (λ g here. NextStep p t g (cond here 1 (t.next g))) f g (Installs k legal.2 refl) (NextKept refl)
+next-step p _ h legal g = NextKept refl
 
-next_moves : (p : Plan) (e : Event) (h : List Event) → IsLegal p (e ∷ h) → (g : ℕ) → NextStep p (tables_at p h) g (next_after e g ((tables_at p h).next g))
-next_moves p (Claim s f j k) h legal g = NextKept refl
-next_moves p (Kill s f j) h legal g = NextKept refl
-next_moves p (Won s f j a b c r) h legal g = NextKept refl
-next_moves p (CopyIn s f j k n) h legal g = NextKept refl
-next_moves p (Prime s f j) h legal g = NextKept refl
-next_moves p (Finish s f j) h legal g = NextKept refl
-next_moves p (Install s f k) h legal g =
-    elim (eqb f g) as (λ t. eqb f g ≡ t → NextStep p (tables_at p h) g (cond t 1 ((tables_at p h).next g))) [
-      | true ↦ λ e. subst (λ x. NextStep p (tables_at p h) x 1) (eqb-true f g e) (Installs k legal.2 refl)
-      | false ↦ λ e. NextKept refl
-    ] refl
-next_moves p (Take s f) h legal g = NextKept refl
-next_moves p (Count s f c) h legal g = NextKept refl
-next_moves p (Promote s f) h legal g = NextKept refl
-next_moves p (Read s c r) h legal g = NextKept refl
+-- and to the top word
+top-step : (p : Plan) (e : Event) (h : List Event) → IsLegal p (e ∷ h) → let t = tables_at p h in TopStep p t (word_after p e Top t.top)
+top-step p (Promote s f) h legal = Promotes f legal.1.1 legal.2 (rises ((tables_at p h).top) f legal.2.higher)
+  where
+    rises : (top g : ℕ) → top ≤ g → max top (suc g) ≡ suc g
+    rises top g low = omega arith
+top-step p _ h legal = TopKept refl
 
-rises : (top g : ℕ) → top ≤ g → max top (suc g) ≡ suc g
-rises top g low = omega arith
-
-top_moves : (p : Plan) (e : Event) (h : List Event) → IsLegal p (e ∷ h) → TopStep p (tables_at p h) (top_after e ((tables_at p h).top))
-top_moves p (Claim s f j k) h legal = TopKept refl
-top_moves p (Kill s f j) h legal = TopKept refl
-top_moves p (Won s f j a b c r) h legal = TopKept refl
-top_moves p (CopyIn s f j k n) h legal = TopKept refl
-top_moves p (Prime s f j) h legal = TopKept refl
-top_moves p (Finish s f j) h legal = TopKept refl
-top_moves p (Install s f k) h legal = TopKept refl
-top_moves p (Take s f) h legal = TopKept refl
-top_moves p (Count s f c) h legal = TopKept refl
-top_moves p (Promote s f) h legal = Promotes f legal.1.1 legal.2 (rises ((tables_at p h).top) f legal.2.higher)
-top_moves p (Read s c r) h legal = TopKept refl
-
+-- each event of a legal history is a step
 pub step_of : (p : Plan) (e : Event) (h : List Event) → IsPlan p → IsLegal p (e ∷ h) → Step p (tables_at p h) (tables_at p (e ∷ h))
-step_of p e h plan legal = record {
-  key = λ g i slot. subst (KeyStep p (tables_at p h) g i) (sym (key_frame p e h plan legal.1 g i slot)) (key_moves p e h legal g i);
-  value = λ g i slot. subst (ValueStep p (tables_at p h) g i) (sym (value_frame p e h plan legal g i slot)) (value_moves p e h legal g i);
-  next = λ g. subst (NextStep p (tables_at p h) g) (sym (next_frame p e h plan legal.1 g)) (next_moves p e h legal g);
-  top = subst (TopStep p (tables_at p h)) (sym (top_frame p e h plan legal.1)) (top_moves p e h legal);
-}
+step_of p e h plan legal =
+    let t = tables_at p h in
+    record {
+      key = λ g i slot. subst (KeyStep p t g i) (sym (key-frame p e h plan legal.1 g i slot)) (key-step p e h legal g i);
+      value = λ g i slot. subst (ValueStep p t g i) (sym (value-frame p e h plan legal g i slot)) (value-step p e h legal g i);
+      next = λ g. subst (NextStep p t g) (sym (next-frame p e h plan legal.1 g)) (next-step p e h legal g);
+      top = subst (TopStep p t) (sym (word-frame p plan h Top tt e legal.1)) (top-step p e h legal);
+    }

@@ -8,7 +8,7 @@ use Rattle.std.proofs.lemmas.List.Sums.{sum_by_more, sum_by-take-le}
 use Rattle.nb_core.specs.Plans.{Plan, IsPlan, Word, Top, Header, Key, Value, IsWord, LimitsFit, PlacesAreDistinct, SizesNeverFall, place_of_word, base_of, generations_of, size_of, table_words, word_count}
 
 -- a table begins where the one before it ends
-pub base_of-suc : (p : Plan) (g : ℕ) → g < generations_of p → base_of p (suc g) ≡ base_of p g + 3 + 2 * size_of p g
+base_of-suc : (p : Plan) (g : ℕ) → g < generations_of p → base_of p (suc g) ≡ base_of p g + 3 + 2 * size_of p g
 base_of-suc p g within =
     rw (← add-one g) (omega (arith, sum_by_more table_words p.exponents g 0 within))
 
@@ -18,11 +18,11 @@ base_of-le p g h below =
     omega (arith, sum_by-take-le table_words (take h p.exponents) g, ap (sum_by table_words) (take-take g h p.exponents below))
 
 -- a table ends before a later one begins
-pub base_of-end : (p : Plan) (g h : ℕ) → g < generations_of p → g < h → base_of p g + 3 + 2 * size_of p g ≤ base_of p h
+base_of-end : (p : Plan) (g h : ℕ) → g < generations_of p → g < h → base_of p g + 3 + 2 * size_of p g ≤ base_of p h
 base_of-end p g h within below = omega (arith, base_of-suc p g within, base_of-le p (suc g) h (omega arith))
 
 -- words in one place are in one table, and in one place of it
-pub same_table : (p : Plan) (g h m n : ℕ) → g < generations_of p → h < generations_of p → m < 3 + 2 * size_of p g → n < 3 + 2 * size_of p h → base_of p g + m ≡ base_of p h + n → (g ≡ h) × (m ≡ n)
+same_table : (p : Plan) (g h m n : ℕ) → g < generations_of p → h < generations_of p → m < 3 + 2 * size_of p g → n < 3 + 2 * size_of p h → base_of p g + m ≡ base_of p h + n → (g ≡ h) × (m ≡ n)
 same_table p g h m n g_within h_within m_within n_within same =
     elim (cases_order g h) [
       | inl e ↦ (e, omega (arith, ap (base_of p) e))

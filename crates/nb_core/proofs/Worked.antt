@@ -16,7 +16,7 @@ use Rattle.nb_core.specs.declared.events.Event.{Event}
 pub legal : (w : Worked) → passes w.plan w.events ≡ true → IsLegal w.plan w.events
 legal w = passes_legal w.plan w.events
 
-abbrev pub has_numbers : List Event → List (ℕ × Option ℕ) → Bool
+abbrev has_numbers : List Event → List (ℕ × Option ℕ) → Bool
 has_numbers h [] = true
 has_numbers h (e ∷ es) = same_number (number_at h e.0) e.1 && has_numbers h es
 
@@ -29,7 +29,7 @@ has_numbers-true h (e ∷ es) holds =
 pub numbers : (w : Worked) (es : List (ℕ × Option ℕ)) → has_numbers w.events es ≡ true → HasNumbers w es
 numbers w = has_numbers-true w.events
 
-abbrev pub are_all_others : Tables → ℕ → ℕ → ℕ → Bool
+abbrev are_all_others : Tables → ℕ → ℕ → ℕ → Bool
 are_all_others t g k zero = true
 are_all_others t g k (suc n) = is_other k (t.key g n) && are_all_others t g k n
 

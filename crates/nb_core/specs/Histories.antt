@@ -442,3 +442,44 @@ adds = record {
       ∷ Claim 0 0 1 1
       ∷ [];
 }
+
+-- full in the middle: a table whose slots are all claimed, and which has no next one yet
+abbrev pub full_in_the_middle : Worked
+full_in_the_middle = record {
+  plan = plan (2 ∷ 2 ∷ 2 ∷ []) 1 1;
+  events =
+      Read 0 (call.Get 1) (replied None true)
+      ∷ Read 0 (call.Get 5) (replied None true)
+      ∷ Claim 0 1 3 3
+      ∷ Claim 0 1 2 2
+      ∷ Claim 0 1 1 1
+      ∷ Claim 0 1 0 0
+      ∷ Kill 0 0 3
+      ∷ Prime 0 0 2
+      ∷ Prime 0 0 1
+      ∷ Prime 0 0 0
+      ∷ Install 0 0 12
+      ∷ Claim 0 0 2 8
+      ∷ Claim 0 0 1 4
+      ∷ Claim 0 0 0 0
+      ∷ [];
+}
+
+-- half copied: a table and the next one are of the same size
+abbrev pub half_copied : Worked
+half_copied = record {
+  plan = plan (2 ∷ 2 ∷ []) 1 1;
+  events =
+      Finish 0 0 0
+      ∷ CopyIn 0 1 0 0 10
+      ∷ Claim 0 1 0 0
+      ∷ Prime 0 0 0
+      ∷ Install 0 0 12
+      ∷ Won 0 0 2 Null (Live 18) (call.Write 8 Any (change.Put 18)) (replied None true)
+      ∷ Claim 0 0 2 8
+      ∷ Won 0 0 1 Null (Live 14) (call.Write 4 Any (change.Put 14)) (replied None true)
+      ∷ Claim 0 0 1 4
+      ∷ Won 0 0 0 Null (Live 10) (call.Write 0 Any (change.Put 10)) (replied None true)
+      ∷ Claim 0 0 0 0
+      ∷ [];
+}

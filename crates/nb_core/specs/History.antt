@@ -203,6 +203,20 @@ abbrev pub key_of_call : Call → ℕ
 key_of_call (call.Get k) = k
 key_of_call (call.Write k want change) = k
 
+-- the seat of an event
+abbrev pub seat_of_event : Event → ℕ
+seat_of_event (Claim s g i k) = s
+seat_of_event (Kill s g i) = s
+seat_of_event (Won s g i a b c r) = s
+seat_of_event (CopyIn s g i k n) = s
+seat_of_event (Prime s g i) = s
+seat_of_event (Finish s g i) = s
+seat_of_event (Install s g k) = s
+seat_of_event (Take s g) = s
+seat_of_event (Count s g c) = s
+seat_of_event (Promote s g) = s
+seat_of_event (Read s c r) = s
+
 -- the map with the value that a call's exchange put at its key
 abbrev pub after_win : Numbers → ℕ → ValueState → Numbers
 after_win m k (Live n) = map.insert m k n

@@ -1,14 +1,18 @@
 -- The laws of legal histories: what holds at every moment, whatever atomic steps were made, by whom, in which order.
-use Rattle.std.specs.Prelude.{◌≡◌, ◌≢◌, ℕ, suc, zero, ◌+◌, ◌-◌, ◌<◌, ◌≤◌, ◌⊎◌, ◌==◌, ◌&&◌, ◌||◌, ℤ, pos, ◌+ℤ◌, Bool, true, false, if◌then◌else◌, List, [], ◌∷◌, ◌++◌, length, slice_index, Option, Some, None}
+use Rattle.std.specs.Prelude.{◌≡◌, ◌≢◌, ℕ, suc, zero, ◌+◌, ◌-◌, ◌<◌, ◌≤◌, ◌⊎◌, ◌==◌, ◌&&◌, ◌||◌, ℤ, pos, ◌+ℤ◌, Bool, true, false, if◌then◌else◌, List, [], ◌∷◌, ◌++◌, length, slice_index, Option, Some, None, All}
 use Rattle.std.specs.FinMap as map
-use Rattle.nb_core.specs.Plans.{Plan, IsPlan, generations_of, header_place, size_of, value_place}
+use Rattle.nb_core.specs.Calls.{changed, holds_of}
+use Rattle.nb_core.specs.Plans.{Plan, IsPlan, generations_of, header_place, size_of, value_place, word_count}
 use Rattle.nb_core.specs.States.{IsKeyState, value_state}
 use Rattle.nb_core.specs.Tables.{AreOthers, HasSlot, IsComplete, IsFinished, IsFinishedValue, IsInstalled, IsReady, IsSettledBelow, IsSlot, IsUnprimed, Tables, path_slot, tables_at, words_of}
-use Rattle.nb_core.specs.History.{HasValue, IsLegal, MayWin, content_of, counted_by, is_empty_content, key_of_call, map_of, turned_by}
-use Rattle.nb_core.specs.Meaning.{IsCrowded, Stands, calls_of, net_of, place_of}
+use Rattle.nb_core.specs.History.{HasValue, IsLegal, MayWin, Replies, content_of, counted_by, is_empty_content, key_of_call, map_of, seat_of_event, turned_by}
+use Rattle.nb_core.specs.Meaning.{IsCrowded, Stands, calls_of, net_of, passed_over, place_of}
+use Rattle.nb_core.specs.declared.numbers.TheConstants.{KEY_MAX, VALUE_MAX}
 use Rattle.nb_core.specs.declared.calls.Call.{Call}
+use Rattle.nb_core.specs.declared.calls.Call.TheVariants as call
+use Rattle.nb_core.specs.declared.calls.Reply.{Reply}
 use Rattle.nb_core.specs.declared.events.Event.{Event}
-use Rattle.nb_core.specs.declared.events.Event.TheVariants.{Claim, Kill, Won, CopyIn, Prime, Finish}
+use Rattle.nb_core.specs.declared.events.Event.TheVariants.{Claim, Kill, Won, CopyIn, Prime, Finish, Read}
 use Rattle.nb_core.specs.declared.states.KeyState.{KeyState}
 use Rattle.nb_core.specs.declared.states.KeyState.TheVariants.{Empty, Dead, Claimed}
 use Rattle.nb_core.specs.declared.states.ValueState.{ValueState}
@@ -21,23 +25,24 @@ pub record IsValueWord (word : ℕ) : Type 0 where
   pub state : ValueState
   pub decodes : value_state word ≡ Some state
 
--- Each key word and value word stands for a state. A slot without a key has the value null, and the last table's header
--- words stay 0.
+-- There are as many words as the plan says. Each key word and value word stands for a state. A slot without a key has the
+-- value null, and the last table's header words stay 0.
 pub record AreLawful (p : Plan) (h : List Event) : Type 0 where
+  pub length : length (words_of p h) ≡ word_count p
   pub keys : (g i : ℕ) → IsSlot p g i → IsKeyState ((tables_at p h).key g i)
   pub values : (g i : ℕ) → IsSlot p g i → IsValueWord (slice_index (words_of p h) (value_place p g i))
-  pub empty : (g i : ℕ) → IsSlot p g i → (tables_at p h).key g i ≡ Empty → (tables_at p h).value g i ≡ Null
-  pub dead : (g i : ℕ) → IsSlot p g i → (tables_at p h).key g i ≡ Dead → (tables_at p h).value g i ≡ Null
-  pub last : (n : ℕ) → n < 3 → slice_index (words_of p h) (header_place p (generations_of p - 1) n) ≡ 0
+  pub empty_is_null : (g i : ℕ) → IsSlot p g i → (tables_at p h).key g i ≡ Empty → (tables_at p h).value g i ≡ Null
+  pub dead_is_null : (g i : ℕ) → IsSlot p g i → (tables_at p h).key g i ≡ Dead → (tables_at p h).value g i ≡ Null
+  pub last_headers : (n : ℕ) → n < 3 → slice_index (words_of p h) (header_place p (generations_of p - 1) n) ≡ 0
 
 abbrev pub LawfulWords : Type 0
 LawfulWords = (p : Plan) → IsPlan p → (h : List Event) → IsLegal p h → AreLawful p h
 
--- how an event may change a key
-abbrev pub IsKeyChange : Event → KeyState → KeyState → Type 0
-IsKeyChange (Claim s g i k) from to = (from ≡ Empty) × (to ≡ Claimed k)
-IsKeyChange (Kill s g i) from to = (from ≡ Empty) × (to ≡ Dead)
-IsKeyChange _ from to = ⊥
+-- how an event may change the key in slot i of table g: the slot is its own
+abbrev pub IsKeyChange : Event → (g i : ℕ) → KeyState → KeyState → Type 0
+IsKeyChange (Claim s f j k) g i from to = (f ≡ g) × (j ≡ i) × (from ≡ Empty) × (to ≡ Claimed k)
+IsKeyChange (Kill s f j) g i from to = (f ≡ g) × (j ≡ i) × (from ≡ Empty) × (to ≡ Dead)
+IsKeyChange _ g i from to = ⊥
 
 -- a call puts a number in place of null, a tombstone or another number, or a tombstone in place of a number
 abbrev pub IsWonChange : ValueState → ValueState → Type 0
@@ -57,20 +62,19 @@ primed PrimedTombstone = PrimedTombstone
 primed (Primed n) = Primed n
 primed (Finished n) = Finished n
 
--- how an event may change a value
-abbrev pub IsValueChange : Event → ValueState → ValueState → Type 0
-IsValueChange (Won s g i a b c r) from to = (from ≡ a) × (to ≡ b) × IsWonChange a b
-IsValueChange (CopyIn s g i k n) from to = (from ≡ Null) × (to ≡ Live n)
-IsValueChange (Prime s g i) from to = IsUnprimed from × (to ≡ primed from)
-IsValueChange (Finish s g i) from to = (n : ℕ) × (from ≡ Primed n) × (to ≡ Finished n)
-IsValueChange _ from to = ⊥
+-- how an event may change the value in slot i of table g: the slot is its own
+abbrev pub IsValueChange : Event → (g i : ℕ) → ValueState → ValueState → Type 0
+IsValueChange (Won s f j a b c r) g i from to = (f ≡ g) × (j ≡ i) × (from ≡ a) × (to ≡ b) × IsWonChange a b
+IsValueChange (CopyIn s f j k n) g i from to = (f ≡ g) × (j ≡ i) × (from ≡ Null) × (to ≡ Live n)
+IsValueChange (Prime s f j) g i from to = (f ≡ g) × (j ≡ i) × IsUnprimed from × (to ≡ primed from)
+IsValueChange (Finish s f j) g i from to = (f ≡ g) × (j ≡ i) × ((n : ℕ) × (from ≡ Primed n) × (to ≡ Finished n))
+IsValueChange _ g i from to = ⊥
 
--- An event changes one word at most, and a key or a value only as its kind may.
+-- An event changes one word at most, and a key or a value only in its own slot and as its kind may.
 pub record IsLawfulChange (p : Plan) (e : Event) (h : List Event) : Type 0 where
-  pub length : length (words_of p (e ∷ h)) ≡ length (words_of p h)
   pub one : (a b : ℕ) → slice_index (words_of p (e ∷ h)) a ≢ slice_index (words_of p h) a → slice_index (words_of p (e ∷ h)) b ≢ slice_index (words_of p h) b → a ≡ b
-  pub keys : (g i : ℕ) → IsSlot p g i → let t = tables_at p h in let u = tables_at p (e ∷ h) in (u.key g i ≡ t.key g i) ⊎ IsKeyChange e (t.key g i) (u.key g i)
-  pub values : (g i : ℕ) → IsSlot p g i → let t = tables_at p h in let u = tables_at p (e ∷ h) in (u.value g i ≡ t.value g i) ⊎ IsValueChange e (t.value g i) (u.value g i)
+  pub keys : (g i : ℕ) → IsSlot p g i → let t = tables_at p h in let u = tables_at p (e ∷ h) in (u.key g i ≡ t.key g i) ⊎ IsKeyChange e g i (t.key g i) (u.key g i)
+  pub values : (g i : ℕ) → IsSlot p g i → let t = tables_at p h in let u = tables_at p (e ∷ h) in (u.value g i ≡ t.value g i) ⊎ IsValueChange e g i (t.value g i) (u.value g i)
 
 abbrev pub LawfulChanges : Type 0
 LawfulChanges = (p : Plan) → IsPlan p → (e : Event) (h : List Event) → IsLegal p (e ∷ h) → IsLawfulChange p e h
@@ -85,7 +89,7 @@ TablesStand = (p : Plan) → IsPlan p → (h : List Event) → IsLegal p h → S
 abbrev pub HasOneSlot : Type 0
 HasOneSlot = (p : Plan) → IsPlan p → (h : List Event) → IsLegal p h → (g i j k : ℕ) → IsSlot p g i → IsSlot p g j → (tables_at p h).key g i ≡ Claimed k → (tables_at p h).key g j ≡ Claimed k → i ≡ j
 
--- what never changes again in a slot: a key that was claimed or closed, and all of a finished slot
+-- A slot that has a key, or is closed to keys, stays so for ever, and a finished slot keeps its value too.
 pub record Stays (t u : Tables) (g i : ℕ) : Type 0 where
   pub key : t.key g i ≢ Empty → u.key g i ≡ t.key g i
   pub finished : IsFinished t g i → (u.key g i ≡ t.key g i) × (u.value g i ≡ t.value g i)
@@ -103,7 +107,7 @@ HasContent PrimedTombstone = Unit {0}
 HasContent (Primed n) = Unit {0}
 HasContent (Finished n) = Unit {0}
 
--- What was no null, primed or not, never is one again.
+-- A value that was ever a number or a tombstone is never null again, primed or not.
 abbrev pub ContentOnce : Type 0
 ContentOnce = (p : Plan) → IsPlan p → (later h : List Event) → IsLegal p (later ++ h) → (g i : ℕ) → IsSlot p g i → HasContent ((tables_at p h).value g i) → HasContent ((tables_at p (later ++ h)).value g i)
 
@@ -113,15 +117,16 @@ InstalledAfter = (p : Plan) → IsPlan p → (h : List Event) → IsLegal p h �
 
 -- ---- what a look at the tables decides
 
--- A call need not look at the key in this table any more: its slot is finished, or other keys have its path, up to a
--- closed slot or whole.
+-- A call need not look for the key in this table any more: the key's slot is finished, or other keys have its path, up to
+-- a closed slot or whole.
 pub data IsPassed (p : Plan) (t : Tables) (g k : ℕ) : Type 0 where
   AtSlot : (i : ℕ) → i < size_of p g → t.key g i ≡ Claimed k → IsFinishedValue (t.value g i) → IsPassed p t g k
   UpToDead : (d : ℕ) → d < size_of p g → AreOthers p t g k d → t.key g (path_slot p g k d) ≡ Dead → IsPassed p t g k
   Whole : AreOthers p t g k (size_of p g) → IsPassed p t g k
 
--- What a table shows of the key: absent, at an empty slot on its path or where other keys have all of it and there is no
--- next table; and the number in the key's slot, if there is one, as long as it isn't primed.
+-- What a table shows of the key. It shows none where other keys have the key's path up to an empty slot, and where they
+-- have all of the path and there is no next table. The key's own slot shows the number in it, or none for a null or a
+-- tombstone, as long as its value isn't primed.
 pub data Shows (p : Plan) (t : Tables) (g k : ℕ) (number : Option ℕ) : Type 0 where
   AtEmpty : (d : ℕ) → d < size_of p g → AreOthers p t g k d → t.key g (path_slot p g k d) ≡ Empty → number ≡ None → Shows p t g k number
   AtValue : (i : ℕ) → i < size_of p g → t.key g i ≡ Claimed k → IsUnprimed (t.value g i) → number ≡ content_of (t.value g i) → Shows p t g k number
@@ -173,8 +178,9 @@ abbrev pub over_seats : (ℕ → ℕ) → ℕ → ℕ
 over_seats f zero = 0
 over_seats f (suc n) = f n + over_seats f n
 
--- Just one event turned each finished slot finished, and none another slot. A seat counts what its own events turned,
--- and the done word is what all seats counted: so many slots are finished, and where it is the size, all are.
+-- Exactly one event turned each finished slot finished; none turned one that isn't. A seat counts at most what its own
+-- events turned; the done word is what all seats counted, at most the number of finished slots; where it is the size, all
+-- are.
 pub record AreCountedOnce (p : Plan) (h : List Event) (g : ℕ) : Type 0 where
   pub once : (i : ℕ) → IsSlot p g i → IsFinished (tables_at p h) g i → times_turned p h g i ≡ 1
   pub never : (i : ℕ) → IsSlot p g i → (IsFinished (tables_at p h) g i → ⊥) → times_turned p h g i ≡ 0
@@ -182,6 +188,7 @@ pub record AreCountedOnce (p : Plan) (h : List Event) (g : ℕ) : Type 0 where
   pub own : (s : ℕ) → counted_by h s g ≤ turned_by p h s g
   pub done : (tables_at p h).counted g ≡ over_seats (λ s. counted_by h s g) p.seats
   pub within : (tables_at p h).counted g ≤ finished_among (tables_at p h) g (size_of p g)
+  pub fits : (tables_at p h).counted g ≤ size_of p g
   pub whole : (tables_at p h).counted g ≡ size_of p g → IsComplete p (tables_at p h) g
 
 abbrev pub CountedOnce : Type 0
@@ -200,7 +207,7 @@ pub record HasRoom (p : Plan) (t : Tables) (g : ℕ) : Type 0 where
   pub alive : (i : ℕ) → i < size_of p (suc g) → t.key (suc g) i ≢ Dead
   pub free : (k : ℕ) → HasSlot p t g k → (HasSlot p t (suc g) k → ⊥) → HasFreeSlot p t (suc g) k
 
--- While a table isn't complete the next one has room for it, whatever writers do, and if both are equally large.
+-- While a table isn't complete the next one has room for it, whatever writers do, also where both have the same size.
 abbrev pub Room : Type 0
 Room = (p : Plan) → IsPlan p → (h : List Event) → IsLegal p h → (g : ℕ) → suc g < generations_of p → (IsComplete p (tables_at p h) g → ⊥) → HasRoom p (tables_at p h) g
 
@@ -229,34 +236,50 @@ SizeIsNet = (p : Plan) → IsPlan p → (h : List Event) → IsLegal p h → net
 abbrev pub BeginningsAreLegal : Type 0
 BeginningsAreLegal = (p : Plan) (later h : List Event) → IsLegal p (later ++ h) → IsLegal p h
 
--- the slot has held this number primed, and may have finished it
-abbrev pub IsFrozen : Tables → ℕ → ℕ → ℕ → Type 0
-IsFrozen t g i n = (t.value g i ≡ Primed n) ⊎ (t.value g i ≡ Finished n)
+-- the slot has this number primed, or finished
+abbrev pub IsPrimedOrFinished : Tables → ℕ → ℕ → ℕ → Type 0
+IsPrimedOrFinished t g i n = (t.value g i ≡ Primed n) ⊎ (t.value g i ≡ Finished n)
 
 -- what is still so in later tables
 pub record Lasts (p : Plan) (t u : Tables) : Type 0 where
+  -- a table that is there
   pub installed : (g : ℕ) → IsInstalled t g → IsInstalled u g
+  -- the key in a slot
   pub claimed : (g i k : ℕ) → IsSlot p g i → t.key g i ≡ Claimed k → u.key g i ≡ Claimed k
+  -- a slot that is closed to keys
   pub dead : (g i : ℕ) → IsSlot p g i → t.key g i ≡ Dead → u.key g i ≡ Dead
+  -- other keys along the path of a key
   pub others : (g k d : ℕ) → g < generations_of p → AreOthers p t g k d → AreOthers p u g k d
+  -- a table in which a call need not look for the key any more
   pub passed : (g k : ℕ) → g < generations_of p → IsPassed p t g k → IsPassed p u g k
+  -- a key with a slot
   pub has_slot : (g k : ℕ) → g < generations_of p → HasSlot p t g k → HasSlot p u g k
+  -- a key with a slot whose value isn't null
   pub has_value : (g k : ℕ) → g < generations_of p → HasValue p t g k → HasValue p u g k
-  pub some : (g i : ℕ) → IsSlot p g i → t.value g i ≢ Null → u.value g i ≢ Null
+  -- a value that isn't null
+  pub not_null : (g i : ℕ) → IsSlot p g i → t.value g i ≢ Null → u.value g i ≢ Null
+  -- a value that was ever a number or a tombstone
   pub content : (g i : ℕ) → IsSlot p g i → HasContent (t.value g i) → HasContent (u.value g i)
-  pub frozen : (g i n : ℕ) → IsSlot p g i → IsFrozen t g i n → IsFrozen u g i n
+  -- a number that is primed, or finished
+  pub primed_or_finished : (g i n : ℕ) → IsSlot p g i → IsPrimedOrFinished t g i n → IsPrimedOrFinished u g i n
+  -- a final value
   pub final : (g i : ℕ) → IsSlot p g i → IsFinishedValue (t.value g i) → u.value g i ≡ t.value g i
+  -- a finished slot
   pub finished : (g i : ℕ) → IsSlot p g i → IsFinished t g i → IsFinished u g i
+  -- a complete table
   pub complete : (g : ℕ) → g < generations_of p → IsComplete p t g → IsComplete p u g
+  -- that the table below, if there is one, is complete
   pub ready : (g : ℕ) → g < generations_of p → IsReady p t g → IsReady p u g
+  -- that a key with a slot here has no unfinished slot in the table below
   pub settled : (g k : ℕ) → g < generations_of p → HasSlot p t g k → IsSettledBelow p t g k → IsSettledBelow p u g k
+  -- the top word, which never falls
   pub top : t.top ≤ u.top
 
 -- What a seat has seen of a claimed key, a finished slot, a passed key and the like is so for ever.
 abbrev pub SeenLasts : Type 0
 SeenLasts = (p : Plan) → IsPlan p → (later h : List Event) → IsLegal p (later ++ h) → Lasts p (tables_at p h) (tables_at p (later ++ h))
 
--- Where a key's number is finished, the key has got a number in the next table.
+-- Where a key's number is finished, the key has a value in the next table.
 abbrev pub Moved : Type 0
 Moved = (p : Plan) → IsPlan p → (h : List Event) → IsLegal p h → (g i k n : ℕ) → IsSlot p g i → (tables_at p h).key g i ≡ Claimed k → (tables_at p h).value g i ≡ Finished n → HasValue p (tables_at p h) (suc g) k
 
@@ -275,3 +298,127 @@ WinNumber = (p : Plan) → IsPlan p → (h : List Event) → IsLegal p h → (g 
 -- All tables below the top word are complete.
 abbrev pub TopComplete : Type 0
 TopComplete = (p : Plan) → IsPlan p → (h : List Event) → IsLegal p h → (g : ℕ) → g < (tables_at p h).top → (g < generations_of p) × IsComplete p (tables_at p h) g
+
+-- ---- which tables are there, and whose slots they have
+
+-- what the tables that are there have to do with one another
+pub record AreLinked (p : Plan) (t : Tables) : Type 0 where
+  -- a next word says that there is no next table, or that there is one
+  pub next : (g : ℕ) → (t.next g ≡ 0) ⊎ (t.next g ≡ 1)
+  -- no more tables are there than the plan has
+  pub within : (g : ℕ) → IsInstalled t g → g < generations_of p
+  -- the table below one that is there is there too
+  pub before : (g : ℕ) → IsInstalled t (suc g) → IsInstalled t g
+  -- only a table that is there has keys
+  pub claimed : (g i k : ℕ) → IsSlot p g i → t.key g i ≡ Claimed k → IsInstalled t g
+  -- a slot is closed to keys only once there is a next table
+  pub dead : (g i : ℕ) → IsSlot p g i → t.key g i ≡ Dead → IsInstalled t (suc g)
+  -- a value is primed only once there is a next table
+  pub primed : (g i : ℕ) → IsSlot p g i → IsUnprimed (t.value g i) ⊎ IsInstalled t (suc g)
+  -- above a complete table there is a next one
+  pub complete : (g : ℕ) → g < generations_of p → IsComplete p t g → IsInstalled t (suc g)
+  -- the top word is the number of a table that is there
+  pub top : IsInstalled t t.top
+
+-- Tables come one after another: only one that is there has keys, and only one that has a next one is copied.
+abbrev pub TablesAreLinked : Type 0
+TablesAreLinked = (p : Plan) → IsPlan p → (h : List Event) → IsLegal p h → AreLinked p (tables_at p h)
+
+-- the slot lies on the key's path, behind slots of other keys
+pub record IsOnPath (p : Plan) (t : Tables) (g i k : ℕ) : Type 0 where
+  pub distance : ℕ
+  pub in_table : distance < size_of p g
+  pub at : path_slot p g k distance ≡ i
+  pub passed : AreOthers p t g k distance
+
+-- A key's slot lies on its path, behind slots of other keys.
+abbrev pub ClaimedOnPath : Type 0
+ClaimedOnPath = (p : Plan) → IsPlan p → (h : List Event) → IsLegal p h → (g i k : ℕ) → IsSlot p g i → (tables_at p h).key g i ≡ Claimed k → IsOnPath p (tables_at p h) g i k
+
+-- Where other keys have a key's whole path in the last table, they have all of its slots.
+abbrev pub WholeCrowded : Type 0
+WholeCrowded = (p : Plan) → IsPlan p → (h : List Event) → IsLegal p h → (k : ℕ) → AreOthers p (tables_at p h) (generations_of p - 1) k (size_of p (generations_of p - 1)) → IsCrowded p h k
+
+-- Where a key has a slot in a table and is passed in the next one, the table is complete: a copier that finds no place
+-- above has nothing left to copy.
+abbrev pub PassedAbove : Type 0
+PassedAbove = (p : Plan) → IsPlan p → (h : List Event) → IsLegal p h → (g k : ℕ) → suc g < generations_of p → HasSlot p (tables_at p h) g k → IsPassed p (tables_at p h) (suc g) k → IsComplete p (tables_at p h) g
+
+-- ---- what other seats did meanwhile
+
+-- Where a seat has made no call since a moment, and another value stands in a key's slot than then, which isn't primed,
+-- another seat has won an exchange on the key since: no copy put it there, as the key had no unfinished slot below.
+abbrev pub LostExchange : Type 0
+LostExchange =
+    (p : Plan) → IsPlan p → (later h : List Event) → IsLegal p (later ++ h) → (g i k s : ℕ) → IsSlot p g i
+    → (tables_at p h).key g i ≡ Claimed k → IsSettledBelow p (tables_at p h) g k → IsUnprimed ((tables_at p (later ++ h)).value g i)
+    → (tables_at p (later ++ h)).value g i ≢ (tables_at p h).value g i → calls_of later s ≡ [] → 1 ≤ passed_over (later ++ h) (length h) k s
+
+-- The exchanges that others won since a moment are those up to a later moment, and those since then.
+abbrev pub PassedOverAdds : Type 0
+PassedOverAdds =
+    (later mid h : List Event) (k s : ℕ)
+    → passed_over (later ++ (mid ++ h)) (length h) k s ≡ passed_over (later ++ (mid ++ h)) (length (mid ++ h)) k s + passed_over (mid ++ h) (length h) k s
+
+-- what is a seat's own, and the same after more events: its calls, and what it counted and turned finished in each table
+pub record HasOwnStill (p : Plan) (later h : List Event) (s : ℕ) : Type 0 where
+  pub calls : calls_of (later ++ h) s ≡ calls_of h s
+  pub counted : (g : ℕ) → counted_by (later ++ h) s g ≡ counted_by h s g
+  pub turned : (g : ℕ) → turned_by p (later ++ h) s g ≡ turned_by p h s g
+
+-- Events of other seats change nothing of a seat's own.
+abbrev pub OwnLasts : Type 0
+OwnLasts = (p : Plan) (later h : List Event) (s : ℕ) → All (λ e. seat_of_event e ≢ s) later → HasOwnStill p later h s
+
+-- ---- what a call may reply
+
+-- what a call replies where its key has this number, or none
+abbrev pub reply_at : Call → Option ℕ → Reply
+reply_at (call.Get k) number = record { before = number; matched = true }
+reply_at (call.Write k want change) number = record { before = number; matched = holds_of want number }
+
+-- the call leaves this number, or none, at its key: it only asks, or its condition doesn't hold, or it would put the same
+abbrev pub LeavesAlone : Call → Option ℕ → Type 0
+LeavesAlone (call.Get k) number = Unit {0}
+LeavesAlone (call.Write k want change) number = (holds_of want number ≡ false) ⊎ (changed change number ≡ number)
+
+-- A call that may win an exchange may reply the number that it replaces, and that its condition held.
+abbrev pub WinReplies : Type 0
+WinReplies =
+    (p : Plan) → IsPlan p → (h : List Event) → IsLegal p h → (s g i : ℕ) (a b : ValueState) (c : Call) → IsSlot p g i
+    → MayWin p (tables_at p h) g i a b c → Replies (map_of h) (Won s g i a b c (record { before = content_of a; matched = true }))
+
+-- A call that leaves alone what the map has at its key may reply it.
+abbrev pub ReadReplies : Type 0
+ReadReplies =
+    (p : Plan) → IsPlan p → (h : List Event) → IsLegal p h → (s : ℕ) (c : Call) (number : Option ℕ)
+    → map.get (map_of h) (key_of_call c) ≡ number → LeavesAlone c number → Replies (map_of h) (Read s c (reply_at c number))
+
+-- ---- keys of the map
+
+-- The map has keys and numbers of their ranges alone.
+abbrev pub MapInRange : Type 0
+MapInRange = (p : Plan) → IsPlan p → (h : List Event) → IsLegal p h → (k n : ℕ) → map.get (map_of h) k ≡ Some n → (k ≤ KEY_MAX) × (n ≤ VALUE_MAX)
+
+-- The map has no more keys than there are.
+abbrev pub FewKeys : Type 0
+FewKeys = (p : Plan) → IsPlan p → (h : List Event) → IsLegal p h → length (map.entries (map_of h)) ≤ KEY_MAX + 1
+
+-- Where all tables below one are complete, each key of the map has a place from that table on.
+abbrev pub HeldHasPlace : Type 0
+HeldHasPlace =
+    (p : Plan) → IsPlan p → (h : List Event) → IsLegal p h → (g k n : ℕ) → g < generations_of p → ((f : ℕ) → f < g → IsComplete p (tables_at p h) f)
+    → map.get (map_of h) k ≡ Some n → (place : ℕ × ℕ) × (place_of p h g k ≡ Some place)
+
+-- the slot is the key's, and no table from g on but before the slot's has a slot of the key
+pub record IsFirstPlace (p : Plan) (t : Tables) (g k f i : ℕ) : Type 0 where
+  pub from : g ≤ f
+  pub slot : IsSlot p f i
+  pub is : t.key f i ≡ Claimed k
+  pub none : (e : ℕ) → g ≤ e → e < f → HasSlot p t e k → ⊥
+
+-- The place of a key from a table on is its slot in the first table there that has one.
+abbrev pub PlaceIs : Type 0
+PlaceIs =
+    (p : Plan) → IsPlan p → (h : List Event) → IsLegal p h → (g k f i : ℕ)
+    → (place_of p h g k ≡ Some (f, i) → IsFirstPlace p (tables_at p h) g k f i) × (IsFirstPlace p (tables_at p h) g k f i → place_of p h g k ≡ Some (f, i))

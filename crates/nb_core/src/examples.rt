@@ -2,13 +2,14 @@
 //!
 //! The histories are written out in this crate's `specs/Histories.antt`, and what wrong code would do in
 //! `specs/Refusals.antt`.
-ghost use Rattle.std.specs.Prelude.{◌≡◌, List, [], ◌∷◌, Some, None, map, replicate};
-ghost use Rattle.nb_core.specs.Plans.{base_of, key_place, limit_of, value_place, word_count};
+ghost use Rattle.std.specs.Prelude.{◌≡◌, pos, List, [], ◌∷◌, Some, None, map, replicate};
+ghost use Rattle.nb_core.specs.Plans.{IsPlan, base_of, key_place, limit_of, value_place, word_count};
 ghost use Rattle.nb_core.specs.States.{key_word, value_state, value_word};
-ghost use Rattle.nb_core.specs.Tables.{chunk_of};
-ghost use Rattle.nb_core.specs.Histories.{HasNumbers, headers_at, plan, slots_at, top_at, grows_when_a_path_is_crowded, a_removal_is_not_copied, copy_of_one_slot, stopped_copier, three_helpers, contended_once, contended_once_with_two_tries, filled_removed_refilled, plan_of_three, same_size_successor, add_contended_once, adds};
+ghost use Rattle.nb_core.specs.Tables.{chunk_of, tables_at};
+ghost use Rattle.nb_core.specs.Histories.{HasNumbers, headers_at, plan, slots_at, top_at, grows_when_a_path_is_crowded, a_removal_is_not_copied, copy_of_one_slot, stopped_copier, three_helpers, contended_once, contended_once_with_two_tries, filled_removed_refilled, plan_of_three, same_size_successor, add_contended_once, adds, full_in_the_middle, half_copied};
 ghost use Rattle.nb_core.specs.History.{IsLegal};
-ghost use Rattle.nb_core.specs.Meaning.{IsCrowded};
+ghost use Rattle.nb_core.specs.Laws.{finished_among, net_of_seats};
+ghost use Rattle.nb_core.specs.Meaning.{IsCrowded, place_of};
 ghost use Rattle.nb_core.specs.declared.numbers.TheConstants.{KEY_MAX, VALUE_MAX};
 ghost use Rattle.nb_core.specs.declared.states.KeyState.TheVariants.{Claimed, Dead, Empty};
 ghost use Rattle.nb_core.specs.declared.states.ValueState.TheVariants.{Null, Tombstone, Live, PrimedNull, PrimedTombstone, Primed, Finished};
@@ -161,6 +162,59 @@ pub fn adds()
     ensures slots_of_0 { slots_at adds 0 ≡ (1, Claimed 1, Live 1152921504606846975) ∷ (2, Claimed 2, Live 0) ∷ [] }
     ensures top { top_at adds ≡ 0 }
     ensures numbers { HasNumbers adds ((1, Some 1152921504606846975) ∷ (2, Some 0) ∷ []) }
+{}
+
+/// The keys 0 to 3 have all four slots of a table in the middle of the chain, without a number. The table has no next one:
+/// a read of key 5, which has no slot there, finds it absent.
+pub fn full_in_the_middle()
+    ensures legal { IsLegal full_in_the_middle.plan full_in_the_middle.events }
+    ensures slots_of_0 { slots_at full_in_the_middle 0 ≡ (0, Claimed 0, PrimedNull) ∷ (1, Claimed 4, PrimedNull)
+        ∷ (2, Claimed 8, PrimedNull) ∷ (3, Dead, Null) ∷ [] }
+    ensures slots_of_1 { slots_at full_in_the_middle 1 ≡ (0, Claimed 0, Null) ∷ (1, Claimed 1, Null) ∷ (2, Claimed 2, Null)
+        ∷ (3, Claimed 3, Null) ∷ [] }
+    ensures slots_of_2 { slots_at full_in_the_middle 2 ≡ [] }
+    ensures headers_of_1 { headers_at full_in_the_middle 1 ≡ (0, 0, 0) }
+    ensures finished { finished_among (tables_at full_in_the_middle.plan full_in_the_middle.events) 0 4 ≡ 4 }
+    ensures top { top_at full_in_the_middle ≡ 0 }
+    ensures numbers { HasNumbers full_in_the_middle ((1, None) ∷ (5, None) ∷ []) }
+{}
+
+/// A table is copied into one of the same size, and one of its slots is finished so far.
+pub fn half_copied()
+    ensures legal { IsLegal half_copied.plan half_copied.events }
+    ensures slots_of_0 { slots_at half_copied 0 ≡ (0, Claimed 0, Finished 10) ∷ (1, Claimed 4, Live 14) ∷ (2, Claimed 8, Live 18)
+        ∷ [] }
+    ensures slots_of_1 { slots_at half_copied 1 ≡ (0, Claimed 0, Live 10) ∷ [] }
+    ensures finished { finished_among (tables_at half_copied.plan half_copied.events) 0 4 ≡ 1 }
+    ensures top { top_at half_copied ≡ 0 }
+    ensures numbers { HasNumbers half_copied ((0, Some 10) ∷ (4, Some 14) ∷ (8, Some 18) ∷ []) }
+{}
+
+/// Where keys have their first place from a table on, after the history of `stopped_copier`, and how many keys the calls of
+/// its two seats added, less how many they took out.
+pub fn places_of_keys()
+    ensures first { place_of stopped_copier.plan stopped_copier.events 0 16 ≡ Some (1, 2) }
+    ensures later { place_of stopped_copier.plan stopped_copier.events 2 16 ≡ Some (2, 0) }
+    ensures none { place_of stopped_copier.plan stopped_copier.events 0 5 ≡ None }
+    ensures net { net_of_seats stopped_copier.events 2 ≡ pos 5 }
+{}
+
+/// A shape may be of each plan of these histories.
+pub fn plans()
+    ensures grows_when_a_path_is_crowded { IsPlan grows_when_a_path_is_crowded.plan }
+    ensures a_removal_is_not_copied { IsPlan a_removal_is_not_copied.plan }
+    ensures copy_of_one_slot { IsPlan copy_of_one_slot.plan }
+    ensures stopped_copier { IsPlan stopped_copier.plan }
+    ensures three_helpers { IsPlan three_helpers.plan }
+    ensures contended_once { IsPlan contended_once.plan }
+    ensures contended_once_with_two_tries { IsPlan contended_once_with_two_tries.plan }
+    ensures filled_removed_refilled { IsPlan filled_removed_refilled.plan }
+    ensures plan_of_three { IsPlan plan_of_three.plan }
+    ensures same_size_successor { IsPlan same_size_successor.plan }
+    ensures add_contended_once { IsPlan add_contended_once.plan }
+    ensures adds { IsPlan adds.plan }
+    ensures full_in_the_middle { IsPlan full_in_the_middle.plan }
+    ensures half_copied { IsPlan half_copied.plan }
 {}
 
 /// The words of states, and words that hold none.

@@ -1,7 +1,7 @@
 //! The laws of every shape and of every legal history, which say what holds at each moment, whatever atomic steps were made
 //! by whom. Each function carries a law as its contract and does nothing when it runs: a call of it hands the law to the
 //! proof of its caller.
-ghost use Rattle.nb_core.specs.Laws.{BeginningsAreLegal, CompletePassed, ContentOnce, CountedOnce, CrowdedAbsent, Decided, HasOneSlot, InstalledAfter, LawfulChanges, LawfulWords, Moved, OnePlace, PassedSettled, Room, SeenLasts, SizeIsNet, SlotsStay, TablesStand, TopComplete, WinNumber};
+ghost use Rattle.nb_core.specs.Laws.{BeginningsAreLegal, ClaimedOnPath, CompletePassed, ContentOnce, CountedOnce, CrowdedAbsent, Decided, FewKeys, HasOneSlot, HeldHasPlace, InstalledAfter, LawfulChanges, LawfulWords, LostExchange, MapInRange, Moved, OnePlace, OwnLasts, PassedAbove, PassedOverAdds, PassedSettled, PlaceIs, ReadReplies, Room, SeenLasts, SizeIsNet, SlotsStay, TablesAreLinked, TablesStand, TopComplete, WholeCrowded, WinNumber, WinReplies};
 ghost use Rattle.nb_core.specs.Plans.{LimitsFit, PlacesAreDistinct, SizesNeverFall};
 
 /// No two words of a chain lie in one place, and each lies in the chain.
@@ -19,14 +19,15 @@ pub fn limits_fit()
     ensures { LimitsFit }
 {}
 
-/// Each key word and value word stands for a state, a slot without a key has the value null, and the last table's header
-/// words are 0.
+/// There are as many words as the plan says. Each key word and value word stands for a state, a slot without a key has the
+/// value null, and the last table's header words are 0.
 pub fn lawful_words()
     ensures { LawfulWords }
 {}
 
-/// One more event changes one word at most: a key from empty to claimed or closed, a value from null or a tombstone to a
-/// number, from a number to another one or a tombstone, from unprimed to primed, from a primed number to a finished one.
+/// One more event changes one word at most, and of keys and values only those of its own slot: a key from empty to claimed
+/// or closed, a value from null or a tombstone to a number, from a number to another one or a tombstone, from unprimed to
+/// primed, from a primed number to a finished one.
 pub fn lawful_changes()
     ensures { LawfulChanges }
 {}
@@ -46,7 +47,7 @@ pub fn stays()
     ensures { SlotsStay }
 {}
 
-/// A slot that once got a number or a tombstone is never null again.
+/// A value that was ever a number or a tombstone is never null again, primed or not.
 pub fn content_once()
     ensures { ContentOnce }
 {}
@@ -119,4 +120,70 @@ pub fn win_number()
 /// All tables below the top word are complete.
 pub fn top_complete()
     ensures { TopComplete }
+{}
+
+/// Tables come one after another: only one that is there has keys, and only one that has a next one is copied.
+pub fn linked()
+    ensures { TablesAreLinked }
+{}
+
+/// A key's slot lies on its path, behind slots of other keys.
+pub fn on_path()
+    ensures { ClaimedOnPath }
+{}
+
+/// Where other keys have a key's whole path in the last table, they have all of its slots.
+pub fn whole_crowded()
+    ensures { WholeCrowded }
+{}
+
+/// Where a key with a slot in a table is passed in the next one, the table is complete.
+pub fn passed_above()
+    ensures { PassedAbove }
+{}
+
+/// Where a seat has made no call since a moment, and another unprimed value stands in a key's slot than then, another seat
+/// has won an exchange on the key since.
+pub fn lost_exchange()
+    ensures { LostExchange }
+{}
+
+/// The exchanges that others won since a moment are those up to a later moment, and those since then.
+pub fn passed_over_adds()
+    ensures { PassedOverAdds }
+{}
+
+/// Events of other seats leave a seat's calls, and what it counted and turned finished, as they are.
+pub fn own_lasts()
+    ensures { OwnLasts }
+{}
+
+/// A call that may win an exchange may reply the number that it replaces, and that its condition held.
+pub fn win_replies()
+    ensures { WinReplies }
+{}
+
+/// A call that leaves alone what the map has at its key may reply it.
+pub fn read_replies()
+    ensures { ReadReplies }
+{}
+
+/// The map has keys and numbers of their ranges alone.
+pub fn map_in_range()
+    ensures { MapInRange }
+{}
+
+/// The map has no more keys than there are.
+pub fn few_keys()
+    ensures { FewKeys }
+{}
+
+/// Where all tables below one are complete, each key of the map has a place from that table on.
+pub fn held_has_place()
+    ensures { HeldHasPlace }
+{}
+
+/// The place of a key from a table on is its slot in the first table there that has one.
+pub fn place_is()
+    ensures { PlaceIs }
 {}
