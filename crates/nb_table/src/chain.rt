@@ -1,0 +1,97 @@
+//! The chain and its seats.
+ghost use Rattle.std.specs.Prelude.{◌≡◌, ◌<◌, [], IfOk};
+ghost use Rattle.nb_core.specs.Plans.{word_count};
+ghost use Rattle.nb_core.specs.Tables.{tables_at};
+ghost use Rattle.nb_table.specs.Chains.{Extended, seats_of};
+ghost use Rattle.nb_table.specs.Steps.{Can, Stepped};
+
+use crate::view::{Chained, Deal, Move, Told, View};
+use atomic_table::{Seat, Table};
+use nb_core::{Call, OutOfMemory, Shape};
+use std::alloc::Global;
+use std::marker::{Brand, Model};
+
+/// A chain of tables that many threads share.
+#[derive(Drop)]
+pub struct Chain {
+    table: Table<(), View, Shape, Chained, Global>,
+    shape: Shape,
+}
+
+impl Model for Chain {
+    ghost use Rattle.nb_table.specs.Chains.{ChainOf};
+
+    ghost Value = { ChainOf };
+
+    ghost use Rattle.nb_table.specs.Inside.{IsChain, chain_of};
+
+    ghost view = { chain_of };
+
+    ghost invariant = { IsChain };
+}
+
+/// The right of one holder to make steps.
+#[derive(Drop)]
+pub struct ChainSeat {
+    shape: Shape,
+    seat: Seat<(), View>,
+}
+
+impl Model for ChainSeat {
+    ghost use Rattle.nb_table.specs.Chains.{SeenBy};
+
+    ghost Value = { SeenBy };
+
+    ghost use Rattle.nb_table.specs.Inside.{IsSeat, seat_of};
+
+    ghost view = { seat_of };
+
+    ghost invariant = { IsSeat };
+}
+
+impl Chain {
+    /// A chain with all words 0, and its seats. It takes memory for the words and for the vector of seats.
+    pub fn new(alloc: Global, shape: Shape) -> Result<(Chain, Vec<ChainSeat>), OutOfMemory>
+        ensures chain { IfOk result (λ made. made.0.shape ≡ shape) }
+        ensures seats { IfOk result (λ made. made.1.items ≡ seats_of made.0.id shape 0 shape.seats) }
+    {
+        shape.known();
+        let mut dealt = Vec::with_capacity(alloc, shape.seats())?;
+        let words = vec![in alloc; 0; shape.words()]?;
+        let (table, mut rest) = Table::of_words(alloc, words.as_slice(), &shape)?;
+        let chain = Chain { table, shape };
+        for _ in 0..shape.seats() {
+            let seat = chain.table.shared.split_seat::<Deal>(&mut rest);
+            dealt.push(ChainSeat { shape, seat })?;
+        }
+        Ok((chain, dealt))
+    }
+
+    /// The chain's shape. It makes no step.
+    pub fn shape(&self) -> &Shape
+        ensures { result.now ≡ self.now.shape }
+    {
+        &self.shape
+    }
+
+    /// One load.
+    fn loads<B: Told>(&self, seat: &mut ChainSeat, place: usize, _call: Option<Call>) -> u64
+        requires own { seat.old.chain ≡ self.now.id }
+        requires shapes { (seat.old.shape ≡ self.now.shape) × (B.shape ≡ self.now.shape) }
+        requires within { place < word_count self.now.shape }
+        requires can { Can B.shape B.events seat.old.number seat.old.seen place (λ found. found) }
+        ensures { Stepped B.shape B.events place seat.old result seat.new }
+    {
+        self.table.shared.load::<Move<B>>(&mut seat.seat, place)
+    }
+
+    /// One load of the top word: the number of tables, from the first on, that are known to be complete.
+    pub fn load_top(&self, seat: &mut ChainSeat) -> u64
+        requires own { seat.old.chain ≡ self.now.id }
+        requires shape { seat.old.shape ≡ self.now.shape }
+        ensures grows { Extended seat.old seat.new [] 1 }
+        ensures found { (tables_at self.now.shape seat.new.seen).top ≡ result }
+    {
+        self.loads::<Brand>(seat, 0, None)
+    }
+}
