@@ -1,5 +1,6 @@
 pub mod Brands
 pub mod Chains
+pub mod Events
 pub mod Inside
 pub mod Steps
 pub mod Views
