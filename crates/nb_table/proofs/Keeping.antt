@@ -33,6 +33,7 @@ module _ {X : Type 0} (P : X → Type 0) where
   all-between (y ∷ front) x back here all =
       All-cons P y (front ++ x ∷ back) (All-head P y (front ++ back) all) (all-between front x back here (All-tail P y (front ++ back) all))
 
+  -- and what holds of each, of the one at a place
   all-at : (xs : List X) (id : ℕ) (x : X) → get_elem? xs id ≡ some x → All P xs → P x
   all-at [] id x at all = absurd (some-ne-none x (sym at))
   all-at (y ∷ xs) zero x at all = subst P (some-injective y x at) (All-head P y xs all)
@@ -43,6 +44,7 @@ times-middle : (n : ℕ) (front : List Part) (part : Part) (back : List Part) �
 times-middle n [] part back = refl
 times-middle n (other ∷ front) part back = omega (arith, times-middle n front part back)
 
+-- a seat's own part counts one
 counted-once : (m n : ℕ) → m ≡ n → ◌≡◌ {A = ℕ} (cond (eqb m n) 1 0) 1
 counted-once m n same = ap (λ b. cond b 1 0) (eq-eqb m n same)
 
@@ -60,6 +62,7 @@ record Around (views : List View) (id : ℕ) (part : Part) : Type 0 where
   is : all_parts views ≡ front ++ part ∷ back
   after : (part' : Part) (told : List (List Event)) → all_parts (slice_set views id (record { parts = part' ∷ []; told = told })) ≡ front ++ part' ∷ back
 
+-- each token's part has such a place
 around : (views : List View) (id : ℕ) (v : View) (part : Part) → get_elem? views id ≡ some v → v.parts ≡ part ∷ [] → Around views id part
 around [] id v part at one = absurd (some-ne-none v (sym at))
 around (u ∷ views) zero v part at one = record {
@@ -77,7 +80,7 @@ around (u ∷ views) (suc id) v part at one =
       after = λ part' told. ap (λ parts. u.parts ++ parts) (rest.after part' told) ∙ sym (append_assoc u.parts rest.front (part' ∷ rest.back));
     }
 
--- a list of one part has no other
+-- a token knows one part alone
 first-same : (part other : Part) → part ∷ [] ≡ other ∷ [] → part ≡ other
 first-same part other is = ap part_of is
 
@@ -97,6 +100,13 @@ beginning-more history own seen b = record { later = own ++ b.later; is = ap (λ
 
 -- ---- a step
 
+abbrev HasNumber : Plan → Part → Type 0
+HasNumber p part = part.number < p.seats
+
+-- what the token was told of are beginnings of the history
+abbrev IsTold : List Event → View → Type 0
+IsTold history v = All (λ seen. IsBeginning seen history) v.told
+
 module _ (p : Plan) (s : State (Unit {0}) View) (rule : IsChained p s) (id : ℕ) (v : View) (part : Part) (at : get_elem? s.views id ≡ some v) (one : v.parts ≡ part ∷ []) where
   -- where the token's part is
   there : Around s.views id part
@@ -106,44 +116,50 @@ module _ (p : Plan) (s : State (Unit {0}) View) (rule : IsChained p s) (id : ℕ
   fit : Fits rule.history part × All (Fits rule.history) (there.front ++ there.back)
   fit = all-middle (Fits rule.history) there.front part there.back (subst (All (Fits rule.history)) there.is rule.fits)
 
+  numbers : HasNumber p part × All (HasNumber p) (there.front ++ there.back)
+  numbers = all-middle (HasNumber p) there.front part there.back (subst (All (HasNumber p)) there.is rule.numbers)
+
   -- no other part is of the same seat
   others-differ : All (λ other. other.number ≢ part.number) (there.front ++ there.back)
   others-differ =
-      let number = (all-middle (λ other. other.number < p.seats) there.front part there.back (subst (All (λ other. other.number < p.seats)) there.is rule.numbers)).0 in
       let all = ap (times_among part.number) there.is in
       all-differ part.number (there.front ++ there.back)
-      (omega (arith, counted-once part.number part.number refl, times-middle part.number there.front part there.back, all, rule.once part.number number))
+      (omega (arith, counted-once part.number part.number refl, times-middle part.number there.front part there.back, all, rule.once part.number numbers.0))
 
   module _ (own : List Event) (place new : ℕ) (may : MayStep p own part.number place new (fit.0.later ++ part.seen)) where
+    -- the history after the step, seen from the seat
     longer : own ++ rule.history ≡ own ++ (fit.0.later ++ part.seen)
     longer = ap (λ h. own ++ h) fit.0.is
 
+    -- the seat has seen all of it
     part-fits : Fits (own ++ rule.history) (moved part fit.0.later own)
     part-fits = record { later = []; is = longer; others = All-nil (λ e. seat_of_event e ≢ part.number) }
 
+    -- and the others fit it as before
     others-fit : All (Fits (own ++ rule.history)) (there.front ++ there.back)
     others-fit k d below =
         let other = slice_index_or (there.front ++ there.back) k d in
-        fits-more rule.history own other (λ j e within. λ same. others-differ k d below (sym same ∙ may.mine j e within)) (fit.1 k d below)
+        fits-more rule.history own other (λ j e within same. others-differ k d below (sym same ∙ may.mine j e within)) (fit.1 k d below)
 
-    told-after : All (λ u. All (λ seen. IsBeginning seen (own ++ rule.history)) u.told) (slice_set s.views id (record { parts = moved part fit.0.later own ∷ []; told = v.told }))
-    told-after =
-        let all : All (λ u. All (λ seen. IsBeginning seen (own ++ rule.history)) u.told) s.views = λ k d below j e within. beginning-more rule.history own _ (rule.told k d below j e within) in
-        All-set (λ u. All (λ seen. IsBeginning seen (own ++ rule.history)) u.told) s.views id (record { parts = moved part fit.0.later own ∷ []; told = v.told })
-        (all-at (λ u. All (λ seen. IsBeginning seen (own ++ rule.history)) u.told) s.views id v at all) all
+    -- and what tokens were told of are still beginnings
+    told-after : (u : View) → u.told ≡ v.told → All (IsTold (own ++ rule.history)) (slice_set s.views id u)
+    told-after u same =
+        let all : All (IsTold (own ++ rule.history)) s.views = λ k d below j e within. beginning-more rule.history own _ (rule.told k d below j e within) in
+        let here = all-at (IsTold (own ++ rule.history)) s.views id v at all in
+        All-set (IsTold (own ++ rule.history)) s.views id u (subst (All (λ seen. IsBeginning seen (own ++ rule.history))) (sym same) here) all
 
+    -- a seat's events, which make of the words what the step makes of its word, keep the rule
     step-keeps : IsChained p (stepped s place new id [] (record { parts = moved part fit.0.later own ∷ []; told = v.told }) keeps)
     step-keeps =
         let part' = moved part fit.0.later own in
         let after = there.after part' v.told in
-        let numbers = all-middle (λ other. other.number < p.seats) there.front part there.back (subst (All (λ other. other.number < p.seats)) there.is rule.numbers) in
         record {
           history = own ++ rule.history;
           legal = subst (IsLegal p) (sym longer) may.legal;
           words = ap (λ w. slice_set w place new) (rule.words ∙ ap (words_of p) fit.0.is) ∙ sym may.words ∙ ap (words_of p) (sym longer);
           fits = subst (All (Fits (own ++ rule.history))) (sym after) (all-between (Fits (own ++ rule.history)) there.front part' there.back part-fits others-fit);
-          told = told-after;
-          numbers = subst (All (λ other. other.number < p.seats)) (sym after) (all-between (λ other. other.number < p.seats) there.front part' there.back numbers.0 numbers.1);
+          told = told-after (record { parts = part' ∷ []; told = v.told }) refl;
+          numbers = subst (All (HasNumber p)) (sym after) (all-between (HasNumber p) there.front part' there.back numbers.0 numbers.1);
           once = λ n below. ap (times_among n) after ∙ times-middle n there.front part' there.back ∙ sym (times-middle n there.front part there.back) ∙ ap (times_among n) (sym there.is) ∙ rule.once n below;
           count = omega (arith, ap length after, length-append there.front (part' ∷ there.back), length-append there.front (part ∷ there.back), ap length there.is, rule.count);
         }
@@ -157,6 +173,10 @@ allows-step p events slots id me part place a b f one can s rule homes at word =
     let same : slice_index (words_of p (later ++ part.seen)) place ≡ found = ap (λ w. slice_index w place) (sym (rule.words ∙ ap (words_of p) seen.0.is)) in
     let may = subst (λ n. MayStep p (events n) part.number place (f n) (later ++ part.seen)) same (can later seen.0.others (subst (IsLegal p) seen.0.is rule.legal)) in
     let after = moved part later (events found) in
-    let tells : HasMoved p events place found part after = record { others = later; not_own = seen.0.others; legal = may.legal; word = same; is = refl } in
-    (record { parts = after ∷ []; told = me.0.told }, keeps, tt, step-keeps p s rule id me.0 part at one (events found) place (f found) may,
-      record { after = after; is = refl; moves = λ q is. subst (λ r. HasMoved p events place found r after) (first-same part q (sym one ∙ is)) tells })
+    let tells : HasMoved p events place found part after = record { others = later; not_own = seen.0.others; legal = may.legal; word = same; is = refl } in (
+      record { parts = after ∷ []; told = me.0.told },
+      keeps,
+      tt,
+      step-keeps p s rule id me.0 part at one (events found) place (f found) may,
+      record { after = after; is = refl; moves = λ q is. subst (λ r. HasMoved p events place found r after) (first-same part q (sym one ∙ is)) tells },
+    )

@@ -1,5 +1,5 @@
 //! The chain and its seats.
-ghost use Rattle.std.specs.Prelude.{◌≡◌, ◌<◌, [], IfOk};
+ghost use Rattle.std.specs.Prelude.{◌≡◌, ◌+◌, ◌%◌, ◌^◌, ◌<◌, ◌==◌, if◌then◌else◌, [], bit_or, max, IfOk};
 ghost use Rattle.nb_core.specs.Plans.{word_count};
 ghost use Rattle.nb_core.specs.Tables.{tables_at};
 ghost use Rattle.nb_table.specs.Chains.{Extended, seats_of};
@@ -74,7 +74,7 @@ impl Chain {
         &self.shape
     }
 
-    /// One load.
+    /// One load, which returns the word.
     fn loads<B: Told>(&self, seat: &mut ChainSeat, place: usize, _call: Option<Call>) -> u64
         requires own { seat.old.chain ≡ self.now.id }
         requires shapes { (seat.old.shape ≡ self.now.shape) × (B.shape ≡ self.now.shape) }
@@ -83,6 +83,83 @@ impl Chain {
         ensures { Stepped B.shape B.events place seat.old result seat.new }
     {
         self.table.shared.load::<Move<B>>(&mut seat.seat, place)
+    }
+
+    /// One compare-and-exchange, which returns the word as it was. It has become `new` if it was `old`.
+    fn exchanges<B: Told>(
+        &self,
+        seat: &mut ChainSeat,
+        place: usize,
+        old: u64,
+        new: u64,
+        _call: Option<Call>,
+    ) -> u64
+        requires own { seat.old.chain ≡ self.now.id }
+        requires shapes { (seat.old.shape ≡ self.now.shape) × (B.shape ≡ self.now.shape) }
+        requires within { place < word_count self.now.shape }
+        requires can { Can B.shape B.events seat.old.number seat.old.seen place (λ found. if found == old then new else found) }
+        ensures { Stepped B.shape B.events place seat.old result seat.new }
+    {
+        self.table
+            .shared
+            .compare_exchange::<Move<B>>(&mut seat.seat, place, old, new)
+    }
+
+    /// One fetch-or, which returns the word as it was.
+    fn ors<B: Told>(
+        &self,
+        seat: &mut ChainSeat,
+        place: usize,
+        bits: u64,
+        _call: Option<Call>,
+    ) -> u64
+        requires own { seat.old.chain ≡ self.now.id }
+        requires shapes { (seat.old.shape ≡ self.now.shape) × (B.shape ≡ self.now.shape) }
+        requires within { place < word_count self.now.shape }
+        requires can { Can B.shape B.events seat.old.number seat.old.seen place (λ found. bit_or found bits) }
+        ensures { Stepped B.shape B.events place seat.old result seat.new }
+    {
+        self.table
+            .shared
+            .fetch_or::<Move<B>>(&mut seat.seat, place, bits)
+    }
+
+    /// One fetch-add modulo 2^64, which returns the word as it was.
+    fn adds<B: Told>(
+        &self,
+        seat: &mut ChainSeat,
+        place: usize,
+        amount: u64,
+        _call: Option<Call>,
+    ) -> u64
+        requires own { seat.old.chain ≡ self.now.id }
+        requires shapes { (seat.old.shape ≡ self.now.shape) × (B.shape ≡ self.now.shape) }
+        requires within { place < word_count self.now.shape }
+        requires can { Can B.shape B.events seat.old.number seat.old.seen place (λ found. (found + amount) % 2 ^ 64) }
+        ensures { Stepped B.shape B.events place seat.old result seat.new }
+    {
+        self.table
+            .shared
+            .fetch_add::<Move<B>>(&mut seat.seat, place, amount)
+    }
+
+    /// One fetch-max, which returns the word as it was.
+    fn raises<B: Told>(
+        &self,
+        seat: &mut ChainSeat,
+        place: usize,
+        least: u64,
+        _call: Option<Call>,
+    ) -> u64
+        requires own { seat.old.chain ≡ self.now.id }
+        requires shapes { (seat.old.shape ≡ self.now.shape) × (B.shape ≡ self.now.shape) }
+        requires within { place < word_count self.now.shape }
+        requires can { Can B.shape B.events seat.old.number seat.old.seen place (λ found. max found least) }
+        ensures { Stepped B.shape B.events place seat.old result seat.new }
+    {
+        self.table
+            .shared
+            .fetch_max::<Move<B>>(&mut seat.seat, place, least)
     }
 
     /// One load of the top word: the number of tables, from the first on, that are known to be complete.
