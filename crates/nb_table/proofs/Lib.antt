@@ -1,0 +1,3 @@
+mod Dealt
+mod Opening
+mod Parted
