@@ -1,3 +1,6 @@
+mod Dealt
 mod Keeping
 mod May
+mod Opening
+mod Parted
 mod Views

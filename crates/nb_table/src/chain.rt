@@ -60,7 +60,7 @@ impl Chain {
         let words = vec![in alloc; 0; shape.words()]?;
         let (table, mut rest) = Table::of_words(alloc, words.as_slice(), &shape)?;
         let chain = Chain { table, shape };
-        for _ in 0..shape.seats() {
+        for number in 0..shape.seats() {
             let seat = chain.table.shared.split_seat::<Deal>(&mut rest);
             dealt.push(ChainSeat { shape, seat })?;
         }
