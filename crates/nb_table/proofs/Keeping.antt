@@ -7,7 +7,7 @@ use Rattle.std.proofs.lemmas.Bool.{eq-eqb}
 use Rattle.std.proofs.lemmas.List.{append_assoc}
 use Rattle.std.proofs.lemmas.List.Elements.{All-append, All-cons, All-head, All-nil, All-set, All-tail}
 use Rattle.atomic_table.specs.Table.{Allows, Me, State, keeps, step, stepped}
-use Rattle.nb_core.specs.Plans.{Plan}
+use Rattle.nb_core.specs.Plans.{Plan, IsPlan}
 use Rattle.nb_core.specs.Tables.{words_of}
 use Rattle.nb_core.specs.History.{IsLegal, seat_of_event}
 use Rattle.nb_core.specs.declared.events.Event.{Event}
@@ -165,13 +165,13 @@ module _ (p : Plan) (s : State (Unit {0}) View) (rule : IsChained p s) (id : ℕ
         }
 
 -- what each step asks: whatever others do first, its events may follow, and make of the words what the step makes of its word
-pub allows-step : (p : Plan) (events : ℕ → List Event) (slots id : ℕ) (me : Me (Unit {0}) View) (part : Part) (place a b : ℕ) (f : ℕ → ℕ) → me.0.parts ≡ part ∷ [] → Can p events part.number part.seen place f → Allows (IsChained p) slots id me place f (Moves p events (step slots place a b none) me)
-allows-step p events slots id me part place a b f one can s rule homes at word =
+pub allows-step : (p : Plan) → IsPlan p → (events : ℕ → List Event) (slots id : ℕ) (me : Me (Unit {0}) View) (part : Part) (place a b : ℕ) (f : ℕ → ℕ) → me.0.parts ≡ part ∷ [] → Can p events part.number part.seen place f → Allows (IsChained p) slots id me place f (Moves p events (step slots place a b none) me)
+allows-step p plan events slots id me part place a b f one can s rule homes at word =
     let found = slice_index s.words place in
     let seen = fit p s rule id me.0 part at one in
     let later = seen.0.later in
     let same : slice_index (words_of p (later ++ part.seen)) place ≡ found = ap (λ w. slice_index w place) (sym (rule.words ∙ ap (words_of p) seen.0.is)) in
-    let may = subst (λ n. MayStep p (events n) part.number place (f n) (later ++ part.seen)) same (can later seen.0.others (subst (IsLegal p) seen.0.is rule.legal)) in
+    let may = subst (λ n. MayStep p (events n) part.number place (f n) (later ++ part.seen)) same (can plan (numbers p s rule id me.0 part at one).0 later seen.0.others (subst (IsLegal p) seen.0.is rule.legal)) in
     let after = moved part later (events found) in
     let tells : HasMoved p events place found part after = record { others = later; not_own = seen.0.others; legal = may.legal; word = same; is = refl } in (
       record { parts = after ∷ []; told = me.0.told },

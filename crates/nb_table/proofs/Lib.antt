@@ -1,6 +1,6 @@
 mod Dealt
 mod Keeping
-mod May
+mod Following
 mod Opening
 mod Parted
 mod Views

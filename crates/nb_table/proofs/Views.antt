@@ -5,7 +5,7 @@ use prog.Atomic.{either}
 use Rattle.atomic_table.specs.Seated.{TableId}
 use Rattle.atomic_table.specs.Table.{Allows, step}
 use Rattle.atomic_table.specs.declared.shared.Seat.{Seat}
-use Rattle.nb_core.specs.Plans.{Plan, word_count}
+use Rattle.nb_core.specs.Plans.{Plan, IsPlan, word_count}
 use Rattle.nb_core.specs.History.{IsLegal}
 use Rattle.nb_core.specs.declared.events.Event.{Event}
 use Rattle.nb_table.proofs.Keeping.{allows-step}
@@ -34,7 +34,7 @@ asked c s the_chain seeing p events place a b f c_is s_is is_chain is_seat own s
       ap (λ v. v.chain) s_is ∙ own ∙ sym (ap (λ v. v.id) c_is),
       within',
       subst (λ q. Allows (IsChained q) slots s.seat.id s.seat.me place f (Moves p events (step slots place a b none) s.seat.me)) (same ∙ sym is_chain.key)
-          (allows-step p events slots s.seat.id s.seat.me (part_of s.seat.me.0.parts) place a b f is_seat.one can'),
+          (allows-step p (subst IsPlan (sym same) is_chain.plan) events slots s.seat.id s.seat.me (part_of s.seat.me.0.parts) place a b f is_seat.one can'),
     )
 
 -- the two cases, as contracts and as the table's steps write them

@@ -2,6 +2,7 @@
 use Rattle.std.specs.Prelude.{◌≡◌, ◌≢◌, ℕ, zero, suc, ◌+◌, List, [], ◌∷◌, ◌++◌, All}
 use Rattle.atomic_table.specs.Seated.{TableId}
 use Rattle.nb_core.specs.Plans.{Plan}
+use Rattle.nb_core.specs.Tables.{Tables, tables_at}
 use Rattle.nb_core.specs.History.{IsLegal, seat_of_event}
 use Rattle.nb_core.specs.declared.events.Event.{Event}
 
@@ -18,6 +19,14 @@ pub record SeenBy : Type 0 where
   pub number : ℕ
   pub seen : List Event
   pub steps : ℕ
+
+-- the seat is the chain's
+abbrev pub IsOwn : ChainOf → SeenBy → Type 0
+IsOwn chain seat = (seat.chain ≡ chain.id) × (seat.shape ≡ chain.shape)
+
+-- what the words said when the seat saw them last
+abbrev pub seen_by : SeenBy → Tables
+seen_by seat = tables_at seat.shape seat.seen
 
 -- so many seats of a chain from a number on, which have seen nothing
 abbrev pub seats_of : TableId → Plan → ℕ → ℕ → List SeenBy

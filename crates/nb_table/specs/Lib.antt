@@ -1,5 +1,6 @@
 pub mod Brands
 pub mod Chains
+pub mod Conditions
 pub mod Events
 pub mod Inside
 pub mod Steps

@@ -1,6 +1,6 @@
 -- What a step may do, and what it tells.
-use Rattle.std.specs.Prelude.{◌≡◌, ◌≢◌, ℕ, ◌+◌, List, [], ◌∷◌, ◌++◌, All, slice_index, slice_set}
-use Rattle.nb_core.specs.Plans.{Plan}
+use Rattle.std.specs.Prelude.{◌≡◌, ◌≢◌, ℕ, ◌+◌, ◌<◌, List, [], ◌∷◌, ◌++◌, All, slice_index, slice_set}
+use Rattle.nb_core.specs.Plans.{Plan, IsPlan}
 use Rattle.nb_core.specs.Tables.{words_of}
 use Rattle.nb_core.specs.History.{IsLegal, seat_of_event}
 use Rattle.nb_core.specs.declared.events.Event.{Event}
@@ -15,7 +15,7 @@ pub record MayStep (p : Plan) (own : List Event) (number place new : ℕ) (h : L
 
 abbrev pub Can : Plan → (ℕ → List Event) → ℕ → List Event → ℕ → (ℕ → ℕ) → Type 0
 Can p events number seen place f =
-    (others : List Event) → All (λ e. seat_of_event e ≢ number) others → IsLegal p (others ++ seen)
+    IsPlan p → number < p.seats → (others : List Event) → All (λ e. seat_of_event e ≢ number) others → IsLegal p (others ++ seen)
     → let h = others ++ seen in let found = slice_index (words_of p h) place in MayStep p (events found) number place (f found) h
 
 -- what a step tells: its word as it was found, and the seat extended by its events

@@ -15,7 +15,7 @@ use std::marker::{Brand, Model};
 #[derive(Drop)]
 pub struct Chain {
     table: Table<(), View, Shape, Chained, Global>,
-    shape: Shape,
+    pub(crate) shape: Shape,
 }
 
 impl Model for Chain {
@@ -75,7 +75,7 @@ impl Chain {
     }
 
     /// One load, which returns the word.
-    fn loads<B: Told>(&self, seat: &mut ChainSeat, place: usize, _call: Option<Call>) -> u64
+    pub(crate) fn loads<B: Told>(&self, seat: &mut ChainSeat, place: usize, _call: Option<Call>) -> u64
         requires own { seat.old.chain ≡ self.now.id }
         requires shapes { (seat.old.shape ≡ self.now.shape) × (B.shape ≡ self.now.shape) }
         requires within { place < word_count self.now.shape }
@@ -86,7 +86,7 @@ impl Chain {
     }
 
     /// One compare-and-exchange, which returns the word as it was. It has become `new` if it was `old`.
-    fn exchanges<B: Told>(
+    pub(crate) fn exchanges<B: Told>(
         &self,
         seat: &mut ChainSeat,
         place: usize,
@@ -106,7 +106,7 @@ impl Chain {
     }
 
     /// One fetch-or, which returns the word as it was.
-    fn ors<B: Told>(
+    pub(crate) fn ors<B: Told>(
         &self,
         seat: &mut ChainSeat,
         place: usize,
@@ -125,7 +125,7 @@ impl Chain {
     }
 
     /// One fetch-add modulo 2^64, which returns the word as it was.
-    fn adds<B: Told>(
+    pub(crate) fn adds<B: Told>(
         &self,
         seat: &mut ChainSeat,
         place: usize,
@@ -144,7 +144,7 @@ impl Chain {
     }
 
     /// One fetch-max, which returns the word as it was.
-    fn raises<B: Told>(
+    pub(crate) fn raises<B: Told>(
         &self,
         seat: &mut ChainSeat,
         place: usize,

@@ -2,6 +2,7 @@
 #![tactic(auto)]
 
 mod chain;
+mod growth;
 mod view;
 
 pub use chain::{Chain, ChainSeat};

@@ -21,39 +21,19 @@ pub none-follows : (p : Plan) (number place new : ℕ) (h : List Event) → IsLe
 none-follows p number place new h legal same = record {
   legal = legal;
   words = sym (ap (slice_set (words_of p h) place) same ∙ set-get_or (words_of p h) place 0);
-  mine = All-nil _;
+  mine = All-nil (λ x. seat_of_event x ≡ number);
 }
 
 -- the one event of a step
 one-follows : (p : Plan) (e : Event) (number place new : ℕ) (h : List Event) → IsLegal p (e ∷ h) → words_of p (e ∷ h) ≡ slice_set (words_of p h) place new → seat_of_event e ≡ number → MayStep p (e ∷ []) number place new h
-one-follows p e number place new h legal words mine = record { legal = legal; words = words; mine = All-cons _ e [] mine (All-nil _) }
+one-follows p e number place new h legal words mine = record { legal = legal; words = words; mine = All-cons (λ x. seat_of_event x ≡ number) e [] mine (All-nil (λ x. seat_of_event x ≡ number)) }
 
 -- a step that is an event where a test holds
 if-follows : (p : Plan) (test : Bool) (e : Event) (number place new : ℕ) (h : List Event) → (test ≡ true → MayStep p (e ∷ []) number place new h) → (test ≡ false → MayStep p [] number place new h) → MayStep p (only test e) number place new h
 if-follows p true e number place new h yes_it no_it = yes_it refl
 if-follows p false e number place new h yes_it no_it = no_it refl
 
-module _ (p : Plan) (plan : IsPlan p) (lasts : SeenLasts) (number : ℕ) (seat : number < p.seats) (seen : List Event) where
+module _ (p : Plan) (lasts : SeenLasts) (number : ℕ) (seen : List Event) where
   -- what is so still
-  later : (others : List Event) → IsLegal p (others ++ seen) → Lasts p (tables_at p seen) (tables_at p (others ++ seen))
-  later others legal = lasts p plan others seen legal
-
-  pub can-take : (g : ℕ) → g < generations_of p → IsInstalled (tables_at p seen) (suc g) → Can p (takes number g) number seen (header_place p g 1) (λ found. (found + chunk_of p g) % 2 ^ 64)
-  can-take g table growing others not_own legal =
-      one-follows p (Take number g) number _ _ (others ++ seen) (legal, (seat, table), (later others legal).installed (suc g) growing, tt) refl refl
-
-  pub can-promote : (g : ℕ) → g < generations_of p → IsComplete p (tables_at p seen) g → Can p (promotes number g) number seen 0 (λ found. max found (suc g))
-  can-promote g table complete others not_own legal =
-      let h = others ++ seen in
-      let found = slice_index (words_of p h) 0 in
-      if-follows p (leb found g) (Promote number g) number 0 (max found (suc g)) h
-        (λ low. one-follows p (Promote number g) number 0 _ h (legal, (seat, table), record { complete = (later others legal).complete g table complete; higher = leb-true found g low }, tt) refl refl)
-        (λ high. none-follows p number 0 _ h legal ?)
-
-  pub can-kill : (g i : ℕ) → IsSlot p g i → IsInstalled (tables_at p seen) (suc g) → Can p (kills number g i) number seen (key_place p g i) (λ found. cond (eqb found 0) 1 found)
-  can-kill g i slot growing others not_own legal =
-      let h = others ++ seen in
-      let found = slice_index (words_of p h) (key_place p g i) in
-      if-follows p (eqb found 0) (Kill number g i) number (key_place p g i) (cond (eqb found 0) 1 found) h
-        (λ free. one-follows p (Kill number g i) number (key_place p g i) _ h (legal, (seat, slot), record { growing = (later others legal).installed (suc g) growing; empty = ap key_state (eqb-true found 0 free) }, tt) ? refl)
-        (λ had. none-follows p number (key_place p g i) _ h legal ?)
+  later : IsPlan p → (others : List Event) → IsLegal p (others ++ seen) → Lasts p (tables_at p seen) (tables_at p (others ++ seen))
+  later plan others legal = lasts p plan others seen legal
