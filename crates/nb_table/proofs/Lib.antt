@@ -1,3 +1,4 @@
 mod Dealt
+mod Meeting
 mod Opening
 mod Parted

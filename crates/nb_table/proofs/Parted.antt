@@ -61,7 +61,7 @@ times-append n [] ys = omega arith
 times-append n (x ∷ xs) ys = omega (arith, times-append n xs ys)
 
 module _ (f : List Part → ℕ) (sum : IsSum f) where
-  sum-nil : f [] ≡ 0
+  pub sum-nil : f [] ≡ 0
   sum-nil = omega (arith, sum [] [])
 
   -- what one token's parts make of the sum over all tokens

@@ -14,6 +14,7 @@ chain_of c = record { id = c.table.shared.table_id; shape = c.shape }
 pub record IsChain (c : chain.Inside) : Type 0 where
   pub key : c.table.shared.key ≡ c.shape
   pub words : c.table.shared.table_id.words ≡ word_count c.shape
+  pub slots : c.table.shared.table_id.slots ≡ 0
   pub plan : IsPlan c.shape
 
 -- the one part of a seat

@@ -1,11 +1,13 @@
 //! The chain and its seats.
-ghost use Rattle.std.specs.Prelude.{◌≡◌, ◌<◌, [], IfOk};
+ghost use Rattle.std.specs.Prelude.{◌≡◌, ◌<◌, [], ◌∷◌, IfOk};
 ghost use Rattle.nb_core.specs.Plans.{word_count};
 ghost use Rattle.nb_core.specs.Tables.{tables_at};
 ghost use Rattle.nb_table.specs.Chains.{Extended, seats_of};
+ghost use Rattle.nb_table.specs.Inside.{part_of};
 ghost use Rattle.nb_table.specs.Steps.{Can, Stepped};
+ghost use Rattle.nb_table.specs.Views.{HasHeard, IsBeginning};
 
-use crate::view::{Chained, Deal, Move, Told, View};
+use crate::view::{Chained, Deal, Heard, Learn, Move, Note, Told, View};
 use atomic_table::{Seat, Table};
 use nb_core::{Call, OutOfMemory, Shape};
 use std::alloc::Global;
@@ -93,5 +95,33 @@ impl Chain {
         ensures found { (tables_at self.now.shape seat.new.seen).top ≡ result }
     {
         self.loads::<Brand>(seat, 0, None)
+    }
+
+    /// Each of two seats sees what the other has seen.
+    pub fn meet(&self, a: &mut ChainSeat, b: &mut ChainSeat)
+        requires a_own { a.old.chain ≡ self.now.id }
+        requires b_own { b.old.chain ≡ self.now.id }
+        requires shapes { (a.old.shape ≡ self.now.shape) × (b.old.shape ≡ self.now.shape) }
+        ensures a { Extended a.old a.new [] 1 × IsBeginning b.old.seen a.new.seen }
+        ensures b { Extended b.old b.new [] 1 × IsBeginning a.old.seen b.new.seen }
+    {
+        let words = &self.table.shared;
+        let of_a = words.split_seat::<Note>(&mut a.seat);
+        let of_b = words.split_seat::<Note>(&mut b.seat);
+        words.join_seat::<Learn>(&mut a.seat, of_b);
+        words.join_seat::<Learn>(&mut b.seat, of_a);
+        self.hears::<Brand>(&mut a.seat);
+        self.hears::<Brand>(&mut b.seat);
+    }
+
+    /// One load of the top word, by a token that was told of something.
+    fn hears<B: Told>(&self, seat: &mut Seat<(), View>) -> u64
+        requires own { seat.old.table_id ≡ self.now.id }
+        requires shape { B.shape ≡ self.now.shape }
+        requires one { seat.old.me.0.parts ≡ part_of seat.old.me.0.parts ∷ [] }
+        ensures own { seat.new.table_id ≡ seat.old.table_id }
+        ensures heard { HasHeard B.shape 0 seat.old.me result seat.new.me }
+    {
+        self.table.shared.load::<Heard<B>>(seat, 0)
     }
 }

@@ -10,7 +10,7 @@ of_words-requires c = opens c.args.shape c.as_slice.result.now (c.as_slice.ensur
 pub invariant_of-chain : goal.invariant_of-chain
 invariant_of-chain c =
     let zeros = c.as_slice.ensures.value ∙ c.in_ok-words.ensures.items_if_clones_equal (λ y e. e) ∙ ap (λ n. replicate n 0) c.words.ensures in
-    record { key = c.in_ok-table.ensures.5; words = c.in_ok-table.ensures.0 ∙ count-words c.args.shape _ zeros; plan = c.known.ensures }
+    record { key = c.in_ok-table.ensures.5; words = c.in_ok-table.ensures.0 ∙ count-words c.args.shape _ zeros; slots = c.in_ok-table.ensures.1; plan = c.known.ensures }
 
 pub loop-number-init : goal.loop-number-init
 loop-number-init c = dealing-first _ _ _ _ c.in_ok-table.ensures.2 c.in_ok-table.ensures.4 c.in_ok-dealt.ensures.items
