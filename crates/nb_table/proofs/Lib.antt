@@ -1,4 +1,5 @@
 mod Dealt
+mod Gathered
 mod Meeting
 mod Opening
 mod Parted

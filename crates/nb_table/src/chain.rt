@@ -1,15 +1,17 @@
 //! The chain and its seats.
-ghost use Rattle.std.specs.Prelude.{◌≡◌, ◌<◌, [], ◌∷◌, IfOk};
+ghost use Rattle.std.specs.Prelude.{◌≡◌, ◌<◌, ◌↔◌, [], ◌∷◌, length, IfOk, IfErr, true, is_ok};
 ghost use Rattle.nb_core.specs.Plans.{word_count};
 ghost use Rattle.nb_core.specs.Tables.{tables_at};
 ghost use Rattle.nb_table.specs.Chains.{Extended, seats_of};
+ghost use Rattle.nb_table.specs.Gathered.{AreOwn, ClosedWith, HasGathered};
 ghost use Rattle.nb_table.specs.Inside.{part_of};
 ghost use Rattle.nb_table.specs.Steps.{Can, Stepped};
 ghost use Rattle.nb_table.specs.Views.{HasHeard, IsBeginning};
 
+use crate::closed::Closed;
 use crate::view::{Chained, Deal, Heard, Learn, Move, Note, Told, View};
 use atomic_table::{Seat, Table};
-use nb_core::{Call, OutOfMemory, Shape};
+use nb_core::{Call, NotAll, OutOfMemory, Shape};
 use std::alloc::Global;
 use std::marker::{Brand, Model};
 
@@ -123,5 +125,41 @@ impl Chain {
         ensures heard { HasHeard B.shape 0 seat.old.me result seat.new.me }
     {
         self.table.shared.load::<Heard<B>>(seat, 0)
+    }
+
+    /// With all seats: what is left of the chain. With another number of seats everything comes back.
+    pub fn close(self, seats: Vec<ChainSeat>) -> Result<Closed, NotAll<Chain, ChainSeat>>
+        requires own { AreOwn self.id seats.items }
+        ensures all { (is_ok result ≡ true) ↔ (length seats.items ≡ self.shape.seats) }
+        ensures shape { IfOk result (λ closed. closed.shape ≡ self.shape) }
+        ensures closed { IfOk result (λ closed. ClosedWith self.shape seats.items closed.words) }
+        ensures back { IfErr result (λ given. (given.whole ≡ self) × (given.seats.items ≡ seats.items)) }
+    {
+        if seats.len() != self.shape.seats() {
+            return Err(NotAll { whole: self, seats });
+        }
+        let all = self.gather(seats);
+        let Chain { table, shape } = self;
+        let table = table.close_with(all);
+        Ok(Closed { table, shape })
+    }
+
+    /// One token that knows what all these seats know.
+    fn gather(&self, seats: Vec<ChainSeat>) -> Seat<(), View>
+        requires own { AreOwn self.now.id seats.items }
+        requires some { 0 < length seats.items }
+        ensures { HasGathered self.now.id result [] seats.items }
+    {
+        let mut seats = seats;
+        let last = seats.pop().unwrap();
+        let ChainSeat { shape: _, mut seat } = last;
+        while let Some(other) = seats.pop() {
+            let ChainSeat {
+                shape: _,
+                seat: other,
+            } = other;
+            self.table.shared.join_seat::<Learn>(&mut seat, other);
+        }
+        seat
     }
 }

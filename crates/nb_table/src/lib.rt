@@ -2,6 +2,8 @@
 #![tactic(auto)]
 
 mod chain;
+mod closed;
 mod view;
 
 pub use chain::{Chain, ChainSeat};
+pub use closed::Closed;
