@@ -14,7 +14,6 @@ use Rattle.nb_table.specs.Gathered.{AreOwn, ClosedWith, HasGathered, HasSeen, ti
 use Rattle.nb_table.specs.Inside.{IsSeat, part_of, seat_of}
 use Rattle.nb_table.specs.Views.{Fits, IsChained, all_parts, joined, spent_view, times_among}
 use Rattle.nb_table.specs.declared.chain.ChainSeat.TheInside as seat
-use Rattle.nb_table.specs.declared.view.Part.{Part}
 use Rattle.nb_table.specs.declared.view.View.{View}
 use Rattle.nb_table.proofs.Parted.{All-left, All-right, parts-at, sum-set, times-append}
 
@@ -66,14 +65,21 @@ gathered-more chain token token' s next left left' seats g is_seat view is table
   free = ap (λ m. m.1) me ∙ g.free;
   count =
       let first = g.count in
-      omega (arith, first, ap length parts, length-append token.me.0.parts s.seat.me.0.parts, ap length is_seat.one, ap length is, length-append left (next ∷ []));
+      omega (
+        arith, first, ap length parts, length-append token.me.0.parts s.seat.me.0.parts, ap length is_seat.one, ap length is,
+        length-append left (next ∷ []),
+      );
   times = λ n.
       let first = g.times n in
-      omega (arith, first, ap (times_among n) parts, times-append n token.me.0.parts s.seat.me.0.parts, numbered-by n s next is_seat view, ap (times_numbered n) is, times_numbered-append n left next);
+      omega (
+        arith, first, ap (times_among n) parts, times-append n token.me.0.parts s.seat.me.0.parts, numbered-by n s next is_seat view,
+        ap (times_numbered n) is, times_numbered-append n left next,
+      );
   seen = λ h fits others.
       let all = All-same (Fits h) (token.me.0.parts ++ s.seat.me.0.parts) token'.me.0.parts (sym parts) fits in
+      let own = seen-by h s next is_seat view (All-right (Fits h) token.me.0.parts s.seat.me.0.parts all) in
       g.seen h (All-left (Fits h) token.me.0.parts s.seat.me.0.parts all)
-      (All-same (HasSeen h) left' (left ++ next ∷ []) is (All-push (HasSeen h) left next others (seen-by h s next is_seat view (All-right (Fits h) token.me.0.parts s.seat.me.0.parts all))));
+      (All-same (HasSeen h) left' (left ++ next ∷ []) is (All-push (HasSeen h) left next others own));
 }
   where
     parts : token'.me.0.parts ≡ token.me.0.parts ++ s.seat.me.0.parts
@@ -84,7 +90,8 @@ gathered-more chain token token' s next left left' seats g is_seat view is table
 -- where one token has as many parts as there are, it has each number
 times-whole : (p : Plan) (s : State (Unit {0}) View) (id : ℕ) (v : View) → IsChained p s → get_elem? s.views id ≡ some v → length v.parts ≡ p.seats → (n : ℕ) → n < p.seats → times_among n v.parts ≡ 1
 times-whole p s id v rule at whole n below =
-    let rest : length (all_parts (slice_set s.views id spent_view)) ≡ 0 = omega (arith, sum-set length length-append s.views id v spent_view at, whole, rule.count) in
+    let rest : length (all_parts (slice_set s.views id spent_view)) ≡ 0
+        = omega (arith, sum-set length length-append s.views id v spent_view at, whole, rule.count) in
     let none : times_among n (all_parts (slice_set s.views id spent_view)) ≡ 0 = ap (times_among n) (nil_from_length _ rest) in
     omega (arith, none, sum-set (times_among n) (times-append n) s.views id v spent_view at, rule.once n below)
 
@@ -97,6 +104,8 @@ closed-with p key same chain token seats words slots g all final =
       history = rule.history;
       legal = rule.legal;
       is = sym final.2 ∙ rule.words;
-      seen = g.seen rule.history (parts-at (Fits rule.history) final.0.views token.id token.me.0 final.1.1 rule.fits) (All-nil (HasSeen rule.history));
+      seen =
+          g.seen rule.history (parts-at (Fits rule.history) final.0.views token.id token.me.0 final.1.1 rule.fits)
+          (All-nil (HasSeen rule.history));
       once = λ n below. omega (arith, g.times n, times-whole p final.0 token.id token.me.0 rule final.1.1 count n below);
     }

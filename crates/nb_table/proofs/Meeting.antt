@@ -1,12 +1,11 @@
 -- Two seats meet: notes, and loads after them.
-use Rattle.std.proofs.Common.{◌≡◌, ◌≢◌, ◌∙◌, ℕ, ◌+◌, ◌<◌, ap, sym, subst, refl, List, [], ◌∷◌, ◌++◌, length, length-append, map, slice_index, slice_set, All, arith}
+use Rattle.std.proofs.Common.{◌≡◌, ◌∙◌, ℕ, ◌+◌, ◌<◌, ap, sym, subst, refl, List, [], ◌∷◌, ◌++◌, length, length-append, map, slice_index, slice_set, All, arith}
 use mathlib.Core.Option.{some}
 use lib.ListN.{get_elem?}
 use Rattle.std.proofs.lemmas.List.{append-nil, set-get_or}
-use Rattle.std.proofs.lemmas.List.Elements.{All-append, All-cons, All-from_recursion, All-head, All-map, All-nil, All-same, All-set, All-weaker}
+use Rattle.std.proofs.lemmas.List.Elements.{All-append, All-cons, All-head, All-map, All-nil, All-set, All-weaker}
 use Rattle.atomic_table.proofs.Lists.{set_else}
 use Rattle.atomic_table.specs.Table.{Allows, Joins, Me, Splits, State, keeps}
-use Rattle.atomic_table.specs.declared.shared.Seat.{Seat}
 use Rattle.nb_core.specs.Plans.{Plan}
 use Rattle.nb_core.specs.Tables.{words_of}
 use Rattle.nb_core.specs.History.{IsLegal}
@@ -18,7 +17,7 @@ use Rattle.nb_table.specs.declared.chain.ChainSeat.TheInside as seat
 use Rattle.nb_table.specs.declared.view.Part.{Part}
 use Rattle.nb_table.specs.declared.view.View.{View}
 use Rattle.nb_table.proofs.Opening.{IsTold, kept, split-keeps}
-use Rattle.nb_table.proofs.Parted.{All-at, All-right, IsSum, parts-at, parts-set, sum-nil, sum-set, times-append}
+use Rattle.nb_table.proofs.Parted.{All-at, All-right, parts-at, parts-set, sum-nil, sum-set, times-append}
 
 -- ---- notes
 
@@ -30,7 +29,8 @@ beginning-of h part fits = record { later = fits.later; is = fits.is }
 noted-told : (h : List Event) (v : View) → All (Fits h) v.parts → IsTold h v → IsTold h (noted v)
 noted-told h v fits told =
     All-append (λ seen. IsBeginning seen h) (map (λ part. part.seen) v.parts) v.told
-    (All-map (λ seen. IsBeginning seen h) (λ part. part.seen) v.parts (All-weaker (Fits h) (λ part. IsBeginning part.seen h) (beginning-of h) v.parts fits)) told
+    (All-map (λ seen. IsBeginning seen h) (λ part. part.seen) v.parts (All-weaker (Fits h) (λ part. IsBeginning part.seen h) (beginning-of h) v.parts fits))
+    told
 
 -- a token keeps its parts and tells what it knows
 pub notes : (p : Plan) (id : ℕ) (v : View) → Splits (IsChained p) id v v (noted v)
@@ -44,14 +44,18 @@ joins p id v other w s rule at differs other_at =
     (All-set (IsTold rule.history) (slice_set s.views id (joined v w)) other spent_view (All-nil (λ seen. IsBeginning seen rule.history))
     (All-set (IsTold rule.history) s.views id (joined v w) told rule.told))
     (shared (λ part. part.number < p.seats) rule.numbers)
-    (λ f sum. omega (arith, sum-set f sum (slice_set s.views id (joined v w)) other w spent_view other_at, sum-set f sum s.views id v (joined v w) at, sum v.parts w.parts, sum-nil f sum))
+    (λ f sum. omega (
+      arith, sum-set f sum (slice_set s.views id (joined v w)) other w spent_view other_at, sum-set f sum s.views id v (joined v w) at,
+      sum v.parts w.parts, sum-nil f sum,
+    ))
   where
     before : get_elem? s.views other ≡ some w
     before = sym (set_else s.views id other (joined v w) differs) ∙ other_at
     shared : (P : Part → Type 0) → All P (all_parts s.views) → All P (all_parts (slice_set (slice_set s.views id (joined v w)) other spent_view))
     shared P every =
         parts-set P (slice_set s.views id (joined v w)) other spent_view
-        (parts-set P s.views id (joined v w) every (All-append P v.parts w.parts (parts-at P s.views id v at every) (parts-at P s.views other w before every)))
+        (parts-set P s.views id (joined v w) every
+        (All-append P v.parts w.parts (parts-at P s.views id v at every) (parts-at P s.views other w before every)))
         (All-nil P)
     told : IsTold rule.history (joined v w)
     told =
@@ -70,11 +74,16 @@ whole-keeps p s rule id v part after at one number whole words same = record {
   history = rule.history;
   legal = rule.legal;
   words = same ∙ rule.words;
-  fits = parts-set (Fits rule.history) s.views id (alone after) rule.fits (All-cons (Fits rule.history) after [] (record { later = []; is = whole; others = All-nil _ }) (All-nil (Fits rule.history)));
+  fits =
+      parts-set (Fits rule.history) s.views id (alone after) rule.fits
+      (All-cons (Fits rule.history) after [] (record { later = []; is = whole; others = All-nil _ }) (All-nil (Fits rule.history)));
   told = All-set (IsTold rule.history) s.views id (alone after) (All-nil (λ seen. IsBeginning seen rule.history)) rule.told;
-  numbers = parts-set (λ x. x.number < p.seats) s.views id (alone after) rule.numbers (All-cons (λ x. x.number < p.seats) after [] within (All-nil (λ x. x.number < p.seats)));
+  numbers =
+      parts-set (λ x. x.number < p.seats) s.views id (alone after) rule.numbers
+      (All-cons (λ x. x.number < p.seats) after [] within (All-nil (λ x. x.number < p.seats)));
   once = λ n below.
-      let alike : times_among n (after ∷ []) ≡ times_among n v.parts = ap (λ k. times_among n (record { number = k; seen = []; steps = 0 } ∷ [])) number ∙ ap (times_among n) (sym one) in
+      let alike : times_among n (after ∷ []) ≡ times_among n v.parts
+          = ap (λ k. times_among n (record { number = k; seen = []; steps = 0 } ∷ [])) number ∙ ap (times_among n) (sym one) in
       omega (arith, sum-set (times_among n) (times-append n) s.views id v (alone after) at, alike, rule.once n below);
   count =
       let alike : length (after ∷ []) ≡ length v.parts = ap length (sym one) in
@@ -83,7 +92,8 @@ whole-keeps p s rule id v part after at one number whole words same = record {
   where
     within : after.number < p.seats
     within =
-        let here = All-head (λ x. x.number < p.seats) part [] (subst (All (λ x. x.number < p.seats)) one (parts-at (λ x. x.number < p.seats) s.views id v at rule.numbers)) in
+        let all = subst (All (λ x. x.number < p.seats)) one (parts-at (λ x. x.number < p.seats) s.views id v at rule.numbers) in
+        let here = All-head (λ x. x.number < p.seats) part [] all in
         subst (λ n. n < p.seats) (sym number) here
 
 -- what the load tells
@@ -91,7 +101,9 @@ heard-by : (p : Plan) (s : State (Unit {0}) View) (rule : IsChained p s) (place 
 heard-by p s rule place me part fits one told = record {
   after = moved part fits.later [];
   is = refl;
-  moves = λ x one_too. subst (λ (y : Part). HasMoved p (λ found. []) place (slice_index s.words place) y (moved part fits.later [])) (ap part_of (sym one ∙ one_too)) here;
+  moves = λ x one_too.
+      subst (λ (y : Part). HasMoved p (λ found. []) place (slice_index s.words place) y (moved part fits.later []))
+      (ap part_of (sym one ∙ one_too)) here;
   heard = subst (λ h. All (λ seen. IsBeginning seen h) me.0.told) fits.is told;
 }
   where
@@ -109,7 +121,8 @@ allows-hears p key same slots id place me one =
     subst (λ k. Allows (IsChained k) slots id me place (λ n. n) (HasHeard p place me)) (sym same)
     (λ s rule homes at word.
       let part = part_of me.0.parts in
-      let fits = All-head (Fits rule.history) part [] (subst (All (Fits rule.history)) one (parts-at (Fits rule.history) s.views id me.0 at rule.fits)) in
+      let all = subst (All (Fits rule.history)) one (parts-at (Fits rule.history) s.views id me.0 at rule.fits) in
+      let fits = All-head (Fits rule.history) part [] all in
       (
         alone (moved part fits.later []), keeps, tt,
         whole-keeps p s rule id me.0 part (moved part fits.later []) at one refl fits.is _ (set-get_or s.words place 0),

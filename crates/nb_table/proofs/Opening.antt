@@ -1,10 +1,8 @@
 -- The rule of a chain at its start, and where one token's view changes while the words don't.
-use Rattle.std.proofs.Common.{◌≡◌, ◌∙◌, ℕ, zero, suc, ◌+◌, ◌<◌, ◌≤◌, ap, sym, refl, inl, inr, cond, List, [], ◌∷◌, ◌++◌, length, length-append, replicate, take, drop, slice_set, All, arith}
-use mathlib.Core.Option.{some}
-use lib.ListN.{get_elem?}
+use Rattle.std.proofs.Common.{◌≡◌, ◌∙◌, ℕ, zero, suc, ◌+◌, ◌<◌, ◌≤◌, ap, sym, refl, inl, inr, cond, List, [], ◌∷◌, ◌++◌, length, length-append, replicate, slice_set, All, arith}
 use Rattle.std.proofs.lemmas.Bool.{cases_lt, eq-eqb, ne_eqb}
 use Rattle.std.proofs.lemmas.List.{append-nil, length-replicate, take-append-drop}
-use Rattle.std.proofs.lemmas.List.Elements.{All-append, All-cons, All-drop, All-nil, All-push, All-same, All-set, All-take}
+use Rattle.std.proofs.lemmas.List.Elements.{All-cons, All-nil, All-push, All-same, All-set}
 use Rattle.atomic_table.specs.Table.{Splits, State, opening}
 use Rattle.nb_core.specs.Plans.{Plan, word_count}
 use Rattle.nb_core.specs.declared.events.Event.{Event}
@@ -106,7 +104,8 @@ split-keeps p id v left right parts hears s rule at =
     shared : (P : Part → Type 0) → All P (all_parts s.views) → All P (all_parts (slice_set s.views id left ++ right ∷ []))
     shared P every =
         let here = All-same P _ _ (sym parts) (parts-at P s.views id v at every) in
-        parts-more P (slice_set s.views id left) right (parts-set P s.views id left every (All-right P right.parts left.parts here)) (All-left P right.parts left.parts here)
+        parts-more P (slice_set s.views id left) right (parts-set P s.views id left every (All-right P right.parts left.parts here))
+        (All-left P right.parts left.parts here)
     told : IsTold rule.history left × IsTold rule.history right
     told = hears rule.history (parts-at (Fits rule.history) s.views id v at rule.fits) (All-at (IsTold rule.history) s.views id v at rule.told)
 

@@ -1,5 +1,5 @@
 -- What is in a chain and its seats, and how it is seen.
-use Rattle.std.specs.Prelude.{◌≡◌, ℕ, ◌≤◌, List, [], ◌∷◌}
+use Rattle.std.specs.Prelude.{◌≡◌, List, [], ◌∷◌}
 use Rattle.nb_core.specs.Plans.{IsPlan, word_count}
 use Rattle.nb_core.specs.History.{IsLegal}
 use Rattle.nb_table.specs.Chains.{ChainOf, SeenBy}

@@ -64,7 +64,7 @@ impl Chain {
         let words = vec![in alloc; 0; shape.words()]?;
         let (table, mut rest) = Table::of_words(alloc, words.as_slice(), &shape)?;
         let chain = Chain { table, shape };
-        for number in 0..shape.seats() {
+        for _number in 0..shape.seats() {
             let seat = chain.table.shared.split_seat::<Deal>(&mut rest);
             dealt.push(ChainSeat { shape, seat })?;
         }
@@ -99,7 +99,8 @@ impl Chain {
         self.loads::<Brand>(seat, 0, None)
     }
 
-    /// Each of two seats sees what the other has seen.
+    /// Each of two seats sees what the other has seen. Of the loads that this takes, one of each seat counts as its step: the
+    /// others tell it nothing.
     pub fn meet(&self, a: &mut ChainSeat, b: &mut ChainSeat)
         requires a_own { a.old.chain ≡ self.now.id }
         requires b_own { b.old.chain ≡ self.now.id }
