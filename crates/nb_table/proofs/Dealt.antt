@@ -1,5 +1,5 @@
 -- The seats of a chain are dealt one after another.
-use Rattle.std.proofs.Common.{◌≡◌, ◌∙◌, ℕ, zero, suc, ◌+◌, ◌-◌, ◌<◌, ◌≤◌, ap, sym, subst, refl, List, [], ◌∷◌, ◌++◌, take, drop, arith}
+use Rattle.std.proofs.Common.{◌≡◌, ◌∙◌, ℕ, zero, suc, ◌+◌, ◌-◌, ◌<◌, ◌≤◌, ap, sym, subst, List, [], ◌∷◌, ◌++◌, take, drop, arith}
 use Rattle.atomic_table.specs.Seated.{TableId}
 use Rattle.atomic_table.specs.declared.shared.Seat.{Seat}
 use Rattle.nb_core.specs.Plans.{Plan}
@@ -63,8 +63,8 @@ dealing-more chain p rest rest' dealt dealt' s number below d own me shape seat_
   left = ap (λ m. m.0.parts) me ∙ left-token rest.me.0.parts number p.seats below d.left;
   so_far =
       let same : s.seat.table_id ≡ chain = seat_own ∙ d.own in
-      pushed ∙ (λ i. d.so_far i ++ (dealt-seat_of rest.me.0 number p.seats s below d.left seat_me ∙ (λ j. record { chain = same j; shape = shape j; number = number; seen = []; steps = 0 })) i ∷ [])
-      ∙ seats_of-more chain p 0 number number (omega arith);
+      let view = dealt-seat_of rest.me.0 number p.seats s below d.left seat_me ∙ (λ j. record { chain = same j; shape = shape j; number = number; seen = []; steps = 0 }) in
+      pushed ∙ (λ i. d.so_far i ++ view i ∷ []) ∙ seats_of-more chain p 0 number number (omega arith);
 }
 
 pub dealing-done : (chain : TableId) (p : Plan) (rest : Seat (Unit {0}) View) (dealt : List SeenBy) (number : ℕ) → p.seats ≤ number → number ≤ p.seats → IsDealing chain p rest dealt number → dealt ≡ seats_of chain p 0 p.seats

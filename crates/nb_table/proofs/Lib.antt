@@ -1,6 +1,8 @@
 mod Dealt
-mod Keeping
 mod Following
+mod Gathered
+mod Keeping
+mod Meeting
 mod Opening
 mod Parted
 mod Views

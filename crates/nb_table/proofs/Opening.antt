@@ -1,10 +1,8 @@
 -- The rule of a chain at its start, and where one token's view changes while the words don't.
-use Rattle.std.proofs.Common.{◌≡◌, ◌∙◌, ℕ, zero, suc, ◌+◌, ◌<◌, ◌≤◌, ap, sym, refl, inl, inr, cond, List, [], ◌∷◌, ◌++◌, length, length-append, replicate, take, drop, slice_set, All, arith}
-use mathlib.Core.Option.{some}
-use lib.ListN.{get_elem?}
+use Rattle.std.proofs.Common.{◌≡◌, ◌∙◌, ℕ, zero, suc, ◌+◌, ◌<◌, ◌≤◌, ap, sym, refl, inl, inr, cond, List, [], ◌∷◌, ◌++◌, length, length-append, replicate, slice_set, All, arith}
 use Rattle.std.proofs.lemmas.Bool.{cases_lt, eq-eqb, ne_eqb}
 use Rattle.std.proofs.lemmas.List.{append-nil, length-replicate, take-append-drop}
-use Rattle.std.proofs.lemmas.List.Elements.{All-append, All-cons, All-drop, All-nil, All-push, All-same, All-set, All-take}
+use Rattle.std.proofs.lemmas.List.Elements.{All-cons, All-nil, All-push, All-same, All-set}
 use Rattle.atomic_table.specs.Table.{Splits, State, opening}
 use Rattle.nb_core.specs.Plans.{Plan, word_count}
 use Rattle.nb_core.specs.declared.events.Event.{Event}
@@ -16,8 +14,8 @@ use Rattle.nb_table.proofs.Parted.{All-at, All-left, All-right, IsSum, parts-at,
 -- ---- the start
 
 -- what a token was told of is a beginning of the history
-abbrev pub Hears : List Event → View → Type 0
-Hears history v = All (λ seen. IsBeginning seen history) v.told
+abbrev pub IsTold : List Event → View → Type 0
+IsTold history v = All (λ seen. IsBeginning seen history) v.told
 
 -- a seat that has seen nothing
 abbrev pub new_part : ℕ → Part
@@ -65,7 +63,7 @@ opens p words zeros =
       legal = tt;
       words = zeros;
       fits = All-same (Fits []) _ _ parts (all-fresh (Fits []) 0 p.seats p.seats (omega arith) (λ n within. fits-none n));
-      told = All-cons (Hears []) (first_view p.seats) [] (All-nil (λ seen. IsBeginning seen [])) (All-nil (Hears []));
+      told = All-cons (IsTold []) (first_view p.seats) [] (All-nil (λ seen. IsBeginning seen [])) (All-nil (IsTold []));
       numbers = All-same (λ part. part.number < p.seats) _ _ parts (all-fresh (λ part. part.number < p.seats) 0 p.seats p.seats (omega arith) (λ n within. within));
       once = λ n within. ap (times_among n) parts ∙ times-fresh 0 p.seats n (omega arith) (omega arith);
       count = ap length parts ∙ length-fresh 0 p.seats;
@@ -82,7 +80,7 @@ some-words p = omega arith
 
 -- The rule doesn't see which token has a part: it is kept where the parts of all tokens are the same in all, and what they
 -- were told of too.
-pub kept : (p : Plan) (s : State (Unit {0}) View) (views : List View) → (rule : IsChained p s) → All (Fits rule.history) (all_parts views) → All (Hears rule.history) views → All (λ part. part.number < p.seats) (all_parts views) → ((f : List Part → ℕ) → IsSum f → f (all_parts views) ≡ f (all_parts s.views)) → IsChained p record { words = s.words; homes = s.homes; views = views }
+pub kept : (p : Plan) (s : State (Unit {0}) View) (views : List View) → (rule : IsChained p s) → All (Fits rule.history) (all_parts views) → All (IsTold rule.history) views → All (λ part. part.number < p.seats) (all_parts views) → ((f : List Part → ℕ) → IsSum f → f (all_parts views) ≡ f (all_parts s.views)) → IsChained p record { words = s.words; homes = s.homes; views = views }
 kept p s views rule fits told numbers sums = record {
   history = rule.history;
   legal = rule.legal;
@@ -95,20 +93,21 @@ kept p s views rule fits told numbers sums = record {
 }
 
 -- A token gives some of its parts away, and tells of lists that are beginnings.
-pub split-keeps : (p : Plan) (id : ℕ) (v left right : View) → v.parts ≡ right.parts ++ left.parts → ((h : List Event) → All (Fits h) v.parts → Hears h v → Hears h left × Hears h right) → Splits (IsChained p) id v left right
+pub split-keeps : (p : Plan) (id : ℕ) (v left right : View) → v.parts ≡ right.parts ++ left.parts → ((h : List Event) → All (Fits h) v.parts → IsTold h v → IsTold h left × IsTold h right) → Splits (IsChained p) id v left right
 split-keeps p id v left right parts hears s rule at =
     let views = slice_set s.views id left in
     kept p s (views ++ right ∷ []) rule (shared (Fits rule.history) rule.fits)
-    (All-push (Hears rule.history) views right (All-set (Hears rule.history) s.views id left told.0 rule.told) told.1)
+    (All-push (IsTold rule.history) views right (All-set (IsTold rule.history) s.views id left told.0 rule.told) told.1)
     (shared (λ part. part.number < p.seats) rule.numbers)
     (λ f sum. omega (arith, sum-more f sum views right, sum-set f sum s.views id v left at, ap f parts, sum right.parts left.parts))
   where
     shared : (P : Part → Type 0) → All P (all_parts s.views) → All P (all_parts (slice_set s.views id left ++ right ∷ []))
     shared P every =
         let here = All-same P _ _ (sym parts) (parts-at P s.views id v at every) in
-        parts-more P (slice_set s.views id left) right (parts-set P s.views id left every (All-right P right.parts left.parts here)) (All-left P right.parts left.parts here)
-    told : Hears rule.history left × Hears rule.history right
-    told = hears rule.history (parts-at (Fits rule.history) s.views id v at rule.fits) (All-at (Hears rule.history) s.views id v at rule.told)
+        parts-more P (slice_set s.views id left) right (parts-set P s.views id left every (All-right P right.parts left.parts here))
+        (All-left P right.parts left.parts here)
+    told : IsTold rule.history left × IsTold rule.history right
+    told = hears rule.history (parts-at (Fits rule.history) s.views id v at rule.fits) (All-at (IsTold rule.history) s.views id v at rule.told)
 
 -- the first part goes to a new token
 pub deals : (p : Plan) (id : ℕ) (v : View) → Splits (IsChained p) id v (other_parts v) (first_part v)

@@ -1,5 +1,5 @@
 -- The parts of all tokens, where one token's have changed.
-use Rattle.std.proofs.Common.{◌≡◌, ◌∙◌, ℕ, zero, suc, ◌+◌, ap, sym, subst, List, [], ◌∷◌, ◌++◌, slice_set, All, arith}
+use Rattle.std.proofs.Common.{◌≡◌, ℕ, zero, suc, ◌+◌, ap, sym, subst, List, [], ◌∷◌, ◌++◌, slice_set, All, arith}
 use mathlib.Core.Option.{some, some-injective, some-ne-none}
 use lib.ListN.{get_elem?}
 use Rattle.std.proofs.lemmas.List.Elements.{All-append, All-cons, All-head, All-nil, All-tail}
@@ -61,7 +61,7 @@ times-append n [] ys = omega arith
 times-append n (x ∷ xs) ys = omega (arith, times-append n xs ys)
 
 module _ (f : List Part → ℕ) (sum : IsSum f) where
-  sum-nil : f [] ≡ 0
+  pub sum-nil : f [] ≡ 0
   sum-nil = omega (arith, sum [] [])
 
   -- what one token's parts make of the sum over all tokens

@@ -1,5 +1,5 @@
 -- What is in a chain and its seats, and how it is seen.
-use Rattle.std.specs.Prelude.{◌≡◌, ℕ, ◌≤◌, List, [], ◌∷◌}
+use Rattle.std.specs.Prelude.{◌≡◌, List, [], ◌∷◌}
 use Rattle.nb_core.specs.Plans.{IsPlan, word_count}
 use Rattle.nb_core.specs.History.{IsLegal}
 use Rattle.nb_table.specs.Chains.{ChainOf, SeenBy}
@@ -14,6 +14,7 @@ chain_of c = record { id = c.table.shared.table_id; shape = c.shape }
 pub record IsChain (c : chain.Inside) : Type 0 where
   pub key : c.table.shared.key ≡ c.shape
   pub words : c.table.shared.table_id.words ≡ word_count c.shape
+  pub slots : c.table.shared.table_id.slots ≡ 0
   pub plan : IsPlan c.shape
 
 -- the one part of a seat

@@ -1,5 +1,5 @@
 -- What the words of a chain stand for.
-use Rattle.std.specs.Prelude.{◌≡◌, ◌≢◌, ℕ, zero, suc, ◌+◌, ◌<◌, ◌==◌, if◌then◌else◌, List, [], ◌∷◌, ◌++◌, length, take, drop, All, slice_index}
+use Rattle.std.specs.Prelude.{◌≡◌, ◌≢◌, ℕ, zero, suc, ◌+◌, ◌<◌, ◌==◌, if◌then◌else◌, List, [], ◌∷◌, ◌++◌, length, map, take, drop, All, slice_index}
 use Rattle.atomic_table.specs.Table.{State, Me, Step}
 use Rattle.nb_core.specs.Plans.{Plan}
 use Rattle.nb_core.specs.Tables.{words_of}
@@ -44,6 +44,18 @@ first_part v = record { parts = take 1 v.parts; told = [] }
 abbrev pub other_parts : View → View
 other_parts v = record { parts = drop 1 v.parts; told = v.told }
 
+-- what a note of a token tells: what its seats have seen, and what it was told of
+abbrev pub noted : View → View
+noted v = record { parts = []; told = map (λ part. part.seen) v.parts ++ v.told }
+
+-- what two tokens know together
+abbrev pub joined : View → View → View
+joined v w = record { parts = v.parts ++ w.parts; told = v.told ++ w.told }
+
+-- a token that knows nothing any more
+abbrev pub spent_view : View
+spent_view = record { parts = []; told = [] }
+
 -- There is one legal history whose words these are. Each seat has seen a beginning of it, with all its own events; what
 -- a token was told of is a beginning too. No two seats share a number, and none is lost.
 pub record IsChained (p : Plan) (s : State (Unit {0}) View) : Type 0 where
@@ -75,3 +87,10 @@ pub record Moves (p : Plan) (events : ℕ → List Event) (step : Step (Unit {0}
   pub after : Part
   pub is : me' ≡ (record { parts = after ∷ []; told = me.0.told }, me.1)
   pub moves : (part : Part) → me.0.parts ≡ part ∷ [] → HasMoved p events step.word found part after
+
+-- a load of a token that knows one seat: the seat has seen then all that the token was told of
+pub record HasHeard (p : Plan) (place : ℕ) (me : Me (Unit {0}) View) (found : ℕ) (me' : Me (Unit {0}) View) : Type 0 where
+  pub after : Part
+  pub is : me' ≡ (record { parts = after ∷ []; told = [] }, me.1)
+  pub moves : (part : Part) → me.0.parts ≡ part ∷ [] → HasMoved p (λ found. []) place found part after
+  pub heard : All (λ seen. IsBeginning seen after.seen) me.0.told

@@ -1,13 +1,17 @@
 //! The chain and its seats.
-ghost use Rattle.std.specs.Prelude.{◌≡◌, ◌+◌, ◌%◌, ◌^◌, ◌<◌, ◌==◌, if◌then◌else◌, [], bit_or, max, IfOk};
+ghost use Rattle.std.specs.Prelude.{◌≡◌, ◌+◌, ◌%◌, ◌^◌, ◌<◌, ◌==◌, ◌↔◌, if◌then◌else◌, [], ◌∷◌, bit_or, max, length, IfOk, IfErr, true, is_ok};
 ghost use Rattle.nb_core.specs.Plans.{word_count};
 ghost use Rattle.nb_core.specs.Tables.{tables_at};
 ghost use Rattle.nb_table.specs.Chains.{Extended, seats_of};
+ghost use Rattle.nb_table.specs.Gathered.{AreOwn, ClosedWith, HasGathered};
+ghost use Rattle.nb_table.specs.Inside.{part_of};
 ghost use Rattle.nb_table.specs.Steps.{Can, Stepped};
+ghost use Rattle.nb_table.specs.Views.{HasHeard, IsBeginning};
 
-use crate::view::{Chained, Deal, Move, Told, View};
+use crate::closed::Closed;
+use crate::view::{Chained, Deal, Heard, Learn, Move, Note, Told, View};
 use atomic_table::{Seat, Table};
-use nb_core::{Call, OutOfMemory, Shape};
+use nb_core::{Call, NotAll, OutOfMemory, Shape};
 use std::alloc::Global;
 use std::marker::{Brand, Model};
 
@@ -60,7 +64,7 @@ impl Chain {
         let words = vec![in alloc; 0; shape.words()]?;
         let (table, mut rest) = Table::of_words(alloc, words.as_slice(), &shape)?;
         let chain = Chain { table, shape };
-        for number in 0..shape.seats() {
+        for _number in 0..shape.seats() {
             let seat = chain.table.shared.split_seat::<Deal>(&mut rest);
             dealt.push(ChainSeat { shape, seat })?;
         }
@@ -170,5 +174,70 @@ impl Chain {
         ensures found { (tables_at self.now.shape seat.new.seen).top ≡ result }
     {
         self.loads::<Brand>(seat, 0, None)
+    }
+
+    /// Each of two seats sees what the other has seen. Of the loads that this takes, one of each seat counts as its step: the
+    /// others tell it nothing.
+    pub fn meet(&self, a: &mut ChainSeat, b: &mut ChainSeat)
+        requires a_own { a.old.chain ≡ self.now.id }
+        requires b_own { b.old.chain ≡ self.now.id }
+        requires shapes { (a.old.shape ≡ self.now.shape) × (b.old.shape ≡ self.now.shape) }
+        ensures a { Extended a.old a.new [] 1 × IsBeginning b.old.seen a.new.seen }
+        ensures b { Extended b.old b.new [] 1 × IsBeginning a.old.seen b.new.seen }
+    {
+        let words = &self.table.shared;
+        let of_a = words.split_seat::<Note>(&mut a.seat);
+        let of_b = words.split_seat::<Note>(&mut b.seat);
+        words.join_seat::<Learn>(&mut a.seat, of_b);
+        words.join_seat::<Learn>(&mut b.seat, of_a);
+        self.hears::<Brand>(&mut a.seat);
+        self.hears::<Brand>(&mut b.seat);
+    }
+
+    /// One load of the top word, by a token that was told of something.
+    fn hears<B: Told>(&self, seat: &mut Seat<(), View>) -> u64
+        requires own { seat.old.table_id ≡ self.now.id }
+        requires shape { B.shape ≡ self.now.shape }
+        requires one { seat.old.me.0.parts ≡ part_of seat.old.me.0.parts ∷ [] }
+        ensures own { seat.new.table_id ≡ seat.old.table_id }
+        ensures heard { HasHeard B.shape 0 seat.old.me result seat.new.me }
+    {
+        self.table.shared.load::<Heard<B>>(seat, 0)
+    }
+
+    /// With all seats: what is left of the chain. With another number of seats everything comes back.
+    pub fn close(self, seats: Vec<ChainSeat>) -> Result<Closed, NotAll<Chain, ChainSeat>>
+        requires own { AreOwn self.id seats.items }
+        ensures all { (is_ok result ≡ true) ↔ (length seats.items ≡ self.shape.seats) }
+        ensures shape { IfOk result (λ closed. closed.shape ≡ self.shape) }
+        ensures closed { IfOk result (λ closed. ClosedWith self.shape seats.items closed.words) }
+        ensures back { IfErr result (λ given. (given.whole ≡ self) × (given.seats.items ≡ seats.items)) }
+    {
+        if seats.len() != self.shape.seats() {
+            return Err(NotAll { whole: self, seats });
+        }
+        let all = self.gather(seats);
+        let Chain { table, shape } = self;
+        let table = table.close_with(all);
+        Ok(Closed { table, shape })
+    }
+
+    /// One token that knows what all these seats know.
+    fn gather(&self, seats: Vec<ChainSeat>) -> Seat<(), View>
+        requires own { AreOwn self.now.id seats.items }
+        requires some { 0 < length seats.items }
+        ensures { HasGathered self.now.id result [] seats.items }
+    {
+        let mut seats = seats;
+        let last = seats.pop().unwrap();
+        let ChainSeat { shape: _, mut seat } = last;
+        while let Some(other) = seats.pop() {
+            let ChainSeat {
+                shape: _,
+                seat: other,
+            } = other;
+            self.table.shared.join_seat::<Learn>(&mut seat, other);
+        }
+        seat
     }
 }

@@ -2,7 +2,9 @@
 #![tactic(auto)]
 
 mod chain;
+mod closed;
 mod growth;
 mod view;
 
 pub use chain::{Chain, ChainSeat};
+pub use closed::Closed;

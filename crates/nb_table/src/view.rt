@@ -65,3 +65,35 @@ impl Split<View> for Deal {
 
     ghost right = { first_part };
 }
+
+/// A new token is told of what the token knows, which keeps its parts.
+pub(crate) struct Note;
+
+impl Split<View> for Note {
+    ghost use Rattle.nb_table.specs.Views.{noted};
+
+    ghost left = { λ view. view };
+
+    ghost right = { noted };
+}
+
+pub(crate) struct Learn;
+
+impl Join<View> for Learn {
+    ghost use Rattle.nb_table.specs.Views.{joined, spent_view};
+
+    ghost both = { joined };
+
+    ghost spent = { spent_view };
+}
+
+/// What the token was told of, its seat has seen after the step.
+pub(crate) struct Heard<B> {
+    told: PhantomData<B>,
+}
+
+impl<B: Told> Play<(), View> for Heard<B> {
+    ghost use Rattle.nb_table.specs.Views.{HasHeard};
+
+    ghost then = { λ step. HasHeard B.shape step.word };
+}

@@ -10,7 +10,7 @@ of_words-requires c = opens c.args.shape c.as_slice.result.now (c.as_slice.ensur
 pub invariant_of-chain : goal.invariant_of-chain
 invariant_of-chain c =
     let zeros = c.as_slice.ensures.value ∙ c.in_ok-words.ensures.items_if_clones_equal (λ y e. e) ∙ ap (λ n. replicate n 0) c.words.ensures in
-    record { key = c.in_ok-table.ensures.5; words = c.in_ok-table.ensures.0 ∙ count-words c.args.shape _ zeros; plan = c.known.ensures }
+    record { key = c.in_ok-table.ensures.5; words = c.in_ok-table.ensures.0 ∙ count-words c.args.shape _ zeros; slots = c.in_ok-table.ensures.1; plan = c.known.ensures }
 
 pub loop-number-init : goal.loop-number-init
 loop-number-init c = dealing-first _ _ _ _ c.in_ok-table.ensures.2 c.in_ok-table.ensures.4 c.in_ok-dealt.ensures.items
@@ -22,17 +22,17 @@ split_seat-seat-requires c =
 
 pub invariant_of-push : goal.invariant_of-push
 invariant_of-push c =
-    dealt-is_seat c.loop-number.rest.me.0 c.loop-number.number c.args.shape.seats (record { shape = c.args.shape; seat = c.split_seat-seat.result })
+    dealt-is_seat c.loop-number.rest.me.0 c.loop-number._number c.args.shape.seats (record { shape = c.args.shape; seat = c.split_seat-seat.result })
     (omega (arith, c.loop-number-test.true, c.seats-number-end.ensures)) c.loop-number.invariant.left c.split_seat-seat.ensures.4
 
 pub loop-number-preserved : goal.loop-number-preserved
 loop-number-preserved c =
     let s : Inside = record { shape = c.args.shape; seat = c.split_seat-seat.result } in
-    dealing-more _ c.args.shape c.loop-number.rest _ c.loop-number.dealt.items _ s c.loop-number.number
+    dealing-more _ c.args.shape c.loop-number.rest _ c.loop-number.dealt.items _ s c.loop-number._number
     (omega (arith, c.loop-number-test.true, c.seats-number-end.ensures)) c.loop-number.invariant
     c.split_seat-seat.ensures.0 c.split_seat-seat.ensures.2 refl c.split_seat-seat.ensures.3 c.split_seat-seat.ensures.4 c.in_ok-push.ensures.items
 
 pub returns-clause-seats : goal.returns-clause-seats
 returns-clause-seats c =
-    dealing-done _ c.args.shape _ _ c.loop-number.number (omega (arith, c.loop-number-test.false, c.seats-number-end.ensures))
-    (omega (arith, c.loop-number.auto.number-end, c.seats-number-end.ensures)) c.loop-number.invariant
+    dealing-done _ c.args.shape _ _ c.loop-number._number (omega (arith, c.loop-number-test.false, c.seats-number-end.ensures))
+    (omega (arith, c.loop-number.auto._number-end, c.seats-number-end.ensures)) c.loop-number.invariant
