@@ -241,3 +241,6 @@ impl Chain {
         seat
     }
 }
+
+#[cfg(test)]
+mod tests;
