@@ -1,5 +1,6 @@
 mod Dealt
 mod Keeping
+mod Keys
 mod Following
 mod Opening
 mod Parted

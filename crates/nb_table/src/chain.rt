@@ -7,7 +7,7 @@ ghost use Rattle.nb_table.specs.Steps.{Can, Stepped};
 
 use crate::view::{Chained, Deal, Move, Told, View};
 use atomic_table::{Seat, Table};
-use nb_core::{Call, OutOfMemory, Shape};
+use nb_core::{Call, Key, OutOfMemory, Shape};
 use std::alloc::Global;
 use std::marker::{Brand, Model};
 
@@ -47,6 +47,14 @@ impl Model for ChainSeat {
     ghost view = { seat_of };
 
     ghost invariant = { IsSeat };
+}
+
+/// Where a step is made: a table, a slot of it, and a key. It tells a proof alone.
+#[derive(Clone, Copy)]
+pub(crate) struct Spot {
+    pub(crate) g: u32,
+    pub(crate) i: usize,
+    pub(crate) key: Option<Key>,
 }
 
 impl Chain {
@@ -92,6 +100,7 @@ impl Chain {
         place: usize,
         old: u64,
         new: u64,
+        _spot: Spot,
         _call: Option<Call>,
     ) -> u64
         requires own { seat.old.chain ≡ self.now.id }
