@@ -1,12 +1,13 @@
 -- The exchanges of an empty key word, and of a next word.
 use Rattle.std.proofs.Common.{◌≡◌, ◌≢◌, ◌∙◌, ℕ, ◌+◌, ◌<◌, ◌≤◌, ◌⊎◌, zero, suc, cond, eqb, List, [], ◌∷◌, ◌++◌, slice_index, slice_set, ap, sym, subst, subst₂, refl, inl, inr, arith}
 use Rattle.std.proofs.lemmas.Bool.{eq-eqb, eqb-true, ne_eqb}
+use Rattle.std.proofs.lemmas.Bool.Decides.{eqb_tells}
 use Rattle.std.proofs.lemmas.List.{get_or-set_same}
-use Rattle.nb_core.specs.Plans.{Plan, IsPlan, PlacesAreDistinct, Key, generations_of, header_place, key_place, limit_of, word_count}
+use Rattle.nb_core.specs.Plans.{Plan, IsPlan, PlacesAreDistinct, Header, Key, generations_of, header_place, key_place, limit_of, word_count}
 use Rattle.nb_core.specs.States.{key_state, key_word}
 use Rattle.nb_core.specs.Tables.{AreOthers, HasSlotBelow, IsInstalled, IsReady, IsSlot, Tables, tables_at, words_of}
 use Rattle.nb_core.specs.History.{IsLegal, seat_of_event}
-use Rattle.nb_core.specs.Laws.{Lasts, LawfulWords, SeenLasts}
+use Rattle.nb_core.specs.Laws.{Lasts, LawfulWords, SeenLasts, TablesAreLinked}
 use Rattle.nb_core.specs.declared.numbers.TheConstants.{KEY_MAX}
 use Rattle.nb_core.specs.declared.events.Event.{Event}
 use Rattle.nb_core.specs.declared.events.Event.TheVariants.{Claim, Kill, Install}
@@ -156,3 +157,20 @@ module _ (p : Plan) (e : Event) (g i at found : ℕ) (before after : SeenBy) (ow
         exchange-lost p e (λ q. key_place q g i) at found before after own at_place told some_found,
         ap key_state (word-lost p e (λ q. key_place q g i) at found before after own at_place told some_found) ∙ sym decoded,
       )
+
+-- after the exchange of a next word the next table is there, whoever installed it
+pub exchange-installs :
+    (p : Plan) (number g k at found : ℕ) (before after : SeenBy) → before.shape ≡ p → at ≡ header_place p g 0
+    → Stepped p (installs number g k) at before found after → LawfulWords → TablesAreLinked → PlacesAreDistinct → IsPlan p → g < generations_of p
+    → IsInstalled (seen_by after) (suc g)
+exchange-installs p number g k at found before after own at_place told lawful linked places plan within =
+    let e = Install number g k in
+    let place : Plan → ℕ = λ q. header_place q g 0 in
+    let below = (places p plan).below (Header g 0) (within, omega arith) in
+    elim (eqb_tells found 0) [
+      | inl zero_found ↦ word-won p e place at found before after own at_place told 1 lawful plan below (λ h. refl) zero_found.1
+      | inr some_found ↦ elim ((linked after.shape (subst IsPlan (sym (told.grows.shape ∙ own)) plan) after.seen told.grows.legal).next g) [
+          | inl zero_after ↦ absurd (some_found.1 (sym (word-lost p e place at found before after own at_place told some_found.1) ∙ zero_after))
+          | inr is ↦ is
+        ]
+    ]

@@ -3,7 +3,7 @@ use Rattle.nb_core.specs.Plans.{IsPlan, Header, header_place, limit_of, word_cou
 use Rattle.nb_core.specs.Tables.{AreOthers, IsReady, tables_at}
 use Rattle.nb_table.specs.Events.{installs}
 use Rattle.nb_table.specs.Steps.{Can}
-use Rattle.nb_table.proofs.Keys.{can-install}
+use Rattle.nb_table.proofs.Keys.{can-install, exchange-installs}
 use Rattle.nb_table.proofs.chain.Chain.install.Goals as goal
 
 pub exchanges-requires-clause-within : goal.exchanges-requires-clause-within
@@ -25,4 +25,9 @@ exchanges-requires-clause-can c =
     (can-install p c.seen_lasts.ensures seat.number c.args.g seat.seen c.args.key c.requires.room ready crowded c.known-2.ensures)
 
 pub returns-clause-installed : goal.returns-clause-installed
-returns-clause-installed c = ?
+returns-clause-installed c =
+    let p = c.args.self.now.shape in
+    let at_place = c.header_place-place.ensures ∙ ap (λ v. header_place v.shape c.args.g 0) c.self.view_is in
+    let plan = subst IsPlan (ap (λ v. v.shape) c.self.view_is) c.known.ensures in
+    exchange-installs p c.args.seat.now.number c.args.g c.args.key _ _ _ _ c.requires.own.1 at_place c.exchanges.ensures
+    c.lawful_words.ensures c.linked.ensures c.places_are_distinct.ensures plan (omega (arith, c.requires.room))
