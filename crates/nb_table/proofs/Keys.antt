@@ -36,7 +36,8 @@ exchange-follows p e number place new h legal mine words may =
 -- why a key may be claimed at a distance is why it may be so later
 reason-lasts :
     (p : Plan) (g k distance : ℕ) (t u : Tables) → g < generations_of p → Lasts p t u
-    → HasSlotBelow p t g k ⊎ (IsReady p t g × (distance < limit_of p g)) → HasSlotBelow p u g k ⊎ (IsReady p u g × (distance < limit_of p g))
+    → HasSlotBelow p t g k ⊎ (IsReady p t g × (distance < limit_of p g))
+    → HasSlotBelow p u g k ⊎ (IsReady p u g × (distance < limit_of p g))
 reason-lasts p zero k distance t u within lasting (inl has) = absurd has
 reason-lasts p (suc g) k distance t u within lasting (inl has) = inl (lasting.has_slot g k (omega arith) has)
 reason-lasts p g k distance t u within lasting (inr ready) = inr (lasting.ready g within ready.0, ready.1)
@@ -55,7 +56,8 @@ module _ (p : Plan) (lasts : SeenLasts) (number g : ℕ) (seen : List Event) whe
 
   -- an empty slot may be claimed for a key that has its way there
   pub can-claim :
-      (i k word : ℕ) → IsSlot p g i → IsInstalled (tables_at p seen) g → HasWay p (tables_at p seen) g i k → k ≤ KEY_MAX → word ≡ k + 2
+      (i k word : ℕ) → IsSlot p g i → IsInstalled (tables_at p seen) g → HasWay p (tables_at p seen) g i k → k ≤ KEY_MAX
+      → word ≡ k + 2
       → Can p (claims number g i k) number seen (key_place p g i) (λ found. cond (eqb found 0) word found)
   can-claim i k word slot installed way in_range word_is plan numbered others not_own legal =
       let lasting = later p lasts number seen plan others legal in
@@ -72,7 +74,8 @@ module _ (p : Plan) (lasts : SeenLasts) (number g : ℕ) (seen : List Event) whe
 
   -- a table may be followed by another where a key's path is crowded and the table below is complete
   pub can-install :
-      (k : ℕ) → suc g < generations_of p → IsReady p (tables_at p seen) g → AreOthers p (tables_at p seen) g k (limit_of p g) → k ≤ KEY_MAX
+      (k : ℕ) → suc g < generations_of p → IsReady p (tables_at p seen) g → AreOthers p (tables_at p seen) g k (limit_of p g)
+      → k ≤ KEY_MAX
       → Can p (installs number g k) number seen (header_place p g 0) (λ found. cond (eqb found 0) 1 found)
   can-install k room ready crowded in_range plan numbered others not_own legal =
       let lasting = later p lasts number seen plan others legal in
@@ -86,14 +89,15 @@ module _ (p : Plan) (lasts : SeenLasts) (number g : ℕ) (seen : List Event) whe
 
 -- ---- what an exchange tells
 
-module _ (p : Plan) (e : Event) (place : Plan → ℕ) (at found : ℕ) (before after : SeenBy) (own : before.shape ≡ p) (at_place : at ≡ place p)
+module _
+    (p : Plan) (e : Event) (place : Plan → ℕ) (at found : ℕ) (before after : SeenBy) (own : before.shape ≡ p) (at_place : at ≡ place p)
     (told : Stepped p (λ word. only (eqb word 0) e) at before found after) where
   -- it made its event where it found 0
-  pub exchange-won : found ≡ 0 → Extended before after (e ∷ []) 1
+  exchange-won : found ≡ 0 → Extended before after (e ∷ []) 1
   exchange-won zero_found = subst (λ test. Extended before after (cond test (e ∷ []) []) 1) (eq-eqb found 0 zero_found) told.grows
 
   -- and none where it found another word
-  pub exchange-lost : found ≢ 0 → Extended before after [] 1
+  exchange-lost : found ≢ 0 → Extended before after [] 1
   exchange-lost some_found = subst (λ test. Extended before after (cond test (e ∷ []) []) 1) (ne_eqb found 0 some_found) told.grows
 
   -- the seat's shape is the plan
@@ -111,20 +115,20 @@ module _ (p : Plan) (e : Event) (place : Plan → ℕ) (at found : ℕ) (before 
       told.grows.seen ∙ ap (λ test. cond test (e ∷ []) [] ++ (told.grows.others ++ before.seen)) (ne_eqb found 0 some_found)
 
   -- a word of what the seat has seen, by the plan and the history
-  word-seen : 
+  word-seen :
       (h : List Event) (word : ℕ) → after.seen ≡ h → slice_index (words_of p h) (place p) ≡ word
       → slice_index (words_of after.shape after.seen) (place after.shape) ≡ word
   word-seen h word is here =
       subst₂ (λ q h. slice_index (words_of q h) (place q) ≡ word) (sym after-shape) (sym is) here
 
   -- the word that it found is still there, where that isn't 0
-  pub word-lost : found ≢ 0 → slice_index (words_of after.shape after.seen) (place after.shape) ≡ found
+  word-lost : found ≢ 0 → slice_index (words_of after.shape after.seen) (place after.shape) ≡ found
   word-lost some_found =
       word-seen (told.grows.others ++ before.seen) found (lost-seen some_found)
       (ap (slice_index (words_of p (told.grows.others ++ before.seen))) (sym at_place) ∙ told.word)
 
   -- else the new word is there
-  pub word-won :
+  word-won :
       (new : ℕ) → LawfulWords → IsPlan p → place p < word_count p
       → ((h : List Event) → words_of p (e ∷ h) ≡ slice_set (words_of p h) (place p) new) → found ≡ 0
       → slice_index (words_of after.shape after.seen) (place after.shape) ≡ new
@@ -135,19 +139,22 @@ module _ (p : Plan) (e : Event) (place : Plan → ℕ) (at found : ℕ) (before 
       (ap (λ w. slice_index w (place p)) (words h)
       ∙ get_or-set_same (words_of p h) (place p) new 0 (omega (arith, within, (lawful p plan h legal.0).length)))
 
--- an exchange of a key word, by the state that the word stood for
-module _ (p : Plan) (e : Event) (g i at found : ℕ) (before after : SeenBy) (own : before.shape ≡ p) (at_place : at ≡ key_place p g i)
+-- the same of a key word, by the state that it stood for
+module _
+    (p : Plan) (e : Event) (g i at found : ℕ) (before after : SeenBy) (own : before.shape ≡ p) (at_place : at ≡ key_place p g i)
     (told : Stepped p (λ word. only (eqb word 0) e) at before found after) (state : KeyState) where
   -- an empty slot has the new word's state
   pub key-won :
       (new : ℕ) → LawfulWords → PlacesAreDistinct → IsPlan p → IsSlot p g i
-      → ((h : List Event) → words_of p (e ∷ h) ≡ slice_set (words_of p h) (key_place p g i) new) → key_word state ≡ found → state ≡ Empty
+      → ((h : List Event) → words_of p (e ∷ h) ≡ slice_set (words_of p h) (key_place p g i) new)
+      → key_word state ≡ found → state ≡ Empty
       → Extended before after (e ∷ []) 1 × ((seen_by after).key g i ≡ key_state new)
   key-won new lawful places plan slot words back empty =
       let zero_found = sym back ∙ ap key_word empty in
       let within = (places p plan).below (Key g i) slot in (
         exchange-won p e (λ q. key_place q g i) at found before after own at_place told zero_found,
-        ap key_state (word-won p e (λ q. key_place q g i) at found before after own at_place told new lawful plan within words zero_found),
+        ap key_state
+        (word-won p e (λ q. key_place q g i) at found before after own at_place told new lawful plan within words zero_found),
       )
 
   -- another slot stays as it was found
@@ -161,16 +168,19 @@ module _ (p : Plan) (e : Event) (g i at found : ℕ) (before after : SeenBy) (ow
 -- after the exchange of a next word the next table is there, whoever installed it
 pub exchange-installs :
     (p : Plan) (number g k at found : ℕ) (before after : SeenBy) → before.shape ≡ p → at ≡ header_place p g 0
-    → Stepped p (installs number g k) at before found after → LawfulWords → TablesAreLinked → PlacesAreDistinct → IsPlan p → g < generations_of p
-    → IsInstalled (seen_by after) (suc g)
+    → Stepped p (installs number g k) at before found after → LawfulWords → TablesAreLinked → PlacesAreDistinct → IsPlan p
+    → g < generations_of p → IsInstalled (seen_by after) (suc g)
 exchange-installs p number g k at found before after own at_place told lawful linked places plan within =
     let e = Install number g k in
     let place : Plan → ℕ = λ q. header_place q g 0 in
+    let shape : after.shape ≡ p = told.grows.shape ∙ own in
     let below = (places p plan).below (Header g 0) (within, omega arith) in
     elim (eqb_tells found 0) [
       | inl zero_found ↦ word-won p e place at found before after own at_place told 1 lawful plan below (λ h. refl) zero_found.1
-      | inr some_found ↦ elim ((linked after.shape (subst IsPlan (sym (told.grows.shape ∙ own)) plan) after.seen told.grows.legal).next g) [
-          | inl zero_after ↦ absurd (some_found.1 (sym (word-lost p e place at found before after own at_place told some_found.1) ∙ zero_after))
+      | inr some_found ↦ elim ((linked after.shape (subst IsPlan (sym shape) plan) after.seen told.grows.legal).next g) [
+          | inl zero_after ↦
+              let still = word-lost p e place at found before after own at_place told some_found.1 in
+              absurd (some_found.1 (sym still ∙ zero_after))
           | inr is ↦ is
         ]
     ]

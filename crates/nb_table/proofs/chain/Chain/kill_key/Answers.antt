@@ -13,7 +13,8 @@ exchanges-requires-clause-can c =
     let seat = c.args.seat.now in
     let at_place = c.key_place-place.ensures ∙ ap (λ v. key_place v.shape c.args.g c.args.i) c.self.view_is in
     let growing = subst (λ q. IsInstalled (tables_at q seat.seen) (suc c.args.g)) c.requires.own.1 c.requires.growing in
-    subst (λ place. Can p (kills seat.number c.args.g c.args.i) seat.number seat.seen place (λ found. cond (eqb found 0) 1 found)) (sym at_place)
+    let events = kills seat.number c.args.g c.args.i in
+    subst (λ place. Can p events seat.number seat.seen place (λ found. cond (eqb found 0) 1 found)) (sym at_place)
     (can-kill p c.seen_lasts.ensures seat.number c.args.g seat.seen c.args.i c.requires.slot growing)
 
 pub returns-clause-won : goal.returns-clause-won
