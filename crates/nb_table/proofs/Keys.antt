@@ -48,11 +48,15 @@ module _ (p : Plan) (lasts : SeenLasts) (number g : ℕ) (seen : List Event) whe
       (i : ℕ) → IsSlot p g i → IsInstalled (tables_at p seen) (suc g)
       → Can p (kills number g i) number seen (key_place p g i) (λ found. cond (eqb found 0) 1 found)
   can-kill i slot growing plan numbered others not_own legal =
-      exchange-follows p (Kill number g i) number (key_place p g i) 1 (others ++ seen) legal refl refl (λ zero_found.
-      (legal, (numbered, slot), record {
-        growing = (later p lasts number seen plan others legal).installed (suc g) growing;
-        empty = ap key_state zero_found;
-      }, tt))
+      exchange-follows p (Kill number g i) number (key_place p g i) 1 (others ++ seen) legal refl refl (λ zero_found. (
+        legal,
+        (numbered, slot),
+        record {
+          growing = (later p lasts number seen plan others legal).installed (suc g) growing;
+          empty = ap key_state zero_found;
+        },
+        tt,
+      ))
 
   -- an empty slot may be claimed for a key that has its way there
   pub can-claim :
@@ -62,15 +66,19 @@ module _ (p : Plan) (lasts : SeenLasts) (number g : ℕ) (seen : List Event) whe
   can-claim i k word slot installed way in_range word_is plan numbered others not_own legal =
       let lasting = later p lasts number seen plan others legal in
       let words = ap (slice_set (words_of p (others ++ seen)) (key_place p g i)) (sym word_is) in
-      exchange-follows p (Claim number g i k) number (key_place p g i) word (others ++ seen) legal refl words (λ zero_found.
-      (legal, (numbered, slot, in_range), record {
-        installed = lasting.installed g installed;
-        empty = ap key_state zero_found;
-        distance = way.distance;
-        on_path = (way.in_table, way.at);
-        passed = lasting.others g k way.distance slot.0 way.passed;
-        reason = reason-lasts p g k way.distance _ _ slot.0 lasting way.reason;
-      }, tt))
+      exchange-follows p (Claim number g i k) number (key_place p g i) word (others ++ seen) legal refl words (λ zero_found. (
+        legal,
+        (numbered, slot, in_range),
+        record {
+          installed = lasting.installed g installed;
+          empty = ap key_state zero_found;
+          distance = way.distance;
+          on_path = (way.in_table, way.at);
+          passed = lasting.others g k way.distance slot.0 way.passed;
+          reason = reason-lasts p g k way.distance _ _ slot.0 lasting way.reason;
+        },
+        tt,
+      ))
 
   -- a table may be followed by another where a key's path is crowded and the table below is complete
   pub can-install :
@@ -79,13 +87,17 @@ module _ (p : Plan) (lasts : SeenLasts) (number g : ℕ) (seen : List Event) whe
       → Can p (installs number g k) number seen (header_place p g 0) (λ found. cond (eqb found 0) 1 found)
   can-install k room ready crowded in_range plan numbered others not_own legal =
       let lasting = later p lasts number seen plan others legal in
-      exchange-follows p (Install number g k) number (header_place p g 0) 1 (others ++ seen) legal refl refl (λ zero_found.
-      (legal, (numbered, omega arith, in_range), record {
-        room = room;
-        no_next = zero_found;
-        ready = lasting.ready g (omega arith) ready;
-        crowded = lasting.others g k (limit_of p g) (omega arith) crowded;
-      }, tt))
+      exchange-follows p (Install number g k) number (header_place p g 0) 1 (others ++ seen) legal refl refl (λ zero_found. (
+        legal,
+        (numbered, omega arith, in_range),
+        record {
+          room = room;
+          no_next = zero_found;
+          ready = lasting.ready g (omega arith) ready;
+          crowded = lasting.others g k (limit_of p g) (omega arith) crowded;
+        },
+        tt,
+      ))
 
 -- ---- what an exchange tells
 
@@ -154,7 +166,7 @@ module _
       let within = (places p plan).below (Key g i) slot in (
         exchange-won p e (λ q. key_place q g i) at found before after own at_place told zero_found,
         ap key_state
-        (word-won p e (λ q. key_place q g i) at found before after own at_place told new lawful plan within words zero_found),
+            (word-won p e (λ q. key_place q g i) at found before after own at_place told new lawful plan within words zero_found),
       )
 
   -- another slot stays as it was found
@@ -178,9 +190,9 @@ exchange-installs p number g k at found before after own at_place told lawful li
     elim (eqb_tells found 0) [
       | inl zero_found ↦ word-won p e place at found before after own at_place told 1 lawful plan below (λ h. refl) zero_found.1
       | inr some_found ↦ elim ((linked after.shape (subst IsPlan (sym shape) plan) after.seen told.grows.legal).next g) [
-          | inl zero_after ↦
-              let still = word-lost p e place at found before after own at_place told some_found.1 in
-              absurd (some_found.1 (sym still ∙ zero_after))
-          | inr is ↦ is
-        ]
+        | inl zero_after ↦
+            let still = word-lost p e place at found before after own at_place told some_found.1 in
+            absurd (some_found.1 (sym still ∙ zero_after))
+        | inr is ↦ is
+      ]
     ]

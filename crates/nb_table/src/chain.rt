@@ -83,7 +83,12 @@ impl Chain {
     }
 
     /// One load, which returns the word.
-    pub(crate) fn loads<B: Told>(&self, seat: &mut ChainSeat, place: usize, _call: Option<Call>) -> u64
+    pub(crate) fn loads<B: Told>(
+        &self,
+        seat: &mut ChainSeat,
+        place: usize,
+        _call: Option<Call>,
+    ) -> u64
         requires own { seat.old.chain ≡ self.now.id }
         requires shapes { (seat.old.shape ≡ self.now.shape) × (B.shape ≡ self.now.shape) }
         requires within { place < word_count self.now.shape }

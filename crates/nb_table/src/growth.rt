@@ -74,7 +74,11 @@ impl Chain {
         self.shape.known();
         key.known();
         let place = self.shape.header_place(g, 0);
-        let spot = Spot { g, i: 0, key: Some(key) };
+        let spot = Spot {
+            g,
+            i: 0,
+            key: Some(key),
+        };
         self.exchanges::<Brand>(seat, place, 0, 1, spot, None) == 0
     }
 
@@ -111,7 +115,11 @@ impl Chain {
         key.known();
         let place = self.shape.key_place(g, i);
         let word = encode_key(KeyState::Claimed(key));
-        let spot = Spot { g, i, key: Some(key) };
+        let spot = Spot {
+            g,
+            i,
+            key: Some(key),
+        };
         decode_key(self.exchanges::<Brand>(seat, place, 0, word, spot, None))
     }
 }

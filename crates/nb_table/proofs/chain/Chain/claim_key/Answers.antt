@@ -37,8 +37,8 @@ returns-clause-won c = λ empty.
     let plan = subst IsPlan (ap (λ v. v.shape) c.self.view_is) c.known.ensures in
     let word = c.encode_key-word.result in
     let won =
-        key-won p e c.args.g c.args.i _ _ _ _ c.requires.own.1 at_place c.exchanges.ensures c.decode_key.result word
-        c.lawful_words.ensures c.places_are_distinct.ensures plan c.requires.slot
-        (λ h. ap (slice_set (words_of p h) (key_place p c.args.g c.args.i)) (sym c.encode_key-word.ensures.word))
-        c.decode_key.ensures.back empty in
+    key-won p e c.args.g c.args.i _ _ _ _ c.requires.own.1 at_place c.exchanges.ensures c.decode_key.result word
+    c.lawful_words.ensures c.places_are_distinct.ensures plan c.requires.slot
+    (λ h. ap (slice_set (words_of p h) (key_place p c.args.g c.args.i)) (sym c.encode_key-word.ensures.word))
+    c.decode_key.ensures.back empty in
     (won.0, won.1 ∙ c.encode_key-word.ensures.back)
