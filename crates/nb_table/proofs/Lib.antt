@@ -2,6 +2,7 @@ mod Dealt
 mod Following
 mod Gathered
 mod Keeping
+mod Keys
 mod Meeting
 mod Opening
 mod Parted

@@ -11,7 +11,7 @@ ghost use Rattle.nb_table.specs.Views.{HasHeard, IsBeginning};
 use crate::closed::Closed;
 use crate::view::{Chained, Deal, Heard, Learn, Move, Note, Told, View};
 use atomic_table::{Seat, Table};
-use nb_core::{Call, NotAll, OutOfMemory, Shape};
+use nb_core::{Call, Key, NotAll, OutOfMemory, Shape};
 use std::alloc::Global;
 use std::marker::{Brand, Model};
 
@@ -53,6 +53,14 @@ impl Model for ChainSeat {
     ghost invariant = { IsSeat };
 }
 
+/// Where a step is made: a table, a slot of it, and a key. It tells a proof alone.
+#[derive(Clone, Copy)]
+pub(crate) struct Spot {
+    pub(crate) g: u32,
+    pub(crate) i: usize,
+    pub(crate) key: Option<Key>,
+}
+
 impl Chain {
     /// A chain with all words 0, and its seats. It takes memory for the words and for the vector of seats.
     pub fn new(alloc: Global, shape: Shape) -> Result<(Chain, Vec<ChainSeat>), OutOfMemory>
@@ -79,7 +87,12 @@ impl Chain {
     }
 
     /// One load, which returns the word.
-    pub(crate) fn loads<B: Told>(&self, seat: &mut ChainSeat, place: usize, _call: Option<Call>) -> u64
+    pub(crate) fn loads<B: Told>(
+        &self,
+        seat: &mut ChainSeat,
+        place: usize,
+        _call: Option<Call>,
+    ) -> u64
         requires own { seat.old.chain ≡ self.now.id }
         requires shapes { (seat.old.shape ≡ self.now.shape) × (B.shape ≡ self.now.shape) }
         requires within { place < word_count self.now.shape }
@@ -96,6 +109,7 @@ impl Chain {
         place: usize,
         old: u64,
         new: u64,
+        _spot: Spot,
         _call: Option<Call>,
     ) -> u64
         requires own { seat.old.chain ≡ self.now.id }

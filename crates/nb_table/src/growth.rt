@@ -8,7 +8,7 @@ ghost use Rattle.nb_core.specs.declared.states.KeyState.TheVariants as key_is;
 ghost use Rattle.nb_table.specs.Conditions.{HasWay};
 ghost use Rattle.nb_table.specs.Chains.{Extended, IsOwn, seen_by};
 
-use crate::chain::{Chain, ChainSeat};
+use crate::chain::{Chain, ChainSeat, Spot};
 use nb_core::{Key, KeyState, decode_key, encode_key, laws};
 use std::marker::Brand;
 
@@ -69,8 +69,17 @@ impl Chain {
     {
         laws::seen_lasts();
         laws::linked();
+        laws::lawful_words();
+        laws::places_are_distinct();
+        self.shape.known();
+        key.known();
         let place = self.shape.header_place(g, 0);
-        self.exchanges::<Brand>(seat, place, 0, 1, None) == 0
+        let spot = Spot {
+            g,
+            i: 0,
+            key: Some(key),
+        };
+        self.exchanges::<Brand>(seat, place, 0, 1, spot, None) == 0
     }
 
     /// Closes the slot to keys if it is empty, by one compare-exchange, and answers what its key word held.
@@ -82,8 +91,12 @@ impl Chain {
         ensures lost { result ≢ key_is.Empty → Extended seat.old seat.new [] 1 × ((seen_by seat.new).key g i ≡ result) }
     {
         laws::seen_lasts();
+        laws::lawful_words();
+        laws::places_are_distinct();
+        self.shape.known();
         let place = self.shape.key_place(g, i);
-        decode_key(self.exchanges::<Brand>(seat, place, 0, 1, None))
+        let spot = Spot { g, i, key: None };
+        decode_key(self.exchanges::<Brand>(seat, place, 0, 1, spot, None))
     }
 
     /// Claims the slot for a key if it is empty, by one compare-exchange, and answers what its key word held.
@@ -96,8 +109,17 @@ impl Chain {
         ensures lost { result ≢ key_is.Empty → Extended seat.old seat.new [] 1 × ((seen_by seat.new).key g i ≡ result) }
     {
         laws::seen_lasts();
+        laws::lawful_words();
+        laws::places_are_distinct();
+        self.shape.known();
+        key.known();
         let place = self.shape.key_place(g, i);
         let word = encode_key(KeyState::Claimed(key));
-        decode_key(self.exchanges::<Brand>(seat, place, 0, word, None))
+        let spot = Spot {
+            g,
+            i,
+            key: Some(key),
+        };
+        decode_key(self.exchanges::<Brand>(seat, place, 0, word, spot, None))
     }
 }
