@@ -1,3 +1,4 @@
+mod Counts
 mod Dealt
 mod Following
 mod Gathered

@@ -142,13 +142,13 @@ impl Chain {
             .fetch_or::<Move<B>>(&mut seat.seat, place, bits)
     }
 
-    /// One fetch-add modulo 2^64, which returns the word as it was.
+    /// One fetch-add modulo 2^64, which returns the word as it was. The proof of a caller names its events by `_g`, its table.
     pub(crate) fn adds<B: Told>(
         &self,
         seat: &mut ChainSeat,
         place: usize,
         amount: u64,
-        _call: Option<Call>,
+        _g: u32,
     ) -> u64
         requires own { seat.old.chain ≡ self.now.id }
         requires shapes { (seat.old.shape ≡ self.now.shape) × (B.shape ≡ self.now.shape) }
@@ -161,13 +161,13 @@ impl Chain {
             .fetch_add::<Move<B>>(&mut seat.seat, place, amount)
     }
 
-    /// One fetch-max, which returns the word as it was.
+    /// One fetch-max, which returns the word as it was. The proof of a caller names its events by `_g`, its table.
     pub(crate) fn raises<B: Told>(
         &self,
         seat: &mut ChainSeat,
         place: usize,
         least: u64,
-        _call: Option<Call>,
+        _g: u32,
     ) -> u64
         requires own { seat.old.chain ≡ self.now.id }
         requires shapes { (seat.old.shape ≡ self.now.shape) × (B.shape ≡ self.now.shape) }

@@ -23,9 +23,11 @@ impl Chain {
         ensures found { (seen_by seat.new).taken g ≡ (result + chunk_of self.now.shape g) % 2 ^ 64 }
     {
         laws::seen_lasts();
+        laws::lawful_words();
+        laws::places_are_distinct();
         let place = self.shape.header_place(g, 1);
         let chunk = self.shape.size_of(g).min(8) as u64;
-        self.adds::<Brand>(seat, place, chunk, None)
+        self.adds::<Brand>(seat, place, chunk, g)
     }
 
     /// Counts finished slots of table `g` that the seat's own steps turned, by one fetch-add on its done word, and answers
@@ -40,8 +42,10 @@ impl Chain {
     {
         laws::own_lasts();
         laws::counted();
+        laws::lawful_words();
+        laws::places_are_distinct();
         let place = self.shape.header_place(g, 2);
-        self.adds::<Brand>(seat, place, slots, None)
+        self.adds::<Brand>(seat, place, slots, g)
     }
 
     /// Raises the top word past table `g`, by one fetch-max, and answers what it was.
@@ -53,7 +57,7 @@ impl Chain {
         ensures was_higher { g < result → Extended seat.old seat.new [] 1 × ((seen_by seat.new).top ≡ result) }
     {
         laws::seen_lasts();
-        self.raises::<Brand>(seat, 0, u64::from(g) + 1, None)
+        self.raises::<Brand>(seat, 0, u64::from(g) + 1, g)
     }
 
     /// Installs the table above `g`, for a key whose path in `g` is crowded, by one compare-exchange on its next word.
