@@ -1,20 +1,14 @@
 -- What a seat may do, by what it has seen.
-use Rattle.std.proofs.Common.{◌≡◌, ◌≢◌, ◌∙◌, ℕ, ◌+◌, ◌*◌, ◌/◌, ◌%◌, ◌^◌, ◌<◌, ◌≤◌, ◌⊎◌, max, suc, Bool, true, false, cond, eqb, leb, List, [], ◌∷◌, ◌++◌, slice_index, slice_set, bit_or, All, ap, sym, subst, refl, inl, inr, arith}
-use Rattle.std.proofs.lemmas.Bool.{eqb-true, leb-true}
+use Rattle.std.proofs.Common.{◌≡◌, ◌∙◌, ℕ, Bool, true, false, List, [], ◌∷◌, ◌++◌, slice_index, slice_set, ap, sym, refl}
 use Rattle.std.proofs.lemmas.List.{set-get_or}
 use Rattle.std.proofs.lemmas.List.Elements.{All-cons, All-nil}
-use Rattle.nb_core.specs.Plans.{Plan, IsPlan, generations_of, header_place, key_place, limit_of, size_of, value_place}
-use Rattle.nb_core.specs.States.{key_state}
-use Rattle.nb_core.specs.Tables.{AreOthers, HasSlotBelow, IsComplete, IsInstalled, IsReady, IsSlot, Tables, chunk_of, path_slot, tables_at, words_of}
-use Rattle.nb_core.specs.History.{HasValue, IsInRange, IsLegal, MayFollow, counted_by, seat_of_event, turned_by}
-use Rattle.nb_core.specs.Laws.{IsPrimedOrFinished, Lasts, OwnLasts, SeenLasts}
-use Rattle.nb_core.specs.declared.numbers.TheConstants.{KEY_MAX, VALUE_MAX}
+use Rattle.nb_core.specs.Plans.{Plan, IsPlan}
+use Rattle.nb_core.specs.Tables.{tables_at, words_of}
+use Rattle.nb_core.specs.History.{IsLegal, seat_of_event}
+use Rattle.nb_core.specs.Laws.{Lasts, SeenLasts}
 use Rattle.nb_core.specs.declared.events.Event.{Event}
-use Rattle.nb_core.specs.declared.events.Event.TheVariants.{Claim, Kill, CopyIn, Prime, Finish, Install, Take, Count, Promote}
-use Rattle.nb_core.specs.declared.states.KeyState.TheVariants.{Empty, Dead, Claimed}
-use Rattle.nb_core.specs.declared.states.ValueState.TheVariants.{Null, Tombstone, Live, PrimedNull, PrimedTombstone, Primed, Finished}
-use Rattle.nb_table.specs.Events.{claims, copies, counts, finishes, installs, kills, only, primes, promotes, takes}
-use Rattle.nb_table.specs.Steps.{Can, MayStep}
+use Rattle.nb_table.specs.Events.{only}
+use Rattle.nb_table.specs.Steps.{MayStep}
 
 -- a step without an event leaves its word
 pub none-follows : (p : Plan) (number place new : ℕ) (h : List Event) → IsLegal p h → new ≡ slice_index (words_of p h) place → MayStep p [] number place new h

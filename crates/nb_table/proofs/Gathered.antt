@@ -66,14 +66,24 @@ gathered-more chain token token' s next left left' seats g is_seat view is table
   count =
       let first = g.count in
       omega (
-        arith, first, ap length parts, length-append token.me.0.parts s.seat.me.0.parts, ap length is_seat.one, ap length is,
+        arith,
+        first,
+        ap length parts,
+        length-append token.me.0.parts s.seat.me.0.parts,
+        ap length is_seat.one,
+        ap length is,
         length-append left (next ∷ []),
       );
   times = λ n.
       let first = g.times n in
       omega (
-        arith, first, ap (times_among n) parts, times-append n token.me.0.parts s.seat.me.0.parts, numbered-by n s next is_seat view,
-        ap (times_numbered n) is, times_numbered-append n left next,
+        arith,
+        first,
+        ap (times_among n) parts,
+        times-append n token.me.0.parts s.seat.me.0.parts,
+        numbered-by n s next is_seat view,
+        ap (times_numbered n) is,
+        times_numbered-append n left next,
       );
   seen = λ h fits others.
       let all = All-same (Fits h) (token.me.0.parts ++ s.seat.me.0.parts) token'.me.0.parts (sym parts) fits in
@@ -91,7 +101,7 @@ gathered-more chain token token' s next left left' seats g is_seat view is table
 times-whole : (p : Plan) (s : State (Unit {0}) View) (id : ℕ) (v : View) → IsChained p s → get_elem? s.views id ≡ some v → length v.parts ≡ p.seats → (n : ℕ) → n < p.seats → times_among n v.parts ≡ 1
 times-whole p s id v rule at whole n below =
     let rest : length (all_parts (slice_set s.views id spent_view)) ≡ 0
-        = omega (arith, sum-set length length-append s.views id v spent_view at, whole, rule.count) in
+    = omega (arith, sum-set length length-append s.views id v spent_view at, whole, rule.count) in
     let none : times_among n (all_parts (slice_set s.views id spent_view)) ≡ 0 = ap (times_among n) (nil_from_length _ rest) in
     omega (arith, none, sum-set (times_among n) (times-append n) s.views id v spent_view at, rule.once n below)
 

@@ -1,5 +1,5 @@
 -- Two seats meet: notes, and loads after them.
-use Rattle.std.proofs.Common.{◌≡◌, ◌∙◌, ℕ, ◌+◌, ◌<◌, ap, sym, subst, refl, List, [], ◌∷◌, ◌++◌, length, length-append, map, slice_index, slice_set, All, arith}
+use Rattle.std.proofs.Common.{◌≡◌, ◌∙◌, ℕ, ◌<◌, ap, sym, subst, refl, List, [], ◌∷◌, ◌++◌, length, length-append, map, slice_index, slice_set, All, arith}
 use mathlib.Core.Option.{some}
 use lib.ListN.{get_elem?}
 use Rattle.std.proofs.lemmas.List.{append-nil, set-get_or}
@@ -45,18 +45,23 @@ joins p id v other w s rule at differs other_at =
     (All-set (IsTold rule.history) s.views id (joined v w) told rule.told))
     (shared (λ part. part.number < p.seats) rule.numbers)
     (λ f sum. omega (
-      arith, sum-set f sum (slice_set s.views id (joined v w)) other w spent_view other_at, sum-set f sum s.views id v (joined v w) at,
-      sum v.parts w.parts, sum-nil f sum,
+      arith,
+      sum-set f sum (slice_set s.views id (joined v w)) other w spent_view other_at,
+      sum-set f sum s.views id v (joined v w) at,
+      sum v.parts w.parts,
+      sum-nil f sum,
     ))
   where
     before : get_elem? s.views other ≡ some w
     before = sym (set_else s.views id other (joined v w) differs) ∙ other_at
+
     shared : (P : Part → Type 0) → All P (all_parts s.views) → All P (all_parts (slice_set (slice_set s.views id (joined v w)) other spent_view))
     shared P every =
         parts-set P (slice_set s.views id (joined v w)) other spent_view
         (parts-set P s.views id (joined v w) every
         (All-append P v.parts w.parts (parts-at P s.views id v at every) (parts-at P s.views other w before every)))
         (All-nil P)
+
     told : IsTold rule.history (joined v w)
     told =
         All-append (λ seen. IsBeginning seen rule.history) v.told w.told
@@ -83,7 +88,7 @@ whole-keeps p s rule id v part after at one number whole words same = record {
       (All-cons (λ x. x.number < p.seats) after [] within (All-nil (λ x. x.number < p.seats)));
   once = λ n below.
       let alike : times_among n (after ∷ []) ≡ times_among n v.parts
-          = ap (λ k. times_among n (record { number = k; seen = []; steps = 0 } ∷ [])) number ∙ ap (times_among n) (sym one) in
+      = ap (λ k. times_among n (record { number = k; seen = []; steps = 0 } ∷ [])) number ∙ ap (times_among n) (sym one) in
       omega (arith, sum-set (times_among n) (times-append n) s.views id v (alone after) at, alike, rule.once n below);
   count =
       let alike : length (after ∷ []) ≡ length v.parts = ap length (sym one) in
@@ -120,14 +125,15 @@ pub allows-hears : (p key : Plan) → key ≡ p → (slots id place : ℕ) (me :
 allows-hears p key same slots id place me one =
     subst (λ k. Allows (IsChained k) slots id me place (λ n. n) (HasHeard p place me)) (sym same)
     (λ s rule homes at word.
-      let part = part_of me.0.parts in
-      let all = subst (All (Fits rule.history)) one (parts-at (Fits rule.history) s.views id me.0 at rule.fits) in
-      let fits = All-head (Fits rule.history) part [] all in
-      (
-        alone (moved part fits.later []), keeps, tt,
-        whole-keeps p s rule id me.0 part (moved part fits.later []) at one refl fits.is _ (set-get_or s.words place 0),
-        heard-by p s rule place me part fits one (All-at (IsTold rule.history) s.views id me.0 at rule.told),
-      ))
+    let part = part_of me.0.parts in
+    let all = subst (All (Fits rule.history)) one (parts-at (Fits rule.history) s.views id me.0 at rule.fits) in
+    let fits = All-head (Fits rule.history) part [] all in (
+      alone (moved part fits.later []),
+      keeps,
+      tt,
+      whole-keeps p s rule id me.0 part (moved part fits.later []) at one refl fits.is _ (set-get_or s.words place 0),
+      heard-by p s rule place me part fits one (All-at (IsTold rule.history) s.views id me.0 at rule.told),
+    ))
 
 -- ---- after the meeting
 
@@ -163,21 +169,26 @@ met p before other after me found is_seat other_seat plan shape table me_is hear
   where
     part : Part
     part = part_of before.seat.me.0.parts
+
     moves : HasMoved p (λ _. []) 0 found part heard.after
     moves = heard.moves part (ap (λ m. m.0.parts) me_is ∙ append-nil before.seat.me.0.parts ∙ is_seat.one)
+
     alone_after : after.seat.me.0.parts ≡ heard.after ∷ []
     alone_after = ap (λ m. m.0.parts) heard.is
+
     after_is : part_of after.seat.me.0.parts ≡ moved part moves.others []
     after_is = ap part_of alone_after ∙ moves.is
+
     legal : IsLegal after.shape (part_of after.seat.me.0.parts).seen
     legal =
         subst (λ q. IsLegal q (part_of after.seat.me.0.parts).seen) (sym (shape ∙ plan))
         (subst (λ (x : Part). IsLegal p x.seen) (sym after_is) moves.legal)
+
     told : IsBeginning (part_of other.seat.me.0.parts).seen heard.after.seen
     told =
         let P : List Event → Type 0 = λ seen. IsBeginning seen heard.after.seen in
         let is : me.0.told ≡ before.seat.me.0.told ++ (part_of other.seat.me.0.parts).seen ∷ other.seat.me.0.told
-            = ap (λ m. m.0.told) me_is ∙ ap (λ ps. before.seat.me.0.told ++ (map (λ x. x.seen) ps ++ other.seat.me.0.told)) other_seat.one in
+        = ap (λ m. m.0.told) me_is ∙ ap (λ ps. before.seat.me.0.told ++ (map (λ x. x.seen) ps ++ other.seat.me.0.told)) other_seat.one in
         All-head P (part_of other.seat.me.0.parts).seen other.seat.me.0.told
         (All-right P before.seat.me.0.told ((part_of other.seat.me.0.parts).seen ∷ other.seat.me.0.told) (subst (All P) is heard.heard))
 

@@ -106,6 +106,7 @@ split-keeps p id v left right parts hears s rule at =
         let here = All-same P _ _ (sym parts) (parts-at P s.views id v at every) in
         parts-more P (slice_set s.views id left) right (parts-set P s.views id left every (All-right P right.parts left.parts here))
         (All-left P right.parts left.parts here)
+
     told : IsTold rule.history left × IsTold rule.history right
     told = hears rule.history (parts-at (Fits rule.history) s.views id v at rule.fits) (All-at (IsTold rule.history) s.views id v at rule.told)
 

@@ -1,5 +1,5 @@
 -- A plan for steps that nobody picks.
-use Rattle.std.specs.Prelude.{ℕ, List, []}
+use Rattle.std.specs.Prelude.{[]}
 use Rattle.nb_core.specs.Plans.{Plan}
 
 abbrev pub no_plan : Plan
