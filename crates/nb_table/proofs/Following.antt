@@ -25,11 +25,11 @@ none-follows p number place new h legal same = record {
 }
 
 -- the one event of a step
-one-follows : (p : Plan) (e : Event) (number place new : ℕ) (h : List Event) → IsLegal p (e ∷ h) → words_of p (e ∷ h) ≡ slice_set (words_of p h) place new → seat_of_event e ≡ number → MayStep p (e ∷ []) number place new h
+pub one-follows : (p : Plan) (e : Event) (number place new : ℕ) (h : List Event) → IsLegal p (e ∷ h) → words_of p (e ∷ h) ≡ slice_set (words_of p h) place new → seat_of_event e ≡ number → MayStep p (e ∷ []) number place new h
 one-follows p e number place new h legal words mine = record { legal = legal; words = words; mine = All-cons (λ x. seat_of_event x ≡ number) e [] mine (All-nil (λ x. seat_of_event x ≡ number)) }
 
 -- a step that is an event where a test holds
-if-follows : (p : Plan) (test : Bool) (e : Event) (number place new : ℕ) (h : List Event) → (test ≡ true → MayStep p (e ∷ []) number place new h) → (test ≡ false → MayStep p [] number place new h) → MayStep p (only test e) number place new h
+pub if-follows : (p : Plan) (test : Bool) (e : Event) (number place new : ℕ) (h : List Event) → (test ≡ true → MayStep p (e ∷ []) number place new h) → (test ≡ false → MayStep p [] number place new h) → MayStep p (only test e) number place new h
 if-follows p true e number place new h yes_it no_it = yes_it refl
 if-follows p false e number place new h yes_it no_it = no_it refl
 

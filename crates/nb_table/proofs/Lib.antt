@@ -3,4 +3,5 @@ mod Keeping
 mod Following
 mod Opening
 mod Parted
+mod Values
 mod Views

@@ -7,7 +7,7 @@ ghost use Rattle.nb_table.specs.Steps.{Can, Stepped};
 
 use crate::view::{Chained, Deal, Move, Told, View};
 use atomic_table::{Seat, Table};
-use nb_core::{Call, OutOfMemory, Shape};
+use nb_core::{Call, Key, Num, OutOfMemory, Shape};
 use std::alloc::Global;
 use std::marker::{Brand, Model};
 
@@ -47,6 +47,15 @@ impl Model for ChainSeat {
     ghost view = { seat_of };
 
     ghost invariant = { IsSeat };
+}
+
+/// What a step is about: a slot, and the key and the number that it puts there. Only the step's proof asks for it.
+#[derive(Clone, Copy)]
+pub(crate) struct Spot {
+    pub(crate) g: u32,
+    pub(crate) i: usize,
+    pub(crate) key: Option<Key>,
+    pub(crate) number: Option<Num>,
 }
 
 impl Chain {
@@ -105,13 +114,31 @@ impl Chain {
             .compare_exchange::<Move<B>>(&mut seat.seat, place, old, new)
     }
 
+    /// The same, about a slot.
+    pub(crate) fn exchanges_at<B: Told>(
+        &self,
+        seat: &mut ChainSeat,
+        place: usize,
+        old: u64,
+        new: u64,
+        _spot: Spot,
+    ) -> u64
+        requires own { seat.old.chain ≡ self.now.id }
+        requires shapes { (seat.old.shape ≡ self.now.shape) × (B.shape ≡ self.now.shape) }
+        requires within { place < word_count self.now.shape }
+        requires can { Can B.shape B.events seat.old.number seat.old.seen place (λ found. if found == old then new else found) }
+        ensures { Stepped B.shape B.events place seat.old result seat.new }
+    {
+        self.exchanges::<B>(seat, place, old, new, None)
+    }
+
     /// One fetch-or, which returns the word as it was.
     pub(crate) fn ors<B: Told>(
         &self,
         seat: &mut ChainSeat,
         place: usize,
         bits: u64,
-        _call: Option<Call>,
+        _spot: Spot,
     ) -> u64
         requires own { seat.old.chain ≡ self.now.id }
         requires shapes { (seat.old.shape ≡ self.now.shape) × (B.shape ≡ self.now.shape) }

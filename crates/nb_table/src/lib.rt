@@ -2,6 +2,7 @@
 #![tactic(auto)]
 
 mod chain;
+mod copying;
 mod growth;
 mod view;
 
