@@ -24,6 +24,7 @@ impl Chain {
         ensures lost { (IsUnprimed result → ⊥) → Extended seat.old seat.new [] 1 × ((seen_by seat.new).value g i ≡ result) }
     {
         laws::seen_lasts();
+        laws::beginnings_are_legal();
         laws::lawful_words();
         laws::places_are_distinct();
         let place = self.shape.value_place(g, i);
@@ -49,6 +50,7 @@ impl Chain {
         ensures lost { result ≢ value_is.Null → Extended seat.old seat.new [] 1 × ((seen_by seat.new).value g i ≡ result) }
     {
         laws::seen_lasts();
+        laws::beginnings_are_legal();
         laws::lawful_words();
         laws::places_are_distinct();
         laws::moved();
@@ -69,6 +71,7 @@ impl Chain {
         ensures lost { result ≢ value_is.Primed number → Extended seat.old seat.new [] 1 × ((seen_by seat.new).value g i ≡ result) × (result ≡ value_is.Finished number) }
     {
         laws::seen_lasts();
+        laws::beginnings_are_legal();
         laws::lawful_words();
         laws::places_are_distinct();
         laws::linked();
