@@ -8,11 +8,10 @@ use Rattle.std.proofs.lemmas.Nat.Bits.{and_pow, bit_at-suc, bit_at_lowest}
 use Rattle.std.specs.Int.Bits.{or_add_and}
 use Rattle.std.specs.Option.{IsSome, unwrap_or}
 use Rattle.nb_core.specs.Plans.{Plan, IsPlan, PlacesAreDistinct, Value, generations_of, size_of, value_place, word_count}
-use Rattle.nb_core.specs.States.{IsValueState, value_state, value_word}
+use Rattle.nb_core.specs.States.{IsKeyState, IsValueState, value_state, value_word}
 use Rattle.nb_core.specs.Tables.{IsInstalled, IsSlot, IsUnprimed, Tables, tables_at, words_of}
 use Rattle.nb_core.specs.History.{HasValue, IsLegal, IsPrimedBelow, MayPrime, seat_of_event}
 use Rattle.nb_core.specs.Laws.{BeginningsAreLegal, HasOneSlot, IsPrimedOrFinished, IsValueWord, Lasts, LawfulWords, Moved, SeenLasts, TablesAreLinked, primed}
-use Rattle.nb_core.specs.declared.numbers.TheConstants.{KEY_MAX, VALUE_MAX}
 use Rattle.nb_core.specs.declared.events.Event.{Event}
 use Rattle.nb_core.specs.declared.events.Event.TheVariants.{CopyIn, Prime, Finish}
 use Rattle.nb_core.specs.declared.states.KeyState.TheVariants.{Claimed}
@@ -221,29 +220,30 @@ still-primed p t (suc g) i k n slot claimed null moved one (j, within, below, he
 
 -- A number that is seen primed or finished below may be copied to its key's slot, where the value is null.
 pub can-copy :
-    (p : Plan) → SeenLasts → Moved → HasOneSlot → (number : ℕ) (seen : List Event) (g i k n : ℕ) → IsSlot p g i → k ≤ KEY_MAX → n ≤ VALUE_MAX
-    → (tables_at p seen).key g i ≡ Claimed k → HasSource p (tables_at p seen) g k n
-    → Can p (copies number g i k n) number seen (value_place p g i) (λ found. cond (eqb found 0) (value_word (Live n)) found)
-can-copy p lasts moved one number seen g i k n slot k_fits n_fits claimed source plan seated others not_own legal =
+    (p : Plan) → SeenLasts → LawfulWords → Moved → HasOneSlot → (number : ℕ) (seen : List Event) (g i k n word : ℕ) → IsSlot p g i
+    → value_state word ≡ Some (Live n) → (tables_at p seen).key g i ≡ Claimed k → HasSource p (tables_at p seen) g k n
+    → Can p (copies number g i k n) number seen (value_place p g i) (λ found. cond (eqb found 0) word found)
+can-copy p lasts lawful moved one number seen g i k n word slot says claimed source plan seated others not_own legal =
     let h = others ++ seen in
     let t = tables_at p h in
     let place = value_place p g i in
     let found = slice_index (words_of p h) place in
-    let new = cond (eqb found 0) (value_word (Live n)) found in
+    let new = cond (eqb found 0) word found in
+    let word_is = word-of word (Live n) says in
     let still = lasts p plan others seen legal in
     let claimed' = still.claimed g i k slot claimed in
     if-follows p (eqb found 0) (CopyIn number g i k n) number place new h
     (λ same.
     let null = ap (λ x. unwrap_or (value_state x) Null) (eqb-true found 0 same) in
     one-follows p (CopyIn number g i k n) number place new h
-    (legal, (seated, slot, k_fits, n_fits), record {
+    (legal, (seated, slot, subst IsKeyState claimed' ((lawful p plan h legal).keys g i slot), word_is.1), record {
       claimed = claimed';
       null = null;
       primed = still-primed p t g i k n slot claimed' null (λ f j. moved p plan h legal f j k n)
           (λ j j_slot j_claimed. one p plan h legal g j i k j_slot slot j_claimed claimed')
           (source-lasts p (tables_at p seen) t still g k n slot.0 source);
-    }, tt) (ap (λ b. slice_set (words_of p h) place (cond b (value_word (Live n)) found)) (sym same)) refl)
-    (λ other. none-follows p number place new h legal (ap (λ b. cond b (value_word (Live n)) found) other))
+    }, tt) (ap (slice_set (words_of p h) place) (sym (ap (λ b. cond b word found) same ∙ word_is.0))) refl)
+    (λ other. none-follows p number place new h legal (ap (λ b. cond b word found) other))
 
 -- ---- what was found
 
@@ -348,11 +348,11 @@ module _ (p : Plan) (plan : IsPlan p) (lawful : LawfulWords) (begins : Beginning
 
 -- What copying a number tells.
 module _ (p : Plan) (plan : IsPlan p) (lawful : LawfulWords) (begins : BeginningsAreLegal) (before : SeenBy) (found : ℕ) (after : SeenBy) (g i k n : ℕ) (slot : IsSlot p g i) (shape : before.shape ≡ p) (step : Stepped p (copies before.number g i k n) (value_place p g i) before found after) (v : ValueState) (says : value_state found ≡ Some v) where
-  pub copy-won : PlacesAreDistinct → value_state (value_word (Live n)) ≡ Some (Live n) → v ≡ Null → Extended before after (CopyIn before.number g i k n ∷ []) 1 × ((seen_by after).value g i ≡ Live n)
-  copy-won places back is =
+  pub copy-won : PlacesAreDistinct → (word : ℕ) → value_state word ≡ Some (Live n) → v ≡ Null → Extended before after (CopyIn before.number g i k n ∷ []) 1 × ((seen_by after).value g i ≡ Live n)
+  copy-won places word back is =
       value-made p plan lawful begins (copies before.number g i k n) before found after g i slot shape step places (CopyIn before.number g i k n) (λ x. value_word (Live n)) (Live n)
       (events-one (eqb found 0) (CopyIn before.number g i k n) (eq-eqb found 0 ((word-of found v says).0 ∙ ap value_word is)))
-      refl back
+      refl (ap value_state (sym (word-of word (Live n) back).0) ∙ back)
 
   pub copy-lost : (v ≡ Null → ⊥) → Extended before after [] 1 × ((seen_by after).value g i ≡ v)
   copy-lost other =
