@@ -1,5 +1,5 @@
 -- What a seat may do to a value, and what it finds there.
-use Rattle.std.proofs.Common.{◌≡◌, ◌≢◌, ◌∙◌, ℕ, zero, suc, ◌+◌, ◌*◌, ◌/◌, ◌%◌, ◌<◌, ◌≤◌, ◌⊎◌, Bool, true, false, cond, eqb, List, [], ◌∷◌, ◌++◌, length, slice_index, slice_set, bit_or, Some, Option, All, ap, sym, subst, refl, inl, inr, arith}
+use Rattle.std.proofs.Common.{◌≡◌, ◌∙◌, ℕ, zero, suc, ◌+◌, ◌*◌, ◌/◌, ◌%◌, ◌<◌, ◌⊎◌, Bool, true, false, cond, eqb, List, [], ◌∷◌, ◌++◌, length, slice_index, slice_set, bit_or, Some, Option, ap, sym, subst, refl, inl, inr, arith}
 use Rattle.std.proofs.lemmas.Bool.{eq-eqb, eqb-true, eqb-false, ne_eqb}
 use Rattle.std.proofs.lemmas.Bool.Decides.{nat_tests}
 use Rattle.std.proofs.lemmas.List.{get_or-set_same}
@@ -7,17 +7,17 @@ use Rattle.std.proofs.lemmas.Nat.{and_mask}
 use Rattle.std.proofs.lemmas.Nat.Bits.{and_pow, bit_at-suc, bit_at_lowest}
 use Rattle.std.specs.Int.Bits.{or_add_and}
 use Rattle.std.specs.Option.{IsSome, unwrap_or}
-use Rattle.nb_core.specs.Plans.{Plan, IsPlan, PlacesAreDistinct, Value, generations_of, size_of, value_place, word_count}
+use Rattle.nb_core.specs.Plans.{Plan, IsPlan, PlacesAreDistinct, Value, generations_of, value_place, word_count}
 use Rattle.nb_core.specs.States.{IsKeyState, IsValueState, value_state, value_word}
 use Rattle.nb_core.specs.Tables.{IsInstalled, IsSlot, IsUnprimed, Tables, tables_at, words_of}
-use Rattle.nb_core.specs.History.{HasValue, IsLegal, IsPrimedBelow, MayPrime, seat_of_event}
+use Rattle.nb_core.specs.History.{HasValue, IsLegal, IsPrimedBelow, MayPrime}
 use Rattle.nb_core.specs.Laws.{BeginningsAreLegal, HasOneSlot, IsPrimedOrFinished, IsValueWord, Lasts, LawfulWords, Moved, SeenLasts, TablesAreLinked, primed}
 use Rattle.nb_core.specs.declared.events.Event.{Event}
 use Rattle.nb_core.specs.declared.events.Event.TheVariants.{CopyIn, Prime, Finish}
 use Rattle.nb_core.specs.declared.states.KeyState.TheVariants.{Claimed}
 use Rattle.nb_core.specs.declared.states.ValueState.{ValueState}
 use Rattle.nb_core.specs.declared.states.ValueState.TheVariants.{Null, Tombstone, Live, PrimedNull, PrimedTombstone, Primed, Finished}
-use Rattle.nb_table.specs.Chains.{Extended, IsOwn, SeenBy, seen_by}
+use Rattle.nb_table.specs.Chains.{Extended, SeenBy, seen_by}
 use Rattle.nb_table.specs.Conditions.{HasSource, IsCopied}
 use Rattle.nb_table.specs.Events.{copies, finishes, only, primes}
 use Rattle.nb_table.specs.Steps.{Can, Stepped}
@@ -102,14 +102,16 @@ finished-says x n says =
 -- ---- steps
 
 -- a value whose word is even may be primed
-may-prime : (t : Tables) (g i x : ℕ) → t.next g ≡ 1 → (k : ℕ) × (t.key g i ≡ Claimed k) → t.value g i ≡ unwrap_or (value_state x) Null → IsValueWord x → x % 2 ≡ 0 → MayPrime t g i
+may-prime : (t : Tables) (g i x : ℕ) → t.next g ≡ 1 → (k : ℕ) × (t.key g i ≡ Claimed k)
+    → t.value g i ≡ unwrap_or (value_state x) Null → IsValueWord x → x % 2 ≡ 0 → MayPrime t g i
 may-prime t g i x growing claimed value word even =
     let at : t.value g i ≡ word.state = value ∙ ap (λ o. unwrap_or o Null) word.decodes in
     record {
       growing = growing;
       key = claimed.0;
       claimed = claimed.1;
-      unprimed = subst IsUnprimed (sym at) (even-unprimed word.state (sym (ap (λ x. x % 2) (word-of x word.state word.decodes).0) ∙ even));
+      unprimed = subst IsUnprimed (sym at) (even-unprimed word.state (sym (ap (λ x. x % 2) (word-of x word.state word.decodes).0)
+          ∙ even));
     }
 
 -- to set a lowest bit that is set changes nothing
@@ -118,8 +120,10 @@ or_one-odd x odd = omega (arith, or_one x, odd)
 
 -- A claimed slot's value may be primed, once there is a next table.
 pub can-prime :
-    (p : Plan) → SeenLasts → LawfulWords → (number : ℕ) (seen : List Event) (g i : ℕ) → IsSlot p g i → IsInstalled (tables_at p seen) (suc g)
-    → (k : ℕ) × ((tables_at p seen).key g i ≡ Claimed k) → Can p (primes number g i) number seen (value_place p g i) (λ found. bit_or found 1)
+    (p : Plan) → SeenLasts → LawfulWords → (number : ℕ) (seen : List Event) (g i : ℕ) → IsSlot p g i
+        → IsInstalled (tables_at p seen) (suc g)
+    → (k : ℕ) × ((tables_at p seen).key g i ≡ Claimed k) → Can p (primes number g i) number seen (value_place p g i)
+        (λ found. bit_or found 1)
 can-prime p lasts lawful number seen g i slot growing claimed plan seated others not_own legal =
     let h = others ++ seen in
     let place = value_place p g i in
@@ -137,7 +141,8 @@ word-seen : (x : ℕ) (v : ValueState) → unwrap_or (value_state x) Null ≡ v 
 word-seen x v value word = word-of x v (word.decodes ∙ ap Some (sym (ap (λ o. unwrap_or o Null) word.decodes) ∙ value))
 
 -- a number that is seen primed or finished has one of two words
-word-held : (x n : ℕ) → (unwrap_or (value_state x) Null ≡ Primed n) ⊎ (unwrap_or (value_state x) Null ≡ Finished n) → IsValueWord x → (x ≡ 4 * n + 9) ⊎ (x ≡ 4 * n + 11)
+word-held : (x n : ℕ) → (unwrap_or (value_state x) Null ≡ Primed n) ⊎ (unwrap_or (value_state x) Null ≡ Finished n) → IsValueWord x
+    → (x ≡ 4 * n + 9) ⊎ (x ≡ 4 * n + 11)
 word-held x n held word =
     elim held [
       | inl is_primed ↦ inl (word-seen x (Primed n) is_primed word).0
@@ -153,7 +158,8 @@ or_two-finished x n held other =
     ]
 
 -- a number that is seen primed or finished, in the word of a primed one, is primed
-held-primed : (x n : ℕ) → (unwrap_or (value_state x) Null ≡ Primed n) ⊎ (unwrap_or (value_state x) Null ≡ Finished n) → IsValueWord x → x ≡ 4 * n + 9 → unwrap_or (value_state x) Null ≡ Primed n
+held-primed : (x n : ℕ) → (unwrap_or (value_state x) Null ≡ Primed n) ⊎ (unwrap_or (value_state x) Null ≡ Finished n)
+    → IsValueWord x → x ≡ 4 * n + 9 → unwrap_or (value_state x) Null ≡ Primed n
 held-primed x n held word is =
     elim held [
       | inl is_primed ↦ is_primed
@@ -161,7 +167,8 @@ held-primed x n held word is =
     ]
 
 -- above a primed or finished number there is a next table
-held-below : (p : Plan) (t : Tables) (g i n : ℕ) → IsSlot p g i → IsPrimedOrFinished t g i n → IsUnprimed (t.value g i) ⊎ IsInstalled t (suc g) → IsInstalled t (suc g)
+held-below : (p : Plan) (t : Tables) (g i n : ℕ) → IsSlot p g i → IsPrimedOrFinished t g i n
+    → IsUnprimed (t.value g i) ⊎ IsInstalled t (suc g) → IsInstalled t (suc g)
 held-below p t g i n slot held linked =
     elim linked [
       | inl unprimed ↦ elim held [
@@ -256,20 +263,22 @@ pub is-some : (x : ℕ) (o : Option ValueState) → o ≡ value_state x → IsVa
 is-some x o is word = subst IsSome (sym (is ∙ word.decodes)) refl
 
 -- A step on a slot's value word that found this word.
-module _ (p : Plan) (plan : IsPlan p) (lawful : LawfulWords) (begins : BeginningsAreLegal) (events : ℕ → List Event) (before : SeenBy) (found : ℕ) (after : SeenBy) (g i : ℕ) (slot : IsSlot p g i) (shape : before.shape ≡ p) (step : Stepped p events (value_place p g i) before found after) where
-  -- the history that it found
-  met : List Event
-  met = step.grows.others ++ before.seen
-
+module _ (p : Plan) (plan : IsPlan p) (lawful : LawfulWords) (begins : BeginningsAreLegal) (events : ℕ → List Event)
+    (before : SeenBy) (found : ℕ) (after : SeenBy) (g i : ℕ) (slot : IsSlot p g i) (shape : before.shape ≡ p)
+    (step : Stepped p events (value_place p g i) before found after) where
+  -- the history that it found is legal
   met-legal : IsLegal p (step.grows.others ++ before.seen)
-  met-legal = begins p (events found) (step.grows.others ++ before.seen) (subst (IsLegal p) step.grows.seen (subst (λ q. IsLegal q after.seen) (step.grows.shape ∙ shape) step.grows.legal))
+  met-legal = begins p (events found) (step.grows.others ++ before.seen)
+      (subst (IsLegal p) step.grows.seen (subst (λ q. IsLegal q after.seen) (step.grows.shape ∙ shape) step.grows.legal))
 
   -- the word stands for a state
   pub found-is : IsValueWord found
   found-is = subst IsValueWord step.word ((lawful p plan (step.grows.others ++ before.seen) met-legal).values g i slot)
 
   -- what is seen of the value after events of its own that make this word
-  then-value : (own : List Event) → events found ≡ own → (new : ℕ) (v : ValueState) → slice_index (words_of p (own ++ (step.grows.others ++ before.seen))) (value_place p g i) ≡ new → value_state new ≡ Some v → Extended before after own 1 × ((seen_by after).value g i ≡ v)
+  then-value : (own : List Event) → events found ≡ own → (new : ℕ) (v : ValueState)
+      → slice_index (words_of p (own ++ (step.grows.others ++ before.seen))) (value_place p g i) ≡ new → value_state new ≡ Some v
+      → Extended before after own 1 × ((seen_by after).value g i ≡ v)
   then-value own own_is new v word says =
       (subst (λ own. Extended before after own 1) own_is step.grows,
       ap (λ q. (tables_at q after.seen).value g i) (step.grows.shape ∙ shape)
@@ -277,20 +286,24 @@ module _ (p : Plan) (plan : IsPlan p) (lawful : LawfulWords) (begins : Beginning
       ∙ ap (λ x. unwrap_or (value_state x) Null) word ∙ ap (λ o. unwrap_or o Null) says)
 
   -- the step made no event, and the value is as it was
-  pub value-kept : events found ≡ [] → (v : ValueState) → value_state found ≡ Some v → Extended before after [] 1 × ((seen_by after).value g i ≡ v)
+  value-kept : events found ≡ [] → (v : ValueState) → value_state found ≡ Some v
+      → Extended before after [] 1 × ((seen_by after).value g i ≡ v)
   value-kept none v says = then-value [] none found v step.word says
 
   -- the step's event made a word of the one found
-  pub value-made :
+  value-made :
       (places : PlacesAreDistinct) (e : Event) (f : ℕ → ℕ) (v : ValueState) → events found ≡ e ∷ []
-      → words_of p (e ∷ (step.grows.others ++ before.seen)) ≡ slice_set (words_of p (step.grows.others ++ before.seen)) (value_place p g i) (f (slice_index (words_of p (step.grows.others ++ before.seen)) (value_place p g i)))
+      → words_of p (e ∷ (step.grows.others ++ before.seen)) ≡ slice_set (words_of p (step.grows.others ++ before.seen))
+          (value_place p g i) (f (slice_index (words_of p (step.grows.others ++ before.seen)) (value_place p g i)))
       → value_state (f found) ≡ Some v → Extended before after (e ∷ []) 1 × ((seen_by after).value g i ≡ v)
   value-made places e f v own_is words says =
       let h = step.grows.others ++ before.seen in
       let place = value_place p g i in
-      let within : place < length (words_of p h) = subst (λ n. place < n) (sym (lawful p plan h met-legal).length) (value-within p places plan g i slot) in
+      let within : place < length (words_of p h) = subst (λ n. place < n) (sym (lawful p plan h met-legal).length)
+          (value-within p places plan g i slot) in
       then-value (e ∷ []) own_is (f found) v
-      (ap (λ w. slice_index w place) words ∙ get_or-set_same (words_of p h) place (f (slice_index (words_of p h) place)) 0 within ∙ ap f step.word) says
+      (ap (λ w. slice_index w place) words ∙ get_or-set_same (words_of p h) place (f (slice_index (words_of p h) place)) 0 within
+          ∙ ap f step.word) says
 
 -- which event a step made, by the test of the word that it found
 events-one : (test : Bool) (e : Event) → test ≡ true → only test e ≡ e ∷ []
@@ -300,11 +313,16 @@ events-none : (test : Bool) (e : Event) → test ≡ false → only test e ≡ [
 events-none test e fails = ap (λ b. only b e) fails
 
 -- What priming a value tells.
-module _ (p : Plan) (plan : IsPlan p) (lawful : LawfulWords) (begins : BeginningsAreLegal) (before : SeenBy) (found : ℕ) (after : SeenBy) (g i : ℕ) (slot : IsSlot p g i) (shape : before.shape ≡ p) (step : Stepped p (primes before.number g i) (value_place p g i) before found after) (v : ValueState) (says : value_state found ≡ Some v) where
-  pub prime-won : PlacesAreDistinct → IsUnprimed v → Extended before after (Prime before.number g i ∷ []) 1 × ((seen_by after).value g i ≡ primed v)
+module _ (p : Plan) (plan : IsPlan p) (lawful : LawfulWords) (begins : BeginningsAreLegal) (before : SeenBy) (found : ℕ)
+    (after : SeenBy) (g i : ℕ) (slot : IsSlot p g i) (shape : before.shape ≡ p) (step : Stepped p (primes before.number g i)
+    (value_place p g i) before found after) (v : ValueState) (says : value_state found ≡ Some v) where
+  pub prime-won : PlacesAreDistinct → IsUnprimed v → Extended before after (Prime before.number g i ∷ []) 1 ×
+      ((seen_by after).value g i ≡ primed v)
   prime-won places unprimed =
-      value-made p plan lawful begins (primes before.number g i) before found after g i slot shape step places (Prime before.number g i) (λ x. bit_or x 1) (primed v)
-      (events-one (eqb (found % 2) 0) (Prime before.number g i) (eq-eqb (found % 2) 0 (ap (λ x. x % 2) (word-of found v says).0 ∙ unprimed-even v unprimed)))
+      value-made p plan lawful begins (primes before.number g i) before found after g i slot shape step places
+          (Prime before.number g i) (λ x. bit_or x 1) (primed v)
+      (events-one (eqb (found % 2) 0) (Prime before.number g i) (eq-eqb (found % 2) 0 (ap (λ x. x % 2) (word-of found v says).0
+          ∙ unprimed-even v unprimed)))
       refl (primed-says found v says)
 
   pub prime-lost : (IsUnprimed v → ⊥) → Extended before after [] 1 × ((seen_by after).value g i ≡ v)
@@ -322,12 +340,17 @@ then-finished v n held other =
     ]
 
 -- What finishing a number tells.
-module _ (p : Plan) (plan : IsPlan p) (lawful : LawfulWords) (begins : BeginningsAreLegal) (before : SeenBy) (found : ℕ) (after : SeenBy) (g i n : ℕ) (slot : IsSlot p g i) (shape : before.shape ≡ p) (step : Stepped p (finishes before.number g i n) (value_place p g i) before found after) (v : ValueState) (says : value_state found ≡ Some v) where
-  pub finish-won : PlacesAreDistinct → v ≡ Primed n → Extended before after (Finish before.number g i ∷ []) 1 × ((seen_by after).value g i ≡ Finished n)
+module _ (p : Plan) (plan : IsPlan p) (lawful : LawfulWords) (begins : BeginningsAreLegal) (before : SeenBy) (found : ℕ)
+    (after : SeenBy) (g i n : ℕ) (slot : IsSlot p g i) (shape : before.shape ≡ p) (step : Stepped p (finishes before.number g i n)
+    (value_place p g i) before found after) (v : ValueState) (says : value_state found ≡ Some v) where
+  pub finish-won : PlacesAreDistinct → v ≡ Primed n → Extended before after (Finish before.number g i ∷ []) 1 ×
+      ((seen_by after).value g i ≡ Finished n)
   finish-won places is =
       let says_primed = says ∙ ap Some is in
-      value-made p plan lawful begins (finishes before.number g i n) before found after g i slot shape step places (Finish before.number g i) (λ x. bit_or x 2) (Finished n)
-      (events-one (eqb found (4 * n + 9)) (Finish before.number g i) (eq-eqb found (4 * n + 9) (word-of found (Primed n) says_primed).0))
+      value-made p plan lawful begins (finishes before.number g i n) before found after g i slot shape step places
+          (Finish before.number g i) (λ x. bit_or x 2) (Finished n)
+      (events-one (eqb found (4 * n + 9)) (Finish before.number g i) (eq-eqb found (4 * n + 9)
+          (word-of found (Primed n) says_primed).0))
       refl (finished-says found n says_primed)
 
   -- the number is still primed or finished
@@ -335,22 +358,30 @@ module _ (p : Plan) (plan : IsPlan p) (lawful : LawfulWords) (begins : Beginning
   still-held lasts held =
       let h = step.grows.others ++ before.seen in
       let legal = met-legal p plan lawful begins (finishes before.number g i n) before found after g i slot shape step in
-      let value : (tables_at p h).value g i ≡ v = ap (λ x. unwrap_or (value_state x) Null) step.word ∙ ap (λ o. unwrap_or o Null) says in
-      subst (λ x. (x ≡ Primed n) ⊎ (x ≡ Finished n)) value ((lasts p plan step.grows.others before.seen legal).primed_or_finished g i n slot held)
+      let value : (tables_at p h).value g i ≡ v = ap (λ x. unwrap_or (value_state x) Null) step.word
+          ∙ ap (λ o. unwrap_or o Null) says in
+      subst (λ x. (x ≡ Primed n) ⊎ (x ≡ Finished n)) value
+          ((lasts p plan step.grows.others before.seen legal).primed_or_finished g i n slot held)
 
-  pub finish-lost : SeenLasts → IsPrimedOrFinished (tables_at p before.seen) g i n → (v ≡ Primed n → ⊥) → Extended before after [] 1 × ((seen_by after).value g i ≡ v) × (v ≡ Finished n)
+  pub finish-lost : SeenLasts → IsPrimedOrFinished (tables_at p before.seen) g i n → (v ≡ Primed n → ⊥)
+      → Extended before after [] 1 × ((seen_by after).value g i ≡ v) × (v ≡ Finished n)
   finish-lost lasts held other =
       let is = then-finished v n (still-held lasts held) other in
       let word = (word-of found v says).0 ∙ ap value_word is in
       let kept = value-kept p plan lawful begins (finishes before.number g i n) before found after g i slot shape step
-          (events-none (eqb found (4 * n + 9)) (Finish before.number g i) (ne_eqb found (4 * n + 9) (λ same. omega (arith, same, word)))) v says in
+          (events-none (eqb found (4 * n + 9)) (Finish before.number g i) (ne_eqb found (4 * n + 9)
+              (λ same. omega (arith, same, word)))) v says in
       (kept.0, kept.1, is)
 
 -- What copying a number tells.
-module _ (p : Plan) (plan : IsPlan p) (lawful : LawfulWords) (begins : BeginningsAreLegal) (before : SeenBy) (found : ℕ) (after : SeenBy) (g i k n : ℕ) (slot : IsSlot p g i) (shape : before.shape ≡ p) (step : Stepped p (copies before.number g i k n) (value_place p g i) before found after) (v : ValueState) (says : value_state found ≡ Some v) where
-  pub copy-won : PlacesAreDistinct → (word : ℕ) → value_state word ≡ Some (Live n) → v ≡ Null → Extended before after (CopyIn before.number g i k n ∷ []) 1 × ((seen_by after).value g i ≡ Live n)
+module _ (p : Plan) (plan : IsPlan p) (lawful : LawfulWords) (begins : BeginningsAreLegal) (before : SeenBy) (found : ℕ)
+    (after : SeenBy) (g i k n : ℕ) (slot : IsSlot p g i) (shape : before.shape ≡ p) (step : Stepped p (copies before.number g i k n)
+    (value_place p g i) before found after) (v : ValueState) (says : value_state found ≡ Some v) where
+  pub copy-won : PlacesAreDistinct → (word : ℕ) → value_state word ≡ Some (Live n) → v ≡ Null
+      → Extended before after (CopyIn before.number g i k n ∷ []) 1 × ((seen_by after).value g i ≡ Live n)
   copy-won places word back is =
-      value-made p plan lawful begins (copies before.number g i k n) before found after g i slot shape step places (CopyIn before.number g i k n) (λ x. value_word (Live n)) (Live n)
+      value-made p plan lawful begins (copies before.number g i k n) before found after g i slot shape step places
+          (CopyIn before.number g i k n) (λ x. value_word (Live n)) (Live n)
       (events-one (eqb found 0) (CopyIn before.number g i k n) (eq-eqb found 0 ((word-of found v says).0 ∙ ap value_word is)))
       refl (ap value_state (sym (word-of word (Live n) back).0) ∙ back)
 

@@ -23,8 +23,10 @@ exchanges_at-requires-clause-can c =
     let p = c.args.self.now.shape in
     let seat = c.args.seat.now in
     let place = c.value_place-place.ensures ∙ ap (λ v. value_place v.shape c.args.g c.args.i) c.self.view_is in
-    subst (λ x. Can p (copies seat.number c.args.g c.args.i c.args.key c.args.number) seat.number seat.seen x (λ found. cond (eqb found 0) c.encode_value-word.result found)) (sym place)
-    (can-copy p c.seen_lasts.ensures c.lawful_words.ensures c.moved.ensures c.one_slot.ensures seat.number seat.seen c.args.g c.args.i c.args.key c.args.number
+    subst (λ x. Can p (copies seat.number c.args.g c.args.i c.args.key c.args.number) seat.number seat.seen x (λ found. cond
+        (eqb found 0) c.encode_value-word.result found)) (sym place)
+    (can-copy p c.seen_lasts.ensures c.lawful_words.ensures c.moved.ensures c.one_slot.ensures seat.number seat.seen c.args.g
+        c.args.i c.args.key c.args.number
     c.encode_value-word.result c.requires.slot c.encode_value-word.ensures.back
     (subst (λ q. (tables_at q seat.seen).key c.args.g c.args.i ≡ Claimed c.args.key) c.requires.own.1 c.requires.claimed)
     (subst (λ q. HasSource p (tables_at q seat.seen) c.args.g c.args.key c.args.number) c.requires.own.1 c.requires.source))
@@ -35,9 +37,11 @@ unwrap-requires c =
     let plan = subst IsPlan (ap (λ v. v.shape) c.self.view_is) c.self.invariant.plan in
     let events = copies c.args.seat.now.number c.args.g c.args.i c.args.key c.args.number in
     let place = c.value_place-place.ensures ∙ ap (λ v. value_place v.shape c.args.g c.args.i) c.self.view_is in
-    let step = subst (λ x. Stepped p events x c.args.seat.now c.exchanges_at.result c.exchanges_at.new.seat) place c.exchanges_at.ensures in
+    let step = subst (λ x. Stepped p events x c.args.seat.now c.exchanges_at.result c.exchanges_at.new.seat) place
+        c.exchanges_at.ensures in
     is-some c.exchanges_at.result c.decode_value.result c.decode_value.ensures.state
-    (found-is p plan c.lawful_words.ensures c.beginnings_are_legal.ensures events c.args.seat.now c.exchanges_at.result c.exchanges_at.new.seat c.args.g c.args.i c.requires.slot c.requires.own.1 step)
+    (found-is p plan c.lawful_words.ensures c.beginnings_are_legal.ensures events c.args.seat.now c.exchanges_at.result
+        c.exchanges_at.new.seat c.args.g c.args.i c.requires.slot c.requires.own.1 step)
 
 pub returns-clause-won : goal.returns-clause-won
 returns-clause-won c =
@@ -45,9 +49,12 @@ returns-clause-won c =
     let plan = subst IsPlan (ap (λ v. v.shape) c.self.view_is) c.self.invariant.plan in
     let events = copies c.args.seat.now.number c.args.g c.args.i c.args.key c.args.number in
     let place = c.value_place-place.ensures ∙ ap (λ v. value_place v.shape c.args.g c.args.i) c.self.view_is in
-    let step = subst (λ x. Stepped p events x c.args.seat.now c.exchanges_at.result c.exchanges_at.new.seat) place c.exchanges_at.ensures in
-    copy-won p plan c.lawful_words.ensures c.beginnings_are_legal.ensures c.args.seat.now c.exchanges_at.result c.exchanges_at.new.seat c.args.g c.args.i c.args.key c.args.number c.requires.slot c.requires.own.1 step
-    c.unwrap.result (sym c.decode_value.ensures.state ∙ c.unwrap.ensures) c.places_are_distinct.ensures c.encode_value-word.result c.encode_value-word.ensures.back
+    let step = subst (λ x. Stepped p events x c.args.seat.now c.exchanges_at.result c.exchanges_at.new.seat) place
+        c.exchanges_at.ensures in
+    copy-won p plan c.lawful_words.ensures c.beginnings_are_legal.ensures c.args.seat.now c.exchanges_at.result
+        c.exchanges_at.new.seat c.args.g c.args.i c.args.key c.args.number c.requires.slot c.requires.own.1 step
+    c.unwrap.result (sym c.decode_value.ensures.state ∙ c.unwrap.ensures) c.places_are_distinct.ensures c.encode_value-word.result
+        c.encode_value-word.ensures.back
 
 pub returns-clause-lost : goal.returns-clause-lost
 returns-clause-lost c =
@@ -55,6 +62,8 @@ returns-clause-lost c =
     let plan = subst IsPlan (ap (λ v. v.shape) c.self.view_is) c.self.invariant.plan in
     let events = copies c.args.seat.now.number c.args.g c.args.i c.args.key c.args.number in
     let place = c.value_place-place.ensures ∙ ap (λ v. value_place v.shape c.args.g c.args.i) c.self.view_is in
-    let step = subst (λ x. Stepped p events x c.args.seat.now c.exchanges_at.result c.exchanges_at.new.seat) place c.exchanges_at.ensures in
-    copy-lost p plan c.lawful_words.ensures c.beginnings_are_legal.ensures c.args.seat.now c.exchanges_at.result c.exchanges_at.new.seat c.args.g c.args.i c.args.key c.args.number c.requires.slot c.requires.own.1 step
+    let step = subst (λ x. Stepped p events x c.args.seat.now c.exchanges_at.result c.exchanges_at.new.seat) place
+        c.exchanges_at.ensures in
+    copy-lost p plan c.lawful_words.ensures c.beginnings_are_legal.ensures c.args.seat.now c.exchanges_at.result
+        c.exchanges_at.new.seat c.args.g c.args.i c.args.key c.args.number c.requires.slot c.requires.own.1 step
     c.unwrap.result (sym c.decode_value.ensures.state ∙ c.unwrap.ensures)
