@@ -7,4 +7,5 @@ mod Keys
 mod Meeting
 mod Opening
 mod Parted
+mod Values
 mod Views

@@ -11,7 +11,7 @@ ghost use Rattle.nb_table.specs.Views.{HasHeard, IsBeginning};
 use crate::closed::Closed;
 use crate::view::{Chained, Deal, Heard, Learn, Move, Note, Told, View};
 use atomic_table::{Seat, Table};
-use nb_core::{Call, Key, NotAll, OutOfMemory, Shape};
+use nb_core::{Call, Key, NotAll, Num, OutOfMemory, Shape};
 use std::alloc::Global;
 use std::marker::{Brand, Model};
 
@@ -53,12 +53,13 @@ impl Model for ChainSeat {
     ghost invariant = { IsSeat };
 }
 
-/// Where a step is made: a table, a slot of it, and a key. It tells a proof alone.
+/// What a step is about: a slot, and the key and the number that it puts there. Only the step's proof asks for it.
 #[derive(Clone, Copy)]
 pub(crate) struct Spot {
     pub(crate) g: u32,
     pub(crate) i: usize,
     pub(crate) key: Option<Key>,
+    pub(crate) number: Option<Num>,
 }
 
 impl Chain {
@@ -129,7 +130,7 @@ impl Chain {
         seat: &mut ChainSeat,
         place: usize,
         bits: u64,
-        _call: Option<Call>,
+        _spot: Spot,
     ) -> u64
         requires own { seat.old.chain ≡ self.now.id }
         requires shapes { (seat.old.shape ≡ self.now.shape) × (B.shape ≡ self.now.shape) }

@@ -82,6 +82,7 @@ impl Chain {
             g,
             i: 0,
             key: Some(key),
+            number: None,
         };
         self.exchanges::<Brand>(seat, place, 0, 1, spot, None) == 0
     }
@@ -99,7 +100,12 @@ impl Chain {
         laws::places_are_distinct();
         self.shape.known();
         let place = self.shape.key_place(g, i);
-        let spot = Spot { g, i, key: None };
+        let spot = Spot {
+            g,
+            i,
+            key: None,
+            number: None,
+        };
         decode_key(self.exchanges::<Brand>(seat, place, 0, 1, spot, None))
     }
 
@@ -123,6 +129,7 @@ impl Chain {
             g,
             i,
             key: Some(key),
+            number: None,
         };
         decode_key(self.exchanges::<Brand>(seat, place, 0, word, spot, None))
     }

@@ -3,6 +3,7 @@
 
 mod chain;
 mod closed;
+mod copying;
 mod growth;
 mod view;
 
