@@ -1,0 +1,134 @@
+-- What the steps may do that hand out chunks and count, and what they tell.
+use Rattle.std.proofs.Common.{◌≡◌, ◌∙◌, ℕ, zero, suc, ◌+◌, ◌%◌, ◌^◌, ◌<◌, ◌≤◌, List, ◌∷◌, ◌++◌, slice_index, slice_set, ap, sym, subst, refl, inl, inr, arith}
+use Rattle.std.proofs.Math.Nat.{eq-or-lt_of_le, le_trans, mod-eq_of_lt}
+use Rattle.std.proofs.lemmas.Bool.{eq-eqb}
+use Rattle.std.proofs.lemmas.List.{get_or-set_same}
+use Rattle.std.proofs.lemmas.List.Elements.{All-get_or}
+use Rattle.std.proofs.Math.Pow.{pow_mono}
+use Rattle.nb_core.specs.Plans.{IsPlan, Plan, PlacesAreDistinct, Header, generations_of, header_place, size_of, word_count}
+use Rattle.nb_core.specs.Tables.{IsInstalled, chunk_of, tables_at, words_of}
+use Rattle.nb_core.specs.History.{IsLegal, counted_by, turned_by}
+use Rattle.nb_core.specs.Laws.{CountedOnce, LawfulWords, OwnLasts, SeenLasts, over_seats}
+use Rattle.nb_core.specs.declared.events.Event.{Event}
+use Rattle.nb_core.specs.declared.events.Event.TheVariants.{Take, Count}
+use Rattle.nb_table.proofs.Following.{later, one-follows}
+use Rattle.nb_table.specs.Chains.{SeenBy, seen_by}
+use Rattle.nb_table.specs.Events.{counts, takes}
+use Rattle.nb_table.specs.Steps.{Can, Stepped}
+
+-- ---- what may be done
+
+-- the place of a header word is one of the chain's
+pub header-within : (p : Plan) → PlacesAreDistinct → IsPlan p → (g n place : ℕ) → g < generations_of p → n < 3
+    → place ≡ header_place p g n → place < word_count p
+header-within p distinct plan g n place table header at =
+    subst (λ i. i < word_count p) (sym at) ((distinct p plan).below (Header g n) (table, header))
+
+-- a chunk may be taken of a table that has a next one
+pub can-take : (p : Plan) (lasts : SeenLasts) (number g : ℕ) (seen : List Event) → g < generations_of p
+    → IsInstalled (tables_at p seen) (suc g) → (place chunk : ℕ) → place ≡ header_place p g 1 → chunk ≡ chunk_of p g
+    → Can p (takes number g) number seen place (λ found. (found + chunk) % 2 ^ 64)
+can-take p lasts number g seen table growing place chunk at is =
+    subst (λ i. Can p (takes number g) number seen i (λ found. (found + chunk) % 2 ^ 64)) (sym at)
+    (subst (λ n. Can p (takes number g) number seen (header_place p g 1) (λ found. (found + n) % 2 ^ 64)) (sym is)
+    (λ plan seat others not_own legal.
+    one-follows p (Take number g) number (header_place p g 1) _ (others ++ seen)
+    (legal, (seat, table), (later p lasts number seen plan others legal).installed (suc g) growing, tt) refl refl))
+
+-- slots may be counted that the seat's own events turned, and that it hasn't counted
+pub can-count : (p : Plan) (own : OwnLasts) (number g c : ℕ) (seen : List Event) → g < generations_of p → 1 ≤ c
+    → counted_by seen number g + c ≤ turned_by p seen number g → (place : ℕ) → place ≡ header_place p g 2
+    → Can p (counts number g c) number seen place (λ found. (found + c) % 2 ^ 64)
+can-count p own number g c seen table some turned place at =
+    subst (λ i. Can p (counts number g c) number seen i (λ found. (found + c) % 2 ^ 64)) (sym at)
+    (λ plan seat others not_own legal.
+    let still = own p others seen number not_own in
+    let turned' : counted_by (others ++ seen) number g + c ≤ turned_by p (others ++ seen) number g
+    = subst (λ n. counted_by (others ++ seen) number g + c ≤ n) (sym (still.turned g))
+    (subst (λ n. n + c ≤ turned_by p seen number g) (sym (still.counted g)) turned) in
+    one-follows p (Count number g c) number (header_place p g 2) _ (others ++ seen)
+    (legal, (seat, table), record { some = some; own = turned' }, tt) refl refl)
+
+-- ---- the done word doesn't wrap
+
+-- what one seat has is within what all have
+one-of-all : (f : ℕ → ℕ) (n i : ℕ) → i < n → f i ≤ over_seats f n
+one-of-all f zero i below = absurd (omega arith)
+one-of-all f (suc n) i below = elim (eq-or-lt_of_le {n = i} {m = n} (omega arith)) as (λ either. f i ≤ f n + over_seats f n) [
+  | inl same ↦ subst (λ m. f i ≤ f m + over_seats f n) same (omega arith)
+  | inr less ↦ omega (arith, one-of-all f n i less)
+]
+
+-- a seat has counted what it just counts
+own-counted : (number g c : ℕ) (h : List Event) → c ≤ counted_by (Count number g c ∷ h) number g
+own-counted number g c h = rw (eq-eqb number number refl) (rw (eq-eqb g g refl) (omega arith))
+
+-- the most slots that a table has
+size-fits : (p : Plan) → IsPlan p → (g : ℕ) → g < generations_of p → size_of p g ≤ 2 ^ 19
+size-fits p plan g table = pow_mono (All-get_or (λ e. (2 ≤ e) × (e ≤ 19)) p.exponents g 0 table plan.sizes).1
+
+-- two counts of slots of a table add up to one
+one-sum : (found c size : ℕ) → found ≤ size → c ≤ size → size ≤ 2 ^ 19 → (found + c) % 2 ^ 64 ≡ found + c
+one-sum found c size a b most = mod-eq_of_lt (omega arith)
+
+-- ---- what a step told
+
+module _ (p : Plan) (events : ℕ → List Event) (place found : ℕ) (before after : SeenBy)
+    (shape : before.shape ≡ p) (step : Stepped p events place before found after) where
+  -- the history that the step found
+  abbrev met : List Event
+  met = step.grows.others ++ before.seen
+
+  -- the chain's shape is still the seat's
+  plan_is : after.shape ≡ p
+  plan_is = step.grows.shape ∙ shape
+
+  -- it is legal with the step's events
+  legal_now : IsLegal p (events found ++ met)
+  legal_now = subst (λ q. IsLegal q (events found ++ met)) plan_is (subst (λ h. IsLegal after.shape h) step.grows.seen step.grows.legal)
+
+  -- and is all that the seat has seen
+  seen_now : seen_by after ≡ tables_at p (events found ++ met)
+  seen_now = ap (λ q. tables_at q after.seen) plan_is ∙ ap (tables_at p) step.grows.seen
+
+module _ (p : Plan) (lawful : LawfulWords) (distinct : PlacesAreDistinct) (plan : IsPlan p) where
+  -- a header word that was just written
+  written : (h : List Event) → IsLegal p h → (g n new : ℕ) → g < generations_of p → n < 3
+      → slice_index (slice_set (words_of p h) (header_place p g n) new) (header_place p g n) ≡ new
+  written h legal g n new table header =
+      get_or-set_same (words_of p h) (header_place p g n) new 0
+      (subst (λ m. header_place p g n < m) (sym (lawful p plan h legal).length)
+      (header-within p distinct plan g n _ table header refl))
+
+  module _ (g place found : ℕ) (before after : SeenBy) (table : g < generations_of p) (shape : before.shape ≡ p) where
+    -- the take word after a take
+    pub taken : place ≡ header_place p g 1 → Stepped p (takes before.number g) place before found after
+        → (seen_by after).taken g ≡ (found + chunk_of p g) % 2 ^ 64
+    taken at step =
+        let h = met p (takes before.number g) place found before after shape step in
+        let legal = legal_now p (takes before.number g) place found before after shape step in
+        let now = ap (λ t. t.taken g) (seen_now p (takes before.number g) place found before after shape step) in
+        let is_found : slice_index (words_of p h) (header_place p g 1) ≡ found = ap (slice_index (words_of p h)) (sym at) ∙ step.word in
+        now
+        ∙ written h legal.0 g 1 ((slice_index (words_of p h) (header_place p g 1) + chunk_of p g) % 2 ^ 64) table (omega arith)
+        ∙ ap (λ n. (n + chunk_of p g) % 2 ^ 64) is_found
+
+    -- the done word after a count
+    pub counted : (once : CountedOnce) (c : ℕ) → place ≡ header_place p g 2
+        → Stepped p (counts before.number g c) place before found after
+        → (seen_by after).counted g ≡ found + c
+    counted once c at step =
+        let h = met p (counts before.number g c) place found before after shape step in
+        let legal = legal_now p (counts before.number g c) place found before after shape step in
+        let now = ap (λ t. t.counted g) (seen_now p (counts before.number g c) place found before after shape step) in
+        let is_found : slice_index (words_of p h) (header_place p g 2) ≡ found = ap (slice_index (words_of p h)) (sym at) ∙ step.word in
+        let new = once p plan (Count before.number g c ∷ h) legal g table in
+        let share : c ≤ (tables_at p (Count before.number g c ∷ h)).counted g
+        = subst (λ n. c ≤ n) (sym new.done)
+        (le_trans (own-counted before.number g c h)
+        (one-of-all (λ s. counted_by (Count before.number g c ∷ h) s g) p.seats before.number legal.1.0)) in
+        now
+        ∙ written h legal.0 g 2 ((slice_index (words_of p h) (header_place p g 2) + c) % 2 ^ 64) table (omega arith)
+        ∙ ap (λ n. (n + c) % 2 ^ 64) is_found
+        ∙ one-sum found c (size_of p g) (subst (λ n. n ≤ size_of p g) is_found (once p plan h legal.0 g table).fits)
+        (le_trans share new.fits) (size-fits p plan g table)

@@ -1,0 +1,11 @@
+mod Counts
+mod Dealt
+mod Following
+mod Gathered
+mod Keeping
+mod Keys
+mod Meeting
+mod Opening
+mod Parted
+mod Values
+mod Views

@@ -1,0 +1,79 @@
+-- The parts of all tokens, where one token's have changed.
+use Rattle.std.proofs.Common.{◌≡◌, ℕ, zero, suc, ◌+◌, ap, sym, subst, List, [], ◌∷◌, ◌++◌, slice_set, All, arith}
+use mathlib.Core.Option.{some, some-injective, some-ne-none}
+use lib.ListN.{get_elem?}
+use Rattle.std.proofs.lemmas.List.Elements.{All-append, All-cons, All-head, All-nil, All-tail}
+use Rattle.nb_table.specs.Views.{all_parts, times_among}
+use Rattle.nb_table.specs.declared.view.Part.{Part}
+use Rattle.nb_table.specs.declared.view.View.{View}
+
+-- ---- what holds of each element
+
+module _ {X : Type 0} (P : X → Type 0) where
+  -- what holds of each element of two lists holds of each of the first
+  pub All-left : (xs ys : List X) → All P (xs ++ ys) → All P xs
+  All-left [] ys every = All-nil P
+  All-left (x ∷ xs) ys every = All-cons P x xs (All-head P x (xs ++ ys) every) (All-left xs ys (All-tail P x (xs ++ ys) every))
+
+  -- and of the second
+  pub All-right : (xs ys : List X) → All P (xs ++ ys) → All P ys
+  All-right [] ys every = every
+  All-right (x ∷ xs) ys every = All-right xs ys (All-tail P x (xs ++ ys) every)
+
+  -- and of the element at a place
+  pub All-at : (xs : List X) (i : ℕ) (x : X) → get_elem? xs i ≡ some x → All P xs → P x
+  All-at [] i x at every = absurd (some-ne-none x (sym at))
+  All-at (y ∷ xs) zero x at every = subst P (some-injective y x at) (All-head P y xs every)
+  All-at (y ∷ xs) (suc i) x at every = All-at xs i x at (All-tail P y xs every)
+
+-- ---- what holds of each part
+
+module _ (P : Part → Type 0) where
+  -- what holds of all tokens' parts holds of one token's
+  pub parts-at : (views : List View) (id : ℕ) (v : View) → get_elem? views id ≡ some v → All P (all_parts views) → All P v.parts
+  parts-at [] id v at every = absurd (some-ne-none v (sym at))
+  parts-at (x ∷ views) zero v at every = subst (λ u. All P u.parts) (some-injective x v at) (All-left P x.parts (all_parts views) every)
+  parts-at (x ∷ views) (suc id) v at every = parts-at views id v at (All-right P x.parts (all_parts views) every)
+
+  -- it holds of all where it holds of the parts that one token has now
+  pub parts-set : (views : List View) (id : ℕ) (w : View) → All P (all_parts views) → All P w.parts → All P (all_parts (slice_set views id w))
+  parts-set [] id w every here = every
+  parts-set (x ∷ views) zero w every here = All-append P w.parts (all_parts views) here (All-right P x.parts (all_parts views) every)
+  parts-set (x ∷ views) (suc id) w every here =
+      All-append P x.parts (all_parts (slice_set views id w)) (All-left P x.parts (all_parts views) every)
+      (parts-set views id w (All-right P x.parts (all_parts views) every) here)
+
+  -- and where it holds of those of a new token
+  pub parts-more : (views : List View) (w : View) → All P (all_parts views) → All P w.parts → All P (all_parts (views ++ w ∷ []))
+  parts-more [] w every here = All-append P w.parts [] here (All-nil P)
+  parts-more (x ∷ views) w every here =
+      All-append P x.parts (all_parts (views ++ w ∷ [])) (All-left P x.parts (all_parts views) every)
+      (parts-more views w (All-right P x.parts (all_parts views) every) here)
+
+-- ---- sums over parts
+
+-- the sum over two lists is that over the first and that over the second
+abbrev pub IsSum : (List Part → ℕ) → Type 0
+IsSum f = (xs ys : List Part) → f (xs ++ ys) ≡ f xs + f ys
+
+pub times-append : (n : ℕ) → IsSum (times_among n)
+times-append n [] ys = omega arith
+times-append n (x ∷ xs) ys = omega (arith, times-append n xs ys)
+
+module _ (f : List Part → ℕ) (sum : IsSum f) where
+  pub sum-nil : f [] ≡ 0
+  sum-nil = omega (arith, sum [] [])
+
+  -- what one token's parts make of the sum over all tokens
+  pub sum-set : (views : List View) (id : ℕ) (v w : View) → get_elem? views id ≡ some v → f (all_parts (slice_set views id w)) + f v.parts ≡ f (all_parts views) + f w.parts
+  sum-set [] id v w at = absurd (some-ne-none v (sym at))
+  sum-set (x ∷ views) zero v w at =
+      let same : f x.parts ≡ f v.parts = ap (λ u. f u.parts) (some-injective x v at) in
+      omega (arith, sum w.parts (all_parts views), sum x.parts (all_parts views))
+  sum-set (x ∷ views) (suc id) v w at =
+      omega (arith, sum x.parts (all_parts (slice_set views id w)), sum x.parts (all_parts views), sum-set views id v w at)
+
+  -- one token more
+  pub sum-more : (views : List View) (w : View) → f (all_parts (views ++ w ∷ [])) ≡ f (all_parts views) + f w.parts
+  sum-more [] w = omega (arith, sum w.parts [], sum-nil)
+  sum-more (x ∷ views) w = omega (arith, sum x.parts (all_parts (views ++ w ∷ [])), sum x.parts (all_parts views), sum-more views w)

@@ -1,0 +1,20 @@
+use Rattle.std.proofs.Common.{◌∙◌, min, suc, ap, subst}
+use Rattle.nb_core.specs.Plans.{IsPlan, header_place}
+use Rattle.nb_core.specs.Tables.{IsInstalled, chunk_of, tables_at}
+use Rattle.nb_table.proofs.Counts.{can-take, taken}
+use Rattle.nb_table.proofs.chain.Chain.take_work.Goals as goal
+
+pub adds-requires-clause-can : goal.adds-requires-clause-can
+adds-requires-clause-can c =
+    let shape = ap (λ v. v.shape) c.self.view_is in
+    can-take c.args.self.now.shape c.seen_lasts.ensures c.args.seat.now.number c.args.g c.args.seat.now.seen c.requires.table
+    (subst (λ p. IsInstalled (tables_at p c.args.seat.now.seen) (suc c.args.g)) c.requires.own.1 c.requires.growing)
+    c.header_place-place.result c.min-chunk.result (c.header_place-place.ensures ∙ ap (λ p. header_place p c.args.g 1) shape)
+    (c.min-chunk.ensures ∙ ap (λ n. min n 8) c.size_of.ensures ∙ ap (λ p. chunk_of p c.args.g) shape)
+
+pub returns-clause-found : goal.returns-clause-found
+returns-clause-found c =
+    let shape = ap (λ v. v.shape) c.self.view_is in
+    taken c.args.self.now.shape c.lawful_words.ensures c.places_are_distinct.ensures (subst IsPlan shape c.self.invariant.plan)
+    c.args.g _ _ c.args.seat.now c.adds.new.seat c.requires.table c.requires.own.1
+    (c.header_place-place.ensures ∙ ap (λ p. header_place p c.args.g 1) shape) c.adds.ensures

@@ -1,0 +1,45 @@
+-- How contracts see a chain and its seats.
+use Rattle.std.specs.Prelude.{◌≡◌, ◌≢◌, ℕ, zero, suc, ◌+◌, List, [], ◌∷◌, ◌++◌, All}
+use Rattle.atomic_table.specs.Seated.{TableId}
+use Rattle.nb_core.specs.Plans.{Plan}
+use Rattle.nb_core.specs.Tables.{Tables, tables_at}
+use Rattle.nb_core.specs.History.{IsLegal, seat_of_event}
+use Rattle.nb_core.specs.declared.events.Event.{Event}
+
+-- a chain: which one it is, and its shape
+pub record ChainOf : Type 0 where
+  pub id : TableId
+  pub shape : Plan
+
+-- a chain's seat: which chain's, the chain's shape, its number, what it has seen, the newest event first, and how many
+-- steps it has made
+pub record SeenBy : Type 0 where
+  pub chain : TableId
+  pub shape : Plan
+  pub number : ℕ
+  pub seen : List Event
+  pub steps : ℕ
+
+-- the seat is the chain's
+abbrev pub IsOwn : ChainOf → SeenBy → Type 0
+IsOwn chain seat = (seat.chain ≡ chain.id) × (seat.shape ≡ chain.shape)
+
+-- what the words said when the seat saw them last
+abbrev pub seen_by : SeenBy → Tables
+seen_by seat = tables_at seat.shape seat.seen
+
+-- so many seats of a chain from a number on, which have seen nothing
+abbrev pub seats_of : TableId → Plan → ℕ → ℕ → List SeenBy
+seats_of id shape number zero = []
+seats_of id shape number (suc count) = record { chain = id; shape = shape; number = number; seen = []; steps = 0 } ∷ seats_of id shape (suc number) count
+
+-- The seat has seen more, all of it a legal history, in which just these events are new and its own; and it made so many steps.
+pub record Extended (before after : SeenBy) (own : List Event) (count : ℕ) : Type 0 where
+  pub chain : after.chain ≡ before.chain
+  pub shape : after.shape ≡ before.shape
+  pub number : after.number ≡ before.number
+  pub others : List Event
+  pub seen : after.seen ≡ own ++ (others ++ before.seen)
+  pub not_own : All (λ e. seat_of_event e ≢ before.number) others
+  pub legal : IsLegal after.shape after.seen
+  pub steps : after.steps ≡ before.steps + count

@@ -1,0 +1,28 @@
+-- What a seat must have seen before some steps.
+use Rattle.std.specs.Prelude.{◌≡◌, ℕ, zero, suc, ◌<◌, ◌⊎◌}
+use Rattle.nb_core.specs.Plans.{Plan, limit_of, size_of}
+use Rattle.nb_core.specs.Tables.{AreOthers, HasSlotBelow, IsReady, Tables, path_slot}
+use Rattle.nb_core.specs.History.{HasValue}
+use Rattle.nb_core.specs.Laws.{IsPrimedOrFinished}
+use Rattle.nb_core.specs.declared.states.KeyState.TheVariants.{Claimed}
+
+-- The slot is on the key's path, behind slots of other keys; and the key has a slot in the table below, or that one, if
+-- there is one, is complete and the slot is within the limit.
+pub record HasWay (p : Plan) (t : Tables) (g i k : ℕ) : Type 0 where
+  pub distance : ℕ
+  pub in_table : distance < size_of p g
+  pub at : path_slot p g k distance ≡ i
+  pub passed : AreOthers p t g k distance
+  pub reason : HasSlotBelow p t g k ⊎ (IsReady p t g × (distance < limit_of p g))
+
+-- the key's slot in the table below holds this number, primed or finished
+abbrev pub HasSource : Plan → Tables → ℕ → ℕ → ℕ → Type 0
+HasSource p t zero k n = ⊥
+HasSource p t (suc g) k n = (i : ℕ) × (i < size_of p g) × (t.key g i ≡ Claimed k) × IsPrimedOrFinished t g i n
+
+-- the slot holds this number, primed or finished, and its key has a value in the next table
+pub record IsCopied (p : Plan) (t : Tables) (g i n : ℕ) : Type 0 where
+  pub key : ℕ
+  pub claimed : t.key g i ≡ Claimed key
+  pub held : IsPrimedOrFinished t g i n
+  pub copied : HasValue p t (suc g) key

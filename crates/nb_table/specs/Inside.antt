@@ -1,0 +1,32 @@
+-- What is in a chain and its seats, and how it is seen.
+use Rattle.std.specs.Prelude.{◌≡◌, List, [], ◌∷◌}
+use Rattle.nb_core.specs.Plans.{IsPlan, word_count}
+use Rattle.nb_core.specs.History.{IsLegal}
+use Rattle.nb_table.specs.Chains.{ChainOf, SeenBy}
+use Rattle.nb_table.specs.declared.chain.Chain.TheInside as chain
+use Rattle.nb_table.specs.declared.chain.ChainSeat.TheInside as seat
+use Rattle.nb_table.specs.declared.view.Part.{Part}
+
+abbrev pub chain_of : chain.Inside → ChainOf
+chain_of c = record { id = c.table.shared.table_id; shape = c.shape }
+
+-- the table is the chain's, with all of its words
+pub record IsChain (c : chain.Inside) : Type 0 where
+  pub key : c.table.shared.key ≡ c.shape
+  pub words : c.table.shared.table_id.words ≡ word_count c.shape
+  pub slots : c.table.shared.table_id.slots ≡ 0
+  pub plan : IsPlan c.shape
+
+-- the one part of a seat
+abbrev pub part_of : List Part → Part
+part_of [] = record { number = 0; seen = []; steps = 0 }
+part_of (part ∷ parts) = part
+
+abbrev pub seat_of : seat.Inside → SeenBy
+seat_of c = let part = part_of c.seat.me.0.parts in record { chain = c.seat.table_id; shape = c.shape; number = part.number; seen = part.seen; steps = part.steps }
+
+-- the token knows one seat, which has seen a legal history
+pub record IsSeat (c : seat.Inside) : Type 0 where
+  pub one : c.seat.me.0.parts ≡ part_of c.seat.me.0.parts ∷ []
+  pub free : c.seat.me.1 ≡ []
+  pub legal : IsLegal c.shape (part_of c.seat.me.0.parts).seen

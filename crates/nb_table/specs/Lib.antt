@@ -1,0 +1,9 @@
+pub mod Brands
+pub mod Chains
+pub mod Closing
+pub mod Conditions
+pub mod Events
+pub mod Gathered
+pub mod Inside
+pub mod Steps
+pub mod Views

@@ -1,0 +1,96 @@
+-- What the words of a chain stand for.
+use Rattle.std.specs.Prelude.{◌≡◌, ◌≢◌, ℕ, zero, suc, ◌+◌, ◌<◌, ◌==◌, if◌then◌else◌, List, [], ◌∷◌, ◌++◌, length, map, take, drop, All, slice_index}
+use Rattle.atomic_table.specs.Table.{State, Me, Step}
+use Rattle.nb_core.specs.Plans.{Plan}
+use Rattle.nb_core.specs.Tables.{words_of}
+use Rattle.nb_core.specs.History.{IsLegal, seat_of_event}
+use Rattle.nb_core.specs.declared.events.Event.{Event}
+use Rattle.nb_table.specs.declared.view.Part.{Part}
+use Rattle.nb_table.specs.declared.view.View.{View}
+
+-- the list is a beginning of the history
+pub record IsBeginning (seen history : List Event) : Type 0 where
+  pub later : List Event
+  pub is : history ≡ later ++ seen
+
+-- the seat has seen a beginning of the history, and made no event since
+pub record Fits (history : List Event) (part : Part) : Type 0 where
+  pub later : List Event
+  pub is : history ≡ later ++ part.seen
+  pub others : All (λ e. seat_of_event e ≢ part.number) later
+
+-- the parts of all tokens
+abbrev pub all_parts : List View → List Part
+all_parts [] = []
+all_parts (v ∷ views) = v.parts ++ all_parts views
+
+-- how often a seat's number is among these parts
+abbrev pub times_among : ℕ → List Part → ℕ
+times_among n [] = 0
+times_among n (part ∷ parts) = (if part.number == n then 1 else 0) + times_among n parts
+
+-- seats that have seen nothing, from a number on
+abbrev pub fresh : ℕ → ℕ → List Part
+fresh number zero = []
+fresh number (suc count) = record { number = number; seen = []; steps = 0 } ∷ fresh (suc number) count
+
+abbrev pub first_view : ℕ → View
+first_view seats = record { parts = fresh 0 seats; told = [] }
+
+-- the first part alone, and all others
+abbrev pub first_part : View → View
+first_part v = record { parts = take 1 v.parts; told = [] }
+
+abbrev pub other_parts : View → View
+other_parts v = record { parts = drop 1 v.parts; told = v.told }
+
+-- what a note of a token tells: what its seats have seen, and what it was told of
+abbrev pub noted : View → View
+noted v = record { parts = []; told = map (λ part. part.seen) v.parts ++ v.told }
+
+-- what two tokens know together
+abbrev pub joined : View → View → View
+joined v w = record { parts = v.parts ++ w.parts; told = v.told ++ w.told }
+
+-- a token that knows nothing any more
+abbrev pub spent_view : View
+spent_view = record { parts = []; told = [] }
+
+-- There is one legal history whose words these are. Each seat has seen a beginning of it, with all its own events; what
+-- a token was told of is a beginning too. No two seats share a number, and none is lost.
+pub record IsChained (p : Plan) (s : State (Unit {0}) View) : Type 0 where
+  pub history : List Event
+  pub legal : IsLegal p history
+  pub words : s.words ≡ words_of p history
+  pub fits : All (Fits history) (all_parts s.views)
+  pub told : All (λ v. All (λ seen. IsBeginning seen history) v.told) s.views
+  pub numbers : All (λ part. part.number < p.seats) (all_parts s.views)
+  pub once : (n : ℕ) → n < p.seats → times_among n (all_parts s.views) ≡ 1
+  pub count : length (all_parts s.views) ≡ p.seats
+
+-- ---- steps
+
+-- the seat's part after a step that found the history grown by others' events, and made these of its own
+abbrev pub moved : Part → List Event → List Event → Part
+moved part others own = record { number = part.number; seen = own ++ (others ++ part.seen); steps = part.steps + 1 }
+
+-- what a step tells: others made events meanwhile, the word was as found after them, and these events of the seat's follow
+pub record HasMoved (p : Plan) (events : ℕ → List Event) (place found : ℕ) (part part' : Part) : Type 0 where
+  pub others : List Event
+  pub not_own : All (λ e. seat_of_event e ≢ part.number) others
+  pub legal : IsLegal p (events found ++ (others ++ part.seen))
+  pub word : slice_index (words_of p (others ++ part.seen)) place ≡ found
+  pub is : part' ≡ moved part others (events found)
+
+-- a step of a token that knows one seat
+pub record Moves (p : Plan) (events : ℕ → List Event) (step : Step (Unit {0})) (me : Me (Unit {0}) View) (found : ℕ) (me' : Me (Unit {0}) View) : Type 0 where
+  pub after : Part
+  pub is : me' ≡ (record { parts = after ∷ []; told = me.0.told }, me.1)
+  pub moves : (part : Part) → me.0.parts ≡ part ∷ [] → HasMoved p events step.word found part after
+
+-- a load of a token that knows one seat: the seat has seen then all that the token was told of
+pub record HasHeard (p : Plan) (place : ℕ) (me : Me (Unit {0}) View) (found : ℕ) (me' : Me (Unit {0}) View) : Type 0 where
+  pub after : Part
+  pub is : me' ≡ (record { parts = after ∷ []; told = [] }, me.1)
+  pub moves : (part : Part) → me.0.parts ≡ part ∷ [] → HasMoved p (λ found. []) place found part after
+  pub heard : All (λ seen. IsBeginning seen after.seen) me.0.told

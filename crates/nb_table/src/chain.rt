@@ -1,0 +1,261 @@
+//! The chain and its seats.
+ghost use Rattle.std.specs.Prelude.{◌≡◌, ◌+◌, ◌%◌, ◌^◌, ◌<◌, ◌==◌, ◌↔◌, if◌then◌else◌, [], ◌∷◌, bit_or, max, length, IfOk, IfErr, true, is_ok};
+ghost use Rattle.nb_core.specs.Plans.{word_count};
+ghost use Rattle.nb_core.specs.Tables.{tables_at};
+ghost use Rattle.nb_table.specs.Chains.{Extended, seats_of};
+ghost use Rattle.nb_table.specs.Gathered.{AreOwn, ClosedWith, HasGathered};
+ghost use Rattle.nb_table.specs.Inside.{part_of};
+ghost use Rattle.nb_table.specs.Steps.{Can, Stepped};
+ghost use Rattle.nb_table.specs.Views.{HasHeard, IsBeginning};
+
+use crate::closed::Closed;
+use crate::view::{Chained, Deal, Heard, Learn, Move, Note, Told, View};
+use atomic_table::{Seat, Table};
+use nb_core::{Call, Key, NotAll, Num, OutOfMemory, Shape};
+use std::alloc::Global;
+use std::marker::{Brand, Model};
+
+/// A chain of tables that many threads share.
+#[derive(Drop)]
+pub struct Chain {
+    table: Table<(), View, Shape, Chained, Global>,
+    pub(crate) shape: Shape,
+}
+
+impl Model for Chain {
+    ghost use Rattle.nb_table.specs.Chains.{ChainOf};
+
+    ghost Value = { ChainOf };
+
+    ghost use Rattle.nb_table.specs.Inside.{IsChain, chain_of};
+
+    ghost view = { chain_of };
+
+    ghost invariant = { IsChain };
+}
+
+/// The right of one holder to make steps.
+#[derive(Drop)]
+pub struct ChainSeat {
+    shape: Shape,
+    seat: Seat<(), View>,
+}
+
+impl Model for ChainSeat {
+    ghost use Rattle.nb_table.specs.Chains.{SeenBy};
+
+    ghost Value = { SeenBy };
+
+    ghost use Rattle.nb_table.specs.Inside.{IsSeat, seat_of};
+
+    ghost view = { seat_of };
+
+    ghost invariant = { IsSeat };
+}
+
+/// What a step is about: a slot, and the key and the number that it puts there. Only the step's proof asks for it.
+#[derive(Clone, Copy)]
+pub(crate) struct Spot {
+    pub(crate) g: u32,
+    pub(crate) i: usize,
+    pub(crate) key: Option<Key>,
+    pub(crate) number: Option<Num>,
+}
+
+impl Chain {
+    /// A chain with all words 0, and its seats. It takes memory for the words and for the vector of seats.
+    pub fn new(alloc: Global, shape: Shape) -> Result<(Chain, Vec<ChainSeat>), OutOfMemory>
+        ensures chain { IfOk result (λ made. made.0.shape ≡ shape) }
+        ensures seats { IfOk result (λ made. made.1.items ≡ seats_of made.0.id shape 0 shape.seats) }
+    {
+        shape.known();
+        let mut dealt = Vec::with_capacity(alloc, shape.seats())?;
+        let words = vec![in alloc; 0; shape.words()]?;
+        let (table, mut rest) = Table::of_words(alloc, words.as_slice(), &shape)?;
+        let chain = Chain { table, shape };
+        for _number in 0..shape.seats() {
+            let seat = chain.table.shared.split_seat::<Deal>(&mut rest);
+            dealt.push(ChainSeat { shape, seat })?;
+        }
+        Ok((chain, dealt))
+    }
+
+    /// The chain's shape. It makes no step.
+    pub fn shape(&self) -> &Shape
+        ensures { result.now ≡ self.now.shape }
+    {
+        &self.shape
+    }
+
+    /// One load, which returns the word.
+    pub(crate) fn loads<B: Told>(
+        &self,
+        seat: &mut ChainSeat,
+        place: usize,
+        _call: Option<Call>,
+    ) -> u64
+        requires own { seat.old.chain ≡ self.now.id }
+        requires shapes { (seat.old.shape ≡ self.now.shape) × (B.shape ≡ self.now.shape) }
+        requires within { place < word_count self.now.shape }
+        requires can { Can B.shape B.events seat.old.number seat.old.seen place (λ found. found) }
+        ensures { Stepped B.shape B.events place seat.old result seat.new }
+    {
+        self.table.shared.load::<Move<B>>(&mut seat.seat, place)
+    }
+
+    /// One compare-and-exchange, which returns the word as it was. It has become `new` if it was `old`.
+    pub(crate) fn exchanges<B: Told>(
+        &self,
+        seat: &mut ChainSeat,
+        place: usize,
+        old: u64,
+        new: u64,
+        _spot: Spot,
+        _call: Option<Call>,
+    ) -> u64
+        requires own { seat.old.chain ≡ self.now.id }
+        requires shapes { (seat.old.shape ≡ self.now.shape) × (B.shape ≡ self.now.shape) }
+        requires within { place < word_count self.now.shape }
+        requires can { Can B.shape B.events seat.old.number seat.old.seen place (λ found. if found == old then new else found) }
+        ensures { Stepped B.shape B.events place seat.old result seat.new }
+    {
+        self.table
+            .shared
+            .compare_exchange::<Move<B>>(&mut seat.seat, place, old, new)
+    }
+
+    /// One fetch-or, which returns the word as it was.
+    pub(crate) fn ors<B: Told>(
+        &self,
+        seat: &mut ChainSeat,
+        place: usize,
+        bits: u64,
+        _spot: Spot,
+    ) -> u64
+        requires own { seat.old.chain ≡ self.now.id }
+        requires shapes { (seat.old.shape ≡ self.now.shape) × (B.shape ≡ self.now.shape) }
+        requires within { place < word_count self.now.shape }
+        requires can { Can B.shape B.events seat.old.number seat.old.seen place (λ found. bit_or found bits) }
+        ensures { Stepped B.shape B.events place seat.old result seat.new }
+    {
+        self.table
+            .shared
+            .fetch_or::<Move<B>>(&mut seat.seat, place, bits)
+    }
+
+    /// One fetch-add modulo 2^64, which returns the word as it was. The proof of a caller names its events by `_g`, its table.
+    pub(crate) fn adds<B: Told>(
+        &self,
+        seat: &mut ChainSeat,
+        place: usize,
+        amount: u64,
+        _g: u32,
+    ) -> u64
+        requires own { seat.old.chain ≡ self.now.id }
+        requires shapes { (seat.old.shape ≡ self.now.shape) × (B.shape ≡ self.now.shape) }
+        requires within { place < word_count self.now.shape }
+        requires can { Can B.shape B.events seat.old.number seat.old.seen place (λ found. (found + amount) % 2 ^ 64) }
+        ensures { Stepped B.shape B.events place seat.old result seat.new }
+    {
+        self.table
+            .shared
+            .fetch_add::<Move<B>>(&mut seat.seat, place, amount)
+    }
+
+    /// One fetch-max, which returns the word as it was. The proof of a caller names its events by `_g`, its table.
+    pub(crate) fn raises<B: Told>(
+        &self,
+        seat: &mut ChainSeat,
+        place: usize,
+        least: u64,
+        _g: u32,
+    ) -> u64
+        requires own { seat.old.chain ≡ self.now.id }
+        requires shapes { (seat.old.shape ≡ self.now.shape) × (B.shape ≡ self.now.shape) }
+        requires within { place < word_count self.now.shape }
+        requires can { Can B.shape B.events seat.old.number seat.old.seen place (λ found. max found least) }
+        ensures { Stepped B.shape B.events place seat.old result seat.new }
+    {
+        self.table
+            .shared
+            .fetch_max::<Move<B>>(&mut seat.seat, place, least)
+    }
+
+    /// One load of the top word: the number of tables, from the first on, that are known to be complete.
+    pub fn load_top(&self, seat: &mut ChainSeat) -> u64
+        requires own { seat.old.chain ≡ self.now.id }
+        requires shape { seat.old.shape ≡ self.now.shape }
+        ensures grows { Extended seat.old seat.new [] 1 }
+        ensures found { (tables_at self.now.shape seat.new.seen).top ≡ result }
+    {
+        self.loads::<Brand>(seat, 0, None)
+    }
+
+    /// Each of two seats sees what the other has seen. Of the loads that this takes, one of each seat counts as its step: the
+    /// others tell it nothing.
+    pub fn meet(&self, a: &mut ChainSeat, b: &mut ChainSeat)
+        requires a_own { a.old.chain ≡ self.now.id }
+        requires b_own { b.old.chain ≡ self.now.id }
+        requires shapes { (a.old.shape ≡ self.now.shape) × (b.old.shape ≡ self.now.shape) }
+        ensures a { Extended a.old a.new [] 1 × IsBeginning b.old.seen a.new.seen }
+        ensures b { Extended b.old b.new [] 1 × IsBeginning a.old.seen b.new.seen }
+    {
+        let words = &self.table.shared;
+        let of_a = words.split_seat::<Note>(&mut a.seat);
+        let of_b = words.split_seat::<Note>(&mut b.seat);
+        words.join_seat::<Learn>(&mut a.seat, of_b);
+        words.join_seat::<Learn>(&mut b.seat, of_a);
+        self.hears::<Brand>(&mut a.seat);
+        self.hears::<Brand>(&mut b.seat);
+    }
+
+    /// One load of the top word, by a token that was told of something.
+    fn hears<B: Told>(&self, seat: &mut Seat<(), View>) -> u64
+        requires own { seat.old.table_id ≡ self.now.id }
+        requires shape { B.shape ≡ self.now.shape }
+        requires one { seat.old.me.0.parts ≡ part_of seat.old.me.0.parts ∷ [] }
+        ensures own { seat.new.table_id ≡ seat.old.table_id }
+        ensures heard { HasHeard B.shape 0 seat.old.me result seat.new.me }
+    {
+        self.table.shared.load::<Heard<B>>(seat, 0)
+    }
+
+    /// With all seats: what is left of the chain. With another number of seats everything comes back.
+    pub fn close(self, seats: Vec<ChainSeat>) -> Result<Closed, NotAll<Chain, ChainSeat>>
+        requires own { AreOwn self.id seats.items }
+        ensures all { (is_ok result ≡ true) ↔ (length seats.items ≡ self.shape.seats) }
+        ensures shape { IfOk result (λ closed. closed.shape ≡ self.shape) }
+        ensures closed { IfOk result (λ closed. ClosedWith self.shape seats.items closed.words) }
+        ensures back { IfErr result (λ given. (given.whole ≡ self) × (given.seats.items ≡ seats.items)) }
+    {
+        if seats.len() != self.shape.seats() {
+            return Err(NotAll { whole: self, seats });
+        }
+        let all = self.gather(seats);
+        let Chain { table, shape } = self;
+        let table = table.close_with(all);
+        Ok(Closed { table, shape })
+    }
+
+    /// One token that knows what all these seats know.
+    fn gather(&self, seats: Vec<ChainSeat>) -> Seat<(), View>
+        requires own { AreOwn self.now.id seats.items }
+        requires some { 0 < length seats.items }
+        ensures { HasGathered self.now.id result [] seats.items }
+    {
+        let mut seats = seats;
+        let last = seats.pop().unwrap();
+        let ChainSeat { shape: _, mut seat } = last;
+        while let Some(other) = seats.pop() {
+            let ChainSeat {
+                shape: _,
+                seat: other,
+            } = other;
+            self.table.shared.join_seat::<Learn>(&mut seat, other);
+        }
+        seat
+    }
+}
+
+#[cfg(test)]
+mod tests;

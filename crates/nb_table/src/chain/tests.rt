@@ -1,0 +1,107 @@
+ghost use Rattle.std.specs.Prelude.{◌≡◌, All, IfOk};
+ghost use Rattle.nb_table.specs.Chains.{IsOwn};
+ghost use Rattle.nb_table.specs.Gathered.{AreOwn};
+
+use super::*;
+use std::process::Abort;
+use std::test::Fail;
+use std::thread;
+use std::thread::Threads;
+
+/// A look at the top word.
+fn look(chain: &Chain, seat: ChainSeat) -> (u64, ChainSeat)
+    requires { IsOwn chain.now seat }
+    ensures { IsOwn chain.now result.1 }
+{
+    let mut seat = seat;
+    (chain.load_top(&mut seat), seat)
+}
+
+/// Two seats look at the top word, each in a thread of its own, and meet.
+fn look_and_meet<R: Threads + Sync>(
+    rt: &R,
+    chain: &Chain,
+    a: ChainSeat,
+    b: ChainSeat,
+) -> (u64, u64, ChainSeat, ChainSeat)
+    requires a { IsOwn chain.now a }
+    requires b { IsOwn chain.now b }
+    ensures { IsOwn chain.now result.2 × IsOwn chain.now result.3 }
+{
+    let ((top_of_a, mut a), (top_of_b, mut b)) = thread::join(
+        rt,
+        move || -> (u64, ChainSeat)
+            requires { IsOwn chain.now a }
+            ensures { IsOwn chain.entry.now result.1 }
+        { look(chain, a) },
+        move || -> (u64, ChainSeat)
+            requires { IsOwn chain.now b }
+            ensures { IsOwn chain.entry.now result.1 }
+        { look(chain, b) },
+    );
+    chain.meet(&mut a, &mut b);
+    (top_of_a, top_of_b, a, b)
+}
+
+/// Without its last seat a chain isn't closed, and comes back with the others.
+fn without_last<R: Abort>(
+    rt: &R,
+    chain: Chain,
+    seats: Vec<ChainSeat>,
+) -> Result<(Chain, Vec<ChainSeat>), OutOfMemory>
+    requires { AreOwn chain.id seats.items }
+    ensures { IfOk result (λ back. (back.0 ≡ chain) × AreOwn chain.id back.1.items) }
+{
+    let mut seats = seats;
+    let Some(last) = seats.pop() else {
+        return Ok((chain, seats));
+    };
+    let Err(NotAll { whole, mut seats }) = chain.close(seats) else {
+        panic!(rt; "a seat is missing")
+    };
+    seats.push(last)?;
+    Ok((whole, seats))
+}
+
+/// The last two seats of a chain look at the top word at the same time, and meet.
+fn meeting<R: Threads + Sync + Abort>(rt: &R, chain: Chain, seats: Vec<ChainSeat>) -> (u64, u64)
+    requires { All (λ seat. IsOwn chain seat) seats.items }
+{
+    let mut seats = seats;
+    let (Some(a), Some(b)) = (seats.pop(), seats.pop()) else {
+        panic!(rt; "there are two seats")
+    };
+    let (top_of_a, top_of_b, _, _) = look_and_meet(rt, &chain, a, b);
+    (top_of_a, top_of_b)
+}
+
+#[test]
+fn two_seats_meet(rt: HostRuntime) -> Result<(), Fail> {
+    let shape = Shape::new(2, 1, 3, 1).map_err(|_| OutOfMemory)?;
+    let (chain, seats) = Chain::new(rt.alloc(), shape)?;
+    assert_eq!(rt; meeting(&rt, chain, seats), (0, 0));
+    Ok(())
+}
+
+/// With each request for memory refused in turn (`rt try --test --fail-alloc N -- refused_memory`).
+#[test]
+fn refused_memory(rt: HostRuntime) -> Result<(), Fail> {
+    let shape = Shape::new(2, 2, 8, 1).map_err(|_| OutOfMemory)?;
+    let (chain, seats) = match Chain::new(rt.alloc(), shape) {
+        Ok(made) => made,
+        Err(_) => Chain::new(rt.alloc(), shape)?,
+    };
+    assert!(rt; chain.close(seats).is_ok());
+    Ok(())
+}
+
+#[test]
+fn all_seats_close(rt: HostRuntime) -> Result<(), Fail> {
+    let shape = Shape::new(2, 3, 4, 1).map_err(|_| OutOfMemory)?;
+    let (chain, seats) = Chain::new(rt.alloc(), shape)?;
+    assert_eq!(rt; chain.shape().generations(), 3);
+    let (chain, seats) = without_last(&rt, chain, seats)?;
+    assert_eq!(rt; seats.len(), 4);
+    assert!(rt; chain.close(seats).is_ok());
+    Ok(())
+}

@@ -1,0 +1,82 @@
+//! The steps that copy the slots of a table.
+ghost use Rattle.std.specs.Prelude.{◌≡◌, ◌≢◌, ℕ, suc, [], ◌∷◌};
+ghost use Rattle.nb_core.specs.Tables.{IsInstalled, IsSlot, IsUnprimed};
+ghost use Rattle.nb_core.specs.Laws.{primed};
+ghost use Rattle.nb_core.specs.declared.events.Event.TheVariants as event;
+ghost use Rattle.nb_core.specs.declared.states.KeyState.TheVariants as key_is;
+ghost use Rattle.nb_core.specs.declared.states.ValueState.TheVariants as value_is;
+ghost use Rattle.nb_table.specs.Conditions.{HasSource, IsCopied};
+ghost use Rattle.nb_table.specs.Chains.{Extended, IsOwn, seen_by};
+
+use crate::chain::{Chain, ChainSeat, Spot};
+use nb_core::{Key, Num, ValueState, decode_value, encode_value, laws};
+use std::marker::Brand;
+
+impl Chain {
+    /// Primes the value of slot `i` of table `g`, by one fetch-or of 1 on its value word, and answers what it was. A value
+    /// that is primed already stays as it is.
+    pub fn prime(&self, seat: &mut ChainSeat, g: u32, i: usize) -> ValueState
+        requires own { IsOwn self.now seat.old }
+        requires slot { IsSlot self.now.shape g i }
+        requires growing { IsInstalled (seen_by seat.old) (suc g) }
+        requires claimed { (k : ℕ) × ((seen_by seat.old).key g i ≡ key_is.Claimed k) }
+        ensures won { IsUnprimed result → Extended seat.old seat.new (event.Prime seat.old.number g i ∷ []) 1 × ((seen_by seat.new).value g i ≡ primed result) }
+        ensures lost { (IsUnprimed result → ⊥) → Extended seat.old seat.new [] 1 × ((seen_by seat.new).value g i ≡ result) }
+    {
+        laws::seen_lasts();
+        laws::beginnings_are_legal();
+        laws::lawful_words();
+        laws::places_are_distinct();
+        let place = self.shape.value_place(g, i);
+        let spot = Spot { g, i, key: None, number: None };
+        decode_value(self.ors::<Brand>(seat, place, 1, spot)).unwrap()
+    }
+
+    /// Copies the number of a key in the table below `g` to the key's slot `i` of table `g`, by one compare-exchange of null
+    /// for the number on its value word, and answers what it was. A value that is there already stays as it is.
+    pub fn copy_in(
+        &self,
+        seat: &mut ChainSeat,
+        g: u32,
+        i: usize,
+        key: Key,
+        number: Num,
+    ) -> ValueState
+        requires own { IsOwn self.now seat.old }
+        requires slot { IsSlot self.now.shape g i }
+        requires claimed { (seen_by seat.old).key g i ≡ key_is.Claimed key }
+        requires source { HasSource self.now.shape (seen_by seat.old) g key number }
+        ensures won { result ≡ value_is.Null → Extended seat.old seat.new (event.CopyIn seat.old.number g i key number ∷ []) 1 × ((seen_by seat.new).value g i ≡ value_is.Live number) }
+        ensures lost { result ≢ value_is.Null → Extended seat.old seat.new [] 1 × ((seen_by seat.new).value g i ≡ result) }
+    {
+        laws::seen_lasts();
+        laws::beginnings_are_legal();
+        laws::lawful_words();
+        laws::places_are_distinct();
+        laws::moved();
+        laws::one_slot();
+        let place = self.shape.value_place(g, i);
+        let word = encode_value(ValueState::Live(number));
+        let spot = Spot { g, i, key: Some(key), number: Some(number) };
+        decode_value(self.exchanges::<Brand>(seat, place, 0, word, spot, None)).unwrap()
+    }
+
+    /// Marks the primed number in slot `i` of table `g` as copied, by one fetch-or of 2 on its value word, and answers what
+    /// the value was: that number, primed, or finished already.
+    pub fn finish_slot(&self, seat: &mut ChainSeat, g: u32, i: usize, number: Num) -> ValueState
+        requires own { IsOwn self.now seat.old }
+        requires slot { IsSlot self.now.shape g i }
+        requires copied { IsCopied self.now.shape (seen_by seat.old) g i number }
+        ensures won { result ≡ value_is.Primed number → Extended seat.old seat.new (event.Finish seat.old.number g i ∷ []) 1 × ((seen_by seat.new).value g i ≡ value_is.Finished number) }
+        ensures lost { result ≢ value_is.Primed number → Extended seat.old seat.new [] 1 × ((seen_by seat.new).value g i ≡ result) × (result ≡ value_is.Finished number) }
+    {
+        laws::seen_lasts();
+        laws::beginnings_are_legal();
+        laws::lawful_words();
+        laws::places_are_distinct();
+        laws::linked();
+        let place = self.shape.value_place(g, i);
+        let spot = Spot { g, i, key: None, number: Some(number) };
+        decode_value(self.ors::<Brand>(seat, place, 2, spot)).unwrap()
+    }
+}

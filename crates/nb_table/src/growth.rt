@@ -1,0 +1,136 @@
+//! The steps that grow a chain and copy its tables.
+ghost use Rattle.std.specs.Prelude.{◌≡◌, ◌≢◌, ◌+◌, ◌%◌, ◌^◌, ◌<◌, ◌≤◌, suc, [], ◌∷◌, ◌⊎◌, IsTrue, false};
+ghost use Rattle.nb_core.specs.Plans.{generations_of, limit_of};
+ghost use Rattle.nb_core.specs.Tables.{AreOthers, IsComplete, IsInstalled, IsReady, IsSlot, chunk_of};
+ghost use Rattle.nb_core.specs.History.{counted_by, turned_by};
+ghost use Rattle.nb_core.specs.declared.events.Event.TheVariants as event;
+ghost use Rattle.nb_core.specs.declared.states.KeyState.TheVariants as key_is;
+ghost use Rattle.nb_table.specs.Conditions.{HasWay};
+ghost use Rattle.nb_table.specs.Chains.{Extended, IsOwn, seen_by};
+
+use crate::chain::{Chain, ChainSeat, Spot};
+use nb_core::{Key, KeyState, decode_key, encode_key, laws};
+use std::marker::Brand;
+
+impl Chain {
+    /// Asks for the next chunk of table `g` to copy, by one fetch-add on its take word, and answers where the chunk begins.
+    /// At the size or past it there is none.
+    pub fn take_work(&self, seat: &mut ChainSeat, g: u32) -> u64
+        requires own { IsOwn self.now seat.old }
+        requires table { g < generations_of self.now.shape }
+        requires growing { IsInstalled (seen_by seat.old) (suc g) }
+        ensures grows { Extended seat.old seat.new (event.Take seat.old.number g ∷ []) 1 }
+        ensures found { (seen_by seat.new).taken g ≡ (result + chunk_of self.now.shape g) % 2 ^ 64 }
+    {
+        laws::seen_lasts();
+        laws::lawful_words();
+        laws::places_are_distinct();
+        let place = self.shape.header_place(g, 1);
+        let chunk = self.shape.size_of(g).min(8) as u64;
+        self.adds::<Brand>(seat, place, chunk, g)
+    }
+
+    /// Counts finished slots of table `g` that the seat's own steps turned, by one fetch-add on its done word, and answers
+    /// how many were counted before.
+    pub fn count_done(&self, seat: &mut ChainSeat, g: u32, slots: u64) -> u64
+        requires own { IsOwn self.now seat.old }
+        requires table { g < generations_of self.now.shape }
+        requires some { 1 ≤ slots }
+        requires turned { counted_by seat.old.seen seat.old.number g + slots ≤ turned_by self.now.shape seat.old.seen seat.old.number g }
+        ensures grows { Extended seat.old seat.new (event.Count seat.old.number g slots ∷ []) 1 }
+        ensures found { (seen_by seat.new).counted g ≡ result + slots }
+    {
+        laws::own_lasts();
+        laws::counted();
+        laws::lawful_words();
+        laws::places_are_distinct();
+        let place = self.shape.header_place(g, 2);
+        self.adds::<Brand>(seat, place, slots, g)
+    }
+
+    /// Raises the top word past table `g`, by one fetch-max, and answers what it was.
+    pub fn promote(&self, seat: &mut ChainSeat, g: u32) -> u64
+        requires own { IsOwn self.now seat.old }
+        requires table { g < generations_of self.now.shape }
+        requires complete { IsComplete self.now.shape (seen_by seat.old) g }
+        ensures raised { result ≤ g → Extended seat.old seat.new (event.Promote seat.old.number g ∷ []) 1 }
+        ensures was_higher { g < result → Extended seat.old seat.new [] 1 × ((seen_by seat.new).top ≡ result) }
+    {
+        laws::seen_lasts();
+        self.raises::<Brand>(seat, 0, u64::from(g) + 1, g)
+    }
+
+    /// Installs the table above `g`, for a key whose path in `g` is crowded, by one compare-exchange on its next word.
+    /// Answers whether this step did it.
+    pub fn install(&self, seat: &mut ChainSeat, g: u32, key: Key) -> bool
+        requires own { IsOwn self.now seat.old }
+        requires room { suc g < generations_of self.now.shape }
+        requires ready { IsReady self.now.shape (seen_by seat.old) g }
+        requires crowded { AreOthers self.now.shape (seen_by seat.old) g key (limit_of self.now.shape g) }
+        ensures won { IsTrue result → Extended seat.old seat.new (event.Install seat.old.number g key ∷ []) 1 }
+        ensures lost { result ≡ false → Extended seat.old seat.new [] 1 }
+        ensures installed { IsInstalled (seen_by seat.new) (suc g) }
+    {
+        laws::seen_lasts();
+        laws::linked();
+        laws::lawful_words();
+        laws::places_are_distinct();
+        self.shape.known();
+        key.known();
+        let place = self.shape.header_place(g, 0);
+        let spot = Spot {
+            g,
+            i: 0,
+            key: Some(key),
+            number: None,
+        };
+        self.exchanges::<Brand>(seat, place, 0, 1, spot, None) == 0
+    }
+
+    /// Closes the slot to keys if it is empty, by one compare-exchange, and answers what its key word held.
+    pub fn kill_key(&self, seat: &mut ChainSeat, g: u32, i: usize) -> KeyState
+        requires own { IsOwn self.now seat.old }
+        requires slot { IsSlot self.now.shape g i }
+        requires growing { IsInstalled (seen_by seat.old) (suc g) }
+        ensures won { result ≡ key_is.Empty → Extended seat.old seat.new (event.Kill seat.old.number g i ∷ []) 1 × ((seen_by seat.new).key g i ≡ key_is.Dead) }
+        ensures lost { result ≢ key_is.Empty → Extended seat.old seat.new [] 1 × ((seen_by seat.new).key g i ≡ result) }
+    {
+        laws::seen_lasts();
+        laws::lawful_words();
+        laws::places_are_distinct();
+        self.shape.known();
+        let place = self.shape.key_place(g, i);
+        let spot = Spot {
+            g,
+            i,
+            key: None,
+            number: None,
+        };
+        decode_key(self.exchanges::<Brand>(seat, place, 0, 1, spot, None))
+    }
+
+    /// Claims the slot for a key if it is empty, by one compare-exchange, and answers what its key word held.
+    pub fn claim_key(&self, seat: &mut ChainSeat, g: u32, i: usize, key: Key) -> KeyState
+        requires own { IsOwn self.now seat.old }
+        requires slot { IsSlot self.now.shape g i }
+        requires installed { IsInstalled (seen_by seat.old) g }
+        requires way { HasWay self.now.shape (seen_by seat.old) g i key }
+        ensures won { result ≡ key_is.Empty → Extended seat.old seat.new (event.Claim seat.old.number g i key ∷ []) 1 × ((seen_by seat.new).key g i ≡ key_is.Claimed key) }
+        ensures lost { result ≢ key_is.Empty → Extended seat.old seat.new [] 1 × ((seen_by seat.new).key g i ≡ result) }
+    {
+        laws::seen_lasts();
+        laws::lawful_words();
+        laws::places_are_distinct();
+        self.shape.known();
+        key.known();
+        let place = self.shape.key_place(g, i);
+        let word = encode_key(KeyState::Claimed(key));
+        let spot = Spot {
+            g,
+            i,
+            key: Some(key),
+            number: None,
+        };
+        decode_key(self.exchanges::<Brand>(seat, place, 0, word, spot, None))
+    }
+}

@@ -1,0 +1,11 @@
+//! The chain of tables.
+#![tactic(auto)]
+
+mod chain;
+mod closed;
+mod copying;
+mod growth;
+mod view;
+
+pub use chain::{Chain, ChainSeat};
+pub use closed::Closed;
