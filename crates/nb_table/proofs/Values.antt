@@ -121,9 +121,9 @@ or_one-odd x odd = omega (arith, or_one x, odd)
 -- A claimed slot's value may be primed, once there is a next table.
 pub can-prime :
     (p : Plan) → SeenLasts → LawfulWords → (number : ℕ) (seen : List Event) (g i : ℕ) → IsSlot p g i
-        → IsInstalled (tables_at p seen) (suc g)
+    → IsInstalled (tables_at p seen) (suc g)
     → (k : ℕ) × ((tables_at p seen).key g i ≡ Claimed k) → Can p (primes number g i) number seen (value_place p g i)
-        (λ found. bit_or found 1)
+    (λ found. bit_or found 1)
 can-prime p lasts lawful number seen g i slot growing claimed plan seated others not_own legal =
     let h = others ++ seen in
     let place = value_place p g i in
@@ -131,9 +131,13 @@ can-prime p lasts lawful number seen g i slot growing claimed plan seated others
     let still = lasts p plan others seen legal in
     let word = (lawful p plan h legal).values g i slot in
     if-follows p (eqb (found % 2) 0) (Prime number g i) number place (bit_or found 1) h
-    (λ even. one-follows p (Prime number g i) number place (bit_or found 1) h
-    (legal, (seated, slot), may-prime (tables_at p h) g i found (still.installed (suc g) growing)
-    (claimed.0, still.claimed g i claimed.0 slot claimed.1) refl word (eqb-true (found % 2) 0 even), tt) refl refl)
+    (λ even. one-follows p (Prime number g i) number place (bit_or found 1) h (
+      legal,
+      (seated, slot),
+      may-prime (tables_at p h) g i found (still.installed (suc g) growing)
+          (claimed.0, still.claimed g i claimed.0 slot claimed.1) refl word (eqb-true (found % 2) 0 even),
+      tt,
+    ) refl refl)
     (λ odd. none-follows p number place (bit_or found 1) h legal (or_one-odd found (eqb-false (found % 2) 0 odd)))
 
 -- the word of a value that was seen
@@ -172,9 +176,9 @@ held-below : (p : Plan) (t : Tables) (g i n : ℕ) → IsSlot p g i → IsPrimed
 held-below p t g i n slot held linked =
     elim linked [
       | inl unprimed ↦ elim held [
-          | inl is_primed ↦ absurd (subst IsUnprimed is_primed unprimed)
-          | inr is_finished ↦ absurd (subst IsUnprimed is_finished unprimed)
-        ]
+        | inl is_primed ↦ absurd (subst IsUnprimed is_primed unprimed)
+        | inr is_finished ↦ absurd (subst IsUnprimed is_finished unprimed)
+      ]
       | inr growing ↦ growing
     ]
 
@@ -193,14 +197,18 @@ can-finish p lasts lawful linked number seen g i n slot copied plan seated other
     let held = still.primed_or_finished g i n slot copied.held in
     let above = link.within (suc g) (held-below p t g i n slot held (link.primed g i slot)) in
     if-follows p (eqb found (4 * n + 9)) (Finish number g i) number place (bit_or found 2) h
-    (λ same. one-follows p (Finish number g i) number place (bit_or found 2) h
-    (legal, (seated, slot), record {
-      key = copied.key;
-      number = n;
-      claimed = still.claimed g i copied.key slot copied.claimed;
-      primed = held-primed found n held word (eqb-true found (4 * n + 9) same);
-      copied = still.has_value (suc g) copied.key above copied.copied;
-    }, tt) refl refl)
+    (λ same. one-follows p (Finish number g i) number place (bit_or found 2) h (
+      legal,
+      (seated, slot),
+      record {
+        key = copied.key;
+        number = n;
+        claimed = still.claimed g i copied.key slot copied.claimed;
+        primed = held-primed found n held word (eqb-true found (4 * n + 9) same);
+        copied = still.has_value (suc g) copied.key above copied.copied;
+      },
+      tt,
+    ) refl refl)
     (λ other. none-follows p number place (bit_or found 2) h legal
     (or_two-finished found n (word-held found n held word) (eqb-false found (4 * n + 9) other)))
 
@@ -242,14 +250,18 @@ can-copy p lasts lawful moved one number seen g i k n word slot says claimed sou
     if-follows p (eqb found 0) (CopyIn number g i k n) number place new h
     (λ same.
     let null = ap (λ x. unwrap_or (value_state x) Null) (eqb-true found 0 same) in
-    one-follows p (CopyIn number g i k n) number place new h
-    (legal, (seated, slot, subst IsKeyState claimed' ((lawful p plan h legal).keys g i slot), word_is.1), record {
-      claimed = claimed';
-      null = null;
-      primed = still-primed p t g i k n slot claimed' null (λ f j. moved p plan h legal f j k n)
-          (λ j j_slot j_claimed. one p plan h legal g j i k j_slot slot j_claimed claimed')
-          (source-lasts p (tables_at p seen) t still g k n slot.0 source);
-    }, tt) (ap (slice_set (words_of p h) place) (sym (ap (λ b. cond b word found) same ∙ word_is.0))) refl)
+    one-follows p (CopyIn number g i k n) number place new h (
+      legal,
+      (seated, slot, subst IsKeyState claimed' ((lawful p plan h legal).keys g i slot), word_is.1),
+      record {
+        claimed = claimed';
+        null = null;
+        primed = still-primed p t g i k n slot claimed' null (λ f j. moved p plan h legal f j k n)
+            (λ j j_slot j_claimed. one p plan h legal g j i k j_slot slot j_claimed claimed')
+            (source-lasts p (tables_at p seen) t still g k n slot.0 source);
+      },
+      tt,
+    ) (ap (slice_set (words_of p h) place) (sym (ap (λ b. cond b word found) same ∙ word_is.0))) refl)
     (λ other. none-follows p number place new h legal (ap (λ b. cond b word found) other))
 
 -- ---- what was found
@@ -279,11 +291,12 @@ module _ (p : Plan) (plan : IsPlan p) (lawful : LawfulWords) (begins : Beginning
   then-value : (own : List Event) → events found ≡ own → (new : ℕ) (v : ValueState)
       → slice_index (words_of p (own ++ (step.grows.others ++ before.seen))) (value_place p g i) ≡ new → value_state new ≡ Some v
       → Extended before after own 1 × ((seen_by after).value g i ≡ v)
-  then-value own own_is new v word says =
-      (subst (λ own. Extended before after own 1) own_is step.grows,
-      ap (λ q. (tables_at q after.seen).value g i) (step.grows.shape ∙ shape)
-      ∙ ap (λ s. (tables_at p s).value g i) (step.grows.seen ∙ ap (λ own. own ++ (step.grows.others ++ before.seen)) own_is)
-      ∙ ap (λ x. unwrap_or (value_state x) Null) word ∙ ap (λ o. unwrap_or o Null) says)
+  then-value own own_is new v word says = (
+    subst (λ own. Extended before after own 1) own_is step.grows,
+    ap (λ q. (tables_at q after.seen).value g i) (step.grows.shape ∙ shape)
+        ∙ ap (λ s. (tables_at p s).value g i) (step.grows.seen ∙ ap (λ own. own ++ (step.grows.others ++ before.seen)) own_is)
+        ∙ ap (λ x. unwrap_or (value_state x) Null) word ∙ ap (λ o. unwrap_or o Null) says,
+  )
 
   -- the step made no event, and the value is as it was
   value-kept : events found ≡ [] → (v : ValueState) → value_state found ≡ Some v
@@ -294,16 +307,16 @@ module _ (p : Plan) (plan : IsPlan p) (lawful : LawfulWords) (begins : Beginning
   value-made :
       (places : PlacesAreDistinct) (e : Event) (f : ℕ → ℕ) (v : ValueState) → events found ≡ e ∷ []
       → words_of p (e ∷ (step.grows.others ++ before.seen)) ≡ slice_set (words_of p (step.grows.others ++ before.seen))
-          (value_place p g i) (f (slice_index (words_of p (step.grows.others ++ before.seen)) (value_place p g i)))
+      (value_place p g i) (f (slice_index (words_of p (step.grows.others ++ before.seen)) (value_place p g i)))
       → value_state (f found) ≡ Some v → Extended before after (e ∷ []) 1 × ((seen_by after).value g i ≡ v)
   value-made places e f v own_is words says =
       let h = step.grows.others ++ before.seen in
       let place = value_place p g i in
       let within : place < length (words_of p h) = subst (λ n. place < n) (sym (lawful p plan h met-legal).length)
-          (value-within p places plan g i slot) in
+      (value-within p places plan g i slot) in
       then-value (e ∷ []) own_is (f found) v
       (ap (λ w. slice_index w place) words ∙ get_or-set_same (words_of p h) place (f (slice_index (words_of p h) place)) 0 within
-          ∙ ap f step.word) says
+      ∙ ap f step.word) says
 
 -- which event a step made, by the test of the word that it found
 events-one : (test : Bool) (e : Event) → test ≡ true → only test e ≡ e ∷ []
@@ -320,9 +333,9 @@ module _ (p : Plan) (plan : IsPlan p) (lawful : LawfulWords) (begins : Beginning
       ((seen_by after).value g i ≡ primed v)
   prime-won places unprimed =
       value-made p plan lawful begins (primes before.number g i) before found after g i slot shape step places
-          (Prime before.number g i) (λ x. bit_or x 1) (primed v)
+      (Prime before.number g i) (λ x. bit_or x 1) (primed v)
       (events-one (eqb (found % 2) 0) (Prime before.number g i) (eq-eqb (found % 2) 0 (ap (λ x. x % 2) (word-of found v says).0
-          ∙ unprimed-even v unprimed)))
+      ∙ unprimed-even v unprimed)))
       refl (primed-says found v says)
 
   pub prime-lost : (IsUnprimed v → ⊥) → Extended before after [] 1 × ((seen_by after).value g i ≡ v)
@@ -348,9 +361,9 @@ module _ (p : Plan) (plan : IsPlan p) (lawful : LawfulWords) (begins : Beginning
   finish-won places is =
       let says_primed = says ∙ ap Some is in
       value-made p plan lawful begins (finishes before.number g i n) before found after g i slot shape step places
-          (Finish before.number g i) (λ x. bit_or x 2) (Finished n)
+      (Finish before.number g i) (λ x. bit_or x 2) (Finished n)
       (events-one (eqb found (4 * n + 9)) (Finish before.number g i) (eq-eqb found (4 * n + 9)
-          (word-of found (Primed n) says_primed).0))
+      (word-of found (Primed n) says_primed).0))
       refl (finished-says found n says_primed)
 
   -- the number is still primed or finished
@@ -359,9 +372,9 @@ module _ (p : Plan) (plan : IsPlan p) (lawful : LawfulWords) (begins : Beginning
       let h = step.grows.others ++ before.seen in
       let legal = met-legal p plan lawful begins (finishes before.number g i n) before found after g i slot shape step in
       let value : (tables_at p h).value g i ≡ v = ap (λ x. unwrap_or (value_state x) Null) step.word
-          ∙ ap (λ o. unwrap_or o Null) says in
+      ∙ ap (λ o. unwrap_or o Null) says in
       subst (λ x. (x ≡ Primed n) ⊎ (x ≡ Finished n)) value
-          ((lasts p plan step.grows.others before.seen legal).primed_or_finished g i n slot held)
+      ((lasts p plan step.grows.others before.seen legal).primed_or_finished g i n slot held)
 
   pub finish-lost : SeenLasts → IsPrimedOrFinished (tables_at p before.seen) g i n → (v ≡ Primed n → ⊥)
       → Extended before after [] 1 × ((seen_by after).value g i ≡ v) × (v ≡ Finished n)
@@ -369,8 +382,8 @@ module _ (p : Plan) (plan : IsPlan p) (lawful : LawfulWords) (begins : Beginning
       let is = then-finished v n (still-held lasts held) other in
       let word = (word-of found v says).0 ∙ ap value_word is in
       let kept = value-kept p plan lawful begins (finishes before.number g i n) before found after g i slot shape step
-          (events-none (eqb found (4 * n + 9)) (Finish before.number g i) (ne_eqb found (4 * n + 9)
-              (λ same. omega (arith, same, word)))) v says in
+      (events-none (eqb found (4 * n + 9)) (Finish before.number g i) (ne_eqb found (4 * n + 9)
+      (λ same. omega (arith, same, word)))) v says in
       (kept.0, kept.1, is)
 
 -- What copying a number tells.
@@ -381,7 +394,7 @@ module _ (p : Plan) (plan : IsPlan p) (lawful : LawfulWords) (begins : Beginning
       → Extended before after (CopyIn before.number g i k n ∷ []) 1 × ((seen_by after).value g i ≡ Live n)
   copy-won places word back is =
       value-made p plan lawful begins (copies before.number g i k n) before found after g i slot shape step places
-          (CopyIn before.number g i k n) (λ x. value_word (Live n)) (Live n)
+      (CopyIn before.number g i k n) (λ x. value_word (Live n)) (Live n)
       (events-one (eqb found 0) (CopyIn before.number g i k n) (eq-eqb found 0 ((word-of found v says).0 ∙ ap value_word is)))
       refl (ap value_state (sym (word-of word (Live n) back).0) ∙ back)
 

@@ -28,7 +28,12 @@ impl Chain {
         laws::lawful_words();
         laws::places_are_distinct();
         let place = self.shape.value_place(g, i);
-        let spot = Spot { g, i, key: None, number: None };
+        let spot = Spot {
+            g,
+            i,
+            key: None,
+            number: None,
+        };
         decode_value(self.ors::<Brand>(seat, place, 1, spot)).unwrap()
     }
 
@@ -57,7 +62,12 @@ impl Chain {
         laws::one_slot();
         let place = self.shape.value_place(g, i);
         let word = encode_value(ValueState::Live(number));
-        let spot = Spot { g, i, key: Some(key), number: Some(number) };
+        let spot = Spot {
+            g,
+            i,
+            key: Some(key),
+            number: Some(number),
+        };
         decode_value(self.exchanges::<Brand>(seat, place, 0, word, spot, None)).unwrap()
     }
 
@@ -76,7 +86,12 @@ impl Chain {
         laws::places_are_distinct();
         laws::linked();
         let place = self.shape.value_place(g, i);
-        let spot = Spot { g, i, key: None, number: Some(number) };
+        let spot = Spot {
+            g,
+            i,
+            key: None,
+            number: Some(number),
+        };
         decode_value(self.ors::<Brand>(seat, place, 2, spot)).unwrap()
     }
 }

@@ -24,9 +24,9 @@ exchanges-requires-clause-can c =
     let seat = c.args.seat.now in
     let place = c.value_place-place.ensures ∙ ap (λ v. value_place v.shape c.args.g c.args.i) c.self.view_is in
     subst (λ x. Can p (copies seat.number c.args.g c.args.i c.args.key c.args.number) seat.number seat.seen x (λ found. cond
-        (eqb found 0) c.encode_value-word.result found)) (sym place)
+    (eqb found 0) c.encode_value-word.result found)) (sym place)
     (can-copy p c.seen_lasts.ensures c.lawful_words.ensures c.moved.ensures c.one_slot.ensures seat.number seat.seen c.args.g
-        c.args.i c.args.key c.args.number
+    c.args.i c.args.key c.args.number
     c.encode_value-word.result c.requires.slot c.encode_value-word.ensures.back
     (subst (λ q. (tables_at q seat.seen).key c.args.g c.args.i ≡ Claimed c.args.key) c.requires.own.1 c.requires.claimed)
     (subst (λ q. HasSource p (tables_at q seat.seen) c.args.g c.args.key c.args.number) c.requires.own.1 c.requires.source))
@@ -38,10 +38,10 @@ unwrap-requires c =
     let events = copies c.args.seat.now.number c.args.g c.args.i c.args.key c.args.number in
     let place = c.value_place-place.ensures ∙ ap (λ v. value_place v.shape c.args.g c.args.i) c.self.view_is in
     let step = subst (λ x. Stepped p events x c.args.seat.now c.exchanges.result c.exchanges.new.seat) place
-        c.exchanges.ensures in
+    c.exchanges.ensures in
     is-some c.exchanges.result c.decode_value.result c.decode_value.ensures.state
     (found-is p plan c.lawful_words.ensures c.beginnings_are_legal.ensures events c.args.seat.now c.exchanges.result
-        c.exchanges.new.seat c.args.g c.args.i c.requires.slot c.requires.own.1 step)
+    c.exchanges.new.seat c.args.g c.args.i c.requires.slot c.requires.own.1 step)
 
 pub returns-clause-won : goal.returns-clause-won
 returns-clause-won c =
@@ -50,11 +50,11 @@ returns-clause-won c =
     let events = copies c.args.seat.now.number c.args.g c.args.i c.args.key c.args.number in
     let place = c.value_place-place.ensures ∙ ap (λ v. value_place v.shape c.args.g c.args.i) c.self.view_is in
     let step = subst (λ x. Stepped p events x c.args.seat.now c.exchanges.result c.exchanges.new.seat) place
-        c.exchanges.ensures in
+    c.exchanges.ensures in
     copy-won p plan c.lawful_words.ensures c.beginnings_are_legal.ensures c.args.seat.now c.exchanges.result
-        c.exchanges.new.seat c.args.g c.args.i c.args.key c.args.number c.requires.slot c.requires.own.1 step
+    c.exchanges.new.seat c.args.g c.args.i c.args.key c.args.number c.requires.slot c.requires.own.1 step
     c.unwrap.result (sym c.decode_value.ensures.state ∙ c.unwrap.ensures) c.places_are_distinct.ensures c.encode_value-word.result
-        c.encode_value-word.ensures.back
+    c.encode_value-word.ensures.back
 
 pub returns-clause-lost : goal.returns-clause-lost
 returns-clause-lost c =
@@ -63,7 +63,7 @@ returns-clause-lost c =
     let events = copies c.args.seat.now.number c.args.g c.args.i c.args.key c.args.number in
     let place = c.value_place-place.ensures ∙ ap (λ v. value_place v.shape c.args.g c.args.i) c.self.view_is in
     let step = subst (λ x. Stepped p events x c.args.seat.now c.exchanges.result c.exchanges.new.seat) place
-        c.exchanges.ensures in
+    c.exchanges.ensures in
     copy-lost p plan c.lawful_words.ensures c.beginnings_are_legal.ensures c.args.seat.now c.exchanges.result
-        c.exchanges.new.seat c.args.g c.args.i c.args.key c.args.number c.requires.slot c.requires.own.1 step
+    c.exchanges.new.seat c.args.g c.args.i c.args.key c.args.number c.requires.slot c.requires.own.1 step
     c.unwrap.result (sym c.decode_value.ensures.state ∙ c.unwrap.ensures)

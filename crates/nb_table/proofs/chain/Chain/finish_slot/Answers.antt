@@ -24,10 +24,10 @@ ors-requires-clause-can c =
     let seat = c.args.seat.now in
     let place = c.value_place-place.ensures ∙ ap (λ v. value_place v.shape c.args.g c.args.i) c.self.view_is in
     subst (λ x. Can p (finishes seat.number c.args.g c.args.i c.args.number) seat.number seat.seen x (λ found. bit_or found 2))
-        (sym place)
+    (sym place)
     (can-finish p c.seen_lasts.ensures c.lawful_words.ensures c.linked.ensures seat.number seat.seen c.args.g c.args.i c.args.number
     c.requires.slot (subst (λ q. IsCopied p (tables_at q seat.seen) c.args.g c.args.i c.args.number) c.requires.own.1
-        c.requires.copied))
+    c.requires.copied))
 
 pub unwrap-requires : goal.unwrap-requires
 unwrap-requires c =
@@ -38,7 +38,7 @@ unwrap-requires c =
     let step = subst (λ x. Stepped p events x c.args.seat.now c.ors.result c.ors.new.seat) place c.ors.ensures in
     is-some c.ors.result c.decode_value.result c.decode_value.ensures.state
     (found-is p plan c.lawful_words.ensures c.beginnings_are_legal.ensures events c.args.seat.now c.ors.result c.ors.new.seat
-        c.args.g c.args.i c.requires.slot c.requires.own.1 step)
+    c.args.g c.args.i c.requires.slot c.requires.own.1 step)
 
 pub returns-clause-won : goal.returns-clause-won
 returns-clause-won c =
@@ -48,7 +48,7 @@ returns-clause-won c =
     let place = c.value_place-place.ensures ∙ ap (λ v. value_place v.shape c.args.g c.args.i) c.self.view_is in
     let step = subst (λ x. Stepped p events x c.args.seat.now c.ors.result c.ors.new.seat) place c.ors.ensures in
     finish-won p plan c.lawful_words.ensures c.beginnings_are_legal.ensures c.args.seat.now c.ors.result c.ors.new.seat c.args.g
-        c.args.i c.args.number c.requires.slot c.requires.own.1 step
+    c.args.i c.args.number c.requires.slot c.requires.own.1 step
     c.unwrap.result (sym c.decode_value.ensures.state ∙ c.unwrap.ensures) c.places_are_distinct.ensures
 
 pub returns-clause-lost : goal.returns-clause-lost
@@ -59,7 +59,7 @@ returns-clause-lost c =
     let place = c.value_place-place.ensures ∙ ap (λ v. value_place v.shape c.args.g c.args.i) c.self.view_is in
     let step = subst (λ x. Stepped p events x c.args.seat.now c.ors.result c.ors.new.seat) place c.ors.ensures in
     finish-lost p plan c.lawful_words.ensures c.beginnings_are_legal.ensures c.args.seat.now c.ors.result c.ors.new.seat c.args.g
-        c.args.i c.args.number c.requires.slot c.requires.own.1 step
+    c.args.i c.args.number c.requires.slot c.requires.own.1 step
     c.unwrap.result (sym c.decode_value.ensures.state ∙ c.unwrap.ensures) c.seen_lasts.ensures
     (subst (λ q. IsPrimedOrFinished (tables_at q c.args.seat.now.seen) c.args.g c.args.i c.args.number) c.requires.own.1
-        c.requires.copied.held)
+    c.requires.copied.held)

@@ -36,7 +36,7 @@ unwrap-requires c =
     let step = subst (λ x. Stepped p events x c.args.seat.now c.ors.result c.ors.new.seat) place c.ors.ensures in
     is-some c.ors.result c.decode_value.result c.decode_value.ensures.state
     (found-is p plan c.lawful_words.ensures c.beginnings_are_legal.ensures events c.args.seat.now c.ors.result c.ors.new.seat
-        c.args.g c.args.i c.requires.slot c.requires.own.1 step)
+    c.args.g c.args.i c.requires.slot c.requires.own.1 step)
 
 pub returns-clause-won : goal.returns-clause-won
 returns-clause-won c =
@@ -46,7 +46,7 @@ returns-clause-won c =
     let place = c.value_place-place.ensures ∙ ap (λ v. value_place v.shape c.args.g c.args.i) c.self.view_is in
     let step = subst (λ x. Stepped p events x c.args.seat.now c.ors.result c.ors.new.seat) place c.ors.ensures in
     prime-won p plan c.lawful_words.ensures c.beginnings_are_legal.ensures c.args.seat.now c.ors.result c.ors.new.seat c.args.g
-        c.args.i c.requires.slot c.requires.own.1 step
+    c.args.i c.requires.slot c.requires.own.1 step
     c.unwrap.result (sym c.decode_value.ensures.state ∙ c.unwrap.ensures) c.places_are_distinct.ensures
 
 pub returns-clause-lost : goal.returns-clause-lost
@@ -57,5 +57,5 @@ returns-clause-lost c =
     let place = c.value_place-place.ensures ∙ ap (λ v. value_place v.shape c.args.g c.args.i) c.self.view_is in
     let step = subst (λ x. Stepped p events x c.args.seat.now c.ors.result c.ors.new.seat) place c.ors.ensures in
     prime-lost p plan c.lawful_words.ensures c.beginnings_are_legal.ensures c.args.seat.now c.ors.result c.ors.new.seat c.args.g
-        c.args.i c.requires.slot c.requires.own.1 step
+    c.args.i c.requires.slot c.requires.own.1 step
     c.unwrap.result (sym c.decode_value.ensures.state ∙ c.unwrap.ensures)
