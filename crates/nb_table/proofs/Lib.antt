@@ -9,3 +9,4 @@ mod Opening
 mod Parted
 mod Values
 mod Views
+mod Winning

@@ -26,7 +26,7 @@ use Rattle.nb_table.proofs.Following.{if-follows, none-follows, one-follows}
 -- ---- words
 
 -- a word that stands for a state is the state's
-word-of : (x : ℕ) (v : ValueState) → value_state x ≡ Some v → (x ≡ value_word v) × IsValueState v
+pub word-of : (x : ℕ) (v : ValueState) → value_state x ≡ Some v → (x ≡ value_word v) × IsValueState v
 word-of x v says = grind (arith, nat_tests)
 
 -- a state's word stands for it, if its number is the map's
@@ -299,12 +299,12 @@ module _ (p : Plan) (plan : IsPlan p) (lawful : LawfulWords) (begins : Beginning
   )
 
   -- the step made no event, and the value is as it was
-  value-kept : events found ≡ [] → (v : ValueState) → value_state found ≡ Some v
+  pub value-kept : events found ≡ [] → (v : ValueState) → value_state found ≡ Some v
       → Extended before after [] 1 × ((seen_by after).value g i ≡ v)
   value-kept none v says = then-value [] none found v step.word says
 
   -- the step's event made a word of the one found
-  value-made :
+  pub value-made :
       (places : PlacesAreDistinct) (e : Event) (f : ℕ → ℕ) (v : ValueState) → events found ≡ e ∷ []
       → words_of p (e ∷ (step.grows.others ++ before.seen)) ≡ slice_set (words_of p (step.grows.others ++ before.seen))
       (value_place p g i) (f (slice_index (words_of p (step.grows.others ++ before.seen)) (value_place p g i)))
@@ -319,10 +319,10 @@ module _ (p : Plan) (plan : IsPlan p) (lawful : LawfulWords) (begins : Beginning
       ∙ ap f step.word) says
 
 -- which event a step made, by the test of the word that it found
-events-one : (test : Bool) (e : Event) → test ≡ true → only test e ≡ e ∷ []
+pub events-one : (test : Bool) (e : Event) → test ≡ true → only test e ≡ e ∷ []
 events-one test e holds = ap (λ b. only b e) holds
 
-events-none : (test : Bool) (e : Event) → test ≡ false → only test e ≡ []
+pub events-none : (test : Bool) (e : Event) → test ≡ false → only test e ≡ []
 events-none test e fails = ap (λ b. only b e) fails
 
 -- What priming a value tells.

@@ -1,7 +1,11 @@
 -- The event of each step, by the word that it finds.
-use Rattle.std.specs.Prelude.{ℕ, ◌+◌, ◌*◌, ◌%◌, ◌==◌, nat_le, Bool, if◌then◌else◌, List, [], ◌∷◌}
+use Rattle.std.specs.Prelude.{ℕ, ◌+◌, ◌*◌, ◌%◌, ◌==◌, nat_le, Bool, true, if◌then◌else◌, List, [], ◌∷◌}
+use Rattle.nb_core.specs.History.{content_of}
+use Rattle.nb_core.specs.States.{value_word}
+use Rattle.nb_core.specs.declared.calls.Call.{Call}
 use Rattle.nb_core.specs.declared.events.Event.{Event}
-use Rattle.nb_core.specs.declared.events.Event.TheVariants.{Claim, Kill, CopyIn, Prime, Finish, Install, Take, Count, Promote}
+use Rattle.nb_core.specs.declared.events.Event.TheVariants.{Claim, Kill, Won, CopyIn, Prime, Finish, Install, Take, Count, Promote}
+use Rattle.nb_core.specs.declared.states.ValueState.{ValueState}
 
 -- the event, if the step changed its word
 abbrev pub only : Bool → Event → List Event
@@ -12,6 +16,10 @@ claims number g i k found = only (found == 0) (Claim number g i k)
 
 abbrev pub kills : (number g i : ℕ) → ℕ → List Event
 kills number g i found = only (found == 0) (Kill number g i)
+
+abbrev pub wins : (number g i : ℕ) (from to : ValueState) (call : Call) → ℕ → List Event
+wins number g i from to call found =
+    only (found == value_word from) (Won number g i from to call (record { before = content_of from; matched = true }))
 
 abbrev pub copies : (number g i k n : ℕ) → ℕ → List Event
 copies number g i k n found = only (found == 0) (CopyIn number g i k n)

@@ -1,6 +1,7 @@
 //! The chain of tables.
 #![tactic(auto)]
 
+mod calls;
 mod chain;
 mod closed;
 mod copying;
