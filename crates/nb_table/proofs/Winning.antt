@@ -33,13 +33,13 @@ wins-of number g i old new from to call says_old says_new =
 -- A call may put in place of an unprimed value what it makes of it, in its key's slot, once the key is settled below.
 pub can-win :
     (p : Plan) → SeenLasts → LawfulWords → WinReplies → (number : ℕ) (seen : List Event) (g i old new : ℕ) (from to : ValueState)
-        (call : Call) → IsSlot p g i
+    (call : Call) → IsSlot p g i
     → value_state old ≡ Some from → value_state new ≡ Some to → IsCallInRange call
     → (tables_at p seen).key g i ≡ Claimed (key_of_call call) → IsUnprimed from
     → IsSettledBelow p (tables_at p seen) g (key_of_call call) → IsExchange call (key_of_call call) from to
     → Can p (wins number g i from to call) number seen (value_place p g i) (λ found. cond (eqb found old) new found)
 can-win p lasts lawful replies number seen g i old new from to call slot says_old says_new ranges claimed unprimed settled exchange
-        plan seated others not_own legal =
+    plan seated others not_own legal =
     let h = others ++ seen in
     let place = value_place p g i in
     let found = slice_index (words_of p h) place in
@@ -72,9 +72,9 @@ module _ (p : Plan) (plan : IsPlan p) (lawful : LawfulWords) (begins : Beginning
       → Extended before after (win before.number g i from to call ∷ []) 1 × ((seen_by after).value g i ≡ to)
   win-won places new back is =
       value-made p plan lawful begins (wins before.number g i from to call) before found after g i slot shape step places
-          (win before.number g i from to call) (λ x. value_word to) to
+      (win before.number g i from to call) (λ x. value_word to) to
       (events-one (eqb found (value_word from)) (win before.number g i from to call)
-          (eq-eqb found (value_word from) ((word-of found v says).0 ∙ ap value_word is)))
+      (eq-eqb found (value_word from) ((word-of found v says).0 ∙ ap value_word is)))
       refl (ap value_state (sym (word-of new to back).0) ∙ back)
 
   pub win-lost : (old : ℕ) → value_state old ≡ Some from → (v ≡ from → ⊥)
@@ -83,4 +83,4 @@ module _ (p : Plan) (plan : IsPlan p) (lawful : LawfulWords) (begins : Beginning
       value-kept p plan lawful begins (wins before.number g i from to call) before found after g i slot shape step
       (events-none (eqb found (value_word from)) (win before.number g i from to call)
       (ne_eqb found (value_word from) (λ same. other (ap (λ o. unwrap_or o Null) (sym says)
-          ∙ ap (λ x. unwrap_or (value_state x) Null) (same ∙ sym (word-of old from back).0) ∙ ap (λ o. unwrap_or o Null) back)))) v says
+      ∙ ap (λ x. unwrap_or (value_state x) Null) (same ∙ sym (word-of old from back).0) ∙ ap (λ o. unwrap_or o Null) back)))) v says

@@ -59,7 +59,12 @@ impl Chain {
         let place = self.shape.value_place(g, i);
         let old = encode_value(from);
         let new = encode_value(to);
-        let spot = Spot { g, i, key: None, number: None };
+        let spot = Spot {
+            g,
+            i,
+            key: None,
+            number: None,
+        };
         decode_value(self.exchanges::<Brand>(seat, place, old, new, spot, Some(call))).unwrap()
     }
 }

@@ -25,16 +25,16 @@ exchanges-requires-clause-can c =
     let seat = c.args.seat.now in
     let place = c.value_place-place.ensures ∙ ap (λ v. value_place v.shape c.args.g c.args.i) c.self.view_is in
     let events = wins-of seat.number c.args.g c.args.i c.encode_value-old.result c.encode_value-new.result c.args.from c.args.to
-        c.args.call c.encode_value-old.ensures.back c.encode_value-new.ensures.back in
+    c.args.call c.encode_value-old.ensures.back c.encode_value-new.ensures.back in
     subst₂ (λ x told. Can p told seat.number seat.seen x (λ found. cond (eqb found c.encode_value-old.result)
-        c.encode_value-new.result found)) (sym place) (sym events)
+    c.encode_value-new.result found)) (sym place) (sym events)
     (can-win p c.seen_lasts.ensures c.lawful_words.ensures c.win_replies.ensures seat.number seat.seen c.args.g c.args.i
-        c.encode_value-old.result c.encode_value-new.result c.args.from c.args.to c.args.call c.requires.slot
-        c.encode_value-old.ensures.back c.encode_value-new.ensures.back c.known.ensures
+    c.encode_value-old.result c.encode_value-new.result c.args.from c.args.to c.args.call c.requires.slot
+    c.encode_value-old.ensures.back c.encode_value-new.ensures.back c.known.ensures
     (subst (λ q. (tables_at q seat.seen).key c.args.g c.args.i ≡ Claimed (key_of_call c.args.call)) c.requires.own.1
-        c.requires.claimed) c.requires.unprimed
+    c.requires.claimed) c.requires.unprimed
     (subst (λ q. IsSettledBelow p (tables_at q seat.seen) c.args.g (key_of_call c.args.call)) c.requires.own.1
-        c.requires.settled) c.requires.exchange)
+    c.requires.settled) c.requires.exchange)
 
 pub unwrap-requires : goal.unwrap-requires
 unwrap-requires c =
@@ -43,12 +43,12 @@ unwrap-requires c =
     let seat = c.args.seat.now in
     let place = c.value_place-place.ensures ∙ ap (λ v. value_place v.shape c.args.g c.args.i) c.self.view_is in
     let events = wins-of seat.number c.args.g c.args.i c.encode_value-old.result c.encode_value-new.result c.args.from c.args.to
-        c.args.call c.encode_value-old.ensures.back c.encode_value-new.ensures.back in
+    c.args.call c.encode_value-old.ensures.back c.encode_value-new.ensures.back in
     let step = subst₂ (λ x told. Stepped p told x seat c.exchanges.result c.exchanges.new.seat) place events c.exchanges.ensures in
     is-some c.exchanges.result c.decode_value.result c.decode_value.ensures.state
     (found-is p plan c.lawful_words.ensures c.beginnings_are_legal.ensures
-        (wins seat.number c.args.g c.args.i c.args.from c.args.to c.args.call) seat c.exchanges.result c.exchanges.new.seat
-        c.args.g c.args.i c.requires.slot c.requires.own.1 step)
+    (wins seat.number c.args.g c.args.i c.args.from c.args.to c.args.call) seat c.exchanges.result c.exchanges.new.seat
+    c.args.g c.args.i c.requires.slot c.requires.own.1 step)
 
 pub returns-clause-won : goal.returns-clause-won
 returns-clause-won c =
@@ -57,12 +57,12 @@ returns-clause-won c =
     let seat = c.args.seat.now in
     let place = c.value_place-place.ensures ∙ ap (λ v. value_place v.shape c.args.g c.args.i) c.self.view_is in
     let events = wins-of seat.number c.args.g c.args.i c.encode_value-old.result c.encode_value-new.result c.args.from c.args.to
-        c.args.call c.encode_value-old.ensures.back c.encode_value-new.ensures.back in
+    c.args.call c.encode_value-old.ensures.back c.encode_value-new.ensures.back in
     let step = subst₂ (λ x told. Stepped p told x seat c.exchanges.result c.exchanges.new.seat) place events c.exchanges.ensures in
     win-won p plan c.lawful_words.ensures c.beginnings_are_legal.ensures seat c.exchanges.result c.exchanges.new.seat
-        c.args.g c.args.i c.args.from c.args.to c.args.call c.requires.slot c.requires.own.1 step
+    c.args.g c.args.i c.args.from c.args.to c.args.call c.requires.slot c.requires.own.1 step
     c.unwrap.result (sym c.decode_value.ensures.state ∙ c.unwrap.ensures) c.places_are_distinct.ensures c.encode_value-new.result
-        c.encode_value-new.ensures.back
+    c.encode_value-new.ensures.back
 
 pub returns-clause-lost : goal.returns-clause-lost
 returns-clause-lost c =
@@ -71,9 +71,9 @@ returns-clause-lost c =
     let seat = c.args.seat.now in
     let place = c.value_place-place.ensures ∙ ap (λ v. value_place v.shape c.args.g c.args.i) c.self.view_is in
     let events = wins-of seat.number c.args.g c.args.i c.encode_value-old.result c.encode_value-new.result c.args.from c.args.to
-        c.args.call c.encode_value-old.ensures.back c.encode_value-new.ensures.back in
+    c.args.call c.encode_value-old.ensures.back c.encode_value-new.ensures.back in
     let step = subst₂ (λ x told. Stepped p told x seat c.exchanges.result c.exchanges.new.seat) place events c.exchanges.ensures in
     win-lost p plan c.lawful_words.ensures c.beginnings_are_legal.ensures seat c.exchanges.result c.exchanges.new.seat
-        c.args.g c.args.i c.args.from c.args.to c.args.call c.requires.slot c.requires.own.1 step
+    c.args.g c.args.i c.args.from c.args.to c.args.call c.requires.slot c.requires.own.1 step
     c.unwrap.result (sym c.decode_value.ensures.state ∙ c.unwrap.ensures) c.encode_value-old.result
-        c.encode_value-old.ensures.back
+    c.encode_value-old.ensures.back
