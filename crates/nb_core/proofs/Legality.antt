@@ -1,6 +1,6 @@
 -- A test of histories that computes: what passes it is legal (`passes_legal` in proofs/). It is there for examples.
 use Rattle.std.specs.Prelude.{ℕ, suc, zero, ◌+◌, ◌-◌, ◌%◌, ◌==◌, ◌&&◌, ◌||◌, not, nat_lt, nat_le, Bool, true, false, if◌then◌else◌, List, [], ◌∷◌, Option, Some, None, is_some}
-use Rattle.nb_core.specs.Calls.{changed, holds_of, is_past_max}
+use Rattle.nb_core.specs.Calls.{changed, holds_of, is_past_max, leaves_alone, same_number}
 use Rattle.nb_core.specs.Plans.{Plan, generations_of, limit_of, size_of}
 use Rattle.nb_core.specs.Tables.{Tables, path_slot, tables_at}
 use Rattle.nb_core.specs.Histories.{is_empty}
@@ -204,12 +204,6 @@ number_at [] k = None
 number_at (Won s g i a b c r ∷ h) k = if k == key_of_call c then number_left b (number_at h k) else number_at h k
 number_at (_ ∷ h) k = number_at h k
 
-abbrev pub same_number : Option ℕ → Option ℕ → Bool
-same_number None None = true
-same_number None (Some m) = false
-same_number (Some n) None = false
-same_number (Some n) (Some m) = n == m
-
 -- the reply is the map's where this number stands at the key, and the call doesn't overflow
 abbrev pub is_reply : Call → Reply → Option ℕ → Bool
 is_reply (call.Get k) r now = same_number r.before now && r.matched
@@ -217,14 +211,9 @@ is_reply (call.Write k want change) r now =
     same_number r.before now && ((if holds_of want now then r.matched else not r.matched)
     && (not (holds_of want now) || not (is_past_max (changed change now))))
 
--- the call leaves the number as it is
-abbrev pub leaves : Call → Option ℕ → Bool
-leaves (call.Get k) now = true
-leaves (call.Write k want change) now = not (holds_of want now) || same_number (changed change now) now
-
 abbrev pub replies : List Event → Event → Bool
 replies h (Won s g i a b c r) = is_reply c r (number_at h (key_of_call c))
-replies h (Read s c r) = is_reply c r (number_at h (key_of_call c)) && leaves c (number_at h (key_of_call c))
+replies h (Read s c r) = is_reply c r (number_at h (key_of_call c)) && leaves_alone c (number_at h (key_of_call c))
 replies h _ = true
 
 abbrev pub passes : Plan → List Event → Bool

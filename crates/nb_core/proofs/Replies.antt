@@ -1,20 +1,21 @@
 -- The map's number at a key, and the replies of calls, as they compute.
-use Rattle.std.proofs.Common.{◌≡◌, ◌∙◌, ℕ, sym, ap, refl, Bool, true, false, not, cond, ◌||◌, eqb, ltb, List, [], ◌∷◌, Option, Some, None, arith, inl, inr}
+use Rattle.std.proofs.Common.{◌≡◌, ◌∙◌, ◌⊎◌, ℕ, sym, ap, refl, Bool, true, false, not, cond, ◌||◌, eqb, ltb, List, [], ◌∷◌, Option, Some, None, arith, inl, inr}
 use Rattle.std.proofs.lemmas.Bool.{cond-false, eqb-true, ltb-true, ne_eqb}
 use Rattle.std.specs.FinMap.{get, get-insert, get-remove, get-empty, same_map, nat_cmp-IsAntisymmetric}
 use Rattle.std.specs.Ordering.{nat_cmp, eq_by_cmp, is_eq}
 use Rattle.std.specs.declared.cmp.Ordering.TheVariants.{Less, Equal, Greater}
 use Rattle.std.specs.Cmp.{nat_cmp_total}
-use Rattle.nb_core.specs.Calls.{Numbers, changed, holds_of, is_past_max, map_after, overflows, reply_of, with_at}
+use Rattle.nb_core.specs.Calls.{Numbers, changed, holds_of, is_past_max, leaves_alone, map_after, overflows, reply_of, same_number, with_at}
 use Rattle.nb_core.specs.Plans.{Plan}
 use Rattle.nb_core.specs.Tables.{tables_at}
 use Rattle.nb_core.specs.History.{IsLegal, Replies, after_win, key_of_call, map_of}
-use Rattle.nb_core.specs.Laws.{LeavesAlone}
-use Rattle.nb_core.proofs.Legality.{is_reply, leaves, number_at, number_left, is_in_range, may_follow, passes, replies, same_number}
+use Rattle.nb_core.proofs.Legality.{is_reply, number_at, number_left, is_in_range, may_follow, passes, replies}
 use Rattle.nb_core.proofs.Passing.{both, either, is_in_range-true, may_follow-true, not_true}
 use Rattle.nb_core.specs.declared.calls.Call.{Call}
 use Rattle.nb_core.specs.declared.calls.Call.TheVariants as call
+use Rattle.nb_core.specs.declared.calls.Change.{Change}
 use Rattle.nb_core.specs.declared.calls.Reply.{Reply}
+use Rattle.nb_core.specs.declared.calls.Want.{Want}
 use Rattle.nb_core.specs.declared.events.Event.{Event}
 use Rattle.nb_core.specs.declared.events.Event.TheVariants.{Won, Read}
 use Rattle.nb_core.specs.declared.states.ValueState.{ValueState}
@@ -110,24 +111,27 @@ reply_is :
     → (r ≡ reply_of c m) × (overflows c m ≡ false)
 reply_is c r m now at e = reply_here c r m (ap (is_reply c r) at ∙ e)
 
--- a call that leaves the number at its key alone leaves the map as it is
-pub map_after-left : (c : Call) (m : Numbers) → LeavesAlone c (get m (key_of_call c)) → map_after c m ≡ m
-map_after-left (call.Get k) m alone = refl
-map_after-left (call.Write k want change) m (inl fails) = cond-false _ _ _ fails
-map_after-left (call.Write k want change) m (inr same) =
-    let number = get m k in
-    elim (holds_of want number) as (λ b. cond b (with_at m k (changed change number)) m ≡ m) [
-      | true ↦ ap (with_at m k) same ∙ with_at-same m k number refl
-      | false ↦ refl
-    ]
+-- A write leaves alone what stands at its key where its condition doesn't hold of it, or its change puts the same.
+pub alone-why :
+    (k : ℕ) (want : Want) (change : Change) (number : Option ℕ) → leaves_alone (call.Write k want change) number ≡ true
+    → (holds_of want number ≡ false) ⊎ (changed change number ≡ number)
+alone-why k want change number e = elim (either (not (holds_of want number)) (same_number (changed change number) number) e) [
+  | inl fails ↦ inl (not_true (holds_of want number) fails)
+  | inr same ↦ inr (same_number-true (changed change number) number same)
+]
 
--- what passes the test leaves its key's number alone
-leaves-true : (c : Call) (number : Option ℕ) → leaves c number ≡ true → LeavesAlone c number
-leaves-true (call.Get k) number e = tt
-leaves-true (call.Write k want change) number e =
-    elim (either (not (holds_of want number)) (same_number (changed change number) number) e) [
-      | inl fails ↦ inl (not_true (holds_of want number) fails)
-      | inr same ↦ inr (same_number-true (changed change number) number same)
+-- a call that leaves the number at its key alone leaves the map as it is
+pub map_after-left : (c : Call) (m : Numbers) → leaves_alone c (get m (key_of_call c)) ≡ true → map_after c m ≡ m
+map_after-left (call.Get k) m alone = refl
+map_after-left (call.Write k want change) m alone =
+    let number = get m k in
+    let after = λ (b : Bool). cond b (with_at m k (changed change number)) m in
+    elim (alone-why k want change number alone) as (λ why. after (holds_of want number) ≡ m) [
+      | inl fails ↦ cond-false _ _ _ fails
+      | inr same ↦ elim (holds_of want number) as (λ b. after b ≡ m) [
+        | true ↦ ap (with_at m k) same ∙ with_at-same m k number refl
+        | false ↦ refl
+      ]
     ]
 
 -- replies that pass the test are right
@@ -136,9 +140,9 @@ replies-true h (Won s g i a b c r) e = reply_is c r (map_of h) _ (number_at_map 
 replies-true h (Read s c r) e =
     let k = key_of_call c in
     let at = number_at_map h k in
-    let a = both (is_reply c r (number_at h k)) (leaves c (number_at h k)) e in
+    let a = both (is_reply c r (number_at h k)) (leaves_alone c (number_at h k)) e in
     let reply = reply_is c r (map_of h) _ at a.0 in
-    let alone = leaves-true c (get (map_of h) k) (ap (leaves c) at ∙ a.1) in
+    let alone = ap (leaves_alone c) at ∙ a.1 in
     (reply.0, reply.1, map_after-left c (map_of h) alone)
 replies-true h _ e = tt
 

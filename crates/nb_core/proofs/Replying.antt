@@ -1,12 +1,12 @@
 -- What a call may reply where it wins an exchange, or leaves the map alone.
-use Rattle.std.proofs.Common.{◌≡◌, ◌≢◌, ◌∙◌, ℕ, ◌≤◌, ap, sym, subst, refl, inl, inr, true, false, cond, Option, Some, None, MatchOption}
+use Rattle.std.proofs.Common.{◌≡◌, ◌≢◌, ◌∙◌, ℕ, ◌≤◌, ap, sym, subst, refl, inl, inr, Bool, true, false, cond, Option, Some, None, MatchOption}
 use Rattle.std.proofs.lemmas.Bool.{cond-false, le-ltb}
 use Rattle.std.specs.FinMap.{get}
-use Rattle.nb_core.specs.Calls.{Numbers, changed, holds_of, is_past_max, map_after, overflows, reply_of}
+use Rattle.nb_core.specs.Calls.{Numbers, changed, holds_of, is_past_max, leaves_alone, map_after, overflows, reply_of}
 use Rattle.nb_core.specs.History.{IsExchange, content_of, key_of_call, map_of}
-use Rattle.nb_core.specs.Laws.{LeavesAlone, ReadReplies, WinReplies, reply_at}
+use Rattle.nb_core.specs.Laws.{ReadReplies, WinReplies, reply_at}
 use Rattle.nb_core.proofs.Keys.{map_in_range}
-use Rattle.nb_core.proofs.Replies.{map_after-left}
+use Rattle.nb_core.proofs.Replies.{alone-why, map_after-left}
 use Rattle.nb_core.proofs.Shown.{win_number}
 use Rattle.nb_core.specs.declared.numbers.TheConstants.{VALUE_MAX}
 use Rattle.nb_core.specs.declared.calls.Call.{Call}
@@ -56,22 +56,25 @@ reply_at-map (call.Write k want change) m = refl
 
 -- a call that leaves its key's number alone doesn't overflow,
 overflows-left :
-    (c : Call) (m : Numbers) → let number = get m (key_of_call c) in FitsIfSome number → LeavesAlone c number → overflows c m ≡ false
+    (c : Call) (m : Numbers) → let number = get m (key_of_call c) in FitsIfSome number → leaves_alone c number ≡ true → overflows c m ≡ false
 overflows-left (call.Get k) m fits alone = refl
-overflows-left (call.Write k want change) m fits (inl fails) = cond-false _ _ _ fails
-overflows-left (call.Write k want change) m fits (inr same) =
+overflows-left (call.Write k want change) m fits alone =
     let number = get m k in
-    elim (holds_of want number) as (λ b. cond b (is_past_max (changed change number)) false ≡ false) [
-      | true ↦ ap is_past_max same ∙ is_past_max-fits number fits
-      | false ↦ refl
+    let past = λ (b : Bool). cond b (is_past_max (changed change number)) false in
+    elim (alone-why k want change number alone) as (λ why. past (holds_of want number) ≡ false) [
+      | inl fails ↦ cond-false _ _ _ fails
+      | inr same ↦ elim (holds_of want number) as (λ b. past b ≡ false) [
+        | true ↦ ap is_past_max same ∙ is_past_max-fits number fits
+        | false ↦ refl
+      ]
     ]
 
 -- and may reply it
 read-replies :
-    (c : Call) (m : Numbers) (number : Option ℕ) → get m (key_of_call c) ≡ number → FitsIfSome number → LeavesAlone c number
+    (c : Call) (m : Numbers) (number : Option ℕ) → get m (key_of_call c) ≡ number → FitsIfSome number → leaves_alone c number ≡ true
     → (reply_at c number ≡ reply_of c m) × (overflows c m ≡ false) × (map_after c m ≡ m)
 read-replies c m number at fits alone =
-    let alone_here = subst (LeavesAlone c) (sym at) alone in (
+    let alone_here = ap (leaves_alone c) at ∙ alone in (
       ap (reply_at c) (sym at) ∙ reply_at-map c m,
       overflows-left c m (subst FitsIfSome (sym at) fits) alone_here,
       map_after-left c m alone_here,

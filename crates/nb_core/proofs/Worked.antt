@@ -3,11 +3,12 @@ use Rattle.std.proofs.Common.{◌≡◌, ◌∙◌, ℕ, zero, suc, ◌-◌, ◌
 use Rattle.std.specs.List.{All}
 use Rattle.std.specs.FinMap as map
 use Rattle.std.proofs.lemmas.List.Elements.{All-cons, All-nil}
+use Rattle.nb_core.specs.Calls.{same_number}
 use Rattle.nb_core.specs.Plans.{generations_of, size_of}
 use Rattle.nb_core.specs.Tables.{IsOther, Tables, tables_at}
 use Rattle.nb_core.specs.History.{IsLegal, map_of}
 use Rattle.nb_core.specs.Histories.{HasNumbers, Worked}
-use Rattle.nb_core.proofs.Legality.{is_other, number_at, passes, same_number}
+use Rattle.nb_core.proofs.Legality.{is_other, number_at, passes}
 use Rattle.nb_core.specs.Meaning.{IsCrowded}
 use Rattle.nb_core.proofs.Passing.{below_suc, both, is_other-true}
 use Rattle.nb_core.proofs.Replies.{number_at_map, passes_legal, same_number-true}

@@ -1,5 +1,6 @@
 -- What a call of the map replies, and what map it leaves, in the words of `java.util.concurrent.ConcurrentMap`.
-use Rattle.std.specs.Prelude.{ℕ, ◌+◌, ◌==◌, Bool, true, false, if◌then◌else◌, nat_lt, Option, Some, None, is_some, is_none, unwrap_or}
+use Rattle.std.specs.Prelude.{ℕ, ◌+◌, ◌==◌, ◌||◌, Bool, true, false, not, if◌then◌else◌, nat_lt, Option, Some, None, is_some, is_none, unwrap_or}
+use Rattle.std.specs.Option.{option_eq}
 use Rattle.std.specs.Ordering.{nat_cmp}
 use Rattle.std.specs.FinMap.{FinMap, get, insert, remove}
 use Rattle.nb_core.specs.declared.numbers.TheConstants.{VALUE_MAX}
@@ -44,6 +45,15 @@ abbrev pub map_after : Call → Numbers → Numbers
 map_after (Get k) m = m
 map_after (Write k want change) m =
     if holds_of want (get m k) then with_at m k (changed change (get m k)) else m
+
+-- whether both are the same number, or both none
+abbrev pub same_number : Option ℕ → Option ℕ → Bool
+same_number = option_eq (λ m n. m == n)
+
+-- the call leaves this number, or none, at its key: it only asks, or its condition doesn't hold, or it would put the same
+abbrev pub leaves_alone : Call → Option ℕ → Bool
+leaves_alone (Get k) before = true
+leaves_alone (Write k want change) before = not (holds_of want before) || same_number (changed change before) before
 
 -- the change would put a number past the greatest one
 abbrev pub is_past_max : Option ℕ → Bool

@@ -1,7 +1,7 @@
 -- The laws of legal histories: what holds at every moment, whatever atomic steps were made, by whom, in which order.
 use Rattle.std.specs.Prelude.{◌≡◌, ◌≢◌, ℕ, suc, zero, ◌+◌, ◌-◌, ◌<◌, ◌≤◌, ◌⊎◌, ◌==◌, ◌&&◌, ◌||◌, ℤ, pos, ◌+ℤ◌, Bool, true, false, if◌then◌else◌, List, [], ◌∷◌, ◌++◌, length, slice_index, Option, Some, None, All}
 use Rattle.std.specs.FinMap as map
-use Rattle.nb_core.specs.Calls.{changed, holds_of}
+use Rattle.nb_core.specs.Calls.{holds_of, leaves_alone}
 use Rattle.nb_core.specs.Plans.{Plan, IsPlan, generations_of, header_place, size_of, value_place, word_count}
 use Rattle.nb_core.specs.States.{IsKeyState, value_state}
 use Rattle.nb_core.specs.Tables.{AreOthers, HasSlot, IsComplete, IsFinished, IsFinishedValue, IsInstalled, IsReady, IsSettledBelow, IsSlot, IsUnprimed, Tables, path_slot, tables_at, words_of}
@@ -377,11 +377,6 @@ abbrev pub reply_at : Call → Option ℕ → Reply
 reply_at (call.Get k) number = record { before = number; matched = true }
 reply_at (call.Write k want change) number = record { before = number; matched = holds_of want number }
 
--- the call leaves this number, or none, at its key: it only asks, or its condition doesn't hold, or it would put the same
-abbrev pub LeavesAlone : Call → Option ℕ → Type 0
-LeavesAlone (call.Get k) number = Unit {0}
-LeavesAlone (call.Write k want change) number = (holds_of want number ≡ false) ⊎ (changed change number ≡ number)
-
 -- A call that may win an exchange may reply the number that it replaces, and that its condition held.
 abbrev pub WinReplies : Type 0
 WinReplies =
@@ -392,7 +387,7 @@ WinReplies =
 abbrev pub ReadReplies : Type 0
 ReadReplies =
     (p : Plan) → IsPlan p → (h : List Event) → IsLegal p h → (s : ℕ) (c : Call) (number : Option ℕ)
-    → map.get (map_of h) (key_of_call c) ≡ number → LeavesAlone c number → Replies (map_of h) (Read s c (reply_at c number))
+    → map.get (map_of h) (key_of_call c) ≡ number → leaves_alone c number ≡ true → Replies (map_of h) (Read s c (reply_at c number))
 
 -- ---- keys of the map
 
