@@ -1,19 +1,20 @@
--- What the steps may do that hand out chunks and count, and what they tell.
-use Rattle.std.proofs.Common.{◌≡◌, ◌∙◌, ℕ, zero, suc, ◌+◌, ◌%◌, ◌^◌, ◌<◌, ◌≤◌, List, ◌∷◌, ◌++◌, slice_index, slice_set, ap, sym, subst, refl, inl, inr, arith}
-use Rattle.std.proofs.Math.Nat.{eq-or-lt_of_le, le_trans, mod-eq_of_lt}
-use Rattle.std.proofs.lemmas.Bool.{eq-eqb}
+-- What the steps may do that hand out chunks, count and promote, and what they tell.
+use Rattle.std.proofs.Common.{◌≡◌, ◌∙◌, ℕ, zero, suc, ◌+◌, ◌%◌, ◌^◌, ◌<◌, ◌≤◌, false, leb, max, List, [], ◌∷◌, ◌++◌, drop, length, slice_index, slice_set, ap, sym, subst, subst₂, refl, inl, inr, arith}
+use Rattle.std.proofs.Math.Nat.{eq-or-lt_of_le, le_trans, max-eq_right, mod-eq_of_lt}
+use Rattle.std.proofs.lemmas.Bool.{eq-eqb, le-leb, leb-true}
+use Rattle.std.proofs.lemmas.Bool.Decides.{nat_tests}
 use Rattle.std.proofs.lemmas.List.{get_or-set_same}
 use Rattle.std.proofs.lemmas.List.Elements.{All-get_or}
 use Rattle.std.proofs.Math.Pow.{pow_mono}
-use Rattle.nb_core.specs.Plans.{IsPlan, Plan, PlacesAreDistinct, Header, generations_of, header_place, size_of, word_count}
-use Rattle.nb_core.specs.Tables.{IsInstalled, chunk_of, tables_at, words_of}
+use Rattle.nb_core.specs.Plans.{IsPlan, Plan, PlacesAreDistinct, Header, Top, generations_of, header_place, size_of, word_count}
+use Rattle.nb_core.specs.Tables.{IsComplete, IsInstalled, chunk_of, tables_at, words_of}
 use Rattle.nb_core.specs.History.{IsLegal, counted_by, turned_by}
 use Rattle.nb_core.specs.Laws.{CountedOnce, LawfulWords, OwnLasts, SeenLasts, over_seats}
 use Rattle.nb_core.specs.declared.events.Event.{Event}
-use Rattle.nb_core.specs.declared.events.Event.TheVariants.{Take, Count}
-use Rattle.nb_table.proofs.Following.{later, one-follows}
-use Rattle.nb_table.specs.Chains.{SeenBy, seen_by}
-use Rattle.nb_table.specs.Events.{counts, takes}
+use Rattle.nb_core.specs.declared.events.Event.TheVariants.{Take, Count, Promote}
+use Rattle.nb_table.proofs.Following.{if-follows, later, none-follows, one-follows}
+use Rattle.nb_table.specs.Chains.{Extended, SeenBy, seen_before, seen_by}
+use Rattle.nb_table.specs.Events.{counts, only, promotes, takes}
 use Rattle.nb_table.specs.Steps.{Can, Stepped}
 
 -- ---- what may be done
@@ -48,6 +49,29 @@ can-count p own number g c seen table some turned place at =
     (subst (λ n. n + c ≤ turned_by p seen number g) (sym (still.counted g)) turned) in
     one-follows p (Count number g c) number (header_place p g 2) _ (others ++ seen)
     (legal, (seat, table), record { some = some; own = turned' }, tt) refl refl)
+
+-- the top word may be raised past a complete table
+pub can-promote : (p : Plan) (lasts : SeenLasts) (number g : ℕ) (seen : List Event) → g < generations_of p
+    → IsComplete p (tables_at p seen) g → (least : ℕ) → least ≡ g + 1
+    → Can p (promotes number g) number seen 0 (λ found. max found least)
+can-promote p lasts number g seen table complete least is plan seat others not_own legal =
+    let h = others ++ seen in
+    let found = slice_index (words_of p h) 0 in
+    let next : suc g ≡ least = omega (arith, is) in
+    if-follows p (leb found g) (Promote number g) number 0 (max found least) h
+    (λ low. one-follows p (Promote number g) number 0 (max found least) h (
+      legal,
+      (seat, table),
+      record {
+        complete = (later p lasts number seen plan others legal).complete g table complete;
+        higher = leb-true found g low;
+      },
+      tt,
+    ) (ap (λ n. slice_set (words_of p h) 0 (max found n)) next) refl)
+    (λ high. none-follows p number 0 (max found least) h legal (stays found g least is high))
+  where
+    stays : (found g least : ℕ) → least ≡ g + 1 → leb found g ≡ false → max found least ≡ found
+    stays found g least is high = grind (arith, nat_tests)
 
 -- ---- the done word doesn't wrap
 
@@ -132,3 +156,24 @@ module _ (p : Plan) (lawful : LawfulWords) (distinct : PlacesAreDistinct) (plan 
         ∙ ap (λ n. (n + c) % 2 ^ 64) is_found
         ∙ one-sum found c (size_of p g) (subst (λ n. n ≤ size_of p g) is_found (once p plan h legal.0 g table).fits)
         (le_trans share new.fits) (size-fits p plan g table)
+
+-- what a promotion tells that raised the top word
+pub raised : (p : Plan) → LawfulWords → PlacesAreDistinct → IsPlan p → (g found : ℕ) (before after : SeenBy) → before.shape ≡ p
+    → Stepped p (promotes before.number g) 0 before found after → found ≤ g
+    → Extended before after (Promote before.number g ∷ []) 1 × ((seen_before after).top ≡ found) × ((seen_by after).top ≡ suc g)
+raised p lawful distinct plan g found before after shape step low =
+    let h = step.grows.others ++ before.seen in
+    let own : promotes before.number g found ≡ Promote before.number g ∷ [] = ap (λ b. only b (Promote before.number g)) (le-leb found g low) in
+    let grows = subst (λ own. Extended before after own 1) own step.grows in
+    let legal : IsLegal p (Promote before.number g ∷ h)
+    = subst₂ IsLegal (step.grows.shape ∙ shape) (step.grows.seen ∙ ap (λ own. own ++ h) own) step.grows.legal in
+    let top = ap (λ q. tables_at q after.seen) (step.grows.shape ∙ shape) ∙ ap (tables_at p) (step.grows.seen ∙ ap (λ own. own ++ h) own) in
+    let below = ap (λ q. tables_at q (drop 1 after.seen)) (step.grows.shape ∙ shape)
+    ∙ ap (λ s. tables_at p (drop 1 s)) (step.grows.seen ∙ ap (λ own. own ++ h) own) in
+    let some : 0 < length (words_of p h) = subst (λ n. 0 < n) (sym (lawful p plan h legal.0).length) ((distinct p plan).below Top tt) in
+    let most : max found (suc g) ≡ suc g = max-eq_right (omega (arith, low)) in (
+      grows,
+      ap (λ t. t.top) below ∙ step.word,
+      ap (λ t. t.top) top ∙ get_or-set_same (words_of p h) 0 (max (slice_index (words_of p h) 0) (suc g)) 0 some
+      ∙ ap (λ n. max n (suc g)) step.word ∙ most,
+    )

@@ -72,10 +72,10 @@ module _ (p : Plan) (lasts : SeenLasts) (number g : ℕ) (seen : List Event) whe
         record {
           installed = lasting.installed g installed;
           empty = ap key_state zero_found;
-          distance = way.distance;
-          on_path = (way.in_table, way.at);
-          passed = lasting.others g k way.distance slot.0 way.passed;
-          reason = reason-lasts p g k way.distance _ _ slot.0 lasting way.reason;
+          distance = way.path.distance;
+          on_path = (way.path.in_table, way.path.at);
+          passed = lasting.others g k way.path.distance slot.0 way.path.passed;
+          reason = reason-lasts p g k way.path.distance _ _ slot.0 lasting way.reason;
         },
         tt,
       ))

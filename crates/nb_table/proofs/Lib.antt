@@ -4,6 +4,7 @@ mod Following
 mod Gathered
 mod Keeping
 mod Keys
+mod Loading
 mod Meeting
 mod Opening
 mod Parted

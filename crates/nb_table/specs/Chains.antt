@@ -1,5 +1,5 @@
 -- How contracts see a chain and its seats.
-use Rattle.std.specs.Prelude.{◌≡◌, ◌≢◌, ℕ, zero, suc, ◌+◌, List, [], ◌∷◌, ◌++◌, All}
+use Rattle.std.specs.Prelude.{◌≡◌, ◌≢◌, ℕ, zero, suc, ◌+◌, List, [], ◌∷◌, ◌++◌, drop, All}
 use Rattle.atomic_table.specs.Seated.{TableId}
 use Rattle.nb_core.specs.Plans.{Plan}
 use Rattle.nb_core.specs.Tables.{Tables, tables_at}
@@ -27,6 +27,10 @@ IsOwn chain seat = (seat.chain ≡ chain.id) × (seat.shape ≡ chain.shape)
 -- what the words said when the seat saw them last
 abbrev pub seen_by : SeenBy → Tables
 seen_by seat = tables_at seat.shape seat.seen
+
+-- what they said before the newest event that it has seen
+abbrev pub seen_before : SeenBy → Tables
+seen_before seat = tables_at seat.shape (drop 1 seat.seen)
 
 -- so many seats of a chain from a number on, which have seen nothing
 abbrev pub seats_of : TableId → Plan → ℕ → ℕ → List SeenBy

@@ -1,19 +1,16 @@
 -- What a seat must have seen before some steps.
 use Rattle.std.specs.Prelude.{◌≡◌, ℕ, zero, suc, ◌<◌, ◌⊎◌}
 use Rattle.nb_core.specs.Plans.{Plan, limit_of, size_of}
-use Rattle.nb_core.specs.Tables.{AreOthers, HasSlotBelow, IsReady, Tables, path_slot}
+use Rattle.nb_core.specs.Tables.{HasSlotBelow, IsInstalled, IsReady, Tables}
 use Rattle.nb_core.specs.History.{HasValue}
-use Rattle.nb_core.specs.Laws.{IsPrimedOrFinished}
+use Rattle.nb_core.specs.Laws.{IsOnPath, IsPassed, IsPrimedOrFinished}
 use Rattle.nb_core.specs.declared.states.KeyState.TheVariants.{Claimed}
 
 -- The slot is on the key's path, behind slots of other keys; and the key has a slot in the table below, or that one, if
 -- there is one, is complete and the slot is within the limit.
 pub record HasWay (p : Plan) (t : Tables) (g i k : ℕ) : Type 0 where
-  pub distance : ℕ
-  pub in_table : distance < size_of p g
-  pub at : path_slot p g k distance ≡ i
-  pub passed : AreOthers p t g k distance
-  pub reason : HasSlotBelow p t g k ⊎ (IsReady p t g × (distance < limit_of p g))
+  pub path : IsOnPath p t g i k
+  pub reason : HasSlotBelow p t g k ⊎ (IsReady p t g × (path.distance < limit_of p g))
 
 -- the key's slot in the table below holds this number, primed or finished
 abbrev pub HasSource : Plan → Tables → ℕ → ℕ → ℕ → Type 0
@@ -26,3 +23,8 @@ pub record IsCopied (p : Plan) (t : Tables) (g i n : ℕ) : Type 0 where
   pub claimed : t.key g i ≡ Claimed key
   pub held : IsPrimedOrFinished t g i n
   pub copied : HasValue p t (suc g) key
+
+-- A search for the key may have come to this table: it is there, and in each table below it the key is passed.
+pub record IsReached (p : Plan) (t : Tables) (g k : ℕ) : Type 0 where
+  pub installed : IsInstalled t g
+  pub below : (f : ℕ) → f < g → IsPassed p t f k

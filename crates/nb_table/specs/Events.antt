@@ -1,11 +1,18 @@
 -- The event of each step, by the word that it finds.
-use Rattle.std.specs.Prelude.{ℕ, ◌+◌, ◌*◌, ◌%◌, ◌==◌, nat_le, Bool, true, if◌then◌else◌, List, [], ◌∷◌}
-use Rattle.nb_core.specs.History.{content_of}
+use Rattle.std.specs.Prelude.{ℕ, suc, ◌+◌, ◌-◌, ◌*◌, ◌%◌, ◌==◌, ◌&&◌, nat_le, Bool, true, not, if◌then◌else◌, List, [], ◌∷◌, Option, Some, None}
+use Rattle.nb_core.specs.Calls.{leaves_alone}
+use Rattle.nb_core.specs.History.{content_of, key_of_call}
+use Rattle.nb_core.specs.Laws.{reply_at}
+use Rattle.nb_core.specs.Plans.{Plan, generations_of, size_of}
 use Rattle.nb_core.specs.States.{value_word}
+use Rattle.nb_core.specs.Tables.{path_slot}
 use Rattle.nb_core.specs.declared.calls.Call.{Call}
 use Rattle.nb_core.specs.declared.events.Event.{Event}
-use Rattle.nb_core.specs.declared.events.Event.TheVariants.{Claim, Kill, Won, CopyIn, Prime, Finish, Install, Take, Count, Promote}
+use Rattle.nb_core.specs.declared.events.Event.TheVariants.{Claim, Kill, Won, CopyIn, Prime, Finish, Install, Take, Count, Promote, Read}
+use Rattle.nb_core.specs.declared.states.KeyState.{KeyState}
+use Rattle.nb_core.specs.declared.states.KeyState.TheVariants.{Empty, Dead, Claimed}
 use Rattle.nb_core.specs.declared.states.ValueState.{ValueState}
+use Rattle.nb_core.specs.declared.states.ValueState.TheVariants.{Null, Tombstone, Live, PrimedNull, PrimedTombstone, Primed, Finished}
 
 -- the event, if the step changed its word
 abbrev pub only : Bool → Event → List Event
@@ -41,3 +48,40 @@ counts number g c found = Count number g c ∷ []
 
 abbrev pub promotes : (number g : ℕ) → ℕ → List Event
 promotes number g found = only (nat_le found g) (Promote number g)
+
+-- ---- loads
+
+-- the call's read, where something was shown of its key which the call leaves as it is
+abbrev pub read : ℕ → Call → Option (Option ℕ) → List Event
+read number call None = []
+read number call (Some shown) = only (leaves_alone call shown) (Read number call (reply_at call shown))
+
+-- the read of a load's call, if it has one, by what the load shows of a key
+abbrev pub reads : ℕ → Option Call → (ℕ → Option (Option ℕ)) → List Event
+reads number None shown = []
+reads number (Some call) shown = read number call (shown (key_of_call call))
+
+-- the slot is the last one of the key's path, in the last table
+abbrev pub is_last_slot : Plan → (g i k : ℕ) → Bool
+is_last_slot p g i k = suc g == generations_of p && path_slot p g k (size_of p g - 1) == i
+
+-- What a key word shows of a key whose path leads to the slot: none where the slot is empty, and where it is the last one
+-- and another key's.
+abbrev pub shown_by_key : Plan → (g i : ℕ) → KeyState → ℕ → Option (Option ℕ)
+shown_by_key p g i Empty k = Some None
+shown_by_key p g i Dead k = None
+shown_by_key p g i (Claimed j) k = if not (j == k) && is_last_slot p g i k then Some None else None
+
+-- what the value in a key's slot shows of the key, as long as it isn't primed
+abbrev pub shown_by_value : ValueState → Option (Option ℕ)
+shown_by_value Null = Some None
+shown_by_value Tombstone = Some None
+shown_by_value (Live n) = Some (Some n)
+shown_by_value PrimedNull = None
+shown_by_value PrimedTombstone = None
+shown_by_value (Primed n) = None
+shown_by_value (Finished n) = None
+
+-- what a next word shows of a key whose whole path is other keys': none where there is no next table
+abbrev pub shown_by_next : Bool → Option (Option ℕ)
+shown_by_next installed = if installed then None else Some None

@@ -11,7 +11,7 @@ use nb_core::{Call, Change, ValueState, Want, decode_value, encode_value, laws};
 use std::marker::Brand;
 
 /// Reminds a proof of the ranges of a call's key and numbers. It does nothing.
-fn known(call: &Call)
+pub(crate) fn known(call: &Call)
     ensures { IsCallInRange call.now }
 {
     match *call {

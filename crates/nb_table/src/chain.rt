@@ -92,6 +92,7 @@ impl Chain {
         &self,
         seat: &mut ChainSeat,
         place: usize,
+        _spot: Spot,
         _call: Option<Call>,
     ) -> u64
         requires own { seat.old.chain ≡ self.now.id }
@@ -179,16 +180,6 @@ impl Chain {
         self.table
             .shared
             .fetch_max::<Move<B>>(&mut seat.seat, place, least)
-    }
-
-    /// One load of the top word: the number of tables, from the first on, that are known to be complete.
-    pub fn load_top(&self, seat: &mut ChainSeat) -> u64
-        requires own { seat.old.chain ≡ self.now.id }
-        requires shape { seat.old.shape ≡ self.now.shape }
-        ensures grows { Extended seat.old seat.new [] 1 }
-        ensures found { (tables_at self.now.shape seat.new.seen).top ≡ result }
-    {
-        self.loads::<Brand>(seat, 0, None)
     }
 
     /// Each of two seats sees what the other has seen. Of the loads that this takes, one of each seat counts as its step: the

@@ -6,7 +6,7 @@ ghost use Rattle.nb_core.specs.History.{counted_by, turned_by};
 ghost use Rattle.nb_core.specs.declared.events.Event.TheVariants as event;
 ghost use Rattle.nb_core.specs.declared.states.KeyState.TheVariants as key_is;
 ghost use Rattle.nb_table.specs.Conditions.{HasWay};
-ghost use Rattle.nb_table.specs.Chains.{Extended, IsOwn, seen_by};
+ghost use Rattle.nb_table.specs.Chains.{Extended, IsOwn, seen_before, seen_by};
 
 use crate::chain::{Chain, ChainSeat, Spot};
 use nb_core::{Key, KeyState, decode_key, encode_key, laws};
@@ -49,15 +49,20 @@ impl Chain {
     }
 
     /// Raises the top word past table `g`, by one fetch-max, and answers what it was.
-    pub fn promote(&self, seat: &mut ChainSeat, g: u32) -> u64
+    pub fn promote(&self, seat: &mut ChainSeat, g: u32) -> u32
         requires own { IsOwn self.now seat.old }
         requires table { g < generations_of self.now.shape }
         requires complete { IsComplete self.now.shape (seen_by seat.old) g }
-        ensures raised { result ≤ g → Extended seat.old seat.new (event.Promote seat.old.number g ∷ []) 1 }
+        ensures raised { result ≤ g → Extended seat.old seat.new (event.Promote seat.old.number g ∷ []) 1 × ((seen_before seat.new).top ≡ result) × ((seen_by seat.new).top ≡ suc g) }
         ensures was_higher { g < result → Extended seat.old seat.new [] 1 × ((seen_by seat.new).top ≡ result) }
     {
         laws::seen_lasts();
-        self.raises::<Brand>(seat, 0, u64::from(g) + 1, g)
+        laws::beginnings_are_legal();
+        laws::lawful_words();
+        laws::places_are_distinct();
+        laws::linked();
+        self.shape.known();
+        self.raises::<Brand>(seat, 0, u64::from(g) + 1, g) as u32
     }
 
     /// Installs the table above `g`, for a key whose path in `g` is crowded, by one compare-exchange on its next word.

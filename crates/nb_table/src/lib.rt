@@ -6,6 +6,7 @@ mod chain;
 mod closed;
 mod copying;
 mod growth;
+mod loads;
 mod view;
 
 pub use chain::{Chain, ChainSeat};

@@ -1,0 +1,138 @@
+//! The loads of slots and of next words, and the calls that they decide.
+ghost use Rattle.std.specs.Prelude.{◌≡◌, ◌<◌, ◌↔◌, suc, [], true, IfSome};
+ghost use Rattle.nb_core.specs.History.{IsCallInRange, key_of_call};
+ghost use Rattle.nb_core.specs.Laws.{IsOnPath};
+ghost use Rattle.nb_core.specs.Plans.{generations_of, size_of};
+ghost use Rattle.nb_core.specs.Tables.{AreOthers, IsInstalled, IsSlot};
+ghost use Rattle.nb_core.specs.declared.states.KeyState.TheVariants as key_is;
+ghost use Rattle.nb_table.specs.Chains.{Extended, IsOwn, seen_by};
+ghost use Rattle.nb_table.specs.Conditions.{IsReached};
+ghost use Rattle.nb_table.specs.Events.{reads, shown_by_key, shown_by_next, shown_by_value};
+
+use crate::calls::known;
+use crate::chain::{Chain, ChainSeat, Spot};
+use nb_core::{Call, KeyState, ValueState, decode_key, decode_value, laws};
+use std::marker::Brand;
+
+/// Reminds a proof of the ranges of a load's call, if it has one. It does nothing.
+fn known_if_some(call: &Option<Call>)
+    ensures { IfSome call.now IsCallInRange }
+{
+    if let Some(call) = call {
+        known(call);
+    }
+}
+
+impl Chain {
+    /// What the key word of slot `i` of table `g` holds, by one load. With a call whose key's path leads to the slot, an
+    /// empty slot shows that the map doesn't have the key, and so does another key in the path's last slot in the last
+    /// table: where the call leaves that as it is, the load is its read.
+    pub fn load_key(
+        &self,
+        seat: &mut ChainSeat,
+        g: u32,
+        i: usize,
+        call: Option<Call>,
+    ) -> KeyState
+        requires own { IsOwn self.now seat.old }
+        requires slot { IsSlot self.now.shape g i }
+        requires reached { IfSome call (λ c. IsReached self.now.shape (seen_by seat.old) g (key_of_call c)) }
+        requires on_path { IfSome call (λ c. IsOnPath self.now.shape (seen_by seat.old) g i (key_of_call c)) }
+        ensures grows { Extended seat.old seat.new (reads seat.old.number call (shown_by_key self.now.shape g i result)) 1 }
+        ensures found { (seen_by seat.new).key g i ≡ result }
+    {
+        laws::seen_lasts();
+        laws::places_are_distinct();
+        laws::decided();
+        laws::read_replies();
+        self.shape.known();
+        known_if_some(&call);
+        let place = self.shape.key_place(g, i);
+        let spot = Spot {
+            g,
+            i,
+            key: None,
+            number: None,
+        };
+        decode_key(self.loads::<Brand>(seat, place, spot, call))
+    }
+
+    /// What the value word of slot `i` of table `g` holds, by one load. With a call whose key has the slot, a value that
+    /// isn't primed is what the map has at the key: where the call leaves that as it is, the load is its read.
+    pub fn load_value(
+        &self,
+        seat: &mut ChainSeat,
+        g: u32,
+        i: usize,
+        call: Option<Call>,
+    ) -> ValueState
+        requires own { IsOwn self.now seat.old }
+        requires slot { IsSlot self.now.shape g i }
+        requires reached { IfSome call (λ c. IsReached self.now.shape (seen_by seat.old) g (key_of_call c)) }
+        requires claimed { IfSome call (λ c. (seen_by seat.old).key g i ≡ key_is.Claimed (key_of_call c)) }
+        ensures grows { Extended seat.old seat.new (reads seat.old.number call (λ k. shown_by_value result)) 1 }
+        ensures found { (seen_by seat.new).value g i ≡ result }
+    {
+        laws::seen_lasts();
+        laws::beginnings_are_legal();
+        laws::lawful_words();
+        laws::places_are_distinct();
+        laws::decided();
+        laws::read_replies();
+        self.shape.known();
+        known_if_some(&call);
+        let place = self.shape.value_place(g, i);
+        let spot = Spot {
+            g,
+            i,
+            key: None,
+            number: None,
+        };
+        decode_value(self.loads::<Brand>(seat, place, spot, call)).unwrap()
+    }
+
+    /// Whether table `g` has a next one, by one load of its next word. With a call whose key's whole path is other keys', a
+    /// missing next table shows that the map doesn't have the key: where the call leaves that as it is, the load is its read.
+    pub fn load_next(&self, seat: &mut ChainSeat, g: u32, call: Option<Call>) -> bool
+        requires own { IsOwn self.now seat.old }
+        requires table { g < generations_of self.now.shape }
+        requires reached { IfSome call (λ c. IsReached self.now.shape (seen_by seat.old) g (key_of_call c)) }
+        requires crowded { IfSome call (λ c. AreOthers self.now.shape (seen_by seat.old) g (key_of_call c) (size_of self.now.shape g)) }
+        ensures grows { Extended seat.old seat.new (reads seat.old.number call (λ k. shown_by_next result)) 1 }
+        ensures installed { (result ≡ true) ↔ IsInstalled (seen_by seat.new) (suc g) }
+    {
+        laws::seen_lasts();
+        laws::places_are_distinct();
+        laws::linked();
+        laws::decided();
+        laws::read_replies();
+        self.shape.known();
+        known_if_some(&call);
+        let place = self.shape.header_place(g, 0);
+        let spot = Spot {
+            g,
+            i: 0,
+            key: None,
+            number: None,
+        };
+        self.loads::<Brand>(seat, place, spot, call) == 1
+    }
+
+    /// The number of tables, from the first on, that are known to be complete, by one load of the top word.
+    pub fn load_top(&self, seat: &mut ChainSeat) -> u32
+        requires own { IsOwn self.now seat.old }
+        ensures grows { Extended seat.old seat.new [] 1 }
+        ensures found { (seen_by seat.new).top ≡ result }
+    {
+        laws::beginnings_are_legal();
+        laws::linked();
+        self.shape.known();
+        let spot = Spot {
+            g: 0,
+            i: 0,
+            key: None,
+            number: None,
+        };
+        self.loads::<Brand>(seat, 0, spot, None) as u32
+    }
+}
