@@ -7,7 +7,7 @@ use Rattle.std.proofs.lemmas.List.Elements.{All-head, All-tail}
 use Rattle.std.proofs.lemmas.List.Sums.{sum_by-append, sum_by-cons}
 use Rattle.nb_core.specs.Plans.{Plan, IsPlan}
 use Rattle.nb_core.specs.Tables.{HasSlot, IsFinishedValue, IsSettledBelow, IsSlot, IsUnprimed, Tables, tables_at}
-use Rattle.nb_core.specs.History.{IsLegal, IsPrimedBelow, counts, is_empty_content, key_of_call, seat_of_event, turned_by, turns}
+use Rattle.nb_core.specs.History.{IsLegal, IsPrimedBelow, counts, key_of_call, seat_of_event, turned_by, turns}
 use Rattle.nb_core.specs.Meaning.{calls_of, is_win_of_another, passed_over}
 use Rattle.nb_core.specs.Laws.{HasOwnStill, IsValueChange, LostExchange, OwnLasts, PassedOverAdds, primed}
 use Rattle.nb_core.proofs.Lasting.{win-key}
@@ -15,7 +15,7 @@ use Rattle.nb_core.proofs.Later.{seen_lasts}
 use Rattle.nb_core.proofs.Lawful.{lawful_changes}
 use Rattle.nb_core.proofs.Sound.{one_key}
 use Rattle.nb_core.specs.declared.events.Event.{Event}
-use Rattle.nb_core.specs.declared.events.Event.TheVariants.{Kill, Won, CopyIn, Prime, Finish, Count, Read}
+use Rattle.nb_core.specs.declared.events.Event.TheVariants.{Won, CopyIn, Prime, Finish, Count, Read}
 use Rattle.nb_core.specs.declared.states.KeyState.TheVariants.{Claimed}
 use Rattle.nb_core.specs.declared.states.ValueState.{ValueState}
 use Rattle.nb_core.specs.declared.states.ValueState.TheVariants.{Null}
@@ -138,11 +138,7 @@ counts-other e s g other = refl
 
 -- and turns nothing finished for it
 turns-other : (p : Plan) (e : Event) (h : List Event) (s g : ℕ) → seat_of_event e ≢ s → turns p h e s g ≡ false
-turns-other p (Kill r f j) h s g other = other_seat r s (eqb f g) other
-turns-other p (Finish r f j) h s g other = other_seat r s (eqb f g) other
-turns-other p (Prime r f j) h s g other =
-    ap (λ t. t && is_empty_content ((tables_at p h).value g j)) (other_seat r s (eqb f g) other)
-turns-other p e h s g other = refl
+turns-other p e h s g other = other_seat (seat_of_event e) s _ other
 
 -- a seat's own stays with one event more of another seat
 own-more :

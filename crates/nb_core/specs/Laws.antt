@@ -1,11 +1,11 @@
 -- The laws of legal histories: what holds at every moment, whatever atomic steps were made, by whom, in which order.
-use Rattle.std.specs.Prelude.{◌≡◌, ◌≢◌, ℕ, suc, zero, ◌+◌, ◌-◌, ◌%◌, ◌<◌, ◌≤◌, ◌⊎◌, ◌==◌, ◌&&◌, ◌||◌, ℤ, pos, ◌+ℤ◌, Bool, true, false, if◌then◌else◌, List, [], ◌∷◌, ◌++◌, length, slice_index, bit_or, Option, Some, None, All}
+use Rattle.std.specs.Prelude.{◌≡◌, ◌≢◌, ℕ, suc, zero, ◌+◌, ◌-◌, ◌%◌, ◌<◌, ◌≤◌, ◌⊎◌, ◌||◌, ℤ, pos, ◌+ℤ◌, Bool, true, false, if◌then◌else◌, List, [], ◌∷◌, ◌++◌, length, slice_index, bit_or, Option, Some, None, All}
 use Rattle.std.specs.FinMap as map
 use Rattle.nb_core.specs.Calls.{changed, holds_of}
 use Rattle.nb_core.specs.Plans.{Plan, IsPlan, generations_of, header_place, size_of, value_place, word_count}
 use Rattle.nb_core.specs.States.{IsKeyState, IsValueState, value_state, value_word}
 use Rattle.nb_core.specs.Tables.{AreOthers, HasSlot, IsComplete, IsFinished, IsFinishedValue, IsInstalled, IsReady, IsSettledBelow, IsSlot, IsUnprimed, Tables, path_slot, tables_at, words_of}
-use Rattle.nb_core.specs.History.{HasValue, IsLegal, MayWin, Replies, content_of, counted_by, is_empty_content, key_of_call, map_of, seat_of_event, turned_by}
+use Rattle.nb_core.specs.History.{HasValue, IsLegal, MayWin, Replies, content_of, counted_by, key_of_call, map_of, seat_of_event, turned_by, turns_slot}
 use Rattle.nb_core.specs.Meaning.{IsCrowded, Stands, calls_of, net_of, passed_over, place_of}
 use Rattle.nb_core.specs.declared.numbers.TheConstants.{KEY_MAX, VALUE_MAX}
 use Rattle.nb_core.specs.declared.calls.Call.{Call}
@@ -155,13 +155,6 @@ Decided =
     → ((f : ℕ) → f < g → IsPassed p (tables_at p h) f k) → (number : Option ℕ) → Shows p (tables_at p h) g k number → map.get (map_of h) k ≡ number
 
 -- ---- growth
-
--- the event, coming after the history, turned this slot finished
-abbrev pub turns_slot : Plan → List Event → Event → ℕ → ℕ → Bool
-turns_slot p h (Kill s f j) g i = f == g && j == i
-turns_slot p h (Finish s f j) g i = f == g && j == i
-turns_slot p h (Prime s f j) g i = f == g && j == i && is_empty_content ((tables_at p h).value g i)
-turns_slot p h _ g i = false
 
 -- how many events turned the slot finished
 abbrev pub times_turned : Plan → List Event → ℕ → ℕ → ℕ
