@@ -6,13 +6,13 @@ use Rattle.std.proofs.Math.Pow.{pow-lt}
 use Rattle.std.proofs.lemmas.Bool.{eqb-false, eqb-true, false_from_ne_true, ne_eqb}
 use Rattle.std.specs.Option.{IfSome, option_map_or}
 use Rattle.nb_core.specs.Plans.{Plan, IsPlan, Header, generations_of, size_of}
-use Rattle.nb_core.specs.Tables.{IsFinished, IsFinishedValue, IsSlot, IsUnprimed, Tables, tables_at}
+use Rattle.nb_core.specs.Tables.{IsFinished, IsFinishedValue, IsSlot, IsUnprimed, Tables, is_finished_value, tables_at}
 use Rattle.nb_core.specs.History.{IsInRange, IsLegal, MayClaim, MayFinish, MayFollow, MayKill, MayPrime, counted_by, counts, is_empty_content, seat_of_event, turned_by, turned_slot, turns, turns_slot}
-use Rattle.nb_core.specs.Laws.{CountedOnce, finished_among, is_dead, is_finished_value, over_seats, primed, times_turned}
+use Rattle.nb_core.specs.Laws.{CountedOnce, finished_among, is_dead, over_seats, primed, times_turned}
 use Rattle.nb_core.proofs.Frames.{finished, key_after, key-first, key-frame, value_after, value-first, value-frame}
 use Rattle.nb_core.proofs.Keeping.{sound}
 use Rattle.nb_core.proofs.Lasting.{put-unprimed, win-puts}
-use Rattle.nb_core.proofs.Passing.{below_suc, is_finished-true, is_finished_value-true}
+use Rattle.nb_core.proofs.Passing.{below_suc, is_finished-true}
 use Rattle.nb_core.proofs.Sound.{IsSound, empty-null, unprimed-not_final}
 use Rattle.nb_core.proofs.Words.{at_slot, word-first, word_after, word-frame}
 use Rattle.nb_core.specs.declared.events.Event.{Event}
@@ -20,7 +20,7 @@ use Rattle.nb_core.specs.declared.events.Event.TheVariants.{Claim, Kill, Won, Co
 use Rattle.nb_core.specs.declared.states.KeyState.{KeyState}
 use Rattle.nb_core.specs.declared.states.KeyState.TheVariants.{Dead, Claimed}
 use Rattle.nb_core.specs.declared.states.ValueState.{ValueState}
-use Rattle.nb_core.specs.declared.states.ValueState.TheVariants.{Null, Tombstone, Live, PrimedNull, PrimedTombstone, Finished}
+use Rattle.nb_core.specs.declared.states.ValueState.TheVariants.{Null, Tombstone, Live}
 
 -- ---- sums over the numbers below n, of seats or of slots
 
@@ -94,7 +94,7 @@ is_finished_slot x v = is_dead x || is_finished_value v
 
 -- the test fails of a value that isn't primed
 is_finished_value-unprimed : (v : ValueState) → IsUnprimed v → is_finished_value v ≡ false
-is_finished_value-unprimed v u = false_from_ne_true _ (λ e. unprimed-not_final v u (is_finished_value-true v e))
+is_finished_value-unprimed v u = false_from_ne_true _ (unprimed-not_final v u)
 
 -- priming finishes what has no number
 is_finished_value-primed : (v : ValueState) → IsUnprimed v → is_finished_value (primed v) ≡ is_empty_content v
@@ -103,17 +103,10 @@ is_finished_value-primed Tombstone u = refl
 is_finished_value-primed (Live n) u = refl
 is_finished_value-primed _ u = absurd u
 
--- the test holds of a final value
-is_finished_value-final : (v : ValueState) → IsFinishedValue v → is_finished_value v ≡ true
-is_finished_value-final PrimedNull final = refl
-is_finished_value-final PrimedTombstone final = refl
-is_finished_value-final (Finished n) final = refl
-is_finished_value-final _ final = absurd final
-
 -- the test holds of a finished slot
 is_finished_slot-true : (x : KeyState) (v : ValueState) → (x ≡ Dead) ⊎ IsFinishedValue v → is_finished_slot x v ≡ true
 is_finished_slot-true x v (inl dead) = rw dead refl
-is_finished_slot-true x v (inr final) = rw (is_finished_value-final v final) (or-true (is_dead x))
+is_finished_slot-true x v (inr final) = rw final (or-true (is_dead x))
 
 -- whether a slot, if there is one, is one of this table
 abbrev is_in : ℕ → Option (ℕ × ℕ) → Bool

@@ -13,6 +13,7 @@ use Rattle.nb_core.specs.Laws.{HasOwnStill, IsValueChange, LostExchange, OwnLast
 use Rattle.nb_core.proofs.Lasting.{win-key}
 use Rattle.nb_core.proofs.Later.{seen_lasts}
 use Rattle.nb_core.proofs.Lawful.{lawful_changes}
+use Rattle.nb_core.proofs.Passing.{no_true}
 use Rattle.nb_core.proofs.Sound.{one_key}
 use Rattle.nb_core.specs.declared.events.Event.{Event}
 use Rattle.nb_core.specs.declared.events.Event.TheVariants.{Won, CopyIn, Prime, Finish, Count, Read}
@@ -65,7 +66,7 @@ primed-not_unprimed _ unprimed = unprimed
 -- a key that is settled below has no primed number there
 settled-not_primed : (p : Plan) (t : Tables) (g k n : ℕ) → IsSettledBelow p t g k → IsPrimedBelow p t g k n → ⊥
 settled-not_primed p t zero k n settled primed = primed
-settled-not_primed p t (suc g) k n settled primed = subst IsFinishedValue primed.3 (settled primed.0 primed.1 primed.2)
+settled-not_primed p t (suc g) k n settled primed = no_true (subst IsFinishedValue primed.3 (settled primed.0 primed.1 primed.2))
 
 -- an exchange on the key is another seat's, where this one made no call
 won-another : (r s k key : ℕ) → eqb r s ≡ false → key ≡ k → (eqb key k && not (eqb r s)) ≡ true

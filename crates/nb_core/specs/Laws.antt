@@ -4,7 +4,7 @@ use Rattle.std.specs.FinMap as map
 use Rattle.nb_core.specs.Calls.{changed, holds_of}
 use Rattle.nb_core.specs.Plans.{Plan, IsPlan, generations_of, header_place, size_of, value_place, word_count}
 use Rattle.nb_core.specs.States.{IsKeyState, IsValueState, value_state, value_word}
-use Rattle.nb_core.specs.Tables.{AreOthers, HasSlot, IsComplete, IsFinished, IsFinishedValue, IsInstalled, IsReady, IsSettledBelow, IsSlot, IsUnprimed, Tables, path_slot, tables_at, words_of}
+use Rattle.nb_core.specs.Tables.{AreOthers, HasSlot, IsComplete, IsFinished, IsFinishedValue, IsInstalled, IsReady, IsSettledBelow, IsSlot, IsUnprimed, Tables, is_finished_value, path_slot, tables_at, words_of}
 use Rattle.nb_core.specs.History.{HasValue, IsLegal, MayWin, Replies, content_of, counted_by, key_of_call, map_of, seat_of_event, turned_by, turns_slot}
 use Rattle.nb_core.specs.Meaning.{IsCrowded, Stands, calls_of, net_of, passed_over, place_of}
 use Rattle.nb_core.specs.declared.numbers.TheConstants.{KEY_MAX, VALUE_MAX}
@@ -160,16 +160,6 @@ Decided =
 abbrev pub times_turned : Plan → List Event → ℕ → ℕ → ℕ
 times_turned p [] g i = 0
 times_turned p (e ∷ h) g i = (if turns_slot p h e g i then 1 else 0) + times_turned p h g i
-
--- whether the value is final
-abbrev pub is_finished_value : ValueState → Bool
-is_finished_value Null = false
-is_finished_value Tombstone = false
-is_finished_value (Live n) = false
-is_finished_value PrimedNull = true
-is_finished_value PrimedTombstone = true
-is_finished_value (Primed n) = false
-is_finished_value (Finished n) = true
 
 abbrev pub is_dead : KeyState → Bool
 is_dead Empty = false
