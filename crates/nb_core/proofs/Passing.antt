@@ -38,7 +38,7 @@ pub not_true : (a : Bool) → not a ≡ true → a ≡ false
 not_true true e = cc
 not_true false e = refl
 
--- a test that fails doesn't pass
+-- no test that fails passes
 pub no_true : {A : Type 0} → false ≡ true → A
 no_true e = cc
 

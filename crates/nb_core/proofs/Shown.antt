@@ -175,7 +175,8 @@ module _ (p : Plan) (t : Tables) (plan : IsPlan p) (s : IsSound p t) (k : ℕ) w
 
   -- a table with a number that is still to copy isn't complete
   uncopied-not_complete : (g i n : ℕ) → IsSlot p g i → t.key g i ≡ Claimed k → t.value g i ≡ Primed n → IsComplete p t g → ⊥
-  uncopied-not_complete g i n slot is primed complete = no_true (subst IsFinishedValue primed (finished-value t g i k (complete i slot.1) is))
+  uncopied-not_complete g i n slot is primed complete =
+      no_true (subst IsFinishedValue primed (finished-value t g i k (complete i slot.1) is))
 
   -- of the newest value:
   module _ (g i : ℕ) (here : IsNewestAt p t k g i) where
