@@ -1,25 +1,26 @@
 -- Just one event turns each finished slot finished, and what the seats count is what their own events turned.
-use Rattle.std.proofs.Common.{◌≡◌, ◌∙◌, ℕ, zero, suc, ◌+◌, ◌%◌, ◌^◌, ◌<◌, ◌≤◌, ◌⊎◌, inl, inr, sym, ap, refl, subst, Bool, true, false, cond, eqb, ◌&&◌, ◌||◌, List, [], ◌∷◌, slice_index, arith}
-use Rattle.std.proofs.Math.Bool.{and_assoc, or-true}
+use Rattle.std.proofs.Common.{◌≡◌, ◌∙◌, ℕ, zero, suc, ◌+◌, ◌%◌, ◌^◌, ◌<◌, ◌≤◌, ◌⊎◌, inl, inr, sym, ap, refl, subst, Bool, true, false, cond, eqb, ◌&&◌, ◌||◌, List, [], ◌∷◌, slice_index, Option, Some, None, arith}
+use Rattle.std.proofs.Math.Bool.{and-false, and-true, or-true}
 use Rattle.std.proofs.Math.Nat.{mod-eq_of_lt}
 use Rattle.std.proofs.Math.Pow.{pow-lt}
 use Rattle.std.proofs.lemmas.Bool.{eqb-false, eqb-true, false_from_ne_true, ne_eqb}
+use Rattle.std.specs.Option.{IfSome, option_map_or}
 use Rattle.nb_core.specs.Plans.{Plan, IsPlan, Header, generations_of, size_of}
-use Rattle.nb_core.specs.Tables.{IsFinished, IsFinishedValue, IsSlot, IsUnprimed, Tables, tables_at}
-use Rattle.nb_core.specs.History.{IsInRange, IsLegal, MayClaim, MayFinish, MayFollow, MayKill, MayPrime, counted_by, counts, is_empty_content, turned_by, turns}
-use Rattle.nb_core.specs.Laws.{CountedOnce, finished_among, is_dead, is_finished_value, over_seats, primed, times_turned, turns_slot}
+use Rattle.nb_core.specs.Tables.{IsFinished, IsFinishedValue, IsSlot, IsUnprimed, Tables, is_finished_value, tables_at}
+use Rattle.nb_core.specs.History.{IsInRange, IsLegal, MayClaim, MayFinish, MayFollow, MayKill, MayPrime, counted_by, counts, is_empty_content, seat_of_event, turned_by, turned_slot, turns, turns_slot}
+use Rattle.nb_core.specs.Laws.{CountedOnce, finished_among, is_dead, over_seats, primed, times_turned}
 use Rattle.nb_core.proofs.Frames.{finished, key_after, key-first, key-frame, value_after, value-first, value-frame}
 use Rattle.nb_core.proofs.Keeping.{sound}
 use Rattle.nb_core.proofs.Lasting.{put-unprimed, win-puts}
-use Rattle.nb_core.proofs.Passing.{below_suc, is_finished-true, is_finished_value-true}
+use Rattle.nb_core.proofs.Passing.{below_suc, is_finished-true}
 use Rattle.nb_core.proofs.Sound.{IsSound, empty-null, unprimed-not_final}
 use Rattle.nb_core.proofs.Words.{at_slot, word-first, word_after, word-frame}
 use Rattle.nb_core.specs.declared.events.Event.{Event}
-use Rattle.nb_core.specs.declared.events.Event.TheVariants.{Claim, Kill, Won, CopyIn, Prime, Finish, Count}
+use Rattle.nb_core.specs.declared.events.Event.TheVariants.{Claim, Kill, Won, CopyIn, Prime, Finish, Install, Take, Count, Promote, Read}
 use Rattle.nb_core.specs.declared.states.KeyState.{KeyState}
 use Rattle.nb_core.specs.declared.states.KeyState.TheVariants.{Dead, Claimed}
 use Rattle.nb_core.specs.declared.states.ValueState.{ValueState}
-use Rattle.nb_core.specs.declared.states.ValueState.TheVariants.{Null, Tombstone, Live, PrimedNull, PrimedTombstone, Finished}
+use Rattle.nb_core.specs.declared.states.ValueState.TheVariants.{Null, Tombstone, Live}
 
 -- ---- sums over the numbers below n, of seats or of slots
 
@@ -93,7 +94,7 @@ is_finished_slot x v = is_dead x || is_finished_value v
 
 -- the test fails of a value that isn't primed
 is_finished_value-unprimed : (v : ValueState) → IsUnprimed v → is_finished_value v ≡ false
-is_finished_value-unprimed v u = false_from_ne_true _ (λ e. unprimed-not_final v u (is_finished_value-true v e))
+is_finished_value-unprimed v u = false_from_ne_true _ (unprimed-not_final v u)
 
 -- priming finishes what has no number
 is_finished_value-primed : (v : ValueState) → IsUnprimed v → is_finished_value (primed v) ≡ is_empty_content v
@@ -102,17 +103,18 @@ is_finished_value-primed Tombstone u = refl
 is_finished_value-primed (Live n) u = refl
 is_finished_value-primed _ u = absurd u
 
--- the test holds of a final value
-is_finished_value-final : (v : ValueState) → IsFinishedValue v → is_finished_value v ≡ true
-is_finished_value-final PrimedNull final = refl
-is_finished_value-final PrimedTombstone final = refl
-is_finished_value-final (Finished n) final = refl
-is_finished_value-final _ final = absurd final
-
 -- the test holds of a finished slot
 is_finished_slot-true : (x : KeyState) (v : ValueState) → (x ≡ Dead) ⊎ IsFinishedValue v → is_finished_slot x v ≡ true
 is_finished_slot-true x v (inl dead) = rw dead refl
-is_finished_slot-true x v (inr final) = rw (is_finished_value-final v final) (or-true (is_dead x))
+is_finished_slot-true x v (inr final) = rw final (or-true (is_dead x))
+
+-- whether a slot, if there is one, is one of this table
+abbrev is_in : ℕ → Option (ℕ × ℕ) → Bool
+is_in g turned = option_map_or (λ slot. eqb slot.0 g) turned false
+
+-- whether it is this one
+abbrev is_this : ℕ → ℕ → Option (ℕ × ℕ) → Bool
+is_this g i turned = option_map_or (λ slot. eqb slot.0 g && eqb slot.1 i) turned false
 
 -- 1 where a slot is finished, and else 0
 abbrev slot_bit : Tables → ℕ → ℕ → ℕ
@@ -144,16 +146,24 @@ slot_bit-put t f j g i b was now =
     at_slot (λ g i here. bit (is_finished_slot (t.key g i) (cond here b (t.value g i))) ≡ 0 + slot_bit t g i) f j g i
     (rw (is_finished_value-unprimed (t.value f j) was, is_finished_value-unprimed b now) (omega arith)) (omega arith)
 
+-- a slot that is there only if a test holds is this one if it would be, and the test holds
+is_this-tested : (test : Bool) (f j g i : ℕ) → is_this g i (cond test (Some (f, j)) None) ≡ ((eqb f g && eqb j i) && test)
+is_this-tested true f j g i = sym (and-true (eqb f g && eqb j i))
+is_this-tested false f j g i = sym (and-false (eqb f g && eqb j i))
+
 -- priming turns what has no number
 slot_bit-prime :
-    (t : Tables) (f j g i : ℕ) → MayPrime t f j
+    (p : Plan) (h : List Event) (s f j g i : ℕ) → let t = tables_at p h in MayPrime t f j
     → bit (is_finished_slot (t.key g i) (cond (eqb f g && eqb j i) (primed (t.value g i)) (t.value g i)))
-    ≡ bit ((eqb f g && eqb j i) && is_empty_content (t.value g i)) + slot_bit t g i
-slot_bit-prime t f j g i may =
+    ≡ bit (turns_slot p h (Prime s f j) g i) + slot_bit t g i
+slot_bit-prime p h s f j g i may =
+    let t = tables_at p h in
+    let empty = is_empty_content (t.value f j) in
     at_slot (λ g i here. bit (is_finished_slot (t.key g i) (cond here (primed (t.value g i)) (t.value g i)))
-    ≡ bit (here && is_empty_content (t.value g i)) + slot_bit t g i) f j g i
+    ≡ bit (here && empty) + slot_bit t g i) f j g i
     (rw (may.claimed, is_finished_value-primed (t.value f j) may.unprimed, is_finished_value-unprimed (t.value f j) may.unprimed)
     (omega arith)) (omega arith)
+    ∙ ap (λ b. bit b + slot_bit t g i) (sym (is_this-tested empty f j g i))
 
 -- finishing turns a primed number
 slot_bit-finish :
@@ -178,7 +188,7 @@ slot_bit-event p h (Won s f j a b c r) g i t_sound range may =
     (put-unprimed (win-puts may))
 slot_bit-event p h (CopyIn s f j k n) g i t_sound range may =
     slot_bit-put (tables_at p h) f j g i (Live n) (subst IsUnprimed (sym may.null) tt) tt
-slot_bit-event p h (Prime s f j) g i t_sound range may = slot_bit-prime (tables_at p h) f j g i may
+slot_bit-event p h (Prime s f j) g i t_sound range may = slot_bit-prime p h s f j g i may
 slot_bit-event p h (Finish s f j) g i t_sound range may = slot_bit-finish p (tables_at p h) f j g i may
 slot_bit-event p h _ g i t_sound range may = omega arith
 
@@ -221,34 +231,52 @@ over_seats-of_slot :
 over_seats-of_slot true slot n below = over_seats-one_at (λ i. 1) slot n (below refl)
 over_seats-of_slot false slot n below = over_seats-zero n
 
--- something happens in one slot, if it is of this table and a test holds
-over_seats-of_tested_slot :
-    (table : Bool) (slot n : ℕ) (test : ℕ → Bool) → (table ≡ true → slot < n)
-    → over_seats (λ i. bit (table && eqb slot i && test i)) n ≡ bit (table && test slot)
-over_seats-of_tested_slot true slot n test below =
-    over_seats-same _ _ n (λ i lt. cond-and (eqb slot i) (test i) 1) ∙ over_seats-one_at (λ i. bit (test i)) slot n (below refl)
-over_seats-of_tested_slot false slot n test below = over_seats-zero n
-
 -- a slot of a table that is this table is within it
 in_same_table : (p : Plan) (f j g : ℕ) → IsSlot p f j → eqb f g ≡ true → j < size_of p g
 in_same_table p f j g slot e = subst (λ x. j < size_of p x) (eqb-true f g e) slot.1
+
+-- an event's seat is one of the plan's
+seat-in_range : (p : Plan) (e : Event) → IsInRange p e → seat_of_event e < p.seats
+seat-in_range p (Claim s g i k) range = range.0
+seat-in_range p (Kill s g i) range = range.0
+seat-in_range p (Won s g i a b c r) range = range.0
+seat-in_range p (CopyIn s g i k n) range = range.0
+seat-in_range p (Prime s g i) range = range.0
+seat-in_range p (Finish s g i) range = range.0
+seat-in_range p (Install s g k) range = range.0
+seat-in_range p (Take s g) range = range.0
+seat-in_range p (Count s g c) range = range.0
+seat-in_range p (Promote s g) range = range.0
+seat-in_range p (Read s c r) range = range.0
+
+-- the slot that an event turned is one of the plan's
+turned_slot-in_range :
+    (p : Plan) (h : List Event) (e : Event) → IsInRange p e → IfSome (turned_slot p h e) (λ slot. IsSlot p slot.0 slot.1)
+turned_slot-in_range p h (Kill s g i) range = range.1
+turned_slot-in_range p h (Finish s g i) range = range.1
+turned_slot-in_range p h (Prime s g i) range =
+    let IsWithin = λ (slot : ℕ × ℕ). IsSlot p slot.0 slot.1 in
+    elim (is_empty_content ((tables_at p h).value g i)) as (λ b. IfSome (cond b (Some (g, i)) None) IsWithin) [
+      | true ↦ range.1
+      | false ↦ tt
+    ]
+turned_slot-in_range p h _ range = tt
+
+-- one slot of a table is turned, if it is of this table
+over_seats-of_turned :
+    (p : Plan) (g : ℕ) (turned : Option (ℕ × ℕ)) → IfSome turned (λ slot. IsSlot p slot.0 slot.1)
+    → over_seats (λ i. bit (is_this g i turned)) (size_of p g) ≡ bit (is_in g turned)
+over_seats-of_turned p g None range = over_seats-zero (size_of p g)
+over_seats-of_turned p g (Some slot) range =
+    over_seats-of_slot (eqb slot.0 g) slot.1 (size_of p g) (in_same_table p slot.0 slot.1 g range)
 
 -- in an event the seats turn as many slots of a table as turn there
 turns-sum :
     (p : Plan) (h : List Event) (e : Event) (g : ℕ) → IsInRange p e
     → over_seats (λ s. bit (turns p h e s g)) p.seats ≡ over_seats (λ i. bit (turns_slot p h e g i)) (size_of p g)
-turns-sum p h (Kill s f j) g range =
-    over_seats-of_seat s p.seats 1 (eqb f g) range.0
-    ∙ sym (over_seats-of_slot (eqb f g) j (size_of p g) (in_same_table p f j g range.1))
-turns-sum p h (Finish s f j) g range =
-    over_seats-of_seat s p.seats 1 (eqb f g) range.0
-    ∙ sym (over_seats-of_slot (eqb f g) j (size_of p g) (in_same_table p f j g range.1))
-turns-sum p h (Prime s f j) g range =
-    let test = λ (i : ℕ). is_empty_content ((tables_at p h).value g i) in
-    over_seats-same _ _ p.seats (λ x lt. ap bit (and_assoc (eqb s x) (eqb f g) (test j)))
-    ∙ over_seats-of_seat s p.seats 1 (eqb f g && test j) range.0
-    ∙ sym (over_seats-of_tested_slot (eqb f g) j (size_of p g) test (in_same_table p f j g range.1))
-turns-sum p h _ g range = over_seats-zero p.seats ∙ sym (over_seats-zero (size_of p g))
+turns-sum p h e g range =
+    over_seats-of_seat (seat_of_event e) p.seats 1 (is_in g (turned_slot p h e)) (seat-in_range p e range)
+    ∙ sym (over_seats-of_turned p g (turned_slot p h e) (turned_slot-in_range p h e range))
 
 -- the number of finished slots, as a sum
 finished_among-sum : (t : Tables) (g n : ℕ) → finished_among t g n ≡ over_seats (slot_bit t g) n
@@ -283,8 +311,10 @@ counts-own :
     → counts e s g + counted_by h s g ≤ bit (turns p h e s g) + turned_by p h s g
 counts-own p h (Count seat f c) s g may before =
     let own = may.own in
-    at_slot (λ s g here. counted_by h s g ≤ turned_by p h s g → cond here c 0 + counted_by h s g ≤ 0 + turned_by p h s g) seat f s g
-    (λ before. omega arith) (λ before. omega arith) before
+    let less =
+    at_slot (λ s g here. counted_by h s g ≤ turned_by p h s g → cond here c 0 + counted_by h s g ≤ 0 + turned_by p h s g)
+    seat f s g (λ before. omega arith) (λ before. omega arith) before in
+    rw (and-false (eqb seat s)) less
 counts-own p h _ s g may before = omega arith
 
 -- a seat counts no more slots than it turned

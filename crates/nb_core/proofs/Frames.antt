@@ -1,17 +1,15 @@
 -- What one event changes in the tables, to the letter.
-use Rattle.std.proofs.Common.{◌≡◌, ◌∙◌, ℕ, ◌+◌, ◌*◌, ◌/◌, ◌%◌, ◌≤◌, cond, eqb, ◌&&◌, List, [], ◌∷◌, slice_index, bit_or, Some, ap, sym, subst, inl, inr, refl, arith}
+use Rattle.std.proofs.Common.{◌≡◌, ◌∙◌, ℕ, ◌+◌, ◌≤◌, cond, eqb, ◌&&◌, List, [], ◌∷◌, slice_index, bit_or, ap, sym, subst, inl, inr, refl, arith}
 use Rattle.std.proofs.Math.ListN.{get_or-eq_default}
 use Rattle.std.proofs.lemmas.Bool.{cases_lt, ne_eqb}
 use Rattle.std.proofs.lemmas.Bool.Decides.{nat_tests}
-use Rattle.std.proofs.lemmas.Nat.{and_mask}
-use Rattle.std.proofs.lemmas.Nat.Bits.{and_pow, bit_at-suc, bit_at_lowest}
-use Rattle.std.specs.Int.Bits.{or_add_and}
 use Rattle.std.specs.Option.{unwrap_or}
 use Rattle.nb_core.specs.Plans.{Plan, IsPlan, Header, Key, Value, generations_of, value_place}
 use Rattle.nb_core.specs.States.{IsValueState, key_state, key_word, value_state, value_word}
 use Rattle.nb_core.specs.Tables.{IsSlot, tables_at, words_of}
 use Rattle.nb_core.specs.History.{IsInRange, IsLegal}
 use Rattle.nb_core.specs.Laws.{primed}
+use Rattle.nb_core.proofs.Codings.{finished-word, primed-word, value_state-word}
 use Rattle.nb_core.proofs.Tables.{base_of-le}
 use Rattle.nb_core.proofs.Words.{at_slot, length-words_of, word-first, word_after, word-frame}
 use Rattle.nb_core.specs.declared.events.Event.{Event}
@@ -79,35 +77,6 @@ pub record IsWordOf (x : ℕ) (v : ValueState) : Type 0 where
   pub in_range : IsValueState v
   pub is : x ≡ value_word v
 
--- a value's word stands for it, if its number is the map's
-pub value_state-word : (v : ValueState) → IsValueState v → value_state (value_word v) ≡ Some v
-value_state-word Null range = refl
-value_state-word Tombstone range = refl
-value_state-word (Live n) range = grind (arith, nat_tests)
-value_state-word PrimedNull range = refl
-value_state-word PrimedTombstone range = refl
-value_state-word (Primed n) range = grind (arith, nat_tests)
-value_state-word (Finished n) range = grind (arith, nat_tests)
-
--- to set the lowest bit, or the one above it
-or_one : (x : ℕ) → bit_or x 1 + x % 2 ≡ x + 1
-or_one x = ap (λ y. bit_or x 1 + y) (sym (and_mask x 1)) ∙ or_add_and x 1
-
-or_two : (x : ℕ) → bit_or x 2 + (x / 2 % 2) * 2 ≡ x + 2
-or_two x =
-    ap (λ y. bit_or x 2 + y * 2) (sym (bit_at_lowest (x / 2)) ∙ sym (bit_at-suc x 0))
-    ∙ ap (λ y. bit_or x 2 + y) (sym (and_pow x 1)) ∙ or_add_and x 2
-
--- to set the lowest bit of a word primes its value
-primed-word : (v : ValueState) → bit_or (value_word v) 1 ≡ value_word (primed v)
-primed-word Null = refl
-primed-word Tombstone = refl
-primed-word (Live n) = omega (arith, or_one (4 * n + 8))
-primed-word PrimedNull = refl
-primed-word PrimedTombstone = refl
-primed-word (Primed n) = omega (arith, or_one (4 * n + 9))
-primed-word (Finished n) = omega (arith, or_one (4 * n + 11))
-
 -- a primed value's number is the map's, if the value's is
 primed-range : (v : ValueState) → IsValueState v → IsValueState (primed v)
 primed-range (Live n) range = range
@@ -123,7 +92,7 @@ primed-word_of x v w = record { in_range = primed-range v w.in_range; is = ap (�
 finished-word_of : (x n : ℕ) (v : ValueState) → v ≡ Primed n → IsWordOf x v → IsWordOf (bit_or x 2) (finished v)
 finished-word_of x n v primed =
     subst (λ v. IsWordOf x v → IsWordOf (bit_or x 2) (finished v)) (sym primed)
-    (λ w. record { in_range = w.in_range; is = ap (λ x. bit_or x 2) w.is ∙ omega (arith, or_two (4 * n + 9)) })
+    (λ w. record { in_range = w.in_range; is = ap (λ x. bit_or x 2) w.is ∙ finished-word n })
 
 -- a state's word says that state
 says : (x : ℕ) (v : ValueState) → IsWordOf x v → value_of x ≡ v

@@ -6,6 +6,7 @@ use Rattle.nb_core.specs.History.{IsLegal, MayClaim, MayFinish}
 use Rattle.nb_core.specs.Laws.{HasContent, primed}
 use Rattle.nb_core.proofs.Frames.{key-first, next-first, value-first}
 use Rattle.nb_core.proofs.Lasting.{complete-stays, installed-stays, key-claimed, key-was, key-was_dead, next-stays, others-stay, put-unprimed, slot-stays, value-content, value-empty, value-final, value-primed_or_finished, value-primed, win-puts}
+use Rattle.nb_core.proofs.Passing.{no_true}
 use Rattle.nb_core.proofs.Sound.{HasGot, HasKey, IsClaimedRight, IsSound, MayBeAbove, claimed-same, complete-growing, empty-unclaimed, finished-not_empty, finished-value, next-within, no_slot-past, one_slot, primed-growing}
 use Rattle.nb_core.proofs.Steps.{NextKept, Installs, Step, ValueStep, ValueKept, Wins, Copies, Primes, Finishes, step_of}
 use Rattle.nb_core.specs.declared.numbers.TheConstants.{KEY_MAX}
@@ -18,10 +19,10 @@ use Rattle.nb_core.specs.declared.states.ValueState.TheVariants.{Null, Tombstone
 
 -- under a final value anything may stand above, and under an unprimed one nothing
 final-above : (v above : ValueState) → IsFinishedValue v → MayBeAbove v above
-final-above Null above final = final
-final-above Tombstone above final = final
-final-above (Live n) above final = final
-final-above (Primed n) above final = absurd final
+final-above Null above final = no_true final
+final-above Tombstone above final = no_true final
+final-above (Live n) above final = no_true final
+final-above (Primed n) above final = absurd (no_true final)
 final-above _ above final = tt
 
 pub above-primed : (v above : ValueState) → MayBeAbove v above → IsUnprimed v → ⊥
@@ -106,7 +107,7 @@ finishes-got p t s g i slot may =
       is = copied.is;
       content = content-is (t.value (suc g) copied.slot) copied.some (λ primed_null.
           let above = primed-growing p t s (suc g) copied.slot copied_slot (λ unprimed. subst IsUnprimed primed_null unprimed) in
-          subst IsFinishedValue may.primed (finished-value t g i may.key ((s.ready g above).1 i slot.1) may.claimed));
+          no_true (subst IsFinishedValue may.primed (finished-value t g i may.key ((s.ready g above).1 i slot.1) may.claimed)));
     }
 
 -- ---- a step keeps each part of the invariant

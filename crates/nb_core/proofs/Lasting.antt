@@ -6,6 +6,7 @@ use Rattle.nb_core.specs.Tables.{AreOthers, HasSlot, IsComplete, IsFinished, IsF
 use Rattle.nb_core.specs.History.{IsExchange, MayClaim, MayWin, content_of, key_of_call}
 use Rattle.nb_core.specs.Laws.{HasContent, IsPrimedOrFinished, primed}
 use Rattle.nb_core.proofs.Legality.{number_left}
+use Rattle.nb_core.proofs.Passing.{no_true}
 use Rattle.nb_core.proofs.Sound.{IsSound, claimed-same, empty-null, empty-unclaimed, path_slot-is_slot, unprimed-not_final}
 use Rattle.nb_core.proofs.Steps.{KeyStep, KeyKept, Claims, Kills, NextStep, NextKept, Installs, Step, ValueStep, ValueKept, Wins, Copies, Primes, Finishes}
 use Rattle.nb_core.specs.declared.numbers.TheConstants.{KEY_MAX}
@@ -98,7 +99,7 @@ module _ {p : Plan} {t : Tables} {g i : ℕ} {to : ValueState} where
   value-final step final =
       elim (value-primed step (λ unprimed. unprimed-not_final (t.value g i) unprimed final)) [
         | inl e ↦ e
-        | inr finishes ↦ absurd (subst IsFinishedValue finishes.1 final)
+        | inr finishes ↦ no_true (subst IsFinishedValue finishes.1 final)
       ]
 
   -- and is still final
@@ -112,7 +113,7 @@ module _ {p : Plan} {t : Tables} {g i : ℕ} {to : ValueState} where
         | inl e ↦ inl (e ∙ primed)
         | inr finishes ↦ inr (let same : Primed finishes.0 ≡ Primed n = sym finishes.1 ∙ primed in let is = finishes.2 in cc)
       ]
-  value-primed_or_finished step (inr finished) = inr (value-final step (subst IsFinishedValue (sym finished) tt) ∙ finished)
+  value-primed_or_finished step (inr finished) = inr (value-final step (subst IsFinishedValue (sym finished) refl) ∙ finished)
 
   -- no step makes a value null
   pub value-some : ValueStep p t g i to → t.value g i ≢ Null → to ≢ Null

@@ -3,11 +3,12 @@ use Rattle.std.proofs.Common.{◌≡◌, ◌≢◌, ◌∙◌, ℕ, ◌-◌, ◌
 use Rattle.std.proofs.lemmas.Bool.{cond_both}
 use Rattle.nb_core.specs.Plans.{Plan, IsPlan, Header, generations_of, header_place, size_of}
 use Rattle.nb_core.specs.States.{IsKeyState, value_state}
-use Rattle.nb_core.specs.Tables.{IsSlot, IsUnprimed, chunk_of, Tables, tables_at, words_of}
+use Rattle.nb_core.specs.Tables.{IsSlot, IsUnprimed, chunk_of, Tables, is_finished_value, tables_at, words_of}
 use Rattle.nb_core.specs.History.{IsLegal}
-use Rattle.nb_core.specs.Laws.{IsKeyChange, IsValueChange, IsWonChange, LawfulChanges, LawfulWords, finished_among, is_dead, is_finished_value, primed}
+use Rattle.nb_core.specs.Laws.{IsKeyChange, IsValueChange, IsWonChange, LawfulChanges, LawfulWords, finished_among, is_dead, primed}
+use Rattle.nb_core.proofs.Codings.{value_state-word}
 use Rattle.nb_core.proofs.Counting.{counted_once}
-use Rattle.nb_core.proofs.Frames.{finished, key_after, key-frame, value_after, value-frame, value_state-word, value_words}
+use Rattle.nb_core.proofs.Frames.{finished, key_after, key-frame, value_after, value-frame, value_words}
 use Rattle.nb_core.proofs.Keeping.{sound}
 use Rattle.nb_core.proofs.Lasting.{PutsNone, PutsNumber, Puts, win-puts}
 use Rattle.nb_core.proofs.Passing.{is_finished-true}

@@ -2,10 +2,10 @@
 use Rattle.std.specs.Prelude.{ℕ, suc, zero, ◌+◌, ◌-◌, ◌%◌, ◌==◌, ◌&&◌, ◌||◌, not, nat_lt, nat_le, Bool, true, false, if◌then◌else◌, List, [], ◌∷◌, Option, Some, None, is_some}
 use Rattle.nb_core.specs.Calls.{changed, holds_of, is_past_max, leaves_alone, same_number}
 use Rattle.nb_core.specs.Plans.{Plan, generations_of, limit_of, size_of}
-use Rattle.nb_core.specs.Tables.{Tables, path_slot, tables_at}
+use Rattle.nb_core.specs.Tables.{Tables, is_finished_value, path_slot, tables_at}
 use Rattle.nb_core.specs.Histories.{is_empty}
 use Rattle.nb_core.specs.History.{content_of, counted_by, key_of_call, turned_by}
-use Rattle.nb_core.specs.Laws.{is_dead, is_finished_value}
+use Rattle.nb_core.specs.Laws.{is_dead}
 use Rattle.nb_core.specs.Meaning.{is_claimed_by, is_installed, slot_among}
 use Rattle.nb_core.specs.declared.numbers.TheConstants.{KEY_MAX, VALUE_MAX}
 use Rattle.nb_core.specs.declared.calls.Call.{Call}

@@ -1,5 +1,6 @@
 mod Accepted
 mod Checks
+mod Codings
 mod Counting
 mod Entries
 mod Filled

@@ -7,15 +7,16 @@ use Rattle.std.proofs.lemmas.List.Elements.{All-head, All-tail}
 use Rattle.std.proofs.lemmas.List.Sums.{sum_by-append, sum_by-cons}
 use Rattle.nb_core.specs.Plans.{Plan, IsPlan}
 use Rattle.nb_core.specs.Tables.{HasSlot, IsFinishedValue, IsSettledBelow, IsSlot, IsUnprimed, Tables, tables_at}
-use Rattle.nb_core.specs.History.{IsLegal, IsPrimedBelow, counts, is_empty_content, key_of_call, seat_of_event, turned_by, turns}
+use Rattle.nb_core.specs.History.{IsLegal, IsPrimedBelow, counts, key_of_call, seat_of_event, turned_by, turns}
 use Rattle.nb_core.specs.Meaning.{calls_of, is_win_of_another, passed_over}
 use Rattle.nb_core.specs.Laws.{HasOwnStill, IsValueChange, LostExchange, OwnLasts, PassedOverAdds, primed}
 use Rattle.nb_core.proofs.Lasting.{win-key}
 use Rattle.nb_core.proofs.Later.{seen_lasts}
 use Rattle.nb_core.proofs.Lawful.{lawful_changes}
+use Rattle.nb_core.proofs.Passing.{no_true}
 use Rattle.nb_core.proofs.Sound.{one_key}
 use Rattle.nb_core.specs.declared.events.Event.{Event}
-use Rattle.nb_core.specs.declared.events.Event.TheVariants.{Kill, Won, CopyIn, Prime, Finish, Count, Read}
+use Rattle.nb_core.specs.declared.events.Event.TheVariants.{Won, CopyIn, Prime, Finish, Count, Read}
 use Rattle.nb_core.specs.declared.states.KeyState.TheVariants.{Claimed}
 use Rattle.nb_core.specs.declared.states.ValueState.{ValueState}
 use Rattle.nb_core.specs.declared.states.ValueState.TheVariants.{Null}
@@ -65,7 +66,7 @@ primed-not_unprimed _ unprimed = unprimed
 -- a key that is settled below has no primed number there
 settled-not_primed : (p : Plan) (t : Tables) (g k n : ℕ) → IsSettledBelow p t g k → IsPrimedBelow p t g k n → ⊥
 settled-not_primed p t zero k n settled primed = primed
-settled-not_primed p t (suc g) k n settled primed = subst IsFinishedValue primed.3 (settled primed.0 primed.1 primed.2)
+settled-not_primed p t (suc g) k n settled primed = no_true (subst IsFinishedValue primed.3 (settled primed.0 primed.1 primed.2))
 
 -- an exchange on the key is another seat's, where this one made no call
 won-another : (r s k key : ℕ) → eqb r s ≡ false → key ≡ k → (eqb key k && not (eqb r s)) ≡ true
@@ -138,11 +139,7 @@ counts-other e s g other = refl
 
 -- and turns nothing finished for it
 turns-other : (p : Plan) (e : Event) (h : List Event) (s g : ℕ) → seat_of_event e ≢ s → turns p h e s g ≡ false
-turns-other p (Kill r f j) h s g other = other_seat r s (eqb f g) other
-turns-other p (Finish r f j) h s g other = other_seat r s (eqb f g) other
-turns-other p (Prime r f j) h s g other =
-    ap (λ t. t && is_empty_content ((tables_at p h).value g j)) (other_seat r s (eqb f g) other)
-turns-other p e h s g other = refl
+turns-other p e h s g other = other_seat (seat_of_event e) s _ other
 
 -- a seat's own stays with one event more of another seat
 own-more :

@@ -4,11 +4,11 @@ use Rattle.std.proofs.lemmas.Bool.{both_ways, eq-eqb, eqb-false, eqb-true, leb-t
 use Rattle.nb_core.specs.Calls.{changed, holds_of}
 use Rattle.nb_core.specs.Plans.{Plan, generations_of, limit_of, size_of}
 use Rattle.nb_core.specs.States.{IsValueState}
-use Rattle.nb_core.specs.Tables.{AreOthers, HasSlotBelow, IsComplete, IsFinished, IsFinishedValue, IsInstalled, IsOther, IsReady, IsSettledBelow, IsSlot, IsUnprimed, Tables, path_slot, tables_at}
+use Rattle.nb_core.specs.Tables.{AreOthers, HasSlotBelow, IsComplete, IsFinished, IsFinishedValue, IsInstalled, IsOther, IsReady, IsSettledBelow, IsSlot, IsUnprimed, Tables, is_finished_value, path_slot, tables_at}
 use Rattle.nb_core.specs.Histories.{is_empty}
 use Rattle.nb_core.specs.History.{Exchanges, HasValue, IsCallInRange, IsChangeInRange, IsExchange, IsInRange, IsPrimedBelow, IsWantInRange, MayClaim, MayFinish, MayFollow, MayWin, content_of, counted_by, key_of_call, turned_by}
 use Rattle.nb_core.specs.Meaning.{is_claimed_by, is_installed, slot_among}
-use Rattle.nb_core.specs.Laws.{is_dead, is_finished_value}
+use Rattle.nb_core.specs.Laws.{is_dead}
 use Rattle.nb_core.proofs.Legality.{all_finished, are_others, claimed_key, distance_of, exchanges_to, has_slot_below, has_value_at, is_call_in_range, is_change_in_range, is_complete, is_exchange, is_finished, is_in_range, is_live, is_null, is_other, is_primed_at, is_primed_below, is_ready, is_settled_below, is_slot, is_unprimed, is_value_in_range, is_want_in_range, may_claim_at, may_finish_of, may_follow, may_win, primed_number, same_value, settled_among}
 use Rattle.nb_core.specs.declared.numbers.TheConstants.{KEY_MAX, VALUE_MAX}
 use Rattle.nb_core.specs.declared.calls.Call.{Call}
@@ -38,7 +38,8 @@ pub not_true : (a : Bool) → not a ≡ true → a ≡ false
 not_true true e = cc
 not_true false e = refl
 
-no_true : {A : Type 0} → false ≡ true → A
+-- no test that fails passes
+pub no_true : {A : Type 0} → false ≡ true → A
 no_true e = cc
 
 last_or_below : (i n : ℕ) → i < suc n → (i < n) ⊎ (i ≡ n)
@@ -89,15 +90,6 @@ is_unprimed-true PrimedNull e = no_true e
 is_unprimed-true PrimedTombstone e = no_true e
 is_unprimed-true (Primed n) e = no_true e
 is_unprimed-true (Finished n) e = no_true e
-
-pub is_finished_value-true : (v : ValueState) → is_finished_value v ≡ true → IsFinishedValue v
-is_finished_value-true Null e = no_true e
-is_finished_value-true Tombstone e = no_true e
-is_finished_value-true (Live n) e = no_true e
-is_finished_value-true PrimedNull e = tt
-is_finished_value-true PrimedTombstone e = tt
-is_finished_value-true (Primed n) e = no_true e
-is_finished_value-true (Finished n) e = tt
 
 pub is_null-true : (v : ValueState) → is_null v ≡ true → v ≡ Null
 is_null-true Null e = refl
@@ -152,7 +144,7 @@ same_value_itself (Finished n) = eq-eqb n n refl
 
 pub is_finished-true : (t : Tables) (g i : ℕ) → is_finished t g i ≡ true → IsFinished t g i
 is_finished-true t g i e =
-    ⊎_elim (λ dead. inl (is_dead-true (t.key g i) dead)) (λ done. inr (is_finished_value-true (t.value g i) done))
+    ⊎_elim (λ dead. inl (is_dead-true (t.key g i) dead)) (λ final. inr final)
     (either (is_dead (t.key g i)) (is_finished_value (t.value g i)) e)
 
 all_finished-true : (t : Tables) (g n : ℕ) → all_finished t g n ≡ true → (i : ℕ) → i < n → IsFinished t g i
@@ -203,7 +195,7 @@ settled_among-true t g k zero e = λ i h claimed. absurd (omega arith)
 settled_among-true t g k (suc n) e =
     let b = both (not (is_claimed_by k (t.key g n)) || is_finished_value (t.value g n)) (settled_among t g k n) e in
     below_suc (λ i. t.key g i ≡ Claimed k → IsFinishedValue (t.value g i)) n
-    (λ claimed. ⊎_elim (λ away. absurd (unclaimed k (t.key g n) away claimed)) (λ done. is_finished_value-true (t.value g n) done)
+    (λ claimed. ⊎_elim (λ away. absurd (unclaimed k (t.key g n) away claimed)) (λ final. final)
     (either (not (is_claimed_by k (t.key g n))) (is_finished_value (t.value g n)) b.0))
     (settled_among-true t g k n b.1)
 

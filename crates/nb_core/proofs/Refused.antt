@@ -8,7 +8,7 @@ use Rattle.nb_core.specs.History.{IsLegal}
 use Rattle.nb_core.proofs.Legality.{is_null, passes, same_value}
 use Rattle.nb_core.specs.Meaning.{is_claimed_by}
 use Rattle.nb_core.specs.Refusals.{MayNotFollow, MayNotReply, Wrong, overwriting_copy, overwriting_copy_of_a_newer_number, early_finish, early_finish_at_a_null, hasty_writer, double_count, double_count_by_one_seat, early_promotion, late_copier, late_copier_past_a_primed_tombstone, reused_key, stale_sum, stale_sum_replacing_what_stands, silent_overflow}
-use Rattle.nb_core.proofs.Passing.{below_suc, both, either, is_null-true, not_true}
+use Rattle.nb_core.proofs.Passing.{below_suc, both, either, is_null-true, no_true, not_true}
 use Rattle.nb_core.proofs.Replies.{number_at_map, passes_legal}
 use Rattle.nb_core.specs.declared.calls.Change.TheVariants as change
 use Rattle.nb_core.specs.declared.calls.Want.TheVariants.{Any}
@@ -77,7 +77,7 @@ pub early_finish_at_a_null_refused : MayNotFollow early_finish_at_a_null
 early_finish_at_a_null_refused m = not_copied early_finish_at_a_null 0 refl m.key m.copied.slot m.claimed m.copied.in_table m.copied.is m.copied.some
 
 pub hasty_writer_refused : MayNotFollow hasty_writer
-hasty_writer_refused m = m.settled 0 (omega arith) m.claimed
+hasty_writer_refused m = no_true (m.settled 0 (omega arith) m.claimed)
 
 pub double_count_refused : MayNotFollow double_count
 double_count_refused m = absurd (omega (arith, m.own))
@@ -86,7 +86,7 @@ pub double_count_by_one_seat_refused : MayNotFollow double_count_by_one_seat
 double_count_by_one_seat_refused m = absurd (omega (arith, m.own))
 
 pub early_promotion_refused : MayNotFollow early_promotion
-early_promotion_refused m = ⊎_elim (λ dead. claimed_not_dead 0 dead) (λ finished. finished) (m.complete 0 (omega arith))
+early_promotion_refused m = ⊎_elim (λ dead. claimed_not_dead 0 dead) (λ final. no_true final) (m.complete 0 (omega arith))
 
 -- no slot of the key in the table below the last is primed with the number
 not_primed : (w : Wrong) (n : ℕ) → values_pass (λ v. not (same_value v (Primed n))) (tables_at w.plan w.before) 1 0 (size_of w.plan 1) ≡ true

@@ -9,7 +9,7 @@ use Rattle.nb_core.specs.Laws.{AtEmpty, AtValue, CrowdedAbsent, Decided, HasCont
 use Rattle.nb_core.proofs.Keeping.{sound}
 use Rattle.nb_core.proofs.Lasting.{win-key}
 use Rattle.nb_core.proofs.Newest.{HasNoneFrom, HasNoneFrom-slot, HasNoneFrom-unprimed, HasNoneIn, IsNewest, IsNewestAt, from_suc, newest}
-use Rattle.nb_core.proofs.Passing.{below_suc}
+use Rattle.nb_core.proofs.Passing.{below_suc, no_true}
 use Rattle.nb_core.proofs.Replies.{number_at_map}
 use Rattle.nb_core.proofs.Room.{crowded-complete_below, passed-settled}
 use Rattle.nb_core.proofs.Slots.{Away, Here, has_slot_or_none, look, value_in-some}
@@ -37,8 +37,8 @@ content_of-without _ without = refl
 
 -- a final value without a finished number has none
 content_of-final : (v : ValueState) → IsFinishedValue v → ((n : ℕ) → v ≢ Finished n) → content_of v ≡ None
-content_of-final (Live n) final unmoved = absurd final
-content_of-final (Primed n) final unmoved = absurd final
+content_of-final (Live n) final unmoved = no_true final
+content_of-final (Primed n) final unmoved = no_true final
 content_of-final (Finished n) final unmoved = absurd (unmoved n refl)
 content_of-final _ final unmoved = refl
 
@@ -175,7 +175,8 @@ module _ (p : Plan) (t : Tables) (plan : IsPlan p) (s : IsSound p t) (k : ℕ) w
 
   -- a table with a number that is still to copy isn't complete
   uncopied-not_complete : (g i n : ℕ) → IsSlot p g i → t.key g i ≡ Claimed k → t.value g i ≡ Primed n → IsComplete p t g → ⊥
-  uncopied-not_complete g i n slot is primed complete = subst IsFinishedValue primed (finished-value t g i k (complete i slot.1) is)
+  uncopied-not_complete g i n slot is primed complete =
+      no_true (subst IsFinishedValue primed (finished-value t g i k (complete i slot.1) is))
 
   -- of the newest value:
   module _ (g i : ℕ) (here : IsNewestAt p t k g i) where

@@ -5,7 +5,7 @@ use Rattle.std.proofs.lemmas.Nat.{mod_below}
 use Rattle.nb_core.specs.Plans.{Plan, IsPlan, generations_of, size_of}
 use Rattle.nb_core.specs.Tables.{AreOthers, HasSlot, IsComplete, IsFinished, IsFinishedValue, IsInstalled, IsOther, IsSlot, IsUnprimed, Tables, path_slot}
 use Rattle.nb_core.specs.Laws.{HasContent, IsOnPath}
-use Rattle.nb_core.proofs.Passing.{below_suc}
+use Rattle.nb_core.proofs.Passing.{below_suc, no_true}
 use Rattle.nb_core.proofs.Tables.{four-le-size_of}
 use Rattle.nb_core.specs.declared.numbers.TheConstants.{KEY_MAX}
 use Rattle.nb_core.specs.declared.states.KeyState.{KeyState}
@@ -94,9 +94,9 @@ HasNoSlot p t g k = (i : ℕ) → i < size_of p g → t.key g i ≢ Claimed k
 
 -- a value is final, or not primed yet, and not both
 pub unprimed-not_final : (v : ValueState) → IsUnprimed v → IsFinishedValue v → ⊥
-unprimed-not_final Null unprimed final = final
-unprimed-not_final Tombstone unprimed final = final
-unprimed-not_final (Live n) unprimed final = final
+unprimed-not_final Null unprimed final = no_true final
+unprimed-not_final Tombstone unprimed final = no_true final
+unprimed-not_final (Live n) unprimed final = no_true final
 unprimed-not_final _ unprimed final = unprimed
 
 -- a finished slot with a key has a final value
@@ -154,7 +154,7 @@ module _ (p : Plan) (t : Tables) (s : IsSound p t) where
   -- a finished slot isn't empty
   pub finished-not_empty : (g i : ℕ) → IsSlot p g i → IsFinished t g i → t.key g i ≢ Empty
   finished-not_empty g i slot (inl dead) empty = let e : Empty ≡ Dead = sym empty ∙ dead in cc
-  finished-not_empty g i slot (inr final) empty = subst IsFinishedValue (empty-null g i slot empty) final
+  finished-not_empty g i slot (inr final) empty = no_true (subst IsFinishedValue (empty-null g i slot empty) final)
 
   -- a table with a next one isn't the last
   pub next-within : (g : ℕ) → t.next g ≡ 1 → suc g < generations_of p

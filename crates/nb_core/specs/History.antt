@@ -1,6 +1,7 @@
 -- Legal histories: when an event may follow, and the map that a history stands for.
 use Rattle.std.specs.Prelude.{◌≡◌, ◌≢◌, ℕ, suc, zero, ◌+◌, ◌<◌, ◌≤◌, ◌⊎◌, ◌==◌, ◌&&◌, Bool, true, false, if◌then◌else◌, List, [], ◌∷◌, Option, Some, None, MatchOption}
 use Rattle.std.specs.FinMap as map
+use Rattle.std.specs.Option.{option_map_or}
 use Rattle.nb_core.specs.Calls.{Numbers, changed, holds_of, map_after, overflows, reply_of}
 use Rattle.nb_core.specs.Plans.{Plan, generations_of, limit_of, size_of}
 use Rattle.nb_core.specs.States.{IsValueState}
@@ -116,12 +117,34 @@ is_empty_content Null = true
 is_empty_content Tombstone = true
 is_empty_content _ = false
 
--- whether the event turned a slot of a table finished, and was the seat's
+-- the seat of an event
+abbrev pub seat_of_event : Event → ℕ
+seat_of_event (Claim s g i k) = s
+seat_of_event (Kill s g i) = s
+seat_of_event (Won s g i a b c r) = s
+seat_of_event (CopyIn s g i k n) = s
+seat_of_event (Prime s g i) = s
+seat_of_event (Finish s g i) = s
+seat_of_event (Install s g k) = s
+seat_of_event (Take s g) = s
+seat_of_event (Count s g c) = s
+seat_of_event (Promote s g) = s
+seat_of_event (Read s c r) = s
+
+-- the slot that the event, coming after the history, turned finished, if it did: its table, and its place there
+abbrev pub turned_slot : Plan → List Event → Event → Option (ℕ × ℕ)
+turned_slot p h (Kill s g i) = Some (g, i)
+turned_slot p h (Finish s g i) = Some (g, i)
+turned_slot p h (Prime s g i) = if is_empty_content ((tables_at p h).value g i) then Some (g, i) else None
+turned_slot p h _ = None
+
+-- whether the event turned a slot of this table finished, and was the seat's
 abbrev pub turns : Plan → List Event → Event → ℕ → ℕ → Bool
-turns p h (Kill s' g' i) s g = s' == s && g' == g
-turns p h (Finish s' g' i) s g = s' == s && g' == g
-turns p h (Prime s' g' i) s g = s' == s && g' == g && is_empty_content ((tables_at p h).value g i)
-turns p h _ s g = false
+turns p h e s g = seat_of_event e == s && option_map_or (λ slot. slot.0 == g) (turned_slot p h e) false
+
+-- whether the event turned this slot finished
+abbrev pub turns_slot : Plan → List Event → Event → ℕ → ℕ → Bool
+turns_slot p h e g i = option_map_or (λ slot. slot.0 == g && slot.1 == i) (turned_slot p h e) false
 
 -- how many slots of a table the events of a seat turned finished
 abbrev pub turned_by : Plan → List Event → ℕ → ℕ → ℕ
@@ -202,20 +225,6 @@ IsInRange p (Read s c r) = (s < p.seats) × IsCallInRange c
 abbrev pub key_of_call : Call → ℕ
 key_of_call (call.Get k) = k
 key_of_call (call.Write k want change) = k
-
--- the seat of an event
-abbrev pub seat_of_event : Event → ℕ
-seat_of_event (Claim s g i k) = s
-seat_of_event (Kill s g i) = s
-seat_of_event (Won s g i a b c r) = s
-seat_of_event (CopyIn s g i k n) = s
-seat_of_event (Prime s g i) = s
-seat_of_event (Finish s g i) = s
-seat_of_event (Install s g k) = s
-seat_of_event (Take s g) = s
-seat_of_event (Count s g c) = s
-seat_of_event (Promote s g) = s
-seat_of_event (Read s c r) = s
 
 -- the map with the value that a call's exchange put at its key
 abbrev pub after_win : Numbers → ℕ → ValueState → Numbers

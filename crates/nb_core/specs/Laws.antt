@@ -1,11 +1,11 @@
 -- The laws of legal histories: what holds at every moment, whatever atomic steps were made, by whom, in which order.
-use Rattle.std.specs.Prelude.{◌≡◌, ◌≢◌, ℕ, suc, zero, ◌+◌, ◌-◌, ◌<◌, ◌≤◌, ◌⊎◌, ◌==◌, ◌&&◌, ◌||◌, ℤ, pos, ◌+ℤ◌, Bool, true, false, if◌then◌else◌, List, [], ◌∷◌, ◌++◌, length, slice_index, Option, Some, None, All}
+use Rattle.std.specs.Prelude.{◌≡◌, ◌≢◌, ℕ, suc, zero, ◌+◌, ◌-◌, ◌%◌, ◌<◌, ◌≤◌, ◌⊎◌, ◌||◌, ℤ, pos, ◌+ℤ◌, Bool, true, false, if◌then◌else◌, List, [], ◌∷◌, ◌++◌, length, slice_index, bit_or, Option, Some, None, All}
 use Rattle.std.specs.FinMap as map
 use Rattle.nb_core.specs.Calls.{holds_of, leaves_alone}
 use Rattle.nb_core.specs.Plans.{Plan, IsPlan, generations_of, header_place, size_of, value_place, word_count}
-use Rattle.nb_core.specs.States.{IsKeyState, value_state}
-use Rattle.nb_core.specs.Tables.{AreOthers, HasSlot, IsComplete, IsFinished, IsFinishedValue, IsInstalled, IsReady, IsSettledBelow, IsSlot, IsUnprimed, Tables, path_slot, tables_at, words_of}
-use Rattle.nb_core.specs.History.{HasValue, IsLegal, MayWin, Replies, content_of, counted_by, is_empty_content, key_of_call, map_of, seat_of_event, turned_by}
+use Rattle.nb_core.specs.States.{IsKeyState, IsValueState, value_state, value_word}
+use Rattle.nb_core.specs.Tables.{AreOthers, HasSlot, IsComplete, IsFinished, IsFinishedValue, IsInstalled, IsReady, IsSettledBelow, IsSlot, IsUnprimed, Tables, is_finished_value, path_slot, tables_at, words_of}
+use Rattle.nb_core.specs.History.{HasValue, IsLegal, MayWin, Replies, content_of, counted_by, key_of_call, map_of, seat_of_event, turned_by, turns_slot}
 use Rattle.nb_core.specs.Meaning.{IsCrowded, Stands, calls_of, net_of, passed_over, place_of}
 use Rattle.nb_core.specs.declared.numbers.TheConstants.{KEY_MAX, VALUE_MAX}
 use Rattle.nb_core.specs.declared.calls.Call.{Call}
@@ -61,6 +61,21 @@ primed PrimedNull = PrimedNull
 primed PrimedTombstone = PrimedTombstone
 primed (Primed n) = Primed n
 primed (Finished n) = Finished n
+
+-- How words stand for the states of values.
+pub record Codings : Type 0 where
+  -- a state's word stands for it, if its number is one of the map
+  pub state_of_word : (v : ValueState) → IsValueState v → value_state (value_word v) ≡ Some v
+  -- a word that stands for a state is that state's, and the state's number is one of the map
+  pub word_of_state : (word : ℕ) (v : ValueState) → value_state word ≡ Some v → (word ≡ value_word v) × IsValueState v
+  -- to set the lowest bit of a state's word primes the state
+  pub prime : (v : ValueState) → bit_or (value_word v) 1 ≡ value_word (primed v)
+  -- to set the bit above it in the word of a primed number finishes the number
+  pub finish : (n : ℕ) → bit_or (value_word (Primed n)) 2 ≡ value_word (Finished n)
+  -- and leaves the word of a finished number as it is
+  pub finish_again : (n : ℕ) → bit_or (value_word (Finished n)) 2 ≡ value_word (Finished n)
+  -- the words of the states that aren't primed are even, and no others
+  pub even : (v : ValueState) → (IsUnprimed v → value_word v % 2 ≡ 0) × (value_word v % 2 ≡ 0 → IsUnprimed v)
 
 -- how an event may change the value in slot i of table g: the slot is its own
 abbrev pub IsValueChange : Event → (g i : ℕ) → ValueState → ValueState → Type 0
@@ -141,27 +156,10 @@ Decided =
 
 -- ---- growth
 
--- the event, coming after the history, turned this slot finished
-abbrev pub turns_slot : Plan → List Event → Event → ℕ → ℕ → Bool
-turns_slot p h (Kill s f j) g i = f == g && j == i
-turns_slot p h (Finish s f j) g i = f == g && j == i
-turns_slot p h (Prime s f j) g i = f == g && j == i && is_empty_content ((tables_at p h).value g i)
-turns_slot p h _ g i = false
-
 -- how many events turned the slot finished
 abbrev pub times_turned : Plan → List Event → ℕ → ℕ → ℕ
 times_turned p [] g i = 0
 times_turned p (e ∷ h) g i = (if turns_slot p h e g i then 1 else 0) + times_turned p h g i
-
--- whether the value is final
-abbrev pub is_finished_value : ValueState → Bool
-is_finished_value Null = false
-is_finished_value Tombstone = false
-is_finished_value (Live n) = false
-is_finished_value PrimedNull = true
-is_finished_value PrimedTombstone = true
-is_finished_value (Primed n) = false
-is_finished_value (Finished n) = true
 
 abbrev pub is_dead : KeyState → Bool
 is_dead Empty = false

@@ -1,5 +1,5 @@
 -- The words of a chain of tables after a history, and what they say of its slots.
-use Rattle.std.specs.Prelude.{◌≡◌, ◌≢◌, ℕ, suc, zero, ◌+◌, ◌%◌, ◌^◌, ◌<◌, ◌⊎◌, min, max, bit_or, List, [], ◌∷◌, replicate, slice_index, slice_set, unwrap_or}
+use Rattle.std.specs.Prelude.{◌≡◌, ◌≢◌, ℕ, suc, zero, ◌+◌, ◌%◌, ◌^◌, ◌<◌, ◌⊎◌, min, max, bit_or, Bool, true, false, IsTrue, List, [], ◌∷◌, replicate, slice_index, slice_set, unwrap_or}
 use Rattle.nb_core.specs.Plans.{Plan, generations_of, header_place, key_place, size_of, value_place, word_count}
 use Rattle.nb_core.specs.States.{key_state, key_word, value_state, value_word}
 use Rattle.nb_core.specs.declared.events.Event.{Event}
@@ -81,15 +81,18 @@ IsUnprimed PrimedTombstone = ⊥
 IsUnprimed (Primed n) = ⊥
 IsUnprimed (Finished n) = ⊥
 
--- the value is primed and has nothing left to copy: it is final
+-- whether the value is final: it is primed, and has nothing left to copy
+abbrev pub is_finished_value : ValueState → Bool
+is_finished_value Null = false
+is_finished_value Tombstone = false
+is_finished_value (Live n) = false
+is_finished_value PrimedNull = true
+is_finished_value PrimedTombstone = true
+is_finished_value (Primed n) = false
+is_finished_value (Finished n) = true
+
 abbrev pub IsFinishedValue : ValueState → Type 0
-IsFinishedValue Null = ⊥
-IsFinishedValue Tombstone = ⊥
-IsFinishedValue (Live n) = ⊥
-IsFinishedValue PrimedNull = Unit {0}
-IsFinishedValue PrimedTombstone = Unit {0}
-IsFinishedValue (Primed n) = ⊥
-IsFinishedValue (Finished n) = Unit {0}
+IsFinishedValue v = IsTrue (is_finished_value v)
 
 -- a slot is finished if it is closed to keys, or its value is final
 abbrev pub IsFinished : Tables → ℕ → ℕ → Type 0

@@ -30,7 +30,8 @@ abbrev pub all_of : List (List Tally) → List Tally
 all_of [] = []
 all_of (v ∷ views) = v ++ all_of views
 
--- Each stripe is the sum, modulo 2^64, of what its seats have added; the words between two stripes mean nothing; and no seat's tally is lost.
+-- Each stripe is the sum, modulo 2^64, of what its seats have added; the words between two stripes mean nothing; and no
+-- seat's tally is lost.
 pub record AreSums (z : Size) (s : State (Unit {0}) (List Tally)) : Type 0 where
   pub words : length s.words ≡ SPREAD * z.stripes
   pub sums : (i : ℕ) → i < z.stripes → slice_index s.words (SPREAD * i) ≡ wrapped (total (served z.stripes i) (all_of s.views))
@@ -45,11 +46,11 @@ sum_of_stripes words (suc n) = sum_of_stripes words n + slice_index words (SPREA
 abbrev pub added_by : List Tally → ℤ
 added_by ts = total (λ t. t.added) ts
 
--- the sum of the stripes is what all seats have added
+-- the sum of the stripes is, modulo 2^64, what all seats have added
 abbrev pub StripesAreTheSum : Type 0
 StripesAreTheSum = (z : Size) (s : State (Unit {0}) (List Tally)) → 1 ≤ z.stripes → AreSums z s → sum_of_stripes s.words z.stripes % 2 ^ 64 ≡ wrapped (added_by (all_of s.views))
 
--- the sum of the stripes doesn't depend on the number of stripes
+-- where all seats have added the same, the sum of the stripes is the same modulo 2^64, however many stripes there are
 abbrev pub StripesAreFree : Type 0
 StripesAreFree = (y z : Size) (s t : State (Unit {0}) (List Tally)) → 1 ≤ y.stripes → 1 ≤ z.stripes → AreSums y s → AreSums z t → added_by (all_of s.views) ≡ added_by (all_of t.views) → sum_of_stripes s.words y.stripes % 2 ^ 64 ≡ sum_of_stripes t.words z.stripes % 2 ^ 64
 

@@ -6,7 +6,7 @@ pub fn stripes_are_the_sum()
     ensures { StripesAreTheSum }
 {}
 
-/// Two counters whose seats have added the same have the same sum, however many stripes each has.
+/// Two counters whose seats have added the same have the same sum, modulo 2^64, however many stripes each has.
 pub fn stripes_are_free()
     ensures { StripesAreFree }
 {}
