@@ -175,5 +175,5 @@ raised p lawful distinct plan g found before after shape step low =
       grows,
       ap (λ t. t.top) below ∙ step.word,
       ap (λ t. t.top) top ∙ get_or-set_same (words_of p h) 0 (max (slice_index (words_of p h) 0) (suc g)) 0 some
-      ∙ ap (λ n. max n (suc g)) step.word ∙ most,
+          ∙ ap (λ n. max n (suc g)) step.word ∙ most,
     )

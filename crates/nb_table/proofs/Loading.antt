@@ -1,5 +1,5 @@
 -- What a load may be the read of, and what it finds.
-use Rattle.std.proofs.Common.{◌≡◌, ◌≢◌, ◌∙◌, ℕ, zero, suc, ◌+◌, ◌-◌, ◌%◌, ◌<◌, ◌≤◌, ◌⊎◌, ◌↔◌, Bool, true, false, not, ◌&&◌, cond, eqb, List, [], ◌∷◌, ◌++◌, slice_index, Option, Some, None, ap, sym, subst, refl, inl, inr, arith}
+use Rattle.std.proofs.Common.{◌≡◌, ◌≢◌, ◌∙◌, ℕ, suc, ◌+◌, ◌-◌, ◌%◌, ◌<◌, ◌≤◌, ◌⊎◌, Bool, true, false, not, ◌&&◌, cond, eqb, List, ◌++◌, slice_index, Option, Some, None, ap, sym, subst, refl, inl, inr, arith}
 use Rattle.std.specs.Option.{IfSome, unwrap_or}
 use Rattle.std.specs.FinMap as map
 use Rattle.std.proofs.Math.Nat.{mod-add-mod, mod-eq-sub-mod, mod-eq_of_lt, mod-lt}
@@ -9,7 +9,7 @@ use Rattle.std.proofs.lemmas.Option.{IfSome_then}
 use Rattle.nb_core.specs.Calls.{leaves_alone}
 use Rattle.nb_core.specs.Plans.{Plan, IsPlan, generations_of, header_place, key_place, size_of, value_place}
 use Rattle.nb_core.specs.States.{key_state, value_state}
-use Rattle.nb_core.specs.Tables.{AreOthers, IsInstalled, IsOther, IsSlot, IsUnprimed, Tables, path_slot, tables_at, tables_of, words_of}
+use Rattle.nb_core.specs.Tables.{AreOthers, IsSlot, IsUnprimed, Tables, path_slot, tables_at, tables_of, words_of}
 use Rattle.nb_core.specs.History.{IsCallInRange, IsLegal, content_of, key_of_call, map_of}
 use Rattle.nb_core.specs.Laws.{Decided, IsOnPath, Lasts, ReadReplies, SeenLasts, Shows, AtEmpty, AtValue, NoNext, InLast, TablesAreLinked, reply_at}
 use Rattle.nb_core.specs.declared.calls.Call.{Call}
@@ -21,7 +21,7 @@ use Rattle.nb_core.specs.declared.states.KeyState.TheVariants.{Empty, Dead, Clai
 use Rattle.nb_core.specs.declared.states.ValueState.{ValueState}
 use Rattle.nb_core.specs.declared.states.ValueState.TheVariants.{Null, Tombstone, Live, PrimedNull, PrimedTombstone, Primed, Finished}
 use Rattle.nb_table.proofs.Following.{if-follows, later, none-follows, one-follows}
-use Rattle.nb_table.specs.Chains.{Extended, SeenBy, seen_by}
+use Rattle.nb_table.specs.Chains.{SeenBy, seen_by}
 use Rattle.nb_table.specs.Conditions.{IsReached}
 use Rattle.nb_table.specs.Events.{is_last_slot, only, read, reads, shown_by_key, shown_by_next, shown_by_value}
 use Rattle.nb_table.specs.Steps.{Can, MayStep, Stepped}
@@ -88,6 +88,7 @@ last-shows p t g i k j n path is test none =
     and-both true true both = (refl, refl)
     and-both true false both = cc
     and-both false b both = cc
+
     not-true : (a : Bool) → not a ≡ true → a ≡ false
     not-true true is = cc
     not-true false is = refl
@@ -121,6 +122,7 @@ value-shows p t g i k state n slot claimed is shown =
     unprimed PrimedTombstone shown = cc
     unprimed (Primed m) shown = cc
     unprimed (Finished m) shown = cc
+
     content : (state : ValueState) → shown_by_value state ≡ Some n → n ≡ content_of state
     content Null shown = shown-is None n shown
     content Tombstone shown = shown-is None n shown
@@ -222,6 +224,7 @@ module _
       no-next found n shown (inl none) = none
       no-next found n shown (inr one) =
           let some : None ≡ Some n = ap (λ x. shown_by_next (eqb x 1)) (sym one) ∙ shown in cc
+
       no-number : (found : ℕ) (n : Option ℕ) → shown_by_next (eqb found 1) ≡ Some n → n ≡ None
       no-number found n shown = elim (eqb found 1) as (λ b. shown_by_next b ≡ Some n → n ≡ None) [
         | true ↦ λ none. cc
@@ -240,6 +243,7 @@ reads-words p number (Some call) shown h = read-words (shown (key_of_call call))
     only-words : (b : Bool) (r : Reply) → words_of p (only b (Read number call r) ++ h) ≡ words_of p h
     only-words true r = refl
     only-words false r = refl
+
     read-words : (some : Option (Option ℕ)) → words_of p (read number call some ++ h) ≡ words_of p h
     read-words None = refl
     read-words (Some n) = only-words (leaves_alone call n) (reply_at call n)

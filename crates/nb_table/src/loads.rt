@@ -27,13 +27,7 @@ impl Chain {
     /// What the key word of slot `i` of table `g` holds, by one load. With a call whose key's path leads to the slot, an
     /// empty slot shows that the map doesn't have the key, and so does another key in the path's last slot in the last
     /// table: where the call leaves that as it is, the load is its read.
-    pub fn load_key(
-        &self,
-        seat: &mut ChainSeat,
-        g: u32,
-        i: usize,
-        call: Option<Call>,
-    ) -> KeyState
+    pub fn load_key(&self, seat: &mut ChainSeat, g: u32, i: usize, call: Option<Call>) -> KeyState
         requires own { IsOwn self.now seat.old }
         requires slot { IsSlot self.now.shape g i }
         requires reached { IfSome call (λ c. IsReached self.now.shape (seen_by seat.old) g (key_of_call c)) }

@@ -9,7 +9,7 @@ use std::thread;
 use std::thread::Threads;
 
 /// A look at the top word.
-fn look(chain: &Chain, seat: ChainSeat) -> (u64, ChainSeat)
+fn look(chain: &Chain, seat: ChainSeat) -> (u32, ChainSeat)
     requires { IsOwn chain.now seat }
     ensures { IsOwn chain.now result.1 }
 {
@@ -23,18 +23,18 @@ fn look_and_meet<R: Threads + Sync>(
     chain: &Chain,
     a: ChainSeat,
     b: ChainSeat,
-) -> (u64, u64, ChainSeat, ChainSeat)
+) -> (u32, u32, ChainSeat, ChainSeat)
     requires a { IsOwn chain.now a }
     requires b { IsOwn chain.now b }
     ensures { IsOwn chain.now result.2 × IsOwn chain.now result.3 }
 {
     let ((top_of_a, mut a), (top_of_b, mut b)) = thread::join(
         rt,
-        move || -> (u64, ChainSeat)
+        move || -> (u32, ChainSeat)
             requires { IsOwn chain.now a }
             ensures { IsOwn chain.entry.now result.1 }
         { look(chain, a) },
-        move || -> (u64, ChainSeat)
+        move || -> (u32, ChainSeat)
             requires { IsOwn chain.now b }
             ensures { IsOwn chain.entry.now result.1 }
         { look(chain, b) },
@@ -64,7 +64,7 @@ fn without_last<R: Abort>(
 }
 
 /// The last two seats of a chain look at the top word at the same time, and meet.
-fn meeting<R: Threads + Sync + Abort>(rt: &R, chain: Chain, seats: Vec<ChainSeat>) -> (u64, u64)
+fn meeting<R: Threads + Sync + Abort>(rt: &R, chain: Chain, seats: Vec<ChainSeat>) -> (u32, u32)
     requires { All (λ seat. IsOwn chain seat) seats.items }
 {
     let mut seats = seats;

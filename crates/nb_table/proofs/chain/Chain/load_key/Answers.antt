@@ -8,7 +8,7 @@ use Rattle.nb_core.specs.Laws.{IsOnPath}
 use Rattle.nb_table.specs.Chains.{Extended}
 use Rattle.nb_table.specs.Conditions.{IsReached}
 use Rattle.nb_table.specs.Events.{reads, shown_by_key}
-use Rattle.nb_table.specs.Steps.{Can, Stepped}
+use Rattle.nb_table.specs.Steps.{Can}
 use Rattle.nb_table.proofs.Loading.{can-load_key, load-sees}
 use Rattle.nb_table.proofs.chain.Chain.load_key.Goals as goal
 

@@ -1,4 +1,4 @@
-use Rattle.std.proofs.Common.{◌+◌, ap, subst, sym}
+use Rattle.std.proofs.Common.{◌+◌, ap, subst}
 use Rattle.nb_core.specs.Plans.{IsPlan}
 use Rattle.nb_core.specs.Tables.{IsComplete, tables_at}
 use Rattle.nb_table.proofs.Counts.{can-promote, raised}
