@@ -173,7 +173,7 @@ allows-step p plan events slots id me part place a b f one can s rule homes at w
     let same : slice_index (words_of p (later ++ part.seen)) place ≡ found = ap (λ w. slice_index w place) (sym (rule.words ∙ ap (words_of p) seen.0.is)) in
     let may = subst (λ n. MayStep p (events n) part.number place (f n) (later ++ part.seen)) same (can plan (numbers p s rule id me.0 part at one).0 later seen.0.others (subst (IsLegal p) seen.0.is rule.legal)) in
     let after = moved part later (events found) in
-    let tells : HasMoved p events place found part after = record { others = later; not_own = seen.0.others; legal = may.legal; word = same; is = refl } in (
+    let tells : HasMoved p events place found part after = record { others = later; not_own = seen.0.others; mine = may.mine; legal = may.legal; word = same; is = refl } in (
       record { parts = after ∷ []; told = me.0.told },
       keeps,
       tt,

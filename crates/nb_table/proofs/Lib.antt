@@ -2,6 +2,7 @@ mod Counts
 mod Dealt
 mod Following
 mod Gathered
+mod Growing
 mod Keeping
 mod Keys
 mod Loading

@@ -8,7 +8,7 @@ use Rattle.atomic_table.proofs.Lists.{set_else}
 use Rattle.atomic_table.specs.Table.{Allows, Joins, Me, Splits, State, keeps}
 use Rattle.nb_core.specs.Plans.{Plan}
 use Rattle.nb_core.specs.Tables.{words_of}
-use Rattle.nb_core.specs.History.{IsLegal}
+use Rattle.nb_core.specs.History.{IsLegal, seat_of_event}
 use Rattle.nb_core.specs.declared.events.Event.{Event}
 use Rattle.nb_table.specs.Chains.{Extended, SeenBy}
 use Rattle.nb_table.specs.Inside.{IsSeat, part_of, seat_of}
@@ -116,6 +116,7 @@ heard-by p s rule place me part fits one told = record {
     here = record {
       others = fits.later;
       not_own = fits.others;
+      mine = All-nil (λ e. seat_of_event e ≡ part.number);
       legal = subst (IsLegal p) fits.is rule.legal;
       word = ap (λ h. slice_index (words_of p h) place) (sym fits.is) ∙ ap (λ w. slice_index w place) (sym rule.words);
       is = refl;
@@ -161,6 +162,7 @@ met p before other after me found is_seat other_seat plan shape table me_is hear
     others = moves.others;
     seen = ap (λ x. x.seen) after_is;
     not_own = moves.not_own;
+    mine = moves.mine;
     legal = legal;
     steps = ap (λ x. x.steps) after_is;
   };

@@ -75,6 +75,7 @@ module _ (p : Plan) (events : ℕ → List Event) (slots place a b found : ℕ) 
       others = told.others;
       seen = ap (λ part. part.seen) told.is;
       not_own = told.not_own;
+      mine = told.mine;
       legal = stepped-is_seat.legal;
       steps = ap (λ part. part.steps) told.is;
     };

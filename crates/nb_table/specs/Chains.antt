@@ -1,5 +1,5 @@
 -- How contracts see a chain and its seats.
-use Rattle.std.specs.Prelude.{◌≡◌, ◌≢◌, ℕ, zero, suc, ◌+◌, List, [], ◌∷◌, ◌++◌, drop, All}
+use Rattle.std.specs.Prelude.{◌≡◌, ◌≢◌, ℕ, zero, suc, ◌+◌, ◌==◌, List, [], ◌∷◌, ◌++◌, drop, filter, All}
 use Rattle.atomic_table.specs.Seated.{TableId}
 use Rattle.nb_core.specs.Plans.{Plan}
 use Rattle.nb_core.specs.Tables.{Tables, tables_at}
@@ -37,7 +37,8 @@ abbrev pub seats_of : TableId → Plan → ℕ → ℕ → List SeenBy
 seats_of id shape number zero = []
 seats_of id shape number (suc count) = record { chain = id; shape = shape; number = number; seen = []; steps = 0 } ∷ seats_of id shape (suc number) count
 
--- The seat has seen more, all of it a legal history, in which just these events are new and its own; and it made so many steps.
+-- After a step the seat has seen more, all of it a legal history: events of others, and then these of its own. It made so
+-- many steps.
 pub record Extended (before after : SeenBy) (own : List Event) (count : ℕ) : Type 0 where
   pub chain : after.chain ≡ before.chain
   pub shape : after.shape ≡ before.shape
@@ -45,5 +46,22 @@ pub record Extended (before after : SeenBy) (own : List Event) (count : ℕ) : T
   pub others : List Event
   pub seen : after.seen ≡ own ++ (others ++ before.seen)
   pub not_own : All (λ e. seat_of_event e ≢ before.number) others
+  pub mine : All (λ e. seat_of_event e ≡ before.number) own
+  pub legal : IsLegal after.shape after.seen
+  pub steps : after.steps ≡ before.steps + count
+
+-- a seat's events among these
+abbrev pub own_events : ℕ → List Event → List Event
+own_events number = filter (λ e. seat_of_event e == number)
+
+-- After any number of steps the seat has seen more, all of it a legal history, in which just these events are new and its
+-- own. It made so many steps.
+pub record Grown (before after : SeenBy) (own : List Event) (count : ℕ) : Type 0 where
+  pub chain : after.chain ≡ before.chain
+  pub shape : after.shape ≡ before.shape
+  pub number : after.number ≡ before.number
+  pub later : List Event
+  pub seen : after.seen ≡ later ++ before.seen
+  pub own_are : own_events before.number later ≡ own
   pub legal : IsLegal after.shape after.seen
   pub steps : after.steps ≡ before.steps + count

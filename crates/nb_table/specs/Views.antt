@@ -78,6 +78,7 @@ moved part others own = record { number = part.number; seen = own ++ (others ++ 
 pub record HasMoved (p : Plan) (events : ℕ → List Event) (place found : ℕ) (part part' : Part) : Type 0 where
   pub others : List Event
   pub not_own : All (λ e. seat_of_event e ≢ part.number) others
+  pub mine : All (λ e. seat_of_event e ≡ part.number) (events found)
   pub legal : IsLegal p (events found ++ (others ++ part.seen))
   pub word : slice_index (words_of p (others ++ part.seen)) place ≡ found
   pub is : part' ≡ moved part others (events found)

@@ -1,7 +1,7 @@
 //! The chain and its seats.
 ghost use Rattle.std.specs.Prelude.{◌≡◌, ◌+◌, ◌%◌, ◌^◌, ◌<◌, ◌==◌, ◌↔◌, if◌then◌else◌, [], ◌∷◌, bit_or, max, length, IfOk, IfErr, true, is_ok};
 ghost use Rattle.nb_core.specs.Plans.{word_count};
-ghost use Rattle.nb_core.specs.Tables.{tables_at};
+ghost use Rattle.nb_core.specs.History.{IsLegal};
 ghost use Rattle.nb_table.specs.Chains.{Extended, seats_of};
 ghost use Rattle.nb_table.specs.Gathered.{AreOwn, ClosedWith, HasGathered};
 ghost use Rattle.nb_table.specs.Inside.{part_of};
@@ -51,6 +51,15 @@ impl Model for ChainSeat {
     ghost view = { seat_of };
 
     ghost invariant = { IsSeat };
+}
+
+impl ChainSeat {
+    /// Reminds a proof that what the seat has seen is a legal history. It does nothing.
+    pub fn known(&self)
+        ensures { IsLegal self.now.shape self.now.seen }
+    {
+        let _ = &self.shape;
+    }
 }
 
 /// What a step is about: a slot, and the key and the number that it puts there. Only the step's proof asks for it.

@@ -6,6 +6,7 @@ mod chain;
 mod closed;
 mod copying;
 mod growth;
+pub mod laws;
 mod loads;
 mod view;
 

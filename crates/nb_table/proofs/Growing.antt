@@ -1,0 +1,68 @@
+-- Steps add up, and what they saw stays so.
+use Rattle.std.proofs.Common.{◌≡◌, ◌≢◌, ◌∙◌, ℕ, List, [], ◌∷◌, ◌++◌, ap, sym, subst, subst₂, refl, arith}
+use Rattle.std.specs.List.{All}
+use Rattle.std.proofs.lemmas.Bool.{eq-eqb, ne_eqb}
+use Rattle.std.proofs.lemmas.List.{append-nil, append_assoc}
+use Rattle.std.proofs.lemmas.List.Elements.{All-head, All-tail, filter-append}
+use Rattle.nb_core.specs.History.{IsLegal, seat_of_event}
+use Rattle.nb_core.specs.Tables.{tables_at}
+use Rattle.nb_core.specs.Laws.{Lasts, SeenLasts}
+use Rattle.nb_core.specs.declared.events.Event.{Event}
+use Rattle.nb_table.specs.Chains.{own_events}
+use Rattle.nb_table.specs.Laws.{SeenStays, StepsAddUp}
+
+-- the events of one seat alone are all its own
+own-all : (number : ℕ) (es : List Event) → All (λ e. seat_of_event e ≡ number) es → own_events number es ≡ es
+own-all number [] all = refl
+own-all number (e ∷ es) all =
+    let P : Event → Type 0 = λ e. seat_of_event e ≡ number in
+    rw (eq-eqb (seat_of_event e) number (All-head P e es all)) (ap (λ rest. e ∷ rest) (own-all number es (All-tail P e es all)))
+
+-- and of those of others none is
+own-none : (number : ℕ) (es : List Event) → All (λ e. seat_of_event e ≢ number) es → own_events number es ≡ []
+own-none number [] none = refl
+own-none number (e ∷ es) none =
+    let P : Event → Type 0 = λ e. seat_of_event e ≢ number in
+    rw (ne_eqb (seat_of_event e) number (All-head P e es none)) (own-none number es (All-tail P e es none))
+
+pub steps_add_up : StepsAddUp
+steps_add_up = record {
+  none = λ seat legal. record {
+    chain = refl;
+    shape = refl;
+    number = refl;
+    later = [];
+    seen = refl;
+    own_are = refl;
+    legal = legal;
+    steps = omega arith;
+  };
+  one = λ before after own count step. record {
+    chain = step.chain;
+    shape = step.shape;
+    number = step.number;
+    later = own ++ step.others;
+    seen = step.seen ∙ sym (append_assoc own step.others before.seen);
+    own_are = filter-append _ own step.others
+        ∙ ap (λ es. es ++ own_events before.number step.others) (own-all before.number own step.mine)
+        ∙ ap (λ es. own ++ es) (own-none before.number step.others step.not_own) ∙ append-nil own;
+    legal = step.legal;
+    steps = step.steps;
+  };
+  more = λ before then after own own' count count' a b. record {
+    chain = b.chain ∙ a.chain;
+    shape = b.shape ∙ a.shape;
+    number = b.number ∙ a.number;
+    later = b.later ++ a.later;
+    seen = b.seen ∙ ap (λ h. b.later ++ h) a.seen ∙ sym (append_assoc b.later a.later before.seen);
+    own_are = filter-append _ b.later a.later ∙ ap (λ es. own_events before.number b.later ++ es) a.own_are
+        ∙ ap (λ es. es ++ own) (ap (λ n. own_events n b.later) (sym a.number) ∙ b.own_are);
+    legal = b.legal;
+    steps = omega (arith, a.steps, b.steps);
+  };
+}
+
+pub seen_stays : SeenLasts → SeenStays
+seen_stays lasts before after own count plan grown =
+    subst (λ h. Lasts before.shape (tables_at before.shape before.seen) (tables_at before.shape h)) (sym grown.seen)
+    (lasts before.shape plan grown.later before.seen (subst₂ IsLegal grown.shape grown.seen grown.legal))
