@@ -1,6 +1,7 @@
 //! What the two words of a slot hold.
 ghost use Rattle.std.specs.Prelude.{◌≡◌, ◌≢◌, Some, IfSome, IfNone};
 ghost use Rattle.nb_core.specs.States.{IsValueState, key_state, key_word, value_state, value_word};
+ghost use Rattle.nb_core.specs.Tables.{is_finished_value};
 
 use crate::numbers::{Key, Num};
 
@@ -26,6 +27,18 @@ pub enum ValueState {
     PrimedTombstone,
     Primed(Num),
     Finished(Num),
+}
+
+impl ValueState {
+    /// Whether the value is final: it is primed, and nothing of it is left to copy.
+    pub fn is_finished(self) -> bool
+        ensures { result ≡ is_finished_value self }
+    {
+        matches!(
+            self,
+            ValueState::PrimedNull | ValueState::PrimedTombstone | ValueState::Finished(_)
+        )
+    }
 }
 
 /// The word of a key state.

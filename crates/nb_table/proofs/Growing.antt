@@ -9,7 +9,7 @@ use Rattle.nb_core.specs.Tables.{tables_at}
 use Rattle.nb_core.specs.Laws.{Lasts, SeenLasts}
 use Rattle.nb_core.specs.declared.events.Event.{Event}
 use Rattle.nb_table.specs.Chains.{own_events}
-use Rattle.nb_table.specs.Laws.{SeenStays, StepsAddUp}
+use Rattle.nb_table.specs.Laws.{StepsAddUp}
 
 -- the events of one seat alone are all its own
 own-all : (number : ℕ) (es : List Event) → All (λ e. seat_of_event e ≡ number) es → own_events number es ≡ es
@@ -25,9 +25,9 @@ own-none number (e ∷ es) none =
     let P : Event → Type 0 = λ e. seat_of_event e ≢ number in
     rw (ne_eqb (seat_of_event e) number (All-head P e es none)) (own-none number es (All-tail P e es none))
 
-pub steps_add_up : StepsAddUp
-steps_add_up = record {
-  none = λ seat legal. record {
+pub steps_add_up : SeenLasts → StepsAddUp
+steps_add_up lasts = record {
+  none = λ {seat} legal. record {
     chain = refl;
     shape = refl;
     number = refl;
@@ -37,7 +37,7 @@ steps_add_up = record {
     legal = legal;
     steps = omega arith;
   };
-  one = λ before after own count step. record {
+  one = λ {before} {after} {own} {count} step. record {
     chain = step.chain;
     shape = step.shape;
     number = step.number;
@@ -49,7 +49,7 @@ steps_add_up = record {
     legal = step.legal;
     steps = step.steps;
   };
-  more = λ before then after own own' count count' a b. record {
+  more = λ {before} {then} {after} {own} {own'} {count} {count'} a b. record {
     chain = b.chain ∙ a.chain;
     shape = b.shape ∙ a.shape;
     number = b.number ∙ a.number;
@@ -60,9 +60,10 @@ steps_add_up = record {
     legal = b.legal;
     steps = omega (arith, a.steps, b.steps);
   };
+  own = λ {chain} {before} {after} is grown. (grown.chain ∙ is.0, grown.shape ∙ is.1);
+  stays = λ {chain} {before} {after} plan is grown.
+      let p = chain.shape in
+      subst₂ (λ q r. Lasts p (tables_at q before.seen) (tables_at r after.seen)) (sym is.1) (sym (grown.shape ∙ is.1))
+      (subst (λ h. Lasts p (tables_at p before.seen) (tables_at p h)) (sym grown.seen)
+      (lasts p plan grown.later before.seen (subst₂ IsLegal (grown.shape ∙ is.1) grown.seen grown.legal)));
 }
-
-pub seen_stays : SeenLasts → SeenStays
-seen_stays lasts before after own count plan grown =
-    subst (λ h. Lasts before.shape (tables_at before.shape before.seen) (tables_at before.shape h)) (sym grown.seen)
-    (lasts before.shape plan grown.later before.seen (subst₂ IsLegal grown.shape grown.seen grown.legal))

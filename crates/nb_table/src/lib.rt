@@ -12,3 +12,6 @@ mod view;
 
 pub use chain::{Chain, ChainSeat};
 pub use closed::Closed;
+
+#[cfg(test)]
+mod tests;
