@@ -14,6 +14,7 @@ mod Later
 mod Lawful
 mod Legality
 mod Linked
+mod Masks
 mod Net
 mod Newest
 mod Others

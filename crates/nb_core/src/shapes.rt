@@ -2,7 +2,9 @@
 ghost use Rattle.std.specs.Prelude.{◌≡◌, ◌<◌, ◌≤◌, All, length};
 ghost use Rattle.std.specs.List.Sorted.{IsNonDecreasing};
 ghost use Rattle.nb_core.specs.Plans.{IsPlan, base_of, checked_plan, checked_shape, generations_of, header_place, key_place, limit_of, seated, size_of, value_place, word_count};
+ghost use Rattle.nb_core.specs.Tables.{path_slot};
 
+use crate::numbers::Key;
 use std::marker::Model;
 use thiserror::Error;
 
@@ -171,6 +173,18 @@ impl Shape {
         } else {
             2 + size / 4
         }
+    }
+
+    /// The slot at a distance on the path of a key in table `g`, which begins at the key's home slot.
+    pub fn path_slot(&self, g: u32, key: Key, distance: usize) -> usize
+        requires table { g < generations_of self.now }
+        requires near { distance < size_of self.now g }
+        ensures slot { result ≡ path_slot self.now g key distance }
+        ensures in_table { result < size_of self.now g }
+    {
+        self.known();
+        let last = self.size_of(g) - 1;
+        (key.get() as usize).wrapping_add(distance) & last
     }
 
     /// The place of a header word: `h` is 0 for next, 1 for take, 2 for done.
