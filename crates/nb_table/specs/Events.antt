@@ -1,5 +1,5 @@
 -- The event of each step, by the word that it finds.
-use Rattle.std.specs.Prelude.{ℕ, suc, ◌+◌, ◌-◌, ◌*◌, ◌%◌, ◌==◌, ◌&&◌, nat_le, Bool, true, not, if◌then◌else◌, List, [], ◌∷◌, Option, Some, None}
+use Rattle.std.specs.Prelude.{ℕ, suc, ◌-◌, ◌%◌, ◌==◌, ◌&&◌, nat_le, Bool, true, not, if◌then◌else◌, List, [], ◌∷◌, Option, Some, None}
 use Rattle.nb_core.specs.Calls.{leaves_alone}
 use Rattle.nb_core.specs.History.{content_of, key_of_call}
 use Rattle.nb_core.specs.Laws.{reply_at}
@@ -35,7 +35,7 @@ abbrev pub primes : (number g i : ℕ) → ℕ → List Event
 primes number g i found = only (found % 2 == 0) (Prime number g i)
 
 abbrev pub finishes : (number g i n : ℕ) → ℕ → List Event
-finishes number g i n found = only (found == 4 * n + 9) (Finish number g i)
+finishes number g i n found = only (found == value_word (Primed n)) (Finish number g i)
 
 abbrev pub installs : (number g k : ℕ) → ℕ → List Event
 installs number g k found = only (found == 0) (Install number g k)

@@ -53,6 +53,7 @@ impl Chain {
         laws::seen_lasts();
         laws::beginnings_are_legal();
         laws::lawful_words();
+        laws::codings();
         laws::places_are_distinct();
         laws::win_replies();
         known(&call);

@@ -26,6 +26,7 @@ impl Chain {
         laws::seen_lasts();
         laws::beginnings_are_legal();
         laws::lawful_words();
+        laws::codings();
         laws::places_are_distinct();
         let place = self.shape.value_place(g, i);
         let spot = Spot {
@@ -57,6 +58,7 @@ impl Chain {
         laws::seen_lasts();
         laws::beginnings_are_legal();
         laws::lawful_words();
+        laws::codings();
         laws::places_are_distinct();
         laws::moved();
         laws::one_slot();
@@ -83,6 +85,7 @@ impl Chain {
         laws::seen_lasts();
         laws::beginnings_are_legal();
         laws::lawful_words();
+        laws::codings();
         laws::places_are_distinct();
         laws::linked();
         let place = self.shape.value_place(g, i);
