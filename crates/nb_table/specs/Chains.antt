@@ -32,10 +32,14 @@ seen_by seat = tables_at seat.shape seat.seen
 abbrev pub seen_before : SeenBy → Tables
 seen_before seat = tables_at seat.shape (drop 1 seat.seen)
 
+-- a chain's seat that has seen nothing
+abbrev pub new_seat : TableId → Plan → ℕ → SeenBy
+new_seat id shape number = record { chain = id; shape = shape; number = number; seen = []; steps = 0 }
+
 -- so many seats of a chain from a number on, which have seen nothing
 abbrev pub seats_of : TableId → Plan → ℕ → ℕ → List SeenBy
 seats_of id shape number zero = []
-seats_of id shape number (suc count) = record { chain = id; shape = shape; number = number; seen = []; steps = 0 } ∷ seats_of id shape (suc number) count
+seats_of id shape number (suc count) = new_seat id shape number ∷ seats_of id shape (suc number) count
 
 -- The seat has seen more, all of it a legal history, in which just these events are new and its own; and it made so many steps.
 pub record Extended (before after : SeenBy) (own : List Event) (count : ℕ) : Type 0 where

@@ -23,7 +23,9 @@ part_of [] = record { number = 0; seen = []; steps = 0 }
 part_of (part ∷ parts) = part
 
 abbrev pub seat_of : seat.Inside → SeenBy
-seat_of c = let part = part_of c.seat.me.0.parts in record { chain = c.seat.table_id; shape = c.shape; number = part.number; seen = part.seen; steps = part.steps }
+seat_of c =
+    let part = part_of c.seat.me.0.parts in
+    record { chain = c.seat.table_id; shape = c.shape; number = part.number; seen = part.seen; steps = part.steps }
 
 -- the token knows one seat, which has seen a legal history
 pub record IsSeat (c : seat.Inside) : Type 0 where

@@ -83,7 +83,9 @@ pub record HasMoved (p : Plan) (events : ℕ → List Event) (place found : ℕ)
   pub is : part' ≡ moved part others (events found)
 
 -- a step of a token that knows one seat
-pub record Moves (p : Plan) (events : ℕ → List Event) (step : Step (Unit {0})) (me : Me (Unit {0}) View) (found : ℕ) (me' : Me (Unit {0}) View) : Type 0 where
+pub record Moves
+    (p : Plan) (events : ℕ → List Event) (step : Step (Unit {0})) (me : Me (Unit {0}) View) (found : ℕ)
+    (me' : Me (Unit {0}) View) : Type 0 where
   pub after : Part
   pub is : me' ≡ (record { parts = after ∷ []; told = me.0.told }, me.1)
   pub moves : (part : Part) → me.0.parts ≡ part ∷ [] → HasMoved p events step.word found part after
