@@ -109,7 +109,8 @@ module _ (p : Plan) (events : ℕ → List Event) (place found : ℕ) (before af
 
   -- it is legal with the step's events
   legal_now : IsLegal p (events found ++ met)
-  legal_now = subst (λ q. IsLegal q (events found ++ met)) plan_is (subst (λ h. IsLegal after.shape h) step.grows.seen step.grows.legal)
+  legal_now =
+      subst (λ q. IsLegal q (events found ++ met)) plan_is (subst (λ h. IsLegal after.shape h) step.grows.seen step.grows.legal)
 
   -- and is all that the seat has seen
   seen_now : seen_by after ≡ tables_at p (events found ++ met)
@@ -132,7 +133,8 @@ module _ (p : Plan) (lawful : LawfulWords) (distinct : PlacesAreDistinct) (plan 
         let h = met p (takes before.number g) place found before after shape step in
         let legal = legal_now p (takes before.number g) place found before after shape step in
         let now = ap (λ t. t.taken g) (seen_now p (takes before.number g) place found before after shape step) in
-        let is_found : slice_index (words_of p h) (header_place p g 1) ≡ found = ap (slice_index (words_of p h)) (sym at) ∙ step.word in
+        let is_found : slice_index (words_of p h) (header_place p g 1) ≡ found
+        = ap (slice_index (words_of p h)) (sym at) ∙ step.word in
         now
         ∙ written h legal.0 g 1 ((slice_index (words_of p h) (header_place p g 1) + chunk_of p g) % 2 ^ 64) table (omega arith)
         ∙ ap (λ n. (n + chunk_of p g) % 2 ^ 64) is_found
@@ -145,7 +147,8 @@ module _ (p : Plan) (lawful : LawfulWords) (distinct : PlacesAreDistinct) (plan 
         let h = met p (counts before.number g c) place found before after shape step in
         let legal = legal_now p (counts before.number g c) place found before after shape step in
         let now = ap (λ t. t.counted g) (seen_now p (counts before.number g c) place found before after shape step) in
-        let is_found : slice_index (words_of p h) (header_place p g 2) ≡ found = ap (slice_index (words_of p h)) (sym at) ∙ step.word in
+        let is_found : slice_index (words_of p h) (header_place p g 2) ≡ found
+        = ap (slice_index (words_of p h)) (sym at) ∙ step.word in
         let new = once p plan (Count before.number g c ∷ h) legal g table in
         let share : c ≤ (tables_at p (Count before.number g c ∷ h)).counted g
         = subst (λ n. c ≤ n) (sym new.done)
@@ -163,14 +166,17 @@ pub raised : (p : Plan) → LawfulWords → PlacesAreDistinct → IsPlan p → (
     → Extended before after (Promote before.number g ∷ []) 1 × ((seen_before after).top ≡ found) × ((seen_by after).top ≡ suc g)
 raised p lawful distinct plan g found before after shape step low =
     let h = step.grows.others ++ before.seen in
-    let own : promotes before.number g found ≡ Promote before.number g ∷ [] = ap (λ b. only b (Promote before.number g)) (le-leb found g low) in
+    let own : promotes before.number g found ≡ Promote before.number g ∷ []
+    = ap (λ b. only b (Promote before.number g)) (le-leb found g low) in
     let grows = subst (λ own. Extended before after own 1) own step.grows in
     let legal : IsLegal p (Promote before.number g ∷ h)
     = subst₂ IsLegal (step.grows.shape ∙ shape) (step.grows.seen ∙ ap (λ own. own ++ h) own) step.grows.legal in
-    let top = ap (λ q. tables_at q after.seen) (step.grows.shape ∙ shape) ∙ ap (tables_at p) (step.grows.seen ∙ ap (λ own. own ++ h) own) in
+    let top = ap (λ q. tables_at q after.seen) (step.grows.shape ∙ shape)
+    ∙ ap (tables_at p) (step.grows.seen ∙ ap (λ own. own ++ h) own) in
     let below = ap (λ q. tables_at q (drop 1 after.seen)) (step.grows.shape ∙ shape)
     ∙ ap (λ s. tables_at p (drop 1 s)) (step.grows.seen ∙ ap (λ own. own ++ h) own) in
-    let some : 0 < length (words_of p h) = subst (λ n. 0 < n) (sym (lawful p plan h legal.0).length) ((distinct p plan).below Top tt) in
+    let some : 0 < length (words_of p h) = subst (λ n. 0 < n) (sym (lawful p plan h legal.0).length)
+    ((distinct p plan).below Top tt) in
     let most : max found (suc g) ≡ suc g = max-eq_right (omega (arith, low)) in (
       grows,
       ap (λ t. t.top) below ∙ step.word,

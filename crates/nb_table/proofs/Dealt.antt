@@ -4,7 +4,7 @@ use Rattle.atomic_table.specs.Seated.{TableId}
 use Rattle.atomic_table.specs.declared.shared.Seat.{Seat}
 use Rattle.nb_core.specs.Plans.{Plan}
 use Rattle.nb_core.specs.History.{IsLegal}
-use Rattle.nb_table.specs.Chains.{SeenBy, seats_of}
+use Rattle.nb_table.specs.Chains.{SeenBy, new_seat, seats_of}
 use Rattle.nb_table.specs.Inside.{IsSeat, part_of, seat_of}
 use Rattle.nb_table.specs.Views.{first_part, first_view, fresh, other_parts}
 use Rattle.nb_table.specs.declared.chain.ChainSeat.TheInside as seat
@@ -13,59 +13,88 @@ use Rattle.nb_table.specs.declared.view.View.{View}
 use Rattle.nb_table.proofs.Opening.{new_part}
 
 -- the token has the parts of the seats that aren't dealt yet
-pub record IsDealing (chain : TableId) (p : Plan) (rest : Seat (Unit {0}) View) (dealt : List SeenBy) (number : ℕ) : Type 0 where
+pub record IsDealing
+    (chain : TableId) (p : Plan) (rest : Seat (Unit {0}) View) (dealt : List SeenBy) (number : ℕ) : Type 0 where
   pub own : rest.table_id ≡ chain
   pub left : rest.me.0.parts ≡ fresh number (p.seats - number)
   pub so_far : dealt ≡ seats_of chain p 0 number
 
-fresh-first : (number seats : ℕ) → number < seats → fresh number (seats - number) ≡ new_part number ∷ fresh (suc number) (seats - suc number)
+fresh-first :
+    (number seats : ℕ) → number < seats
+    → fresh number (seats - number) ≡ new_part number ∷ fresh (suc number) (seats - suc number)
 fresh-first number seats below =
     let more : seats - number ≡ suc (seats - suc number) = omega arith in ap (fresh number) more
 
-left-token : (parts : List Part) (number seats : ℕ) → number < seats → parts ≡ fresh number (seats - number) → drop 1 parts ≡ fresh (number + 1) (seats - (number + 1))
+left-token :
+    (parts : List Part) (number seats : ℕ) → number < seats → parts ≡ fresh number (seats - number)
+    → drop 1 parts ≡ fresh (number + 1) (seats - (number + 1))
 left-token parts number seats below left =
     let more : suc number ≡ number + 1 = omega arith in
     ap (drop 1) (left ∙ fresh-first number seats below) ∙ ap (λ n. fresh n (seats - n)) more
 
-seats_of-more : (chain : TableId) (p : Plan) (first count number : ℕ) → first + count ≡ number → seats_of chain p first count ++ record { chain = chain; shape = p; number = number; seen = []; steps = 0 } ∷ [] ≡ seats_of chain p first (count + 1)
+seats_of-more :
+    (chain : TableId) (p : Plan) (first count number : ℕ) → first + count ≡ number
+    → seats_of chain p first count ++ new_seat chain p number ∷ [] ≡ seats_of chain p first (count + 1)
 seats_of-more chain p first zero number is =
-    let same : number ≡ first = omega arith in ap (λ n. record { chain = chain; shape = p; number = n; seen = []; steps = 0 } ∷ []) same
+    let same : number ≡ first = omega arith in ap (λ n. new_seat chain p n ∷ []) same
 seats_of-more chain p first (suc count) number is =
     let more : suc (count + 1) ≡ suc count + 1 = omega arith in
-    ap (λ ss. record { chain = chain; shape = p; number = first; seen = []; steps = 0 } ∷ ss) (seats_of-more chain p (suc first) count number (omega arith))
+    ap (λ seats. new_seat chain p first ∷ seats) (seats_of-more chain p (suc first) count number (omega arith))
     ∙ ap (seats_of chain p first) more
 
 -- the one part of the token that is dealt next
-dealt-parts : (rest : View) (number seats : ℕ) (s : seat.Inside) → number < seats → rest.parts ≡ fresh number (seats - number) → s.seat.me ≡ (first_part rest, []) → s.seat.me.0.parts ≡ new_part number ∷ []
+dealt-parts :
+    (rest : View) (number seats : ℕ) (s : seat.Inside) → number < seats → rest.parts ≡ fresh number (seats - number)
+    → s.seat.me ≡ (first_part rest, []) → s.seat.me.0.parts ≡ new_part number ∷ []
 dealt-parts rest number seats s below left me = ap (λ m. m.0.parts) me ∙ ap (take 1) (left ∙ fresh-first number seats below)
 
 -- the seat that is dealt next
-pub dealt-is_seat : (rest : View) (number seats : ℕ) (s : seat.Inside) → number < seats → rest.parts ≡ fresh number (seats - number) → s.seat.me ≡ (first_part rest, []) → IsSeat s
+pub dealt-is_seat :
+    (rest : View) (number seats : ℕ) (s : seat.Inside) → number < seats → rest.parts ≡ fresh number (seats - number)
+    → s.seat.me ≡ (first_part rest, []) → IsSeat s
 dealt-is_seat rest number seats s below left me =
     let one = dealt-parts rest number seats s below left me in
     let part : new_part number ≡ part_of s.seat.me.0.parts = ap part_of (sym one) in
-    record { one = one ∙ ap (λ t. t ∷ []) part; free = ap (λ m. m.1) me; legal = subst (λ (t : Part). IsLegal s.shape t.seen) part tt }
+    record {
+      one = one ∙ ap (λ t. t ∷ []) part;
+      free = ap (λ m. m.1) me;
+      legal = subst (λ (t : Part). IsLegal s.shape t.seen) part tt;
+    }
 
-dealt-seat_of : (rest : View) (number seats : ℕ) (s : seat.Inside) → number < seats → rest.parts ≡ fresh number (seats - number) → s.seat.me ≡ (first_part rest, []) → seat_of s ≡ record { chain = s.seat.table_id; shape = s.shape; number = number; seen = []; steps = 0 }
+dealt-seat_of :
+    (rest : View) (number seats : ℕ) (s : seat.Inside) → number < seats → rest.parts ≡ fresh number (seats - number)
+    → s.seat.me ≡ (first_part rest, []) → seat_of s ≡ new_seat s.seat.table_id s.shape number
 dealt-seat_of rest number seats s below left me =
-    ap (λ (t : Part). record { chain = s.seat.table_id; shape = s.shape; number = t.number; seen = t.seen; steps = t.steps }) (ap part_of (dealt-parts rest number seats s below left me))
+    ap (λ (t : Part). record { chain = s.seat.table_id; shape = s.shape; number = t.number; seen = t.seen; steps = t.steps })
+    (ap part_of (dealt-parts rest number seats s below left me))
 
-pub dealing-first : (chain : TableId) (p : Plan) (rest : Seat (Unit {0}) View) (dealt : List SeenBy) → rest.table_id ≡ chain → rest.me ≡ (first_view p.seats, []) → dealt ≡ [] → IsDealing chain p rest dealt 0
+pub dealing-first :
+    (chain : TableId) (p : Plan) (rest : Seat (Unit {0}) View) (dealt : List SeenBy) → rest.table_id ≡ chain
+    → rest.me ≡ (first_view p.seats, []) → dealt ≡ [] → IsDealing chain p rest dealt 0
 dealing-first chain p rest dealt own me none = record {
   own = own;
   left = let all : p.seats ≡ p.seats - 0 = omega arith in ap (λ m. m.0.parts) me ∙ ap (fresh 0) all;
   so_far = none;
 }
 
-pub dealing-more : (chain : TableId) (p : Plan) (rest rest' : Seat (Unit {0}) View) (dealt dealt' : List SeenBy) (s : seat.Inside) (number : ℕ) → number < p.seats → IsDealing chain p rest dealt number → rest'.table_id ≡ rest.table_id → rest'.me ≡ (other_parts rest.me.0, rest.me.1) → s.shape ≡ p → s.seat.table_id ≡ rest.table_id → s.seat.me ≡ (first_part rest.me.0, []) → dealt' ≡ dealt ++ seat_of s ∷ [] → IsDealing chain p rest' dealt' (number + 1)
+pub dealing-more :
+    (chain : TableId) (p : Plan) (rest rest' : Seat (Unit {0}) View) (dealt dealt' : List SeenBy) (s : seat.Inside) (number : ℕ)
+    → number < p.seats → IsDealing chain p rest dealt number → rest'.table_id ≡ rest.table_id
+    → rest'.me ≡ (other_parts rest.me.0, rest.me.1) → s.shape ≡ p → s.seat.table_id ≡ rest.table_id
+    → s.seat.me ≡ (first_part rest.me.0, []) → dealt' ≡ dealt ++ seat_of s ∷ [] → IsDealing chain p rest' dealt' (number + 1)
 dealing-more chain p rest rest' dealt dealt' s number below d own me shape seat_own seat_me pushed = record {
   own = own ∙ d.own;
   left = ap (λ m. m.0.parts) me ∙ left-token rest.me.0.parts number p.seats below d.left;
   so_far =
       let same : s.seat.table_id ≡ chain = seat_own ∙ d.own in
-      let view = dealt-seat_of rest.me.0 number p.seats s below d.left seat_me ∙ (λ j. record { chain = same j; shape = shape j; number = number; seen = []; steps = 0 }) in
+      let view = dealt-seat_of rest.me.0 number p.seats s below d.left seat_me
+      ∙ (λ j. new_seat (same j) (shape j) number) in
       pushed ∙ (λ i. d.so_far i ++ view i ∷ []) ∙ seats_of-more chain p 0 number number (omega arith);
 }
 
-pub dealing-done : (chain : TableId) (p : Plan) (rest : Seat (Unit {0}) View) (dealt : List SeenBy) (number : ℕ) → p.seats ≤ number → number ≤ p.seats → IsDealing chain p rest dealt number → dealt ≡ seats_of chain p 0 p.seats
-dealing-done chain p rest dealt number low high d = let all : number ≡ p.seats = omega arith in d.so_far ∙ ap (seats_of chain p 0) all
+pub dealing-done :
+    (chain : TableId) (p : Plan) (rest : Seat (Unit {0}) View) (dealt : List SeenBy) (number : ℕ) → p.seats ≤ number
+    → number ≤ p.seats → IsDealing chain p rest dealt number → dealt ≡ seats_of chain p 0 p.seats
+dealing-done chain p rest dealt number low high d =
+    let all : number ≡ p.seats = omega arith in
+    d.so_far ∙ ap (seats_of chain p 0) all

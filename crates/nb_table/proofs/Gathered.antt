@@ -19,14 +19,20 @@ use Rattle.nb_table.proofs.Parted.{All-left, All-right, parts-at, sum-set, times
 
 -- ---- lists whose last was taken
 
-pub own-left : (chain : TableId) (seats left : List SeenBy) (s : SeenBy) → seats ≡ left ++ s ∷ [] → AreOwn chain seats → AreOwn chain left
-own-left chain seats left s is own = All-left (λ x. x.chain ≡ chain) left (s ∷ []) (All-same (λ x. x.chain ≡ chain) (left ++ s ∷ []) seats (sym is) own)
+pub own-left :
+    (chain : TableId) (seats left : List SeenBy) (s : SeenBy) → seats ≡ left ++ s ∷ [] → AreOwn chain seats → AreOwn chain left
+own-left chain seats left s is own =
+    All-left (λ x. x.chain ≡ chain) left (s ∷ []) (All-same (λ x. x.chain ≡ chain) (left ++ s ∷ []) seats (sym is) own)
 
-pub own-last : (chain : TableId) (seats left : List SeenBy) (s : SeenBy) → seats ≡ left ++ s ∷ [] → AreOwn chain seats → s.chain ≡ chain
+pub own-last :
+    (chain : TableId) (seats left : List SeenBy) (s : SeenBy) → seats ≡ left ++ s ∷ [] → AreOwn chain seats → s.chain ≡ chain
 own-last chain seats left s is own =
-    All-head (λ x. x.chain ≡ chain) s [] (All-right (λ x. x.chain ≡ chain) left (s ∷ []) (All-same (λ x. x.chain ≡ chain) (left ++ s ∷ []) seats (sym is) own))
+    All-head (λ x. x.chain ≡ chain) s [] (All-right (λ x. x.chain ≡ chain) left (s ∷ [])
+    (All-same (λ x. x.chain ≡ chain) (left ++ s ∷ []) seats (sym is) own))
 
-times_numbered-append : (n : ℕ) (left : List SeenBy) (s : SeenBy) → times_numbered n (left ++ s ∷ []) ≡ times_numbered n left + times_numbered n (s ∷ [])
+times_numbered-append :
+    (n : ℕ) (left : List SeenBy) (s : SeenBy)
+    → times_numbered n (left ++ s ∷ []) ≡ times_numbered n left + times_numbered n (s ∷ [])
 times_numbered-append n [] s = omega arith
 times_numbered-append n (x ∷ left) s = omega (arith, times_numbered-append n left s)
 
@@ -38,28 +44,40 @@ none-left (x ∷ left) none = absurd (let e : false ≡ true = none (omega arith
 -- ---- gathering
 
 -- a seat has seen what its one part has
-seen-by : (h : List Event) (s : seat.Inside) (next : SeenBy) → IsSeat s → seat_of s ≡ next → All (Fits h) s.seat.me.0.parts → HasSeen h next
+seen-by :
+    (h : List Event) (s : seat.Inside) (next : SeenBy) → IsSeat s → seat_of s ≡ next → All (Fits h) s.seat.me.0.parts
+    → HasSeen h next
 seen-by h s next is_seat view fits =
     let part = part_of s.seat.me.0.parts in
     let own = All-head (Fits h) part [] (All-same (Fits h) (part ∷ []) s.seat.me.0.parts (sym is_seat.one) fits) in
     subst (HasSeen h) view (record { later = own.later; is = own.is; others = own.others })
 
 -- and its number is its one part's
-numbered-by : (n : ℕ) (s : seat.Inside) (next : SeenBy) → IsSeat s → seat_of s ≡ next → times_among n s.seat.me.0.parts ≡ times_numbered n (next ∷ [])
+numbered-by :
+    (n : ℕ) (s : seat.Inside) (next : SeenBy) → IsSeat s → seat_of s ≡ next
+    → times_among n s.seat.me.0.parts ≡ times_numbered n (next ∷ [])
 numbered-by n s next is_seat view = ap (times_among n) is_seat.one ∙ ap (λ v. times_numbered n (v ∷ [])) view
 
 -- one seat's token, where the others are left
-pub gathered-first : (chain : TableId) (s : seat.Inside) (last : SeenBy) (left seats : List SeenBy) → IsSeat s → seat_of s ≡ last → seats ≡ left ++ last ∷ [] → last.chain ≡ chain → HasGathered chain s.seat left seats
+pub gathered-first :
+    (chain : TableId) (s : seat.Inside) (last : SeenBy) (left seats : List SeenBy) → IsSeat s → seat_of s ≡ last
+    → seats ≡ left ++ last ∷ [] → last.chain ≡ chain → HasGathered chain s.seat left seats
 gathered-first chain s last left seats is_seat view is own = record {
   own = ap (λ v. v.chain) view ∙ own;
   free = is_seat.free;
   count = omega (arith, ap length is_seat.one, ap length is, length-append left (last ∷ []));
   times = λ n. omega (arith, numbered-by n s last is_seat view, ap (times_numbered n) is, times_numbered-append n left last);
-  seen = λ h fits others. All-same (HasSeen h) seats (left ++ last ∷ []) is (All-push (HasSeen h) left last others (seen-by h s last is_seat view fits));
+  seen =
+      λ h fits others. All-same (HasSeen h) seats (left ++ last ∷ []) is
+      (All-push (HasSeen h) left last others (seen-by h s last is_seat view fits));
 }
 
 -- one seat's token more
-pub gathered-more : (chain : TableId) (token token' : Seat (Unit {0}) View) (s : seat.Inside) (next : SeenBy) (left left' seats : List SeenBy) → HasGathered chain token left' seats → IsSeat s → seat_of s ≡ next → left' ≡ left ++ next ∷ [] → token'.table_id ≡ token.table_id → token'.me ≡ (joined token.me.0 s.seat.me.0, token.me.1) → HasGathered chain token' left seats
+pub gathered-more :
+    (chain : TableId) (token token' : Seat (Unit {0}) View) (s : seat.Inside) (next : SeenBy) (left left' seats : List SeenBy)
+    → HasGathered chain token left' seats → IsSeat s → seat_of s ≡ next → left' ≡ left ++ next ∷ []
+    → token'.table_id ≡ token.table_id → token'.me ≡ (joined token.me.0 s.seat.me.0, token.me.1)
+    → HasGathered chain token' left seats
 gathered-more chain token token' s next left left' seats g is_seat view is table me = record {
   own = table ∙ g.own;
   free = ap (λ m. m.1) me ∙ g.free;
@@ -98,7 +116,9 @@ gathered-more chain token token' s next left left' seats g is_seat view is table
 -- ---- the words
 
 -- where one token has as many parts as there are, it has each number
-times-whole : (p : Plan) (s : State (Unit {0}) View) (id : ℕ) (v : View) → IsChained p s → get_elem? s.views id ≡ some v → length v.parts ≡ p.seats → (n : ℕ) → n < p.seats → times_among n v.parts ≡ 1
+times-whole :
+    (p : Plan) (s : State (Unit {0}) View) (id : ℕ) (v : View) → IsChained p s → get_elem? s.views id ≡ some v
+    → length v.parts ≡ p.seats → (n : ℕ) → n < p.seats → times_among n v.parts ≡ 1
 times-whole p s id v rule at whole n below =
     let rest : length (all_parts (slice_set s.views id spent_view)) ≡ 0
     = omega (arith, sum-set length length-append s.views id v spent_view at, whole, rule.count) in

@@ -31,7 +31,8 @@ module _ {X : Type 0} (P : X → Type 0) where
   all-between : (front : List X) (x : X) (back : List X) → P x → All P (front ++ back) → All P (front ++ x ∷ back)
   all-between [] x back here all = All-cons P x back here all
   all-between (y ∷ front) x back here all =
-      All-cons P y (front ++ x ∷ back) (All-head P y (front ++ back) all) (all-between front x back here (All-tail P y (front ++ back) all))
+      All-cons P y (front ++ x ∷ back) (All-head P y (front ++ back) all)
+      (all-between front x back here (All-tail P y (front ++ back) all))
 
   -- and what holds of each, of the one at a place
   all-at : (xs : List X) (id : ℕ) (x : X) → get_elem? xs id ≡ some x → All P xs → P x
@@ -40,7 +41,9 @@ module _ {X : Type 0} (P : X → Type 0) where
   all-at (y ∷ xs) (suc id) x at all = all-at xs id x at (All-tail P y xs all)
 
 -- a seat's number, counted among the parts with one more in the middle
-times-middle : (n : ℕ) (front : List Part) (part : Part) (back : List Part) → times_among n (front ++ part ∷ back) ≡ cond (eqb part.number n) 1 0 + times_among n (front ++ back)
+times-middle :
+    (n : ℕ) (front : List Part) (part : Part) (back : List Part)
+    → times_among n (front ++ part ∷ back) ≡ cond (eqb part.number n) 1 0 + times_among n (front ++ back)
 times-middle n [] part back = refl
 times-middle n (other ∷ front) part back = omega (arith, times-middle n front part back)
 
@@ -60,10 +63,14 @@ record Around (views : List View) (id : ℕ) (part : Part) : Type 0 where
   front : List Part
   back : List Part
   is : all_parts views ≡ front ++ part ∷ back
-  after : (part' : Part) (told : List (List Event)) → all_parts (slice_set views id (record { parts = part' ∷ []; told = told })) ≡ front ++ part' ∷ back
+  after :
+      (part' : Part) (told : List (List Event))
+      → all_parts (slice_set views id (record { parts = part' ∷ []; told = told })) ≡ front ++ part' ∷ back
 
 -- each token's part has such a place
-around : (views : List View) (id : ℕ) (v : View) (part : Part) → get_elem? views id ≡ some v → v.parts ≡ part ∷ [] → Around views id part
+around :
+    (views : List View) (id : ℕ) (v : View) (part : Part) → get_elem? views id ≡ some v → v.parts ≡ part ∷ []
+    → Around views id part
 around [] id v part at one = absurd (some-ne-none v (sym at))
 around (u ∷ views) zero v part at one = record {
   front = [];
@@ -77,7 +84,9 @@ around (u ∷ views) (suc id) v part at one =
       front = u.parts ++ rest.front;
       back = rest.back;
       is = ap (λ parts. u.parts ++ parts) rest.is ∙ sym (append_assoc u.parts rest.front (part ∷ rest.back));
-      after = λ part' told. ap (λ parts. u.parts ++ parts) (rest.after part' told) ∙ sym (append_assoc u.parts rest.front (part' ∷ rest.back));
+      after =
+          λ part' told. ap (λ parts. u.parts ++ parts) (rest.after part' told)
+          ∙ sym (append_assoc u.parts rest.front (part' ∷ rest.back));
     }
 
 -- a token knows one part alone
@@ -87,7 +96,9 @@ first-same part other is = ap part_of is
 -- ---- a longer history
 
 -- a seat that made none of the new events fits the longer history
-fits-more : (history own : List Event) (part : Part) → All (λ e. seat_of_event e ≢ part.number) own → Fits history part → Fits (own ++ history) part
+fits-more :
+    (history own : List Event) (part : Part) → All (λ e. seat_of_event e ≢ part.number) own → Fits history part
+    → Fits (own ++ history) part
 fits-more history own part others f = record {
   later = own ++ f.later;
   is = ap (λ h. own ++ h) f.is ∙ sym (append_assoc own f.later part.seen);
@@ -96,7 +107,10 @@ fits-more history own part others f = record {
 
 -- what was a beginning still is
 beginning-more : (history own seen : List Event) → IsBeginning seen history → IsBeginning seen (own ++ history)
-beginning-more history own seen b = record { later = own ++ b.later; is = ap (λ h. own ++ h) b.is ∙ sym (append_assoc own b.later seen) }
+beginning-more history own seen b = record {
+  later = own ++ b.later;
+  is = ap (λ h. own ++ h) b.is ∙ sym (append_assoc own b.later seen);
+}
 
 -- ---- a step
 
@@ -107,7 +121,9 @@ HasNumber p part = part.number < p.seats
 abbrev IsTold : List Event → View → Type 0
 IsTold history v = All (λ seen. IsBeginning seen history) v.told
 
-module _ (p : Plan) (s : State (Unit {0}) View) (rule : IsChained p s) (id : ℕ) (v : View) (part : Part) (at : get_elem? s.views id ≡ some v) (one : v.parts ≡ part ∷ []) where
+module _
+    (p : Plan) (s : State (Unit {0}) View) (rule : IsChained p s) (id : ℕ) (v : View) (part : Part)
+    (at : get_elem? s.views id ≡ some v) (one : v.parts ≡ part ∷ []) where
   -- where the token's part is
   there : Around s.views id part
   there = around s.views id v part at one
@@ -124,7 +140,13 @@ module _ (p : Plan) (s : State (Unit {0}) View) (rule : IsChained p s) (id : ℕ
   others-differ =
       let all = ap (times_among part.number) there.is in
       all-differ part.number (there.front ++ there.back)
-      (omega (arith, counted-once part.number part.number refl, times-middle part.number there.front part there.back, all, rule.once part.number numbers.0))
+      (omega (
+        arith,
+        counted-once part.number part.number refl,
+        times-middle part.number there.front part there.back,
+        all,
+        rule.once part.number numbers.0,
+      ))
 
   module _ (own : List Event) (place new : ℕ) (may : MayStep p own part.number place new (fit.0.later ++ part.seen)) where
     -- the history after the step, seen from the seat
@@ -139,44 +161,74 @@ module _ (p : Plan) (s : State (Unit {0}) View) (rule : IsChained p s) (id : ℕ
     others-fit : All (Fits (own ++ rule.history)) (there.front ++ there.back)
     others-fit k d below =
         let other = slice_index_or (there.front ++ there.back) k d in
-        fits-more rule.history own other (λ j e within same. others-differ k d below (sym same ∙ may.mine j e within)) (fit.1 k d below)
+        fits-more rule.history own other (λ j e within same. others-differ k d below (sym same ∙ may.mine j e within))
+        (fit.1 k d below)
 
     -- and what tokens were told of are still beginnings
     told-after : (u : View) → u.told ≡ v.told → All (IsTold (own ++ rule.history)) (slice_set s.views id u)
     told-after u same =
-        let all : All (IsTold (own ++ rule.history)) s.views = λ k d below j e within. beginning-more rule.history own _ (rule.told k d below j e within) in
+        let all : All (IsTold (own ++ rule.history)) s.views
+        = λ k d below j e within. beginning-more rule.history own _ (rule.told k d below j e within) in
         let here = all-at (IsTold (own ++ rule.history)) s.views id v at all in
-        All-set (IsTold (own ++ rule.history)) s.views id u (subst (All (λ seen. IsBeginning seen (own ++ rule.history))) (sym same) here) all
+        All-set (IsTold (own ++ rule.history)) s.views id u
+        (subst (All (λ seen. IsBeginning seen (own ++ rule.history))) (sym same) here) all
 
     -- a seat's events, which make of the words what the step makes of its word, keep the rule
-    step-keeps : IsChained p (stepped s place new id [] (record { parts = moved part fit.0.later own ∷ []; told = v.told }) keeps)
+    step-keeps :
+        IsChained p (stepped s place new id [] (record { parts = moved part fit.0.later own ∷ []; told = v.told }) keeps)
     step-keeps =
         let part' = moved part fit.0.later own in
         let after = there.after part' v.told in
         record {
           history = own ++ rule.history;
           legal = subst (IsLegal p) (sym longer) may.legal;
-          words = ap (λ w. slice_set w place new) (rule.words ∙ ap (words_of p) fit.0.is) ∙ sym may.words ∙ ap (words_of p) (sym longer);
-          fits = subst (All (Fits (own ++ rule.history))) (sym after) (all-between (Fits (own ++ rule.history)) there.front part' there.back part-fits others-fit);
+          words =
+              ap (λ w. slice_set w place new) (rule.words ∙ ap (words_of p) fit.0.is) ∙ sym may.words
+              ∙ ap (words_of p) (sym longer);
+          fits =
+              subst (All (Fits (own ++ rule.history))) (sym after)
+              (all-between (Fits (own ++ rule.history)) there.front part' there.back part-fits others-fit);
           told = told-after (record { parts = part' ∷ []; told = v.told }) refl;
-          numbers = subst (All (HasNumber p)) (sym after) (all-between (HasNumber p) there.front part' there.back numbers.0 numbers.1);
-          once = λ n below. ap (times_among n) after ∙ times-middle n there.front part' there.back ∙ sym (times-middle n there.front part there.back) ∙ ap (times_among n) (sym there.is) ∙ rule.once n below;
-          count = omega (arith, ap length after, length-append there.front (part' ∷ there.back), length-append there.front (part ∷ there.back), ap length there.is, rule.count);
+          numbers =
+              subst (All (HasNumber p)) (sym after)
+              (all-between (HasNumber p) there.front part' there.back numbers.0 numbers.1);
+          once =
+              λ n below. ap (times_among n) after ∙ times-middle n there.front part' there.back
+              ∙ sym (times-middle n there.front part there.back) ∙ ap (times_among n) (sym there.is) ∙ rule.once n below;
+          count = omega (
+            arith,
+            ap length after,
+            length-append there.front (part' ∷ there.back),
+            length-append there.front (part ∷ there.back),
+            ap length there.is,
+            rule.count,
+          );
         }
 
 -- what each step asks: whatever others do first, its events may follow, and make of the words what the step makes of its word
-pub allows-step : (p : Plan) → IsPlan p → (events : ℕ → List Event) (slots id : ℕ) (me : Me (Unit {0}) View) (part : Part) (place a b : ℕ) (f : ℕ → ℕ) → me.0.parts ≡ part ∷ [] → Can p events part.number part.seen place f → Allows (IsChained p) slots id me place f (Moves p events (step slots place a b none) me)
+pub allows-step :
+    (p : Plan) → IsPlan p
+    → (events : ℕ → List Event) (slots id : ℕ) (me : Me (Unit {0}) View) (part : Part) (place a b : ℕ) (f : ℕ → ℕ)
+    → me.0.parts ≡ part ∷ [] → Can p events part.number part.seen place f
+    → Allows (IsChained p) slots id me place f (Moves p events (step slots place a b none) me)
 allows-step p plan events slots id me part place a b f one can s rule homes at word =
     let found = slice_index s.words place in
     let seen = fit p s rule id me.0 part at one in
     let later = seen.0.later in
-    let same : slice_index (words_of p (later ++ part.seen)) place ≡ found = ap (λ w. slice_index w place) (sym (rule.words ∙ ap (words_of p) seen.0.is)) in
-    let may = subst (λ n. MayStep p (events n) part.number place (f n) (later ++ part.seen)) same (can plan (numbers p s rule id me.0 part at one).0 later seen.0.others (subst (IsLegal p) seen.0.is rule.legal)) in
+    let same : slice_index (words_of p (later ++ part.seen)) place ≡ found
+    = ap (λ w. slice_index w place) (sym (rule.words ∙ ap (words_of p) seen.0.is)) in
+    let may = subst (λ n. MayStep p (events n) part.number place (f n) (later ++ part.seen)) same
+    (can plan (numbers p s rule id me.0 part at one).0 later seen.0.others (subst (IsLegal p) seen.0.is rule.legal)) in
     let after = moved part later (events found) in
-    let tells : HasMoved p events place found part after = record { others = later; not_own = seen.0.others; mine = may.mine; legal = may.legal; word = same; is = refl } in (
+    let tells : HasMoved p events place found part after
+    = record { others = later; not_own = seen.0.others; mine = may.mine; legal = may.legal; word = same; is = refl } in (
       record { parts = after ∷ []; told = me.0.told },
       keeps,
       tt,
       step-keeps p s rule id me.0 part at one (events found) place (f found) may,
-      record { after = after; is = refl; moves = λ q is. subst (λ r. HasMoved p events place found r after) (first-same part q (sym one ∙ is)) tells },
+      record {
+        after = after;
+        is = refl;
+        moves = λ q is. subst (λ r. HasMoved p events place found r after) (first-same part q (sym one ∙ is)) tells;
+      },
     )

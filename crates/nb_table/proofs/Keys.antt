@@ -102,15 +102,18 @@ module _ (p : Plan) (lasts : SeenLasts) (number g : ℕ) (seen : List Event) whe
 -- ---- what an exchange tells
 
 module _
-    (p : Plan) (e : Event) (place : Plan → ℕ) (at found : ℕ) (before after : SeenBy) (own : before.shape ≡ p) (at_place : at ≡ place p)
+    (p : Plan) (e : Event) (place : Plan → ℕ) (at found : ℕ) (before after : SeenBy) (own : before.shape ≡ p)
+    (at_place : at ≡ place p)
     (told : Stepped p (λ word. only (eqb word 0) e) at before found after) where
   -- it made its event where it found 0
   exchange-won : found ≡ 0 → Extended before after (e ∷ []) 1
-  exchange-won zero_found = subst (λ test. Extended before after (cond test (e ∷ []) []) 1) (eq-eqb found 0 zero_found) told.grows
+  exchange-won zero_found =
+      subst (λ test. Extended before after (cond test (e ∷ []) []) 1) (eq-eqb found 0 zero_found) told.grows
 
   -- and none where it found another word
   exchange-lost : found ≢ 0 → Extended before after [] 1
-  exchange-lost some_found = subst (λ test. Extended before after (cond test (e ∷ []) []) 1) (ne_eqb found 0 some_found) told.grows
+  exchange-lost some_found =
+      subst (λ test. Extended before after (cond test (e ∷ []) []) 1) (ne_eqb found 0 some_found) told.grows
 
   -- the seat's shape is the plan
   after-shape : after.shape ≡ p
@@ -166,7 +169,8 @@ module _
       let within = (places p plan).below (Key g i) slot in (
         exchange-won p e (λ q. key_place q g i) at found before after own at_place told zero_found,
         ap key_state
-            (word-won p e (λ q. key_place q g i) at found before after own at_place told new lawful plan within words zero_found),
+            (word-won p e (λ q. key_place q g i) at found before after own at_place told new lawful plan within words
+            zero_found),
       )
 
   -- another slot stays as it was found

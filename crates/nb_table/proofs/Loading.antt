@@ -81,8 +81,8 @@ last-shows p t g i k j n path is test none =
     let all = last-distance k path.distance (size_of p g) path.in_table at in
     InLast
     (subst (AreOthers p t g k) all
-    (others-suc p t g k path.distance j path.passed (ap (t.key g) path.at ∙ is) (eqb-false j k (not-true (eqb j k) other_last.0))))
-    (eqb-true (suc g) (generations_of p) last.0) none
+    (others-suc p t g k path.distance j path.passed (ap (t.key g) path.at ∙ is)
+    (eqb-false j k (not-true (eqb j k) other_last.0)))) (eqb-true (suc g) (generations_of p) last.0) none
   where
     and-both : (a b : Bool) → (a && b) ≡ true → (a ≡ true) × (b ≡ true)
     and-both true true both = (refl, refl)
@@ -164,7 +164,8 @@ module _
   can-read :
       (call : Option Call) (place : ℕ) (shown : ℕ → ℕ → Option (Option ℕ)) → IfSome call IsCallInRange
       → IfSome call (λ c. IsReached p (tables_at p seen) g (key_of_call c))
-      → IfSome call (λ c. (others : List Event) → IsLegal p (others ++ seen) → Lasts p (tables_at p seen) (tables_at p (others ++ seen))
+      → IfSome call (λ c. (others : List Event) → IsLegal p (others ++ seen)
+      → Lasts p (tables_at p seen) (tables_at p (others ++ seen))
       → (n : Option ℕ) → shown (slice_index (words_of p (others ++ seen)) place) (key_of_call c) ≡ Some n
       → Shows p (tables_at p (others ++ seen)) g (key_of_call c) n)
       → Can p (λ found. reads number call (shown found)) number seen place (λ found. found)
@@ -200,13 +201,13 @@ module _
       (i : ℕ) (call : Option Call) → IsSlot p g i → IfSome call IsCallInRange
       → IfSome call (λ c. IsReached p (tables_at p seen) g (key_of_call c))
       → IfSome call (λ c. (tables_at p seen).key g i ≡ Claimed (key_of_call c))
-      → Can p (λ found. reads number call (λ k. shown_by_value (unwrap_or (value_state found) Null))) number seen (value_place p g i)
-      (λ found. found)
+      → Can p (λ found. reads number call (λ k. shown_by_value (unwrap_or (value_state found) Null))) number seen
+      (value_place p g i) (λ found. found)
   can-load_value i call slot ranges reached claimed =
       can-read call (value_place p g i) (λ found k. shown_by_value (unwrap_or (value_state found) Null)) ranges reached
       (IfSome_then call claimed (λ c is_claimed others legal lasting n is.
-      value-shows p (tables_at p (others ++ seen)) g i (key_of_call c) _ n slot (lasting.claimed g i (key_of_call c) slot is_claimed)
-      refl is))
+      value-shows p (tables_at p (others ++ seen)) g i (key_of_call c) _ n slot
+      (lasting.claimed g i (key_of_call c) slot is_claimed) refl is))
 
   -- of a next word, to a search whose key's whole path is other keys'
   pub can-load_next :

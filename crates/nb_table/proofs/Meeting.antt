@@ -29,8 +29,8 @@ beginning-of h part fits = record { later = fits.later; is = fits.is }
 noted-told : (h : List Event) (v : View) → All (Fits h) v.parts → IsTold h v → IsTold h (noted v)
 noted-told h v fits told =
     All-append (λ seen. IsBeginning seen h) (map (λ part. part.seen) v.parts) v.told
-    (All-map (λ seen. IsBeginning seen h) (λ part. part.seen) v.parts (All-weaker (Fits h) (λ part. IsBeginning part.seen h) (beginning-of h) v.parts fits))
-    told
+    (All-map (λ seen. IsBeginning seen h) (λ part. part.seen) v.parts
+    (All-weaker (Fits h) (λ part. IsBeginning part.seen h) (beginning-of h) v.parts fits)) told
 
 -- a token keeps its parts and tells what it knows
 pub notes : (p : Plan) (id : ℕ) (v : View) → Splits (IsChained p) id v v (noted v)
@@ -41,8 +41,8 @@ pub joins : (p : Plan) (id : ℕ) (v : View) (other : ℕ) (w : View) → Joins 
 joins p id v other w s rule at differs other_at =
     kept p s (slice_set (slice_set s.views id (joined v w)) other spent_view) rule
     (shared (Fits rule.history) rule.fits)
-    (All-set (IsTold rule.history) (slice_set s.views id (joined v w)) other spent_view (All-nil (λ seen. IsBeginning seen rule.history))
-    (All-set (IsTold rule.history) s.views id (joined v w) told rule.told))
+    (All-set (IsTold rule.history) (slice_set s.views id (joined v w)) other spent_view
+    (All-nil (λ seen. IsBeginning seen rule.history)) (All-set (IsTold rule.history) s.views id (joined v w) told rule.told))
     (shared (λ part. part.number < p.seats) rule.numbers)
     (λ f sum. omega (
       arith,
@@ -55,7 +55,9 @@ joins p id v other w s rule at differs other_at =
     before : get_elem? s.views other ≡ some w
     before = sym (set_else s.views id other (joined v w) differs) ∙ other_at
 
-    shared : (P : Part → Type 0) → All P (all_parts s.views) → All P (all_parts (slice_set (slice_set s.views id (joined v w)) other spent_view))
+    shared :
+        (P : Part → Type 0) → All P (all_parts s.views)
+        → All P (all_parts (slice_set (slice_set s.views id (joined v w)) other spent_view))
     shared P every =
         parts-set P (slice_set s.views id (joined v w)) other spent_view
         (parts-set P s.views id (joined v w) every
@@ -74,14 +76,19 @@ abbrev pub alone : Part → View
 alone part = record { parts = part ∷ []; told = [] }
 
 -- the rule is kept where one seat sees the whole history
-whole-keeps : (p : Plan) (s : State (Unit {0}) View) (rule : IsChained p s) (id : ℕ) (v : View) (part after : Part) → get_elem? s.views id ≡ some v → v.parts ≡ part ∷ [] → after.number ≡ part.number → rule.history ≡ after.seen → (words : List ℕ) → words ≡ s.words → IsChained p record { words = words; homes = s.homes; views = slice_set s.views id (alone after) }
+whole-keeps :
+    (p : Plan) (s : State (Unit {0}) View) (rule : IsChained p s) (id : ℕ) (v : View) (part after : Part)
+    → get_elem? s.views id ≡ some v → v.parts ≡ part ∷ [] → after.number ≡ part.number → rule.history ≡ after.seen
+    → (words : List ℕ) → words ≡ s.words
+    → IsChained p record { words = words; homes = s.homes; views = slice_set s.views id (alone after) }
 whole-keeps p s rule id v part after at one number whole words same = record {
   history = rule.history;
   legal = rule.legal;
   words = same ∙ rule.words;
   fits =
       parts-set (Fits rule.history) s.views id (alone after) rule.fits
-      (All-cons (Fits rule.history) after [] (record { later = []; is = whole; others = All-nil _ }) (All-nil (Fits rule.history)));
+      (All-cons (Fits rule.history) after [] (record { later = []; is = whole; others = All-nil _ })
+      (All-nil (Fits rule.history)));
   told = All-set (IsTold rule.history) s.views id (alone after) (All-nil (λ seen. IsBeginning seen rule.history)) rule.told;
   numbers =
       parts-set (λ x. x.number < p.seats) s.views id (alone after) rule.numbers
@@ -102,7 +109,11 @@ whole-keeps p s rule id v part after at one number whole words same = record {
         subst (λ n. n < p.seats) (sym number) here
 
 -- what the load tells
-heard-by : (p : Plan) (s : State (Unit {0}) View) (rule : IsChained p s) (place : ℕ) (me : Me (Unit {0}) View) (part : Part) (fits : Fits rule.history part) → me.0.parts ≡ part ∷ [] → IsTold rule.history me.0 → HasHeard p place me (slice_index s.words place) (alone (moved part fits.later []), me.1)
+heard-by :
+    (p : Plan) (s : State (Unit {0}) View) (rule : IsChained p s) (place : ℕ) (me : Me (Unit {0}) View) (part : Part)
+    (fits : Fits rule.history part)
+    → me.0.parts ≡ part ∷ [] → IsTold rule.history me.0
+    → HasHeard p place me (slice_index s.words place) (alone (moved part fits.later []), me.1)
 heard-by p s rule place me part fits one told = record {
   after = moved part fits.later [];
   is = refl;
@@ -122,7 +133,9 @@ heard-by p s rule place me part fits one told = record {
       is = refl;
     }
 
-pub allows-hears : (p key : Plan) → key ≡ p → (slots id place : ℕ) (me : Me (Unit {0}) View) → me.0.parts ≡ part_of me.0.parts ∷ [] → Allows (IsChained key) slots id me place (λ n. n) (HasHeard p place me)
+pub allows-hears :
+    (p key : Plan) → key ≡ p → (slots id place : ℕ) (me : Me (Unit {0}) View) → me.0.parts ≡ part_of me.0.parts ∷ []
+    → Allows (IsChained key) slots id me place (λ n. n) (HasHeard p place me)
 allows-hears p key same slots id place me one =
     subst (λ k. Allows (IsChained k) slots id me place (λ n. n) (HasHeard p place me)) (sym same)
     (λ s rule homes at word.
@@ -145,10 +158,16 @@ pub record HasMet (before other after : seat.Inside) : Type 0 where
   pub sees : IsBeginning (seat_of other).seen (seat_of after).seen
 
 -- what the token knows that took in the other's note
-pub joined-me : (before other own note me : Me (Unit {0}) View) → own ≡ before → note ≡ (noted other.0, []) → me ≡ (joined own.0 note.0, own.1) → me ≡ (joined before.0 (noted other.0), before.1)
+pub joined-me :
+    (before other own note me : Me (Unit {0}) View) → own ≡ before → note ≡ (noted other.0, [])
+    → me ≡ (joined own.0 note.0, own.1) → me ≡ (joined before.0 (noted other.0), before.1)
 joined-me before other own note me own_is note_is me_is = me_is ∙ (λ i. (joined ((own_is i).0) ((note_is i).0), (own_is i).1))
 
-pub met : (p : Plan) (before other after : seat.Inside) (me : Me (Unit {0}) View) (found : ℕ) → IsSeat before → IsSeat other → before.shape ≡ p → after.shape ≡ before.shape → after.seat.table_id ≡ before.seat.table_id → me ≡ (joined before.seat.me.0 (noted other.seat.me.0), before.seat.me.1) → HasHeard p 0 me found after.seat.me → HasMet before other after
+pub met :
+    (p : Plan) (before other after : seat.Inside) (me : Me (Unit {0}) View) (found : ℕ) → IsSeat before → IsSeat other
+    → before.shape ≡ p → after.shape ≡ before.shape → after.seat.table_id ≡ before.seat.table_id
+    → me ≡ (joined before.seat.me.0 (noted other.seat.me.0), before.seat.me.1) → HasHeard p 0 me found after.seat.me
+    → HasMet before other after
 met p before other after me found is_seat other_seat plan shape table me_is heard = record {
   seat = record {
     one = alone_after ∙ ap (λ x. x ∷ []) (sym (ap part_of alone_after));
@@ -190,11 +209,17 @@ met p before other after me found is_seat other_seat plan shape table me_is hear
     told =
         let P : List Event → Type 0 = λ seen. IsBeginning seen heard.after.seen in
         let is : me.0.told ≡ before.seat.me.0.told ++ (part_of other.seat.me.0.parts).seen ∷ other.seat.me.0.told
-        = ap (λ m. m.0.told) me_is ∙ ap (λ ps. before.seat.me.0.told ++ (map (λ x. x.seen) ps ++ other.seat.me.0.told)) other_seat.one in
+        = ap (λ m. m.0.told) me_is ∙ ap (λ ps. before.seat.me.0.told ++ (map (λ x. x.seen) ps ++ other.seat.me.0.told))
+        other_seat.one in
         All-head P (part_of other.seat.me.0.parts).seen other.seat.me.0.told
-        (All-right P before.seat.me.0.told ((part_of other.seat.me.0.parts).seen ∷ other.seat.me.0.told) (subst (All P) is heard.heard))
+        (All-right P before.seat.me.0.told ((part_of other.seat.me.0.parts).seen ∷ other.seat.me.0.told)
+        (subst (All P) is heard.heard))
 
 -- as contracts see it
-pub met-told : (before other after : seat.Inside) (a b : SeenBy) → seat_of before ≡ a → seat_of other ≡ b → HasMet before other after → Extended a (seat_of after) [] 1 × IsBeginning b.seen (seat_of after).seen
-met-told before other after a b a_is b_is m =
-    (subst (λ x. Extended x (seat_of after) [] 1) a_is m.grows, subst (λ (x : SeenBy). IsBeginning x.seen (seat_of after).seen) b_is m.sees)
+pub met-told :
+    (before other after : seat.Inside) (a b : SeenBy) → seat_of before ≡ a → seat_of other ≡ b → HasMet before other after
+    → Extended a (seat_of after) [] 1 × IsBeginning b.seen (seat_of after).seen
+met-told before other after a b a_is b_is m = (
+  subst (λ x. Extended x (seat_of after) [] 1) a_is m.grows,
+  subst (λ (x : SeenBy). IsBeginning x.seen (seat_of after).seen) b_is m.sees,
+)

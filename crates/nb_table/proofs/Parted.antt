@@ -32,19 +32,24 @@ module _ (P : Part → Type 0) where
   -- what holds of all tokens' parts holds of one token's
   pub parts-at : (views : List View) (id : ℕ) (v : View) → get_elem? views id ≡ some v → All P (all_parts views) → All P v.parts
   parts-at [] id v at every = absurd (some-ne-none v (sym at))
-  parts-at (x ∷ views) zero v at every = subst (λ u. All P u.parts) (some-injective x v at) (All-left P x.parts (all_parts views) every)
+  parts-at (x ∷ views) zero v at every =
+      subst (λ u. All P u.parts) (some-injective x v at) (All-left P x.parts (all_parts views) every)
   parts-at (x ∷ views) (suc id) v at every = parts-at views id v at (All-right P x.parts (all_parts views) every)
 
   -- it holds of all where it holds of the parts that one token has now
-  pub parts-set : (views : List View) (id : ℕ) (w : View) → All P (all_parts views) → All P w.parts → All P (all_parts (slice_set views id w))
+  pub parts-set :
+      (views : List View) (id : ℕ) (w : View) → All P (all_parts views) → All P w.parts
+      → All P (all_parts (slice_set views id w))
   parts-set [] id w every here = every
-  parts-set (x ∷ views) zero w every here = All-append P w.parts (all_parts views) here (All-right P x.parts (all_parts views) every)
+  parts-set (x ∷ views) zero w every here =
+      All-append P w.parts (all_parts views) here (All-right P x.parts (all_parts views) every)
   parts-set (x ∷ views) (suc id) w every here =
       All-append P x.parts (all_parts (slice_set views id w)) (All-left P x.parts (all_parts views) every)
       (parts-set views id w (All-right P x.parts (all_parts views) every) here)
 
   -- and where it holds of those of a new token
-  pub parts-more : (views : List View) (w : View) → All P (all_parts views) → All P w.parts → All P (all_parts (views ++ w ∷ []))
+  pub parts-more :
+      (views : List View) (w : View) → All P (all_parts views) → All P w.parts → All P (all_parts (views ++ w ∷ []))
   parts-more [] w every here = All-append P w.parts [] here (All-nil P)
   parts-more (x ∷ views) w every here =
       All-append P x.parts (all_parts (views ++ w ∷ [])) (All-left P x.parts (all_parts views) every)
@@ -65,7 +70,9 @@ module _ (f : List Part → ℕ) (sum : IsSum f) where
   sum-nil = omega (arith, sum [] [])
 
   -- what one token's parts make of the sum over all tokens
-  pub sum-set : (views : List View) (id : ℕ) (v w : View) → get_elem? views id ≡ some v → f (all_parts (slice_set views id w)) + f v.parts ≡ f (all_parts views) + f w.parts
+  pub sum-set :
+      (views : List View) (id : ℕ) (v w : View) → get_elem? views id ≡ some v
+      → f (all_parts (slice_set views id w)) + f v.parts ≡ f (all_parts views) + f w.parts
   sum-set [] id v w at = absurd (some-ne-none v (sym at))
   sum-set (x ∷ views) zero v w at =
       let same : f x.parts ≡ f v.parts = ap (λ u. f u.parts) (some-injective x v at) in
@@ -76,4 +83,5 @@ module _ (f : List Part → ℕ) (sum : IsSum f) where
   -- one token more
   pub sum-more : (views : List View) (w : View) → f (all_parts (views ++ w ∷ [])) ≡ f (all_parts views) + f w.parts
   sum-more [] w = omega (arith, sum w.parts [], sum-nil)
-  sum-more (x ∷ views) w = omega (arith, sum x.parts (all_parts (views ++ w ∷ [])), sum x.parts (all_parts views), sum-more views w)
+  sum-more (x ∷ views) w =
+      omega (arith, sum x.parts (all_parts (views ++ w ∷ [])), sum x.parts (all_parts views), sum-more views w)

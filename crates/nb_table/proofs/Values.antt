@@ -1,22 +1,18 @@
 -- What a seat may do to a value, and what it finds there.
-use Rattle.std.proofs.Common.{◌≡◌, ◌∙◌, ℕ, zero, suc, ◌+◌, ◌*◌, ◌/◌, ◌%◌, ◌<◌, ◌⊎◌, Bool, true, false, cond, eqb, List, [], ◌∷◌, ◌++◌, length, slice_index, slice_set, bit_or, Some, Option, ap, sym, subst, refl, inl, inr, arith}
+use Rattle.std.proofs.Common.{◌≡◌, ◌∙◌, ℕ, zero, suc, ◌%◌, ◌<◌, ◌⊎◌, Bool, true, false, cond, eqb, List, [], ◌∷◌, ◌++◌, length, slice_index, slice_set, bit_or, Some, Option, ap, sym, subst, refl, inl, inr, arith}
 use Rattle.std.proofs.lemmas.Bool.{eq-eqb, eqb-true, eqb-false, ne_eqb}
-use Rattle.std.proofs.lemmas.Bool.Decides.{nat_tests}
 use Rattle.std.proofs.lemmas.List.{get_or-set_same}
-use Rattle.std.proofs.lemmas.Nat.{and_mask}
-use Rattle.std.proofs.lemmas.Nat.Bits.{and_pow, bit_at-suc, bit_at_lowest}
-use Rattle.std.specs.Int.Bits.{or_add_and}
 use Rattle.std.specs.Option.{IsSome, unwrap_or}
 use Rattle.nb_core.specs.Plans.{Plan, IsPlan, PlacesAreDistinct, Value, generations_of, value_place, word_count}
 use Rattle.nb_core.specs.States.{IsKeyState, IsValueState, value_state, value_word}
 use Rattle.nb_core.specs.Tables.{IsInstalled, IsSlot, IsUnprimed, Tables, tables_at, words_of}
 use Rattle.nb_core.specs.History.{HasValue, IsLegal, IsPrimedBelow, MayPrime}
-use Rattle.nb_core.specs.Laws.{BeginningsAreLegal, HasOneSlot, IsPrimedOrFinished, IsValueWord, Lasts, LawfulWords, Moved, SeenLasts, TablesAreLinked, primed}
+use Rattle.nb_core.specs.Laws.{BeginningsAreLegal, Codings, HasOneSlot, IsPrimedOrFinished, IsValueWord, Lasts, LawfulWords, Moved, SeenLasts, TablesAreLinked, primed}
 use Rattle.nb_core.specs.declared.events.Event.{Event}
 use Rattle.nb_core.specs.declared.events.Event.TheVariants.{CopyIn, Prime, Finish}
 use Rattle.nb_core.specs.declared.states.KeyState.TheVariants.{Claimed}
 use Rattle.nb_core.specs.declared.states.ValueState.{ValueState}
-use Rattle.nb_core.specs.declared.states.ValueState.TheVariants.{Null, Tombstone, Live, PrimedNull, PrimedTombstone, Primed, Finished}
+use Rattle.nb_core.specs.declared.states.ValueState.TheVariants.{Null, Tombstone, Live, Primed, Finished}
 use Rattle.nb_table.specs.Chains.{Extended, SeenBy, seen_by}
 use Rattle.nb_table.specs.Conditions.{HasSource, IsCopied}
 use Rattle.nb_table.specs.Events.{copies, finishes, only, primes}
@@ -25,58 +21,6 @@ use Rattle.nb_table.proofs.Following.{if-follows, none-follows, one-follows}
 
 -- ---- words
 
--- a word that stands for a state is the state's
-pub word-of : (x : ℕ) (v : ValueState) → value_state x ≡ Some v → (x ≡ value_word v) × IsValueState v
-word-of x v says = grind (arith, nat_tests)
-
--- a state's word stands for it, if its number is the map's
-value_state-word : (v : ValueState) → IsValueState v → value_state (value_word v) ≡ Some v
-value_state-word Null range = refl
-value_state-word Tombstone range = refl
-value_state-word (Live n) range = grind (arith, nat_tests)
-value_state-word PrimedNull range = refl
-value_state-word PrimedTombstone range = refl
-value_state-word (Primed n) range = grind (arith, nat_tests)
-value_state-word (Finished n) range = grind (arith, nat_tests)
-
--- to set the lowest bit, or the one above it
-or_one : (x : ℕ) → bit_or x 1 + x % 2 ≡ x + 1
-or_one x = ap (λ y. bit_or x 1 + y) (sym (and_mask x 1)) ∙ or_add_and x 1
-
-or_two : (x : ℕ) → bit_or x 2 + (x / 2 % 2) * 2 ≡ x + 2
-or_two x =
-    ap (λ y. bit_or x 2 + y * 2) (sym (bit_at_lowest (x / 2)) ∙ sym (bit_at-suc x 0))
-    ∙ ap (λ y. bit_or x 2 + y) (sym (and_pow x 1)) ∙ or_add_and x 2
-
--- the word of an unprimed value is even, and that of a primed one odd
-even-unprimed : (v : ValueState) → value_word v % 2 ≡ 0 → IsUnprimed v
-even-unprimed Null even = tt
-even-unprimed Tombstone even = tt
-even-unprimed (Live n) even = tt
-even-unprimed PrimedNull even = absurd (omega (arith, even))
-even-unprimed PrimedTombstone even = absurd (omega (arith, even))
-even-unprimed (Primed n) even = absurd (omega (arith, even))
-even-unprimed (Finished n) even = absurd (omega (arith, even))
-
-unprimed-even : (v : ValueState) → IsUnprimed v → value_word v % 2 ≡ 0
-unprimed-even Null unprimed = refl
-unprimed-even Tombstone unprimed = refl
-unprimed-even (Live n) unprimed = omega arith
-unprimed-even PrimedNull unprimed = absurd unprimed
-unprimed-even PrimedTombstone unprimed = absurd unprimed
-unprimed-even (Primed n) unprimed = absurd unprimed
-unprimed-even (Finished n) unprimed = absurd unprimed
-
--- to set the lowest bit of a word primes its value
-primed-word : (v : ValueState) → bit_or (value_word v) 1 ≡ value_word (primed v)
-primed-word Null = refl
-primed-word Tombstone = refl
-primed-word (Live n) = omega (arith, or_one (4 * n + 8))
-primed-word PrimedNull = refl
-primed-word PrimedTombstone = refl
-primed-word (Primed n) = omega (arith, or_one (4 * n + 9))
-primed-word (Finished n) = omega (arith, or_one (4 * n + 11))
-
 -- a primed value's number is the map's, if the value's is
 primed-range : (v : ValueState) → IsValueState v → IsValueState (primed v)
 primed-range (Live n) range = range
@@ -84,94 +28,73 @@ primed-range (Primed n) range = range
 primed-range (Finished n) range = range
 primed-range _ range = tt
 
--- the word of a value, primed, stands for the primed value
-primed-says : (x : ℕ) (v : ValueState) → value_state x ≡ Some v → value_state (bit_or x 1) ≡ Some (primed v)
-primed-says x v says =
-    let is = word-of x v says in
-    ap (λ x. value_state (bit_or x 1)) is.0 ∙ ap value_state (primed-word v) ∙ value_state-word (primed v) (primed-range v is.1)
+-- to prime a primed value again changes nothing
+primed-again : (v : ValueState) → (IsUnprimed v → ⊥) → primed v ≡ v
+primed-again Null other = absurd (other tt)
+primed-again Tombstone other = absurd (other tt)
+primed-again (Live n) other = absurd (other tt)
+primed-again _ other = refl
 
--- and that of a primed number, finished, for the finished one
-finished-says : (x n : ℕ) → value_state x ≡ Some (Primed n) → value_state (bit_or x 2) ≡ Some (Finished n)
-finished-says x n says =
-    let is = word-of x (Primed n) says in
-    ap value_state (finished-word x n is.0) ∙ value_state-word (Finished n) is.1
-  where
-    finished-word : (x n : ℕ) → x ≡ 4 * n + 9 → bit_or x 2 ≡ 4 * n + 11
-    finished-word x n is = omega (arith, or_two x, is)
+-- the word holds this number, primed or finished
+abbrev Holds : ℕ → ℕ → Type 0
+Holds x n = (unwrap_or (value_state x) Null ≡ Primed n) ⊎ (unwrap_or (value_state x) Null ≡ Finished n)
+
+module _ (codings : Codings) where
+  -- the words of unprimed values are even, and no others
+  evens : (x : ℕ) (v : ValueState) → value_state x ≡ Some v → (IsUnprimed v → x % 2 ≡ 0) × (x % 2 ≡ 0 → IsUnprimed v)
+  evens x v says =
+      let is = (codings.word_of_state x v says).0 in
+      subst (λ y. (IsUnprimed v → y % 2 ≡ 0) × (y % 2 ≡ 0 → IsUnprimed v)) (sym is) (codings.even v)
+
+  -- the word of a value, primed, stands for the primed value
+  primed-says : (x : ℕ) (v : ValueState) → value_state x ≡ Some v → value_state (bit_or x 1) ≡ Some (primed v)
+  primed-says x v says =
+      let is = codings.word_of_state x v says in
+      ap (λ y. value_state (bit_or y 1)) is.0 ∙ ap value_state (codings.prime v)
+      ∙ codings.state_of_word (primed v) (primed-range v is.1)
+
+  -- and that of a primed number, finished, for the finished one
+  finished-says : (x n : ℕ) → value_state x ≡ Some (Primed n) → value_state (bit_or x 2) ≡ Some (Finished n)
+  finished-says x n says =
+      let is = codings.word_of_state x (Primed n) says in
+      ap (λ y. value_state (bit_or y 2)) is.0 ∙ ap value_state (codings.finish n) ∙ codings.state_of_word (Finished n) is.1
+
+  -- to set the lowest bit in the word of a value that isn't unprimed changes nothing
+  primed-kept : (x : ℕ) → IsValueWord x → (x % 2 ≡ 0 → ⊥) → bit_or x 1 ≡ x
+  primed-kept x word odd =
+      let is = (codings.word_of_state x word.state word.decodes).0 in
+      let again = primed-again word.state (λ unprimed. odd ((evens x word.state word.decodes).0 unprimed)) in
+      ap (λ y. bit_or y 1) is ∙ codings.prime word.state ∙ ap value_word again ∙ sym is
+
+  -- the word of a value that was seen
+  word-seen :
+      (x : ℕ) (v : ValueState) → unwrap_or (value_state x) Null ≡ v → IsValueWord x → (x ≡ value_word v) × IsValueState v
+  word-seen x v value word =
+      codings.word_of_state x v (word.decodes ∙ ap Some (sym (ap (λ o. unwrap_or o Null) word.decodes) ∙ value))
+
+  -- a number that is seen primed or finished, in the word of a primed one, is primed
+  held-primed : (x n : ℕ) → Holds x n → IsValueWord x → x ≡ value_word (Primed n) → unwrap_or (value_state x) Null ≡ Primed n
+  held-primed x n held word is =
+      elim held [
+        | inl is_primed ↦ is_primed
+        | inr is_finished ↦ absurd (omega (arith, (word-seen x (Finished n) is_finished word).0, is))
+      ]
+
+  -- and in another word it is finished: to set the bit for that changes nothing
+  finished-kept : (x n : ℕ) → Holds x n → IsValueWord x → (x ≡ value_word (Primed n) → ⊥) → bit_or x 2 ≡ x
+  finished-kept x n held word other =
+      elim held [
+        | inl is_primed ↦ absurd (other (word-seen x (Primed n) is_primed word).0)
+        | inr is_finished ↦
+            let is = (word-seen x (Finished n) is_finished word).0 in
+            ap (λ y. bit_or y 2) is ∙ codings.finish_again n ∙ sym is
+      ]
 
 -- ---- steps
 
--- a value whose word is even may be primed
-may-prime : (t : Tables) (g i x : ℕ) → t.next g ≡ 1 → (k : ℕ) × (t.key g i ≡ Claimed k)
-    → t.value g i ≡ unwrap_or (value_state x) Null → IsValueWord x → x % 2 ≡ 0 → MayPrime t g i
-may-prime t g i x growing claimed value word even =
-    let at : t.value g i ≡ word.state = value ∙ ap (λ o. unwrap_or o Null) word.decodes in
-    record {
-      growing = growing;
-      key = claimed.0;
-      claimed = claimed.1;
-      unprimed = subst IsUnprimed (sym at) (even-unprimed word.state (sym (ap (λ x. x % 2) (word-of x word.state word.decodes).0)
-          ∙ even));
-    }
-
--- to set a lowest bit that is set changes nothing
-or_one-odd : (x : ℕ) → (x % 2 ≡ 0 → ⊥) → bit_or x 1 ≡ x
-or_one-odd x odd = omega (arith, or_one x, odd)
-
--- A claimed slot's value may be primed, once there is a next table.
-pub can-prime :
-    (p : Plan) → SeenLasts → LawfulWords → (number : ℕ) (seen : List Event) (g i : ℕ) → IsSlot p g i
-    → IsInstalled (tables_at p seen) (suc g)
-    → (k : ℕ) × ((tables_at p seen).key g i ≡ Claimed k) → Can p (primes number g i) number seen (value_place p g i)
-    (λ found. bit_or found 1)
-can-prime p lasts lawful number seen g i slot growing claimed plan seated others not_own legal =
-    let h = others ++ seen in
-    let place = value_place p g i in
-    let found = slice_index (words_of p h) place in
-    let still = lasts p plan others seen legal in
-    let word = (lawful p plan h legal).values g i slot in
-    if-follows p (eqb (found % 2) 0) (Prime number g i) number place (bit_or found 1) h
-    (λ even. one-follows p (Prime number g i) number place (bit_or found 1) h (
-      legal,
-      (seated, slot),
-      may-prime (tables_at p h) g i found (still.installed (suc g) growing)
-          (claimed.0, still.claimed g i claimed.0 slot claimed.1) refl word (eqb-true (found % 2) 0 even),
-      tt,
-    ) refl refl)
-    (λ odd. none-follows p number place (bit_or found 1) h legal (or_one-odd found (eqb-false (found % 2) 0 odd)))
-
--- the word of a value that was seen
-word-seen : (x : ℕ) (v : ValueState) → unwrap_or (value_state x) Null ≡ v → IsValueWord x → (x ≡ value_word v) × IsValueState v
-word-seen x v value word = word-of x v (word.decodes ∙ ap Some (sym (ap (λ o. unwrap_or o Null) word.decodes) ∙ value))
-
--- a number that is seen primed or finished has one of two words
-word-held : (x n : ℕ) → (unwrap_or (value_state x) Null ≡ Primed n) ⊎ (unwrap_or (value_state x) Null ≡ Finished n) → IsValueWord x
-    → (x ≡ 4 * n + 9) ⊎ (x ≡ 4 * n + 11)
-word-held x n held word =
-    elim held [
-      | inl is_primed ↦ inl (word-seen x (Primed n) is_primed word).0
-      | inr is_finished ↦ inr (word-seen x (Finished n) is_finished word).0
-    ]
-
--- to set the bit of a finished number, in the word of one that is primed or finished and isn't primed, changes nothing
-or_two-finished : (x n : ℕ) → (x ≡ 4 * n + 9) ⊎ (x ≡ 4 * n + 11) → (x ≡ 4 * n + 9 → ⊥) → bit_or x 2 ≡ x
-or_two-finished x n held other =
-    elim held [
-      | inl is_primed ↦ absurd (other is_primed)
-      | inr is_finished ↦ omega (arith, or_two x, is_finished)
-    ]
-
--- a number that is seen primed or finished, in the word of a primed one, is primed
-held-primed : (x n : ℕ) → (unwrap_or (value_state x) Null ≡ Primed n) ⊎ (unwrap_or (value_state x) Null ≡ Finished n)
-    → IsValueWord x → x ≡ 4 * n + 9 → unwrap_or (value_state x) Null ≡ Primed n
-held-primed x n held word is =
-    elim held [
-      | inl is_primed ↦ is_primed
-      | inr is_finished ↦ absurd (omega (arith, (word-seen x (Finished n) is_finished word).0, is))
-    ]
-
 -- above a primed or finished number there is a next table
-held-below : (p : Plan) (t : Tables) (g i n : ℕ) → IsSlot p g i → IsPrimedOrFinished t g i n
+held-below :
+    (p : Plan) (t : Tables) (g i n : ℕ) → IsSlot p g i → IsPrimedOrFinished t g i n
     → IsUnprimed (t.value g i) ⊎ IsInstalled t (suc g) → IsInstalled t (suc g)
 held-below p t g i n slot held linked =
     elim linked [
@@ -182,38 +105,10 @@ held-below p t g i n slot held linked =
       | inr growing ↦ growing
     ]
 
--- A number that is seen primed or finished may be finished, once its key has a value in the next table.
-pub can-finish :
-    (p : Plan) → SeenLasts → LawfulWords → TablesAreLinked → (number : ℕ) (seen : List Event) (g i n : ℕ) → IsSlot p g i
-    → IsCopied p (tables_at p seen) g i n → Can p (finishes number g i n) number seen (value_place p g i) (λ found. bit_or found 2)
-can-finish p lasts lawful linked number seen g i n slot copied plan seated others not_own legal =
-    let h = others ++ seen in
-    let t = tables_at p h in
-    let place = value_place p g i in
-    let found = slice_index (words_of p h) place in
-    let still = lasts p plan others seen legal in
-    let link = linked p plan h legal in
-    let word = (lawful p plan h legal).values g i slot in
-    let held = still.primed_or_finished g i n slot copied.held in
-    let above = link.within (suc g) (held-below p t g i n slot held (link.primed g i slot)) in
-    if-follows p (eqb found (4 * n + 9)) (Finish number g i) number place (bit_or found 2) h
-    (λ same. one-follows p (Finish number g i) number place (bit_or found 2) h (
-      legal,
-      (seated, slot),
-      record {
-        key = copied.key;
-        number = n;
-        claimed = still.claimed g i copied.key slot copied.claimed;
-        primed = held-primed found n held word (eqb-true found (4 * n + 9) same);
-        copied = still.has_value (suc g) copied.key above copied.copied;
-      },
-      tt,
-    ) refl refl)
-    (λ other. none-follows p number place (bit_or found 2) h legal
-    (or_two-finished found n (word-held found n held word) (eqb-false found (4 * n + 9) other)))
-
 -- the number below is there still
-source-lasts : (p : Plan) (t u : Tables) → Lasts p t u → (g k n : ℕ) → g < generations_of p → HasSource p t g k n → HasSource p u g k n
+source-lasts :
+    (p : Plan) (t u : Tables) → Lasts p t u → (g k n : ℕ) → g < generations_of p → HasSource p t g k n
+    → HasSource p u g k n
 source-lasts p t u still zero k n in_table source = absurd source
 source-lasts p t u still (suc g) k n in_table (j, within, claimed, held) =
     let slot : IsSlot p g j = (omega arith, within) in
@@ -230,39 +125,108 @@ still-primed p t (suc g) i k n slot claimed null moved one (j, within, below, he
       | inl is_primed ↦ (j, within, below, is_primed)
       | inr is_finished ↦
           let value = moved g j (omega (arith, slot.0), within) below is_finished in
-          absurd (value.some (subst (λ s. t.value (suc g) s ≡ Null) (sym (one value.slot (slot.0, value.in_table) value.is)) null))
+          let same = one value.slot (slot.0, value.in_table) value.is in
+          absurd (value.some (subst (λ s. t.value (suc g) s ≡ Null) (sym same) null))
     ]
 
--- A number that is seen primed or finished below may be copied to its key's slot, where the value is null.
-pub can-copy :
-    (p : Plan) → SeenLasts → LawfulWords → Moved → HasOneSlot → (number : ℕ) (seen : List Event) (g i k n word : ℕ) → IsSlot p g i
-    → value_state word ≡ Some (Live n) → (tables_at p seen).key g i ≡ Claimed k → HasSource p (tables_at p seen) g k n
-    → Can p (copies number g i k n) number seen (value_place p g i) (λ found. cond (eqb found 0) word found)
-can-copy p lasts lawful moved one number seen g i k n word slot says claimed source plan seated others not_own legal =
-    let h = others ++ seen in
-    let t = tables_at p h in
-    let place = value_place p g i in
-    let found = slice_index (words_of p h) place in
-    let new = cond (eqb found 0) word found in
-    let word_is = word-of word (Live n) says in
-    let still = lasts p plan others seen legal in
-    let claimed' = still.claimed g i k slot claimed in
-    if-follows p (eqb found 0) (CopyIn number g i k n) number place new h
-    (λ same.
-    let null = ap (λ x. unwrap_or (value_state x) Null) (eqb-true found 0 same) in
-    one-follows p (CopyIn number g i k n) number place new h (
-      legal,
-      (seated, slot, subst IsKeyState claimed' ((lawful p plan h legal).keys g i slot), word_is.1),
+module _ (codings : Codings) where
+  -- a value whose word is even may be primed
+  may-prime :
+      (t : Tables) (g i x : ℕ) → t.next g ≡ 1 → (k : ℕ) × (t.key g i ≡ Claimed k) → t.value g i ≡ unwrap_or (value_state x) Null
+      → IsValueWord x → x % 2 ≡ 0 → MayPrime t g i
+  may-prime t g i x growing claimed value word even =
+      let at : t.value g i ≡ word.state = value ∙ ap (λ o. unwrap_or o Null) word.decodes in
       record {
-        claimed = claimed';
-        null = null;
-        primed = still-primed p t g i k n slot claimed' null (λ f j. moved p plan h legal f j k n)
-            (λ j j_slot j_claimed. one p plan h legal g j i k j_slot slot j_claimed claimed')
-            (source-lasts p (tables_at p seen) t still g k n slot.0 source);
-      },
-      tt,
-    ) (ap (slice_set (words_of p h) place) (sym (ap (λ b. cond b word found) same ∙ word_is.0))) refl)
-    (λ other. none-follows p number place new h legal (ap (λ b. cond b word found) other))
+        growing = growing;
+        key = claimed.0;
+        claimed = claimed.1;
+        unprimed = subst IsUnprimed (sym at) ((evens codings x word.state word.decodes).1 even);
+      }
+
+  -- A claimed slot's value may be primed, once there is a next table.
+  pub can-prime :
+      (p : Plan) → SeenLasts → LawfulWords → (number : ℕ) (seen : List Event) (g i : ℕ) → IsSlot p g i
+      → IsInstalled (tables_at p seen) (suc g) → (k : ℕ) × ((tables_at p seen).key g i ≡ Claimed k)
+      → Can p (primes number g i) number seen (value_place p g i) (λ found. bit_or found 1)
+  can-prime p lasts lawful number seen g i slot growing claimed plan seated others not_own legal =
+      let h = others ++ seen in
+      let place = value_place p g i in
+      let found = slice_index (words_of p h) place in
+      let still = lasts p plan others seen legal in
+      let word = (lawful p plan h legal).values g i slot in
+      if-follows p (eqb (found % 2) 0) (Prime number g i) number place (bit_or found 1) h
+      (λ even. one-follows p (Prime number g i) number place (bit_or found 1) h (
+        legal,
+        (seated, slot),
+        may-prime (tables_at p h) g i found (still.installed (suc g) growing)
+            (claimed.0, still.claimed g i claimed.0 slot claimed.1) refl word (eqb-true (found % 2) 0 even),
+        tt,
+      ) refl refl)
+      (λ odd. none-follows p number place (bit_or found 1) h legal
+      (primed-kept codings found word (eqb-false (found % 2) 0 odd)))
+
+  -- A number that is seen primed or finished may be finished, once its key has a value in the next table.
+  pub can-finish :
+      (p : Plan) → SeenLasts → LawfulWords → TablesAreLinked → (number : ℕ) (seen : List Event) (g i n : ℕ) → IsSlot p g i
+      → IsCopied p (tables_at p seen) g i n
+      → Can p (finishes number g i n) number seen (value_place p g i) (λ found. bit_or found 2)
+  can-finish p lasts lawful linked number seen g i n slot copied plan seated others not_own legal =
+      let h = others ++ seen in
+      let t = tables_at p h in
+      let place = value_place p g i in
+      let found = slice_index (words_of p h) place in
+      let still = lasts p plan others seen legal in
+      let link = linked p plan h legal in
+      let word = (lawful p plan h legal).values g i slot in
+      let held = still.primed_or_finished g i n slot copied.held in
+      let above = link.within (suc g) (held-below p t g i n slot held (link.primed g i slot)) in
+      if-follows p (eqb found (value_word (Primed n))) (Finish number g i) number place (bit_or found 2) h
+      (λ same. one-follows p (Finish number g i) number place (bit_or found 2) h (
+        legal,
+        (seated, slot),
+        record {
+          key = copied.key;
+          number = n;
+          claimed = still.claimed g i copied.key slot copied.claimed;
+          primed = held-primed codings found n held word (eqb-true found (value_word (Primed n)) same);
+          copied = still.has_value (suc g) copied.key above copied.copied;
+        },
+        tt,
+      ) refl refl)
+      (λ other. none-follows p number place (bit_or found 2) h legal
+      (finished-kept codings found n held word (eqb-false found (value_word (Primed n)) other)))
+
+  -- A number that is seen primed or finished below may be copied to its key's slot, where the value is null.
+  pub can-copy :
+      (p : Plan) → SeenLasts → LawfulWords → Moved → HasOneSlot → (number : ℕ) (seen : List Event) (g i k n word : ℕ)
+      → IsSlot p g i → value_state word ≡ Some (Live n) → (tables_at p seen).key g i ≡ Claimed k
+      → HasSource p (tables_at p seen) g k n
+      → Can p (copies number g i k n) number seen (value_place p g i) (λ found. cond (eqb found 0) word found)
+  can-copy p lasts lawful moved one number seen g i k n word slot says claimed source plan seated others not_own legal =
+      let h = others ++ seen in
+      let t = tables_at p h in
+      let place = value_place p g i in
+      let found = slice_index (words_of p h) place in
+      let new = cond (eqb found 0) word found in
+      let word_is = codings.word_of_state word (Live n) says in
+      let still = lasts p plan others seen legal in
+      let claimed' = still.claimed g i k slot claimed in
+      if-follows p (eqb found 0) (CopyIn number g i k n) number place new h
+      (λ same.
+      let null = ap (λ x. unwrap_or (value_state x) Null) (eqb-true found 0 same) in
+      one-follows p (CopyIn number g i k n) number place new h (
+        legal,
+        (seated, slot, subst IsKeyState claimed' ((lawful p plan h legal).keys g i slot), word_is.1),
+        record {
+          claimed = claimed';
+          null = null;
+          primed = still-primed p t g i k n slot claimed' null (λ f j. moved p plan h legal f j k n)
+              (λ j j_slot j_claimed. one p plan h legal g j i k j_slot slot j_claimed claimed')
+              (source-lasts p (tables_at p seen) t still g k n slot.0 source);
+        },
+        tt,
+      ) (ap (slice_set (words_of p h) place) (sym (ap (λ b. cond b word found) same ∙ word_is.0))) refl)
+      (λ other. none-follows p number place new h legal (ap (λ b. cond b word found) other))
 
 -- ---- what was found
 
@@ -275,7 +239,8 @@ pub is-some : (x : ℕ) (o : Option ValueState) → o ≡ value_state x → IsVa
 is-some x o is word = subst IsSome (sym (is ∙ word.decodes)) refl
 
 -- A step on a slot's value word that found this word.
-module _ (p : Plan) (plan : IsPlan p) (lawful : LawfulWords) (begins : BeginningsAreLegal) (events : ℕ → List Event)
+module _
+    (p : Plan) (plan : IsPlan p) (lawful : LawfulWords) (begins : BeginningsAreLegal) (events : ℕ → List Event)
     (before : SeenBy) (found : ℕ) (after : SeenBy) (g i : ℕ) (slot : IsSlot p g i) (shape : before.shape ≡ p)
     (step : Stepped p events (value_place p g i) before found after) where
   -- the history that it found is legal
@@ -287,62 +252,63 @@ module _ (p : Plan) (plan : IsPlan p) (lawful : LawfulWords) (begins : Beginning
   pub found-is : IsValueWord found
   found-is = subst IsValueWord step.word ((lawful p plan (step.grows.others ++ before.seen) met-legal).values g i slot)
 
-  -- what is seen of the value after events of its own that make this word
-  then-value : (own : List Event) → events found ≡ own → (new : ℕ) (v : ValueState)
-      → slice_index (words_of p (own ++ (step.grows.others ++ before.seen))) (value_place p g i) ≡ new → value_state new ≡ Some v
-      → Extended before after own 1 × ((seen_by after).value g i ≡ v)
-  then-value own own_is new v word says = (
-    subst (λ own. Extended before after own 1) own_is step.grows,
-    ap (λ q. (tables_at q after.seen).value g i) (step.grows.shape ∙ shape)
-        ∙ ap (λ s. (tables_at p s).value g i) (step.grows.seen ∙ ap (λ own. own ++ (step.grows.others ++ before.seen)) own_is)
+-- A step on a slot's value word that is an event by a test of the word.
+module _
+    (p : Plan) (plan : IsPlan p) (lawful : LawfulWords) (begins : BeginningsAreLegal) (test : ℕ → Bool) (e : Event)
+    (before : SeenBy) (found : ℕ) (after : SeenBy) (g i : ℕ) (slot : IsSlot p g i) (shape : before.shape ≡ p)
+    (step : Stepped p (λ x. only (test x) e) (value_place p g i) before found after) where
+  -- what is seen of the value after the events that make this word
+  then-value :
+      (changed : Bool) → test found ≡ changed → (new : ℕ) (v : ValueState)
+      → slice_index (words_of p (only changed e ++ (step.grows.others ++ before.seen))) (value_place p g i) ≡ new
+      → value_state new ≡ Some v → Extended before after (only changed e) 1 × ((seen_by after).value g i ≡ v)
+  then-value changed is new v word says = (
+    subst (λ b. Extended before after (only b e) 1) is step.grows,
+    ap (λ q. (tables_at q after.seen).value g i) (step.grows.shape ∙ shape) ∙ ap (λ s. (tables_at p s).value g i)
+        (step.grows.seen ∙ ap (λ b. only b e ++ (step.grows.others ++ before.seen)) is)
         ∙ ap (λ x. unwrap_or (value_state x) Null) word ∙ ap (λ o. unwrap_or o Null) says,
   )
 
-  -- the step made no event, and the value is as it was
-  pub value-kept : events found ≡ [] → (v : ValueState) → value_state found ≡ Some v
+  -- where the test fails there is no event, and the value is as it was
+  pub value-kept :
+      test found ≡ false → (v : ValueState) → value_state found ≡ Some v
       → Extended before after [] 1 × ((seen_by after).value g i ≡ v)
-  value-kept none v says = then-value [] none found v step.word says
+  value-kept fails v says = then-value false fails found v step.word says
 
-  -- the step's event made a word of the one found
+  -- where it holds the event made a word of the one found
   pub value-made :
-      (places : PlacesAreDistinct) (e : Event) (f : ℕ → ℕ) (v : ValueState) → events found ≡ e ∷ []
-      → words_of p (e ∷ (step.grows.others ++ before.seen)) ≡ slice_set (words_of p (step.grows.others ++ before.seen))
-      (value_place p g i) (f (slice_index (words_of p (step.grows.others ++ before.seen)) (value_place p g i)))
+      test found ≡ true → PlacesAreDistinct → (f : ℕ → ℕ) (v : ValueState)
+      → let h = step.grows.others ++ before.seen in let place = value_place p g i in
+      words_of p (e ∷ h) ≡ slice_set (words_of p h) place (f (slice_index (words_of p h) place))
       → value_state (f found) ≡ Some v → Extended before after (e ∷ []) 1 × ((seen_by after).value g i ≡ v)
-  value-made places e f v own_is words says =
+  value-made holds places f v words says =
       let h = step.grows.others ++ before.seen in
       let place = value_place p g i in
-      let within : place < length (words_of p h) = subst (λ n. place < n) (sym (lawful p plan h met-legal).length)
+      let new = f (slice_index (words_of p h) place) in
+      let legal = met-legal p plan lawful begins (λ x. only (test x) e) before found after g i slot shape step in
+      let within : place < length (words_of p h) = subst (λ n. place < n) (sym (lawful p plan h legal).length)
       (value-within p places plan g i slot) in
-      then-value (e ∷ []) own_is (f found) v
-      (ap (λ w. slice_index w place) words ∙ get_or-set_same (words_of p h) place (f (slice_index (words_of p h) place)) 0 within
-      ∙ ap f step.word) says
-
--- which event a step made, by the test of the word that it found
-pub events-one : (test : Bool) (e : Event) → test ≡ true → only test e ≡ e ∷ []
-events-one test e holds = ap (λ b. only b e) holds
-
-pub events-none : (test : Bool) (e : Event) → test ≡ false → only test e ≡ []
-events-none test e fails = ap (λ b. only b e) fails
+      then-value true holds (f found) v
+      (ap (λ w. slice_index w place) words ∙ get_or-set_same (words_of p h) place new 0 within ∙ ap f step.word) says
 
 -- What priming a value tells.
-module _ (p : Plan) (plan : IsPlan p) (lawful : LawfulWords) (begins : BeginningsAreLegal) (before : SeenBy) (found : ℕ)
-    (after : SeenBy) (g i : ℕ) (slot : IsSlot p g i) (shape : before.shape ≡ p) (step : Stepped p (primes before.number g i)
-    (value_place p g i) before found after) (v : ValueState) (says : value_state found ≡ Some v) where
-  pub prime-won : PlacesAreDistinct → IsUnprimed v → Extended before after (Prime before.number g i ∷ []) 1 ×
-      ((seen_by after).value g i ≡ primed v)
+module _
+    (p : Plan) (plan : IsPlan p) (lawful : LawfulWords) (begins : BeginningsAreLegal) (codings : Codings) (before : SeenBy)
+    (found : ℕ) (after : SeenBy) (g i : ℕ) (slot : IsSlot p g i) (shape : before.shape ≡ p)
+    (step : Stepped p (primes before.number g i) (value_place p g i) before found after) (v : ValueState)
+    (says : value_state found ≡ Some v) where
+  pub prime-won :
+      PlacesAreDistinct → IsUnprimed v
+      → Extended before after (Prime before.number g i ∷ []) 1 × ((seen_by after).value g i ≡ primed v)
   prime-won places unprimed =
-      value-made p plan lawful begins (primes before.number g i) before found after g i slot shape step places
-      (Prime before.number g i) (λ x. bit_or x 1) (primed v)
-      (events-one (eqb (found % 2) 0) (Prime before.number g i) (eq-eqb (found % 2) 0 (ap (λ x. x % 2) (word-of found v says).0
-      ∙ unprimed-even v unprimed)))
-      refl (primed-says found v says)
+      value-made p plan lawful begins (λ x. eqb (x % 2) 0) (Prime before.number g i) before found after g i slot shape step
+      (eq-eqb (found % 2) 0 ((evens codings found v says).0 unprimed)) places (λ x. bit_or x 1) (primed v) refl
+      (primed-says codings found v says)
 
   pub prime-lost : (IsUnprimed v → ⊥) → Extended before after [] 1 × ((seen_by after).value g i ≡ v)
   prime-lost is_primed =
-      value-kept p plan lawful begins (primes before.number g i) before found after g i slot shape step
-      (events-none (eqb (found % 2) 0) (Prime before.number g i)
-      (ne_eqb (found % 2) 0 (λ even. is_primed (even-unprimed v (sym (ap (λ x. x % 2) (word-of found v says).0) ∙ even))))) v says
+      value-kept p plan lawful begins (λ x. eqb (x % 2) 0) (Prime before.number g i) before found after g i slot shape step
+      (ne_eqb (found % 2) 0 (λ even. is_primed ((evens codings found v says).1 even))) v says
 
 -- a finished or primed number that isn't primed is finished
 then-finished : (v : ValueState) (n : ℕ) → (v ≡ Primed n) ⊎ (v ≡ Finished n) → (v ≡ Primed n → ⊥) → v ≡ Finished n
@@ -353,18 +319,20 @@ then-finished v n held other =
     ]
 
 -- What finishing a number tells.
-module _ (p : Plan) (plan : IsPlan p) (lawful : LawfulWords) (begins : BeginningsAreLegal) (before : SeenBy) (found : ℕ)
-    (after : SeenBy) (g i n : ℕ) (slot : IsSlot p g i) (shape : before.shape ≡ p) (step : Stepped p (finishes before.number g i n)
-    (value_place p g i) before found after) (v : ValueState) (says : value_state found ≡ Some v) where
-  pub finish-won : PlacesAreDistinct → v ≡ Primed n → Extended before after (Finish before.number g i ∷ []) 1 ×
-      ((seen_by after).value g i ≡ Finished n)
+module _
+    (p : Plan) (plan : IsPlan p) (lawful : LawfulWords) (begins : BeginningsAreLegal) (codings : Codings) (before : SeenBy)
+    (found : ℕ) (after : SeenBy) (g i n : ℕ) (slot : IsSlot p g i) (shape : before.shape ≡ p)
+    (step : Stepped p (finishes before.number g i n) (value_place p g i) before found after) (v : ValueState)
+    (says : value_state found ≡ Some v) where
+  pub finish-won :
+      PlacesAreDistinct → v ≡ Primed n
+      → Extended before after (Finish before.number g i ∷ []) 1 × ((seen_by after).value g i ≡ Finished n)
   finish-won places is =
       let says_primed = says ∙ ap Some is in
-      value-made p plan lawful begins (finishes before.number g i n) before found after g i slot shape step places
-      (Finish before.number g i) (λ x. bit_or x 2) (Finished n)
-      (events-one (eqb found (4 * n + 9)) (Finish before.number g i) (eq-eqb found (4 * n + 9)
-      (word-of found (Primed n) says_primed).0))
-      refl (finished-says found n says_primed)
+      let word = (codings.word_of_state found (Primed n) says_primed).0 in
+      value-made p plan lawful begins (λ x. eqb x (value_word (Primed n))) (Finish before.number g i) before found after g i
+      slot shape step (eq-eqb found (value_word (Primed n)) word) places (λ x. bit_or x 2) (Finished n) refl
+      (finished-says codings found n says_primed)
 
   -- the number is still primed or finished
   still-held : SeenLasts → IsPrimedOrFinished (tables_at p before.seen) g i n → (v ≡ Primed n) ⊎ (v ≡ Finished n)
@@ -376,30 +344,31 @@ module _ (p : Plan) (plan : IsPlan p) (lawful : LawfulWords) (begins : Beginning
       subst (λ x. (x ≡ Primed n) ⊎ (x ≡ Finished n)) value
       ((lasts p plan step.grows.others before.seen legal).primed_or_finished g i n slot held)
 
-  pub finish-lost : SeenLasts → IsPrimedOrFinished (tables_at p before.seen) g i n → (v ≡ Primed n → ⊥)
+  pub finish-lost :
+      SeenLasts → IsPrimedOrFinished (tables_at p before.seen) g i n → (v ≡ Primed n → ⊥)
       → Extended before after [] 1 × ((seen_by after).value g i ≡ v) × (v ≡ Finished n)
   finish-lost lasts held other =
       let is = then-finished v n (still-held lasts held) other in
-      let word = (word-of found v says).0 ∙ ap value_word is in
-      let kept = value-kept p plan lawful begins (finishes before.number g i n) before found after g i slot shape step
-      (events-none (eqb found (4 * n + 9)) (Finish before.number g i) (ne_eqb found (4 * n + 9)
-      (λ same. omega (arith, same, word)))) v says in
+      let word = (codings.word_of_state found v says).0 ∙ ap value_word is in
+      let kept = value-kept p plan lawful begins (λ x. eqb x (value_word (Primed n))) (Finish before.number g i) before found
+      after g i slot shape step (ne_eqb found (value_word (Primed n)) (λ same. omega (arith, same, word))) v says in
       (kept.0, kept.1, is)
 
 -- What copying a number tells.
-module _ (p : Plan) (plan : IsPlan p) (lawful : LawfulWords) (begins : BeginningsAreLegal) (before : SeenBy) (found : ℕ)
-    (after : SeenBy) (g i k n : ℕ) (slot : IsSlot p g i) (shape : before.shape ≡ p) (step : Stepped p (copies before.number g i k n)
-    (value_place p g i) before found after) (v : ValueState) (says : value_state found ≡ Some v) where
-  pub copy-won : PlacesAreDistinct → (word : ℕ) → value_state word ≡ Some (Live n) → v ≡ Null
+module _
+    (p : Plan) (plan : IsPlan p) (lawful : LawfulWords) (begins : BeginningsAreLegal) (before : SeenBy) (found : ℕ)
+    (after : SeenBy) (g i k n : ℕ) (slot : IsSlot p g i) (shape : before.shape ≡ p)
+    (step : Stepped p (copies before.number g i k n) (value_place p g i) before found after) (v : ValueState)
+    (says : value_state found ≡ Some v) where
+  pub copy-won :
+      PlacesAreDistinct → Codings → (word : ℕ) → value_state word ≡ Some (Live n) → v ≡ Null
       → Extended before after (CopyIn before.number g i k n ∷ []) 1 × ((seen_by after).value g i ≡ Live n)
-  copy-won places word back is =
-      value-made p plan lawful begins (copies before.number g i k n) before found after g i slot shape step places
-      (CopyIn before.number g i k n) (λ x. value_word (Live n)) (Live n)
-      (events-one (eqb found 0) (CopyIn before.number g i k n) (eq-eqb found 0 ((word-of found v says).0 ∙ ap value_word is)))
-      refl (ap value_state (sym (word-of word (Live n) back).0) ∙ back)
+  copy-won places codings word back is =
+      value-made p plan lawful begins (λ x. eqb x 0) (CopyIn before.number g i k n) before found after g i slot shape step
+      (eq-eqb found 0 ((codings.word_of_state found v says).0 ∙ ap value_word is)) places (λ x. value_word (Live n)) (Live n)
+      refl (codings.state_of_word (Live n) (codings.word_of_state word (Live n) back).1)
 
   pub copy-lost : (v ≡ Null → ⊥) → Extended before after [] 1 × ((seen_by after).value g i ≡ v)
   copy-lost other =
-      value-kept p plan lawful begins (copies before.number g i k n) before found after g i slot shape step
-      (events-none (eqb found 0) (CopyIn before.number g i k n)
-      (ne_eqb found 0 (λ same. other (ap (λ o. unwrap_or o Null) (sym says) ∙ ap (λ x. unwrap_or (value_state x) Null) same)))) v says
+      value-kept p plan lawful begins (λ x. eqb x 0) (CopyIn before.number g i k n) before found after g i slot shape step
+      (ne_eqb found 0 (λ same. other (ap (λ o. unwrap_or o Null) (sym says ∙ ap value_state same)))) v says

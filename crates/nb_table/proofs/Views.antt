@@ -22,19 +22,28 @@ use Rattle.nb_table.specs.declared.view.View.{View}
 -- what a step of a seat on the chain's table asks
 abbrev pub IsAsked : TableId → Plan → seat.Inside → (p : Plan) → (ℕ → List Event) → ℕ → ℕ → ℕ → (ℕ → ℕ) → Type 0
 IsAsked table key s p events place a b f =
-    (s.seat.table_id ≡ table) × (place < table.words) × Allows (IsChained key) table.slots s.seat.id s.seat.me place f (Moves p events (step table.slots place a b none) s.seat.me)
+    (s.seat.table_id ≡ table) × (place < table.words) × Allows (IsChained key) table.slots s.seat.id s.seat.me place f
+    (Moves p events (step table.slots place a b none) s.seat.me)
 
 -- it may be made where its events can, whatever its operands are
-pub asked : (c : chain.Inside) (s : seat.Inside) (the_chain : ChainOf) (seeing : SeenBy) (p : Plan) (events : ℕ → List Event) (place a b : ℕ) (f : ℕ → ℕ) → chain_of c ≡ the_chain → seat_of s ≡ seeing → IsChain c → IsSeat s → seeing.chain ≡ the_chain.id → p ≡ the_chain.shape → place < word_count the_chain.shape → Can p events seeing.number seeing.seen place f → IsAsked c.table.shared.table_id c.table.shared.key s p events place a b f
+pub asked :
+    (c : chain.Inside) (s : seat.Inside) (the_chain : ChainOf) (seeing : SeenBy) (p : Plan) (events : ℕ → List Event)
+    (place a b : ℕ) (f : ℕ → ℕ)
+    → chain_of c ≡ the_chain → seat_of s ≡ seeing → IsChain c → IsSeat s → seeing.chain ≡ the_chain.id → p ≡ the_chain.shape
+    → place < word_count the_chain.shape → Can p events seeing.number seeing.seen place f
+    → IsAsked c.table.shared.table_id c.table.shared.key s p events place a b f
 asked c s the_chain seeing p events place a b f c_is s_is is_chain is_seat own shape within can =
     let same : p ≡ c.shape = shape ∙ sym (ap (λ v. v.shape) c_is) in
-    let within' : place < c.table.shared.table_id.words = subst (λ n. place < n) (sym (is_chain.words ∙ ap (λ v. word_count v.shape) c_is)) within in
+    let within' : place < c.table.shared.table_id.words
+    = subst (λ n. place < n) (sym (is_chain.words ∙ ap (λ v. word_count v.shape) c_is)) within in
     let can' = subst (λ v. Can p events v.number v.seen place f) (sym s_is) can in
     let slots = c.table.shared.table_id.slots in (
       ap (λ v. v.chain) s_is ∙ own ∙ sym (ap (λ v. v.id) c_is),
       within',
-      subst (λ q. Allows (IsChained q) slots s.seat.id s.seat.me place f (Moves p events (step slots place a b none) s.seat.me)) (same ∙ sym is_chain.key)
-          (allows-step p (subst IsPlan (sym same) is_chain.plan) events slots s.seat.id s.seat.me (part_of s.seat.me.0.parts) place a b f is_seat.one can'),
+      subst (λ q. Allows (IsChained q) slots s.seat.id s.seat.me place f (Moves p events (step slots place a b none) s.seat.me))
+          (same ∙ sym is_chain.key)
+          (allows-step p (subst IsPlan (sym same) is_chain.plan) events slots s.seat.id s.seat.me (part_of s.seat.me.0.parts)
+          place a b f is_seat.one can'),
     )
 
 -- the two cases, as contracts and as the table's steps write them
@@ -43,41 +52,56 @@ either-cases true x y = refl
 either-cases false x y = refl
 
 -- a compare-and-exchange by the words of a contract is one by the words of the table's step
-pub can-exchange : (p : Plan) (events : ℕ → List Event) (number : ℕ) (seen : List Event) (place old new : ℕ) → Can p events number seen place (λ found. cond (eqb found old) new found) → Can p events number seen place (λ found. either (eqb found old) new found)
-can-exchange p events number seen place old new can = subst (Can p events number seen place) (λ i found. either-cases (eqb found old) new found i) can
+pub can-exchange :
+    (p : Plan) (events : ℕ → List Event) (number : ℕ) (seen : List Event) (place old new : ℕ)
+    → Can p events number seen place (λ found. cond (eqb found old) new found)
+    → Can p events number seen place (λ found. either (eqb found old) new found)
+can-exchange p events number seen place old new can =
+    subst (Can p events number seen place) (λ i found. either-cases (eqb found old) new found i) can
 
 -- ---- a seat after a step
 
-module _ (p : Plan) (events : ℕ → List Event) (slots place a b found : ℕ) (s : seat.Inside) (after : Seat (Unit {0}) View) (before : SeenBy) (shape : Plan) (is_seat : IsSeat s) (s_is : seat_of s ≡ before) (shapes : (before.shape ≡ shape) × (p ≡ shape)) (moves : Moves p events (step slots place a b none) s.seat.me found after.me) where
+module _
+    (p : Plan) (events : ℕ → List Event) (slots place a b found : ℕ) (s : seat.Inside) (after : Seat (Unit {0}) View)
+    (before : SeenBy) (shape : Plan) (is_seat : IsSeat s) (s_is : seat_of s ≡ before)
+    (shapes : (before.shape ≡ shape) × (p ≡ shape))
+    (moves : Moves p events (step slots place a b none) s.seat.me found after.me) where
   -- the events are made by the seat's own plan
   plan : s.shape ≡ p
   plan = ap (λ v. v.shape) s_is ∙ shapes.0 ∙ sym shapes.1
 
   -- what it tells
   told : HasMoved p events place found (part_of s.seat.me.0.parts) (part_of after.me.0.parts)
-  told = subst (λ part. HasMoved p events place found (part_of s.seat.me.0.parts) part) (sym (ap (λ me. part_of me.0.parts) moves.is)) (moves.moves (part_of s.seat.me.0.parts) is_seat.one)
+  told =
+      subst (λ part. HasMoved p events place found (part_of s.seat.me.0.parts) part)
+      (sym (ap (λ me. part_of me.0.parts) moves.is)) (moves.moves (part_of s.seat.me.0.parts) is_seat.one)
 
   -- it is a seat as before
   pub stepped-is_seat : IsSeat (record { shape = s.shape; seat = after })
   stepped-is_seat = record {
     one = ap (λ me. me.0.parts) moves.is ∙ ap (λ me. part_of me.0.parts ∷ []) (sym moves.is);
     free = ap (λ me. me.1) moves.is ∙ is_seat.free;
-    legal = subst (λ q. IsLegal q (part_of after.me.0.parts).seen) (sym plan) (subst (λ part. IsLegal p part.seen) (sym told.is) told.legal);
+    legal =
+        subst (λ q. IsLegal q (part_of after.me.0.parts).seen) (sym plan)
+        (subst (λ part. IsLegal p part.seen) (sym told.is) told.legal);
   }
 
   -- and has seen more
-  pub stepped-seat : after.table_id ≡ s.seat.table_id → Stepped p events place before found (seat_of (record { shape = s.shape; seat = after }))
-  stepped-seat table = subst (λ v. Stepped p events place v found (seat_of (record { shape = s.shape; seat = after }))) s_is (record {
-    grows = record {
-      chain = table;
-      shape = refl;
-      number = ap (λ part. part.number) told.is;
-      others = told.others;
-      seen = ap (λ part. part.seen) told.is;
-      not_own = told.not_own;
-      mine = told.mine;
-      legal = stepped-is_seat.legal;
-      steps = ap (λ part. part.steps) told.is;
-    };
-    word = told.word;
-  })
+  pub stepped-seat :
+      after.table_id ≡ s.seat.table_id
+      → Stepped p events place before found (seat_of (record { shape = s.shape; seat = after }))
+  stepped-seat table =
+      subst (λ v. Stepped p events place v found (seat_of (record { shape = s.shape; seat = after }))) s_is (record {
+        grows = record {
+          chain = table;
+          shape = refl;
+          number = ap (λ part. part.number) told.is;
+          others = told.others;
+          seen = ap (λ part. part.seen) told.is;
+          not_own = told.not_own;
+          mine = told.mine;
+          legal = stepped-is_seat.legal;
+          steps = ap (λ part. part.steps) told.is;
+        };
+        word = told.word;
+      })

@@ -6,7 +6,7 @@ use Rattle.nb_core.specs.Plans.{Plan, IsPlan, PlacesAreDistinct, value_place}
 use Rattle.nb_core.specs.States.{value_state, value_word}
 use Rattle.nb_core.specs.Tables.{IsSettledBelow, IsSlot, IsUnprimed, tables_at, words_of}
 use Rattle.nb_core.specs.History.{IsCallInRange, IsExchange, MayWin, content_of, key_of_call}
-use Rattle.nb_core.specs.Laws.{BeginningsAreLegal, LawfulWords, SeenLasts, WinReplies}
+use Rattle.nb_core.specs.Laws.{BeginningsAreLegal, Codings, LawfulWords, SeenLasts, WinReplies}
 use Rattle.nb_core.specs.declared.calls.Call.{Call}
 use Rattle.nb_core.specs.declared.events.Event.{Event}
 use Rattle.nb_core.specs.declared.events.Event.TheVariants.{Won}
@@ -17,14 +17,15 @@ use Rattle.nb_table.specs.Chains.{Extended, SeenBy, seen_by}
 use Rattle.nb_table.specs.Events.{wins}
 use Rattle.nb_table.specs.Steps.{Can, Stepped}
 use Rattle.nb_table.proofs.Following.{if-follows, none-follows, one-follows}
-use Rattle.nb_table.proofs.Values.{events-none, events-one, value-kept, value-made, word-of}
+use Rattle.nb_table.proofs.Values.{value-kept, value-made}
 
 -- the event of a call that puts a value in place of another
 abbrev win : ℕ → ℕ → ℕ → ValueState → ValueState → Call → Event
 win number g i from to call = Won number g i from to call (record { before = content_of from; matched = true })
 
 -- the events by the words of two values are those by the values
-pub wins-of : (number g i old new : ℕ) (from to : ValueState) (call : Call) → value_state old ≡ Some from → value_state new ≡ Some to
+pub wins-of :
+    (number g i old new : ℕ) (from to : ValueState) (call : Call) → value_state old ≡ Some from → value_state new ≡ Some to
     → wins number g i (unwrap_or (value_state old) Null) (unwrap_or (value_state new) Null) call ≡ wins number g i from to call
 wins-of number g i old new from to call says_old says_new =
     ap (λ a. wins number g i (unwrap_or a Null) (unwrap_or (value_state new) Null) call) says_old
@@ -32,28 +33,28 @@ wins-of number g i old new from to call says_old says_new =
 
 -- A call may put in place of an unprimed value what it makes of it, in its key's slot, once the key is settled below.
 pub can-win :
-    (p : Plan) → SeenLasts → LawfulWords → WinReplies → (number : ℕ) (seen : List Event) (g i old new : ℕ) (from to : ValueState)
-    (call : Call) → IsSlot p g i
+    (p : Plan) → SeenLasts → LawfulWords → Codings → WinReplies → (number : ℕ) (seen : List Event) (g i old new : ℕ)
+    (from to : ValueState) (call : Call) → IsSlot p g i
     → value_state old ≡ Some from → value_state new ≡ Some to → IsCallInRange call
     → (tables_at p seen).key g i ≡ Claimed (key_of_call call) → IsUnprimed from
     → IsSettledBelow p (tables_at p seen) g (key_of_call call) → IsExchange call (key_of_call call) from to
     → Can p (wins number g i from to call) number seen (value_place p g i) (λ found. cond (eqb found old) new found)
-can-win p lasts lawful replies number seen g i old new from to call slot says_old says_new ranges claimed unprimed settled exchange
-    plan seated others not_own legal =
+can-win p lasts lawful codings replies number seen g i old new from to call slot says_old says_new ranges claimed unprimed
+    settled exchange plan seated others not_own legal =
     let h = others ++ seen in
     let place = value_place p g i in
     let found = slice_index (words_of p h) place in
-    let from_is = word-of old from says_old in
-    let to_is = word-of new to says_new in
+    let from_is = codings.word_of_state old from says_old in
+    let to_is = codings.word_of_state new to says_new in
     let still = lasts p plan others seen legal in
     let test = ap (λ x. eqb found x) from_is.0 in
     if-follows p (eqb found (value_word from)) (win number g i from to call) number place (cond (eqb found old) new found) h
     (λ same.
+    let stands = ap value_state (eqb-true found (value_word from) same) ∙ codings.state_of_word from from_is.1 in
     let may : MayWin p (tables_at p h) g i from to call = record {
       key = key_of_call call;
       claimed = still.claimed g i (key_of_call call) slot claimed;
-      stands = ap (λ x. unwrap_or (value_state x) Null) (eqb-true found (value_word from) same ∙ sym from_is.0)
-          ∙ ap (λ o. unwrap_or o Null) says_old;
+      stands = ap (λ o. unwrap_or o Null) stands;
       unprimed = unprimed;
       settled = still.settled g (key_of_call call) slot.0 (record { slot = i; in_table = slot.1; is = claimed }) settled;
       exchange = exchange;
@@ -64,23 +65,23 @@ can-win p lasts lawful replies number seen g i old new from to call slot says_ol
     (λ other. none-follows p number place (cond (eqb found old) new found) h legal (ap (λ b. cond b new found) (test ∙ other)))
 
 -- What putting a value in place of another tells.
-module _ (p : Plan) (plan : IsPlan p) (lawful : LawfulWords) (begins : BeginningsAreLegal) (before : SeenBy) (found : ℕ)
-    (after : SeenBy) (g i : ℕ) (from to : ValueState) (call : Call) (slot : IsSlot p g i) (shape : before.shape ≡ p)
-    (step : Stepped p (wins before.number g i from to call) (value_place p g i) before found after) (v : ValueState)
-    (says : value_state found ≡ Some v) where
-  pub win-won : PlacesAreDistinct → (new : ℕ) → value_state new ≡ Some to → v ≡ from
+module _
+    (p : Plan) (plan : IsPlan p) (lawful : LawfulWords) (begins : BeginningsAreLegal) (codings : Codings) (before : SeenBy)
+    (found : ℕ) (after : SeenBy) (g i : ℕ) (from to : ValueState) (call : Call) (slot : IsSlot p g i)
+    (shape : before.shape ≡ p) (step : Stepped p (wins before.number g i from to call) (value_place p g i) before found after)
+    (v : ValueState) (says : value_state found ≡ Some v) where
+  pub win-won :
+      PlacesAreDistinct → (new : ℕ) → value_state new ≡ Some to → v ≡ from
       → Extended before after (win before.number g i from to call ∷ []) 1 × ((seen_by after).value g i ≡ to)
   win-won places new back is =
-      value-made p plan lawful begins (wins before.number g i from to call) before found after g i slot shape step places
-      (win before.number g i from to call) (λ x. value_word to) to
-      (events-one (eqb found (value_word from)) (win before.number g i from to call)
-      (eq-eqb found (value_word from) ((word-of found v says).0 ∙ ap value_word is)))
-      refl (ap value_state (sym (word-of new to back).0) ∙ back)
+      value-made p plan lawful begins (λ x. eqb x (value_word from)) (win before.number g i from to call) before found after
+      g i slot shape step (eq-eqb found (value_word from) ((codings.word_of_state found v says).0 ∙ ap value_word is)) places
+      (λ x. value_word to) to refl (codings.state_of_word to (codings.word_of_state new to back).1)
 
-  pub win-lost : (old : ℕ) → value_state old ≡ Some from → (v ≡ from → ⊥)
-      → Extended before after [] 1 × ((seen_by after).value g i ≡ v)
+  pub win-lost :
+      (old : ℕ) → value_state old ≡ Some from → (v ≡ from → ⊥) → Extended before after [] 1 × ((seen_by after).value g i ≡ v)
   win-lost old back other =
-      value-kept p plan lawful begins (wins before.number g i from to call) before found after g i slot shape step
-      (events-none (eqb found (value_word from)) (win before.number g i from to call)
-      (ne_eqb found (value_word from) (λ same. other (ap (λ o. unwrap_or o Null) (sym says)
-      ∙ ap (λ x. unwrap_or (value_state x) Null) (same ∙ sym (word-of old from back).0) ∙ ap (λ o. unwrap_or o Null) back)))) v says
+      let says_from = codings.state_of_word from (codings.word_of_state old from back).1 in
+      value-kept p plan lawful begins (λ x. eqb x (value_word from)) (win before.number g i from to call) before found after
+      g i slot shape step (ne_eqb found (value_word from)
+      (λ same. other (ap (λ o. unwrap_or o Null) (sym says ∙ ap value_state same ∙ says_from)))) v says

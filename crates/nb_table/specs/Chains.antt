@@ -20,7 +20,7 @@ pub record SeenBy : Type 0 where
   pub seen : List Event
   pub steps : ℕ
 
--- the seat is the chain's
+-- the seat is one of this chain's
 abbrev pub IsOwn : ChainOf → SeenBy → Type 0
 IsOwn chain seat = (seat.chain ≡ chain.id) × (seat.shape ≡ chain.shape)
 
@@ -28,17 +28,21 @@ IsOwn chain seat = (seat.chain ≡ chain.id) × (seat.shape ≡ chain.shape)
 abbrev pub seen_by : SeenBy → Tables
 seen_by seat = tables_at seat.shape seat.seen
 
--- what they said before the newest event that it has seen
+-- what they said just before the newest event that it has seen
 abbrev pub seen_before : SeenBy → Tables
 seen_before seat = tables_at seat.shape (drop 1 seat.seen)
+
+-- a chain's seat that has seen nothing
+abbrev pub new_seat : TableId → Plan → ℕ → SeenBy
+new_seat id shape number = record { chain = id; shape = shape; number = number; seen = []; steps = 0 }
 
 -- so many seats of a chain from a number on, which have seen nothing
 abbrev pub seats_of : TableId → Plan → ℕ → ℕ → List SeenBy
 seats_of id shape number zero = []
-seats_of id shape number (suc count) = record { chain = id; shape = shape; number = number; seen = []; steps = 0 } ∷ seats_of id shape (suc number) count
+seats_of id shape number (suc count) = new_seat id shape number ∷ seats_of id shape (suc number) count
 
--- After a step the seat has seen more, all of it a legal history: events of others, and then these of its own. It made so
--- many steps.
+-- After a step the seat has seen more: events of other seats, and then these of its own, in this order. All that it has seen is a legal
+-- history, and it made so many steps.
 pub record Extended (before after : SeenBy) (own : List Event) (count : ℕ) : Type 0 where
   pub chain : after.chain ≡ before.chain
   pub shape : after.shape ≡ before.shape

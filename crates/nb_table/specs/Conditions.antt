@@ -6,18 +6,18 @@ use Rattle.nb_core.specs.History.{HasValue}
 use Rattle.nb_core.specs.Laws.{IsOnPath, IsPassed, IsPrimedOrFinished}
 use Rattle.nb_core.specs.declared.states.KeyState.TheVariants.{Claimed}
 
--- The slot is on the key's path, behind slots of other keys; and the key has a slot in the table below, or that one, if
--- there is one, is complete and the slot is within the limit.
+-- The slot is on the key's path, behind slots of other keys. Also, either the key has a slot in the table below; or the
+-- table below, if there is one, is complete, and the slot lies within the limit: its distance on the path is less.
 pub record HasWay (p : Plan) (t : Tables) (g i k : ℕ) : Type 0 where
   pub path : IsOnPath p t g i k
   pub reason : HasSlotBelow p t g k ⊎ (IsReady p t g × (path.distance < limit_of p g))
 
--- the key's slot in the table below holds this number, primed or finished
+-- The key's slot in the table below holds this number, primed or finished. The first table has none below it.
 abbrev pub HasSource : Plan → Tables → ℕ → ℕ → ℕ → Type 0
 HasSource p t zero k n = ⊥
 HasSource p t (suc g) k n = (i : ℕ) × (i < size_of p g) × (t.key g i ≡ Claimed k) × IsPrimedOrFinished t g i n
 
--- the slot holds this number, primed or finished, and its key has a value in the next table
+-- the slot holds this number, primed or finished, and in the next table its key has a slot whose value isn't null
 pub record IsCopied (p : Plan) (t : Tables) (g i n : ℕ) : Type 0 where
   pub key : ℕ
   pub claimed : t.key g i ≡ Claimed key

@@ -1,5 +1,6 @@
--- The event of each step, by the word that it finds.
-use Rattle.std.specs.Prelude.{ℕ, suc, ◌+◌, ◌-◌, ◌*◌, ◌%◌, ◌==◌, ◌&&◌, nat_le, Bool, true, not, if◌then◌else◌, List, [], ◌∷◌, Option, Some, None}
+-- The event of each step, by the word that it finds: a load is one only as the read of a call, any other step only where it
+-- changes its word.
+use Rattle.std.specs.Prelude.{ℕ, suc, ◌-◌, ◌%◌, ◌==◌, ◌&&◌, nat_le, Bool, true, not, if◌then◌else◌, List, [], ◌∷◌, Option, Some, None}
 use Rattle.nb_core.specs.Calls.{leaves_alone}
 use Rattle.nb_core.specs.History.{content_of, key_of_call}
 use Rattle.nb_core.specs.Laws.{reply_at}
@@ -14,49 +15,66 @@ use Rattle.nb_core.specs.declared.states.KeyState.TheVariants.{Empty, Dead, Clai
 use Rattle.nb_core.specs.declared.states.ValueState.{ValueState}
 use Rattle.nb_core.specs.declared.states.ValueState.TheVariants.{Null, Tombstone, Live, PrimedNull, PrimedTombstone, Primed, Finished}
 
--- the event, if the step changed its word
+-- the event, if this holds
 abbrev pub only : Bool → Event → List Event
-only changed e = if changed then e ∷ [] else []
+only holds e = if holds then e ∷ [] else []
 
+-- ---- steps on keys
+
+-- a key may come only to an empty slot
 abbrev pub claims : (number g i k : ℕ) → ℕ → List Event
 claims number g i k found = only (found == 0) (Claim number g i k)
 
+-- and only an empty slot is closed to keys
 abbrev pub kills : (number g i : ℕ) → ℕ → List Event
 kills number g i found = only (found == 0) (Kill number g i)
 
+-- ---- steps on values
+
+-- a call wins its exchange where it finds the value that it replaces, and replies the content of that
 abbrev pub wins : (number g i : ℕ) (from to : ValueState) (call : Call) → ℕ → List Event
 wins number g i from to call found =
     only (found == value_word from) (Won number g i from to call (record { before = content_of from; matched = true }))
 
+-- a number is copied only where the value is null
 abbrev pub copies : (number g i k n : ℕ) → ℕ → List Event
 copies number g i k n found = only (found == 0) (CopyIn number g i k n)
 
+-- a value is primed where its word is even: then it isn't primed yet
 abbrev pub primes : (number g i : ℕ) → ℕ → List Event
 primes number g i found = only (found % 2 == 0) (Prime number g i)
 
+-- a number is finished where it is still primed
 abbrev pub finishes : (number g i n : ℕ) → ℕ → List Event
-finishes number g i n found = only (found == 4 * n + 9) (Finish number g i)
+finishes number g i n found = only (found == value_word (Primed n)) (Finish number g i)
 
+-- ---- steps on headers
+
+-- a table is installed only where there is no next one
 abbrev pub installs : (number g k : ℕ) → ℕ → List Event
 installs number g k found = only (found == 0) (Install number g k)
 
+-- each fetch-add of a take word or of a done word is an event
 abbrev pub takes : (number g : ℕ) → ℕ → List Event
 takes number g found = Take number g ∷ []
 
 abbrev pub counts : (number g c : ℕ) → ℕ → List Event
 counts number g c found = Count number g c ∷ []
 
+-- the top word is raised past the table, if it isn't higher already
 abbrev pub promotes : (number g : ℕ) → ℕ → List Event
 promotes number g found = only (nat_le found g) (Promote number g)
 
 -- ---- loads
 
--- the call's read, where something was shown of its key which the call leaves as it is
+-- What a load shows of a key is `Some` of what the map has at it, a number or none; or `None`, where it shows nothing.
+
+-- the call's read, where what was shown of its key is something that the call leaves as it is
 abbrev pub read : ℕ → Call → Option (Option ℕ) → List Event
 read number call None = []
 read number call (Some shown) = only (leaves_alone call shown) (Read number call (reply_at call shown))
 
--- the read of a load's call, if it has one, by what the load shows of a key
+-- the read of a load's call, if the load has one, by what the load shows of each key
 abbrev pub reads : ℕ → Option Call → (ℕ → Option (Option ℕ)) → List Event
 reads number None shown = []
 reads number (Some call) shown = read number call (shown (key_of_call call))
@@ -65,14 +83,14 @@ reads number (Some call) shown = read number call (shown (key_of_call call))
 abbrev pub is_last_slot : Plan → (g i k : ℕ) → Bool
 is_last_slot p g i k = suc g == generations_of p && path_slot p g k (size_of p g - 1) == i
 
--- What a key word shows of a key whose path leads to the slot: none where the slot is empty, and where it is the last one
--- and another key's.
+-- What a key word shows of a key whose path leads to the slot: that the map doesn't have the key, where the slot is empty,
+-- or is another key's and the last one of the path in the last table.
 abbrev pub shown_by_key : Plan → (g i : ℕ) → KeyState → ℕ → Option (Option ℕ)
 shown_by_key p g i Empty k = Some None
 shown_by_key p g i Dead k = None
 shown_by_key p g i (Claimed j) k = if not (j == k) && is_last_slot p g i k then Some None else None
 
--- what the value in a key's slot shows of the key, as long as it isn't primed
+-- what the value in a key's slot shows of the key: the number in it, or that there is none; once it is primed, nothing
 abbrev pub shown_by_value : ValueState → Option (Option ℕ)
 shown_by_value Null = Some None
 shown_by_value Tombstone = Some None
@@ -82,6 +100,6 @@ shown_by_value PrimedTombstone = None
 shown_by_value (Primed n) = None
 shown_by_value (Finished n) = None
 
--- what a next word shows of a key whose whole path is other keys': none where there is no next table
+-- what a next word shows of a key whose whole path is other keys': where there is no next table, that the map doesn't have it
 abbrev pub shown_by_next : Bool → Option (Option ℕ)
 shown_by_next installed = if installed then None else Some None

@@ -7,6 +7,7 @@ use Rattle.nb_table.specs.declared.chain.Chain.TheInside as chain
 use Rattle.nb_table.specs.declared.chain.ChainSeat.TheInside as seat
 use Rattle.nb_table.specs.declared.view.Part.{Part}
 
+-- the chain, as contracts see it
 abbrev pub chain_of : chain.Inside → ChainOf
 chain_of c = record { id = c.table.shared.table_id; shape = c.shape }
 
@@ -17,13 +18,16 @@ pub record IsChain (c : chain.Inside) : Type 0 where
   pub slots : c.table.shared.table_id.slots ≡ 0
   pub plan : IsPlan c.shape
 
--- the one part of a seat
+-- the one part of a seat's token, where it has one
 abbrev pub part_of : List Part → Part
 part_of [] = record { number = 0; seen = []; steps = 0 }
 part_of (part ∷ parts) = part
 
+-- the seat, as contracts see it
 abbrev pub seat_of : seat.Inside → SeenBy
-seat_of c = let part = part_of c.seat.me.0.parts in record { chain = c.seat.table_id; shape = c.shape; number = part.number; seen = part.seen; steps = part.steps }
+seat_of c =
+    let part = part_of c.seat.me.0.parts in
+    record { chain = c.seat.table_id; shape = c.shape; number = part.number; seen = part.seen; steps = part.steps }
 
 -- the token knows one seat, which has seen a legal history
 pub record IsSeat (c : seat.Inside) : Type 0 where

@@ -1,4 +1,4 @@
--- What the words of a chain stand for.
+-- What the tokens of a chain's table know, and the rule that its words keep.
 use Rattle.std.specs.Prelude.{◌≡◌, ◌≢◌, ℕ, zero, suc, ◌+◌, ◌<◌, ◌==◌, if◌then◌else◌, List, [], ◌∷◌, ◌++◌, length, map, take, drop, All, slice_index}
 use Rattle.atomic_table.specs.Table.{State, Me, Step}
 use Rattle.nb_core.specs.Plans.{Plan}
@@ -19,28 +19,30 @@ pub record Fits (history : List Event) (part : Part) : Type 0 where
   pub is : history ≡ later ++ part.seen
   pub others : All (λ e. seat_of_event e ≢ part.number) later
 
--- the parts of all tokens
+-- the parts of all tokens, one for each seat
 abbrev pub all_parts : List View → List Part
 all_parts [] = []
 all_parts (v ∷ views) = v.parts ++ all_parts views
 
--- how often a seat's number is among these parts
+-- how many of these parts have this number
 abbrev pub times_among : ℕ → List Part → ℕ
 times_among n [] = 0
 times_among n (part ∷ parts) = (if part.number == n then 1 else 0) + times_among n parts
 
--- seats that have seen nothing, from a number on
+-- the parts of so many seats from a number on, which have seen nothing
 abbrev pub fresh : ℕ → ℕ → List Part
 fresh number zero = []
 fresh number (suc count) = record { number = number; seen = []; steps = 0 } ∷ fresh (suc number) count
 
+-- the first token knows all seats
 abbrev pub first_view : ℕ → View
 first_view seats = record { parts = fresh 0 seats; told = [] }
 
--- the first part alone, and all others
+-- the first part alone
 abbrev pub first_part : View → View
 first_part v = record { parts = take 1 v.parts; told = [] }
 
+-- all other parts, with what the token was told of
 abbrev pub other_parts : View → View
 other_parts v = record { parts = drop 1 v.parts; told = v.told }
 
@@ -83,13 +85,15 @@ pub record HasMoved (p : Plan) (events : ℕ → List Event) (place found : ℕ)
   pub word : slice_index (words_of p (others ++ part.seen)) place ≡ found
   pub is : part' ≡ moved part others (events found)
 
--- a step of a token that knows one seat
-pub record Moves (p : Plan) (events : ℕ → List Event) (step : Step (Unit {0})) (me : Me (Unit {0}) View) (found : ℕ) (me' : Me (Unit {0}) View) : Type 0 where
+-- what a step by a token that knows one seat makes of what it knows
+pub record Moves
+    (p : Plan) (events : ℕ → List Event) (step : Step (Unit {0})) (me : Me (Unit {0}) View) (found : ℕ)
+    (me' : Me (Unit {0}) View) : Type 0 where
   pub after : Part
   pub is : me' ≡ (record { parts = after ∷ []; told = me.0.told }, me.1)
   pub moves : (part : Part) → me.0.parts ≡ part ∷ [] → HasMoved p events step.word found part after
 
--- a load of a token that knows one seat: the seat has seen then all that the token was told of
+-- what a load by a token that knows one seat makes of it: the seat has then seen all that the token was told of
 pub record HasHeard (p : Plan) (place : ℕ) (me : Me (Unit {0}) View) (found : ℕ) (me' : Me (Unit {0}) View) : Type 0 where
   pub after : Part
   pub is : me' ≡ (record { parts = after ∷ []; told = [] }, me.1)

@@ -47,12 +47,16 @@ impl Chain {
         requires unprimed { IsUnprimed from }
         requires settled { IsSettledBelow self.now.shape (seen_by seat.old) g (key_of_call call) }
         requires exchange { IsExchange call (key_of_call call) from to }
-        ensures won { result ≡ from → Extended seat.old seat.new (event.Won seat.old.number g i from to call (record { before = content_of from; matched = true }) ∷ []) 1 × ((seen_by seat.new).value g i ≡ to) }
+        ensures won { result ≡ from
+            → Extended seat.old seat.new
+            (event.Won seat.old.number g i from to call (record { before = content_of from; matched = true }) ∷ []) 1
+            × ((seen_by seat.new).value g i ≡ to) }
         ensures lost { result ≢ from → Extended seat.old seat.new [] 1 × ((seen_by seat.new).value g i ≡ result) }
     {
         laws::seen_lasts();
         laws::beginnings_are_legal();
         laws::lawful_words();
+        laws::codings();
         laws::places_are_distinct();
         laws::win_replies();
         known(&call);

@@ -20,12 +20,15 @@ impl Chain {
         requires slot { IsSlot self.now.shape g i }
         requires growing { IsInstalled (seen_by seat.old) (suc g) }
         requires claimed { (k : ℕ) × ((seen_by seat.old).key g i ≡ key_is.Claimed k) }
-        ensures won { IsUnprimed result → Extended seat.old seat.new (event.Prime seat.old.number g i ∷ []) 1 × ((seen_by seat.new).value g i ≡ primed result) }
+        ensures won { IsUnprimed result
+            → Extended seat.old seat.new (event.Prime seat.old.number g i ∷ []) 1
+            × ((seen_by seat.new).value g i ≡ primed result) }
         ensures lost { (IsUnprimed result → ⊥) → Extended seat.old seat.new [] 1 × ((seen_by seat.new).value g i ≡ result) }
     {
         laws::seen_lasts();
         laws::beginnings_are_legal();
         laws::lawful_words();
+        laws::codings();
         laws::places_are_distinct();
         let place = self.shape.value_place(g, i);
         let spot = Spot {
@@ -51,12 +54,15 @@ impl Chain {
         requires slot { IsSlot self.now.shape g i }
         requires claimed { (seen_by seat.old).key g i ≡ key_is.Claimed key }
         requires source { HasSource self.now.shape (seen_by seat.old) g key number }
-        ensures won { result ≡ value_is.Null → Extended seat.old seat.new (event.CopyIn seat.old.number g i key number ∷ []) 1 × ((seen_by seat.new).value g i ≡ value_is.Live number) }
+        ensures won { result ≡ value_is.Null
+            → Extended seat.old seat.new (event.CopyIn seat.old.number g i key number ∷ []) 1
+            × ((seen_by seat.new).value g i ≡ value_is.Live number) }
         ensures lost { result ≢ value_is.Null → Extended seat.old seat.new [] 1 × ((seen_by seat.new).value g i ≡ result) }
     {
         laws::seen_lasts();
         laws::beginnings_are_legal();
         laws::lawful_words();
+        laws::codings();
         laws::places_are_distinct();
         laws::moved();
         laws::one_slot();
@@ -77,12 +83,16 @@ impl Chain {
         requires own { IsOwn self.now seat.old }
         requires slot { IsSlot self.now.shape g i }
         requires copied { IsCopied self.now.shape (seen_by seat.old) g i number }
-        ensures won { result ≡ value_is.Primed number → Extended seat.old seat.new (event.Finish seat.old.number g i ∷ []) 1 × ((seen_by seat.new).value g i ≡ value_is.Finished number) }
-        ensures lost { result ≢ value_is.Primed number → Extended seat.old seat.new [] 1 × ((seen_by seat.new).value g i ≡ result) × (result ≡ value_is.Finished number) }
+        ensures won { result ≡ value_is.Primed number
+            → Extended seat.old seat.new (event.Finish seat.old.number g i ∷ []) 1
+            × ((seen_by seat.new).value g i ≡ value_is.Finished number) }
+        ensures lost { result ≢ value_is.Primed number
+            → Extended seat.old seat.new [] 1 × ((seen_by seat.new).value g i ≡ result) × (result ≡ value_is.Finished number) }
     {
         laws::seen_lasts();
         laws::beginnings_are_legal();
         laws::lawful_words();
+        laws::codings();
         laws::places_are_distinct();
         laws::linked();
         let place = self.shape.value_place(g, i);

@@ -36,7 +36,8 @@ impl Chain {
         requires own { IsOwn self.now seat.old }
         requires table { g < generations_of self.now.shape }
         requires some { 1 ≤ slots }
-        requires turned { counted_by seat.old.seen seat.old.number g + slots ≤ turned_by self.now.shape seat.old.seen seat.old.number g }
+        requires turned { counted_by seat.old.seen seat.old.number g + slots
+            ≤ turned_by self.now.shape seat.old.seen seat.old.number g }
         ensures grows { Extended seat.old seat.new (event.Count seat.old.number g slots ∷ []) 1 }
         ensures found { (seen_by seat.new).counted g ≡ result + slots }
     {
@@ -53,7 +54,9 @@ impl Chain {
         requires own { IsOwn self.now seat.old }
         requires table { g < generations_of self.now.shape }
         requires complete { IsComplete self.now.shape (seen_by seat.old) g }
-        ensures raised { result ≤ g → Extended seat.old seat.new (event.Promote seat.old.number g ∷ []) 1 × ((seen_before seat.new).top ≡ result) × ((seen_by seat.new).top ≡ suc g) }
+        ensures raised { result ≤ g
+            → Extended seat.old seat.new (event.Promote seat.old.number g ∷ []) 1
+            × ((seen_before seat.new).top ≡ result) × ((seen_by seat.new).top ≡ suc g) }
         ensures was_higher { g < result → Extended seat.old seat.new [] 1 × ((seen_by seat.new).top ≡ result) }
     {
         laws::seen_lasts();
@@ -97,7 +100,9 @@ impl Chain {
         requires own { IsOwn self.now seat.old }
         requires slot { IsSlot self.now.shape g i }
         requires growing { IsInstalled (seen_by seat.old) (suc g) }
-        ensures won { result ≡ key_is.Empty → Extended seat.old seat.new (event.Kill seat.old.number g i ∷ []) 1 × ((seen_by seat.new).key g i ≡ key_is.Dead) }
+        ensures won { result ≡ key_is.Empty
+            → Extended seat.old seat.new (event.Kill seat.old.number g i ∷ []) 1
+            × ((seen_by seat.new).key g i ≡ key_is.Dead) }
         ensures lost { result ≢ key_is.Empty → Extended seat.old seat.new [] 1 × ((seen_by seat.new).key g i ≡ result) }
     {
         laws::seen_lasts();
@@ -120,7 +125,9 @@ impl Chain {
         requires slot { IsSlot self.now.shape g i }
         requires installed { IsInstalled (seen_by seat.old) g }
         requires way { HasWay self.now.shape (seen_by seat.old) g i key }
-        ensures won { result ≡ key_is.Empty → Extended seat.old seat.new (event.Claim seat.old.number g i key ∷ []) 1 × ((seen_by seat.new).key g i ≡ key_is.Claimed key) }
+        ensures won { result ≡ key_is.Empty
+            → Extended seat.old seat.new (event.Claim seat.old.number g i key ∷ []) 1
+            × ((seen_by seat.new).key g i ≡ key_is.Claimed key) }
         ensures lost { result ≢ key_is.Empty → Extended seat.old seat.new [] 1 × ((seen_by seat.new).key g i ≡ result) }
     {
         laws::seen_lasts();

@@ -16,7 +16,8 @@ exchanges-requires-clause-within c =
     let p = c.args.self.now.shape in
     let plan = subst IsPlan (ap (λ v. v.shape) c.self.view_is) c.self.invariant.plan in
     let place = c.value_place-place.ensures ∙ ap (λ v. value_place v.shape c.args.g c.args.i) c.self.view_is in
-    subst (λ x. x < word_count p) (sym place) (value-within p c.places_are_distinct.ensures plan c.args.g c.args.i c.requires.slot)
+    subst (λ x. x < word_count p) (sym place)
+    (value-within p c.places_are_distinct.ensures plan c.args.g c.args.i c.requires.slot)
 
 pub exchanges-requires-clause-can : goal.exchanges-requires-clause-can
 exchanges-requires-clause-can c =
@@ -25,8 +26,8 @@ exchanges-requires-clause-can c =
     let place = c.value_place-place.ensures ∙ ap (λ v. value_place v.shape c.args.g c.args.i) c.self.view_is in
     subst (λ x. Can p (copies seat.number c.args.g c.args.i c.args.key c.args.number) seat.number seat.seen x (λ found. cond
     (eqb found 0) c.encode_value-word.result found)) (sym place)
-    (can-copy p c.seen_lasts.ensures c.lawful_words.ensures c.moved.ensures c.one_slot.ensures seat.number seat.seen c.args.g
-    c.args.i c.args.key c.args.number
+    (can-copy c.codings.ensures p c.seen_lasts.ensures c.lawful_words.ensures c.moved.ensures c.one_slot.ensures seat.number
+    seat.seen c.args.g c.args.i c.args.key c.args.number
     c.encode_value-word.result c.requires.slot c.encode_value-word.ensures.back
     (subst (λ q. (tables_at q seat.seen).key c.args.g c.args.i ≡ Claimed c.args.key) c.requires.own.1 c.requires.claimed)
     (subst (λ q. HasSource p (tables_at q seat.seen) c.args.g c.args.key c.args.number) c.requires.own.1 c.requires.source))
@@ -53,8 +54,8 @@ returns-clause-won c =
     c.exchanges.ensures in
     copy-won p plan c.lawful_words.ensures c.beginnings_are_legal.ensures c.args.seat.now c.exchanges.result
     c.exchanges.new.seat c.args.g c.args.i c.args.key c.args.number c.requires.slot c.requires.own.1 step
-    c.unwrap.result (sym c.decode_value.ensures.state ∙ c.unwrap.ensures) c.places_are_distinct.ensures c.encode_value-word.result
-    c.encode_value-word.ensures.back
+    c.unwrap.result (sym c.decode_value.ensures.state ∙ c.unwrap.ensures) c.places_are_distinct.ensures c.codings.ensures
+    c.encode_value-word.result c.encode_value-word.ensures.back
 
 pub returns-clause-lost : goal.returns-clause-lost
 returns-clause-lost c =

@@ -13,8 +13,8 @@ adds-requires-clause-can c =
 pub returns-clause-found : goal.returns-clause-found
 returns-clause-found c =
     let shape = ap (λ v. v.shape) c.self.view_is in
-    counted c.args.self.now.shape c.lawful_words.ensures c.places_are_distinct.ensures (subst IsPlan shape c.self.invariant.plan)
-    c.args.g _ _ c.args.seat.now c.adds.new.seat c.requires.table c.requires.own.1
+    counted c.args.self.now.shape c.lawful_words.ensures c.places_are_distinct.ensures
+    (subst IsPlan shape c.self.invariant.plan) c.args.g _ _ c.args.seat.now c.adds.new.seat c.requires.table c.requires.own.1
     c.counted.ensures c.args.slots
     (c.header_place-place.ensures ∙ ap (λ p. header_place p c.args.g 2) shape) c.adds.ensures
 

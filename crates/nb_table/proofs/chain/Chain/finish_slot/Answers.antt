@@ -16,7 +16,8 @@ ors-requires-clause-within c =
     let p = c.args.self.now.shape in
     let plan = subst IsPlan (ap (λ v. v.shape) c.self.view_is) c.self.invariant.plan in
     let place = c.value_place-place.ensures ∙ ap (λ v. value_place v.shape c.args.g c.args.i) c.self.view_is in
-    subst (λ x. x < word_count p) (sym place) (value-within p c.places_are_distinct.ensures plan c.args.g c.args.i c.requires.slot)
+    subst (λ x. x < word_count p) (sym place)
+    (value-within p c.places_are_distinct.ensures plan c.args.g c.args.i c.requires.slot)
 
 pub ors-requires-clause-can : goal.ors-requires-clause-can
 ors-requires-clause-can c =
@@ -25,9 +26,9 @@ ors-requires-clause-can c =
     let place = c.value_place-place.ensures ∙ ap (λ v. value_place v.shape c.args.g c.args.i) c.self.view_is in
     subst (λ x. Can p (finishes seat.number c.args.g c.args.i c.args.number) seat.number seat.seen x (λ found. bit_or found 2))
     (sym place)
-    (can-finish p c.seen_lasts.ensures c.lawful_words.ensures c.linked.ensures seat.number seat.seen c.args.g c.args.i c.args.number
-    c.requires.slot (subst (λ q. IsCopied p (tables_at q seat.seen) c.args.g c.args.i c.args.number) c.requires.own.1
-    c.requires.copied))
+    (can-finish c.codings.ensures p c.seen_lasts.ensures c.lawful_words.ensures c.linked.ensures seat.number seat.seen c.args.g
+    c.args.i c.args.number c.requires.slot
+    (subst (λ q. IsCopied p (tables_at q seat.seen) c.args.g c.args.i c.args.number) c.requires.own.1 c.requires.copied))
 
 pub unwrap-requires : goal.unwrap-requires
 unwrap-requires c =
@@ -47,8 +48,8 @@ returns-clause-won c =
     let events = finishes c.args.seat.now.number c.args.g c.args.i c.args.number in
     let place = c.value_place-place.ensures ∙ ap (λ v. value_place v.shape c.args.g c.args.i) c.self.view_is in
     let step = subst (λ x. Stepped p events x c.args.seat.now c.ors.result c.ors.new.seat) place c.ors.ensures in
-    finish-won p plan c.lawful_words.ensures c.beginnings_are_legal.ensures c.args.seat.now c.ors.result c.ors.new.seat c.args.g
-    c.args.i c.args.number c.requires.slot c.requires.own.1 step
+    finish-won p plan c.lawful_words.ensures c.beginnings_are_legal.ensures c.codings.ensures c.args.seat.now c.ors.result
+    c.ors.new.seat c.args.g c.args.i c.args.number c.requires.slot c.requires.own.1 step
     c.unwrap.result (sym c.decode_value.ensures.state ∙ c.unwrap.ensures) c.places_are_distinct.ensures
 
 pub returns-clause-lost : goal.returns-clause-lost
@@ -58,8 +59,8 @@ returns-clause-lost c =
     let events = finishes c.args.seat.now.number c.args.g c.args.i c.args.number in
     let place = c.value_place-place.ensures ∙ ap (λ v. value_place v.shape c.args.g c.args.i) c.self.view_is in
     let step = subst (λ x. Stepped p events x c.args.seat.now c.ors.result c.ors.new.seat) place c.ors.ensures in
-    finish-lost p plan c.lawful_words.ensures c.beginnings_are_legal.ensures c.args.seat.now c.ors.result c.ors.new.seat c.args.g
-    c.args.i c.args.number c.requires.slot c.requires.own.1 step
+    finish-lost p plan c.lawful_words.ensures c.beginnings_are_legal.ensures c.codings.ensures c.args.seat.now c.ors.result
+    c.ors.new.seat c.args.g c.args.i c.args.number c.requires.slot c.requires.own.1 step
     c.unwrap.result (sym c.decode_value.ensures.state ∙ c.unwrap.ensures) c.seen_lasts.ensures
     (subst (λ q. IsPrimedOrFinished (tables_at q c.args.seat.now.seen) c.args.g c.args.i c.args.number) c.requires.own.1
     c.requires.copied.held)

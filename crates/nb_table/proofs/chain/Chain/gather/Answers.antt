@@ -9,7 +9,8 @@ use Rattle.nb_table.proofs.chain.Chain.gather.Goals as goal
 pub loop-other-init : goal.loop-other-init
 loop-other-init c =
     let items = c.pop.ensures.items ∙ ap (λ o. c.pop.new.self.items ++ option_to_list o) c.unwrap-last.ensures in (
-      gathered-first c.args.self.now.id c.last.inside _ _ _ c.last.invariant c.last.view_is items (own-last _ _ _ _ items c.requires.own),
+      gathered-first c.args.self.now.id c.last.inside _ _ _ c.last.invariant c.last.view_is items
+          (own-last _ _ _ _ items c.requires.own),
       own-left _ _ _ _ items c.requires.own,
     )
 
@@ -28,9 +29,12 @@ join_seat-requires c =
 pub loop-other-preserved : goal.loop-other-preserved
 loop-other-preserved c =
     let is = c.in-Some.ensures.items in (
-      gathered-more c.args.self.now.id c.loop-other.seat _ c.other.inside _ _ _ _ c.loop-other.invariant.0 c.other.invariant c.other.view_is is c.join_seat.ensures.0 c.join_seat.ensures.2,
+      gathered-more c.args.self.now.id c.loop-other.seat _ c.other.inside _ _ _ _ c.loop-other.invariant.0 c.other.invariant
+          c.other.view_is is c.join_seat.ensures.0 c.join_seat.ensures.2,
       own-left _ _ _ _ is c.loop-other.invariant.1,
     )
 
 pub returns : goal.returns
-returns c = subst (λ left. HasGathered c.args.self.now.id c.loop-other.seat left c.args.seats.items) (none-left _ (λ some. c.in_default.ensures.variant.1 (omega (arith, c.loop-other.seats.ok)))) c.loop-other.invariant.0
+returns c =
+    subst (λ left. HasGathered c.args.self.now.id c.loop-other.seat left c.args.seats.items)
+    (none-left _ (λ some. c.in_default.ensures.variant.1 (omega (arith, c.loop-other.seats.ok)))) c.loop-other.invariant.0

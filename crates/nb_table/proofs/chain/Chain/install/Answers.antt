@@ -21,10 +21,12 @@ exchanges-requires-clause-can c =
     let at_place = c.header_place-place.ensures ∙ ap (λ v. header_place v.shape c.args.g 0) c.self.view_is in
     let ready = subst (λ q. IsReady p (tables_at q seat.seen) c.args.g) c.requires.own.1 c.requires.ready in
     let limit = limit_of p c.args.g in
-    let crowded = subst (λ q. AreOthers p (tables_at q seat.seen) c.args.g c.args.key limit) c.requires.own.1 c.requires.crowded in
+    let crowded = subst (λ q. AreOthers p (tables_at q seat.seen) c.args.g c.args.key limit) c.requires.own.1
+    c.requires.crowded in
     let events = installs seat.number c.args.g c.args.key in
     subst (λ place. Can p events seat.number seat.seen place (λ found. cond (eqb found 0) 1 found)) (sym at_place)
-    (can-install p c.seen_lasts.ensures seat.number c.args.g seat.seen c.args.key c.requires.room ready crowded c.known-2.ensures)
+    (can-install p c.seen_lasts.ensures seat.number c.args.g seat.seen c.args.key c.requires.room ready crowded
+    c.known-2.ensures)
 
 pub returns-clause-installed : goal.returns-clause-installed
 returns-clause-installed c =

@@ -3,4 +3,7 @@ use Rattle.nb_table.specs.Events.{installs}
 use Rattle.nb_table.proofs.chain.Chain.install.Given as goal
 
 abbrev pub ghosts-exchanges : goal.ghosts-exchanges
-ghosts-exchanges a = record { shape = a.self.now.shape; events = installs a.seat.now.number a._spot.g (unwrap_or a._spot.key 0) }
+ghosts-exchanges a = record {
+  shape = a.self.now.shape;
+  events = installs a.seat.now.number a._spot.g (unwrap_or a._spot.key 0);
+}

@@ -31,4 +31,5 @@ returns-clause-lost c =
     let p = c.args.self.now.shape in
     let e = Kill c.args.seat.now.number c.args.g c.args.i in
     let at_place = c.key_place-place.ensures ∙ ap (λ v. key_place v.shape c.args.g c.args.i) c.self.view_is in
-    key-lost p e c.args.g c.args.i _ _ _ _ c.requires.own.1 at_place c.exchanges.ensures c.decode_key.result c.decode_key.ensures.state
+    key-lost p e c.args.g c.args.i _ _ _ _ c.requires.own.1 at_place c.exchanges.ensures c.decode_key.result
+    c.decode_key.ensures.state

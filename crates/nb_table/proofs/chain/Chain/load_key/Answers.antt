@@ -23,8 +23,8 @@ loads-requires-clause-can c =
     c.requires.slot.0 c.args.i c.args.call c.requires.slot c.known_if_some.ensures
     (subst (λ q. IfSome c.args.call (λ call. IsReached p (tables_at q seat.seen) c.args.g (key_of_call call))) c.requires.own.1
     c.requires.reached)
-    (subst (λ q. IfSome c.args.call (λ call. IsOnPath p (tables_at q seat.seen) c.args.g c.args.i (key_of_call call))) c.requires.own.1
-    c.requires.on_path))
+    (subst (λ q. IfSome c.args.call (λ call. IsOnPath p (tables_at q seat.seen) c.args.g c.args.i (key_of_call call)))
+    c.requires.own.1 c.requires.on_path))
 
 pub returns-clause-grows : goal.returns-clause-grows
 returns-clause-grows c =
@@ -40,5 +40,5 @@ returns-clause-found c =
     let at_place = c.key_place-place.ensures ∙ ap (λ v. key_place v.shape c.args.g c.args.i) c.self.view_is in
     let events = λ (found : ℕ). shown_by_key p c.args.g c.args.i (key_state found) in
     let step = c.loads.ensures in
-    ap (λ t. t.key c.args.g c.args.i) (load-sees p seat.number c.args.call events _ _ seat c.loads.new.seat c.requires.own.1 step)
-    ∙ ap key_state (ap (slice_index _) (sym at_place) ∙ step.word) ∙ sym c.decode_key.ensures.state
+    ap (λ t. t.key c.args.g c.args.i) (load-sees p seat.number c.args.call events _ _ seat c.loads.new.seat c.requires.own.1
+    step) ∙ ap key_state (ap (slice_index _) (sym at_place) ∙ step.word) ∙ sym c.decode_key.ensures.state

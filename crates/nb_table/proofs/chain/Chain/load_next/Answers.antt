@@ -21,5 +21,5 @@ loads-requires-clause-can c =
     c.args.call c.linked.ensures (subst IsPlan (ap (λ v. v.shape) c.self.view_is) c.known.ensures) c.known_if_some.ensures
     (subst (λ q. IfSome c.args.call (λ call. IsReached p (tables_at q seat.seen) g (key_of_call call))) c.requires.own.1
     c.requires.reached)
-    (subst (λ q. IfSome c.args.call (λ call. AreOthers p (tables_at q seat.seen) g (key_of_call call) (size_of p g))) c.requires.own.1
-    c.requires.crowded))
+    (subst (λ q. IfSome c.args.call (λ call. AreOthers p (tables_at q seat.seen) g (key_of_call call) (size_of p g)))
+    c.requires.own.1 c.requires.crowded))

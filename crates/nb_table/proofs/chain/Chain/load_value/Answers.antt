@@ -48,6 +48,6 @@ returns-clause-found c =
     let place = c.value_place-place.ensures ∙ ap (λ v. value_place v.shape c.args.g c.args.i) c.self.view_is in
     let shown = λ (found : ℕ) (k : ℕ). shown_by_value (unwrap_or (value_state found) Null) in
     let step = c.loads.ensures in
-    ap (λ t. t.value c.args.g c.args.i) (load-sees p seat.number c.args.call shown _ _ seat c.loads.new.seat c.requires.own.1 step)
-    ∙ ap (λ x. unwrap_or (value_state x) Null) (ap (slice_index _) (sym place) ∙ step.word)
+    ap (λ t. t.value c.args.g c.args.i) (load-sees p seat.number c.args.call shown _ _ seat c.loads.new.seat c.requires.own.1
+    step) ∙ ap (λ x. unwrap_or (value_state x) Null) (ap (slice_index _) (sym place) ∙ step.word)
     ∙ ap (λ o. unwrap_or o Null) (sym c.decode_value.ensures.state ∙ c.unwrap.ensures)

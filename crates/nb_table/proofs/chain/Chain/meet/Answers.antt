@@ -39,13 +39,15 @@ join_seat-requires-2 c =
 
 met-a : (c : goal.After-hears-2) → HasMet c.a.inside c.b.inside (record { shape = c.a.inside.shape; seat = c.hears.new.seat })
 met-a c =
-    let me = joined-me c.a.inside.seat.me c.b.inside.seat.me _ _ _ c.split_seat-of_a.ensures.2 c.split_seat-of_b.ensures.4 c.join_seat.ensures.2 in
+    let me = joined-me c.a.inside.seat.me c.b.inside.seat.me _ _ _ c.split_seat-of_a.ensures.2 c.split_seat-of_b.ensures.4
+    c.join_seat.ensures.2 in
     met _ c.a.inside c.b.inside _ _ _ c.a.invariant c.b.invariant (ap (λ v. v.shape) c.a.view_is ∙ c.requires.shapes.0) refl
     (c.hears.ensures.own ∙ c.join_seat.ensures.0 ∙ c.split_seat-of_a.ensures.0) me c.hears.ensures.heard
 
 met-b : (c : goal.After-hears-2) → HasMet c.b.inside c.a.inside (record { shape = c.b.inside.shape; seat = c.hears-2.new.seat })
 met-b c =
-    let me = joined-me c.b.inside.seat.me c.a.inside.seat.me _ _ _ c.split_seat-of_b.ensures.2 c.split_seat-of_a.ensures.4 c.join_seat-2.ensures.2 in
+    let me = joined-me c.b.inside.seat.me c.a.inside.seat.me _ _ _ c.split_seat-of_b.ensures.2 c.split_seat-of_a.ensures.4
+    c.join_seat-2.ensures.2 in
     met _ c.b.inside c.a.inside _ _ _ c.b.invariant c.a.invariant (ap (λ v. v.shape) c.b.view_is ∙ c.requires.shapes.1) refl
     (c.hears-2.ensures.own ∙ c.join_seat-2.ensures.0 ∙ c.split_seat-of_b.ensures.0) me c.hears-2.ensures.heard
 

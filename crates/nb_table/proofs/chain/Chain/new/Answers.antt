@@ -5,32 +5,53 @@ use Rattle.nb_table.proofs.Dealt.{dealing-done, dealing-first, dealing-more, dea
 use Rattle.nb_table.proofs.chain.Chain.new.Goals as goal
 
 pub of_words-requires : goal.of_words-requires
-of_words-requires c = opens c.args.shape c.as_slice.result.now (c.as_slice.ensures.value ∙ c.in_ok-words.ensures.items_if_clones_equal (λ y e. e) ∙ ap (λ n. replicate n 0) c.words.ensures)
+of_words-requires c =
+    opens c.args.shape c.as_slice.result.now
+    (c.as_slice.ensures.value ∙ c.in_ok-words.ensures.items_if_clones_equal (λ y e. e)
+    ∙ ap (λ n. replicate n 0) c.words.ensures)
 
 pub invariant_of-chain : goal.invariant_of-chain
 invariant_of-chain c =
-    let zeros = c.as_slice.ensures.value ∙ c.in_ok-words.ensures.items_if_clones_equal (λ y e. e) ∙ ap (λ n. replicate n 0) c.words.ensures in
-    record { key = c.in_ok-table.ensures.5; words = c.in_ok-table.ensures.0 ∙ count-words c.args.shape _ zeros; slots = c.in_ok-table.ensures.1; plan = c.known.ensures }
+    let zeros = c.as_slice.ensures.value ∙ c.in_ok-words.ensures.items_if_clones_equal (λ y e. e)
+    ∙ ap (λ n. replicate n 0) c.words.ensures in
+    record {
+      key = c.in_ok-table.ensures.5;
+      words = c.in_ok-table.ensures.0 ∙ count-words c.args.shape _ zeros;
+      slots = c.in_ok-table.ensures.1;
+      plan = c.known.ensures;
+    }
 
 pub loop-number-init : goal.loop-number-init
 loop-number-init c = dealing-first _ _ _ _ c.in_ok-table.ensures.2 c.in_ok-table.ensures.4 c.in_ok-dealt.ensures.items
 
 pub split_seat-seat-requires : goal.split_seat-seat-requires
 split_seat-seat-requires c =
-    let zeros = c.as_slice.ensures.value ∙ c.in_ok-words.ensures.items_if_clones_equal (λ y e. e) ∙ ap (λ n. replicate n 0) c.words.ensures in
-    (c.loop-number.invariant.own, omega (arith, c.in_ok-table.ensures.0, count-words c.args.shape _ zeros, some-words c.args.shape), deals _ _ _)
+    let zeros = c.as_slice.ensures.value ∙ c.in_ok-words.ensures.items_if_clones_equal (λ y e. e)
+    ∙ ap (λ n. replicate n 0) c.words.ensures in (
+      c.loop-number.invariant.own,
+      omega (
+        arith,
+        c.in_ok-table.ensures.0,
+        count-words c.args.shape _ zeros,
+        some-words c.args.shape,
+      ),
+      deals _ _ _,
+    )
 
 pub invariant_of-push : goal.invariant_of-push
 invariant_of-push c =
-    dealt-is_seat c.loop-number.rest.me.0 c.loop-number._number c.args.shape.seats (record { shape = c.args.shape; seat = c.split_seat-seat.result })
-    (omega (arith, c.loop-number-test.true, c.seats-number-end.ensures)) c.loop-number.invariant.left c.split_seat-seat.ensures.4
+    dealt-is_seat c.loop-number.rest.me.0 c.loop-number._number c.args.shape.seats
+    (record { shape = c.args.shape; seat = c.split_seat-seat.result })
+    (omega (arith, c.loop-number-test.true, c.seats-number-end.ensures)) c.loop-number.invariant.left
+    c.split_seat-seat.ensures.4
 
 pub loop-number-preserved : goal.loop-number-preserved
 loop-number-preserved c =
     let s : Inside = record { shape = c.args.shape; seat = c.split_seat-seat.result } in
     dealing-more _ c.args.shape c.loop-number.rest _ c.loop-number.dealt.items _ s c.loop-number._number
     (omega (arith, c.loop-number-test.true, c.seats-number-end.ensures)) c.loop-number.invariant
-    c.split_seat-seat.ensures.0 c.split_seat-seat.ensures.2 refl c.split_seat-seat.ensures.3 c.split_seat-seat.ensures.4 c.in_ok-push.ensures.items
+    c.split_seat-seat.ensures.0 c.split_seat-seat.ensures.2 refl c.split_seat-seat.ensures.3 c.split_seat-seat.ensures.4
+    c.in_ok-push.ensures.items
 
 pub returns-clause-seats : goal.returns-clause-seats
 returns-clause-seats c =

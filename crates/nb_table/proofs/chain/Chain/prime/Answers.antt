@@ -15,7 +15,8 @@ ors-requires-clause-within c =
     let p = c.args.self.now.shape in
     let plan = subst IsPlan (ap (λ v. v.shape) c.self.view_is) c.self.invariant.plan in
     let place = c.value_place-place.ensures ∙ ap (λ v. value_place v.shape c.args.g c.args.i) c.self.view_is in
-    subst (λ x. x < word_count p) (sym place) (value-within p c.places_are_distinct.ensures plan c.args.g c.args.i c.requires.slot)
+    subst (λ x. x < word_count p) (sym place)
+    (value-within p c.places_are_distinct.ensures plan c.args.g c.args.i c.requires.slot)
 
 pub ors-requires-clause-can : goal.ors-requires-clause-can
 ors-requires-clause-can c =
@@ -23,8 +24,8 @@ ors-requires-clause-can c =
     let seat = c.args.seat.now in
     let place = c.value_place-place.ensures ∙ ap (λ v. value_place v.shape c.args.g c.args.i) c.self.view_is in
     subst (λ x. Can p (primes seat.number c.args.g c.args.i) seat.number seat.seen x (λ found. bit_or found 1)) (sym place)
-    (can-prime p c.seen_lasts.ensures c.lawful_words.ensures seat.number seat.seen c.args.g c.args.i c.requires.slot
-    (subst (λ q. (tables_at q seat.seen).next c.args.g ≡ 1) c.requires.own.1 c.requires.growing)
+    (can-prime c.codings.ensures p c.seen_lasts.ensures c.lawful_words.ensures seat.number seat.seen c.args.g c.args.i
+    c.requires.slot (subst (λ q. (tables_at q seat.seen).next c.args.g ≡ 1) c.requires.own.1 c.requires.growing)
     (subst (λ q. (k : ℕ) × ((tables_at q seat.seen).key c.args.g c.args.i ≡ Claimed k)) c.requires.own.1 c.requires.claimed))
 
 pub unwrap-requires : goal.unwrap-requires
@@ -45,8 +46,8 @@ returns-clause-won c =
     let events = primes c.args.seat.now.number c.args.g c.args.i in
     let place = c.value_place-place.ensures ∙ ap (λ v. value_place v.shape c.args.g c.args.i) c.self.view_is in
     let step = subst (λ x. Stepped p events x c.args.seat.now c.ors.result c.ors.new.seat) place c.ors.ensures in
-    prime-won p plan c.lawful_words.ensures c.beginnings_are_legal.ensures c.args.seat.now c.ors.result c.ors.new.seat c.args.g
-    c.args.i c.requires.slot c.requires.own.1 step
+    prime-won p plan c.lawful_words.ensures c.beginnings_are_legal.ensures c.codings.ensures c.args.seat.now c.ors.result
+    c.ors.new.seat c.args.g c.args.i c.requires.slot c.requires.own.1 step
     c.unwrap.result (sym c.decode_value.ensures.state ∙ c.unwrap.ensures) c.places_are_distinct.ensures
 
 pub returns-clause-lost : goal.returns-clause-lost
@@ -56,6 +57,6 @@ returns-clause-lost c =
     let events = primes c.args.seat.now.number c.args.g c.args.i in
     let place = c.value_place-place.ensures ∙ ap (λ v. value_place v.shape c.args.g c.args.i) c.self.view_is in
     let step = subst (λ x. Stepped p events x c.args.seat.now c.ors.result c.ors.new.seat) place c.ors.ensures in
-    prime-lost p plan c.lawful_words.ensures c.beginnings_are_legal.ensures c.args.seat.now c.ors.result c.ors.new.seat c.args.g
-    c.args.i c.requires.slot c.requires.own.1 step
+    prime-lost p plan c.lawful_words.ensures c.beginnings_are_legal.ensures c.codings.ensures c.args.seat.now c.ors.result
+    c.ors.new.seat c.args.g c.args.i c.requires.slot c.requires.own.1 step
     c.unwrap.result (sym c.decode_value.ensures.state ∙ c.unwrap.ensures)

@@ -14,5 +14,6 @@ raises-requires-clause-can c =
 pub returns-clause-raised : goal.returns-clause-raised
 returns-clause-raised c =
     let p = c.args.self.now.shape in
-    raised p c.lawful_words.ensures c.places_are_distinct.ensures (subst IsPlan (ap (λ v. v.shape) c.self.view_is) c.known.ensures)
-    c.args.g c.raises.result c.args.seat.now c.raises.new.seat c.requires.own.1 c.raises.ensures
+    raised p c.lawful_words.ensures c.places_are_distinct.ensures
+    (subst IsPlan (ap (λ v. v.shape) c.self.view_is) c.known.ensures) c.args.g c.raises.result c.args.seat.now c.raises.new.seat
+    c.requires.own.1 c.raises.ensures

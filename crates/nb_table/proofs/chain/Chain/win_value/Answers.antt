@@ -17,7 +17,8 @@ exchanges-requires-clause-within c =
     let p = c.args.self.now.shape in
     let plan = subst IsPlan (ap (λ v. v.shape) c.self.view_is) c.self.invariant.plan in
     let place = c.value_place-place.ensures ∙ ap (λ v. value_place v.shape c.args.g c.args.i) c.self.view_is in
-    subst (λ x. x < word_count p) (sym place) (value-within p c.places_are_distinct.ensures plan c.args.g c.args.i c.requires.slot)
+    subst (λ x. x < word_count p) (sym place)
+    (value-within p c.places_are_distinct.ensures plan c.args.g c.args.i c.requires.slot)
 
 pub exchanges-requires-clause-can : goal.exchanges-requires-clause-can
 exchanges-requires-clause-can c =
@@ -28,8 +29,8 @@ exchanges-requires-clause-can c =
     c.args.call c.encode_value-old.ensures.back c.encode_value-new.ensures.back in
     subst₂ (λ x told. Can p told seat.number seat.seen x (λ found. cond (eqb found c.encode_value-old.result)
     c.encode_value-new.result found)) (sym place) (sym events)
-    (can-win p c.seen_lasts.ensures c.lawful_words.ensures c.win_replies.ensures seat.number seat.seen c.args.g c.args.i
-    c.encode_value-old.result c.encode_value-new.result c.args.from c.args.to c.args.call c.requires.slot
+    (can-win p c.seen_lasts.ensures c.lawful_words.ensures c.codings.ensures c.win_replies.ensures seat.number seat.seen
+    c.args.g c.args.i c.encode_value-old.result c.encode_value-new.result c.args.from c.args.to c.args.call c.requires.slot
     c.encode_value-old.ensures.back c.encode_value-new.ensures.back c.known.ensures
     (subst (λ q. (tables_at q seat.seen).key c.args.g c.args.i ≡ Claimed (key_of_call c.args.call)) c.requires.own.1
     c.requires.claimed) c.requires.unprimed
@@ -44,7 +45,8 @@ unwrap-requires c =
     let place = c.value_place-place.ensures ∙ ap (λ v. value_place v.shape c.args.g c.args.i) c.self.view_is in
     let events = wins-of seat.number c.args.g c.args.i c.encode_value-old.result c.encode_value-new.result c.args.from c.args.to
     c.args.call c.encode_value-old.ensures.back c.encode_value-new.ensures.back in
-    let step = subst₂ (λ x told. Stepped p told x seat c.exchanges.result c.exchanges.new.seat) place events c.exchanges.ensures in
+    let step = subst₂ (λ x told. Stepped p told x seat c.exchanges.result c.exchanges.new.seat) place events
+    c.exchanges.ensures in
     is-some c.exchanges.result c.decode_value.result c.decode_value.ensures.state
     (found-is p plan c.lawful_words.ensures c.beginnings_are_legal.ensures
     (wins seat.number c.args.g c.args.i c.args.from c.args.to c.args.call) seat c.exchanges.result c.exchanges.new.seat
@@ -58,11 +60,12 @@ returns-clause-won c =
     let place = c.value_place-place.ensures ∙ ap (λ v. value_place v.shape c.args.g c.args.i) c.self.view_is in
     let events = wins-of seat.number c.args.g c.args.i c.encode_value-old.result c.encode_value-new.result c.args.from c.args.to
     c.args.call c.encode_value-old.ensures.back c.encode_value-new.ensures.back in
-    let step = subst₂ (λ x told. Stepped p told x seat c.exchanges.result c.exchanges.new.seat) place events c.exchanges.ensures in
-    win-won p plan c.lawful_words.ensures c.beginnings_are_legal.ensures seat c.exchanges.result c.exchanges.new.seat
-    c.args.g c.args.i c.args.from c.args.to c.args.call c.requires.slot c.requires.own.1 step
-    c.unwrap.result (sym c.decode_value.ensures.state ∙ c.unwrap.ensures) c.places_are_distinct.ensures c.encode_value-new.result
-    c.encode_value-new.ensures.back
+    let step = subst₂ (λ x told. Stepped p told x seat c.exchanges.result c.exchanges.new.seat) place events
+    c.exchanges.ensures in
+    win-won p plan c.lawful_words.ensures c.beginnings_are_legal.ensures c.codings.ensures seat c.exchanges.result
+    c.exchanges.new.seat c.args.g c.args.i c.args.from c.args.to c.args.call c.requires.slot c.requires.own.1 step
+    c.unwrap.result (sym c.decode_value.ensures.state ∙ c.unwrap.ensures) c.places_are_distinct.ensures
+    c.encode_value-new.result c.encode_value-new.ensures.back
 
 pub returns-clause-lost : goal.returns-clause-lost
 returns-clause-lost c =
@@ -72,8 +75,9 @@ returns-clause-lost c =
     let place = c.value_place-place.ensures ∙ ap (λ v. value_place v.shape c.args.g c.args.i) c.self.view_is in
     let events = wins-of seat.number c.args.g c.args.i c.encode_value-old.result c.encode_value-new.result c.args.from c.args.to
     c.args.call c.encode_value-old.ensures.back c.encode_value-new.ensures.back in
-    let step = subst₂ (λ x told. Stepped p told x seat c.exchanges.result c.exchanges.new.seat) place events c.exchanges.ensures in
-    win-lost p plan c.lawful_words.ensures c.beginnings_are_legal.ensures seat c.exchanges.result c.exchanges.new.seat
-    c.args.g c.args.i c.args.from c.args.to c.args.call c.requires.slot c.requires.own.1 step
+    let step = subst₂ (λ x told. Stepped p told x seat c.exchanges.result c.exchanges.new.seat) place events
+    c.exchanges.ensures in
+    win-lost p plan c.lawful_words.ensures c.beginnings_are_legal.ensures c.codings.ensures seat c.exchanges.result
+    c.exchanges.new.seat c.args.g c.args.i c.args.from c.args.to c.args.call c.requires.slot c.requires.own.1 step
     c.unwrap.result (sym c.decode_value.ensures.state ∙ c.unwrap.ensures) c.encode_value-old.result
     c.encode_value-old.ensures.back
