@@ -5,5 +5,6 @@ pub mod Conditions
 pub mod Events
 pub mod Gathered
 pub mod Inside
+pub mod Left
 pub mod Steps
 pub mod Views

@@ -10,7 +10,7 @@ pub struct Closed {
 }
 
 impl Model for Closed {
-    ghost use Rattle.nb_table.specs.Gathered.{ClosedOf};
+    ghost use Rattle.nb_table.specs.Left.{ClosedOf};
 
     ghost Value = { ClosedOf };
 
