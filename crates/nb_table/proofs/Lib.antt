@@ -4,6 +4,8 @@ mod Following
 mod Gathered
 mod Keeping
 mod Keys
+mod Listing
+mod Looking
 mod Meeting
 mod Opening
 mod Parted

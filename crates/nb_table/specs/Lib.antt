@@ -6,5 +6,6 @@ pub mod Events
 pub mod Gathered
 pub mod Inside
 pub mod Left
+pub mod Listing
 pub mod Steps
 pub mod Views
