@@ -107,7 +107,10 @@ times-whole p s id v rule at whole n below =
     omega (arith, none, sum-set (times_among n) (times-append n) s.views id v spent_view at, rule.once n below)
 
 -- what is left of a chain, where one token has gathered all seats
-pub closed-with : (closed : ClosedOf) (key : Plan) → key ≡ closed.shape → (chain : TableId) (token : Seat (Unit {0}) View) (seats : List SeenBy) (slots : List (Unit {0})) → HasGathered chain token [] seats → length seats ≡ closed.shape.seats → Final (Seen (IsChained key) token.id token.me.0) closed.words slots → ClosedWith seats closed
+pub closed-with :
+    (closed : ClosedOf) (key : Plan) → key ≡ closed.shape → (chain : TableId) (token : Seat (Unit {0}) View)
+    (seats : List SeenBy) (slots : List (Unit {0})) → HasGathered chain token [] seats → length seats ≡ closed.shape.seats
+    → Final (Seen (IsChained key) token.id token.me.0) closed.words slots → ClosedWith seats closed
 closed-with closed key same chain token seats slots g all final =
     let p = closed.shape in
     let rule : IsChained p final.0 = subst (λ k. IsChained k final.0) same final.1.0 in

@@ -5,15 +5,15 @@ use Rattle.std.specs.Cmp.{nat_cmp_total, unsigned_tied}
 use Rattle.std.specs.Ordering.{eq_by_cmp, nat_cmp}
 use Rattle.std.proofs.lemmas.Bool.{cases_eq, eq-eqb, eqb-false, ne_eqb}
 use Rattle.nb_core.specs.Calls.{Numbers}
-use Rattle.nb_core.specs.Plans.{generations_of, size_of}
+use Rattle.nb_core.specs.Plans.{IsPlan, generations_of, size_of}
 use Rattle.nb_core.specs.Tables.{IsInstalled}
 use Rattle.nb_core.specs.History.{map_of}
 use Rattle.nb_core.specs.Meaning.{is_installed}
-use Rattle.nb_core.specs.Laws.{AreLinked, HeldHasPlace, PlaceIs, TablesAreLinked}
+use Rattle.nb_core.specs.Laws.{AreLinked, HeldHasPlace, PlaceIs}
 use Rattle.nb_core.specs.declared.states.KeyState.TheVariants.{Claimed}
 use Rattle.nb_table.specs.Left.{ClosedOf, HoldsOfMap, tables_left}
 use Rattle.nb_table.specs.Listing.{HasRight, IsListing}
-use Rattle.nb_table.proofs.Looking.{IsLeft, of-left}
+use Rattle.nb_table.proofs.Looking.{of-left}
 
 -- what holds where a call succeeds
 pub on_ok : {A E : Type 0} (P : Type 0) (r : Result A E) → is_ok r ≡ true → OnOk r P → P
@@ -30,7 +30,9 @@ module _ (closed : ClosedOf) where
   }
 
   -- a slot that no key has
-  pub listing-past : (found : Numbers) (g i : ℕ) → ((k : ℕ) → (tables_left closed).key g i ≢ Claimed k) → IsListing closed found g i → IsListing closed found g (i + 1)
+  pub listing-past :
+      (found : Numbers) (g i : ℕ) → ((k : ℕ) → (tables_left closed).key g i ≢ Claimed k)
+      → IsListing closed found g i → IsListing closed found g (i + 1)
   listing-past found g i unclaimed listing = record {
     so_far = listing.so_far;
     tables = listing.tables;
@@ -41,7 +43,10 @@ module _ (closed : ClosedOf) where
   }
 
   -- A slot's key that was brought to what the map has. All others are as they were.
-  listing-key : (found found' : Numbers) (g i key : ℕ) → (tables_left closed).key g i ≡ Claimed key → HasRight closed found' key → ((k : ℕ) → k ≢ key → get found' k ≡ get found k) → IsListing closed found g i → IsListing closed found' g (i + 1)
+  listing-key :
+      (found found' : Numbers) (g i key : ℕ) → (tables_left closed).key g i ≡ Claimed key → HasRight closed found' key
+      → ((k : ℕ) → k ≢ key → get found' k ≡ get found k)
+      → IsListing closed found g i → IsListing closed found' g (i + 1)
   listing-key found found' g i key here right others listing = record {
     so_far = λ k. elim (cases_eq k key) [
       | inl same ↦ inr (subst (HasRight closed found') (sym same) right)
@@ -67,7 +72,9 @@ module _ (closed : ClosedOf) where
       ]
 
   -- the key of a slot that the map hasn't got
-  pub listing-without : (found : Numbers) (g i key : ℕ) → (tables_left closed).key g i ≡ Claimed key → HoldsOfMap closed (λ m. None ≡ get m key) → IsListing closed found g i → IsListing closed found g (i + 1)
+  pub listing-without :
+      (found : Numbers) (g i key : ℕ) → (tables_left closed).key g i ≡ Claimed key
+      → HoldsOfMap closed (λ m. None ≡ get m key) → IsListing closed found g i → IsListing closed found g (i + 1)
   listing-without found g i key here none listing =
       let right : HasRight closed found key = elim (listing.so_far key) [
         | inl nothing ↦ λ h left. nothing ∙ none h left
@@ -76,7 +83,10 @@ module _ (closed : ClosedOf) where
       listing-key found found g i key here right (λ k other. refl) listing
 
   -- the key of a slot that the map has, put with its number
-  pub listing-put : (found found' : Numbers) (g i key number : ℕ) → (tables_left closed).key g i ≡ Claimed key → HoldsOfMap closed (λ m. Some number ≡ get m key) → found' ≡ insert found key number → IsListing closed found g i → IsListing closed found' g (i + 1)
+  pub listing-put :
+      (found found' : Numbers) (g i key number : ℕ) → (tables_left closed).key g i ≡ Claimed key
+      → HoldsOfMap closed (λ m. Some number ≡ get m key) → found' ≡ insert found key number
+      → IsListing closed found g i → IsListing closed found' g (i + 1)
   listing-put found found' g i key number here some put listing =
       let at = λ (k : ℕ). ap (λ m. get m k) put ∙ get-insert nat_cmp_total found key number k in
       listing-key found found' g i key here
@@ -90,7 +100,9 @@ module _ (closed : ClosedOf) where
       apart k key other = unsigned_tied k key ∙ ne_eqb k key other
 
   -- all slots of a table
-  pub listing-table : (found : Numbers) (g size : ℕ) → size_of closed.shape g ≤ size → IsListing closed found g size → IsListing closed found (g + 1) 0
+  pub listing-table :
+      (found : Numbers) (g size : ℕ) → size_of closed.shape g ≤ size
+      → IsListing closed found g size → IsListing closed found (g + 1) 0
   listing-table found g size whole listing = record {
     so_far = listing.so_far;
     tables = λ f j k below slot is. elim (cases_eq f g) [
@@ -102,39 +114,44 @@ module _ (closed : ClosedOf) where
     slots = λ j k below is. absurd (omega arith);
   }
 
-  module _ (left : IsLeft closed) where
-    -- a table that isn't there
-    pub listing-skip : TablesAreLinked → (found : Numbers) (g : ℕ) → false ≡ is_installed (tables_left closed) g → IsListing closed found g 0 → IsListing closed found (g + 1) 0
-    listing-skip linked found g absent listing = record {
-      so_far = listing.so_far;
-      tables = λ f j k below slot is. elim (cases_eq f g) [
-        | inl same ↦
-            let links = of-left closed left.history left.left (AreLinked closed.shape) (linked closed.shape left.plan left.history left.left.legal) in
-            absurd (away g absent (subst (IsInstalled (tables_left closed)) same (links.claimed f j k slot is)))
-        | inr before ↦ listing.tables f j k (omega arith) slot is
-      ];
-      slots = λ j k below is. absurd (omega arith);
-    }
-      where
-        away : (g : ℕ) → false ≡ is_installed (tables_left closed) g → IsInstalled (tables_left closed) g → ⊥
-        away zero absent installed = cc
-        away (suc g) absent installed = absurd (eqb-false ((tables_left closed).next g) 1 (sym absent) installed)
+  -- a table that isn't there
+  pub listing-skip :
+      AreLinked closed.shape (tables_left closed) → (found : Numbers) (g : ℕ) → false ≡ is_installed (tables_left closed) g
+      → IsListing closed found g 0 → IsListing closed found (g + 1) 0
+  listing-skip linked found g absent listing = record {
+    so_far = listing.so_far;
+    tables = λ f j k below slot is. elim (cases_eq f g) [
+      | inl same ↦ absurd (away g absent (subst (IsInstalled (tables_left closed)) same (linked.claimed f j k slot is)))
+      | inr before ↦ listing.tables f j k (omega arith) slot is
+    ];
+    slots = λ j k below is. absurd (omega arith);
+  }
+    where
+      away : (g : ℕ) → false ≡ is_installed (tables_left closed) g → IsInstalled (tables_left closed) g → ⊥
+      away zero absent installed = cc
+      away (suc g) absent installed = eqb-false ((tables_left closed).next g) 1 (sym absent) installed
 
-    -- all tables
-    pub listing-all : HeldHasPlace → PlaceIs → (found : Numbers) (g : ℕ) → generations_of closed.shape ≤ g → IsListing closed found g 0 → HoldsOfMap closed (λ m. found ≡ m)
-    listing-all held place found g whole listing history from =
-        same_map nat_cmp_total nat_cmp-IsAntisymmetric found (map_of history) (λ k.
-        elim (listing.so_far k) [
-          | inl none ↦ none-right k none (get (map_of history) k) refl
-          | inr right ↦ right history from
-        ])
-      where
-        -- a key that the map has was found at its place
-        none-right : (k : ℕ) → get found k ≡ None → (number : Option ℕ) → get (map_of history) k ≡ number → get found k ≡ get (map_of history) k
-        none-right k none None is = none ∙ sym is
-        none-right k none (Some n) is =
-            let p = closed.shape in
-            let some = held p left.plan history from.legal 0 k n (omega (arith, left.plan.some_tables)) (λ f below. absurd (omega arith)) is in
-            let first = (place p left.plan history from.legal 0 k some.0.0 some.0.1).0 some.1 in
-            let claimed = of-left closed history from (λ t. t.key some.0.0 some.0.1 ≡ Claimed k) first.is in
-            listing.tables some.0.0 some.0.1 k (omega (arith, first.slot.0)) first.slot claimed history from
+  -- Each key that the map has was found at its place, so once all tables are done the two are the same.
+  pub listing-all :
+      IsPlan closed.shape → HeldHasPlace → PlaceIs → (found : Numbers) (g : ℕ) → generations_of closed.shape ≤ g
+      → IsListing closed found g 0 → HoldsOfMap closed (λ m. found ≡ m)
+  listing-all plan held place found g whole listing history from =
+      same_map nat_cmp_total nat_cmp-IsAntisymmetric found (map_of history) (λ k.
+      elim (listing.so_far k) [
+        | inl none ↦ same-none k none (get (map_of history) k) refl
+        | inr right ↦ right history from
+      ])
+    where
+      same-none :
+          (k : ℕ) → get found k ≡ None → (number : Option ℕ) → get (map_of history) k ≡ number
+          → get found k ≡ get (map_of history) k
+      same-none k none None is = none ∙ sym is
+      same-none k none (Some n) is =
+          let legal = from.legal in
+          let first_there : 0 < generations_of closed.shape = omega (arith, plan.some_tables) in
+          let found_at = held closed.shape plan history legal 0 k n first_there (λ f below. absurd (omega arith)) is in
+          let f = found_at.0.0 in
+          let i = found_at.0.1 in
+          let first = (place closed.shape plan history legal 0 k f i).0 found_at.1 in
+          let claimed = of-left closed history from (λ t. t.key f i ≡ Claimed k) first.is in
+          listing.tables f i k (omega (arith, first.slot.0)) first.slot claimed history from

@@ -14,5 +14,6 @@ HasRight closed found k = HoldsOfMap closed (λ m. map.get found k ≡ map.get m
 -- of the first i slots of table g.
 pub record IsListing (closed : ClosedOf) (found : Numbers) (g i : ℕ) : Type 0 where
   pub so_far : (k : ℕ) → (map.get found k ≡ None) ⊎ HasRight closed found k
-  pub tables : (f j k : ℕ) → f < g → IsSlot closed.shape f j → (tables_left closed).key f j ≡ Claimed k → HasRight closed found k
+  pub tables :
+      (f j k : ℕ) → f < g → IsSlot closed.shape f j → (tables_left closed).key f j ≡ Claimed k → HasRight closed found k
   pub slots : (j k : ℕ) → j < i → (tables_left closed).key g j ≡ Claimed k → HasRight closed found k
