@@ -24,7 +24,8 @@ loop-g-preserved c =
           let left = is-left c.self.inside closed c.self.invariant c.self.view_is in
           let absent = sym w.if-is_installed.false ∙ c.is_installed.ensures in
           subst next (sym w.found-is)
-          (listing-skip closed (law-left closed left AreLinked c.linked.ensures) c.loop-g.found c.loop-g.g absent c.loop-g.invariant)
+          (listing-skip closed (law-left closed left AreLinked c.linked.ensures) c.loop-g.found c.loop-g.g absent
+          c.loop-g.invariant)
     ]
 
 pub returns : goal.returns
@@ -34,7 +35,8 @@ returns c =
     let whole : generations_of closed.shape ≤ c.loop-g.g
     = omega (arith, c.generations-g-end.ensures, ap (λ v. generations_of v.shape) c.self.view_is) in
     let all =
-    listing-all closed left.plan c.held_has_place.ensures c.place_is.ensures c.loop-g.found c.loop-g.g whole c.loop-g.invariant in
+    listing-all closed left.plan c.held_has_place.ensures c.place_is.ensures c.loop-g.found c.loop-g.g whole
+    c.loop-g.invariant in
     IfOk-weaker c.entries.result (λ entries. entries.items ≡ map.entries c.loop-g.found)
     (λ entries. HoldsOfMap closed (λ m. entries.items ≡ map.entries m))
     (λ entries is history from. is ∙ ap (λ m. map.entries m) (all history from)) c.entries.ensures

@@ -29,7 +29,8 @@ returns-in-Null c =
     = omega (arith, c.generations-g-end.ensures, ap (λ v. generations_of v.shape) c.self.view_is) in
     let here = shown-value closed.shape (tables_left closed) c.args.key c.loop-g.g within in
     let installed = sym c.if-not-is_installed.false ∙ c.is_installed.ensures in
-    sym (c.loop-g.invariant ∙ here (Some c.in-Some.value) installed c.in-Some.ensures ∙ shows-none _ _ c.in-Some.value c.in-Null.is)
+    sym (c.loop-g.invariant ∙ here (Some c.in-Some.value) installed c.in-Some.ensures
+    ∙ shows-none _ _ c.in-Some.value c.in-Null.is)
 
 pub returns-in-Live : goal.returns-in-Live
 returns-in-Live c =

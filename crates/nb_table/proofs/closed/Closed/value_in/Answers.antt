@@ -44,14 +44,15 @@ returns-then-eq c =
     c.loop-distance-test.true c.loop-distance.invariant.0 in
     let same : c.in-Claimed.other ≡ c.args.key = eqb-true _ _ (sym c.eq.ensures ∙ c.if-eq.true) in
     ap Some c.value_at.ensures
-    ∙ found-slot closed.shape (tables_left closed) c.args.g c.args.key c.requires (law-left closed left HaveOneSlot c.one_slot.ensures)
-    c.loop-distance.i in_table (sym c.key_at.ensures ∙ c.in-Claimed.is ∙ ap Claimed same)
+    ∙ found-slot closed.shape (tables_left closed) c.args.g c.args.key c.requires
+    (law-left closed left HaveOneSlot c.one_slot.ensures) c.loop-distance.i in_table (sym c.key_at.ensures ∙ c.in-Claimed.is ∙ ap Claimed same)
 
 pub returns-in-Empty : goal.returns-in-Empty
 returns-in-Empty c =
     let closed = c.args.self.now in
     let left = is-left c.self.inside closed c.self.invariant c.self.view_is in
-    found-end closed.shape (tables_left closed) c.args.g c.args.key c.requires (law-left closed left AreOnPath c.on_path.ensures)
+    found-end closed.shape (tables_left closed) c.args.g c.args.key c.requires
+    (law-left closed left AreOnPath c.on_path.ensures)
     c.loop-distance._distance c.loop-distance.i c.loop-distance.invariant.0 c.loop-distance.invariant.1
     (subst (λ s. (s ≡ Empty) ⊎ (s ≡ Dead)) c.key_at.ensures c.in-Empty.is)
 
@@ -72,5 +73,6 @@ returns c =
     let left = is-left c.self.inside closed c.self.invariant c.self.view_is in
     let size = c.size_of-size.ensures ∙ ap (λ v. size_of v.shape c.args.g) c.self.view_is in
     let whole : c.loop-distance._distance ≡ size_of closed.shape c.args.g = omega arith in
-    found-none closed.shape (tables_left closed) c.args.g c.args.key c.requires (law-left closed left AreOnPath c.on_path.ensures)
+    found-none closed.shape (tables_left closed) c.args.g c.args.key c.requires
+    (law-left closed left AreOnPath c.on_path.ensures)
     (subst (AreOthers closed.shape (tables_left closed) c.args.g c.args.key) whole c.loop-distance.invariant.1)
