@@ -12,6 +12,7 @@ use Rattle.nb_core.specs.declared.events.Event.{Event}
 use Rattle.nb_table.specs.Chains.{SeenBy}
 use Rattle.nb_table.specs.Gathered.{AreOwn, ClosedWith, HasGathered, HasSeen, times_numbered}
 use Rattle.nb_table.specs.Inside.{IsSeat, part_of, seat_of}
+use Rattle.nb_table.specs.Left.{ClosedOf}
 use Rattle.nb_table.specs.Views.{Fits, IsChained, all_parts, joined, spent_view, times_among}
 use Rattle.nb_table.specs.declared.chain.ChainSeat.TheInside as seat
 use Rattle.nb_table.specs.declared.view.View.{View}
@@ -126,14 +127,17 @@ times-whole p s id v rule at whole n below =
     omega (arith, none, sum-set (times_among n) (times-append n) s.views id v spent_view at, rule.once n below)
 
 -- what is left of a chain, where one token has gathered all seats
-pub closed-with : (p key : Plan) → key ≡ p → (chain : TableId) (token : Seat (Unit {0}) View) (seats : List SeenBy) (words : List ℕ) (slots : List (Unit {0})) → HasGathered chain token [] seats → length seats ≡ p.seats → Final (Seen (IsChained key) token.id token.me.0) words slots → ClosedWith p seats words
-closed-with p key same chain token seats words slots g all final =
+pub closed-with :
+    (closed : ClosedOf) (key : Plan) → key ≡ closed.shape → (chain : TableId) (token : Seat (Unit {0}) View)
+    (seats : List SeenBy) (slots : List (Unit {0})) → HasGathered chain token [] seats → length seats ≡ closed.shape.seats
+    → Final (Seen (IsChained key) token.id token.me.0) closed.words slots → ClosedWith seats closed
+closed-with closed key same chain token seats slots g all final =
+    let p = closed.shape in
     let rule : IsChained p final.0 = subst (λ k. IsChained k final.0) same final.1.0 in
     let count : length token.me.0.parts ≡ p.seats = omega (arith, g.count, all) in
     record {
       history = rule.history;
-      legal = rule.legal;
-      is = sym final.2 ∙ rule.words;
+      left = record { legal = rule.legal; is = sym final.2 ∙ rule.words };
       seen =
           g.seen rule.history (parts-at (Fits rule.history) final.0.views token.id token.me.0 final.1.1 rule.fits)
           (All-nil (HasSeen rule.history));

@@ -5,7 +5,9 @@ mod Gathered
 mod Growing
 mod Keeping
 mod Keys
+mod Listing
 mod Loading
+mod Looking
 mod Meeting
 mod Opening
 mod Parted

@@ -1,12 +1,11 @@
--- What one token knows that has taken in others, and what is left of a chain that is closed.
+-- What one token knows that has taken in others, and what all seats know of the chain that they close.
 use Rattle.std.specs.Prelude.{◌≡◌, ◌≢◌, ℕ, ◌+◌, ◌<◌, ◌==◌, if◌then◌else◌, List, [], ◌∷◌, ◌++◌, length, All}
 use Rattle.atomic_table.specs.Seated.{TableId}
 use Rattle.atomic_table.specs.declared.shared.Seat.{Seat}
-use Rattle.nb_core.specs.Plans.{Plan}
-use Rattle.nb_core.specs.Tables.{words_of}
-use Rattle.nb_core.specs.History.{IsLegal, seat_of_event}
+use Rattle.nb_core.specs.History.{seat_of_event}
 use Rattle.nb_core.specs.declared.events.Event.{Event}
 use Rattle.nb_table.specs.Chains.{SeenBy}
+use Rattle.nb_table.specs.Left.{ClosedOf, IsLeftBy}
 use Rattle.nb_table.specs.Views.{Fits, times_among}
 use Rattle.nb_table.specs.declared.view.View.{View}
 
@@ -33,16 +32,10 @@ pub record HasGathered (chain : TableId) (token : Seat (Unit {0}) View) (left se
   pub times : (n : ℕ) → times_among n token.me.0.parts + times_numbered n left ≡ times_numbered n seats
   pub seen : (h : List Event) → All (Fits h) token.me.0.parts → All (HasSeen h) left → All (HasSeen h) seats
 
--- There was one legal history, of which each seat has seen a beginning with all its own events, and these are the words
--- that it left. Each number is one seat's.
-pub record ClosedWith (p : Plan) (seats : List SeenBy) (words : List ℕ) : Type 0 where
+-- There was one legal history that left these words, of which each seat has seen a beginning with all its own events. Each
+-- number is one seat's.
+pub record ClosedWith (seats : List SeenBy) (closed : ClosedOf) : Type 0 where
   pub history : List Event
-  pub legal : IsLegal p history
-  pub is : words ≡ words_of p history
+  pub left : IsLeftBy closed history
   pub seen : All (HasSeen history) seats
-  pub once : (n : ℕ) → n < p.seats → times_numbered n seats ≡ 1
-
--- a closed chain: its shape and its words
-pub record ClosedOf : Type 0 where
-  pub shape : Plan
-  pub words : List ℕ
+  pub once : (n : ℕ) → n < closed.shape.seats → times_numbered n seats ≡ 1

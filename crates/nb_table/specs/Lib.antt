@@ -6,5 +6,7 @@ pub mod Events
 pub mod Gathered
 pub mod Inside
 pub mod Laws
+pub mod Left
+pub mod Listing
 pub mod Steps
 pub mod Views

@@ -225,7 +225,7 @@ impl Chain {
         requires own { AreOwn self.id seats.items }
         ensures all { (is_ok result ≡ true) ↔ (length seats.items ≡ self.shape.seats) }
         ensures shape { IfOk result (λ closed. closed.shape ≡ self.shape) }
-        ensures closed { IfOk result (λ closed. ClosedWith self.shape seats.items closed.words) }
+        ensures closed { IfOk result (λ closed. ClosedWith seats.items closed) }
         ensures back { IfErr result (λ given. (given.whole ≡ self) × (given.seats.items ≡ seats.items)) }
     {
         if seats.len() != self.shape.seats() {

@@ -1,5 +1,16 @@
 //! What is left of a chain that is closed.
-use nb_core::Shape;
+ghost use Rattle.std.specs.Prelude.{◌≡◌, ◌+◌, ◌<◌, IfOk, OnOk, slice_index};
+ghost use Rattle.std.specs.FinMap as map;
+ghost use Rattle.nb_core.specs.Meaning.{is_blank, is_installed, shown_from, value_in};
+ghost use Rattle.nb_core.specs.Plans.{generations_of, word_count};
+ghost use Rattle.nb_core.specs.Tables.{IsSlot};
+ghost use Rattle.nb_table.specs.Left.{HoldsOfMap, tables_left};
+ghost use Rattle.nb_table.specs.Listing.{IsListing};
+
+use nb_core::{
+    Change, Key, KeyState, Num, OutOfMemory, PlainMap, Shape, ValueState, Want, decode_key,
+    decode_value, laws,
+};
 use std::alloc::Global;
 use std::marker::Model;
 
@@ -10,7 +21,7 @@ pub struct Closed {
 }
 
 impl Model for Closed {
-    ghost use Rattle.nb_table.specs.Gathered.{ClosedOf};
+    ghost use Rattle.nb_table.specs.Left.{ClosedOf};
 
     ghost Value = { ClosedOf };
 
@@ -19,6 +30,139 @@ impl Model for Closed {
     ghost view = { closed_of };
 
     ghost invariant = { IsClosed };
+}
+
+impl Closed {
+    /// The number that the map has at the key. It takes no memory.
+    pub fn get(&self, key: Key) -> Option<Num>
+        ensures { HoldsOfMap self.now (λ m. result ≡ map.get m key) }
+    {
+        laws::stands();
+        key.known();
+        self.shape.known();
+        self.shown(key)
+    }
+
+    /// The map's keys with their numbers, ascending by key. It takes memory for a plain map of them and for the vector.
+    pub fn entries(&self, alloc: Global) -> Result<Vec<(Key, Num)>, OutOfMemory>
+        ensures { IfOk result (λ entries. HoldsOfMap self.now (λ m. entries.items ≡ map.entries m)) }
+    {
+        laws::linked();
+        laws::held_has_place();
+        laws::place_is();
+        let mut found = PlainMap::new(alloc);
+        for g in 0..self.shape.generations() {
+            if self.is_installed(g) {
+                self.list_table(g, &mut found)?;
+            }
+        }
+        found.entries(alloc)
+    }
+
+    /// Puts each key that has a slot in table `g` into a plain map, with its number, if it has one.
+    fn list_table(&self, g: u32, found: &mut PlainMap) -> Result<(), OutOfMemory>
+        requires table { g < generations_of self.now.shape }
+        requires listing { IsListing self.now found.old g 0 }
+        ensures { OnOk result (IsListing self.now found.new (g + 1) 0) }
+    {
+        for i in 0..self.shape.size_of(g) {
+            if let KeyState::Claimed(key) = self.key_at(g, i) {
+                if let Some(number) = self.get(key) {
+                    let put = found.apply(key, Want::Any, Change::Put(number));
+                    put.map_err(|_| OutOfMemory)?;
+                }
+            }
+        }
+        Ok(())
+    }
+
+    /// The number that the tables show at the key, from the first table up.
+    fn shown(&self, key: Key) -> Option<Num>
+        ensures { result ≡ shown_from self.now.shape (tables_left self.now) key 0 (generations_of self.now.shape) }
+    {
+        laws::linked();
+        for g in 0..self.shape.generations() {
+            if !self.is_installed(g) {
+                return None;
+            }
+            if let Some(value) = self.value_in(g, key) {
+                match value {
+                    ValueState::Null | ValueState::Tombstone => return None,
+                    ValueState::Live(number) => return Some(number),
+                    ValueState::Primed(number) => {
+                        if self.is_blank_in(g + 1, key) {
+                            return Some(number);
+                        }
+                    }
+                    ValueState::PrimedNull
+                    | ValueState::PrimedTombstone
+                    | ValueState::Finished(_) => {}
+                }
+            }
+        }
+        None
+    }
+
+    /// Whether the key has no slot or a null value in table `g`.
+    fn is_blank_in(&self, g: u32, key: Key) -> bool
+        requires { g < generations_of self.now.shape }
+        ensures { result ≡ is_blank (value_in self.now.shape (tables_left self.now) g key) }
+    {
+        matches!(self.value_in(g, key), None | Some(ValueState::Null))
+    }
+
+    /// The key's value in table `g`, if it has a slot there. A slot that is empty or closed to keys ends its path.
+    fn value_in(&self, g: u32, key: Key) -> Option<ValueState>
+        requires { g < generations_of self.now.shape }
+        ensures { result ≡ value_in self.now.shape (tables_left self.now) g key }
+    {
+        laws::on_path();
+        laws::one_slot();
+        let size = self.shape.size_of(g);
+        let mut i = (key.get() & (size as u64 - 1)) as usize;
+        for _distance in 0..size {
+            match self.key_at(g, i) {
+                KeyState::Claimed(other) => {
+                    if other == key {
+                        return Some(self.value_at(g, i));
+                    }
+                }
+                KeyState::Empty | KeyState::Dead => return None,
+            }
+            i = (i + 1) & (size - 1);
+        }
+        None
+    }
+
+    /// Whether table `g` is there: the first is from the start.
+    fn is_installed(&self, g: u32) -> bool
+        requires { g < generations_of self.now.shape }
+        ensures { result ≡ is_installed (tables_left self.now) g }
+    {
+        laws::places_are_distinct();
+        g == 0 || self.word(self.shape.header_place(g - 1, 0)) == 1
+    }
+
+    fn key_at(&self, g: u32, i: usize) -> KeyState
+        requires { IsSlot self.now.shape g i }
+        ensures { result ≡ (tables_left self.now).key g i }
+    {
+        decode_key(self.word(self.shape.key_place(g, i)))
+    }
+
+    fn value_at(&self, g: u32, i: usize) -> ValueState
+        requires { IsSlot self.now.shape g i }
+        ensures { result ≡ (tables_left self.now).value g i }
+    {
+        decode_value(self.word(self.shape.value_place(g, i))).unwrap_or(ValueState::Null)
+    }
+
+    fn word(&self, place: usize) -> u64
+        requires { place < word_count self.now.shape }
+        ensures { result ≡ slice_index self.now.words place }
+    {
+        self.table.word(place)
+    }
 }
 
 impl Drop for Closed {

@@ -3,6 +3,7 @@ ghost use Rattle.nb_table.specs.Chains.{IsOwn};
 ghost use Rattle.nb_table.specs.Gathered.{AreOwn};
 
 use super::*;
+use nb_core::KEY_MAX;
 use std::process::Abort;
 use std::test::Fail;
 use std::thread;
@@ -91,7 +92,32 @@ fn refused_memory(rt: HostRuntime) -> Result<(), Fail> {
         Ok(made) => made,
         Err(_) => Chain::new(rt.alloc(), shape)?,
     };
-    assert!(rt; chain.close(seats).is_ok());
+    let Ok(closed) = chain.close(seats) else {
+        panic!(rt; "all seats are there")
+    };
+    let entries = match closed.entries(rt.alloc()) {
+        Ok(entries) => entries,
+        Err(_) => closed.entries(rt.alloc())?,
+    };
+    assert!(rt; entries.is_empty());
+    Ok(())
+}
+
+/// A chain that nobody wrote to has no keys, whether it has one table or more.
+#[test]
+fn fresh_chains_are_empty(rt: HostRuntime) -> Result<(), Fail> {
+    for generations in 1..4 {
+        let shape = Shape::new(3, generations, 2, 1).map_err(|_| OutOfMemory)?;
+        let (chain, seats) = Chain::new(rt.alloc(), shape)?;
+        let Ok(closed) = chain.close(seats) else {
+            panic!(rt; "all seats are there")
+        };
+        for key in [0, 5, KEY_MAX] {
+            let key = Key::new(key).expect(&rt, "a key");
+            assert_eq!(rt; closed.get(key), None);
+        }
+        assert!(rt; closed.entries(rt.alloc())?.is_empty());
+    }
     Ok(())
 }
 

@@ -1,0 +1,227 @@
+-- What a look at a closed chain finds of a key: along the key's path in a table, and from the first table up.
+use Rattle.std.proofs.Common.{◌≡◌, ◌≢◌, ◌∙◌, ℕ, ◌+◌, ◌-◌, ◌%◌, ◌<◌, ◌⊎◌, zero, suc, add-one, ap, sym, subst, refl, inl, inr, Bool, true, false, cond, List, [], ◌∷◌, slice_index, Option, Some, None, bit_and, arith}
+use mathlib.Core.Option.{some, some-injective, some-ne-none}
+use lib.ListN.{get_elem?}
+use Rattle.std.proofs.Math.Nat.{mod-add-mod}
+use Rattle.std.proofs.lemmas.Bool.{cases_cond, cases_eq, cases_order, eq-eqb, ne_eqb}
+use Rattle.std.proofs.lemmas.Nat.{and_mask}
+use Rattle.nb_core.specs.Plans.{Plan, IsPlan, generations_of, size_of}
+use Rattle.nb_core.specs.History.{IsLegal}
+use Rattle.nb_core.specs.Tables.{AreOthers, IsOther, IsSlot, IsUnprimed, Tables, path_slot, tables_at, tables_of}
+use Rattle.nb_core.specs.Meaning.{is_blank, is_claimed_by, is_installed, shown_by, shown_from, value_among, value_in}
+use Rattle.nb_core.specs.Laws.{AreLinked, IsOnPath}
+use Rattle.nb_core.specs.declared.events.Event.{Event}
+use Rattle.nb_core.specs.declared.states.KeyState.{KeyState}
+use Rattle.nb_core.specs.declared.states.KeyState.TheVariants.{Empty, Dead, Claimed}
+use Rattle.nb_core.specs.declared.states.ValueState.{ValueState}
+use Rattle.nb_core.specs.declared.states.ValueState.TheVariants.{Null, Tombstone, PrimedNull, PrimedTombstone, Primed, Finished}
+use Rattle.nb_table.specs.Closing.{IsClosed, closed_of}
+use Rattle.nb_table.specs.Left.{ClosedOf, IsLeftBy, tables_left}
+use Rattle.nb_table.specs.declared.closed.Closed.TheInside as inside
+
+-- ---- words
+
+-- a word that was read
+pub word-at : (words : List ℕ) (place word : ℕ) → get_elem? words place ≡ some word → word ≡ slice_index words place
+word-at [] place word at = absurd (some-ne-none word (sym at))
+word-at (w ∷ words) zero word at = sym (some-injective w word at)
+word-at (w ∷ words) (suc place) word at = word-at words place word at
+
+-- ---- the laws of the history that left the words
+
+pub record IsLeft (closed : ClosedOf) : Type 0 where
+  pub plan : IsPlan closed.shape
+  pub history : List Event
+  pub left : IsLeftBy closed history
+
+pub is-left : (c : inside.Inside) (closed : ClosedOf) → IsClosed c → closed_of c ≡ closed → IsLeft closed
+is-left c closed is view = subst IsLeft view (record { plan = is.plan; history = is.left.0; left = is.left.1 })
+
+-- what holds of the tables of the history holds of what the words say
+pub of-left :
+    (closed : ClosedOf) (history : List Event) → IsLeftBy closed history → (P : Tables → Type 0)
+    → P (tables_at closed.shape history) → P (tables_left closed)
+of-left closed history left P = subst (λ words. P (tables_of closed.shape words)) (sym left.is)
+
+pub law-left :
+    (closed : ClosedOf) → IsLeft closed → (P : Plan → Tables → Type 0)
+    → ((p : Plan) → IsPlan p → (h : List Event) → IsLegal p h → P p (tables_at p h)) → P closed.shape (tables_left closed)
+law-left closed left P law =
+    of-left closed left.history left.left (P closed.shape) (law closed.shape left.plan left.history left.left.legal)
+
+-- a key's slot is on its path
+abbrev pub AreOnPath : Plan → Tables → Type 0
+AreOnPath p t = (g i k : ℕ) → IsSlot p g i → t.key g i ≡ Claimed k → IsOnPath p t g i k
+
+-- a key has one slot in a table
+abbrev pub HaveOneSlot : Plan → Tables → Type 0
+HaveOneSlot p t =
+    (g i j k : ℕ) → IsSlot p g i → IsSlot p g j → t.key g i ≡ Claimed k → t.key g j ≡ Claimed k → i ≡ j
+
+-- ---- keys
+
+-- a slot that isn't the key's
+unclaimed : (k : ℕ) (s : KeyState) → s ≢ Claimed k → is_claimed_by k s ≡ false
+unclaimed k Empty away = refl
+unclaimed k Dead away = refl
+unclaimed k (Claimed j) away = ne_eqb j k (λ same. away (ap Claimed same))
+
+-- an empty slot and one that is closed to keys have no key
+no-key : (s : KeyState) → (s ≡ Empty) ⊎ (s ≡ Dead) → (j : ℕ) → s ≢ Claimed j
+no-key s (inl empty) j is = cc
+no-key s (inr dead) j is = cc
+
+-- another key's slot isn't the key's own
+not-own : (k : ℕ) (s : KeyState) → IsOther s k → s ≢ Claimed k
+not-own k s other is = let same : Claimed other.other ≡ Claimed k = sym other.is ∙ is in other.differs cc
+
+-- ---- the slots of a table
+
+module _ (t : Tables) (g k : ℕ) where
+  -- a slot that is the key's shows its value, another one what is before it
+  among-here : (n : ℕ) → t.key g n ≡ Claimed k → value_among t g k (suc n) ≡ Some (t.value g n)
+  among-here n here =
+      ap (λ s. cond (is_claimed_by k s) (Some (t.value g n)) (value_among t g k n)) here
+      ∙ ap (λ b. cond b (Some (t.value g n)) (value_among t g k n)) (eq-eqb k k refl)
+
+  among-before : (n : ℕ) → t.key g n ≢ Claimed k → value_among t g k (suc n) ≡ value_among t g k n
+  among-before n away = ap (λ b. cond b (Some (t.value g n)) (value_among t g k n)) (unclaimed k (t.key g n) away)
+
+  among-none : (n : ℕ) → ((i : ℕ) → i < n → t.key g i ≢ Claimed k) → value_among t g k n ≡ None
+  among-none zero away = refl
+  among-none (suc n) away = among-before n (away n (omega arith)) ∙ among-none n (λ i below. away i (omega arith))
+
+  among-some :
+      (n i : ℕ) → i < n → t.key g i ≡ Claimed k → ((j : ℕ) → j < n → t.key g j ≡ Claimed k → j ≡ i)
+      → value_among t g k n ≡ Some (t.value g i)
+  among-some zero i within is one = absurd (omega arith)
+  among-some (suc n) i within is one =
+      elim (cases_eq n i) [
+        | inl same ↦ among-here n (ap (t.key g) same ∙ is) ∙ ap (λ j. Some (t.value g j)) same
+        | inr differs ↦
+            among-before n (λ here. differs (one n (omega arith) here))
+            ∙ among-some n i (omega arith) is (λ j below. one j (omega arith))
+      ]
+
+  -- a value that is found is in a slot
+  among-slot : (n : ℕ) (v : ValueState) → value_among t g k n ≡ Some v → (i : ℕ) × (i < n) × (t.value g i ≡ v)
+  among-slot zero v found = absurd cc
+  among-slot (suc n) v found =
+      elim (cases_cond (is_claimed_by k (t.key g n)) (Some (t.value g n)) (value_among t g k n) (Some v) (sym found)) [
+        | inl here ↦ (let value : t.value g n ≡ v = cc in (n, omega arith, value))
+        | inr before ↦ (let slot = among-slot n v (sym before) in (slot.0, omega (arith, slot.1), slot.2))
+      ]
+
+-- ---- the key's path in a table
+
+module _ (p : Plan) (t : Tables) (g k : ℕ) where
+  -- the path begins at the key's home slot
+  pub home-is : (size : ℕ) → size ≡ size_of p g → bit_and k (size - 1) ≡ path_slot p g k 0
+  home-is size is =
+      let same : k ≡ k + 0 = omega arith in
+      ap (λ s. bit_and k (s - 1)) is ∙ and_mask k (slice_index p.exponents g) ∙ ap (λ x. x % size_of p g) same
+
+  -- the slot that follows on it
+  pub next-is :
+      (d i size : ℕ) → size ≡ size_of p g → i ≡ path_slot p g k d
+      → bit_and (i + 1) (size - 1) ≡ path_slot p g k (d + 1)
+  next-is d i size is at =
+      let sum : k + d + 1 ≡ k + (d + 1) = omega arith in
+      ap (λ s. bit_and (i + 1) (s - 1)) is ∙ and_mask (i + 1) (slice_index p.exponents g)
+      ∙ ap (λ x. (x + 1) % size_of p g) at ∙ mod-add-mod (k + d) (size_of p g) 1 ∙ ap (λ x. x % size_of p g) sum
+
+  -- a slot of the path is one of the table
+  pub path-within : (d i size : ℕ) → size ≡ size_of p g → d < size → i ≡ path_slot p g k d → i < size_of p g
+  path-within d i size is below at = let some : 0 < size_of p g = omega arith in omega arith
+
+  -- one slot more of the path is another key's
+  pub others-more :
+      (d i other : ℕ) → AreOthers p t g k d → i ≡ path_slot p g k d → t.key g i ≡ Claimed other → other ≢ k
+      → AreOthers p t g k (d + 1)
+  others-more d i other others at is differs e below =
+      elim (cases_eq e d) [
+        | inl same ↦
+            subst (λ x. IsOther (t.key g (path_slot p g k x)) k) (sym same)
+            (record { other = other; is = ap (t.key g) (sym at) ∙ is; differs = differs })
+        | inr away ↦ others e (omega arith)
+      ]
+
+  module _ (within : g < generations_of p) where
+    -- the key's own slot has its value
+    pub found-slot :
+        HaveOneSlot p t → (i : ℕ) → i < size_of p g → t.key g i ≡ Claimed k → Some (t.value g i) ≡ value_in p t g k
+    found-slot one_slot i in_table is =
+        sym (among-some t g k (size_of p g) i in_table is
+        (λ j below here. one_slot g j i k (within, below) (within, in_table) here is))
+
+    -- a slot of no key ends the path
+    pub found-end :
+        AreOnPath p t → (d i : ℕ) → i ≡ path_slot p g k d → AreOthers p t g k d
+        → (t.key g i ≡ Empty) ⊎ (t.key g i ≡ Dead) → None ≡ value_in p t g k
+    found-end on_path d i at others free = sym (among-none t g k (size_of p g) (λ j in_table is.
+        let on = on_path g j k (within, in_table) is in
+        elim (cases_order d on.distance) [
+          | inl same ↦ no-key (t.key g i) free k (ap (t.key g) (at ∙ ap (path_slot p g k) same ∙ on.at) ∙ is)
+          | inr (inl below) ↦
+              let passed = on.passed d below in no-key (t.key g i) free passed.other (ap (t.key g) at ∙ passed.is)
+          | inr (inr above) ↦ not-own k _ (others on.distance above) (ap (t.key g) on.at ∙ is)
+        ]))
+
+    -- where other keys have the whole path, the key has no slot
+    pub found-none : AreOnPath p t → AreOthers p t g k (size_of p g) → None ≡ value_in p t g k
+    found-none on_path others = sym (among-none t g k (size_of p g) (λ i in_table is.
+        let on = on_path g i k (within, in_table) is in
+        not-own k _ (others on.distance on.in_table) (ap (t.key g) on.at ∙ is)))
+
+    -- above a primed value there is a table
+    pub primed-next : AreLinked p t → (n : ℕ) → Some (Primed n) ≡ value_in p t g k → g + 1 < generations_of p
+    primed-next linked n found =
+        let slot = among-slot t g k (size_of p g) (Primed n) (sym found) in
+        elim (linked.primed g slot.0 (within, slot.1)) [
+          | inl unprimed ↦ absurd (subst IsUnprimed slot.2 unprimed)
+          | inr next ↦ omega (arith, linked.within (suc g) next)
+        ]
+
+-- ---- from the first table up
+
+module _ (p : Plan) (t : Tables) (k g : ℕ) (within : g < generations_of p) where
+  -- a table that isn't there shows none
+  pub shown-absent : false ≡ is_installed t g → shown_from p t k g (generations_of p - g) ≡ None
+  shown-absent absent =
+      let count : generations_of p - g ≡ suc (generations_of p - suc g) = omega arith in
+      let above = shown_from p t k (suc g) (generations_of p - suc g) in
+      let here = shown_by (value_in p t g k) (is_blank (value_in p t (suc g) k)) above in
+      ap (shown_from p t k g) count ∙ ap (λ b. cond b here None) (sym absent)
+
+  -- one that is there shows what the key's value in it shows
+  pub shown-value :
+      (v : Option ValueState) → true ≡ is_installed t g → v ≡ value_in p t g k
+      → let above = shown_from p t k (g + 1) (generations_of p - (g + 1)) in
+      shown_from p t k g (generations_of p - g) ≡ shown_by v (is_blank (value_in p t (g + 1) k)) above
+  shown-value v installed is =
+      let count : generations_of p - g ≡ suc (generations_of p - suc g) = omega arith in
+      let above = λ (f : ℕ). shown_from p t k f (generations_of p - f) in
+      let here = λ (v : Option ValueState) (f : ℕ). shown_by v (is_blank (value_in p t f k)) (above f) in
+      ap (shown_from p t k g) count ∙ ap (λ b. cond b (here (value_in p t g k) (suc g)) None) (sym installed)
+      ∙ ap (λ v. here v (suc g)) (sym is) ∙ ap (here v) (sym (add-one g))
+
+module _ (blank : Bool) (above : Option ℕ) where
+  -- a null and a tombstone show that the key is absent
+  pub shows-none : (v : ValueState) → (v ≡ Null) ⊎ (v ≡ Tombstone) → shown_by (Some v) blank above ≡ None
+  shows-none v (inl null) = ap (λ s. shown_by (Some s) blank above) null
+  shows-none v (inr gone) = ap (λ s. shown_by (Some s) blank above) gone
+
+  -- a primed number shows while it isn't copied
+  pub shows-primed : (n : ℕ) → blank ≡ true → shown_by (Some (Primed n)) blank above ≡ Some n
+  shows-primed n is = ap (λ b. cond b (Some n) above) is
+
+  pub passes-primed : (n : ℕ) → blank ≡ false → shown_by (Some (Primed n)) blank above ≡ above
+  passes-primed n is = ap (λ b. cond b (Some n) above) is
+
+  -- a final value passes to the tables above
+  pub passes-final :
+      (v : ValueState) → (v ≡ PrimedNull) ⊎ ((v ≡ PrimedTombstone) ⊎ ((n : ℕ) × (v ≡ Finished n)))
+      → shown_by (Some v) blank above ≡ above
+  passes-final v (inl null) = ap (λ s. shown_by (Some s) blank above) null
+  passes-final v (inr (inl gone)) = ap (λ s. shown_by (Some s) blank above) gone
+  passes-final v (inr (inr copied)) = ap (λ s. shown_by (Some s) blank above) copied.1
