@@ -270,10 +270,6 @@ can-copy p lasts lawful moved one number seen g i k n word slot says claimed sou
 pub value-within : (p : Plan) → PlacesAreDistinct → IsPlan p → (g i : ℕ) → IsSlot p g i → value_place p g i < word_count p
 value-within p places plan g i slot = (places p plan).below (Value g i) slot
 
--- a lawful word decodes
-pub is-some : (x : ℕ) (o : Option ValueState) → o ≡ value_state x → IsValueWord x → IsSome o
-is-some x o is word = subst IsSome (sym (is ∙ word.decodes)) refl
-
 -- A step on a slot's value word that found this word.
 module _ (p : Plan) (plan : IsPlan p) (lawful : LawfulWords) (begins : BeginningsAreLegal) (events : ℕ → List Event)
     (before : SeenBy) (found : ℕ) (after : SeenBy) (g i : ℕ) (slot : IsSlot p g i) (shape : before.shape ≡ p)

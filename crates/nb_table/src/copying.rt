@@ -9,7 +9,7 @@ ghost use Rattle.nb_table.specs.Conditions.{HasSource, IsCopied};
 ghost use Rattle.nb_table.specs.Chains.{Extended, IsOwn, seen_by};
 
 use crate::chain::{Chain, ChainSeat, Spot};
-use nb_core::{Key, Num, ValueState, decode_value, encode_value, laws};
+use nb_core::{Key, Num, ValueState, decode_lawful_value, encode_value, laws};
 use std::marker::Brand;
 
 impl Chain {
@@ -34,7 +34,7 @@ impl Chain {
             key: None,
             number: None,
         };
-        decode_value(self.ors::<Brand>(seat, place, 1, spot)).unwrap()
+        decode_lawful_value(self.ors::<Brand>(seat, place, 1, spot))
     }
 
     /// Copies the number of a key in the table below `g` to the key's slot `i` of table `g`, by one compare-exchange of null
@@ -68,7 +68,7 @@ impl Chain {
             key: Some(key),
             number: Some(number),
         };
-        decode_value(self.exchanges::<Brand>(seat, place, 0, word, spot, None)).unwrap()
+        decode_lawful_value(self.exchanges::<Brand>(seat, place, 0, word, spot, None))
     }
 
     /// Marks the primed number in slot `i` of table `g` as copied, by one fetch-or of 2 on its value word, and answers what
@@ -92,6 +92,6 @@ impl Chain {
             key: None,
             number: Some(number),
         };
-        decode_value(self.ors::<Brand>(seat, place, 2, spot)).unwrap()
+        decode_lawful_value(self.ors::<Brand>(seat, place, 2, spot))
     }
 }
