@@ -92,6 +92,14 @@ impl Num {
         }
     }
 
+    /// The value number of a number that is known to be one. It makes no test of that.
+    pub(crate) const fn in_range(number: u64) -> Num
+        requires { number ≤ VALUE_MAX }
+        ensures { result ≡ number }
+    {
+        Num { number }
+    }
+
     pub const fn get(self) -> u64
         ensures number { result ≡ self }
         ensures in_range { result ≤ VALUE_MAX }

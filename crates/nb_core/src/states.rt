@@ -1,5 +1,6 @@
 //! What the two words of a slot hold.
 ghost use Rattle.std.specs.Prelude.{◌≡◌, ◌≢◌, Some, IfSome, IfNone};
+ghost use Rattle.nb_core.specs.Laws.{IsValueWord};
 ghost use Rattle.nb_core.specs.States.{IsValueState, key_state, key_word, value_state, value_word};
 ghost use Rattle.nb_core.specs.Tables.{is_finished_value};
 
@@ -101,6 +102,29 @@ pub fn decode_value(word: u64) -> Option<ValueState>
                 3 => Some(ValueState::Finished(number)),
                 _ => None,
             }
+        }
+    }
+}
+
+/// What a value word holds that is known to be one. It makes no test of that.
+#[inline]
+pub fn decode_lawful_value(word: u64) -> ValueState
+    requires { IsValueWord word }
+    ensures { value_state word ≡ Some result }
+{
+    if word < 8 {
+        match word {
+            0 => ValueState::Null,
+            1 => ValueState::PrimedNull,
+            4 => ValueState::Tombstone,
+            _ => ValueState::PrimedTombstone,
+        }
+    } else {
+        let number = Num::in_range(word / 4 - 2);
+        match word % 4 {
+            0 => ValueState::Live(number),
+            1 => ValueState::Primed(number),
+            _ => ValueState::Finished(number),
         }
     }
 }

@@ -1,5 +1,5 @@
 -- What a seat may do to a value, and what it finds there.
-use Rattle.std.proofs.Common.{◌≡◌, ◌∙◌, ℕ, zero, suc, ◌%◌, ◌<◌, ◌⊎◌, Bool, true, false, cond, eqb, List, [], ◌∷◌, ◌++◌, length, slice_index, slice_set, bit_or, Some, Option, ap, sym, subst, refl, inl, inr, arith}
+use Rattle.std.proofs.Common.{◌≡◌, ◌∙◌, ℕ, zero, suc, ◌%◌, ◌<◌, ◌⊎◌, Bool, true, false, cond, eqb, List, [], ◌∷◌, ◌++◌, drop, length, slice_index, slice_set, bit_or, Some, Option, ap, sym, subst, refl, inl, inr, arith}
 use Rattle.std.proofs.lemmas.Bool.{eq-eqb, eqb-true, eqb-false, ne_eqb}
 use Rattle.std.proofs.lemmas.List.{get_or-set_same}
 use Rattle.std.specs.Option.{IsSome, unwrap_or}
@@ -13,7 +13,7 @@ use Rattle.nb_core.specs.declared.events.Event.TheVariants.{CopyIn, Prime, Finis
 use Rattle.nb_core.specs.declared.states.KeyState.TheVariants.{Claimed}
 use Rattle.nb_core.specs.declared.states.ValueState.{ValueState}
 use Rattle.nb_core.specs.declared.states.ValueState.TheVariants.{Null, Tombstone, Live, Primed, Finished}
-use Rattle.nb_table.specs.Chains.{Extended, SeenBy, seen_by}
+use Rattle.nb_table.specs.Chains.{Extended, SeenBy, seen_before, seen_by}
 use Rattle.nb_table.specs.Conditions.{HasSource, IsCopied}
 use Rattle.nb_table.specs.Events.{copies, finishes, only, primes}
 use Rattle.nb_table.specs.Steps.{Can, Stepped}
@@ -234,10 +234,6 @@ module _ (codings : Codings) where
 pub value-within : (p : Plan) → PlacesAreDistinct → IsPlan p → (g i : ℕ) → IsSlot p g i → value_place p g i < word_count p
 value-within p places plan g i slot = (places p plan).below (Value g i) slot
 
--- a lawful word decodes
-pub is-some : (x : ℕ) (o : Option ValueState) → o ≡ value_state x → IsValueWord x → IsSome o
-is-some x o is word = subst IsSome (sym (is ∙ word.decodes)) refl
-
 -- A step on a slot's value word that found this word.
 module _
     (p : Plan) (plan : IsPlan p) (lawful : LawfulWords) (begins : BeginningsAreLegal) (events : ℕ → List Event)
@@ -275,7 +271,16 @@ module _
       → Extended before after [] 1 × ((seen_by after).value g i ≡ v)
   value-kept fails v says = then-value false fails found v step.word says
 
-  -- where it holds the event made a word of the one found
+  -- where it holds the value was what the word found says, before the event
+  pub value-before :
+      test found ≡ true → (v : ValueState) → value_state found ≡ Some v → (seen_before after).value g i ≡ v
+  value-before holds v says =
+      ap (λ q. (tables_at q (drop 1 after.seen)).value g i) (step.grows.shape ∙ shape)
+      ∙ ap (λ s. (tables_at p (drop 1 s)).value g i)
+          (step.grows.seen ∙ ap (λ b. only b e ++ (step.grows.others ++ before.seen)) holds)
+      ∙ ap (λ x. unwrap_or (value_state x) Null) step.word ∙ ap (λ o. unwrap_or o Null) says
+
+  -- and the event made a word of the one found
   pub value-made :
       test found ≡ true → PlacesAreDistinct → (f : ℕ → ℕ) (v : ValueState)
       → let h = step.grows.others ++ before.seen in let place = value_place p g i in
@@ -299,11 +304,15 @@ module _
     (says : value_state found ≡ Some v) where
   pub prime-won :
       PlacesAreDistinct → IsUnprimed v
-      → Extended before after (Prime before.number g i ∷ []) 1 × ((seen_by after).value g i ≡ primed v)
+      → Extended before after (Prime before.number g i ∷ []) 1 × ((seen_before after).value g i ≡ v)
+      × ((seen_by after).value g i ≡ primed v)
   prime-won places unprimed =
-      value-made p plan lawful begins (λ x. eqb (x % 2) 0) (Prime before.number g i) before found after g i slot shape step
-      (eq-eqb (found % 2) 0 ((evens codings found v says).0 unprimed)) places (λ x. bit_or x 1) (primed v) refl
-      (primed-says codings found v says)
+      let e = Prime before.number g i in
+      let test : ℕ → Bool = λ x. eqb (x % 2) 0 in
+      let holds = eq-eqb (found % 2) 0 ((evens codings found v says).0 unprimed) in
+      let made = value-made p plan lawful begins test e before found after g i slot shape step holds places (λ x. bit_or x 1)
+      (primed v) refl (primed-says codings found v says) in
+      (made.0, value-before p plan lawful begins test e before found after g i slot shape step holds v says, made.1)
 
   pub prime-lost : (IsUnprimed v → ⊥) → Extended before after [] 1 × ((seen_by after).value g i ≡ v)
   prime-lost is_primed =

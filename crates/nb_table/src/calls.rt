@@ -7,7 +7,7 @@ ghost use Rattle.nb_core.specs.declared.states.KeyState.TheVariants as key_is;
 ghost use Rattle.nb_table.specs.Chains.{Extended, IsOwn, seen_by};
 
 use crate::chain::{Chain, ChainSeat, Spot};
-use nb_core::{Call, Change, ValueState, Want, decode_value, encode_value, laws};
+use nb_core::{Call, Change, ValueState, Want, decode_lawful_value, encode_value, laws};
 use std::marker::Brand;
 
 /// Reminds a proof of the ranges of a call's key and numbers. It does nothing.
@@ -69,6 +69,6 @@ impl Chain {
             key: None,
             number: None,
         };
-        decode_value(self.exchanges::<Brand>(seat, place, old, new, spot, Some(call))).unwrap()
+        decode_lawful_value(self.exchanges::<Brand>(seat, place, old, new, spot, Some(call)))
     }
 }

@@ -6,10 +6,10 @@ ghost use Rattle.nb_core.specs.declared.events.Event.TheVariants as event;
 ghost use Rattle.nb_core.specs.declared.states.KeyState.TheVariants as key_is;
 ghost use Rattle.nb_core.specs.declared.states.ValueState.TheVariants as value_is;
 ghost use Rattle.nb_table.specs.Conditions.{HasSource, IsCopied};
-ghost use Rattle.nb_table.specs.Chains.{Extended, IsOwn, seen_by};
+ghost use Rattle.nb_table.specs.Chains.{Extended, IsOwn, seen_before, seen_by};
 
 use crate::chain::{Chain, ChainSeat, Spot};
-use nb_core::{Key, Num, ValueState, decode_value, encode_value, laws};
+use nb_core::{Key, Num, ValueState, decode_lawful_value, encode_value, laws};
 use std::marker::Brand;
 
 impl Chain {
@@ -22,7 +22,7 @@ impl Chain {
         requires claimed { (k : ℕ) × ((seen_by seat.old).key g i ≡ key_is.Claimed k) }
         ensures won { IsUnprimed result
             → Extended seat.old seat.new (event.Prime seat.old.number g i ∷ []) 1
-            × ((seen_by seat.new).value g i ≡ primed result) }
+            × ((seen_before seat.new).value g i ≡ result) × ((seen_by seat.new).value g i ≡ primed result) }
         ensures lost { (IsUnprimed result → ⊥) → Extended seat.old seat.new [] 1 × ((seen_by seat.new).value g i ≡ result) }
     {
         laws::seen_lasts();
@@ -37,7 +37,7 @@ impl Chain {
             key: None,
             number: None,
         };
-        decode_value(self.ors::<Brand>(seat, place, 1, spot)).unwrap()
+        decode_lawful_value(self.ors::<Brand>(seat, place, 1, spot))
     }
 
     /// Copies the number of a key in the table below `g` to the key's slot `i` of table `g`, by one compare-exchange of null
@@ -74,7 +74,7 @@ impl Chain {
             key: Some(key),
             number: Some(number),
         };
-        decode_value(self.exchanges::<Brand>(seat, place, 0, word, spot, None)).unwrap()
+        decode_lawful_value(self.exchanges::<Brand>(seat, place, 0, word, spot, None))
     }
 
     /// Marks the primed number in slot `i` of table `g` as copied, by one fetch-or of 2 on its value word, and answers what
@@ -102,6 +102,6 @@ impl Chain {
             key: None,
             number: Some(number),
         };
-        decode_value(self.ors::<Brand>(seat, place, 2, spot)).unwrap()
+        decode_lawful_value(self.ors::<Brand>(seat, place, 2, spot))
     }
 }

@@ -11,7 +11,7 @@ ghost use Rattle.nb_table.specs.Events.{reads, shown_by_key, shown_by_next, show
 
 use crate::calls::known;
 use crate::chain::{Chain, ChainSeat, Spot};
-use nb_core::{Call, KeyState, ValueState, decode_key, decode_value, laws};
+use nb_core::{Call, KeyState, ValueState, decode_key, decode_lawful_value, laws};
 use std::marker::Brand;
 
 /// Reminds a proof of the ranges of a load's call, if it has one. It does nothing.
@@ -82,7 +82,7 @@ impl Chain {
             key: None,
             number: None,
         };
-        decode_value(self.loads::<Brand>(seat, place, spot, call)).unwrap()
+        decode_lawful_value(self.loads::<Brand>(seat, place, spot, call))
     }
 
     /// Whether table `g` has a next one, by one load of its next word. With a call whose key's whole path is other keys', a

@@ -31,6 +31,7 @@ fn value_words(rt: HostRuntime) -> Result<(), Fail> {
     ] {
         assert_eq!(rt; encode_value(state), word);
         assert_eq!(rt; decode_value(word), Some(state));
+        assert_eq!(rt; decode_lawful_value(encode_value(state)), state);
     }
     for word in [2, 3, 6, 7, 30, 4611686018427387912] {
         assert_eq!(rt; decode_value(word), None);

@@ -5,7 +5,7 @@ use Rattle.nb_core.specs.declared.states.KeyState.TheVariants.{Claimed}
 use Rattle.nb_table.specs.Conditions.{HasSource}
 use Rattle.nb_table.specs.Events.{copies}
 use Rattle.nb_table.specs.Steps.{Can, Stepped}
-use Rattle.nb_table.proofs.Values.{can-copy, copy-lost, copy-won, found-is, is-some, value-within}
+use Rattle.nb_table.proofs.Values.{can-copy, copy-lost, copy-won, found-is, value-within}
 use Rattle.nb_table.proofs.chain.Chain.copy_in.Goals as goal
 
 pub exchanges-requires-clause-shapes : goal.exchanges-requires-clause-shapes
@@ -32,17 +32,16 @@ exchanges-requires-clause-can c =
     (subst (λ q. (tables_at q seat.seen).key c.args.g c.args.i ≡ Claimed c.args.key) c.requires.own.1 c.requires.claimed)
     (subst (λ q. HasSource p (tables_at q seat.seen) c.args.g c.args.key c.args.number) c.requires.own.1 c.requires.source))
 
-pub unwrap-requires : goal.unwrap-requires
-unwrap-requires c =
+pub decode_lawful_value-requires : goal.decode_lawful_value-requires
+decode_lawful_value-requires c =
     let p = c.args.self.now.shape in
     let plan = subst IsPlan (ap (λ v. v.shape) c.self.view_is) c.self.invariant.plan in
     let events = copies c.args.seat.now.number c.args.g c.args.i c.args.key c.args.number in
     let place = c.value_place-place.ensures ∙ ap (λ v. value_place v.shape c.args.g c.args.i) c.self.view_is in
     let step = subst (λ x. Stepped p events x c.args.seat.now c.exchanges.result c.exchanges.new.seat) place
     c.exchanges.ensures in
-    is-some c.exchanges.result c.decode_value.result c.decode_value.ensures.state
-    (found-is p plan c.lawful_words.ensures c.beginnings_are_legal.ensures events c.args.seat.now c.exchanges.result
-    c.exchanges.new.seat c.args.g c.args.i c.requires.slot c.requires.own.1 step)
+    found-is p plan c.lawful_words.ensures c.beginnings_are_legal.ensures events c.args.seat.now c.exchanges.result
+    c.exchanges.new.seat c.args.g c.args.i c.requires.slot c.requires.own.1 step
 
 pub returns-clause-won : goal.returns-clause-won
 returns-clause-won c =
@@ -54,7 +53,7 @@ returns-clause-won c =
     c.exchanges.ensures in
     copy-won p plan c.lawful_words.ensures c.beginnings_are_legal.ensures c.args.seat.now c.exchanges.result
     c.exchanges.new.seat c.args.g c.args.i c.args.key c.args.number c.requires.slot c.requires.own.1 step
-    c.unwrap.result (sym c.decode_value.ensures.state ∙ c.unwrap.ensures) c.places_are_distinct.ensures c.codings.ensures
+    c.decode_lawful_value.result c.decode_lawful_value.ensures c.places_are_distinct.ensures c.codings.ensures
     c.encode_value-word.result c.encode_value-word.ensures.back
 
 pub returns-clause-lost : goal.returns-clause-lost
@@ -67,4 +66,4 @@ returns-clause-lost c =
     c.exchanges.ensures in
     copy-lost p plan c.lawful_words.ensures c.beginnings_are_legal.ensures c.args.seat.now c.exchanges.result
     c.exchanges.new.seat c.args.g c.args.i c.args.key c.args.number c.requires.slot c.requires.own.1 step
-    c.unwrap.result (sym c.decode_value.ensures.state ∙ c.unwrap.ensures)
+    c.decode_lawful_value.result c.decode_lawful_value.ensures

@@ -5,7 +5,7 @@ use Rattle.nb_core.specs.Laws.{IsPrimedOrFinished}
 use Rattle.nb_table.specs.Conditions.{IsCopied}
 use Rattle.nb_table.specs.Events.{finishes}
 use Rattle.nb_table.specs.Steps.{Can, Stepped}
-use Rattle.nb_table.proofs.Values.{can-finish, finish-lost, finish-won, found-is, is-some, value-within}
+use Rattle.nb_table.proofs.Values.{can-finish, finish-lost, finish-won, found-is, value-within}
 use Rattle.nb_table.proofs.chain.Chain.finish_slot.Goals as goal
 
 pub ors-requires-clause-shapes : goal.ors-requires-clause-shapes
@@ -30,16 +30,15 @@ ors-requires-clause-can c =
     c.args.i c.args.number c.requires.slot
     (subst (λ q. IsCopied p (tables_at q seat.seen) c.args.g c.args.i c.args.number) c.requires.own.1 c.requires.copied))
 
-pub unwrap-requires : goal.unwrap-requires
-unwrap-requires c =
+pub decode_lawful_value-requires : goal.decode_lawful_value-requires
+decode_lawful_value-requires c =
     let p = c.args.self.now.shape in
     let plan = subst IsPlan (ap (λ v. v.shape) c.self.view_is) c.self.invariant.plan in
     let events = finishes c.args.seat.now.number c.args.g c.args.i c.args.number in
     let place = c.value_place-place.ensures ∙ ap (λ v. value_place v.shape c.args.g c.args.i) c.self.view_is in
     let step = subst (λ x. Stepped p events x c.args.seat.now c.ors.result c.ors.new.seat) place c.ors.ensures in
-    is-some c.ors.result c.decode_value.result c.decode_value.ensures.state
-    (found-is p plan c.lawful_words.ensures c.beginnings_are_legal.ensures events c.args.seat.now c.ors.result c.ors.new.seat
-    c.args.g c.args.i c.requires.slot c.requires.own.1 step)
+    found-is p plan c.lawful_words.ensures c.beginnings_are_legal.ensures events c.args.seat.now c.ors.result c.ors.new.seat
+    c.args.g c.args.i c.requires.slot c.requires.own.1 step
 
 pub returns-clause-won : goal.returns-clause-won
 returns-clause-won c =
@@ -50,7 +49,7 @@ returns-clause-won c =
     let step = subst (λ x. Stepped p events x c.args.seat.now c.ors.result c.ors.new.seat) place c.ors.ensures in
     finish-won p plan c.lawful_words.ensures c.beginnings_are_legal.ensures c.codings.ensures c.args.seat.now c.ors.result
     c.ors.new.seat c.args.g c.args.i c.args.number c.requires.slot c.requires.own.1 step
-    c.unwrap.result (sym c.decode_value.ensures.state ∙ c.unwrap.ensures) c.places_are_distinct.ensures
+    c.decode_lawful_value.result c.decode_lawful_value.ensures c.places_are_distinct.ensures
 
 pub returns-clause-lost : goal.returns-clause-lost
 returns-clause-lost c =
@@ -61,6 +60,6 @@ returns-clause-lost c =
     let step = subst (λ x. Stepped p events x c.args.seat.now c.ors.result c.ors.new.seat) place c.ors.ensures in
     finish-lost p plan c.lawful_words.ensures c.beginnings_are_legal.ensures c.codings.ensures c.args.seat.now c.ors.result
     c.ors.new.seat c.args.g c.args.i c.args.number c.requires.slot c.requires.own.1 step
-    c.unwrap.result (sym c.decode_value.ensures.state ∙ c.unwrap.ensures) c.seen_lasts.ensures
+    c.decode_lawful_value.result c.decode_lawful_value.ensures c.seen_lasts.ensures
     (subst (λ q. IsPrimedOrFinished (tables_at q c.args.seat.now.seen) c.args.g c.args.i c.args.number) c.requires.own.1
     c.requires.copied.held)

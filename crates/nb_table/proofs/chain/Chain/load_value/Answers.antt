@@ -10,7 +10,7 @@ use Rattle.nb_table.specs.Conditions.{IsReached}
 use Rattle.nb_table.specs.Events.{reads, shown_by_value}
 use Rattle.nb_table.specs.Steps.{Can, Stepped}
 use Rattle.nb_table.proofs.Loading.{can-load_value, load-sees}
-use Rattle.nb_table.proofs.Values.{found-is, is-some}
+use Rattle.nb_table.proofs.Values.{found-is}
 use Rattle.nb_table.proofs.chain.Chain.load_value.Goals as goal
 
 pub loads-requires-clause-can : goal.loads-requires-clause-can
@@ -29,17 +29,16 @@ loads-requires-clause-can c =
     (subst (λ q. IfSome c.args.call (λ call. (tables_at q seat.seen).key g i ≡ Claimed (key_of_call call))) c.requires.own.1
     c.requires.claimed))
 
-pub unwrap-requires : goal.unwrap-requires
-unwrap-requires c =
+pub decode_lawful_value-requires : goal.decode_lawful_value-requires
+decode_lawful_value-requires c =
     let p = c.args.self.now.shape in
     let plan = subst IsPlan (ap (λ v. v.shape) c.self.view_is) c.known.ensures in
     let seat = c.args.seat.now in
     let events = λ (found : ℕ). reads seat.number c.args.call (λ k. shown_by_value (unwrap_or (value_state found) Null)) in
     let place = c.value_place-place.ensures ∙ ap (λ v. value_place v.shape c.args.g c.args.i) c.self.view_is in
     let step = subst (λ x. Stepped p events x seat c.loads.result c.loads.new.seat) place c.loads.ensures in
-    is-some c.loads.result c.decode_value.result c.decode_value.ensures.state
-    (found-is p plan c.lawful_words.ensures c.beginnings_are_legal.ensures events seat c.loads.result c.loads.new.seat
-    c.args.g c.args.i c.requires.slot c.requires.own.1 step)
+    found-is p plan c.lawful_words.ensures c.beginnings_are_legal.ensures events seat c.loads.result c.loads.new.seat
+    c.args.g c.args.i c.requires.slot c.requires.own.1 step
 
 pub returns-clause-found : goal.returns-clause-found
 returns-clause-found c =
@@ -50,4 +49,4 @@ returns-clause-found c =
     let step = c.loads.ensures in
     ap (λ t. t.value c.args.g c.args.i) (load-sees p seat.number c.args.call shown _ _ seat c.loads.new.seat c.requires.own.1
     step) ∙ ap (λ x. unwrap_or (value_state x) Null) (ap (slice_index _) (sym place) ∙ step.word)
-    ∙ ap (λ o. unwrap_or o Null) (sym c.decode_value.ensures.state ∙ c.unwrap.ensures)
+    ∙ ap (λ o. unwrap_or o Null) (c.decode_lawful_value.ensures)

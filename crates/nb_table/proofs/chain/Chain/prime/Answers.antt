@@ -4,7 +4,7 @@ use Rattle.nb_core.specs.Tables.{tables_at}
 use Rattle.nb_core.specs.declared.states.KeyState.TheVariants.{Claimed}
 use Rattle.nb_table.specs.Events.{primes}
 use Rattle.nb_table.specs.Steps.{Can, Stepped}
-use Rattle.nb_table.proofs.Values.{can-prime, found-is, is-some, prime-lost, prime-won, value-within}
+use Rattle.nb_table.proofs.Values.{can-prime, found-is, prime-lost, prime-won, value-within}
 use Rattle.nb_table.proofs.chain.Chain.prime.Goals as goal
 
 pub ors-requires-clause-shapes : goal.ors-requires-clause-shapes
@@ -28,16 +28,15 @@ ors-requires-clause-can c =
     c.requires.slot (subst (λ q. (tables_at q seat.seen).next c.args.g ≡ 1) c.requires.own.1 c.requires.growing)
     (subst (λ q. (k : ℕ) × ((tables_at q seat.seen).key c.args.g c.args.i ≡ Claimed k)) c.requires.own.1 c.requires.claimed))
 
-pub unwrap-requires : goal.unwrap-requires
-unwrap-requires c =
+pub decode_lawful_value-requires : goal.decode_lawful_value-requires
+decode_lawful_value-requires c =
     let p = c.args.self.now.shape in
     let plan = subst IsPlan (ap (λ v. v.shape) c.self.view_is) c.self.invariant.plan in
     let events = primes c.args.seat.now.number c.args.g c.args.i in
     let place = c.value_place-place.ensures ∙ ap (λ v. value_place v.shape c.args.g c.args.i) c.self.view_is in
     let step = subst (λ x. Stepped p events x c.args.seat.now c.ors.result c.ors.new.seat) place c.ors.ensures in
-    is-some c.ors.result c.decode_value.result c.decode_value.ensures.state
-    (found-is p plan c.lawful_words.ensures c.beginnings_are_legal.ensures events c.args.seat.now c.ors.result c.ors.new.seat
-    c.args.g c.args.i c.requires.slot c.requires.own.1 step)
+    found-is p plan c.lawful_words.ensures c.beginnings_are_legal.ensures events c.args.seat.now c.ors.result c.ors.new.seat
+    c.args.g c.args.i c.requires.slot c.requires.own.1 step
 
 pub returns-clause-won : goal.returns-clause-won
 returns-clause-won c =
@@ -48,7 +47,7 @@ returns-clause-won c =
     let step = subst (λ x. Stepped p events x c.args.seat.now c.ors.result c.ors.new.seat) place c.ors.ensures in
     prime-won p plan c.lawful_words.ensures c.beginnings_are_legal.ensures c.codings.ensures c.args.seat.now c.ors.result
     c.ors.new.seat c.args.g c.args.i c.requires.slot c.requires.own.1 step
-    c.unwrap.result (sym c.decode_value.ensures.state ∙ c.unwrap.ensures) c.places_are_distinct.ensures
+    c.decode_lawful_value.result c.decode_lawful_value.ensures c.places_are_distinct.ensures
 
 pub returns-clause-lost : goal.returns-clause-lost
 returns-clause-lost c =
@@ -59,4 +58,4 @@ returns-clause-lost c =
     let step = subst (λ x. Stepped p events x c.args.seat.now c.ors.result c.ors.new.seat) place c.ors.ensures in
     prime-lost p plan c.lawful_words.ensures c.beginnings_are_legal.ensures c.codings.ensures c.args.seat.now c.ors.result
     c.ors.new.seat c.args.g c.args.i c.requires.slot c.requires.own.1 step
-    c.unwrap.result (sym c.decode_value.ensures.state ∙ c.unwrap.ensures)
+    c.decode_lawful_value.result c.decode_lawful_value.ensures

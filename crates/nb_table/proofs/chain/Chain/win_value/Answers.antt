@@ -5,7 +5,7 @@ use Rattle.nb_core.specs.History.{key_of_call}
 use Rattle.nb_core.specs.declared.states.KeyState.TheVariants.{Claimed}
 use Rattle.nb_table.specs.Events.{wins}
 use Rattle.nb_table.specs.Steps.{Can, Stepped}
-use Rattle.nb_table.proofs.Values.{found-is, is-some, value-within}
+use Rattle.nb_table.proofs.Values.{found-is, value-within}
 use Rattle.nb_table.proofs.Winning.{can-win, win-lost, win-won, wins-of}
 use Rattle.nb_table.proofs.chain.Chain.win_value.Goals as goal
 
@@ -37,8 +37,8 @@ exchanges-requires-clause-can c =
     (subst (λ q. IsSettledBelow p (tables_at q seat.seen) c.args.g (key_of_call c.args.call)) c.requires.own.1
     c.requires.settled) c.requires.exchange)
 
-pub unwrap-requires : goal.unwrap-requires
-unwrap-requires c =
+pub decode_lawful_value-requires : goal.decode_lawful_value-requires
+decode_lawful_value-requires c =
     let p = c.args.self.now.shape in
     let plan = subst IsPlan (ap (λ v. v.shape) c.self.view_is) c.self.invariant.plan in
     let seat = c.args.seat.now in
@@ -47,10 +47,9 @@ unwrap-requires c =
     c.args.call c.encode_value-old.ensures.back c.encode_value-new.ensures.back in
     let step = subst₂ (λ x told. Stepped p told x seat c.exchanges.result c.exchanges.new.seat) place events
     c.exchanges.ensures in
-    is-some c.exchanges.result c.decode_value.result c.decode_value.ensures.state
-    (found-is p plan c.lawful_words.ensures c.beginnings_are_legal.ensures
+    found-is p plan c.lawful_words.ensures c.beginnings_are_legal.ensures
     (wins seat.number c.args.g c.args.i c.args.from c.args.to c.args.call) seat c.exchanges.result c.exchanges.new.seat
-    c.args.g c.args.i c.requires.slot c.requires.own.1 step)
+    c.args.g c.args.i c.requires.slot c.requires.own.1 step
 
 pub returns-clause-won : goal.returns-clause-won
 returns-clause-won c =
@@ -64,7 +63,7 @@ returns-clause-won c =
     c.exchanges.ensures in
     win-won p plan c.lawful_words.ensures c.beginnings_are_legal.ensures c.codings.ensures seat c.exchanges.result
     c.exchanges.new.seat c.args.g c.args.i c.args.from c.args.to c.args.call c.requires.slot c.requires.own.1 step
-    c.unwrap.result (sym c.decode_value.ensures.state ∙ c.unwrap.ensures) c.places_are_distinct.ensures
+    c.decode_lawful_value.result c.decode_lawful_value.ensures c.places_are_distinct.ensures
     c.encode_value-new.result c.encode_value-new.ensures.back
 
 pub returns-clause-lost : goal.returns-clause-lost
@@ -79,5 +78,5 @@ returns-clause-lost c =
     c.exchanges.ensures in
     win-lost p plan c.lawful_words.ensures c.beginnings_are_legal.ensures c.codings.ensures seat c.exchanges.result
     c.exchanges.new.seat c.args.g c.args.i c.args.from c.args.to c.args.call c.requires.slot c.requires.own.1 step
-    c.unwrap.result (sym c.decode_value.ensures.state ∙ c.unwrap.ensures) c.encode_value-old.result
+    c.decode_lawful_value.result c.decode_lawful_value.ensures c.encode_value-old.result
     c.encode_value-old.ensures.back
