@@ -1,8 +1,8 @@
 -- What a seat may do to a value, and what it finds there.
-use Rattle.std.proofs.Common.{◌≡◌, ◌∙◌, ℕ, zero, suc, ◌%◌, ◌<◌, ◌⊎◌, Bool, true, false, cond, eqb, List, [], ◌∷◌, ◌++◌, drop, length, slice_index, slice_set, bit_or, Some, Option, ap, sym, subst, refl, inl, inr, arith}
+use Rattle.std.proofs.Common.{◌≡◌, ◌∙◌, ℕ, zero, suc, ◌%◌, ◌<◌, ◌⊎◌, Bool, true, false, cond, eqb, List, [], ◌∷◌, ◌++◌, drop, length, slice_index, slice_set, bit_or, Some, ap, sym, subst, refl, inl, inr, arith}
 use Rattle.std.proofs.lemmas.Bool.{eq-eqb, eqb-true, eqb-false, ne_eqb}
 use Rattle.std.proofs.lemmas.List.{get_or-set_same}
-use Rattle.std.specs.Option.{IsSome, unwrap_or}
+use Rattle.std.specs.Option.{unwrap_or}
 use Rattle.nb_core.specs.Plans.{Plan, IsPlan, PlacesAreDistinct, Value, generations_of, value_place, word_count}
 use Rattle.nb_core.specs.States.{IsKeyState, IsValueState, value_state, value_word}
 use Rattle.nb_core.specs.Tables.{IsInstalled, IsSlot, IsUnprimed, Tables, tables_at, words_of}
@@ -277,7 +277,7 @@ module _
   value-before holds v says =
       ap (λ q. (tables_at q (drop 1 after.seen)).value g i) (step.grows.shape ∙ shape)
       ∙ ap (λ s. (tables_at p (drop 1 s)).value g i)
-          (step.grows.seen ∙ ap (λ b. only b e ++ (step.grows.others ++ before.seen)) holds)
+      (step.grows.seen ∙ ap (λ b. only b e ++ (step.grows.others ++ before.seen)) holds)
       ∙ ap (λ x. unwrap_or (value_state x) Null) step.word ∙ ap (λ o. unwrap_or o Null) says
 
   -- and the event made a word of the one found
