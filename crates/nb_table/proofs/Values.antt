@@ -1,12 +1,12 @@
 -- What a seat may do to a value, and what it finds there.
-use Rattle.std.proofs.Common.{◌≡◌, ◌∙◌, ℕ, zero, suc, ◌+◌, ◌*◌, ◌/◌, ◌%◌, ◌<◌, ◌⊎◌, Bool, true, false, cond, eqb, List, [], ◌∷◌, ◌++◌, length, slice_index, slice_set, bit_or, Some, Option, ap, sym, subst, refl, inl, inr, arith}
+use Rattle.std.proofs.Common.{◌≡◌, ◌∙◌, ℕ, zero, suc, ◌+◌, ◌*◌, ◌/◌, ◌%◌, ◌<◌, ◌⊎◌, Bool, true, false, cond, eqb, List, [], ◌∷◌, ◌++◌, length, slice_index, slice_set, bit_or, Some, ap, sym, subst, refl, inl, inr, arith}
 use Rattle.std.proofs.lemmas.Bool.{eq-eqb, eqb-true, eqb-false, ne_eqb}
 use Rattle.std.proofs.lemmas.Bool.Decides.{nat_tests}
 use Rattle.std.proofs.lemmas.List.{get_or-set_same}
 use Rattle.std.proofs.lemmas.Nat.{and_mask}
 use Rattle.std.proofs.lemmas.Nat.Bits.{and_pow, bit_at-suc, bit_at_lowest}
 use Rattle.std.specs.Int.Bits.{or_add_and}
-use Rattle.std.specs.Option.{IsSome, unwrap_or}
+use Rattle.std.specs.Option.{unwrap_or}
 use Rattle.nb_core.specs.Plans.{Plan, IsPlan, PlacesAreDistinct, Value, generations_of, value_place, word_count}
 use Rattle.nb_core.specs.States.{IsKeyState, IsValueState, value_state, value_word}
 use Rattle.nb_core.specs.Tables.{IsInstalled, IsSlot, IsUnprimed, Tables, tables_at, words_of}
