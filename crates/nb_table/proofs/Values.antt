@@ -1,17 +1,7 @@
 -- What a seat may do to a value, and what it finds there.
-<<<<<<< HEAD
 use Rattle.std.proofs.Common.{◌≡◌, ◌∙◌, ℕ, zero, suc, ◌%◌, ◌<◌, ◌⊎◌, Bool, true, false, cond, eqb, List, [], ◌∷◌, ◌++◌, drop, length, slice_index, slice_set, bit_or, Some, ap, sym, subst, refl, inl, inr, arith}
-=======
-use Rattle.std.proofs.Common.{◌≡◌, ◌∙◌, ℕ, zero, suc, ◌+◌, ◌*◌, ◌/◌, ◌%◌, ◌<◌, ◌⊎◌, Bool, true, false, cond, eqb, List, [], ◌∷◌, ◌++◌, length, slice_index, slice_set, bit_or, Some, ap, sym, subst, refl, inl, inr, arith}
->>>>>>> bea3e1aab520fe4211b0445cb2d1166ad57b1c1a
 use Rattle.std.proofs.lemmas.Bool.{eq-eqb, eqb-true, eqb-false, ne_eqb}
 use Rattle.std.proofs.lemmas.List.{get_or-set_same}
-<<<<<<< HEAD
-=======
-use Rattle.std.proofs.lemmas.Nat.{and_mask}
-use Rattle.std.proofs.lemmas.Nat.Bits.{and_pow, bit_at-suc, bit_at_lowest}
-use Rattle.std.specs.Int.Bits.{or_add_and}
->>>>>>> bea3e1aab520fe4211b0445cb2d1166ad57b1c1a
 use Rattle.std.specs.Option.{unwrap_or}
 use Rattle.nb_core.specs.Plans.{Plan, IsPlan, PlacesAreDistinct, Value, generations_of, value_place, word_count}
 use Rattle.nb_core.specs.States.{IsKeyState, IsValueState, value_state, value_word}
