@@ -1,3 +1,4 @@
+mod ByHand
 mod Counts
 mod Dealt
 mod Following

@@ -7,6 +7,9 @@ ghost use Rattle.nb_table.specs.Chains.{Grown, IsOwn, seen_by};
 use crate::{Chain, ChainSeat, laws};
 use nb_core::KeyState;
 
+mod by_hand;
+mod copies;
+
 /// Whether the slot is finished, by a load of its key and one of its value.
 fn looks_finished(chain: &Chain, seat: &mut ChainSeat, g: u32, i: usize) -> bool
     requires own { IsOwn chain.now seat.old }
