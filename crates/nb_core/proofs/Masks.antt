@@ -13,6 +13,6 @@ masked p plan g table n =
     let e = slice_index p.exponents g in
     let most : e ≤ 19 = (All-get_or (λ e. (2 ≤ e) × (e ≤ 19)) p.exponents g 0 table plan.sizes).1 in
     let whole : 2 ^ e * 2 ^ (64 - e) ≡ 2 ^ 64 =
-        sym (pow-add 2 e (64 - e)) ∙ ap (λ k. 2 ^ k) (let sum : e + (64 - e) ≡ 64 = omega (arith, most) in sum) in
+    sym (pow-add 2 e (64 - e)) ∙ ap (λ k. 2 ^ k) (let sum : e + (64 - e) ≡ 64 = omega (arith, most) in sum) in
     let divides : 2 ^ e ∣ 2 ^ 64 = subst (λ m. 2 ^ e ∣ m) whole (dvd-mul_right (2 ^ e) (2 ^ (64 - e))) in
     and_mask (n % 2 ^ 64) e ∙ mod-mod_of_dvd (2 ^ e) n divides

@@ -3,12 +3,41 @@ ghost use Rattle.std.specs.Prelude.{◌≡◌};
 ghost use Rattle.nb_core.specs.Laws.{IsPrimedOrFinished};
 ghost use Rattle.nb_core.specs.declared.states.KeyState.TheVariants as key_is;
 ghost use Rattle.nb_table.specs.Chains.{IsOwn, seen_by};
+ghost use Rattle.nb_table.specs.Gathered.{AreOwn};
 
 use super::by_hand::*;
 use crate::{Chain, ChainSeat};
 use nb_core::{Key, Num, OutOfMemory, Shape, ValueState};
+use std::alloc::Global;
 use std::process::Abort;
 use std::test::Fail;
+
+/// Closes the chain with all its seats. These keys are left, each with its number.
+fn leaves<R: Abort>(
+    rt: &R,
+    alloc: Global,
+    chain: Chain,
+    seats: Vec<ChainSeat>,
+    keys: &[u64],
+) -> Result<(), OutOfMemory>
+    requires { AreOwn chain.id seats.items }
+{
+    let Ok(closed) = chain.close(seats) else {
+        panic!(rt; "all seats are there")
+    };
+    let entries = match closed.entries(alloc) {
+        Ok(entries) => entries,
+        Err(_) => closed.entries(alloc)?,
+    };
+    assert_eq!(rt; entries.len(), keys.len());
+    for (entry, left) in entries.iter().zip(keys) {
+        let left = key(rt, *left);
+        assert_eq!(rt; *entry, (left, number_of(rt, left)));
+        assert_eq!(rt; closed.get(left), Some(number_of(rt, left)));
+    }
+    assert_eq!(rt; closed.get(key(rt, 5)), None);
+    Ok(())
+}
 
 /// A seat puts three keys, installs table 1, and primes the first of them.
 fn begins<R: Abort>(rt: &R, chain: &Chain, seat: &mut ChainSeat, first: Key, held: Num)
@@ -61,7 +90,7 @@ fn copy_of_one_slot(rt: HostRuntime) -> Result<(), Fail> {
     two_copy_one_slot(&rt, &chain, &mut a, &mut b);
     seats.push(a)?;
     seats.push(b)?;
-    assert!(rt; chain.close(seats).is_ok());
+    leaves(&rt, rt.alloc(), chain, seats, &[0, 4, 8])?;
     Ok(())
 }
 
@@ -145,7 +174,7 @@ fn stopped_copier(rt: HostRuntime) -> Result<(), Fail> {
     stops_and_goes_on(&rt, &chain, &mut a, &mut b);
     seats.push(a)?;
     seats.push(b)?;
-    assert!(rt; chain.close(seats).is_ok());
+    leaves(&rt, rt.alloc(), chain, seats, &[4, 8])?;
     Ok(())
 }
 
@@ -188,6 +217,6 @@ fn three_helpers(rt: HostRuntime) -> Result<(), Fail> {
     seats.push(a)?;
     seats.push(b)?;
     seats.push(c)?;
-    assert!(rt; chain.close(seats).is_ok());
+    leaves(&rt, rt.alloc(), chain, seats, &[0, 16, 32, 48, 64, 80])?;
     Ok(())
 }

@@ -14,11 +14,13 @@ prime-requires-clause-growing g c =
 pub returns-clause-claimed : goal.returns-clause-claimed
 returns-clause-claimed g c =
     let law = c.steps_add_up.ensures in
-    let step = primed_step ((seen_by c.prime.new.seat).value 0 c.args.i) c.prime.result c.prime.ensures.won c.prime.ensures.lost in
+    let step = primed_step ((seen_by c.prime.new.seat).value 0 c.args.i) c.prime.result
+    (λ unprimed. let won = c.prime.ensures.won unprimed in (won.0, won.2)) c.prime.ensures.lost in
     let lasting = law.stays (subst IsPlan c.shape.ensures c.known.ensures) c.sees_key.ensures.own (law.one step.1) in
     lasting.claimed 0 c.args.i c.args.key c.sees_key.ensures.slot c.sees_key.ensures.claimed
 
 pub returns-clause-held : goal.returns-clause-held
 returns-clause-held g c =
     let same : c.prime.result ≡ c.args.value = search rules in
-    primed_is ((seen_by c.prime.new.seat).value 0 c.args.i) c.prime.result c.prime.ensures.won c.prime.ensures.lost ∙ ap primed same
+    primed_is ((seen_by c.prime.new.seat).value 0 c.args.i) c.prime.result
+    (λ unprimed. let won = c.prime.ensures.won unprimed in (won.0, won.2)) c.prime.ensures.lost ∙ ap primed same
