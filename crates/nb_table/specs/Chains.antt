@@ -41,8 +41,8 @@ abbrev pub seats_of : TableId → Plan → ℕ → ℕ → List SeenBy
 seats_of id shape number zero = []
 seats_of id shape number (suc count) = new_seat id shape number ∷ seats_of id shape (suc number) count
 
--- After a step the seat has seen more: events of other seats, and then these of its own, in this order. All that it has seen is a legal
--- history, and it made so many steps.
+-- After a step the seat has seen more: events of other seats, and then these of its own, in this order. All that it has
+-- seen is a legal history, and it made so many steps.
 pub record Extended (before after : SeenBy) (own : List Event) (count : ℕ) : Type 0 where
   pub chain : after.chain ≡ before.chain
   pub shape : after.shape ≡ before.shape
