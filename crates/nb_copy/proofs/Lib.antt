@@ -1,0 +1,3 @@
+mod Copied
+mod SlotsFinished
+mod SlotsInNext

@@ -1,0 +1,77 @@
+-- How a slot is copied.
+use Rattle.std.proofs.Common.{◌≡◌, ◌≢◌, ◌∙◌, ℕ, suc, ◌+◌, ◌*◌, ◌<◌, [], ◌∷◌, ap, below_more, sym, subst, refl, inl, arith}
+use Rattle.nb_core.specs.Plans.{IsPlan, Plan, generations_of, size_of}
+use Rattle.nb_core.specs.Tables.{AreOthers, HasSlot, IsOther, Tables, path_slot}
+use Rattle.nb_core.specs.Laws.{IsPassed, UpToDead, Lasts, OwnLasts}
+use Rattle.nb_core.specs.declared.states.KeyState.TheVariants.{Claimed, Dead}
+use Rattle.nb_core.specs.declared.events.Event.TheVariants.{Claim}
+use Rattle.nb_table.specs.Chains.{ChainOf, Extended, IsOwn, SeenBy, seen_by}
+use Rattle.nb_table.specs.Conditions.{HasWay}
+use Rattle.nb_table.specs.Laws.{StepsAddUp}
+use Rattle.nb_copy.proofs.Copied.{copied-more, copied-one, copied-own, copied-quiet, copied-within}
+use Rattle.nb_copy.specs.Copying.{HasCopied}
+
+-- what was seen of a key's path in the next table lets it be claimed there
+pub claim-way :
+    (p : Plan) (t u : Tables) → Lasts p t u → (g next i key distance : ℕ) → next ≡ suc g → suc g < generations_of p
+    → HasSlot p t g key → distance < size_of p (suc g) → path_slot p (suc g) key distance ≡ i → AreOthers p t (suc g) key distance
+    → HasWay p u next i key
+claim-way p t u lasting g next i key distance is table below near at others =
+    let way : HasWay p u (suc g) i key = record {
+      path = record { distance = distance; in_table = near; at = at; passed = lasting.others (suc g) key distance table others };
+      reason = inl (lasting.has_slot g key (omega arith) below);
+    } in
+    subst (λ f. HasWay p u f i key) (sym is) way
+
+module _ (law : StepsAddUp) (own_lasts : OwnLasts) (chain : ChainOf) (plan : IsPlan chain.shape) (g : ℕ) (table : g < generations_of chain.shape) where
+  abbrev p : Plan
+  p = chain.shape
+
+  -- two steps without an event
+  pub two-quiet :
+      {before then after : SeenBy} → IsOwn chain before → Extended before then [] 1 → Extended then after [] 1
+      → HasCopied p g before after [] 0 2
+  two-quiet {before} {then} {after} own a b =
+      copied-more law chain plan g table (law.own own (law.one a)) (copied-quiet law own_lasts p g before then a)
+      (copied-quiet law own_lasts p g then after b)
+
+  -- a claim in the next table of a key of the table, after a step without an event
+  pub claimed-next :
+      {before then after : SeenBy} (s f i key : ℕ) → f ≡ suc g → IsOwn chain before → HasSlot p (seen_by before) g key
+      → Extended before then [] 1 → Extended then after (Claim s f i key ∷ []) 1 → HasCopied p g before after [] 0 2
+  claimed-next {before} {then} {after} s f i key is own below a b =
+      let own' = law.own own (law.one a) in
+      let lasting = law.stays plan own (law.one a) in
+      let lasting' = law.stays plan own' (law.one b) in
+      copied-more law chain plan g table own' (copied-quiet law own_lasts p g before then a)
+      (copied-one law own_lasts p g then after (Claim s f i key) [] 0 b
+      (is, lasting'.has_slot g key table (lasting.has_slot g key table below)) refl refl)
+
+  -- a look at one more slot of the key's path in the next table
+  pub looked-on :
+      {start before after : SeenBy} (d : ℕ) → IsOwn chain start → HasCopied p g start before [] 0 (2 * d) → HasCopied p g before after [] 0 2
+      → HasCopied p g start after [] 0 (2 * (d + 1))
+  looked-on d own so_far look =
+      copied-within (2 * d + 2) (2 * (d + 1)) (omega arith)
+      (copied-more law chain plan g table (copied-own law chain plan g table own so_far) so_far look)
+
+  -- and the end of the looks
+  pub looked-last :
+      {start before after : SeenBy} (d size : ℕ) → d < size → IsOwn chain start → HasCopied p g start before [] 0 (2 * d)
+      → HasCopied p g before after [] 0 2 → HasCopied p g start after [] 0 (2 * size)
+  looked-last d size near own so_far look = copied-within (2 * (d + 1)) (2 * size) (omega (arith, near)) (looked-on d own so_far look)
+
+-- another key has the next slot of a key's path too
+pub others-more :
+    (p : Plan) (t u : Tables) → Lasts p t u → (f key d i other : ℕ) → f < generations_of p → AreOthers p t f key d → path_slot p f key d ≡ i
+    → u.key f i ≡ Claimed other → other ≢ key → AreOthers p u f key (d + 1)
+others-more p t u lasting f key d i other table others at is differs =
+    below_more (λ e. IsOther (u.key f (path_slot p f key e)) key) d (lasting.others f key d table others)
+    (record { other = other; is = ap (u.key f) at ∙ is; differs = differs })
+
+-- a closed slot behind other keys passes the key
+pub passed-dead :
+    (p : Plan) (t u : Tables) → Lasts p t u → (f key d i : ℕ) → f < generations_of p → d < size_of p f → AreOthers p t f key d
+    → path_slot p f key d ≡ i → u.key f i ≡ Dead → IsPassed p u f key
+passed-dead p t u lasting f key d i table near others at dead =
+    UpToDead d near (lasting.others f key d table others) (ap (u.key f) at ∙ dead)
