@@ -1,9 +1,9 @@
 -- What a copier did, step after step.
-use Rattle.std.proofs.Common.{◌≡◌, ◌≢◌, ◌∙◌, ℕ, ◌+◌, ◌≤◌, ◌<◌, cond, List, [], ◌∷◌, ◌++◌, drop, ap, sym, subst, refl, arith}
+use Rattle.std.proofs.Common.{◌≡◌, ◌≢◌, ◌∙◌, ℕ, ◌+◌, ◌≤◌, ◌<◌, cond, List, [], ◌∷◌, ◌++◌, drop, filter, length, ap, sym, subst, refl, arith}
 use Rattle.std.specs.List.{All}
 use Rattle.std.proofs.lemmas.Bool.{eq-eqb, ne_eqb}
-use Rattle.std.proofs.lemmas.List.{append-nil, append_assoc}
-use Rattle.std.proofs.lemmas.List.Elements.{All-append, All-cons, All-head, All-nil, All-tail, All-weaker}
+use Rattle.std.proofs.lemmas.List.{append-nil, append_assoc, length-append}
+use Rattle.std.proofs.lemmas.List.Elements.{All-append, All-cons, All-head, All-nil, All-tail, All-weaker, filter-append}
 use Rattle.nb_core.specs.Plans.{IsPlan, Plan, generations_of}
 use Rattle.nb_core.specs.Tables.{Tables}
 use Rattle.nb_core.specs.History.{IsLegal, counted_by, counts, seat_of_event, turned_slot}
@@ -12,7 +12,7 @@ use Rattle.nb_core.specs.declared.events.Event.{Event}
 use Rattle.nb_core.specs.declared.events.Event.TheVariants.{Claim, Kill, Won, CopyIn, Prime, Finish, Install, Take, Count, Promote, Read}
 use Rattle.nb_table.specs.Chains.{ChainOf, Extended, IsOwn, SeenBy, seen_by}
 use Rattle.nb_table.specs.Laws.{StepsAddUp}
-use Rattle.nb_copy.specs.Copying.{HasCopied, IsCopying, slot_in, slots_turned}
+use Rattle.nb_copy.specs.Copying.{HasCopied, IsCopying, is_take, slot_in, slots_turned}
 
 -- ---- one step
 
@@ -27,19 +27,20 @@ slots-others p number g (e ∷ others) h not_own =
 
 module _ (law : StepsAddUp) (own_lasts : OwnLasts) (p : Plan) (g : ℕ) where
   -- no step
-  pub copied-none : (seat : SeenBy) → IsLegal seat.shape seat.seen → HasCopied p g seat seat [] 0 0
+  pub copied-none : (seat : SeenBy) → IsLegal seat.shape seat.seen → HasCopied p g seat seat [] 0 0 0
   copied-none seat legal = record {
     own = [];
     count = 0;
     grown = law.none legal;
     copying = All-nil (IsCopying p (seen_by seat) g);
     turned = refl;
+    taken = refl;
     counted = omega arith;
     few = omega arith;
   }
 
   -- a step without an event
-  pub copied-quiet : (before after : SeenBy) → Extended before after [] 1 → HasCopied p g before after [] 0 1
+  pub copied-quiet : (before after : SeenBy) → Extended before after [] 1 → HasCopied p g before after [] 0 0 1
   copied-quiet before after step = record {
     own = [];
     count = 1;
@@ -47,6 +48,7 @@ module _ (law : StepsAddUp) (own_lasts : OwnLasts) (p : Plan) (g : ℕ) where
     copying = All-nil (IsCopying p (seen_by after) g);
     turned = ap (λ h. slots_turned p h before.number g) step.seen
         ∙ slots-others p before.number g step.others before.seen step.not_own;
+    taken = refl;
     counted = ap (λ h. counted_by h before.number g) step.seen
         ∙ (own_lasts p step.others before.seen before.number step.not_own).counted g ∙ plus-none _;
     few = omega arith;
@@ -57,10 +59,10 @@ module _ (law : StepsAddUp) (own_lasts : OwnLasts) (p : Plan) (g : ℕ) where
 
   -- a step with an event
   pub copied-one :
-      (before after : SeenBy) (e : Event) (slots : List ℕ) (adding : ℕ) → Extended before after (e ∷ []) 1
-      → IsCopying p (seen_by after) g e → slot_in g (turned_slot p (drop 1 after.seen) e) ≡ slots → counts e before.number g ≡ adding
-      → HasCopied p g before after slots adding 1
-  copied-one before after e slots adding step copying turned counted =
+      (before after : SeenBy) (e : Event) (slots : List ℕ) (chunks adding : ℕ) → Extended before after (e ∷ []) 1
+      → IsCopying p (seen_by after) g e → slot_in g (turned_slot p (drop 1 after.seen) e) ≡ slots → length (filter is_take (e ∷ [])) ≡ chunks
+      → counts e before.number g ≡ adding → HasCopied p g before after slots chunks adding 1
+  copied-one before after e slots chunks adding step copying turned taken counted =
       let met = step.others ++ before.seen in
       let mine : seat_of_event e ≡ before.number = All-head (λ x. seat_of_event x ≡ before.number) e [] step.mine in
       record {
@@ -75,6 +77,7 @@ module _ (law : StepsAddUp) (own_lasts : OwnLasts) (p : Plan) (g : ℕ) where
             ∙ ap (λ here. here ++ slots_turned p met before.number g)
             (ap (λ h. slot_in g (turned_slot p (drop 1 h) e)) (sym step.seen) ∙ turned)
             ∙ ap (λ rest. slots ++ rest) (slots-others p before.number g step.others before.seen step.not_own);
+        taken = taken;
         counted =
             ap (λ h. counted_by h before.number g) step.seen
             ∙ ap (λ n. n + counted_by met before.number g) counted
@@ -90,14 +93,15 @@ module _ (law : StepsAddUp) (own_lasts : OwnLasts) (p : Plan) (g : ℕ) where
 
 -- more steps may be allowed than were made
 pub copied-within :
-    {p : Plan} {g : ℕ} {before after : SeenBy} {slots : List ℕ} {adding : ℕ} (most most' : ℕ) → most ≤ most'
-    → HasCopied p g before after slots adding most → HasCopied p g before after slots adding most'
+    {p : Plan} {g : ℕ} {before after : SeenBy} {slots : List ℕ} {chunks adding : ℕ} (most most' : ℕ) → most ≤ most'
+    → HasCopied p g before after slots chunks adding most → HasCopied p g before after slots chunks adding most'
 copied-within most most' below copied = record {
   own = copied.own;
   count = copied.count;
   grown = copied.grown;
   copying = copied.copying;
   turned = copied.turned;
+  taken = copied.taken;
   counted = copied.counted;
   few = omega (arith, copied.few, below);
 }
@@ -122,22 +126,24 @@ module _ (law : StepsAddUp) (chain : ChainOf) (plan : IsPlan chain.shape) (g : �
 
   -- what the seat has seen is so still after it copied
   pub copied-stays :
-      {before after : SeenBy} {slots : List ℕ} {adding most : ℕ} → IsOwn chain before → HasCopied p g before after slots adding most
+      {before after : SeenBy} {slots : List ℕ} {chunks adding most : ℕ} → IsOwn chain before
+      → HasCopied p g before after slots chunks adding most
       → Lasts p (seen_by before) (seen_by after)
   copied-stays own copied = law.stays plan own copied.grown
 
   -- and it is the chain's
   pub copied-own :
-      {before after : SeenBy} {slots : List ℕ} {adding most : ℕ} → IsOwn chain before → HasCopied p g before after slots adding most
+      {before after : SeenBy} {slots : List ℕ} {chunks adding most : ℕ} → IsOwn chain before
+      → HasCopied p g before after slots chunks adding most
       → IsOwn chain after
   copied-own own copied = law.own own copied.grown
 
   -- some copying after other
   pub copied-more :
-      {before then after : SeenBy} {slots slots' : List ℕ} {adding adding' most most' : ℕ} → IsOwn chain then
-      → HasCopied p g before then slots adding most → HasCopied p g then after slots' adding' most'
-      → HasCopied p g before after (slots' ++ slots) (adding + adding') (most + most')
-  copied-more {before} {then} {after} {slots} {slots'} {adding} {adding'} own a b = record {
+      {before then after : SeenBy} {slots slots' : List ℕ} {chunks chunks' adding adding' most most' : ℕ} → IsOwn chain then
+      → HasCopied p g before then slots chunks adding most → HasCopied p g then after slots' chunks' adding' most'
+      → HasCopied p g before after (slots' ++ slots) (chunks + chunks') (adding + adding') (most + most')
+  copied-more {before} {then} {after} {slots} {slots'} {chunks} {chunks'} {adding} {adding'} own a b = record {
     own = b.own ++ a.own;
     count = a.count + b.count;
     grown = law.more a.grown b.grown;
@@ -148,6 +154,9 @@ module _ (law : StepsAddUp) (chain : ChainOf) (plan : IsPlan chain.shape) (g : �
         ap (λ n. slots_turned p after.seen n g) (sym a.grown.number) ∙ b.turned
         ∙ ap (λ n. slots' ++ slots_turned p then.seen n g) a.grown.number
         ∙ ap (λ rest. slots' ++ rest) a.turned ∙ sym (append_assoc slots' slots (slots_turned p before.seen before.number g));
+    taken =
+        ap length (filter-append is_take b.own a.own) ∙ length-append (filter is_take b.own) (filter is_take a.own)
+        ∙ sums _ _ chunks chunks' a.taken b.taken;
     counted =
         ap (λ n. counted_by after.seen n g) (sym a.grown.number) ∙ b.counted
         ∙ ap (λ n. counted_by then.seen n g + adding') a.grown.number ∙ ap (λ n. n + adding') a.counted
@@ -158,9 +167,12 @@ module _ (law : StepsAddUp) (chain : ChainOf) (plan : IsPlan chain.shape) (g : �
       add-assoc : (a b c : ℕ) → a + b + c ≡ a + (b + c)
       add-assoc a b c = omega arith
 
+      sums : (m n a b : ℕ) → n ≡ a → m ≡ b → m + n ≡ a + b
+      sums m n a b is is' = omega (arith, is, is')
+
   -- some copying after steps that turned no slot
   pub copied-then :
-      {before then after : SeenBy} {slots : List ℕ} {most most' : ℕ} → IsOwn chain before → HasCopied p g before then [] 0 most
-      → HasCopied p g then after slots 0 most' → HasCopied p g before after slots 0 (most + most')
+      {before then after : SeenBy} {slots : List ℕ} {most most' : ℕ} → IsOwn chain before → HasCopied p g before then [] 0 0 most
+      → HasCopied p g then after slots 0 0 most' → HasCopied p g before after slots 0 0 (most + most')
   copied-then {before} {then} {after} {slots} {most} {most'} own a b =
-      subst (λ all. HasCopied p g before after all 0 (most + most')) (append-nil slots) (copied-more (copied-own own a) a b)
+      subst (λ all. HasCopied p g before after all 0 0 (most + most')) (append-nil slots) (copied-more (copied-own own a) a b)

@@ -1,3 +1,5 @@
 mod Copied
 mod SlotsFinished
 mod SlotsInNext
+pub mod Counted
+pub mod Helped

@@ -88,11 +88,11 @@ module _ (law : StepsAddUp) (own_lasts : OwnLasts) (chain : ChainOf) (plan : IsP
       {before after : SeenBy} (s f j key n : ℕ) (v : ValueState) → f ≡ suc g
       → (v ≡ Null → Extended before after (CopyIn s f j key n ∷ []) 1 × ((seen_by after).value f j ≡ Live n))
       → (v ≢ Null → Extended before after [] 1 × ((seen_by after).value f j ≡ v))
-      → HasCopied p g before after [] 0 1 × ((seen_by after).value (suc g) j ≢ Null)
+      → HasCopied p g before after [] 0 0 1 × ((seen_by after).value (suc g) j ≢ Null)
   copied-in {before} {after} s f j key n v is won lost = elim (null-or-not v) [
     | inl null ↦
         let w = won null in (
-          copied-one law own_lasts p g before after (CopyIn s f j key n) [] 0 w.0 is refl refl,
+          copied-one law own_lasts p g before after (CopyIn s f j key n) [] 0 0 w.0 is refl refl refl,
           λ e. let copied : Live n ≡ Null = sym w.1 ∙ ap (λ x. (seen_by after).value x j) is ∙ e in cc,
         )
     | inr some ↦
@@ -101,19 +101,19 @@ module _ (law : StepsAddUp) (own_lasts : OwnLasts) (chain : ChainOf) (plan : IsP
   ]
 
   -- a step that closed the slot
-  pub copied-kill : {before after : SeenBy} (s i : ℕ) → Extended before after (Kill s g i ∷ []) 1 → HasCopied p g before after (i ∷ []) 0 1
+  pub copied-kill : {before after : SeenBy} (s i : ℕ) → Extended before after (Kill s g i ∷ []) 1 → HasCopied p g before after (i ∷ []) 0 0 1
   copied-kill {before} {after} s i step =
-      copied-one law own_lasts p g before after (Kill s g i) (i ∷ []) 0 step refl (slot-of-table g i) refl
+      copied-one law own_lasts p g before after (Kill s g i) (i ∷ []) 0 0 step refl (slot-of-table g i) refl refl
 
   -- a finish of a number that was primed
   pub finished-now :
       {before after : SeenBy} (s i n m : ℕ) (v : ValueState) → v ≡ Primed m
       → (v ≡ Primed n → Extended before after (Finish s g i ∷ []) 1 × ((seen_by after).value g i ≡ Finished n))
       → (v ≢ Primed n → Extended before after [] 1 × ((seen_by after).value g i ≡ v) × (v ≡ Finished n))
-      → HasCopied p g before after (i ∷ []) 0 1 × IsFinished (seen_by after) g i
+      → HasCopied p g before after (i ∷ []) 0 0 1 × IsFinished (seen_by after) g i
   finished-now {before} {after} s i n m v is won lost =
       let w = won (primed-number v m n is (λ differs. (lost differs).2)) in (
-        copied-one law own_lasts p g before after (Finish s g i) (i ∷ []) 0 w.0 refl (slot-of-table g i) refl,
+        copied-one law own_lasts p g before after (Finish s g i) (i ∷ []) 0 0 w.0 refl (slot-of-table g i) refl refl,
         inr (subst IsFinishedValue (sym w.1) refl),
       )
 
@@ -121,15 +121,15 @@ module _ (law : StepsAddUp) (own_lasts : OwnLasts) (chain : ChainOf) (plan : IsP
   pub finished-before :
       {before after : SeenBy} (i n : ℕ) (v : ValueState) → v ≢ Primed n
       → (v ≢ Primed n → Extended before after [] 1 × ((seen_by after).value g i ≡ v) × (v ≡ Finished n))
-      → HasCopied p g before after [] 0 1 × IsFinished (seen_by after) g i
+      → HasCopied p g before after [] 0 0 1 × IsFinished (seen_by after) g i
   finished-before {before} {after} i n v differs lost =
       let l = lost differs in
       (copied-quiet law own_lasts p g before after l.0, inr (subst IsFinishedValue (sym (l.1 ∙ l.2)) refl))
 
   -- a search, a copy, and a finish
   pub copied-three :
-      {start placed filled after : SeenBy} {slots : List ℕ} (most : ℕ) → IsOwn chain start → HasCopied p g start placed [] 0 most
-      → HasCopied p g placed filled [] 0 1 → HasCopied p g filled after slots 0 1 → HasCopied p g start after slots 0 (most + 2)
+      {start placed filled after : SeenBy} {slots : List ℕ} (most : ℕ) → IsOwn chain start → HasCopied p g start placed [] 0 0 most
+      → HasCopied p g placed filled [] 0 0 1 → HasCopied p g filled after slots 0 0 1 → HasCopied p g start after slots 0 0 (most + 2)
   copied-three most own search copy finish =
       copied-within (most + 1 + 1) (most + 2) (omega arith)
       (copied-then law chain plan g table own (copied-then law chain plan g table own search copy) finish)
@@ -137,13 +137,13 @@ module _ (law : StepsAddUp) (own_lasts : OwnLasts) (chain : ChainOf) (plan : IsP
   -- a step that primed an unprimed value, and so turned the slot finished if there is nothing to copy
   primed-now :
       {before after : SeenBy} (s i : ℕ) (v : ValueState) → IsOwn chain before → Extended before after (Prime s g i ∷ []) 1
-      → (seen_before after).value g i ≡ v → HasCopied p g before after (cond (is_empty_content v) (i ∷ []) []) 0 1
+      → (seen_before after).value g i ≡ v → HasCopied p g before after (cond (is_empty_content v) (i ∷ []) []) 0 0 1
   primed-now {before} {after} s i v own step was =
       let met : Plan → ValueState = λ q. (tables_at q (drop 1 after.seen)).value g i in
       let slot : ValueState → List ℕ = λ x. slot_in g (cond (is_empty_content x) (Some (g, i)) None) in
       let turned : slot (met p) ≡ cond (is_empty_content v) (i ∷ []) [] =
       ap (λ q. slot (met q)) (sym (law.own own (law.one step)).1) ∙ ap slot was ∙ slot-if (is_empty_content v) in
-      copied-one law own_lasts p g before after (Prime s g i) _ 0 step refl turned refl
+      copied-one law own_lasts p g before after (Prime s g i) _ 0 0 step refl turned refl refl
     where
       slot-if : (b : Bool) → slot_in g (cond b (Some (g, i)) None) ≡ cond b (i ∷ []) []
       slot-if true = slot-of-table g i
@@ -154,7 +154,7 @@ module _ (law : StepsAddUp) (own_lasts : OwnLasts) (chain : ChainOf) (plan : IsP
       {before after : SeenBy} (s i : ℕ) (v : ValueState) → IsOwn chain before
       → (IsUnprimed v → Extended before after (Prime s g i ∷ []) 1 × ((seen_before after).value g i ≡ v) × ((seen_by after).value g i ≡ primed v))
       → ((IsUnprimed v → ⊥) → Extended before after [] 1 × ((seen_by after).value g i ≡ v))
-      → HasCopied p g before after (cond (is_empty_content v) (i ∷ []) []) 0 1
+      → HasCopied p g before after (cond (is_empty_content v) (i ∷ []) []) 0 0 1
   copied-prime s i Null own won lost = let w = won tt in primed-now s i Null own w.0 w.1
   copied-prime s i Tombstone own won lost = let w = won tt in primed-now s i Tombstone own w.0 w.1
   copied-prime s i (Live n) own won lost = let w = won tt in primed-now s i (Live n) own w.0 w.1
@@ -166,15 +166,15 @@ module _ (law : StepsAddUp) (own_lasts : OwnLasts) (chain : ChainOf) (plan : IsP
   -- a step that primed a value with nothing to copy, or met a final one
   pub primed-last :
       {before after : SeenBy} (i most : ℕ) (turned turned' : Bool) → turned ≡ turned' → 1 ≤ most
-      → HasCopied p g before after (cond turned (i ∷ []) []) 0 1 → HasCopied p g before after (cond turned' (i ∷ []) []) 0 most
+      → HasCopied p g before after (cond turned (i ∷ []) []) 0 0 1 → HasCopied p g before after (cond turned' (i ∷ []) []) 0 0 most
   primed-last {before} {after} i most turned turned' same some prime =
-      copied-within 1 most some (subst (λ b. HasCopied p g before after (cond b (i ∷ []) []) 0 1) same prime)
+      copied-within 1 most some (subst (λ b. HasCopied p g before after (cond b (i ∷ []) []) 0 0 1) same prime)
 
   -- a step that primed a number, or met a primed one, and the copying of the number
   pub primed-first :
       {before then after : SeenBy} {slots : List ℕ} (i most : ℕ) (turned : Bool) → IsOwn chain before → turned ≡ false
-      → HasCopied p g before then (cond turned (i ∷ []) []) 0 1 → HasCopied p g then after slots 0 (most + 2)
-      → HasCopied p g before after slots 0 (most + 3)
+      → HasCopied p g before then (cond turned (i ∷ []) []) 0 0 1 → HasCopied p g then after slots 0 0 (most + 2)
+      → HasCopied p g before after slots 0 0 (most + 3)
   primed-first {before} {then} i most turned own not_turned prime copy =
       copied-within (1 + (most + 2)) (most + 3) (omega arith)
-      (copied-then law chain plan g table own (subst (λ b. HasCopied p g before then (cond b (i ∷ []) []) 0 1) not_turned prime) copy)
+      (copied-then law chain plan g table own (subst (λ b. HasCopied p g before then (cond b (i ∷ []) []) 0 0 1) not_turned prime) copy)

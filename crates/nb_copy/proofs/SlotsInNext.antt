@@ -30,7 +30,7 @@ module _ (law : StepsAddUp) (own_lasts : OwnLasts) (chain : ChainOf) (plan : IsP
   -- two steps without an event
   pub two-quiet :
       {before then after : SeenBy} → IsOwn chain before → Extended before then [] 1 → Extended then after [] 1
-      → HasCopied p g before after [] 0 2
+      → HasCopied p g before after [] 0 0 2
   two-quiet {before} {then} {after} own a b =
       copied-more law chain plan g table (law.own own (law.one a)) (copied-quiet law own_lasts p g before then a)
       (copied-quiet law own_lasts p g then after b)
@@ -38,27 +38,27 @@ module _ (law : StepsAddUp) (own_lasts : OwnLasts) (chain : ChainOf) (plan : IsP
   -- a claim in the next table of a key of the table, after a step without an event
   pub claimed-next :
       {before then after : SeenBy} (s f i key : ℕ) → f ≡ suc g → IsOwn chain before → HasSlot p (seen_by before) g key
-      → Extended before then [] 1 → Extended then after (Claim s f i key ∷ []) 1 → HasCopied p g before after [] 0 2
+      → Extended before then [] 1 → Extended then after (Claim s f i key ∷ []) 1 → HasCopied p g before after [] 0 0 2
   claimed-next {before} {then} {after} s f i key is own below a b =
       let own' = law.own own (law.one a) in
       let lasting = law.stays plan own (law.one a) in
       let lasting' = law.stays plan own' (law.one b) in
       copied-more law chain plan g table own' (copied-quiet law own_lasts p g before then a)
-      (copied-one law own_lasts p g then after (Claim s f i key) [] 0 b
-      (is, lasting'.has_slot g key table (lasting.has_slot g key table below)) refl refl)
+      (copied-one law own_lasts p g then after (Claim s f i key) [] 0 0 b
+      (is, lasting'.has_slot g key table (lasting.has_slot g key table below)) refl refl refl)
 
   -- a look at one more slot of the key's path in the next table
   pub looked-on :
-      {start before after : SeenBy} (d : ℕ) → IsOwn chain start → HasCopied p g start before [] 0 (2 * d) → HasCopied p g before after [] 0 2
-      → HasCopied p g start after [] 0 (2 * (d + 1))
+      {start before after : SeenBy} (d : ℕ) → IsOwn chain start → HasCopied p g start before [] 0 0 (2 * d) → HasCopied p g before after [] 0 0 2
+      → HasCopied p g start after [] 0 0 (2 * (d + 1))
   looked-on d own so_far look =
       copied-within (2 * d + 2) (2 * (d + 1)) (omega arith)
       (copied-more law chain plan g table (copied-own law chain plan g table own so_far) so_far look)
 
   -- and the end of the looks
   pub looked-last :
-      {start before after : SeenBy} (d size : ℕ) → d < size → IsOwn chain start → HasCopied p g start before [] 0 (2 * d)
-      → HasCopied p g before after [] 0 2 → HasCopied p g start after [] 0 (2 * size)
+      {start before after : SeenBy} (d size : ℕ) → d < size → IsOwn chain start → HasCopied p g start before [] 0 0 (2 * d)
+      → HasCopied p g before after [] 0 0 2 → HasCopied p g start after [] 0 0 (2 * size)
   looked-last d size near own so_far look = copied-within (2 * (d + 1)) (2 * size) (omega (arith, near)) (looked-on d own so_far look)
 
 -- another key has the next slot of a key's path too

@@ -1,5 +1,5 @@
 -- What a copier does.
-use Rattle.std.specs.Prelude.{◌≡◌, ℕ, suc, ◌+◌, ◌≤◌, ◌==◌, if◌then◌else◌, List, [], ◌∷◌, ◌++◌, All, Option, Some, None}
+use Rattle.std.specs.Prelude.{◌≡◌, ℕ, suc, ◌+◌, ◌≤◌, ◌==◌, Bool, true, false, if◌then◌else◌, List, [], ◌∷◌, ◌++◌, length, filter, All, Option, Some, None}
 use Rattle.nb_core.specs.Plans.{Plan}
 use Rattle.nb_core.specs.Tables.{HasSlot, Tables}
 use Rattle.nb_core.specs.History.{counted_by, seat_of_event, turned_slot}
@@ -33,13 +33,19 @@ slots_turned p [] number g = []
 slots_turned p (e ∷ h) number g =
     (if seat_of_event e == number then slot_in g (turned_slot p h e) else []) ++ slots_turned p h number g
 
+-- the event asks for a chunk
+abbrev pub is_take : Event → Bool
+is_take (Take s f) = true
+is_take _ = false
+
 -- The seat copied: all its own new events are of copying table g, in at most so many steps. They turned these slots of the
--- table finished, the newest first, and counted so many.
-pub record HasCopied (p : Plan) (g : ℕ) (before after : SeenBy) (slots : List ℕ) (adding most : ℕ) : Type 0 where
+-- table finished, the newest first, asked for so many chunks, and counted so many slots.
+pub record HasCopied (p : Plan) (g : ℕ) (before after : SeenBy) (slots : List ℕ) (chunks adding most : ℕ) : Type 0 where
   pub own : List Event
   pub count : ℕ
   pub grown : Grown before after own count
   pub copying : All (IsCopying p (seen_by after) g) own
   pub turned : slots_turned p after.seen before.number g ≡ slots ++ slots_turned p before.seen before.number g
+  pub taken : length (filter is_take own) ≡ chunks
   pub counted : counted_by after.seen before.number g ≡ counted_by before.seen before.number g + adding
   pub few : count ≤ most

@@ -1,7 +1,51 @@
--- Chunks of a table, and bounds of steps.
-use Rattle.std.specs.Prelude.{ℕ, suc, ◌+◌, ◌*◌}
+-- What it takes to copy slots, chunks and whole tables.
+use Rattle.std.specs.Prelude.{◌≡◌, ℕ, suc, ◌+◌, ◌*◌, ◌<◌, ◌≤◌, List, ◌∷◌, ◌++◌, length}
 use Rattle.nb_core.specs.Plans.{Plan, size_of}
+use Rattle.nb_core.specs.Tables.{IsComplete, IsFinished, chunk_of, tables_at}
+use Rattle.nb_core.specs.declared.events.Event.{Event}
+use Rattle.nb_core.specs.declared.events.Event.TheVariants.{Take}
+use Rattle.nb_table.specs.Chains.{SeenBy, seen_by}
+use Rattle.nb_copy.specs.Copying.{HasCopied}
+
+-- ---- bounds of steps
 
 -- the most steps for one slot of table g: the search for its key's slot in the next table makes two for each slot there
 abbrev pub slot_steps : Plan → ℕ → ℕ
-slot_steps p g = 2 * size_of p (suc g) + 5
+slot_steps p g = 2 * size_of p (suc g) + 6
+
+-- for a chunk, which is taken and counted
+abbrev pub chunk_steps : Plan → ℕ → ℕ
+chunk_steps p g = chunk_of p g * slot_steps p g + 3
+
+-- and for a table, whose slots are gone through in chunks and then one by one
+abbrev pub table_steps : Plan → ℕ → ℕ
+table_steps p g = size_of p g * (2 * slot_steps p g + 3) + 1
+
+-- ---- what was done
+
+-- where the seat's counting has brought the count to the size of the table, the top word is past the table
+abbrev pub IsRaised : Plan → ℕ → SeenBy → Type 0
+IsRaised p g seat = (seen_by seat).counted g ≡ size_of p g → g < (seen_by seat).top
+
+-- The seat asked for one chunk, and all slots that it was handed are finished: those of the table from where its take word
+-- stood. Its steps turned so many slots finished, and it counted just these.
+pub record HasHelped (p : Plan) (g : ℕ) (before after : SeenBy) (turned : ℕ) : Type 0 where
+  pub slots : List ℕ
+  pub number : length slots ≡ turned
+  pub copied : HasCopied p g before after slots 1 turned (chunk_steps p g)
+  pub since : List Event
+  pub others : List Event
+  pub asked : after.seen ≡ since ++ (Take before.number g ∷ (others ++ before.seen))
+  pub finished :
+      (i : ℕ) → (tables_at p (others ++ before.seen)).taken g ≤ i → i < (tables_at p (others ++ before.seen)).taken g + chunk_of p g → i < size_of p g
+      → IsFinished (seen_by after) g i
+  pub raised : 1 ≤ turned → IsRaised p g after
+
+-- The seat copied the table: all its slots are finished, and the top word is past it. The seat counted just the slots that
+-- its own steps turned finished.
+pub record HasCompleted (p : Plan) (g : ℕ) (before after : SeenBy) : Type 0 where
+  pub slots : List ℕ
+  pub chunks : ℕ
+  pub copied : HasCopied p g before after slots chunks (length slots) (table_steps p g)
+  pub complete : IsComplete p (seen_by after) g
+  pub raised : g < (seen_by after).top

@@ -2,5 +2,7 @@
 #![tactic(auto)]
 
 mod slots;
+mod tables;
 
 pub use slots::copy_slot;
+pub use tables::{complete, copy_and_count, help};

@@ -13,12 +13,13 @@ use nb_table::{Chain, ChainSeat, laws};
 
 /// Finishes slot `i` of table `g`, which has a next one, whatever others do to it meanwhile: an empty slot is closed, a value
 /// is primed, and a number is copied to the key's slot in the next table first. Answers whether a step of this call turned
-/// the slot finished. It counts nothing. It is `copy_slot` of Click's tables.
+/// the slot finished. It counts nothing. The idea is `copy_slot` of high-scale-lib.
 pub fn copy_slot(chain: &Chain, seat: &mut ChainSeat, g: u32, i: usize) -> bool
     requires own { IsOwn chain.now seat.old }
     requires slot { IsSlot chain.now.shape g i }
     requires growing { IsInstalled (seen_by seat.old) (suc g) }
-    ensures copied { HasCopied chain.now.shape g seat.old seat.new (if result then i ∷ [] else []) 0 (slot_steps chain.now.shape g) }
+    ensures copied { HasCopied chain.now.shape g seat.old seat.new (if result then i ∷ [] else []) 0 0
+        (slot_steps chain.now.shape g) }
     ensures finished { IsFinished (seen_by seat.new) g i }
 {
     laws::steps_add_up();
@@ -36,9 +37,9 @@ fn key_or_close(chain: &Chain, seat: &mut ChainSeat, g: u32, i: usize) -> KeySta
     requires slot { IsSlot chain.now.shape g i }
     requires growing { IsInstalled (seen_by seat.old) (suc g) }
     ensures closed { result ≡ key_is.Empty
-        → HasCopied chain.now.shape g seat.old seat.new (i ∷ []) 0 2 × ((seen_by seat.new).key g i ≡ key_is.Dead) }
+        → HasCopied chain.now.shape g seat.old seat.new (i ∷ []) 0 0 2 × ((seen_by seat.new).key g i ≡ key_is.Dead) }
     ensures found { result ≢ key_is.Empty
-        → HasCopied chain.now.shape g seat.old seat.new [] 0 2 × ((seen_by seat.new).key g i ≡ result) }
+        → HasCopied chain.now.shape g seat.old seat.new [] 0 0 2 × ((seen_by seat.new).key g i ≡ result) }
 {
     laws::steps_add_up();
     nb_core::laws::own_lasts();
@@ -49,13 +50,33 @@ fn key_or_close(chain: &Chain, seat: &mut ChainSeat, g: u32, i: usize) -> KeySta
     }
 }
 
-/// Finishes a slot that the key has claimed.
+/// Finishes a slot that the key has claimed. A value that is final already is only looked at.
 fn copy_value(chain: &Chain, seat: &mut ChainSeat, g: u32, i: usize, key: Key) -> bool
     requires own { IsOwn chain.now seat.old }
     requires slot { IsSlot chain.now.shape g i }
     requires growing { IsInstalled (seen_by seat.old) (suc g) }
     requires claimed { (seen_by seat.old).key g i ≡ key_is.Claimed key }
-    ensures copied { HasCopied chain.now.shape g seat.old seat.new (if result then i ∷ [] else []) 0 (2 * size_of chain.now.shape (suc g) + 3) }
+    ensures copied { HasCopied chain.now.shape g seat.old seat.new (if result then i ∷ [] else []) 0 0
+        (2 * size_of chain.now.shape (suc g) + 4) }
+    ensures finished { IsFinished (seen_by seat.new) g i }
+{
+    laws::steps_add_up();
+    nb_core::laws::own_lasts();
+    chain.shape().known();
+    if chain.load_value(seat, g, i, None).is_finished() {
+        return false;
+    }
+    prime_value(chain, seat, g, i, key)
+}
+
+/// Finishes a slot that the key has claimed, whose value is primed first.
+fn prime_value(chain: &Chain, seat: &mut ChainSeat, g: u32, i: usize, key: Key) -> bool
+    requires own { IsOwn chain.now seat.old }
+    requires slot { IsSlot chain.now.shape g i }
+    requires growing { IsInstalled (seen_by seat.old) (suc g) }
+    requires claimed { (seen_by seat.old).key g i ≡ key_is.Claimed key }
+    ensures copied { HasCopied chain.now.shape g seat.old seat.new (if result then i ∷ [] else []) 0 0
+        (2 * size_of chain.now.shape (suc g) + 3) }
     ensures finished { IsFinished (seen_by seat.new) g i }
 {
     laws::steps_add_up();
@@ -77,7 +98,8 @@ fn copy_number(chain: &Chain, seat: &mut ChainSeat, g: u32, i: usize, key: Key, 
     requires growing { IsInstalled (seen_by seat.old) (suc g) }
     requires claimed { (seen_by seat.old).key g i ≡ key_is.Claimed key }
     requires held { IsPrimedOrFinished (seen_by seat.old) g i number }
-    ensures copied { HasCopied chain.now.shape g seat.old seat.new (if result then i ∷ [] else []) 0 (2 * size_of chain.now.shape (suc g) + 2) }
+    ensures copied { HasCopied chain.now.shape g seat.old seat.new (if result then i ∷ [] else []) 0 0
+        (2 * size_of chain.now.shape (suc g) + 2) }
     ensures finished { IsFinished (seen_by seat.new) g i }
 {
     laws::steps_add_up();
@@ -100,7 +122,7 @@ fn place_in_next(chain: &Chain, seat: &mut ChainSeat, g: u32, key: Key) -> Optio
     requires table { suc g < generations_of chain.now.shape }
     requires growing { IsInstalled (seen_by seat.old) (suc g) }
     requires below { HasSlot chain.now.shape (seen_by seat.old) g key }
-    ensures copied { HasCopied chain.now.shape g seat.old seat.new [] 0 (2 * size_of chain.now.shape (suc g)) }
+    ensures copied { HasCopied chain.now.shape g seat.old seat.new [] 0 0 (2 * size_of chain.now.shape (suc g)) }
     ensures found { IfSome result (λ j. (j < size_of chain.now.shape (suc g)) × ((seen_by seat.new).key (suc g) j ≡ key_is.Claimed key)) }
     ensures passed { IfNone result (IsPassed chain.now.shape (seen_by seat.new) (suc g) key) }
 {
@@ -139,7 +161,7 @@ fn key_or_claim(
     requires near { distance < size_of chain.now.shape (suc g) }
     requires at { path_slot chain.now.shape (suc g) key distance ≡ j }
     requires others { AreOthers chain.now.shape (seen_by seat.old) (suc g) key distance }
-    ensures copied { HasCopied chain.now.shape g seat.old seat.new [] 0 2 }
+    ensures copied { HasCopied chain.now.shape g seat.old seat.new [] 0 0 2 }
     ensures found { (seen_by seat.new).key (suc g) j ≡ result }
     ensures some { result ≢ key_is.Empty }
 {

@@ -126,19 +126,6 @@ module _ (p : Plan) (lawful : LawfulWords) (distinct : PlacesAreDistinct) (plan 
       (header-within p distinct plan g n _ table header refl))
 
   module _ (g place found : ℕ) (before after : SeenBy) (table : g < generations_of p) (shape : before.shape ≡ p) where
-    -- the take word after a take
-    pub taken : place ≡ header_place p g 1 → Stepped p (takes before.number g) place before found after
-        → (seen_by after).taken g ≡ (found + chunk_of p g) % 2 ^ 64
-    taken at step =
-        let h = met p (takes before.number g) place found before after shape step in
-        let legal = legal_now p (takes before.number g) place found before after shape step in
-        let now = ap (λ t. t.taken g) (seen_now p (takes before.number g) place found before after shape step) in
-        let is_found : slice_index (words_of p h) (header_place p g 1) ≡ found
-        = ap (slice_index (words_of p h)) (sym at) ∙ step.word in
-        now
-        ∙ written h legal.0 g 1 ((slice_index (words_of p h) (header_place p g 1) + chunk_of p g) % 2 ^ 64) table (omega arith)
-        ∙ ap (λ n. (n + chunk_of p g) % 2 ^ 64) is_found
-
     -- the done word after a count
     pub counted : (once : CountedOnce) (c : ℕ) → place ≡ header_place p g 2
         → Stepped p (counts before.number g c) place before found after
@@ -159,6 +146,14 @@ module _ (p : Plan) (lawful : LawfulWords) (distinct : PlacesAreDistinct) (plan 
         ∙ ap (λ n. (n + c) % 2 ^ 64) is_found
         ∙ one-sum found c (size_of p g) (subst (λ n. n ≤ size_of p g) is_found (once p plan h legal.0 g table).fits)
         (le_trans share new.fits) (size-fits p plan g table)
+
+-- what a take tells of the take word before it
+pub taken : (p : Plan) (g place found : ℕ) (before after : SeenBy) → before.shape ≡ p → place ≡ header_place p g 1
+    → Stepped p (takes before.number g) place before found after → (seen_before after).taken g ≡ found
+taken p g place found before after shape at step =
+    ap (λ q. (tables_at q (drop 1 after.seen)).taken g) (step.grows.shape ∙ shape)
+    ∙ ap (λ h. (tables_at p (drop 1 h)).taken g) step.grows.seen
+    ∙ ap (slice_index (words_of p (step.grows.others ++ before.seen))) (sym at) ∙ step.word
 
 -- what a promotion tells that raised the top word
 pub raised : (p : Plan) → LawfulWords → PlacesAreDistinct → IsPlan p → (g found : ℕ) (before after : SeenBy) → before.shape ≡ p

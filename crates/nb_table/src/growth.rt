@@ -1,7 +1,7 @@
 //! The steps that grow a chain and copy its tables.
-ghost use Rattle.std.specs.Prelude.{◌≡◌, ◌≢◌, ◌+◌, ◌%◌, ◌^◌, ◌<◌, ◌≤◌, suc, [], ◌∷◌, ◌⊎◌, IsTrue, false};
+ghost use Rattle.std.specs.Prelude.{◌≡◌, ◌≢◌, ◌+◌, ◌<◌, ◌≤◌, suc, [], ◌∷◌, ◌⊎◌, IsTrue, false};
 ghost use Rattle.nb_core.specs.Plans.{generations_of, limit_of};
-ghost use Rattle.nb_core.specs.Tables.{AreOthers, IsComplete, IsInstalled, IsReady, IsSlot, chunk_of};
+ghost use Rattle.nb_core.specs.Tables.{AreOthers, IsComplete, IsInstalled, IsReady, IsSlot};
 ghost use Rattle.nb_core.specs.History.{counted_by, turned_by};
 ghost use Rattle.nb_core.specs.declared.events.Event.TheVariants as event;
 ghost use Rattle.nb_core.specs.declared.states.KeyState.TheVariants as key_is;
@@ -20,7 +20,7 @@ impl Chain {
         requires table { g < generations_of self.now.shape }
         requires growing { IsInstalled (seen_by seat.old) (suc g) }
         ensures grows { Extended seat.old seat.new (event.Take seat.old.number g ∷ []) 1 }
-        ensures found { (seen_by seat.new).taken g ≡ (result + chunk_of self.now.shape g) % 2 ^ 64 }
+        ensures found { (seen_before seat.new).taken g ≡ result }
     {
         laws::seen_lasts();
         laws::lawful_words();

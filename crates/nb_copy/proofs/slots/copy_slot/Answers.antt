@@ -16,6 +16,6 @@ returns-in-Claimed-clause-copied c =
     let plan = subst IsPlan c.shape.ensures c.known.ensures in
     let some : c.key_or_close.result ≢ key_is.Empty = λ empty. let is = c.in-Claimed.is in cc in
     let size = size_of c.args.chain.now.shape (suc c.args.g) in
-    copied-within (2 + (2 * size + 3)) (2 * size + 5) (omega arith)
+    copied-within (2 + (2 * size + 4)) (2 * size + 6) (omega arith)
     (copied-then c.steps_add_up.ensures c.args.chain.now plan c.args.g c.requires.slot.0 c.requires.own (c.key_or_close.ensures.found some).0
     c.copy_value.ensures.copied)

@@ -1,5 +1,5 @@
 use Rattle.std.proofs.Common.{◌∙◌, min, suc, ap, subst}
-use Rattle.nb_core.specs.Plans.{IsPlan, header_place}
+use Rattle.nb_core.specs.Plans.{header_place}
 use Rattle.nb_core.specs.Tables.{IsInstalled, chunk_of, tables_at}
 use Rattle.nb_table.proofs.Counts.{can-take, taken}
 use Rattle.nb_table.proofs.chain.Chain.take_work.Goals as goal
@@ -14,7 +14,5 @@ adds-requires-clause-can c =
 
 pub returns-clause-found : goal.returns-clause-found
 returns-clause-found c =
-    let shape = ap (λ v. v.shape) c.self.view_is in
-    taken c.args.self.now.shape c.lawful_words.ensures c.places_are_distinct.ensures (subst IsPlan shape c.self.invariant.plan)
-    c.args.g _ _ c.args.seat.now c.adds.new.seat c.requires.table c.requires.own.1
-    (c.header_place-place.ensures ∙ ap (λ p. header_place p c.args.g 1) shape) c.adds.ensures
+    taken c.args.self.now.shape c.args.g _ _ c.args.seat.now c.adds.new.seat c.requires.own.1
+    (c.header_place-place.ensures ∙ ap (λ p. header_place p c.args.g 1) (ap (λ v. v.shape) c.self.view_is)) c.adds.ensures
