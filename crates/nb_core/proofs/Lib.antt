@@ -19,6 +19,7 @@ mod Net
 mod Newest
 mod Others
 mod Passing
+mod Paths
 mod Places
 mod Refused
 mod Replies

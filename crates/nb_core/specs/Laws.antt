@@ -333,6 +333,10 @@ pub record IsOnPath (p : Plan) (t : Tables) (g i k : ℕ) : Type 0 where
 abbrev pub ClaimedOnPath : Type 0
 ClaimedOnPath = (p : Plan) → IsPlan p → (h : List Event) → IsLegal p h → (g i k : ℕ) → IsSlot p g i → (tables_at p h).key g i ≡ Claimed k → IsOnPath p (tables_at p h) g i k
 
+-- The slots of a key's path are distinct.
+abbrev pub PathsAreDistinct : Type 0
+PathsAreDistinct = (p : Plan) (g k d e : ℕ) → d < size_of p g → e < size_of p g → path_slot p g k d ≡ path_slot p g k e → d ≡ e
+
 -- Where other keys have a key's whole path in the last table, they have all of its slots.
 abbrev pub WholeCrowded : Type 0
 WholeCrowded = (p : Plan) → IsPlan p → (h : List Event) → IsLegal p h → (k : ℕ) → AreOthers p (tables_at p h) (generations_of p - 1) k (size_of p (generations_of p - 1)) → IsCrowded p h k
