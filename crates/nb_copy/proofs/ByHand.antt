@@ -13,7 +13,9 @@ use Rattle.nb_table.specs.Chains.{ChainOf, Extended, IsOwn, SeenBy, seen_by}
 use Rattle.nb_table.specs.Conditions.{HasWay, IsReached}
 
 -- one more slot of a path that is another key's
-pub one-more : (p : Plan) (t : Tables) (g k d : ℕ) → AreOthers p t g k d → IsOther (t.key g (path_slot p g k d)) k → AreOthers p t g k (d + 1)
+pub one-more :
+    (p : Plan) (t : Tables) (g k d : ℕ) → AreOthers p t g k d → IsOther (t.key g (path_slot p g k d)) k
+    → AreOthers p t g k (d + 1)
 one-more p t g k d before here = λ e below. elim (last-or-before e d below) [
   | inl last ↦ subst (λ x. IsOther (t.key g (path_slot p g k x)) k) (sym last) here
   | inr less ↦ before e less
@@ -37,8 +39,8 @@ settled p t (suc g) k complete = λ i in_table claimed. elim (complete i in_tabl
 
 -- the way of a new key to a slot, within the limit
 pub way-in :
-    (p : Plan) (t : Tables) (g i k d : ℕ) → d < size_of p g → i ≡ path_slot p g k d → AreOthers p t g k d → IsReady p t g → d < limit_of p g
-    → HasWay p t g i k
+    (p : Plan) (t : Tables) (g i k d : ℕ) → d < size_of p g → i ≡ path_slot p g k d → AreOthers p t g k d → IsReady p t g
+    → d < limit_of p g → HasWay p t g i k
 way-in p t g i k d in_table at passed complete within = record {
   path = record { distance = d; in_table = in_table; at = sym at; passed = passed };
   reason = inr (complete, within);
@@ -53,7 +55,9 @@ way-up p t i j k d in_table at passed below claimed = record {
   reason = inl (record { slot = i; in_table = below; is = claimed });
 }
 
-module _ (chain : ChainOf) (seat : SeenBy) (plan : IsPlan chain.shape) (own : IsOwn chain seat) (legal : IsLegal seat.shape seat.seen) where
+module _
+    (chain : ChainOf) (seat : SeenBy) (plan : IsPlan chain.shape) (own : IsOwn chain seat)
+    (legal : IsLegal seat.shape seat.seen) where
   own-plan : IsPlan seat.shape
   own-plan = subst IsPlan (sym own.1) plan
 
@@ -86,7 +90,8 @@ module _ {before after : SeenBy} where
   -- a value is primed after a step that was to prime it
   pub primed-step :
       (x v : ValueState) {own : List Event} {met : Type 0} → (IsUnprimed v → Extended before after own 1 × met × (x ≡ primed v))
-      → ((IsUnprimed v → ⊥) → Extended before after [] 1 × (x ≡ v)) → ((es : List Event) × Extended before after es 1) × (x ≡ primed v)
+      → ((IsUnprimed v → ⊥) → Extended before after [] 1 × (x ≡ v))
+      → ((es : List Event) × Extended before after es 1) × (x ≡ primed v)
   primed-step x v won lost = elim (unprimed-or-not v) [
     | inl unprimed ↦ let w = won unprimed in ((_, w.0), w.2)
     | inr other ↦ let l = lost other.0 in ((_, l.0), l.1 ∙ sym other.1)

@@ -222,7 +222,7 @@ fn stopped_after_each_step(rt: HostRuntime) -> Result<(), Fail> {
     Ok(())
 }
 
-/// The keys that come two chunks of table 0 to copy: six keys whose home is its slot 0.
+/// A seat puts six keys, whose home is slot 0, into a table 0 of two chunks, and installs table 1 for a seventh.
 pub(super) fn fills_two_chunks<R: Abort>(rt: &R, chain: &Chain, seat: &mut ChainSeat)
     requires own { IsOwn chain.now seat.old }
     ensures own { IsOwn chain.now seat.new }

@@ -1,9 +1,10 @@
 //! Copies by several threads at once.
-ghost use Rattle.nb_table.specs.Chains.{IsOwn};
+ghost use Rattle.nb_core.specs.Tables.{IsInstalled, IsSlot};
+ghost use Rattle.nb_table.specs.Chains.{IsOwn, seen_by};
 
 use super::by_hand::*;
 use super::copies::{fills_two_chunks, leaves};
-use crate::{complete, copy_slot};
+use crate::{complete, copy_and_count, copy_slot};
 use nb_core::{OutOfMemory, Shape, ValueState};
 use nb_table::{Chain, ChainSeat, laws};
 use std::alloc::Global;
@@ -81,8 +82,8 @@ fn four_complete<R: Threads + Sync>(
     (by_ab && by_cd, a, b, c, d)
 }
 
-/// Sees that table 0 is complete, that the top word says so, and that table 1 has the six keys, each three of one home side by
-/// side in some order. Nobody is handed another chunk.
+/// Sees that table 0 is complete, that the top word says so, and that table 1 has the six keys: the three of each home lie
+/// side by side from there on, in some order. Nobody is handed another chunk.
 fn is_copied<R: Abort>(rt: &R, chain: &Chain, seat: &mut ChainSeat)
     requires own { IsOwn chain.now seat.old }
     ensures own { IsOwn chain.now seat.new }
@@ -115,18 +116,33 @@ fn two_completers(rt: HostRuntime) -> Result<(), Fail> {
     Ok(())
 }
 
+/// Copies slot `i` of table 0, and counts it if `counted` says so. Answers whether this turned it finished.
+fn turns_slot(chain: &Chain, seat: &mut ChainSeat, i: usize, counted: bool) -> bool
+    requires own { IsOwn chain.now seat.old }
+    requires slot { IsSlot chain.now.shape 0 i }
+    requires growing { IsInstalled (seen_by seat.old) 1 }
+    ensures own { IsOwn chain.now seat.new }
+    ensures growing { IsInstalled (seen_by seat.new) 1 }
+{
+    laws::steps_add_up();
+    chain.shape().known();
+    if counted {
+        return copy_and_count(chain, seat, 0, i);
+    }
+    copy_slot(chain, seat, 0, i)
+}
+
 /// Copies the slots of table 0 one after another, if it has a next one, and answers how many of them this turned finished.
-fn turns_alone(chain: &Chain, seat: ChainSeat) -> (usize, ChainSeat)
+fn turns_alone(chain: &Chain, seat: ChainSeat, counted: bool) -> (usize, ChainSeat)
     requires { IsOwn chain.now seat }
     ensures { IsOwn chain.now result.1 }
 {
-    laws::steps_add_up();
     chain.shape().known();
     let mut seat = seat;
     let mut turned = 0;
     if chain.load_next(&mut seat, 0, None) {
         for i in 0..chain.shape().size_of(0) {
-            turned += usize::from(copy_slot(chain, &mut seat, 0, i));
+            turned += usize::from(turns_slot(chain, &mut seat, i, counted));
         }
     }
     (turned, seat)
@@ -138,6 +154,7 @@ fn two_turn<R: Threads + Sync>(
     chain: &Chain,
     a: ChainSeat,
     b: ChainSeat,
+    counted: bool,
 ) -> (usize, ChainSeat, ChainSeat)
     requires a { IsOwn chain.now a }
     requires b { IsOwn chain.now b }
@@ -148,11 +165,11 @@ fn two_turn<R: Threads + Sync>(
         move || -> (usize, ChainSeat)
             requires { IsOwn chain.now a }
             ensures { IsOwn chain.entry.now result.1 }
-        { turns_alone(chain, a) },
+        { turns_alone(chain, a, counted) },
         move || -> (usize, ChainSeat)
             requires { IsOwn chain.now b }
             ensures { IsOwn chain.entry.now result.1 }
-        { turns_alone(chain, b) },
+        { turns_alone(chain, b, counted) },
     );
     (by_a.wrapping_add(by_b), a, b)
 }
@@ -165,6 +182,7 @@ fn four_turn<R: Threads + Sync>(
     b: ChainSeat,
     c: ChainSeat,
     d: ChainSeat,
+    counted: bool,
 ) -> (usize, ChainSeat, ChainSeat, ChainSeat, ChainSeat)
     requires a { IsOwn chain.now a }
     requires b { IsOwn chain.now b }
@@ -177,11 +195,11 @@ fn four_turn<R: Threads + Sync>(
         move || -> (usize, ChainSeat, ChainSeat)
             requires { IsOwn chain.now a × IsOwn chain.now b }
             ensures { IsOwn chain.entry.now result.1 × IsOwn chain.entry.now result.2 }
-        { two_turn(rt, chain, a, b) },
+        { two_turn(rt, chain, a, b, counted) },
         move || -> (usize, ChainSeat, ChainSeat)
             requires { IsOwn chain.now c × IsOwn chain.now d }
             ensures { IsOwn chain.entry.now result.1 × IsOwn chain.entry.now result.2 }
-        { two_turn(rt, chain, c, d) },
+        { two_turn(rt, chain, c, d, counted) },
     );
     (by_ab.wrapping_add(by_cd), a, b, c, d)
 }
@@ -214,17 +232,18 @@ fn four_complete_one_table<R: Threads + Sync + Abort>(
 
 #[test]
 fn many_complete_one_table(rt: HostRuntime) -> Result<(), Fail> {
-    for _round in 0..50 {
+    for _round in 0..1000 {
         four_complete_one_table(&rt, rt.alloc())?;
     }
     Ok(())
 }
 
-/// Four threads copy all slots of one table, one after another and without counting them. Each of its 16 slots was turned
-/// finished by one of them. The first seat then completes the table.
+/// Four threads copy all slots of one table, one after another. Each of its 16 slots was turned finished by one of them. If
+/// they counted, the top word says that the table is complete; else nothing says so until the first seat completes it.
 fn four_turn_one_table<R: Threads + Sync + Abort>(
     rt: &R,
     alloc: Global,
+    counted: bool,
 ) -> Result<(), OutOfMemory> {
     let shape = Shape::new(4, 2, 4, 1).map_err(|_| OutOfMemory)?;
     let (chain, mut seats) = Chain::new(alloc, shape)?;
@@ -237,10 +256,10 @@ fn four_turn_one_table<R: Threads + Sync + Abort>(
         panic!(rt; "there are four seats")
     };
     fills_two_chunks(rt, &chain, &mut a);
-    let (turned, mut a, b, c, d) = four_turn(rt, &chain, a, b, c, d);
+    let (turned, mut a, b, c, d) = four_turn(rt, &chain, a, b, c, d, counted);
     assert_eq!(rt; turned, 16);
     is_complete(rt, &chain, &mut a, 0);
-    assert_eq!(rt; chain.load_top(&mut a), 0);
+    assert_eq!(rt; chain.load_top(&mut a), u32::from(counted));
     completes(rt, &chain, &mut a, 0);
     is_copied(rt, &chain, &mut a);
     seats.push(a)?;
@@ -252,8 +271,16 @@ fn four_turn_one_table<R: Threads + Sync + Abort>(
 
 #[test]
 fn each_slot_is_turned_once(rt: HostRuntime) -> Result<(), Fail> {
-    for _round in 0..50 {
-        four_turn_one_table(&rt, rt.alloc())?;
+    for _round in 0..1000 {
+        four_turn_one_table(&rt, rt.alloc(), false)?;
+    }
+    Ok(())
+}
+
+#[test]
+fn each_slot_is_counted_once(rt: HostRuntime) -> Result<(), Fail> {
+    for _round in 0..1000 {
+        four_turn_one_table(&rt, rt.alloc(), true)?;
     }
     Ok(())
 }

@@ -17,5 +17,5 @@ claim_key-requires-clause-way g c =
     let lasting = law.stays (subst IsPlan c.shape.ensures c.known.ensures) c.sees_others.ensures.own grows in
     let slot = c.slot_on_path-j in
     let passed = lasting.others 1 c.args.key c.args.distance slot.ensures.slot.0 c.sees_others.ensures.others in
-    way-up c.args.chain.now.shape (seen_by c.sees_key.new.seat) c.args.i slot.result c.args.key c.args.distance slot.ensures.distance
-    slot.ensures.path passed c.sees_key.ensures.slot.1 c.sees_key.ensures.claimed
+    way-up c.args.chain.now.shape (seen_by c.sees_key.new.seat) c.args.i slot.result c.args.key c.args.distance
+    slot.ensures.distance slot.ensures.path passed c.sees_key.ensures.slot.1 c.sees_key.ensures.claimed

@@ -7,15 +7,16 @@ pub copy_in-requires-clause-source : goal.copy_in-requires-clause-source
 copy_in-requires-clause-source g c =
     let law = c.steps_add_up.ensures in
     let lasting = law.stays (subst IsPlan c.shape.ensures c.known.ensures) c.requires.own c.sees_key.ensures.grows in
-    number-source c.args.chain.now.shape _ _ lasting 0 1 c.args.i c.args.key c.args.number refl c.requires.slot c.requires.claimed c.requires.held
+    number-source c.args.chain.now.shape _ _ lasting 0 1 c.args.i c.args.key c.args.number refl c.requires.slot
+    c.requires.claimed c.requires.held
 
 pub returns : goal.returns
 returns g c =
     let law = c.steps_add_up.ensures in
     let plan = subst IsPlan c.shape.ensures c.known.ensures in
     let look = c.sees_key.ensures in
-    let copy = copied-in law c.own_lasts.ensures c.args.chain.now plan 0 c.requires.slot.0 _ 1 c.args.j c.args.key c.args.number c.copy_in.result refl
-    c.copy_in.ensures.won c.copy_in.ensures.lost in
+    let copy = copied-in law c.own_lasts.ensures c.args.chain.now plan 0 c.requires.slot.0 _ 1 c.args.j c.args.key c.args.number
+    c.copy_in.result refl c.copy_in.ensures.won c.copy_in.ensures.lost in
     let below = law.stays plan c.requires.own (law.more look.grows copy.0.grown) in
     let above = law.stays plan look.own copy.0.grown in
     record {

@@ -6,8 +6,8 @@ use Rattle.nb_copy.proofs.tests.by_hand.gets.Goals as goal
 pub load_value-requires-clause-reached : goal.load_value-requires-clause-reached
 load_value-requires-clause-reached g c =
     let ready = c.is_ready.ensures in
-    reached c.args.chain.now c.is_ready.new.seat (subst IsPlan c.shape.ensures c.known.ensures) ready.own c.known-2.ensures c.complete_passed.ensures
-    c.args.g c.args.key ready.table ready.installed ready.below
+    reached c.args.chain.now c.is_ready.new.seat (subst IsPlan c.shape.ensures c.known.ensures) ready.own c.known-2.ensures
+    c.complete_passed.ensures c.args.g c.args.key ready.table ready.installed ready.below
 
 pub load_value-requires-clause-claimed : goal.load_value-requires-clause-claimed
 load_value-requires-clause-claimed g c =

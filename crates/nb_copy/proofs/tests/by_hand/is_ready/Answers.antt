@@ -9,7 +9,8 @@ returns-clause-below g c =
     let law = c.steps_add_up.ensures in
     let own = law.own c.requires.own (law.one c.load_top.ensures.grows) in
     let high : c.args.g ≤ c.load_top.result = search rules in
-    below-top c.args.chain.now c.load_top.new.seat (subst IsPlan c.shape.ensures c.known.ensures) own c.known-2.ensures c.top_complete.ensures c.args.g
+    let plan = subst IsPlan c.shape.ensures c.known.ensures in
+    below-top c.args.chain.now c.load_top.new.seat plan own c.known-2.ensures c.top_complete.ensures c.args.g
     (subst (λ top. c.args.g ≤ top) (sym c.load_top.ensures.found) high)
 
 pub returns-clause-ready : goal.returns-clause-ready
@@ -19,5 +20,6 @@ pub returns-clause-installed : goal.returns-clause-installed
 returns-clause-installed g c =
     let law = c.steps_add_up.ensures in
     let own = law.own c.requires.own (law.one c.load_top.ensures.grows) in
-    there c.args.chain.now c.load_top.new.seat (subst IsPlan c.shape.ensures c.known.ensures) own c.known-2.ensures c.linked.ensures c.args.g (search rules)
+    let plan = subst IsPlan c.shape.ensures c.known.ensures in
+    there c.args.chain.now c.load_top.new.seat plan own c.known-2.ensures c.linked.ensures c.args.g (search rules)
     (returns-clause-below g c)

@@ -13,5 +13,5 @@ claim_key-requires-clause-way g c =
     let within : c.args.distance < c.limit_of.result = search rules in
     let limit = c.limit_of.ensures ∙ ap (λ p. limit_of p c.args.g) c.shape-2.ensures in
     let slot = c.slot_on_path-i in
-    way-in c.args.chain.now.shape (seen_by c.is_ready.new.seat) c.args.g slot.result c.args.key c.args.distance slot.ensures.distance slot.ensures.path
-    passed below.ready (subst (λ limit. c.args.distance < limit) limit within)
+    way-in c.args.chain.now.shape (seen_by c.is_ready.new.seat) c.args.g slot.result c.args.key c.args.distance
+    slot.ensures.distance slot.ensures.path passed below.ready (subst (λ limit. c.args.distance < limit) limit within)

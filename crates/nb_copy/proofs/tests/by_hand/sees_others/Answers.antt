@@ -12,5 +12,5 @@ loop-distance-preserved g c =
     let lasting = law.stays (subst IsPlan c.shape.ensures c.known.ensures) so_far.0 look.grows in
     let before = lasting.others c.args.g c.args.key c.loop-distance.distance look.table so_far.1 in (
       law.own so_far.0 look.grows,
-      one-more c.args.chain.now.shape (seen_by c.sees_other.new.seat) c.args.g c.args.key c.loop-distance.distance before look.other,
+      one-more c.args.chain.now.shape (seen_by c.sees_other.new.seat) c.args.g c.args.key _ before look.other,
     )

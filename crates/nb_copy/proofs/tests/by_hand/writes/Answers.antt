@@ -11,4 +11,5 @@ win_value-requires-clause-claimed g c =
     lasting.claimed c.args.g c.args.i c.args.key c.sees_key.ensures.slot c.sees_key.ensures.claimed
 
 pub win_value-requires-clause-settled : goal.win_value-requires-clause-settled
-win_value-requires-clause-settled g c = settled c.args.chain.now.shape (seen_by c.is_ready.new.seat) c.args.g c.args.key c.is_ready.ensures.ready
+win_value-requires-clause-settled g c =
+    settled c.args.chain.now.shape (seen_by c.is_ready.new.seat) c.args.g c.args.key c.is_ready.ensures.ready
