@@ -1,3 +1,4 @@
+mod ByHand
 mod Copied
 mod SlotsFinished
 mod SlotsInNext
