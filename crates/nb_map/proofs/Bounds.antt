@@ -1,0 +1,70 @@
+-- How many steps calls make.
+use Rattle.std.proofs.Common.{◌≡◌, ℕ, zero, suc, ◌+◌, ◌-◌, ◌*◌, ◌^◌, ◌≤◌, ◌<◌, ◌⊎◌, slice_index, add-one, ap, sym, subst, inl, inr, arith}
+use Rattle.std.proofs.Math.Nat.{le_refl, le_trans, mul-le-mul_right}
+use Rattle.std.proofs.lemmas.List.{get_or_past}
+use Rattle.std.proofs.lemmas.Nat.{pow_pos}
+use Rattle.nb_core.specs.Plans.{IsPlan, Plan, SizesNeverFall, generations_of, size_of}
+use Rattle.nb_map.specs.Looking.{get_steps, look_steps}
+use Rattle.nb_map.specs.Searching.{slots_below}
+
+-- no table is larger than the last one
+size-most : (never_fall : SizesNeverFall) (p : Plan) → IsPlan p → (n g : ℕ) → g + n + 1 ≡ generations_of p → size_of p g ≤ size_of p (generations_of p - 1)
+size-most never_fall p plan zero g is = let last : g ≡ generations_of p - 1 = omega (arith, is) in subst (λ f. size_of p g ≤ size_of p f) last (le_refl (size_of p g))
+size-most never_fall p plan (suc n) g is =
+    le_trans (never_fall p plan g (omega (arith, is))) (size-most never_fall p plan n (suc g) (omega (arith, is)))
+
+-- the most steps of looks at all tables below one
+abbrev pub looked_below : Plan → ℕ → ℕ
+looked_below p zero = 0
+looked_below p (suc g) = look_steps p g + looked_below p g
+
+pub looked-more : (p : Plan) (g : ℕ) → looked_below p (g + 1) ≡ look_steps p g + looked_below p g
+looked-more p g = ap (looked_below p) (add-one g)
+
+-- nor is the table above one of the plan's, where there is one
+pub next-size :
+    (never_fall : SizesNeverFall) (p : Plan) → IsPlan p → (g : ℕ) → g < generations_of p → size_of p (suc g) ≤ size_of p (generations_of p - 1)
+next-size never_fall p plan g table = elim (more-or-last (suc g) (generations_of p)) [
+  | inl more ↦ size-most never_fall p plan (generations_of p - suc (suc g)) (suc g) (omega (arith, more))
+  | inr last ↦
+      let none : slice_index p.exponents (suc g) ≡ 0 = get_or_past p.exponents (suc g) 0 last in
+      subst (λ e. 2 ^ e ≤ size_of p (generations_of p - 1)) (sym none) (pow_pos (slice_index p.exponents (generations_of p - 1)))
+]
+  where
+    more-or-last : (a b : ℕ) → (a < b) ⊎ (b ≤ a)
+    more-or-last a b = grind arith
+
+-- a sum over more tables is more
+pub slots-more : (p : Plan) (m g : ℕ) → g ≤ m → slots_below p g ≤ slots_below p m
+slots-more p zero g below = let none : g ≡ 0 = omega (arith, below) in subst (λ f. slots_below p f ≤ 0) (sym none) (le_refl 0)
+slots-more p (suc m) g below = elim (less-or-same g m below) [
+  | inl less ↦ let rest = slots-more p m g less in omega (arith, rest)
+  | inr same ↦ subst (λ f. slots_below p f ≤ slots_below p (suc m)) (sym same) (le_refl (slots_below p (suc m)))
+]
+  where
+    less-or-same : (a b : ℕ) → a ≤ suc b → (a ≤ b) ⊎ (a ≡ suc b)
+    less-or-same a b below = grind (arith, below)
+
+-- the looks at the first tables, by the slots of these and by the last table's size
+looked-few :
+    (never_fall : SizesNeverFall) (p : Plan) → IsPlan p → (g : ℕ) → g ≤ generations_of p
+    → looked_below p g ≤ slots_below p g + g * (2 * size_of p (generations_of p - 1) + 10)
+looked-few never_fall p plan zero below = omega arith
+looked-few never_fall p plan (suc g) below =
+    let rest = looked-few never_fall p plan g (omega (arith, below)) in
+    let next = next-size never_fall p plan g below in
+    omega (arith, rest, next)
+
+-- a read looks at each table once at most
+pub get-bound :
+    (never_fall : SizesNeverFall) (p : Plan) → IsPlan p → (g : ℕ) → g ≤ generations_of p → 1 + looked_below p g ≤ get_steps p
+get-bound never_fall p plan g below =
+    let looked = looked-few never_fall p plan g below in
+    let slots = slots-more p (generations_of p) g below in
+    let all = mul-le-mul_right (2 * size_of p (generations_of p - 1) + 10) below in
+    fits (looked_below p g) (slots_below p g) (slots_below p (generations_of p)) g (generations_of p) (size_of p (generations_of p - 1)) looked slots all
+    plan.some_tables
+  where
+    fits : (looked s t g tables n : ℕ) → looked ≤ s + g * (2 * n + 10) → s ≤ t → g * (2 * n + 10) ≤ tables * (2 * n + 10) → 1 ≤ tables
+        → 1 + looked ≤ 8 * (t + tables) * (n + 8)
+    fits looked s t g tables n a b c d = omega (arith, a, b, c, d)

@@ -1,0 +1,280 @@
+-- How a slot for a key is claimed, and how a table is completed where there is none.
+use Rattle.std.proofs.Common.{◌≡◌, ◌≢◌, ◌∙◌, ℕ, ◌==◌, zero, suc, ◌+◌, ◌-◌, ◌*◌, ◌^◌, ◌<◌, ◌≤◌, ◌⊎◌, Bool, true, false, IsTrue, cond, List, [], ◌∷◌, None, ap, sym, subst, refl, inl, inr, arith}
+use Rattle.std.proofs.Math.Pow.{pow_mono}
+use Rattle.std.proofs.lemmas.List.Elements.{All-cons, All-get_or, All-nil}
+use Rattle.nb_core.specs.Calls.{leaves_alone}
+use Rattle.nb_core.specs.History.{IsLegal, key_of_call}
+use Rattle.nb_core.specs.Laws.{CompletePassed, IsPassed, Lasts, TablesAreLinked, WholeCrowded}
+use Rattle.nb_core.specs.Plans.{IsPlan, Plan, generations_of, limit_of, size_of}
+use Rattle.nb_core.specs.Tables.{AreOthers, HasSlotBelow, IsComplete, IsInstalled, IsReady, Tables, path_slot, tables_at}
+use Rattle.nb_core.specs.declared.calls.Call.{Call}
+use Rattle.nb_core.specs.declared.calls.Reply.{Reply}
+use Rattle.nb_core.specs.declared.events.Event.TheVariants.{Claim, Install}
+use Rattle.nb_core.specs.declared.states.KeyState.{KeyState}
+use Rattle.nb_core.specs.declared.states.KeyState.TheVariants.{Claimed, Dead, Empty}
+use Rattle.nb_table.specs.Chains.{ChainOf, Extended, IsOwn, SeenBy, seen_by}
+use Rattle.nb_table.specs.Conditions.{HasWay}
+use Rattle.nb_table.specs.Laws.{StepsAddUp}
+use Rattle.nb_copy.specs.Handing.{HasCompleted, table_steps}
+use Rattle.nb_map.proofs.Made.{made-copied, made-more, made-none, made-quiet, made-step, made-within, slot-below-lasts}
+use Rattle.nb_map.specs.Calling.{HasMade, MayMake, replied}
+use Rattle.nb_map.specs.Searching.{read_at, walk_steps}
+use Rattle.nb_map.specs.Writing.{HasBelow, IsFound, find_steps, grow_steps, owed_below, steps_below}
+use Rattle.nb_map.specs.declared.claim.Below.{Below}
+use Rattle.nb_map.specs.declared.claim.Below.TheVariants.{Complete, HasKey, Passed}
+use Rattle.nb_map.specs.declared.claim.Found.TheVariants.{Above, Full}
+use Rattle.nb_map.specs.declared.search.Place.{Place}
+use Rattle.nb_map.specs.declared.search.Place.TheVariants as place
+
+-- a table below that isn't known to be complete is owed all its steps
+pub owed-all : (p : Plan) (g : ℕ) (below : Below) → below ≢ Complete → owed_below p g below ≡ steps_below p g
+owed-all p g Complete unknown = absurd (unknown refl)
+owed-all p g HasKey unknown = refl
+owed-all p g Passed unknown = refl
+
+-- at most all, in any case
+pub owed-most : (p : Plan) (g : ℕ) (below : Below) → owed_below p g below ≤ steps_below p g
+owed-most p g Complete = omega arith
+owed-most p g HasKey = omega arith
+owed-most p g Passed = omega arith
+
+-- the table below the first one needs no completing
+pub first-ready : (p : Plan) (t : Tables) (g : ℕ) → g ≤ 0 → IsReady p t g
+first-ready p t zero low = tt
+first-ready p t (suc g) low = absurd (omega (arith, low))
+
+-- the table below another was completed
+pub completed-below :
+    StepsAddUp → (call : Call) (chain : ChainOf) → IsPlan chain.shape → (g : ℕ) {before after : SeenBy} → 0 < g → g < generations_of chain.shape
+    → HasCompleted chain.shape (g - 1) before after
+    → HasMade chain.shape call before after [] (steps_below chain.shape g) × IsReady chain.shape (seen_by after) g
+completed-below law call chain plan zero some table done = absurd (omega (arith, some))
+completed-below law call chain plan (suc g) {before} {after} some table done =
+    let same : suc g - 1 ≡ g = omega arith in
+    let done' = subst (λ f. HasCompleted chain.shape f before after) same done in
+    (made-copied law chain plan call table done'.copied, done'.complete)
+
+-- what is known of the table below is so still
+pub below-lasts :
+    (p : Plan) (t u : Tables) → Lasts p t u → (g k : ℕ) → g < generations_of p → (below : Below) → HasBelow p t g k below → HasBelow p u g k below
+below-lasts p t u lasting g k table Complete ready = lasting.ready g table ready
+below-lasts p t u lasting g k table HasKey slot = slot-below-lasts p t u lasting g k table slot
+below-lasts p t u lasting g k table Passed known = tt
+
+-- a slot within the limit may be claimed, by what is known of the table below
+pub way-to :
+    (p : Plan) (t : Tables) (g i k d : ℕ) (below : Below) → below ≢ Passed → HasBelow p t g k below → d < size_of p g → d < limit_of p g
+    → path_slot p g k d ≡ i → AreOthers p t g k d → HasWay p t g i k
+way-to p t g i k d below known has near within at others = record {
+  path = record { distance = d; in_table = near; at = at; passed = others };
+  reason = why below known has;
+}
+  where
+    why : (below : Below) → below ≢ Passed → HasBelow p t g k below → HasSlotBelow p t g k ⊎ (IsReady p t g × (d < limit_of p g))
+    why Complete known has = inr (has, within)
+    why HasKey known has = inl has
+    why Passed known has = absurd (known refl)
+
+-- neither a closed slot nor a key's is empty
+pub dead-empty : (s : KeyState) → s ≡ Dead → s ≢ Empty
+dead-empty s is empty = cc
+
+pub claimed-empty : (s : KeyState) (k : ℕ) → s ≡ Claimed k → s ≢ Empty
+claimed-empty s k is empty = cc
+
+-- an empty slot isn't among those that other keys have
+pub empty-behind :
+    (p : Plan) (t : Tables) (g k from d : ℕ) → AreOthers p t g k from → t.key g (path_slot p g k d) ≡ Empty → from ≤ d
+empty-behind p t g k from d others empty = elim (before-or-not d from) [
+  | inl near ↦
+      let other = others d near in
+      absurd (claimed-empty (t.key g (path_slot p g k d)) other.other other.is empty)
+  | inr far ↦ far
+]
+  where
+    before-or-not : (a b : ℕ) → (a < b) ⊎ (b ≤ a)
+    before-or-not a b = grind arith
+
+-- a complete table has a next one
+pub complete-next :
+    TablesAreLinked → (chain : ChainOf) (seat : SeenBy) → IsPlan chain.shape → IsOwn chain seat → IsLegal seat.shape seat.seen
+    → (g : ℕ) → g < generations_of chain.shape → IsComplete chain.shape (seen_by seat) g → IsInstalled (seen_by seat) (suc g)
+complete-next linked chain seat plan own legal g table complete =
+    (linked seat.shape (subst IsPlan (sym own.1) plan) seat.seen legal).complete g (subst (λ q. g < generations_of q) (sym own.1) table)
+    (subst (λ q. IsComplete q (seen_by seat) g) (sym own.1) complete)
+
+-- above a complete table, which has a next one, a call may go on
+pub above-complete :
+    CompletePassed → (chain : ChainOf) (seat : SeenBy) → IsPlan chain.shape → IsOwn chain seat → IsLegal seat.shape seat.seen
+    → (g k : ℕ) → g < generations_of chain.shape → IsComplete chain.shape (seen_by seat) g → IsInstalled (seen_by seat) (suc g)
+    → IsFound chain.shape seat g k (Above Complete)
+above-complete passed chain seat plan own legal g k table complete next =
+    let pass : IsPassed chain.shape (seen_by seat) g k = subst (λ q. IsPassed q (seen_by seat) g k) own.1
+    (passed seat.shape (subst IsPlan (sym own.1) plan) seat.seen legal g k (subst (λ q. g < generations_of q) (sym own.1) table)
+    (subst (λ q. IsComplete q (seen_by seat) g) (sym own.1) complete)) in
+    ((pass, next), complete)
+
+-- where other keys have a key's whole path in the last table, there is no slot for the key
+pub whole-full :
+    WholeCrowded → (chain : ChainOf) (seat : SeenBy) → IsPlan chain.shape → IsOwn chain seat → IsLegal seat.shape seat.seen
+    → (g k : ℕ) → g + 1 ≡ generations_of chain.shape → AreOthers chain.shape (seen_by seat) g k (size_of chain.shape g)
+    → IsFound chain.shape seat g k Full
+whole-full crowded chain seat plan own legal g k last others =
+    let q = chain.shape in
+    let at : g ≡ generations_of q - 1 = omega (arith, last) in
+    let others' : AreOthers q (tables_at q seat.seen) g k (size_of q g)
+    = subst (λ r. AreOthers q (tables_at r seat.seen) g k (size_of q g)) own.1 others in
+    crowded q plan seat.seen (subst (λ r. IsLegal r seat.seen) own.1 legal) k
+    (subst (λ f. AreOthers q (tables_at q seat.seen) f k (size_of q f)) at others')
+
+-- slots of other keys are so up to any nearer one
+pub others-nearer : (p : Plan) (t : Tables) (g k d e : ℕ) → e ≤ d → AreOthers p t g k d → AreOthers p t g k e
+others-nearer p t g k d e nearer others f near = others f (omega (arith, near, nearer))
+
+-- ---- what was done
+
+module _ (law : StepsAddUp) (chain : ChainOf) (plan : IsPlan chain.shape) where
+  abbrev p : Plan
+  p = chain.shape
+
+  -- a table was installed, or was there already
+  pub made-install :
+      (call : Call) (key g : ℕ) {before after : SeenBy} (result : Bool) → key_of_call call ≡ key → leaves_alone call None ≡ false
+      → (IsTrue result → Extended before after (Install before.number g key ∷ []) 1) → (result ≡ false → Extended before after [] 1)
+      → HasMade p call before after [] 1
+  made-install call key g {before} {after} true is acts won lost =
+      made-step law p call (won refl) refl
+      (All-cons (MayMake p (seen_by after) call) (Install before.number g key) [] (sym is, acts) (All-nil (MayMake p (seen_by after) call)))
+  made-install call key g false is acts won lost = made-quiet law p call (lost refl)
+
+  -- a slot was claimed for the call's key
+  pub made-claim :
+      (call : Call) (key g i : ℕ) {before after : SeenBy} → key_of_call call ≡ key → leaves_alone call None ≡ false → g < generations_of p
+      → Extended before after (Claim before.number g i key ∷ []) 1 → HasMade p call before after [] 1
+  made-claim call key g i {before} {after} is acts table won =
+      made-step law p call won refl
+      (All-cons (MayMake p (seen_by after) call) (Claim before.number g i key) [] (table, inr (sym is, acts))
+      (All-nil (MayMake p (seen_by after) call)))
+
+  -- then a table was completed
+  pub made-complete :
+      {call : Call} {before then after : SeenBy} {g most : ℕ} → suc g < generations_of p → IsOwn chain before
+      → HasMade p call before then [] most → HasCompleted p g then after → HasMade p call before after [] (most + table_steps p g)
+  made-complete {call} next own so_far done = made-more law chain plan own so_far (made-copied law chain plan call next done.copied)
+
+-- the number behind a slot is small
+pub behind-fits : (p : Plan) → IsPlan p → (g d : ℕ) → g < generations_of p → d < size_of p g → d + 1 ≤ 2 ^ 19
+behind-fits p plan g d table near =
+    let most : size_of p g ≤ 2 ^ 19 = pow_mono (All-get_or (λ e. (2 ≤ e) × (e ≤ 19)) p.exponents g 0 table plan.sizes).1 in
+    omega (arith, most, near)
+
+-- a walk of a call that puts a number at an absent key is no read
+read-never : (p : Plan) (g : ℕ) (call : Call) (place : Place) → leaves_alone call None ≡ false → read_at p g call place ≡ []
+read-never p g call (place.Slot i) acts = refl
+read-never p g call (place.Empty d) acts = ap (λ b. cond b (replied call None) []) acts
+read-never p g call place.Closed acts = refl
+read-never p g call place.Whole acts =
+    ap (λ b. cond (suc g == generations_of p) (cond b (replied call None) []) []) acts ∙ none (suc g == generations_of p)
+  where
+    none : (b : Bool) → cond {A = List (Call × Reply)} b [] [] ≡ []
+    none true = refl
+    none false = refl
+
+-- ---- the walk along a key's path
+
+-- The walk of a call along the key's path has come so far: it made no read. Its steps are few, together with those that the
+-- table below may still cost.
+pub record HasWalked (p : Plan) (call : Call) (before after : SeenBy) (g from : ℕ) (below : Below) : Type 0 where
+  pub most : ℕ
+  pub made : HasMade p call before after [] most
+  pub few : most + owed_below p g below ≤ 3 * from + steps_below p g
+
+-- it begins with no step
+pub walked-none :
+    StepsAddUp → (p : Plan) (call : Call) (seat : SeenBy) → IsLegal seat.shape seat.seen → (g : ℕ) (below : Below)
+    → HasWalked p call seat seat g 0 below
+walked-none law p call seat legal g below = record {
+  most = 0;
+  made = made-none law p call seat legal;
+  few = start (owed_below p g below) (steps_below p g) (owed-most p g below);
+}
+  where
+    start : (owed steps : ℕ) → owed ≤ steps → 0 + owed ≤ 3 * 0 + steps
+    start owed steps most = omega (arith, most)
+
+-- its steps fit where it ends in this table, where it goes on above the whole path, and where it ends at an empty slot; and
+-- they are few still where it goes on behind the slot
+few-here : (most owed from size steps more : ℕ) → most + owed ≤ 3 * from + steps → from ≤ size → most + (size - from) ≤ 3 * size + steps + 4 + more
+few-here most owed from size steps more few within = omega (arith, few, within)
+
+few-whole :
+    (most owed from size steps more : ℕ) → most + owed ≤ 3 * from + steps → from ≤ size
+    → most + (size - from) + (owed + 2 + more) ≤ 3 * size + steps + 4 + more
+few-whole most owed from size steps more few within = omega (arith, few, within)
+
+few-empty :
+    (most owed owed' from d size steps more : ℕ) → most + owed ≤ 3 * from + steps → owed' ≤ owed → from ≤ size → d < size
+    → most + (d + 1 - from) + (owed - owed') + (2 + (owed' + 2 + more)) ≤ 3 * size + steps + 4 + more
+few-empty most owed owed' from d size steps more few fewer within near = omega (arith, few, fewer, within, near)
+
+few-on :
+    (most owed owed' from d steps : ℕ) → most + owed ≤ 3 * from + steps → owed' ≤ owed → from ≤ d
+    → most + (d + 1 - from) + (owed - owed') + 2 + owed' ≤ 3 * (d + 1) + steps
+few-on most owed owed' from d steps few fewer ahead = omega (arith, few, fewer, ahead)
+
+module _ (law : StepsAddUp) (chain : ChainOf) (plan : IsPlan chain.shape) where
+  abbrev q : Plan
+  q = chain.shape
+
+  -- a walk that goes on makes no read
+  pub walked-to :
+      {call : Call} {before then after : SeenBy} {g from : ℕ} {below : Below} → IsOwn chain before → leaves_alone call None ≡ false
+      → (walked : HasWalked q call before then g from below) (place : Place)
+      → HasMade q call then after (read_at q g call place) (walk_steps q g from place)
+      → HasMade q call before after [] (walked.most + walk_steps q g from place)
+  walked-to {call} {before} {then} {after} {g} {from} own acts walked place made =
+      made-more law chain plan own walked.made
+      (subst (λ reads. HasMade q call then after reads (walk_steps q g from place)) (read-never q g call place acts) made)
+
+  -- where it ends in this table
+  pub walked-here :
+      {call : Call} {before then after : SeenBy} {g from : ℕ} {below : Below} → from ≤ size_of q g
+      → (walked : HasWalked q call before then g from below)
+      → HasMade q call before after [] (walked.most + (size_of q g - from)) → HasMade q call before after [] (find_steps q g)
+  walked-here {g = g} {from} {below} within walked made =
+      made-within (walked.most + (size_of q g - from)) (find_steps q g)
+      (few-here walked.most (owed_below q g below) from (size_of q g) (steps_below q g) (table_steps q g) walked.few within) made
+
+  -- where other keys have the whole path
+  pub walked-whole :
+      {call : Call} {before then whole after : SeenBy} {g from : ℕ} {below : Below} → IsOwn chain before → from ≤ size_of q g
+      → (walked : HasWalked q call before then g from below) → HasMade q call before whole [] (walked.most + (size_of q g - from))
+      → HasMade q call whole after [] (grow_steps q g below) → HasMade q call before after [] (find_steps q g)
+  walked-whole {g = g} {from} {below} own within walked made left =
+      made-within (walked.most + (size_of q g - from) + grow_steps q g below) (find_steps q g)
+      (few-whole walked.most (owed_below q g below) from (size_of q g) (steps_below q g) (table_steps q g) walked.few within)
+      (made-more law chain plan own made left)
+
+  -- where a slot was empty and the table below is settled, and the call ends there
+  pub walked-claimed :
+      {call : Call} {before then settled after : SeenBy} {g from : ℕ} {below : Below} (below' : Below) (d : ℕ) → IsOwn chain before
+      → from ≤ size_of q g → d < size_of q g → owed_below q g below' ≤ owed_below q g below → (walked : HasWalked q call before then g from below)
+      → HasMade q call before settled [] (walked.most + (d + 1 - from) + (owed_below q g below - owed_below q g below'))
+      → HasMade q call settled after [] (2 + grow_steps q g below') → HasMade q call before after [] (find_steps q g)
+  walked-claimed {g = g} {from} {below} below' d own within near fewer walked made claimed =
+      made-within (walked.most + (d + 1 - from) + (owed_below q g below - owed_below q g below') + (2 + grow_steps q g below')) (find_steps q g)
+      (few-empty walked.most (owed_below q g below) (owed_below q g below') from d (size_of q g) (steps_below q g) (table_steps q g) walked.few fewer
+      within near)
+      (made-more law chain plan own made claimed)
+
+  -- or goes on behind the slot
+  pub walked-behind :
+      {call : Call} {before then settled after : SeenBy} {g from : ℕ} {below : Below} (below' : Below) (d : ℕ) → IsOwn chain before
+      → from ≤ d → owed_below q g below' ≤ owed_below q g below → (walked : HasWalked q call before then g from below)
+      → HasMade q call before settled [] (walked.most + (d + 1 - from) + (owed_below q g below - owed_below q g below'))
+      → HasMade q call settled after [] 2 → HasWalked q call before after g (d + 1) below'
+  walked-behind {g = g} {from} {below} below' d own ahead fewer walked made lost = record {
+    most = walked.most + (d + 1 - from) + (owed_below q g below - owed_below q g below') + 2;
+    made = made-more law chain plan own made lost;
+    few = few-on walked.most (owed_below q g below) (owed_below q g below') from d (steps_below q g) walked.few fewer ahead;
+  }

@@ -1,0 +1,245 @@
+-- What a call does at its key's slot, and what others did meanwhile.
+use Rattle.std.proofs.Common.{◌≡◌, ◌≢◌, ◌∙◌, ℕ, suc, zero, ◌+◌, ◌-◌, ◌*◌, ◌≤◌, ◌<◌, true, false, cond, List, [], ◌∷◌, ◌++◌, length, Option, Some, None, is_some, ap, sym, subst, subst₂, refl, arith}
+use Rattle.std.specs.FinMap as map
+use Rattle.std.specs.List.{All}
+use Rattle.std.proofs.lemmas.Bool.{eq-eqb, ne_eqb}
+use Rattle.std.proofs.lemmas.List.{append-nil}
+use Rattle.std.proofs.lemmas.List.Elements.{All-cons, All-head, All-nil, All-tail}
+use Rattle.nb_core.specs.Calls.{leaves_alone}
+use Rattle.nb_core.specs.History.{IsLegal, content_of, key_of_call, map_of, seat_of_event}
+use Rattle.nb_core.specs.Laws.{Decided, IsPassed, LostExchange, PassedOverAdds, PassedSettled, Shows, reply_at}
+use Rattle.nb_core.specs.Meaning.{calls_of, passed_over}
+use Rattle.nb_core.specs.Plans.{IsPlan, Plan, generations_of}
+use Rattle.nb_core.specs.Tables.{IsSettledBelow, IsSlot, IsUnprimed, tables_at}
+use Rattle.nb_core.specs.contracts.states.ValueStatePartialEq.TheImpl as value_eq
+use Rattle.nb_core.specs.declared.calls.Call.{Call}
+use Rattle.nb_core.specs.declared.calls.Reply.{Reply}
+use Rattle.nb_core.specs.declared.events.Event.{Event}
+use Rattle.nb_core.specs.declared.events.Event.TheVariants.{Won, Read}
+use Rattle.nb_core.specs.declared.states.KeyState.TheVariants.{Claimed}
+use Rattle.nb_core.specs.declared.states.ValueState.{ValueState}
+use Rattle.nb_core.specs.declared.states.ValueState.TheVariants.{Null, Tombstone, Live, PrimedNull, PrimedTombstone, Primed, Finished}
+use Rattle.nb_table.specs.Chains.{ChainOf, Extended, Grown, IsOwn, SeenBy, seen_by}
+use Rattle.nb_table.specs.Conditions.{IsReached}
+use Rattle.nb_table.specs.Events.{read, shown_by_value}
+use Rattle.nb_table.specs.Laws.{StepsAddUp}
+use Rattle.nb_map.proofs.Made.{made-more, made-read, made-stays, made-step, read_shown}
+use Rattle.nb_map.proofs.Searched.{reached-lasts}
+use Rattle.nb_map.specs.Calling.{HasMade, MayMake, replied}
+use Rattle.nb_map.specs.Writing.{passed_since}
+
+-- ---- what a value shows
+
+-- a value that shows something isn't primed, and shows the number in it
+pub shown-some : (v : ValueState) (number : Option ℕ) → shown_by_value v ≡ Some number → IsUnprimed v × (content_of v ≡ number)
+shown-some Null number is = let same : ◌≡◌ {A = Option (Option ℕ)} (Some None) (Some number) = is in (tt, cc)
+shown-some Tombstone number is = let same : ◌≡◌ {A = Option (Option ℕ)} (Some None) (Some number) = is in (tt, cc)
+shown-some (Live n) number is = let same : ◌≡◌ {A = Option (Option ℕ)} (Some (Some n)) (Some number) = is in (tt, cc)
+shown-some PrimedNull number is = absurd cc
+shown-some PrimedTombstone number is = absurd cc
+shown-some (Primed n) number is = absurd cc
+shown-some (Finished n) number is = absurd cc
+
+-- one that shows nothing is primed
+pub shown-none : (v : ValueState) → shown_by_value v ≡ None → IsUnprimed v → ⊥
+shown-none Null is unprimed = let none : ◌≡◌ {A = Option (Option ℕ)} (Some None) None = is in cc
+shown-none Tombstone is unprimed = let none : ◌≡◌ {A = Option (Option ℕ)} (Some None) None = is in cc
+shown-none (Live n) is unprimed = let none : ◌≡◌ {A = Option (Option ℕ)} (Some (Some n)) None = is in cc
+shown-none PrimedNull is unprimed = unprimed
+shown-none PrimedTombstone is unprimed = unprimed
+shown-none (Primed n) is unprimed = unprimed
+shown-none (Finished n) is unprimed = unprimed
+
+pub none-of : {A : Type 0} (o : Option A) → ((x : A) → o ≡ Some x → ⊥) → o ≡ None
+none-of None not_some = refl
+none-of (Some x) not_some = absurd (not_some x refl)
+
+pub none-is : {A : Type 0} (o : Option A) → is_some o ≡ false → o ≡ None
+none-is None is = refl
+none-is (Some x) is = absurd cc
+
+-- where something is shown, the value isn't primed
+pub some-shown : (v : ValueState) → is_some (shown_by_value v) ≡ true → IsUnprimed v
+some-shown Null is = tt
+some-shown Tombstone is = tt
+some-shown (Live n) is = tt
+some-shown PrimedNull is = absurd cc
+some-shown PrimedTombstone is = absurd cc
+some-shown (Primed n) is = absurd cc
+some-shown (Finished n) is = absurd cc
+
+-- values that the test tells apart differ
+pub not-same : (v w : ValueState) → (value_eq.ghosts).eq v w ≡ false → v ≢ w
+not-same v w differ same =
+    let both : true ≡ false = sym (itself w) ∙ ap (λ x. (value_eq.ghosts).eq x w) (sym same) ∙ differ in
+    cc
+  where
+    itself : (x : ValueState) → (value_eq.ghosts).eq x x ≡ true
+    itself Null = refl
+    itself Tombstone = refl
+    itself (Live n) = eq-eqb n n refl
+    itself PrimedNull = refl
+    itself PrimedTombstone = refl
+    itself (Primed n) = eq-eqb n n refl
+    itself (Finished n) = eq-eqb n n refl
+
+-- ---- the read that a load was
+
+pub read-left :
+    (call : Call) (v : ValueState) (number : Option ℕ) (reply : Reply) → shown_by_value v ≡ Some number → leaves_alone call number ≡ true
+    → reply ≡ reply_at call number → read_shown call (shown_by_value v) ≡ (call, reply) ∷ []
+read-left call v number reply shows alone is =
+    ap (read_shown call) shows ∙ ap (λ b. cond b (replied call number) []) alone ∙ ap (λ r. (call, r) ∷ []) (sym is)
+
+pub read-acting :
+    (call : Call) (v : ValueState) (number : Option ℕ) → shown_by_value v ≡ Some number → leaves_alone call number ≡ false
+    → read_shown call (shown_by_value v) ≡ []
+read-acting call v number shows acts = ap (read_shown call) shows ∙ ap (λ b. cond b (replied call number) []) acts
+
+pub read-primed : (call : Call) (v : ValueState) → shown_by_value v ≡ None → read_shown call (shown_by_value v) ≡ []
+read-primed call v shows = ap (read_shown call) shows
+
+-- ---- steps
+
+-- so many steps are enough where the slot is finished after some tries,
+pub enough-above : (lost tries pass : ℕ) → lost < tries → 2 * lost + 1 + 1 + pass ≤ 2 * (tries - (tries - lost) + 1) + pass
+enough-above lost tries pass below =
+    let spent : tries - (tries - lost) ≡ lost = omega (arith, below) in
+    omega (arith, spent)
+
+-- and where the call ends at the slot
+pub enough-here : (lost tries pass : ℕ) → lost ≤ tries → 2 * lost + 1 + 1 ≤ 2 * (tries + 1) + pass
+enough-here lost tries pass below = omega (arith, below)
+
+-- ---- the exchanges that others won
+
+pub passed-at :
+    PassedOverAdds → (start mid after later later' : List Event) → mid ≡ later ++ start → after ≡ later' ++ mid → (k s : ℕ)
+    → passed_over after (length start) k s ≡ passed_over after (length mid) k s + passed_over mid (length start) k s
+passed-at adds start mid after later later' is is' k s =
+    subst₂ (λ m a. passed_over a (length start) k s ≡ passed_over a (length m) k s + passed_over m (length start) k s) (sym is)
+    (sym (is' ∙ ap (λ h. later' ++ h) is)) (adds later' later start k s)
+
+-- as many as won, have won later
+pub passed-still :
+    PassedOverAdds → (call : Call) {start mid after : SeenBy} {own own' : List Event} {count count' : ℕ} (n : ℕ)
+    → Grown start mid own count → Grown mid after own' count' → n ≤ passed_since call start mid → n ≤ passed_since call start after
+passed-still adds call {start} {mid} {after} n a b below =
+    let sum = passed-at adds start.seen mid.seen after.seen a.later b.later a.seen b.seen (key_of_call call) start.number in
+    omega (arith, sum, below)
+
+-- and one more, if one has won since
+passed-more :
+    PassedOverAdds → (call : Call) {start mid after : SeenBy} {own own' : List Event} {count count' : ℕ} (n : ℕ)
+    → Grown start mid own count → Grown mid after own' count' → 1 ≤ passed_over after.seen (length mid.seen) (key_of_call call) start.number
+    → n ≤ passed_since call start mid → n + 1 ≤ passed_since call start after
+passed-more adds call {start} {mid} {after} n a b one below =
+    let sum = passed-at adds start.seen mid.seen after.seen a.later b.later a.seen b.seen (key_of_call call) start.number in
+    omega (arith, sum, below, one)
+
+-- events of others are no calls of the seat
+calls-others : (s : ℕ) (es : List Event) → All (λ e. seat_of_event e ≢ s) es → calls_of es s ≡ []
+calls-others s [] others = refl
+calls-others s (e ∷ es) others =
+    one e (All-head (λ e. seat_of_event e ≢ s) e es others) (calls-others s es (All-tail (λ e. seat_of_event e ≢ s) e es others))
+  where
+    one : (e : Event) → seat_of_event e ≢ s → calls_of es s ≡ [] → calls_of (e ∷ es) s ≡ []
+    one (Won r g i a b c reply) differs none = ap (λ b. cond b ((c, reply) ∷ calls_of es s) (calls_of es s)) (ne_eqb r s differs) ∙ none
+    one (Read r c reply) differs none = ap (λ b. cond b ((c, reply) ∷ calls_of es s) (calls_of es s)) (ne_eqb r s differs) ∙ none
+    one e differs none = none
+
+-- another seat won an exchange between a load and an exchange that found another value
+lost-at :
+    LostExchange → (p q r : Plan) → IsPlan p → (later h after : List Event) → q ≡ p → r ≡ p → after ≡ later ++ h → (g i k s : ℕ)
+    → IsSlot p g i → calls_of later s ≡ [] → IsLegal r after → (tables_at q h).key g i ≡ Claimed k → IsSettledBelow p (tables_at q h) g k
+    → IsUnprimed ((tables_at r after).value g i) → (tables_at r after).value g i ≢ (tables_at q h).value g i
+    → 1 ≤ passed_over after (length h) k s
+lost-at law p q r plan later h after q_is r_is after_is g i k s slot none =
+    subst₂ (λ q r. IsLost q r after) (sym q_is) (sym r_is)
+    (subst (λ a. IsLost p p a) (sym after_is)
+    (λ legal claimed settled unprimed differs. law p plan later h legal g i k s slot claimed settled unprimed differs none))
+  where
+    IsLost : Plan → Plan → List Event → Type 0
+    IsLost q r a =
+        IsLegal r a → (tables_at q h).key g i ≡ Claimed k → IsSettledBelow p (tables_at q h) g k → IsUnprimed ((tables_at r a).value g i)
+        → (tables_at r a).value g i ≢ (tables_at q h).value g i → 1 ≤ passed_over a (length h) k s
+
+-- ---- a key that was searched for
+
+-- a key that is passed in the tables below has no unfinished slot there
+pub reached-settled :
+    PassedSettled → (chain : ChainOf) (seat : SeenBy) → IsPlan chain.shape → IsOwn chain seat → IsLegal seat.shape seat.seen → (g k : ℕ)
+    → g < generations_of chain.shape → IsReached chain.shape (seen_by seat) g k → IsSettledBelow chain.shape (seen_by seat) g k
+reached-settled law chain seat plan own legal zero k table reached = tt
+reached-settled law chain seat plan own legal (suc g) k table reached =
+    subst (λ p. IsSettledBelow p (seen_by seat) (suc g) k) own.1
+    (law seat.shape (subst IsPlan (sym own.1) plan) seat.seen legal g k
+    (subst (λ p. g < generations_of p) (sym own.1) (omega (arith, table)))
+    (subst (λ p. IsPassed p (seen_by seat) g k) (sym own.1) (reached.below g (omega arith))))
+
+-- and what its slot here shows is what the map has
+pub shown-decided :
+    Decided → (chain : ChainOf) (seat : SeenBy) → IsPlan chain.shape → IsOwn chain seat → IsLegal seat.shape seat.seen → (g i k : ℕ)
+    → IsSlot chain.shape g i → IsReached chain.shape (seen_by seat) g k → (seen_by seat).key g i ≡ Claimed k
+    → (v : ValueState) (number : Option ℕ) → (seen_by seat).value g i ≡ v → shown_by_value v ≡ Some number
+    → map.get (map_of seat.seen) k ≡ number
+shown-decided law chain seat plan own legal g i k slot reached claimed v number held shows =
+    let value = shown-some v number shows in
+    let slot' = subst (λ p. IsSlot p g i) (sym own.1) slot in
+    law seat.shape (subst IsPlan (sym own.1) plan) seat.seen legal g k slot'.0 reached.installed
+    (λ f below. subst (λ p. IsPassed p (seen_by seat) f k) (sym own.1) (reached.below f below)) number
+    (Shows.AtValue i slot'.1 claimed (subst IsUnprimed (sym held) value.0) (sym value.1 ∙ ap content_of (sym held)))
+
+module _ (law : StepsAddUp) (chain : ChainOf) (plan : IsPlan chain.shape) where
+  abbrev p : Plan
+  p = chain.shape
+
+  -- the key has the slot still, and is passed below still
+  pub stands :
+      {call : Call} {start after : SeenBy} {made : List (Call × Reply)} {most : ℕ} → IsOwn chain start → HasMade p call start after made most
+      → (g i key : ℕ) → key_of_call call ≡ key → IsSlot p g i → (seen_by start).key g i ≡ Claimed key → IsReached p (seen_by start) g key
+      → ((seen_by after).key g i ≡ Claimed (key_of_call call)) × IsReached p (seen_by after) g (key_of_call call)
+  stands {call} {start} {after} own steps g i key is slot claimed reached =
+      let lasting = made-stays law chain plan own steps in (
+        lasting.claimed g i key slot claimed ∙ ap Claimed (sym is),
+        subst (λ k. IsReached p (seen_by after) g k) (sym is)
+            (reached-lasts p (seen_by start) (seen_by after) lasting g key slot.0 reached),
+      )
+
+  -- a load of the value
+  pub looked :
+      {call : Call} {start before after : SeenBy} {most : ℕ} (v : ValueState) → IsOwn chain start → HasMade p call start before [] most
+      → Extended before after (read before.number call (shown_by_value v)) 1
+      → HasMade p call start after (read_shown call (shown_by_value v)) (most + 1)
+  looked {call} {start} {before} {after} {most} v own so_far load =
+      subst (λ made. HasMade p call start after made (most + 1)) (append-nil (read_shown call (shown_by_value v)))
+      (made-more law chain plan own so_far (made-read law p call (shown_by_value v) load))
+
+  -- an exchange that was won
+  pub made-won :
+      {call : Call} {before after : SeenBy} {g i : ℕ} {from to : ValueState} (number : Option ℕ) → content_of from ≡ number
+      → Extended before after (Won before.number g i from to call (record { before = content_of from; matched = true }) ∷ []) 1
+      → HasMade p call before after ((call, record { before = number; matched = true }) ∷ []) 1
+  made-won {call} {before} {after} {g} {i} {from} {to} number is step =
+      let reply : Reply = record { before = content_of from; matched = true } in
+      made-step law p call step
+      (ap (λ b. cond b ((call, reply) ∷ []) []) (eq-eqb before.number before.number refl)
+      ∙ ap (λ n. (call, record { before = n; matched = true }) ∷ []) is)
+      (All-cons (MayMake p (seen_by after) call) (Won before.number g i from to call reply) [] tt (All-nil (MayMake p (seen_by after) call)))
+
+  -- one that was lost to another unprimed value, after others that were lost
+  pub lost-more :
+      LostExchange → PassedOverAdds → {call : Call} {start loaded after : SeenBy} {made : List (Call × Reply)} {most : ℕ} (lost g i : ℕ)
+      (v : ValueState) → IsOwn chain start → HasMade p call start loaded made most → Extended loaded after [] 1 → IsSlot p g i
+      → (seen_by loaded).key g i ≡ Claimed (key_of_call call) → IsSettledBelow p (seen_by loaded) g (key_of_call call)
+      → (seen_by after).value g i ≡ v → IsUnprimed v → v ≢ (seen_by loaded).value g i
+      → lost ≤ passed_since call start loaded → lost + 1 ≤ passed_since call start after
+  lost-more lost_exchange adds {call} {start} {loaded} {after} lost g i v own steps step slot claimed settled held unprimed differs below =
+      let own' = law.own own steps.grown in
+      let number = steps.grown.number in
+      let none = subst (λ s. calls_of step.others s ≡ []) number (calls-others loaded.number step.others step.not_own) in
+      passed-more adds call lost steps.grown (law.one step)
+      (lost-at lost_exchange p loaded.shape after.shape plan step.others loaded.seen after.seen own'.1 (step.shape ∙ own'.1) step.seen g i
+      (key_of_call call) start.number slot none step.legal claimed settled (subst IsUnprimed (sym held) unprimed)
+      (λ same. differs (sym held ∙ same)))
+      below

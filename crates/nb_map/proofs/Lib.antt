@@ -1,0 +1,6 @@
+mod Bounds
+mod Claimed
+mod Exchanged
+mod Made
+mod Searched
+mod Written

@@ -1,0 +1,220 @@
+-- What the steps of a call add up to.
+use Rattle.std.proofs.Common.{◌≡◌, ◌∙◌, ℕ, suc, zero, ◌+◌, ◌==◌, ◌≤◌, ◌<◌, ◌⊎◌, Bool, true, false, cond, List, [], ◌∷◌, ◌++◌, Option, Some, None, ap, sym, subst, refl, inl, inr, arith}
+use Rattle.std.specs.List.{All}
+use Rattle.std.proofs.lemmas.Bool.{eq-eqb}
+use Rattle.std.proofs.lemmas.List.Elements.{All-append, All-cons, All-head, All-nil, All-tail, All-weaker}
+use Rattle.nb_core.specs.Calls.{leaves_alone}
+use Rattle.nb_core.specs.History.{IsLegal, key_of_call}
+use Rattle.nb_core.specs.Laws.{Lasts, reply_at}
+use Rattle.nb_core.specs.Meaning.{calls_of}
+use Rattle.nb_core.specs.Plans.{IsPlan, Plan, generations_of}
+use Rattle.nb_core.specs.Tables.{HasSlotBelow, Tables}
+use Rattle.nb_core.specs.declared.calls.Call.{Call}
+use Rattle.nb_core.specs.declared.calls.Reply.{Reply}
+use Rattle.nb_core.specs.declared.events.Event.{Event}
+use Rattle.nb_core.specs.declared.events.Event.TheVariants.{Claim, Kill, Won, CopyIn, Prime, Finish, Install, Take, Count, Promote, Read}
+use Rattle.nb_table.specs.Chains.{ChainOf, Extended, IsOwn, SeenBy, seen_by}
+use Rattle.nb_table.specs.Events.{only, read}
+use Rattle.nb_table.specs.Laws.{StepsAddUp}
+use Rattle.nb_copy.specs.Copying.{HasCopied, IsCopying}
+use Rattle.nb_map.specs.Calling.{HasMade, MayMake, read_of}
+
+-- ---- calls of lists of events
+
+cons-if : (b : Bool) (c : Call × Reply) (made more : List (Call × Reply))
+    → cond b (c ∷ made ++ more) (made ++ more) ≡ cond b (c ∷ made) made ++ more
+cons-if true c made more = refl
+cons-if false c made more = refl
+
+-- the calls among some events and others
+calls-append : (later h : List Event) (s : ℕ) → calls_of (later ++ h) s ≡ calls_of later s ++ calls_of h s
+calls-append [] h s = refl
+calls-append (Claim s' g i k ∷ later) h s = calls-append later h s
+calls-append (Kill s' g i ∷ later) h s = calls-append later h s
+calls-append (Won s' g i a b c r ∷ later) h s =
+    ap (λ calls. cond (s' == s) ((c, r) ∷ calls) calls) (calls-append later h s) ∙ cons-if (s' == s) (c, r) (calls_of later s) (calls_of h s)
+calls-append (CopyIn s' g i k n ∷ later) h s = calls-append later h s
+calls-append (Prime s' g i ∷ later) h s = calls-append later h s
+calls-append (Finish s' g i ∷ later) h s = calls-append later h s
+calls-append (Install s' g k ∷ later) h s = calls-append later h s
+calls-append (Take s' g ∷ later) h s = calls-append later h s
+calls-append (Count s' g c ∷ later) h s = calls-append later h s
+calls-append (Promote s' g ∷ later) h s = calls-append later h s
+calls-append (Read s' c r ∷ later) h s =
+    ap (λ calls. cond (s' == s) ((c, r) ∷ calls) calls) (calls-append later h s) ∙ cons-if (s' == s) (c, r) (calls_of later s) (calls_of h s)
+
+-- copying is no call
+calls-copying : (p : Plan) (t : Tables) (g s : ℕ) (own : List Event) → All (IsCopying p t g) own → calls_of own s ≡ []
+calls-copying p t g s [] copying = refl
+calls-copying p t g s (e ∷ own) copying = one e (All-head (IsCopying p t g) e own copying) (calls-copying p t g s own (All-tail (IsCopying p t g) e own copying))
+  where
+    one : (e : Event) → IsCopying p t g e → calls_of own s ≡ [] → calls_of (e ∷ own) s ≡ []
+    one (Claim s' f i k) may none = none
+    one (Kill s' f i) may none = none
+    one (CopyIn s' f i k n) may none = none
+    one (Prime s' f i) may none = none
+    one (Finish s' f i) may none = none
+    one (Take s' f) may none = none
+    one (Count s' f c) may none = none
+    one (Promote s' f) may none = none
+    one (Won s' f i a b c r) may none = absurd may
+    one (Install s' f k) may none = absurd may
+    one (Read s' c r) may none = absurd may
+
+-- and every call may copy
+copying-may :
+    (p : Plan) (t : Tables) (g : ℕ) (call : Call) → suc g < generations_of p → (e : Event) → IsCopying p t g e → MayMake p t call e
+copying-may p t g call next (Claim s f i k) may =
+    subst (λ n. (n < generations_of p) × (HasSlotBelow p t n k ⊎ ((k ≡ key_of_call call) × (leaves_alone call None ≡ false)))) (sym may.0) (next, inl may.1)
+copying-may p t g call next (Kill s f i) may = tt
+copying-may p t g call next (CopyIn s f i k n) may = tt
+copying-may p t g call next (Prime s f i) may = tt
+copying-may p t g call next (Finish s f i) may = tt
+copying-may p t g call next (Take s f) may = tt
+copying-may p t g call next (Count s f c) may = tt
+copying-may p t g call next (Promote s f) may = tt
+copying-may p t g call next (Won s f i a b c r) may = absurd may
+copying-may p t g call next (Install s f k) may = absurd may
+copying-may p t g call next (Read s c r) may = absurd may
+
+-- what a call may make it may make still
+pub slot-below-lasts : (p : Plan) (t u : Tables) → Lasts p t u → (g k : ℕ) → g < generations_of p → HasSlotBelow p t g k → HasSlotBelow p u g k
+slot-below-lasts p t u lasting zero k table below = below
+slot-below-lasts p t u lasting (suc g) k table below = lasting.has_slot g k (omega (arith, table)) below
+
+may-lasts : (p : Plan) (t u : Tables) (call : Call) → Lasts p t u → (e : Event) → MayMake p t call e → MayMake p u call e
+may-lasts p t u call lasting (Claim s g i k) may = (
+  may.0,
+  elim may.1 [ inl below ↦ inl (slot-below-lasts p t u lasting g k may.0 below) | inr own ↦ inr own ],
+)
+may-lasts p t u call lasting (Kill s f i) may = tt
+may-lasts p t u call lasting (Won s f i a b c r) may = tt
+may-lasts p t u call lasting (CopyIn s f i k n) may = tt
+may-lasts p t u call lasting (Prime s f i) may = tt
+may-lasts p t u call lasting (Finish s f i) may = tt
+may-lasts p t u call lasting (Install s f k) may = may
+may-lasts p t u call lasting (Take s f) may = tt
+may-lasts p t u call lasting (Count s f c) may = tt
+may-lasts p t u call lasting (Promote s f) may = tt
+may-lasts p t u call lasting (Read s c r) may = tt
+
+-- ---- one step
+
+-- the read of a call, by what is shown of its key
+abbrev pub read_shown : Call → Option (Option ℕ) → List (Call × Reply)
+read_shown call None = []
+read_shown call (Some number) = read_of call number
+
+module _ (law : StepsAddUp) (p : Plan) (call : Call) where
+  -- no step
+  pub made-none : (seat : SeenBy) → IsLegal seat.shape seat.seen → HasMade p call seat seat [] 0
+  made-none seat legal = record {
+    own = [];
+    count = 0;
+    grown = law.none legal;
+    calls = refl;
+    may = All-nil (MayMake p (seen_by seat) call);
+    few = omega arith;
+  }
+
+  -- a step with these events
+  pub made-step :
+      {before after : SeenBy} {own : List Event} {made : List (Call × Reply)} → Extended before after own 1 → calls_of own before.number ≡ made
+      → All (MayMake p (seen_by after) call) own → HasMade p call before after made 1
+  made-step {own = own} step calls may = record {
+    own = own;
+    count = 1;
+    grown = law.one step;
+    calls = calls;
+    may = may;
+    few = omega arith;
+  }
+
+  -- a step without an event
+  pub made-quiet : {before after : SeenBy} → Extended before after [] 1 → HasMade p call before after [] 1
+  made-quiet {before} {after} step = made-step step refl (All-nil (MayMake p (seen_by after) call))
+
+  -- a load that is told the call
+  pub made-read :
+      {before after : SeenBy} (shown : Option (Option ℕ)) → Extended before after (read before.number call shown) 1
+      → HasMade p call before after (read_shown call shown) 1
+  made-read None step = made-quiet step
+  made-read {before} {after} (Some number) step = made-step step (one (leaves_alone call number)) (may (leaves_alone call number))
+    where
+      same : (before.number == before.number) ≡ true
+      same = eq-eqb before.number before.number refl
+
+      one : (b : Bool) → calls_of (only b (Read before.number call (reply_at call number))) before.number
+          ≡ cond b ((call, reply_at call number) ∷ []) []
+      one true = ap (λ x. cond x ((call, reply_at call number) ∷ []) []) same
+      one false = refl
+
+      may : (b : Bool) → All (MayMake p (seen_by after) call) (only b (Read before.number call (reply_at call number)))
+      may true = All-cons (MayMake p (seen_by after) call) (Read before.number call (reply_at call number)) [] tt (All-nil (MayMake p (seen_by after) call))
+      may false = All-nil (MayMake p (seen_by after) call)
+
+-- ---- more steps
+
+-- more steps may be allowed than were made
+pub made-within :
+    {p : Plan} {call : Call} {before after : SeenBy} {made : List (Call × Reply)} (most most' : ℕ) → most ≤ most'
+    → HasMade p call before after made most → HasMade p call before after made most'
+made-within most most' below steps = record {
+  own = steps.own;
+  count = steps.count;
+  grown = steps.grown;
+  calls = steps.calls;
+  may = steps.may;
+  few = omega (arith, steps.few, below);
+}
+
+module _ (law : StepsAddUp) (chain : ChainOf) (plan : IsPlan chain.shape) where
+  abbrev p : Plan
+  p = chain.shape
+
+  -- what the seat has seen is so still
+  pub made-stays :
+      {call : Call} {before after : SeenBy} {made : List (Call × Reply)} {most : ℕ} → IsOwn chain before → HasMade p call before after made most
+      → Lasts p (seen_by before) (seen_by after)
+  made-stays own steps = law.stays plan own steps.grown
+
+  -- and it is the chain's
+  pub made-own :
+      {call : Call} {before after : SeenBy} {made : List (Call × Reply)} {most : ℕ} → IsOwn chain before → HasMade p call before after made most
+      → IsOwn chain after
+  made-own own steps = law.own own steps.grown
+
+  -- some steps after others
+  pub made-more :
+      {call : Call} {before then after : SeenBy} {made made' : List (Call × Reply)} {most most' : ℕ} → IsOwn chain before
+      → HasMade p call before then made most → HasMade p call then after made' most'
+      → HasMade p call before after (made' ++ made) (most + most')
+  made-more {call} {before} {then} {after} {made} {made'} own a b =
+      let lasting = law.stays plan (law.own own a.grown) b.grown in
+      record {
+        own = b.own ++ a.own;
+        count = a.count + b.count;
+        grown = law.more a.grown b.grown;
+        calls =
+            calls-append b.own a.own before.number
+            ∙ ap (λ n. calls_of b.own n ++ calls_of a.own before.number) (sym a.grown.number)
+            ∙ ap (λ calls. calls ++ calls_of a.own before.number) b.calls
+            ∙ ap (λ calls. made' ++ calls) a.calls;
+        may = All-append (MayMake p (seen_by after) call) b.own a.own b.may
+            (All-weaker (MayMake p (seen_by then) call) (MayMake p (seen_by after) call) (may-lasts p (seen_by then) (seen_by after) call lasting)
+            a.own a.may);
+        few = omega (arith, a.few, b.few);
+      }
+
+  -- copying
+  pub made-copied :
+      (call : Call) {before after : SeenBy} {g : ℕ} {slots : List ℕ} {chunks adding most : ℕ} → suc g < generations_of p
+      → HasCopied p g before after slots chunks adding most → HasMade p call before after [] most
+  made-copied call {before} {after} {g} next copied = record {
+    own = copied.own;
+    count = copied.count;
+    grown = copied.grown;
+    calls = calls-copying p (seen_by after) g before.number copied.own copied.copying;
+    may = All-weaker (IsCopying p (seen_by after) g) (MayMake p (seen_by after) call) (copying-may p (seen_by after) g call next) copied.own copied.copying;
+    few = copied.few;
+  }

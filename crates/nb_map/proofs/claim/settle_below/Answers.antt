@@ -1,0 +1,12 @@
+use Rattle.std.proofs.Common.{arith}
+use Rattle.nb_map.proofs.Made.{made-none, made-within}
+use Rattle.nb_map.proofs.claim.settle_below.Goals as goal
+
+pub returns : goal.returns
+returns c = record {
+  made = λ call. made-within 0 _ (omega arith) (made-none c.steps_add_up.ensures c.args.chain.now.shape call c.args.seat.now c.known.ensures);
+  own = c.requires.own;
+  fewer = omega arith;
+  below = λ key known. known;
+  known = c.in_default.not-Passed;
+}

@@ -1,0 +1,72 @@
+-- What a write comes to, and when it is refused.
+use Rattle.std.specs.Prelude.{◌≡◌, ℕ, suc, ◌+◌, ◌-◌, ◌*◌, ◌<◌, ◌≤◌, true, false, List, [], ◌∷◌, None}
+use Rattle.nb_core.specs.Calls.{leaves_alone, overflows}
+use Rattle.nb_core.specs.History.{key_of_call, map_of}
+use Rattle.nb_core.specs.Meaning.{IsCrowded}
+use Rattle.nb_core.specs.Plans.{Plan, generations_of, size_of}
+use Rattle.nb_core.specs.declared.calls.Call.{Call}
+use Rattle.nb_core.specs.declared.calls.Reply.{Reply}
+use Rattle.nb_core.specs.declared.states.KeyState.TheVariants.{Claimed}
+use Rattle.nb_table.specs.Chains.{SeenBy, seen_by}
+use Rattle.nb_map.specs.Searching.{IsAbove, slots_below}
+use Rattle.nb_map.specs.Writing.{HasBelow, exchange_steps, find_steps, passed_since}
+use Rattle.nb_map.specs.declared.write.PutFault.{PutFault}
+use Rattle.nb_map.specs.declared.write.PutFault.TheVariants as fault
+use Rattle.nb_map.specs.declared.write.Target.{Target}
+use Rattle.nb_map.specs.declared.write.Target.TheVariants as target
+use Rattle.nb_map.specs.declared.write.Written.{Written}
+use Rattle.nb_map.specs.declared.write.Written.TheVariants as written
+
+-- Why a write with so many tries may be refused. It is full only where the call puts a number at an absent key, and other
+-- keys have all slots of the last table; contended only where others have won as many exchanges on the key since it began;
+-- and past the range only where it is an add whose sum is, in the map of what the seat has seen.
+abbrev pub IsJust : Plan → Call → (before after : SeenBy) → (tries : ℕ) → PutFault → Type 0
+IsJust p call before after tries fault.Full = (leaves_alone call None ≡ false) × IsCrowded p after.seen (key_of_call call)
+IsJust p call before after tries fault.Contended = tries ≤ passed_since call before after
+IsJust p call before after tries fault.ValueRange = overflows call (map_of after.seen) ≡ true
+
+-- ---- in one table
+
+-- what the seat has seen where a write has to look there next
+abbrev pub IsTarget : Plan → Call → SeenBy → (g k : ℕ) → Target → Type 0
+IsTarget p call seat g k (target.Slot i) = (i < size_of p g) × ((seen_by seat).key g i ≡ Claimed k)
+IsTarget p call seat g k (target.Absent reply) = Unit {0}
+IsTarget p call seat g k (target.Above below) = IsAbove p (seen_by seat) g k × HasBelow p (seen_by seat) (suc g) k below
+IsTarget p call seat g k target.Full = (leaves_alone call None ≡ false) × IsCrowded p seat.seen k
+
+-- the call, where the search was its read
+abbrev pub made_at : Call → Target → List (Call × Reply)
+made_at call (target.Slot i) = []
+made_at call (target.Absent reply) = (call, reply) ∷ []
+made_at call (target.Above below) = []
+made_at call target.Full = []
+
+-- what the seat has seen where a write with so many tries came to this in table g
+abbrev pub IsWritten : Plan → Call → (before after : SeenBy) → (g tries : ℕ) → Written → Type 0
+IsWritten p call before after g tries (written.Replied reply) = Unit {0}
+IsWritten p call before after g tries (written.Refused fault) = IsJust p call before after tries fault
+IsWritten p call before after g tries (written.Above below left) =
+    IsAbove p (seen_by after) g (key_of_call call) × HasBelow p (seen_by after) (suc g) (key_of_call call) below × (1 ≤ left) × (left ≤ tries)
+    × (tries ≤ left + passed_since call before after)
+
+-- the call, where it was made
+abbrev pub written_by : Call → Written → List (Call × Reply)
+written_by call (written.Replied reply) = (call, reply) ∷ []
+written_by call (written.Refused fault) = []
+written_by call (written.Above below left) = []
+
+-- ---- bounds of steps
+
+-- how many of so many tries are spent
+abbrev pub spent_in : ℕ → Written → ℕ
+spent_in tries (written.Replied reply) = tries
+spent_in tries (written.Refused fault) = tries
+spent_in tries (written.Above below left) = tries - left
+
+-- the most steps of a write in table g
+abbrev pub write_steps : Plan → (g tries : ℕ) → Written → ℕ
+write_steps p g tries written = find_steps p g + exchange_steps p g (spent_in tries written)
+
+-- the most steps of a write, with T slots in all tables, G tables, and N slots in the last one: 8 (T + tries + G) (N + 8)
+abbrev pub put_steps : Plan → (tries : ℕ) → ℕ
+put_steps p tries = 8 * (slots_below p (generations_of p) + tries + generations_of p) * (size_of p (generations_of p - 1) + 8)

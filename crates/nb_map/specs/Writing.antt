@@ -1,0 +1,107 @@
+-- What a write does in one table, and when it is refused.
+use Rattle.std.specs.Prelude.{◌≡◌, ℕ, zero, suc, ◌+◌, ◌-◌, ◌*◌, ◌<◌, ◌≤◌, true, false, List, [], ◌∷◌, length, Option}
+use Rattle.std.specs.FinMap as map
+use Rattle.nb_core.specs.Calls.{Numbers, leaves_alone, overflows}
+use Rattle.nb_core.specs.History.{IsExchange, content_of, key_of_call, map_of}
+use Rattle.nb_core.specs.Laws.{reply_at}
+use Rattle.nb_core.specs.Meaning.{IsCrowded, passed_over}
+use Rattle.nb_core.specs.Plans.{Plan, size_of}
+use Rattle.nb_core.specs.Tables.{HasSlot, HasSlotBelow, IsReady, IsUnprimed, Tables}
+use Rattle.nb_core.specs.declared.calls.Call.{Call}
+use Rattle.nb_core.specs.declared.calls.Reply.{Reply}
+use Rattle.nb_core.specs.declared.states.KeyState.TheVariants.{Claimed}
+use Rattle.nb_core.specs.declared.states.ValueState.{ValueState}
+use Rattle.nb_table.specs.Chains.{SeenBy, seen_by}
+use Rattle.nb_copy.specs.Handing.{table_steps}
+use Rattle.nb_map.specs.Searching.{IsAbove, pass_steps}
+use Rattle.nb_map.specs.declared.decide.Decision.{Decision}
+use Rattle.nb_map.specs.declared.decide.Decision.TheVariants as decision
+use Rattle.nb_map.specs.declared.claim.Below.{Below}
+use Rattle.nb_map.specs.declared.claim.Below.TheVariants as below
+use Rattle.nb_map.specs.declared.claim.Found.{Found}
+use Rattle.nb_map.specs.declared.claim.Found.TheVariants as found
+use Rattle.nb_map.specs.declared.exchange.Outcome.{Outcome}
+use Rattle.nb_map.specs.declared.exchange.Outcome.TheVariants as outcome
+
+-- ---- what a call does at its key
+
+-- The call does this where its key has this number, or none: it leaves that as it is and replies so; or its condition holds
+-- and it puts this value in place of any that has this number; or it would put more than the greatest number.
+abbrev pub IsDecided : Call → Option ℕ → Decision → Type 0
+IsDecided call number (decision.Leave reply) = (leaves_alone call number ≡ true) × (reply ≡ reply_at call number)
+IsDecided call number (decision.Exchange to) =
+    (leaves_alone call number ≡ false) × (reply_at call number ≡ record { before = number; matched = true })
+    × ((from : ValueState) → IsUnprimed from → content_of from ≡ number → IsExchange call (key_of_call call) from to)
+IsDecided call number decision.Overflow =
+    (leaves_alone call number ≡ false) × ((m : Numbers) → map.get m (key_of_call call) ≡ number → overflows call m ≡ true)
+
+-- ---- a slot for the key
+
+-- what a call knows of the table below the one it has come to: that it is complete, that its key has a slot there, or no more
+-- than that the key is passed there
+abbrev pub HasBelow : Plan → Tables → (g k : ℕ) → Below → Type 0
+HasBelow p t g k below.Complete = IsReady p t g
+HasBelow p t g k below.HasKey = HasSlotBelow p t g k
+HasBelow p t g k below.Passed = Unit {0}
+
+-- what the seat has seen where a call that puts a number at an absent key came to this: the key has this slot; or the call
+-- goes on in the next table; or other keys have all slots of the last table
+abbrev pub IsFound : Plan → SeenBy → (g k : ℕ) → Found → Type 0
+IsFound p seat g k (found.Slot i) = (i < size_of p g) × ((seen_by seat).key g i ≡ Claimed k)
+IsFound p seat g k (found.Above below) = IsAbove p (seen_by seat) g k × HasBelow p (seen_by seat) (suc g) k below
+IsFound p seat g k found.Full = IsCrowded p seat.seen k
+
+-- the most steps to complete the table below one, if there is one
+abbrev pub steps_below : Plan → ℕ → ℕ
+steps_below p zero = 0
+steps_below p (suc g) = table_steps p g
+
+-- the same, where it isn't known to be complete
+abbrev pub owed_below : Plan → ℕ → Below → ℕ
+owed_below p g below.Complete = 0
+owed_below p g below.HasKey = steps_below p g
+owed_below p g below.Passed = steps_below p g
+
+-- the most steps to go on in a next table that may have to be installed: the table below is completed, and then this one
+abbrev pub grow_steps : Plan → ℕ → Below → ℕ
+grow_steps p g below = owed_below p g below + 2 + table_steps p g
+
+-- the most steps to find or to claim a slot: for each slot of the table a load, one of the next word and a claim; and then,
+-- it may be, the next table
+abbrev pub find_steps : Plan → ℕ → ℕ
+find_steps p g = 3 * size_of p g + steps_below p g + 4 + table_steps p g
+
+-- ---- an exchange
+
+-- how many exchanges on the call's key other seats have won since the seat had seen no more than `before`
+abbrev pub passed_since : Call → (before after : SeenBy) → ℕ
+passed_since call before after = passed_over after.seen (length before.seen) (key_of_call call) before.number
+
+-- the call, where it was replied
+abbrev pub made_by : Call → Outcome → List (Call × Reply)
+made_by call (outcome.Replied reply) = (call, reply) ∷ []
+made_by call outcome.Contended = []
+made_by call outcome.ValueRange = []
+made_by call (outcome.Above tries) = []
+
+-- What the seat has seen where a call with so many tries came to this at the key's slot in table g: as many exchanges of
+-- others as it had tries; or a sum past the greatest number in the map; or a slot that is finished, and then there are as many
+-- tries fewer as others won exchanges.
+abbrev pub IsOutcome : Plan → Call → (before after : SeenBy) → (g tries : ℕ) → Outcome → Type 0
+IsOutcome p call before after g tries (outcome.Replied reply) = Unit {0}
+IsOutcome p call before after g tries outcome.Contended = tries ≤ passed_since call before after
+IsOutcome p call before after g tries outcome.ValueRange = overflows call (map_of after.seen) ≡ true
+IsOutcome p call before after g tries (outcome.Above left) =
+    IsAbove p (seen_by after) g (key_of_call call) × HasSlot p (seen_by after) g (key_of_call call) × (1 ≤ left) × (left ≤ tries)
+    × (tries ≤ left + passed_since call before after)
+
+-- how many of so many tries are spent
+abbrev pub spent_by : ℕ → Outcome → ℕ
+spent_by tries (outcome.Replied reply) = tries
+spent_by tries outcome.Contended = tries
+spent_by tries outcome.ValueRange = tries
+spent_by tries (outcome.Above left) = tries - left
+
+-- the most steps at a slot: a load and an exchange for each try that is spent and one more, and the end of a copy
+abbrev pub exchange_steps : Plan → (g spent : ℕ) → ℕ
+exchange_steps p g spent = 2 * (spent + 1) + pass_steps p g

@@ -1,0 +1,137 @@
+//! The search for a key in one table.
+ghost use Rattle.std.specs.Prelude.{◌≡◌, ◌+◌, ◌-◌, ◌<◌, ◌≤◌, ◌⊎◌, [], true, false, None};
+ghost use Rattle.nb_core.specs.Calls.{leaves_alone};
+ghost use Rattle.nb_core.specs.History.{key_of_call};
+ghost use Rattle.nb_core.specs.Plans.{generations_of, size_of};
+ghost use Rattle.nb_core.specs.Tables.{AreOthers, IsSlot, IsUnprimed};
+ghost use Rattle.nb_core.specs.declared.states.KeyState.TheVariants as key_is;
+ghost use Rattle.nb_table.specs.Chains.{IsOwn, seen_by};
+ghost use Rattle.nb_table.specs.Conditions.{IsReached};
+ghost use Rattle.nb_map.specs.Calling.{HasMade};
+ghost use Rattle.nb_map.specs.Searching.{EndsAt, IsAbove, IsSought, pass_steps, read_at, read_sought, walk_steps};
+
+use nb_copy::copy_and_count;
+use nb_core::{Call, Key, KeyState, ValueState};
+use nb_table::{Chain, ChainSeat, laws};
+
+/// Where a walk along a key's path in a table ends.
+#[derive(Clone, Copy)]
+pub(crate) enum Place {
+    /// At the key's own slot.
+    Slot(usize),
+    /// At an empty slot, at this distance on the path.
+    Empty(usize),
+    /// At a closed slot: the key isn't in this table any more, and there is a next one.
+    Closed,
+    /// At the path's end: other keys have all of it.
+    Whole,
+}
+
+/// What a search for a key in a table comes to, for a call that leaves an absent key alone.
+#[derive(Clone, Copy)]
+pub(crate) enum Sought {
+    /// The key has this slot.
+    Slot(usize),
+    /// The map doesn't have the key.
+    Absent,
+    /// The search goes on in the next table.
+    Above,
+}
+
+/// Walks along the path of a call's key in table `g`, from a distance on: one load for each slot. A call that puts a number
+/// at an absent key may walk on from a slot that it saw; any other walks from the start, and what it comes upon may be its
+/// read.
+pub(crate) fn walk_path(
+    chain: &Chain,
+    seat: &mut ChainSeat,
+    g: u32,
+    key: Key,
+    call: &Call,
+    from: usize,
+) -> Place
+    requires own { IsOwn chain.now seat.old }
+    requires key { key_of_call call.now ≡ key }
+    requires reached { IsReached chain.now.shape (seen_by seat.old) g key }
+    requires within { from ≤ size_of chain.now.shape g }
+    requires others { AreOthers chain.now.shape (seen_by seat.old) g key from }
+    requires start { (from ≡ 0) ⊎ (leaves_alone call.now None ≡ false) }
+    ensures made { HasMade chain.now.shape call.now seat.old seat.new (read_at chain.now.shape g call.now result)
+        (walk_steps chain.now.shape g from result) }
+    ensures ends { EndsAt chain.now.shape (seen_by seat.new) g key result }
+{
+    laws::steps_add_up();
+    nb_core::laws::linked();
+    nb_core::laws::paths_are_distinct();
+    chain.shape().known();
+    seat.known();
+    for distance in from..chain.shape().size_of(g) {
+        let i = chain.shape().path_slot(g, key, distance);
+        match chain.load_key(seat, g, i, Some(*call)) {
+            KeyState::Claimed(other) => {
+                if other == key {
+                    return Place::Slot(i);
+                }
+            }
+            KeyState::Empty => return Place::Empty(distance),
+            KeyState::Dead => return Place::Closed,
+        }
+    }
+    Place::Whole
+}
+
+/// Searches table `g` for the key of a call that leaves an absent key alone.
+pub(crate) fn seek(chain: &Chain, seat: &mut ChainSeat, g: u32, key: Key, call: &Call) -> Sought
+    requires own { IsOwn chain.now seat.old }
+    requires key { key_of_call call.now ≡ key }
+    requires alone { leaves_alone call.now None ≡ true }
+    requires reached { IsReached chain.now.shape (seen_by seat.old) g key }
+    ensures made { HasMade chain.now.shape call.now seat.old seat.new (read_sought call.now result) (size_of chain.now.shape g + 1) }
+    ensures sought { IsSought chain.now.shape (seen_by seat.new) g key result }
+{
+    laws::steps_add_up();
+    nb_core::laws::linked();
+    chain.shape().known();
+    seat.known();
+    match walk_path(chain, seat, g, key, call, 0) {
+        Place::Slot(i) => Sought::Slot(i),
+        Place::Empty(_) => Sought::Absent,
+        Place::Closed => Sought::Above,
+        Place::Whole => {
+            if g + 1 == chain.shape().generations() {
+                return Sought::Absent;
+            }
+            if chain.load_next(seat, g, Some(*call)) {
+                Sought::Above
+            } else {
+                Sought::Absent
+            }
+        }
+    }
+}
+
+/// Finishes the key's slot `i` of table `g`, which holds this value, primed or final.
+pub(crate) fn pass_slot(
+    chain: &Chain,
+    seat: &mut ChainSeat,
+    g: u32,
+    i: usize,
+    key: Key,
+    call: &Call,
+    value: ValueState,
+)
+    requires own { IsOwn chain.now seat.old }
+    requires slot { IsSlot chain.now.shape g i }
+    requires claimed { (seen_by seat.old).key g i ≡ key_is.Claimed key }
+    requires primed { IsUnprimed value → ⊥ }
+    requires held { (seen_by seat.old).value g i ≡ value }
+    ensures made { HasMade chain.now.shape call.now seat.old seat.new [] (pass_steps chain.now.shape g) }
+    ensures passed { IsAbove chain.now.shape (seen_by seat.new) g key }
+{
+    laws::steps_add_up();
+    nb_core::laws::linked();
+    chain.shape().known();
+    seat.known();
+    if !value.is_finished() {
+        copy_and_count(chain, seat, g, i);
+    }
+}

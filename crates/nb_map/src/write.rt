@@ -1,0 +1,164 @@
+//! Writing a key.
+ghost use Rattle.std.specs.Prelude.{◌≡◌, ◌≤◌, [], ◌∷◌, IfOk, IfErr};
+ghost use Rattle.nb_core.specs.History.{key_of_call};
+ghost use Rattle.nb_core.specs.declared.calls.Call.TheVariants as call;
+ghost use Rattle.nb_table.specs.Chains.{IsOwn, seen_by};
+ghost use Rattle.nb_table.specs.Conditions.{IsReached};
+ghost use Rattle.nb_map.specs.Calling.{HasMade};
+ghost use Rattle.nb_map.specs.Refusing.{IsJust, IsTarget, IsWritten, made_at, put_steps, written_by, write_steps};
+ghost use Rattle.nb_map.specs.Writing.{HasBelow, find_steps};
+
+use crate::claim::{Below, Found, find_or_claim};
+use crate::decide::{Decision, decide};
+use crate::exchange::{Outcome, exchange};
+use crate::pause::Pause;
+use crate::search::{Sought, seek};
+use nb_core::{Call, Change, Key, Reply, Want};
+use nb_table::{Chain, ChainSeat, laws};
+use thiserror::Error;
+
+/// Why a write was refused. The map is unchanged by it then, and no call of its was made.
+#[derive(Clone, Copy, Debug, PartialEq, Eq, Error)]
+pub enum PutFault {
+    /// Other keys have all slots of the last table.
+    #[error("the map is full")]
+    Full,
+    /// Other seats won as many exchanges on the key as the write had tries.
+    #[error("other writes of the key came first")]
+    Contended,
+    /// The sum of an add is past the greatest number.
+    #[error("value too large")]
+    ValueRange,
+}
+
+/// Where a write has to look next.
+#[derive(Clone, Copy)]
+enum Target {
+    /// At the key's slot.
+    Slot(usize),
+    /// Nowhere: the map doesn't have the key, and the write leaves it at that.
+    Absent(Reply),
+    /// In the next table.
+    Above(Below),
+    /// Nowhere: there is no slot for the key.
+    Full,
+}
+
+/// What a write comes to in a table.
+#[derive(Clone, Copy)]
+enum Written {
+    /// It is made, and this is its reply.
+    Replied(Reply),
+    Refused(PutFault),
+    /// It goes on in the next table, with so many tries left.
+    Above(Below, u32),
+}
+
+/// Changes what the map has at a key, where the condition holds of it, and replies what it had. An exchange that another seat
+/// came before is tried again, so many times in all; the pause is made before each. A write that leaves the map as it is makes
+/// no exchange. One conditional write stands behind all writes of `ConcurrentMap`, as `putIfMatch` of high-scale-lib.
+pub fn put_if_match_in<P: Pause>(
+    chain: &Chain,
+    seat: &mut ChainSeat,
+    key: Key,
+    want: Want,
+    change: Change,
+    tries: u32,
+    pause: &mut P,
+) -> Result<Reply, PutFault>
+    requires own { IsOwn chain.now seat.old }
+    requires some { 1 ≤ tries }
+    requires serves { P.serves pause.old chain.now }
+    ensures made { IfOk result (λ reply. HasMade chain.now.shape (call.Write key want change) seat.old seat.new
+        ((call.Write key want change, reply) ∷ []) (put_steps chain.now.shape tries)) }
+    ensures refused { IfErr result (λ fault. HasMade chain.now.shape (call.Write key want change) seat.old seat.new []
+        (put_steps chain.now.shape tries) × IsJust chain.now.shape (call.Write key want change) seat.old seat.new tries fault) }
+    ensures serves { P.serves pause.new chain.now }
+{
+    laws::steps_add_up();
+    nb_core::laws::linked();
+    nb_core::laws::top_complete();
+    nb_core::laws::complete_passed();
+    nb_core::laws::sizes_never_fall();
+    nb_core::laws::passed_over_adds();
+    chain.shape().known();
+    let call = Call::Write { key, want, change };
+    let mut below = Below::Complete;
+    let mut left = tries;
+    for g in chain.load_top(seat)..chain.shape().generations() {
+        seat.known();
+        match write_in(chain, seat, g, key, &call, below, left, pause) {
+            Written::Replied(reply) => return Ok(reply),
+            Written::Refused(fault) => return Err(fault),
+            Written::Above(now, tries_left) => {
+                below = now;
+                left = tries_left;
+            }
+        }
+    }
+    Err(PutFault::Full)
+}
+
+/// Makes a write in table `g`, or finds that it goes on in the next one.
+fn write_in<P: Pause>(
+    chain: &Chain,
+    seat: &mut ChainSeat,
+    g: u32,
+    key: Key,
+    call: &Call,
+    below: Below,
+    tries: u32,
+    pause: &mut P,
+) -> Written
+    requires own { IsOwn chain.now seat.old }
+    requires key { key_of_call call.now ≡ key }
+    requires reached { IsReached chain.now.shape (seen_by seat.old) g key }
+    requires below { HasBelow chain.now.shape (seen_by seat.old) g key below }
+    requires some { 1 ≤ tries }
+    requires serves { P.serves pause.old chain.now }
+    ensures made { HasMade chain.now.shape call.now seat.old seat.new (written_by call.now result)
+        (write_steps chain.now.shape g tries result) }
+    ensures written { IsWritten chain.now.shape call.now seat.old seat.new g tries result }
+    ensures serves { P.serves pause.new chain.now }
+{
+    laws::steps_add_up();
+    nb_core::laws::linked();
+    nb_core::laws::passed_over_adds();
+    chain.shape().known();
+    seat.known();
+    match aim(chain, seat, g, key, call, below) {
+        Target::Slot(i) => match exchange(chain, seat, g, i, key, call, tries, pause) {
+            Outcome::Replied(reply) => Written::Replied(reply),
+            Outcome::Contended => Written::Refused(PutFault::Contended),
+            Outcome::ValueRange => Written::Refused(PutFault::ValueRange),
+            Outcome::Above(left) => Written::Above(Below::HasKey, left),
+        },
+        Target::Absent(reply) => Written::Replied(reply),
+        Target::Above(below) => Written::Above(below, tries),
+        Target::Full => Written::Refused(PutFault::Full),
+    }
+}
+
+/// Where a write that has come to table `g` has to look: it searches for the key's slot, and claims one for it if it puts a
+/// number there.
+fn aim(chain: &Chain, seat: &mut ChainSeat, g: u32, key: Key, call: &Call, below: Below) -> Target
+    requires own { IsOwn chain.now seat.old }
+    requires key { key_of_call call.now ≡ key }
+    requires reached { IsReached chain.now.shape (seen_by seat.old) g key }
+    requires below { HasBelow chain.now.shape (seen_by seat.old) g key below }
+    ensures made { HasMade chain.now.shape call.now seat.old seat.new (made_at call.now result) (find_steps chain.now.shape g) }
+    ensures target { IsTarget chain.now.shape call.now seat.new g key result }
+{
+    if let Decision::Leave(reply) = decide(call, &None) {
+        return match seek(chain, seat, g, key, call) {
+            Sought::Slot(i) => Target::Slot(i),
+            Sought::Absent => Target::Absent(reply),
+            Sought::Above => Target::Above(Below::Passed),
+        };
+    }
+    match find_or_claim(chain, seat, g, key, call, below) {
+        Found::Slot(i) => Target::Slot(i),
+        Found::Above(below) => Target::Above(below),
+        Found::Full => Target::Full,
+    }
+}
