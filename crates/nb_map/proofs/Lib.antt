@@ -1,5 +1,6 @@
 mod Bounds
 mod Claimed
+mod Counted
 mod Exchanged
 mod Made
 mod Searched

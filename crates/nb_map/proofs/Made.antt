@@ -27,7 +27,7 @@ cons-if true c made more = refl
 cons-if false c made more = refl
 
 -- the calls among some events and others
-calls-append : (later h : List Event) (s : ℕ) → calls_of (later ++ h) s ≡ calls_of later s ++ calls_of h s
+pub calls-append : (later h : List Event) (s : ℕ) → calls_of (later ++ h) s ≡ calls_of later s ++ calls_of h s
 calls-append [] h s = refl
 calls-append (Claim s' g i k ∷ later) h s = calls-append later h s
 calls-append (Kill s' g i ∷ later) h s = calls-append later h s

@@ -95,14 +95,21 @@ reached-top linked top_complete complete_passed chain seat plan own legal k top 
           complete_passed seat.shape plan' seat.seen legal f k complete.0 complete.1;
     })
 
--- where all tables below are complete
+-- all tables below the top are complete
+pub complete-below :
+    TopComplete → (chain : ChainOf) (seat : SeenBy) → IsPlan chain.shape → IsOwn chain seat → IsLegal seat.shape seat.seen → (top : ℕ)
+    → (seen_by seat).top ≡ top → (g : ℕ) → g < top → IsComplete chain.shape (seen_by seat) g
+complete-below top_complete chain seat plan own legal top is g below =
+    subst (λ p. IsComplete p (seen_by seat) g) own.1
+    (top_complete seat.shape (subst IsPlan (sym own.1) plan) seat.seen legal g (omega (arith, is, below))).1
+
+-- also the one just below
 pub ready-top :
     TopComplete → (chain : ChainOf) (seat : SeenBy) → IsPlan chain.shape → IsOwn chain seat → IsLegal seat.shape seat.seen → (top : ℕ)
     → (seen_by seat).top ≡ top → IsReady chain.shape (seen_by seat) top
 ready-top top_complete chain seat plan own legal zero is = tt
 ready-top top_complete chain seat plan own legal (suc g) is =
-    subst (λ p. IsComplete p (seen_by seat) g) own.1
-    (top_complete seat.shape (subst IsPlan (sym own.1) plan) seat.seen legal g (omega (arith, is))).1
+    complete-below top_complete chain seat plan own legal (suc g) is g (omega arith)
 
 -- and go on in the next table
 pub reached-above : (p : Plan) (t : Tables) (g k : ℕ) → IsReached p t g k → IsAbove p t g k → IsReached p t (suc g) k

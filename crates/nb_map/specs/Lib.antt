@@ -3,3 +3,5 @@ pub mod Searching
 pub mod Looking
 pub mod Writing
 pub mod Refusing
+pub mod Maps
+pub mod Inside

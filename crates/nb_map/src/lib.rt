@@ -8,9 +8,11 @@ mod claim;
 mod decide;
 mod exchange;
 mod get;
+mod map;
 mod pause;
 mod search;
 pub mod steps;
 mod write;
 
+pub use map::{Map, Seat};
 pub use write::PutFault;

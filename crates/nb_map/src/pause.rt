@@ -16,6 +16,7 @@ pub trait Pause {
 }
 
 /// The pause that does nothing.
+#[derive(Clone, Copy)]
 pub struct NoPause;
 
 impl Pause for NoPause {

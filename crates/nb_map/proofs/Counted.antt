@@ -1,0 +1,80 @@
+-- What a seat's calls did to the number of keys.
+use Rattle.std.proofs.Common.{◌≡◌, ◌∙◌, ◌==◌, Bool, true, false, cond, ℕ, List, [], ◌∷◌, ◌++◌, ap, sym, refl, arith}
+use Rattle.std.proofs.Math.IntN.{◌+ℤ◌}
+use Rattle.std.proofs.lemmas.Int.{ints}
+use Rattle.nb_core.specs.History.{seat_of_event}
+use Rattle.nb_core.specs.Meaning.{calls_of, net_of}
+use Rattle.nb_core.specs.Plans.{Plan}
+use Rattle.nb_core.specs.declared.calls.Call.{Call}
+use Rattle.nb_core.specs.declared.calls.Call.TheVariants.{Get}
+use Rattle.nb_core.specs.declared.calls.Reply.{Reply}
+use Rattle.nb_core.specs.declared.events.Event.{Event}
+use Rattle.nb_core.specs.declared.events.Event.TheVariants.{Claim, Kill, Won, CopyIn, Prime, Finish, Install, Take, Count, Promote, Read}
+use Rattle.nb_table.specs.Chains.{Extended, SeenBy, own_events}
+use Rattle.nb_table.specs.Laws.{StepsAddUp}
+use Rattle.nb_map.proofs.Made.{calls-append, made-quiet}
+use Rattle.nb_map.specs.Calling.{HasMade}
+
+-- a seat's calls are those of its own events
+calls-own : (s : ℕ) (es : List Event) → calls_of es s ≡ calls_of (own_events s es) s
+calls-own s [] = refl
+calls-own s (e ∷ es) = one e (calls-own s es)
+  where
+    calls : List (Call × Reply)
+    calls = calls_of es s
+
+    own : List Event
+    own = own_events s es
+
+    kept : (e : Event) (c : Call × Reply) (b : Bool) → (seat_of_event e == s) ≡ b → calls ≡ calls_of own s
+        → ((x : List Event) → calls_of (e ∷ x) s ≡ cond (seat_of_event e == s) (c ∷ calls_of x s) (calls_of x s))
+        → calls_of (e ∷ es) s ≡ calls_of (cond b (e ∷ own) own) s
+    kept e c true mine same is =
+        is es ∙ ap (λ b. cond b (c ∷ calls) calls) mine ∙ ap (λ x. c ∷ x) same
+        ∙ sym (is own ∙ ap (λ b. cond b (c ∷ calls_of own s) (calls_of own s)) mine)
+    kept e c false mine same is = is es ∙ ap (λ b. cond b (c ∷ calls) calls) mine ∙ same
+
+    none : (e : Event) (b : Bool) → calls ≡ calls_of own s → ((x : List Event) → calls_of (e ∷ x) s ≡ calls_of x s)
+        → calls_of (e ∷ es) s ≡ calls_of (cond b (e ∷ own) own) s
+    none e true same is = is es ∙ same ∙ sym (is own)
+    none e false same is = is es ∙ same
+
+    one : (e : Event) → calls ≡ calls_of own s → calls_of (e ∷ es) s ≡ calls_of (own_events s (e ∷ es)) s
+    one (Claim r g i k) same = none (Claim r g i k) (r == s) same (λ x. refl)
+    one (Kill r g i) same = none (Kill r g i) (r == s) same (λ x. refl)
+    one (Won r g i a b c reply) same = kept (Won r g i a b c reply) (c, reply) (r == s) refl same (λ x. refl)
+    one (CopyIn r g i k n) same = none (CopyIn r g i k n) (r == s) same (λ x. refl)
+    one (Prime r g i) same = none (Prime r g i) (r == s) same (λ x. refl)
+    one (Finish r g i) same = none (Finish r g i) (r == s) same (λ x. refl)
+    one (Install r g k) same = none (Install r g k) (r == s) same (λ x. refl)
+    one (Take r g) same = none (Take r g) (r == s) same (λ x. refl)
+    one (Count r g c) same = none (Count r g c) (r == s) same (λ x. refl)
+    one (Promote r g) same = none (Promote r g) (r == s) same (λ x. refl)
+    one (Read r c reply) same = kept (Read r c reply) (c, reply) (r == s) refl same (λ x. refl)
+
+-- what a seat has called after more calls
+pub calls-made :
+    {p : Plan} {call : Call} {before after : SeenBy} {made : List (Call × Reply)} {most : ℕ} → HasMade p call before after made most
+    → calls_of after.seen after.number ≡ made ++ calls_of before.seen before.number
+calls-made {before = before} {after} {made} steps =
+    ap (calls_of after.seen) steps.grown.number ∙ ap (λ h. calls_of h before.number) steps.grown.seen
+    ∙ calls-append steps.grown.later before.seen before.number
+    ∙ ap (λ calls. calls ++ calls_of before.seen before.number)
+    (calls-own before.number steps.grown.later ∙ ap (λ own. calls_of own before.number) steps.grown.own_are ∙ steps.calls)
+
+-- the net of more calls
+net-append : (a b : List (Call × Reply)) → net_of (a ++ b) ≡ net_of a +ℤ net_of b
+net-append [] b = omega (arith, ints)
+net-append (c ∷ a) b = let rest = net-append a b in omega (arith, ints, rest)
+
+pub net-made :
+    {p : Plan} {call : Call} {before after : SeenBy} {made : List (Call × Reply)} {most : ℕ} → HasMade p call before after made most
+    → net_of (calls_of after.seen after.number) ≡ net_of made +ℤ net_of (calls_of before.seen before.number)
+net-made {before = before} {made = made} steps =
+    ap net_of (calls-made steps) ∙ net-append made (calls_of before.seen before.number)
+
+-- a step without an event is no call
+pub net-quiet :
+    StepsAddUp → (p : Plan) {before after : SeenBy} → Extended before after [] 1
+    → net_of (calls_of after.seen after.number) ≡ net_of (calls_of before.seen before.number)
+net-quiet law p step = let net = net-made (made-quiet law p (Get 0) step) in omega (arith, ints, net)

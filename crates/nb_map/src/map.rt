@@ -1,0 +1,174 @@
+//! The map and its seats.
+ghost use Rattle.std.specs.Prelude.{◌≡◌, ◌<◌, ◌≤◌, ◌+ℤ◌, ℕ, pos, IfOk, IfErr, is_some, if◌then◌else◌, Option, [], ◌∷◌};
+ghost use Rattle.nb_core.specs.Meaning.{net_of_change};
+ghost use Rattle.nb_core.specs.Tables.{IsComplete};
+ghost use Rattle.nb_core.specs.declared.calls.Call.TheVariants as call;
+ghost use Rattle.nb_count.specs.Counts.{with_looks};
+ghost use Rattle.nb_table.specs.Chains.{Extended, seen_by};
+ghost use Rattle.nb_table.specs.Views.{IsBeginning};
+ghost use Rattle.nb_map.specs.Calling.{replied};
+ghost use Rattle.nb_map.specs.Looking.{get_steps};
+ghost use Rattle.nb_map.specs.Maps.{HasCalled, IsMine};
+ghost use Rattle.nb_map.specs.Refusing.{IsJust, put_steps};
+
+use crate::get::get_in;
+use crate::pause::NoPause;
+use crate::write::{PutFault, put_if_match_in};
+use nb_core::{Change, Key, Num, Reply, Want};
+use nb_count::{CountSeat, Counter};
+use nb_table::{Chain, ChainSeat, laws};
+use std::marker::Model;
+
+/// A map from whole numbers to whole numbers, which many threads share. Contracts see its chain of tables.
+#[derive(Drop)]
+pub struct Map {
+    chain: Chain,
+    counter: Counter,
+}
+
+impl Model for Map {
+    ghost use Rattle.nb_map.specs.Maps.{MapOf};
+
+    ghost Value = { MapOf };
+
+    ghost use Rattle.nb_map.specs.Inside.{IsMap, map_of};
+
+    ghost view = { map_of };
+
+    ghost invariant = { IsMap };
+}
+
+/// The right of one holder to make calls. Contracts see what it has seen of the map's history, in which its own calls stand.
+#[derive(Drop)]
+pub struct Seat {
+    chain: ChainSeat,
+    count: CountSeat,
+}
+
+impl Model for Seat {
+    ghost use Rattle.nb_map.specs.Maps.{SeatOf};
+
+    ghost Value = { SeatOf };
+
+    ghost use Rattle.nb_map.specs.Inside.{IsSeat, seat_of};
+
+    ghost view = { seat_of };
+
+    ghost invariant = { IsSeat };
+}
+
+impl Map {
+    /// What the map has at a key. In the common case, where the key has its home slot in the top table, these are three loads.
+    pub fn get(&self, seat: &mut Seat, key: Key) -> Option<Num>
+        requires own { IsMine self.now seat.old }
+        ensures called { HasCalled self.now (call.Get key) seat.old seat.new (replied (call.Get key) result)
+            (get_steps self.now.chain.shape) }
+    {
+        get_in(&self.chain, &mut seat.chain, key)
+    }
+
+    /// Whether the map has a key. It is a `get`.
+    pub fn contains_key(&self, seat: &mut Seat, key: Key) -> bool
+        requires own { IsMine self.now seat.old }
+        ensures called { (number : Option ℕ) × (is_some number ≡ result)
+            × HasCalled self.now (call.Get key) seat.old seat.new (replied (call.Get key) number) (get_steps self.now.chain.shape) }
+    {
+        self.get(seat, key).is_some()
+    }
+
+    /// Changes what the map has at a key, where the condition holds of it, and replies what it had: `steps::put_if_match_in` on
+    /// the map's tables. A key that came is counted afterwards, and one that went, by one step on the counter.
+    pub fn put_if_match(
+        &self,
+        seat: &mut Seat,
+        key: Key,
+        want: Want,
+        change: Change,
+        tries: u32,
+    ) -> Result<Reply, PutFault>
+        requires own { IsMine self.now seat.old }
+        requires some { 1 ≤ tries }
+        ensures called { IfOk result (λ reply. HasCalled self.now (call.Write key want change) seat.old seat.new
+            ((call.Write key want change, reply) ∷ []) (put_steps self.now.chain.shape tries)) }
+        ensures refused { IfErr result (λ fault. HasCalled self.now (call.Write key want change) seat.old seat.new []
+            (put_steps self.now.chain.shape tries)
+            × IsJust self.now.chain.shape (call.Write key want change) seat.old.chain seat.new.chain tries fault) }
+    {
+        match put_if_match_in(
+            &self.chain,
+            &mut seat.chain,
+            key,
+            want,
+            change,
+            tries,
+            &mut NoPause,
+        ) {
+            Ok(reply) => {
+                self.count(&mut seat.count, &change, &reply);
+                Ok(reply)
+            }
+            Err(fault) => Err(fault),
+        }
+    }
+
+    /// Counts what a write with this change and reply did to the number of keys.
+    fn count(&self, seat: &mut CountSeat, change: &Change, reply: &Reply)
+        requires own { seat.old.counter ≡ self.now.counter.id }
+        ensures counter { seat.new.counter ≡ seat.old.counter }
+        ensures counted { seat.new.added ≡ seat.old.added +ℤ
+            (if reply.now.matched then net_of_change change.now reply.now.before else pos 0) }
+    {
+        if !reply.matched {
+            return;
+        }
+        match *change {
+            Change::Remove => {
+                if reply.before.is_some() {
+                    self.counter.add(seat, -1);
+                }
+            }
+            Change::Put(_) | Change::Add(_) => {
+                if reply.before.is_none() {
+                    self.counter.add(seat, 1);
+                }
+            }
+        }
+    }
+
+    /// How many tables are known to be complete, from the first one on: the top word, by one load.
+    pub fn generation(&self, seat: &mut Seat) -> u32
+        requires own { IsMine self.now seat.old }
+        ensures grows { Extended seat.old.chain seat.new.chain [] 1 }
+        ensures found { (seen_by seat.new.chain).top ≡ result }
+        ensures complete { (g : ℕ) → g < result → IsComplete self.now.chain.shape (seen_by seat.new.chain) g }
+        ensures count { seat.new.count ≡ seat.old.count }
+    {
+        nb_core::laws::top_complete();
+        laws::steps_add_up();
+        self.chain.shape().known();
+        let top = self.chain.load_top(&mut seat.chain);
+        seat.chain.known();
+        top
+    }
+
+    /// About how many keys the map has, modulo 2^64: the sum of the counter's stripes, by one load of each. While others write
+    /// it is no more than a guess.
+    pub fn size_estimate(&self, seat: &mut Seat) -> u64
+        requires own { IsMine self.now seat.old }
+        ensures chain { seat.new.chain ≡ seat.old.chain }
+        ensures count { seat.new.count ≡ with_looks self.now.counter.stripes seat.old.count }
+    {
+        self.counter.estimate(&mut seat.count)
+    }
+
+    /// Lets each of two seats see all that the other has seen, by one load of the top word by each.
+    pub fn meet(&self, a: &mut Seat, b: &mut Seat)
+        requires a_own { IsMine self.now a.old }
+        requires b_own { IsMine self.now b.old }
+        ensures a { Extended a.old.chain a.new.chain [] 1 × IsBeginning b.old.chain.seen a.new.chain.seen × (a.new.count ≡ a.old.count) }
+        ensures b { Extended b.old.chain b.new.chain [] 1 × IsBeginning a.old.chain.seen b.new.chain.seen × (b.new.count ≡ b.old.count) }
+    {
+        laws::steps_add_up();
+        self.chain.meet(&mut a.chain, &mut b.chain);
+    }
+}
