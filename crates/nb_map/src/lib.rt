@@ -14,3 +14,6 @@ pub mod steps;
 mod write;
 
 pub use write::PutFault;
+
+#[cfg(test)]
+mod tests;
