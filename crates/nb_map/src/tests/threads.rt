@@ -135,7 +135,7 @@ fn four_write<R: Threads + Sync + Abort>(rt: &R, alloc: Global) -> Result<(), Ou
 
 #[test]
 fn many_writers_few_keys(rt: HostRuntime) -> Result<(), Fail> {
-    for _round in 0..20 {
+    for _round in 0..400 {
         four_write(&rt, rt.alloc())?;
     }
     Ok(())
