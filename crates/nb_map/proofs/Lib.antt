@@ -1,3 +1,4 @@
+mod ByHand
 mod Bounds
 mod Claimed
 mod Counted

@@ -16,3 +16,6 @@ mod write;
 
 pub use map::{Map, Seat};
 pub use write::PutFault;
+
+#[cfg(test)]
+mod tests;

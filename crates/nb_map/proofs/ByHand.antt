@@ -1,0 +1,34 @@
+-- What is so of the seats that the tests call with.
+use Rattle.std.proofs.Common.{◌≡◌, ◌∙◌, ℕ, zero, suc, List, [], ◌∷◌, ◌++◌, Some, option_to_list, Result, Ok, Err, IfOk, IfErr, sym, refl}
+use Rattle.std.specs.List.{All}
+use Rattle.std.proofs.lemmas.List.Elements.{All-cons, All-nil, All-pop}
+use Rattle.nb_core.specs.Plans.{Plan}
+use Rattle.nb_core.specs.declared.calls.Call.{Call}
+use Rattle.nb_core.specs.declared.calls.Reply.{Reply}
+use Rattle.nb_table.specs.Chains.{ChainOf, IsOwn, SeenBy, new_seat, seats_of}
+use Rattle.nb_table.specs.Laws.{StepsAddUp}
+use Rattle.nb_map.specs.Calling.{HasMade}
+use Rattle.nb_map.specs.declared.write.PutFault.{PutFault}
+
+-- after a write, made or refused, the seat is the chain's still
+pub write-own :
+    (law : StepsAddUp) (chain : ChainOf) (call : Call) (before after : SeenBy) (most : ℕ) (just : PutFault → Type 0)
+    (result : Result Reply PutFault) → IsOwn chain before
+    → IfOk result (λ reply. HasMade chain.shape call before after ((call, reply) ∷ []) most)
+    → IfErr result (λ fault. HasMade chain.shape call before after [] most × just fault) → IsOwn chain after
+write-own law chain call before after most just (Ok reply) own made refused = law.own own made.grown
+write-own law chain call before after most just (Err fault) own made refused = law.own own refused.0.grown
+
+-- the seats that a chain is made with are its own
+all-own : (chain : ChainOf) (p : Plan) (first count : ℕ) → chain.shape ≡ p → All (IsOwn chain) (seats_of chain.id p first count)
+all-own chain p first zero same = All-nil (IsOwn chain)
+all-own chain p first (suc count) same =
+    All-cons (IsOwn chain) (new_seat chain.id p first) (seats_of chain.id p (suc first) count) (refl, sym same)
+    (all-own chain p (suc first) count same)
+
+-- so is the last of them
+pub last-own :
+    (chain : ChainOf) (p : Plan) (seats left : List SeenBy) (seat : SeenBy) → chain.shape ≡ p → seats ≡ seats_of chain.id p 0 p.seats
+    → seats ≡ left ++ option_to_list (Some seat) → IsOwn chain seat
+last-own chain p seats left seat same all last =
+    (All-pop (IsOwn chain) (seats_of chain.id p 0 p.seats) left (Some seat) (sym all ∙ last) (all-own chain p 0 p.seats same)).1

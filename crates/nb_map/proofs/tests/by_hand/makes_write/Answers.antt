@@ -1,0 +1,7 @@
+use Rattle.nb_map.proofs.ByHand.{write-own}
+use Rattle.nb_map.proofs.tests.by_hand.makes_write.Goals as goal
+
+pub returns : goal.returns
+returns c =
+    let wrote = c.put_if_match_in-answer in
+    record { own = write-own c.steps_add_up.ensures _ _ _ _ _ _ wrote.result c.requires.own wrote.ensures.made wrote.ensures.refused }
