@@ -5,3 +5,4 @@ pub mod Writing
 pub mod Refusing
 pub mod Maps
 pub mod Inside
+pub mod Ending

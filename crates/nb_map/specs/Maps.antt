@@ -1,9 +1,10 @@
 -- How contracts see a map and its seats.
-use Rattle.std.specs.Prelude.{◌≡◌, ℕ, List}
+use Rattle.std.specs.Prelude.{◌≡◌, ℕ, zero, suc, pos, List, [], ◌∷◌, All}
 use Rattle.nb_core.specs.declared.calls.Call.{Call}
 use Rattle.nb_core.specs.declared.calls.Reply.{Reply}
 use Rattle.nb_count.specs.Counts.{Counted, Counting}
 use Rattle.nb_table.specs.Chains.{ChainOf, IsOwn, SeenBy}
+use Rattle.nb_table.specs.Chains as chains
 use Rattle.nb_map.specs.Calling.{HasMade}
 
 -- a map: its chain of tables, and the counter of its keys
@@ -20,8 +21,32 @@ pub record SeatOf : Type 0 where
 abbrev pub IsMine : MapOf → SeatOf → Type 0
 IsMine map seat = IsOwn map.chain seat.chain × (seat.count.counter ≡ map.counter.id)
 
+-- all these seats are this map's
+abbrev pub AreMine : MapOf → List SeatOf → Type 0
+AreMine map seats = All (IsMine map) seats
+
+-- a map's seat that has seen and counted nothing
+abbrev pub new_seat : MapOf → ℕ → SeatOf
+new_seat map number = record {
+  chain = chains.new_seat map.chain.id map.chain.shape number;
+  count = record { counter = map.counter.id; number = number; added = pos 0; steps = 0 };
+}
+
+-- so many seats of a map from a number on, which have seen and counted nothing
+abbrev pub seats_of : MapOf → ℕ → ℕ → List SeatOf
+seats_of map number zero = []
+seats_of map number (suc count) = new_seat map number ∷ seats_of map (suc number) count
+
 -- The seat has made these calls with their replies, and no others, in at most so many steps on the chain; and its steps were
 -- such as this call may make.
 pub record HasCalled (map : MapOf) (call : Call) (before after : SeatOf) (made : List (Call × Reply)) (most : ℕ) : Type 0 where
   pub counter : after.count.counter ≡ before.count.counter
   pub steps : HasMade map.chain.shape call before.chain after.chain made most
+
+-- The same, in however many steps.
+abbrev pub HasWaited : MapOf → Call → (before after : SeatOf) → List (Call × Reply) → Type 0
+HasWaited map call before after made = (most : ℕ) × HasCalled map call before after made most
+
+-- The seat has made this one call, in however many steps, and this is so of its reply.
+abbrev pub HasReplied : MapOf → Call → (before after : SeatOf) → (Reply → Type 0) → Type 0
+HasReplied map call before after P = (reply : Reply) × P reply × HasWaited map call before after ((call, reply) ∷ [])

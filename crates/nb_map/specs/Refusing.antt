@@ -10,6 +10,8 @@ use Rattle.nb_core.specs.declared.states.KeyState.TheVariants.{Claimed}
 use Rattle.nb_table.specs.Chains.{SeenBy, seen_by}
 use Rattle.nb_map.specs.Searching.{IsAbove, slots_below}
 use Rattle.nb_map.specs.Writing.{HasBelow, exchange_steps, find_steps, passed_since}
+use Rattle.nb_map.specs.declared.waiting.AddFault.{AddFault}
+use Rattle.nb_map.specs.declared.waiting.AddFault.TheVariants as add_fault
 use Rattle.nb_map.specs.declared.write.PutFault.{PutFault}
 use Rattle.nb_map.specs.declared.write.PutFault.TheVariants as fault
 use Rattle.nb_map.specs.declared.write.Target.{Target}
@@ -24,6 +26,11 @@ abbrev pub IsJust : Plan → Call → (before after : SeenBy) → (tries : ℕ) 
 IsJust p call before after tries fault.Full = (leaves_alone call None ≡ false) × IsCrowded p after.seen (key_of_call call)
 IsJust p call before after tries fault.Contended = tries ≤ passed_since call before after
 IsJust p call before after tries fault.ValueRange = overflows call (map_of after.seen) ≡ true
+
+-- why a write that tries again for as long as it takes may be refused
+abbrev pub IsJustAdd : Plan → Call → SeenBy → AddFault → Type 0
+IsJustAdd p call after add_fault.Full = (leaves_alone call None ≡ false) × IsCrowded p after.seen (key_of_call call)
+IsJustAdd p call after add_fault.ValueRange = overflows call (map_of after.seen) ≡ true
 
 -- ---- in one table
 

@@ -6,15 +6,19 @@
 
 mod claim;
 mod decide;
+mod ended;
 mod exchange;
 mod get;
 mod map;
 mod pause;
 mod search;
 pub mod steps;
+mod waiting;
 mod write;
 
+pub use ended::Ended;
 pub use map::{Map, Seat};
+pub use waiting::{AddFault, Full};
 pub use write::PutFault;
 
 #[cfg(test)]

@@ -1,5 +1,5 @@
 //! The map and its seats.
-ghost use Rattle.std.specs.Prelude.{◌≡◌, ◌<◌, ◌≤◌, ◌+ℤ◌, ℕ, pos, IfOk, IfErr, is_some, if◌then◌else◌, Option, [], ◌∷◌};
+ghost use Rattle.std.specs.Prelude.{◌≡◌, ◌<◌, ◌≤◌, ◌+ℤ◌, ◌↔◌, ℕ, pos, IfOk, IfErr, is_ok, is_some, true, if◌then◌else◌, Option, [], ◌∷◌, length};
 ghost use Rattle.nb_core.specs.Meaning.{net_of_change};
 ghost use Rattle.nb_core.specs.Tables.{IsComplete};
 ghost use Rattle.nb_core.specs.declared.calls.Call.TheVariants as call;
@@ -8,15 +8,18 @@ ghost use Rattle.nb_table.specs.Chains.{Extended, seen_by};
 ghost use Rattle.nb_table.specs.Views.{IsBeginning};
 ghost use Rattle.nb_map.specs.Calling.{replied};
 ghost use Rattle.nb_map.specs.Looking.{get_steps};
-ghost use Rattle.nb_map.specs.Maps.{HasCalled, IsMine};
+ghost use Rattle.nb_map.specs.Ending.{EndedWith};
+ghost use Rattle.nb_map.specs.Maps.{AreMine, HasCalled, IsMine, seats_of};
 ghost use Rattle.nb_map.specs.Refusing.{IsJust, put_steps};
 
+use crate::ended::{Ended, parted};
 use crate::get::get_in;
 use crate::pause::NoPause;
 use crate::write::{PutFault, put_if_match_in};
-use nb_core::{Change, Key, Num, Reply, Want};
+use nb_core::{Change, Key, NotAll, Num, OutOfMemory, Reply, Shape, Want};
 use nb_count::{CountSeat, Counter};
 use nb_table::{Chain, ChainSeat, laws};
+use std::alloc::Global;
 use std::marker::Model;
 
 /// A map from whole numbers to whole numbers, which many threads share. Contracts see its chain of tables.
@@ -24,6 +27,9 @@ use std::marker::Model;
 pub struct Map {
     chain: Chain,
     counter: Counter,
+    /// Room in which `finish` gathers the seats, so that it takes no memory.
+    chain_seats: Vec<ChainSeat>,
+    count_seats: Vec<CountSeat>,
 }
 
 impl Model for Map {
@@ -41,8 +47,8 @@ impl Model for Map {
 /// The right of one holder to make calls. Contracts see what it has seen of the map's history, in which its own calls stand.
 #[derive(Drop)]
 pub struct Seat {
-    chain: ChainSeat,
-    count: CountSeat,
+    pub(crate) chain: ChainSeat,
+    pub(crate) count: CountSeat,
 }
 
 impl Model for Seat {
@@ -58,6 +64,31 @@ impl Model for Seat {
 }
 
 impl Map {
+    /// An empty map, and its seats. It takes memory for the words of its tables and its counter, and for the seats: nothing
+    /// that comes later but `Ended::entries` takes any.
+    pub fn new(alloc: Global, shape: Shape) -> Result<(Map, Vec<Seat>), OutOfMemory>
+        ensures map { IfOk result (λ made. made.0.chain.shape ≡ shape) }
+        ensures seats { IfOk result (λ made. made.1.items ≡ seats_of made.0 0 shape.seats) }
+    {
+        shape.known();
+        let mut seats = Vec::with_capacity(alloc, shape.seats())?;
+        let (chain, mut chain_seats) = Chain::new(alloc, shape)?;
+        let (counter, mut count_seats) = Counter::new(alloc, shape.stripes(), shape.seats())?;
+        while let Some(chain) = chain_seats.pop() {
+            if let Some(count) = count_seats.pop() {
+                seats.push_reserved(Seat { chain, count });
+            }
+        }
+        seats.reverse();
+        let map = Map {
+            chain,
+            counter,
+            chain_seats,
+            count_seats,
+        };
+        Ok((map, seats))
+    }
+
     /// What the map has at a key. In the common case, where the key has its home slot in the top table, these are three loads.
     pub fn get(&self, seat: &mut Seat, key: Key) -> Option<Num>
         requires own { IsMine self.now seat.old }
@@ -170,5 +201,30 @@ impl Map {
     {
         laws::steps_add_up();
         self.chain.meet(&mut a.chain, &mut b.chain);
+    }
+
+    /// With all seats: what is left of the map. With another number of seats everything comes back, and the map works on.
+    pub fn finish(self, seats: Vec<Seat>) -> Result<Ended, NotAll<Map, Seat>>
+        requires own { AreMine self seats.items }
+        ensures all { (is_ok result ≡ true) ↔ (length seats.items ≡ self.chain.shape.seats) }
+        ensures ended { IfOk result (λ ended. EndedWith self.chain.shape seats.items ended) }
+        ensures back { IfErr result (λ given. (given.whole ≡ self) × (given.seats.items ≡ seats.items)) }
+    {
+        nb_core::laws::size_is_net();
+        nb_core::laws::few_keys();
+        if seats.len() != self.chain.shape().seats() {
+            return Err(NotAll { whole: self, seats });
+        }
+        let Map {
+            chain,
+            counter,
+            chain_seats,
+            count_seats,
+        } = self;
+        let (chain_seats, count_seats) = parted(seats, chain_seats, count_seats);
+        match (chain.close(chain_seats), counter.close(count_seats)) {
+            (Ok(closed), Ok(size)) => Ok(Ended { closed, size }),
+            _ => unreachable!(),
+        }
     }
 }

@@ -1,0 +1,75 @@
+//! What is left of a map when all its seats are gathered.
+ghost use Rattle.std.specs.Prelude.{◌≡◌, ◌≤◌, [], length, IfOk, vec_capacity};
+ghost use Rattle.std.specs.FinMap as map;
+ghost use Rattle.nb_table.specs.Left.{HoldsOfMap};
+ghost use Rattle.nb_map.specs.Ending.{IsParted};
+
+use crate::map::Seat;
+use nb_core::{Key, Num, OutOfMemory};
+use nb_count::CountSeat;
+use nb_table::{ChainSeat, Closed};
+use std::alloc::Global;
+use std::marker::Model;
+
+/// A map that no thread shares any more. Contracts see what is left of its tables, and what its seats counted.
+#[derive(Drop)]
+pub struct Ended {
+    pub(crate) closed: Closed,
+    pub(crate) size: u64,
+}
+
+impl Model for Ended {
+    ghost use Rattle.nb_map.specs.Ending.{EndedOf};
+
+    ghost Value = { EndedOf };
+
+    ghost use Rattle.nb_map.specs.Ending.{IsEnded, ended_of};
+
+    ghost view = { ended_of };
+
+    ghost invariant = { IsEnded };
+}
+
+impl Ended {
+    /// How many keys the map has. The seats have counted them: it is a stored number.
+    pub fn size(&self) -> u64
+        ensures counted { result ≡ self.now.size }
+        ensures keys { HoldsOfMap self.now.tables (λ m. result ≡ length (map.entries m)) }
+    {
+        self.size
+    }
+
+    /// The number that the map has at the key. It takes no memory.
+    pub fn get(&self, key: Key) -> Option<Num>
+        ensures { HoldsOfMap self.now.tables (λ m. result ≡ map.get m key) }
+    {
+        self.closed.get(key)
+    }
+
+    /// The map's keys with their numbers, ascending by key. It takes memory for a plain map of them and for the vector.
+    pub fn entries(&self, alloc: Global) -> Result<Vec<(Key, Num)>, OutOfMemory>
+        ensures { IfOk result (λ entries. HoldsOfMap self.now.tables (λ m. entries.items ≡ map.entries m)) }
+    {
+        self.closed.entries(alloc)
+    }
+}
+
+/// The seats of the chain and those of the counter, in vectors that have room for them.
+pub(crate) fn parted(
+    seats: Vec<Seat>,
+    chain_seats: Vec<ChainSeat>,
+    count_seats: Vec<CountSeat>,
+) -> (Vec<ChainSeat>, Vec<CountSeat>)
+    requires empty { (chain_seats.items ≡ []) × (count_seats.items ≡ []) }
+    requires room { (length seats.items ≤ vec_capacity chain_seats) × (length seats.items ≤ vec_capacity count_seats) }
+    ensures { IsParted seats.items result.0.items result.1.items }
+{
+    let mut chain_seats = chain_seats;
+    let mut count_seats = count_seats;
+    for seat in seats {
+        let Seat { chain, count } = seat;
+        chain_seats.push_reserved(chain);
+        count_seats.push_reserved(count);
+    }
+    (chain_seats, count_seats)
+}
