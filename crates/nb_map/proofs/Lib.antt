@@ -4,5 +4,7 @@ mod Claimed
 mod Counted
 mod Exchanged
 mod Made
+mod Parted
 mod Searched
+mod Sizes
 mod Written

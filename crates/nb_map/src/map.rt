@@ -212,6 +212,9 @@ impl Map {
     {
         nb_core::laws::size_is_net();
         nb_core::laws::few_keys();
+        nb_core::laws::stands();
+        nb_core::laws::map_in_range();
+        nb_core::laws::own_lasts();
         if seats.len() != self.chain.shape().seats() {
             return Err(NotAll { whole: self, seats });
         }
