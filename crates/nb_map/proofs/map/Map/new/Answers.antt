@@ -1,0 +1,74 @@
+use Rattle.std.proofs.Common.{◌∙◌, ap, sym, subst, arith}
+use Rattle.std.proofs.lemmas.List.{nil_from_length}
+use Rattle.nb_core.specs.Plans.{IsPlan}
+use Rattle.nb_count.specs.Counts as counts
+use Rattle.nb_table.specs.Chains as chains
+use Rattle.nb_map.specs.Maps.{seats_of}
+use Rattle.nb_map.proofs.Dealt.{dealing-as_many, dealing-counted, dealing-done, dealing-first, dealing-more}
+use Rattle.nb_map.proofs.map.Map.new.Goals as goal
+
+pub loop-chain-init : goal.loop-chain-init
+loop-chain-init c =
+    let p = c.args.shape in
+    let chains = c.in_ok-chain.ensures.seats ∙ ap (λ v. chains.seats_of v.id p 0 p.seats) (sym c.chain.view_is) in
+    let counts = c.in_ok-counter.ensures.seats ∙ ap (λ n. counts.seats_of c.in_ok-counter.counter.id 0 n) c.seats-2.ensures in
+    let shape = ap (λ v. v.shape) c.chain.view_is ∙ c.in_ok-chain.ensures.chain in
+    let d = dealing-first _ _ _ _ p shape chains counts c.in_ok-seats.ensures.items in
+    let many = dealing-as_many d in
+    let seats = ap (λ q. q.seats) shape in (
+      d,
+      omega (arith, many, seats, c.in_ok-seats.ensures.len, c.in_ok-chain.chain_seats.ok),
+      omega (arith, many, seats, c.in_ok-seats.ensures.len, c.in_ok-counter.count_seats.ok),
+      omega (arith, c.in_ok-seats.ensures.capacity, c.seats.ensures),
+    )
+
+pub invariant_of-push_reserved : goal.invariant_of-push_reserved
+invariant_of-push_reserved c = record {
+  counted = dealing-counted _ _ _ _ _ _ _ _ c.loop-chain.invariant.0 c.in-Some.ensures.items c.in-Some-pop.ensures.items;
+}
+
+pub push_reserved-requires : goal.push_reserved-requires
+push_reserved-requires c =
+    let many = dealing-as_many c.loop-chain.invariant.0 in
+    let shape = ap (λ v. v.shape.seats) c.chain.view_is ∙ ap (λ q. q.seats) c.in_ok-chain.ensures.chain in
+    omega (arith, many, shape, c.loop-chain.invariant, c.in-Some.ensures, c.pop.ensures)
+
+pub loop-chain-smaller-in-Some-pop : goal.loop-chain-smaller-in-Some-pop
+loop-chain-smaller-in-Some-pop c = omega (arith, c.in-Some.ensures.len)
+
+pub loop-chain-preserved-in-Some-pop : goal.loop-chain-preserved-in-Some-pop
+loop-chain-preserved-in-Some-pop c = (
+  dealing-more _ _ _ _ _ _ _ _ _ c.loop-chain.invariant.0 c.in-Some.ensures.items c.in-Some-pop.ensures.items c.push_reserved.ensures.items,
+  omega (arith, c.loop-chain.invariant, c.in-Some.ensures.capacity),
+  omega (arith, c.loop-chain.invariant, c.in-Some-pop.ensures.capacity),
+  omega (arith, c.loop-chain.invariant, c.push_reserved.ensures.capacity),
+)
+
+pub loop-chain-smaller : goal.loop-chain-smaller
+loop-chain-smaller c = omega (arith, c.in-Some.ensures.len)
+
+pub loop-chain-preserved : goal.loop-chain-preserved
+loop-chain-preserved c =
+    let many = dealing-as_many c.loop-chain.invariant.0 in
+    absurd (omega (arith, many, c.in-Some.ensures.len, c.in_default-pop.ensures))
+
+pub invariant_of-map : goal.invariant_of-map
+invariant_of-map c =
+    let none = nil_from_length c.loop-chain.chain_seats.items (omega (arith, c.in_default.ensures)) in
+    record {
+      plan = subst IsPlan (sym c.in_ok-chain.ensures.chain) c.known.ensures;
+      seats = c.in_ok-counter.ensures.counter.1 ∙ c.seats-2.ensures ∙ ap (λ q. q.seats) (sym c.in_ok-chain.ensures.chain);
+      chain_seats = nil_from_length c.pop.new.self.items (omega (arith, c.in_default.ensures));
+      count_seats = (dealing-done c.loop-chain.invariant.0 none).0;
+      chain_room =
+          omega (arith, ap (λ q. q.seats) c.in_ok-chain.ensures.chain, c.loop-chain.invariant, c.in_default.ensures.capacity);
+      count_room = omega (arith, ap (λ q. q.seats) c.in_ok-chain.ensures.chain, c.loop-chain.invariant);
+    }
+
+pub returns-clause-seats : goal.returns-clause-seats
+returns-clause-seats c =
+    let none = nil_from_length c.loop-chain.chain_seats.items (omega (arith, c.in_default.ensures)) in
+    let counter = c.in_ok-counter.counter in
+    c.reverse.ensures.items ∙ (dealing-done c.loop-chain.invariant.0 none).1
+    ∙ ap (λ chain. seats_of (record { chain = chain; counter = counter }) 0 chain.shape.seats) c.chain.view_is
+    ∙ ap (λ q. seats_of (record { chain = c.in_ok-chain.chain; counter = counter }) 0 q.seats) c.in_ok-chain.ensures.chain
