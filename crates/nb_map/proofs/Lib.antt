@@ -6,3 +6,4 @@ mod Exchanged
 mod Made
 mod Searched
 mod Written
+mod Waited

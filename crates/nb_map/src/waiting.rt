@@ -12,6 +12,7 @@ ghost use Rattle.nb_map.specs.Refusing.{IsJustAdd};
 use crate::map::{Map, Seat};
 use crate::write::PutFault;
 use nb_core::{Change, Key, Num, Reply, Want};
+use nb_table::laws;
 use std::sync::Wait;
 use thiserror::Error;
 
@@ -138,6 +139,8 @@ impl Map {
         ensures refused { IfErr result (λ fault. HasWaited self.now (call.Write key want.now change.now) seat.old seat.new []
             × IsJustAdd self.now.chain.shape (call.Write key want.now change.now) seat.new.chain fault) }
     {
+        laws::steps_add_up();
+        self.known(seat);
         for _ in rt.forever() {
             match self.put_if_match(seat, key, *want, *change, u32::MAX) {
                 Ok(reply) => return Ok(reply),
