@@ -1,11 +1,10 @@
 -- What the tries of a write that waits add up to.
-use Rattle.std.proofs.Common.{◌≡◌, ◌∙◌, ◌+◌, ℕ, List, [], ◌++◌, refl, subst, sym}
+use Rattle.std.proofs.Common.{◌∙◌, ◌+◌, List, [], ◌++◌, refl}
 use Rattle.nb_core.specs.History.{IsLegal}
 use Rattle.nb_core.specs.Plans.{IsPlan}
 use Rattle.nb_core.specs.declared.calls.Call.{Call}
 use Rattle.nb_core.specs.declared.calls.Reply.{Reply}
 use Rattle.nb_table.specs.Laws.{StepsAddUp}
-use Rattle.nb_map.specs.Calling.{HasMade}
 use Rattle.nb_map.specs.Maps.{HasWaited, IsMine, MapOf, SeatOf}
 use Rattle.nb_map.proofs.Made.{made-more, made-none, made-own}
 

@@ -1,6 +1,4 @@
-use Rattle.std.proofs.Common.{subst}
 use Rattle.nb_core.specs.declared.calls.Call.TheVariants as call
-use Rattle.nb_map.specs.Refusing.{IsJust}
 use Rattle.nb_map.proofs.Waited.{waited-mine, waited-more, waited-none}
 use Rattle.nb_map.proofs.map.Map.write.Goals as goal
 
@@ -21,21 +19,17 @@ pub loop-preserved : goal.loop-preserved
 loop-preserved g c =
     let law = c.steps_add_up.ensures in
     let plan = c.known.ensures.plan in
-    let tried = waited-more law c.args.self.now plan c.requires.own c.loop.invariant.3 (_, c.in-Err.ensures.refused.0) in
+    let tried = waited-more law c.args.self.now plan c.requires.own c.loop.invariant.3 (_, c.in-Err-Contended.ensures.refused.0) in
     (tt, tt, waited-mine law c.args.self.now plan c.requires.own tried, tried)
 
-pub returns-in-Full-clause-refused : goal.returns-in-Full-clause-refused
-returns-in-Full-clause-refused g c = (
-  waited-more c.steps_add_up.ensures c.args.self.now c.known.ensures.plan c.requires.own c.loop.invariant.3 (_, c.in-Err.ensures.refused.0),
-  subst
-      (IsJust c.args.self.now.chain.shape (call.Write c.args.key c.args.want.now c.args.change.now) c.loop.seat.chain c.put_if_match.new.seat.chain _)
-      c.in-Full.is c.in-Err.ensures.refused.1,
+pub returns-in-Err-Full-clause-refused : goal.returns-in-Err-Full-clause-refused
+returns-in-Err-Full-clause-refused g c = (
+  waited-more c.steps_add_up.ensures c.args.self.now c.known.ensures.plan c.requires.own c.loop.invariant.3 (_, c.in-Err-Full.ensures.refused.0),
+  rw c.in-Err-Full.field-0-is at c.in-Err-Full.ensures.refused.1,
 )
 
-pub returns-in-ValueRange-clause-refused : goal.returns-in-ValueRange-clause-refused
-returns-in-ValueRange-clause-refused g c = (
-  waited-more c.steps_add_up.ensures c.args.self.now c.known.ensures.plan c.requires.own c.loop.invariant.3 (_, c.in-Err.ensures.refused.0),
-  subst
-      (IsJust c.args.self.now.chain.shape (call.Write c.args.key c.args.want.now c.args.change.now) c.loop.seat.chain c.put_if_match.new.seat.chain _)
-      c.in-ValueRange.is c.in-Err.ensures.refused.1,
+pub returns-in-Err-ValueRange-clause-refused : goal.returns-in-Err-ValueRange-clause-refused
+returns-in-Err-ValueRange-clause-refused g c = (
+  waited-more c.steps_add_up.ensures c.args.self.now c.known.ensures.plan c.requires.own c.loop.invariant.3 (_, c.in-Err-ValueRange.ensures.refused.0),
+  rw c.in-Err-ValueRange.field-0-is at c.in-Err-ValueRange.ensures.refused.1,
 )
