@@ -9,3 +9,4 @@ mod Parted
 mod Searched
 mod Sizes
 mod Written
+mod Waited

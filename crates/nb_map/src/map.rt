@@ -1,6 +1,8 @@
 //! The map and its seats.
 ghost use Rattle.std.specs.Prelude.{◌≡◌, ◌<◌, ◌≤◌, ◌+ℤ◌, ◌↔◌, ℕ, pos, IfOk, IfErr, is_ok, is_some, true, if◌then◌else◌, Option, [], ◌∷◌, length};
+ghost use Rattle.nb_core.specs.History.{IsLegal};
 ghost use Rattle.nb_core.specs.Meaning.{net_of_change};
+ghost use Rattle.nb_core.specs.Plans.{IsPlan};
 ghost use Rattle.nb_core.specs.Tables.{IsComplete};
 ghost use Rattle.nb_core.specs.declared.calls.Call.TheVariants as call;
 ghost use Rattle.nb_count.specs.Counts.{with_looks};
@@ -140,6 +142,15 @@ impl Map {
             }
             Err(fault) => Err(fault),
         }
+    }
+
+    /// Reminds a proof of what the map's shape may be, and that what the seat has seen is a legal history. It does nothing.
+    pub(crate) fn known(&self, seat: &Seat)
+        ensures plan { IsPlan self.now.chain.shape }
+        ensures legal { IsLegal seat.now.chain.shape seat.now.chain.seen }
+    {
+        self.chain.shape().known();
+        seat.chain.known();
     }
 
     /// Counts what a write with this change and reply did to the number of keys.
