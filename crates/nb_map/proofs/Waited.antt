@@ -8,11 +8,12 @@ use Rattle.nb_table.specs.Laws.{StepsAddUp}
 use Rattle.nb_map.specs.Maps.{HasWaited, IsMine, MapOf, SeatOf}
 use Rattle.nb_map.proofs.Made.{made-more, made-none, made-own}
 
-module _ (law : StepsAddUp) (map : MapOf) (plan : IsPlan map.chain.shape) where
-  -- no try
-  pub waited-none : (call : Call) (seat : SeatOf) → IsLegal seat.chain.shape seat.chain.seen → HasWaited map call seat seat []
-  waited-none call seat legal = (0, record { counter = refl; steps = made-none law map.chain.shape call seat.chain legal })
+-- no try
+pub waited-none :
+    StepsAddUp → (map : MapOf) (call : Call) (seat : SeatOf) → IsLegal seat.chain.shape seat.chain.seen → HasWaited map call seat seat []
+waited-none law map call seat legal = (0, record { counter = refl; steps = made-none law map.chain.shape call seat.chain legal })
 
+module _ (law : StepsAddUp) (map : MapOf) (plan : IsPlan map.chain.shape) where
   -- the seat is the map's after them
   pub waited-mine :
       {call : Call} {before after : SeatOf} {made : List (Call × Reply)} → IsMine map before → HasWaited map call before after made

@@ -7,7 +7,7 @@ loop-init g c = (
   tt,
   tt,
   c.requires.own,
-  waited-none c.steps_add_up.ensures c.args.self.now c.known.ensures.plan (call.Write c.args.key c.args.want.now c.args.change.now) c.args.seat.now
+  waited-none c.steps_add_up.ensures c.args.self.now (call.Write c.args.key c.args.want.now c.args.change.now) c.args.seat.now
       c.known.ensures.legal,
 )
 
