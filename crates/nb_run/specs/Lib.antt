@@ -5,3 +5,5 @@ pub mod Runs
 pub mod Script
 pub mod Serving
 pub mod Text
+pub mod Told
+pub mod Working
