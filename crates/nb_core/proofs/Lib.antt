@@ -22,6 +22,7 @@ mod Passing
 mod Paths
 mod Places
 mod Refused
+mod Replayed
 mod Replies
 mod Replying
 mod Rising

@@ -73,7 +73,7 @@ after_win-exchange m k Remove a b e = ap (after_win m k) e.0
 after_win-exchange m k _ a b e = ap (after_win m k) e.0
 
 -- where the map has at the key what an exchange replaces, the exchange leaves the map that its call leaves
-after_win-call :
+pub after_win-call :
     (m : Numbers) (c : Call) (k : ℕ) (a b : ValueState) → get m (key_of_call c) ≡ content_of a → IsExchange c k a b
     → after_win m (key_of_call c) b ≡ map_after c m
 after_win-call m (call.Get key) k a b at e = absurd e

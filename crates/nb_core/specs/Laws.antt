@@ -6,7 +6,7 @@ use Rattle.nb_core.specs.Plans.{Plan, IsPlan, generations_of, header_place, size
 use Rattle.nb_core.specs.States.{IsKeyState, IsValueState, value_state, value_word}
 use Rattle.nb_core.specs.Tables.{AreOthers, HasSlot, IsComplete, IsFinished, IsFinishedValue, IsInstalled, IsReady, IsSettledBelow, IsSlot, IsUnprimed, Tables, is_finished_value, path_slot, tables_at, words_of}
 use Rattle.nb_core.specs.History.{HasValue, IsLegal, MayWin, Replies, content_of, counted_by, key_of_call, map_of, seat_of_event, turned_by, turns_slot}
-use Rattle.nb_core.specs.Meaning.{IsCrowded, Stands, calls_of, net_of, passed_over, place_of}
+use Rattle.nb_core.specs.Meaning.{AreReplies, IsCrowded, Stands, all_calls, calls_of, map_of_calls, net_of, passed_over, place_of}
 use Rattle.nb_core.specs.declared.numbers.TheConstants.{KEY_MAX, VALUE_MAX}
 use Rattle.nb_core.specs.declared.calls.Call.{Call}
 use Rattle.nb_core.specs.declared.calls.Call.TheVariants as call
@@ -227,6 +227,20 @@ net_of_seats h (suc n) = net_of (calls_of h n) +ℤ net_of_seats h n
 -- What all seats' calls added, less what they took out, is the number of keys.
 abbrev pub SizeIsNet : Type 0
 SizeIsNet = (p : Plan) → IsPlan p → (h : List Event) → IsLegal p h → net_of_seats h p.seats ≡ pos (length (map.entries (map_of h)))
+
+-- ---- the calls, one after another
+
+-- A history's calls, one after another, reply as the plain map does, and leave the history's map.
+pub record AreReplayed (h : List Event) : Type 0 where
+  pub map : map_of h ≡ map_of_calls (all_calls h)
+  pub replies : AreReplies (all_calls h)
+
+abbrev pub CallsReplayed : Type 0
+CallsReplayed = (p : Plan) → IsPlan p → (h : List Event) → IsLegal p h → AreReplayed h
+
+-- Where there is one seat, all calls are its own.
+abbrev pub LoneSeat : Type 0
+LoneSeat = (p : Plan) → p.seats ≡ 1 → (h : List Event) → IsLegal p h → all_calls h ≡ calls_of h 0
 
 -- ---- what a seat may rely on
 

@@ -1,7 +1,7 @@
 -- What the tables of a moment stand for, and what a history says of calls and keys.
 use Rattle.std.specs.Prelude.{◌≡◌, ℕ, ℤ, pos, suc, zero, ◌-◌, ◌+ℤ◌, ◌-ℤ◌, ◌<◌, ◌≤◌, ◌⊎◌, ◌==◌, ◌&&◌, not, Bool, true, false, if◌then◌else◌, IsTrue, List, [], ◌∷◌, length, take, drop, count_by, Option, Some, None, option_map}
 use Rattle.std.specs.FinMap as map
-use Rattle.nb_core.specs.Calls.{Numbers}
+use Rattle.nb_core.specs.Calls.{Numbers, map_after, reply_of}
 use Rattle.nb_core.specs.Plans.{Plan, generations_of, size_of}
 use Rattle.nb_core.specs.Tables.{IsOther, Tables, tables_at, tables_of}
 use Rattle.nb_core.specs.History.{key_of_call, map_of}
@@ -78,6 +78,23 @@ calls_of [] s = []
 calls_of (Won s' g i a b c r ∷ h) s = if s' == s then (c, r) ∷ calls_of h s else calls_of h s
 calls_of (Read s' c r ∷ h) s = if s' == s then (c, r) ∷ calls_of h s else calls_of h s
 calls_of (_ ∷ h) s = calls_of h s
+
+-- all calls of a history with their replies, the newest first
+abbrev pub all_calls : List Event → List (Call × Reply)
+all_calls [] = []
+all_calls (Won s g i a b c r ∷ h) = (c, r) ∷ all_calls h
+all_calls (Read s c r ∷ h) = (c, r) ∷ all_calls h
+all_calls (_ ∷ h) = all_calls h
+
+-- the map that calls leave of the empty one
+abbrev pub map_of_calls : List (Call × Reply) → Numbers
+map_of_calls [] = map.empty
+map_of_calls (c ∷ calls) = map_after c.0 (map_of_calls calls)
+
+-- each call replied as the map does that the calls before it left
+abbrev pub AreReplies : List (Call × Reply) → Type 0
+AreReplies [] = Unit {0}
+AreReplies (c ∷ calls) = (c.1 ≡ reply_of c.0 (map_of_calls calls)) × AreReplies calls
 
 -- what a call did to the number of keys
 abbrev pub net_of_change : Change → Option ℕ → ℤ

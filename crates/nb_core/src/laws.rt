@@ -1,7 +1,7 @@
 //! The laws of every shape and of every legal history, which say what holds at each moment, whatever atomic steps were made
 //! by whom. Each function carries a law as its contract and does nothing when it runs: a call of it hands the law to the
 //! proof of its caller.
-ghost use Rattle.nb_core.specs.Laws.{BeginningsAreLegal, ClaimedOnPath, Codings, CompletePassed, ContentOnce, CountedOnce, CrowdedAbsent, Decided, FewKeys, HasOneSlot, HeldHasPlace, InstalledAfter, LawfulChanges, LawfulWords, LostExchange, MapInRange, Moved, OnePlace, OwnLasts, PassedAbove, PassedOverAdds, PassedSettled, PathsAreDistinct, PlaceIs, ReadReplies, Room, SeenLasts, SizeIsNet, SlotsStay, TablesAreLinked, TablesStand, TopComplete, WholeCrowded, WinNumber, WinReplies};
+ghost use Rattle.nb_core.specs.Laws.{BeginningsAreLegal, CallsReplayed, ClaimedOnPath, Codings, CompletePassed, ContentOnce, CountedOnce, CrowdedAbsent, Decided, FewKeys, HasOneSlot, HeldHasPlace, InstalledAfter, LawfulChanges, LawfulWords, LoneSeat, LostExchange, MapInRange, Moved, OnePlace, OwnLasts, PassedAbove, PassedOverAdds, PassedSettled, PathsAreDistinct, PlaceIs, ReadReplies, Room, SeenLasts, SizeIsNet, SlotsStay, TablesAreLinked, TablesStand, TopComplete, WholeCrowded, WinNumber, WinReplies};
 ghost use Rattle.nb_core.specs.Plans.{LimitsFit, PlacesAreDistinct, SizesNeverFall};
 
 /// No two words of a chain lie in one place, and each lies in the chain.
@@ -91,6 +91,17 @@ pub fn one_place()
 /// What the calls of all seats added, less what they took out, is the number of the map's keys.
 pub fn size_is_net()
     ensures { SizeIsNet }
+{}
+
+/// The calls of all seats, one after another in the order of their steps, reply as a plain map does that is empty at first,
+/// and leave the history's map.
+pub fn calls_replayed()
+    ensures { CallsReplayed }
+{}
+
+/// Where there is one seat, all calls are its own.
+pub fn lone_seat()
+    ensures { LoneSeat }
 {}
 
 /// Each beginning of a legal history is legal.
