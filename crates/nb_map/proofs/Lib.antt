@@ -5,5 +5,8 @@ mod Counted
 mod Dealt
 mod Exchanged
 mod Made
+mod Parted
 mod Searched
+mod Sizes
 mod Written
+mod Waited

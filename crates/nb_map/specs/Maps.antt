@@ -1,5 +1,5 @@
 -- How contracts see a map and its seats.
-use Rattle.std.specs.Prelude.{◌≡◌, ℕ, zero, suc, pos, List, [], ◌∷◌, All}
+use Rattle.std.specs.Prelude.{◌≡◌, ℕ, zero, suc, pos, Bool, List, [], ◌∷◌, All, Option}
 use Rattle.nb_core.specs.declared.calls.Call.{Call}
 use Rattle.nb_core.specs.declared.calls.Reply.{Reply}
 use Rattle.nb_count.specs.Counts.{Counted, Counting}
@@ -47,6 +47,14 @@ pub record HasCalled (map : MapOf) (call : Call) (before after : SeatOf) (made :
 abbrev pub HasWaited : MapOf → Call → (before after : SeatOf) → List (Call × Reply) → Type 0
 HasWaited map call before after made = (most : ℕ) × HasCalled map call before after made most
 
--- The seat has made this one call, in however many steps, and this is so of its reply.
-abbrev pub HasReplied : MapOf → Call → (before after : SeatOf) → (Reply → Type 0) → Type 0
-HasReplied map call before after P = (reply : Reply) × P reply × HasWaited map call before after ((call, reply) ∷ [])
+-- It has made this one call, with this reply.
+abbrev pub HasReplied : MapOf → Call → (before after : SeatOf) → Reply → Type 0
+HasReplied map call before after reply = HasWaited map call before after ((call, reply) ∷ [])
+
+-- It has made this one call, which found this number at its key, or none.
+abbrev pub HasFound : MapOf → Call → (before after : SeatOf) → Option ℕ → Type 0
+HasFound map call before after number = (reply : Reply) × (reply.before ≡ number) × HasReplied map call before after reply
+
+-- It has made this one call, and this is whether its condition held.
+abbrev pub HasMatched : MapOf → Call → (before after : SeatOf) → Bool → Type 0
+HasMatched map call before after matched = (reply : Reply) × (reply.matched ≡ matched) × HasReplied map call before after reply

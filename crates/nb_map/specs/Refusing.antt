@@ -1,14 +1,14 @@
 -- What a write comes to, and when it is refused.
-use Rattle.std.specs.Prelude.{◌≡◌, ℕ, suc, ◌+◌, ◌-◌, ◌*◌, ◌<◌, ◌≤◌, true, false, List, [], ◌∷◌, None}
+use Rattle.std.specs.Prelude.{◌≡◌, ℕ, suc, ◌+◌, ◌-◌, ◌*◌, ◌≤◌, true, false, List, [], ◌∷◌, None}
 use Rattle.nb_core.specs.Calls.{leaves_alone, overflows}
 use Rattle.nb_core.specs.History.{key_of_call, map_of}
 use Rattle.nb_core.specs.Meaning.{IsCrowded}
 use Rattle.nb_core.specs.Plans.{Plan, generations_of, size_of}
 use Rattle.nb_core.specs.declared.calls.Call.{Call}
 use Rattle.nb_core.specs.declared.calls.Reply.{Reply}
-use Rattle.nb_core.specs.declared.states.KeyState.TheVariants.{Claimed}
 use Rattle.nb_table.specs.Chains.{SeenBy, seen_by}
-use Rattle.nb_map.specs.Searching.{IsAbove, slots_below}
+use Rattle.nb_map.specs.Maps.{HasWaited, MapOf, SeatOf}
+use Rattle.nb_map.specs.Searching.{IsAbove, IsSlotOf, slots_below}
 use Rattle.nb_map.specs.Writing.{HasBelow, exchange_steps, find_steps, passed_since}
 use Rattle.nb_map.specs.declared.waiting.AddFault.{AddFault}
 use Rattle.nb_map.specs.declared.waiting.AddFault.TheVariants as add_fault
@@ -32,11 +32,15 @@ abbrev pub IsJustAdd : Plan → Call → SeenBy → AddFault → Type 0
 IsJustAdd p call after add_fault.Full = (leaves_alone call None ≡ false) × IsCrowded p after.seen (key_of_call call)
 IsJustAdd p call after add_fault.ValueRange = overflows call (map_of after.seen) ≡ true
 
+-- the seat has made no call, in however many steps, and the refusal is just
+abbrev pub HasRefused : MapOf → Call → (before after : SeatOf) → AddFault → Type 0
+HasRefused map call before after fault = HasWaited map call before after [] × IsJustAdd map.chain.shape call after.chain fault
+
 -- ---- in one table
 
 -- what the seat has seen where a write has to look there next
 abbrev pub IsTarget : Plan → Call → SeenBy → (g k : ℕ) → Target → Type 0
-IsTarget p call seat g k (target.Slot i) = (i < size_of p g) × ((seen_by seat).key g i ≡ Claimed k)
+IsTarget p call seat g k (target.Slot i) = IsSlotOf p (seen_by seat) g i k
 IsTarget p call seat g k (target.Absent reply) = Unit {0}
 IsTarget p call seat g k (target.Above below) = IsAbove p (seen_by seat) g k × HasBelow p (seen_by seat) (suc g) k below
 IsTarget p call seat g k target.Full = (leaves_alone call None ≡ false) × IsCrowded p seat.seen k

@@ -17,9 +17,13 @@ use Rattle.nb_map.specs.declared.search.Sought.TheVariants as sought
 abbrev pub IsAbove : Plan → Tables → (g k : ℕ) → Type 0
 IsAbove p t g k = IsPassed p t g k × IsInstalled t (suc g)
 
+-- this slot of the table is the key's
+abbrev pub IsSlotOf : Plan → Tables → (g i k : ℕ) → Type 0
+IsSlotOf p t g i k = (i < size_of p g) × (t.key g i ≡ Claimed k)
+
 -- the tables show that a walk along the key's path in this table ends here
 abbrev pub EndsAt : Plan → Tables → (g k : ℕ) → Place → Type 0
-EndsAt p t g k (place.Slot i) = (i < size_of p g) × (t.key g i ≡ Claimed k)
+EndsAt p t g k (place.Slot i) = IsSlotOf p t g i k
 EndsAt p t g k (place.Empty d) = (d < size_of p g) × AreOthers p t g k d × (t.key g (path_slot p g k d) ≡ Empty)
 EndsAt p t g k place.Closed = IsAbove p t g k
 EndsAt p t g k place.Whole = AreOthers p t g k (size_of p g)
@@ -40,7 +44,7 @@ walk_steps p g from place.Whole = size_of p g - from
 
 -- the tables show what a search in this table came to
 abbrev pub IsSought : Plan → Tables → (g k : ℕ) → Sought → Type 0
-IsSought p t g k (sought.Slot i) = (i < size_of p g) × (t.key g i ≡ Claimed k)
+IsSought p t g k (sought.Slot i) = IsSlotOf p t g i k
 IsSought p t g k sought.Absent = Unit {0}
 IsSought p t g k sought.Above = IsAbove p t g k
 

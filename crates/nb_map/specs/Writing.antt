@@ -1,5 +1,5 @@
 -- What a write does in one table, and when it is refused.
-use Rattle.std.specs.Prelude.{◌≡◌, ℕ, zero, suc, ◌+◌, ◌-◌, ◌*◌, ◌<◌, ◌≤◌, true, false, List, [], ◌∷◌, length, Option}
+use Rattle.std.specs.Prelude.{◌≡◌, ℕ, zero, suc, ◌+◌, ◌-◌, ◌*◌, ◌≤◌, true, false, List, [], ◌∷◌, length, Option}
 use Rattle.std.specs.FinMap as map
 use Rattle.nb_core.specs.Calls.{Numbers, leaves_alone, overflows}
 use Rattle.nb_core.specs.History.{IsExchange, content_of, key_of_call, map_of}
@@ -9,11 +9,10 @@ use Rattle.nb_core.specs.Plans.{Plan, size_of}
 use Rattle.nb_core.specs.Tables.{HasSlot, HasSlotBelow, IsReady, IsUnprimed, Tables}
 use Rattle.nb_core.specs.declared.calls.Call.{Call}
 use Rattle.nb_core.specs.declared.calls.Reply.{Reply}
-use Rattle.nb_core.specs.declared.states.KeyState.TheVariants.{Claimed}
 use Rattle.nb_core.specs.declared.states.ValueState.{ValueState}
 use Rattle.nb_table.specs.Chains.{SeenBy, seen_by}
 use Rattle.nb_copy.specs.Handing.{table_steps}
-use Rattle.nb_map.specs.Searching.{IsAbove, pass_steps}
+use Rattle.nb_map.specs.Searching.{IsAbove, IsSlotOf, pass_steps}
 use Rattle.nb_map.specs.declared.decide.Decision.{Decision}
 use Rattle.nb_map.specs.declared.decide.Decision.TheVariants as decision
 use Rattle.nb_map.specs.declared.claim.Below.{Below}
@@ -47,7 +46,7 @@ HasBelow p t g k below.Passed = Unit {0}
 -- what the seat has seen where a call that puts a number at an absent key came to this: the key has this slot; or the call
 -- goes on in the next table; or other keys have all slots of the last table
 abbrev pub IsFound : Plan → SeenBy → (g k : ℕ) → Found → Type 0
-IsFound p seat g k (found.Slot i) = (i < size_of p g) × ((seen_by seat).key g i ≡ Claimed k)
+IsFound p seat g k (found.Slot i) = IsSlotOf p (seen_by seat) g i k
 IsFound p seat g k (found.Above below) = IsAbove p (seen_by seat) g k × HasBelow p (seen_by seat) (suc g) k below
 IsFound p seat g k found.Full = IsCrowded p seat.seen k
 

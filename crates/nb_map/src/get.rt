@@ -1,15 +1,13 @@
 //! Reading a key.
-ghost use Rattle.std.specs.Prelude.{◌≡◌, ◌+◌, [], true, Some, None, IfSome, IfNone};
-ghost use Rattle.nb_core.specs.Laws.{IsPassed};
-ghost use Rattle.nb_core.specs.Plans.{generations_of, size_of};
-ghost use Rattle.nb_core.specs.Tables.{IsSlot, IsUnprimed};
+ghost use Rattle.std.specs.Prelude.{◌≡◌, ◌+◌};
+ghost use Rattle.nb_core.specs.Tables.{IsSlot};
 ghost use Rattle.nb_core.specs.declared.calls.Call.TheVariants as call;
 ghost use Rattle.nb_core.specs.declared.states.KeyState.TheVariants as key_is;
 ghost use Rattle.nb_table.specs.Chains.{IsOwn, seen_by};
 ghost use Rattle.nb_table.specs.Conditions.{IsReached};
 ghost use Rattle.nb_map.specs.Calling.{HasMade, replied};
 ghost use Rattle.nb_map.specs.Looking.{IsLook, get_steps, look_steps, read_by};
-ghost use Rattle.nb_map.specs.Searching.{IsAbove, pass_steps};
+ghost use Rattle.nb_map.specs.Searching.{pass_steps};
 
 use crate::search::{Sought, pass_slot, seek};
 use nb_core::{Call, Key, Num, ValueState};

@@ -1,6 +1,8 @@
 //! The map and its seats.
 ghost use Rattle.std.specs.Prelude.{◌≡◌, ◌<◌, ◌≤◌, ◌+ℤ◌, ◌↔◌, ℕ, pos, IfOk, IfErr, is_ok, is_some, true, if◌then◌else◌, Option, [], ◌∷◌, length};
+ghost use Rattle.nb_core.specs.History.{IsLegal};
 ghost use Rattle.nb_core.specs.Meaning.{net_of_change};
+ghost use Rattle.nb_core.specs.Plans.{IsPlan};
 ghost use Rattle.nb_core.specs.Tables.{IsComplete};
 ghost use Rattle.nb_core.specs.declared.calls.Call.TheVariants as call;
 ghost use Rattle.nb_count.specs.Counts.{with_looks};
@@ -142,6 +144,15 @@ impl Map {
         }
     }
 
+    /// Reminds a proof of what the map's shape may be, and that what the seat has seen is a legal history. It does nothing.
+    pub(crate) fn known(&self, seat: &Seat)
+        ensures plan { IsPlan self.now.chain.shape }
+        ensures legal { IsLegal seat.now.chain.shape seat.now.chain.seen }
+    {
+        self.chain.shape().known();
+        seat.chain.known();
+    }
+
     /// Counts what a write with this change and reply did to the number of keys.
     fn count(&self, seat: &mut CountSeat, change: &Change, reply: &Reply)
         requires own { seat.old.counter ≡ self.now.counter.id }
@@ -212,6 +223,9 @@ impl Map {
     {
         nb_core::laws::size_is_net();
         nb_core::laws::few_keys();
+        nb_core::laws::stands();
+        nb_core::laws::map_in_range();
+        nb_core::laws::own_lasts();
         if seats.len() != self.chain.shape().seats() {
             return Err(NotAll { whole: self, seats });
         }

@@ -1,5 +1,4 @@
 //! What happens before an exchange.
-ghost use Rattle.std.specs.Prelude.{IsTrue};
 ghost use Rattle.nb_table.specs.Chains.{ChainOf};
 
 use nb_table::Chain;

@@ -1,8 +1,8 @@
 //! The search for a key in one table.
-ghost use Rattle.std.specs.Prelude.{◌≡◌, ◌+◌, ◌-◌, ◌<◌, ◌≤◌, ◌⊎◌, [], true, false, None};
+ghost use Rattle.std.specs.Prelude.{◌≡◌, ◌+◌, ◌-◌, ◌≤◌, ◌⊎◌, [], true, false, None};
 ghost use Rattle.nb_core.specs.Calls.{leaves_alone};
 ghost use Rattle.nb_core.specs.History.{key_of_call};
-ghost use Rattle.nb_core.specs.Plans.{generations_of, size_of};
+ghost use Rattle.nb_core.specs.Plans.{size_of};
 ghost use Rattle.nb_core.specs.Tables.{AreOthers, IsSlot, IsUnprimed};
 ghost use Rattle.nb_core.specs.declared.states.KeyState.TheVariants as key_is;
 ghost use Rattle.nb_table.specs.Chains.{IsOwn, seen_by};

@@ -1,17 +1,17 @@
 //! The calls of `ConcurrentMap`, each of which is one conditional write. They try again while other seats' writes of the key
 //! come first, for as long as that may be, so they wait. Each tells in the end just one call, or none if it is refused.
-ghost use Rattle.std.specs.Prelude.{◌≡◌, [], ◌∷◌, false, true, None, IfOk, IfErr};
+ghost use Rattle.std.specs.Prelude.{◌≡◌, false, true, None, IfOk, IfErr};
 ghost use Rattle.nb_core.specs.Calls.{Numbers, leaves_alone, overflows};
-ghost use Rattle.nb_core.specs.Meaning.{IsCrowded};
 ghost use Rattle.nb_core.specs.declared.calls.Call.TheVariants as call;
 ghost use Rattle.nb_core.specs.declared.calls.Change.TheVariants as change;
 ghost use Rattle.nb_core.specs.declared.calls.Want.TheVariants as want;
-ghost use Rattle.nb_map.specs.Maps.{HasReplied, HasWaited, IsMine};
-ghost use Rattle.nb_map.specs.Refusing.{IsJustAdd};
+ghost use Rattle.nb_map.specs.Maps.{HasFound, HasMatched, HasReplied, IsMine};
+ghost use Rattle.nb_map.specs.Refusing.{HasRefused};
 
 use crate::map::{Map, Seat};
 use crate::write::PutFault;
 use nb_core::{Change, Key, Num, Reply, Want};
+use nb_table::laws;
 use std::sync::Wait;
 use thiserror::Error;
 
@@ -33,23 +33,33 @@ pub enum AddFault {
 
 impl Map {
     /// Puts a number at a key, and answers what was there. `ConcurrentMap.put`.
-    pub fn put<R: Wait>(&self, rt: &R, seat: &mut Seat, key: Key, number: Num) -> Result<Option<Num>, Full>
+    pub fn put<R: Wait>(
+        &self,
+        rt: &R,
+        seat: &mut Seat,
+        key: Key,
+        number: Num,
+    ) -> Result<Option<Num>, Full>
         requires own { IsMine self.now seat.old }
-        ensures replied { IfOk result (λ before. HasReplied self.now (call.Write key want.Any (change.Put number)) seat.old seat.new
-            (λ reply. reply.before ≡ before)) }
-        ensures full { IfErr result (λ fault. HasWaited self.now (call.Write key want.Any (change.Put number)) seat.old seat.new []
-            × IsCrowded self.now.chain.shape seat.new.chain.seen key) }
+        ensures found { IfOk result (HasFound self.now (call.Write key want.Any (change.Put number)) seat.old seat.new) }
+        ensures full { IfErr result (λ fault. HasRefused self.now (call.Write key want.Any (change.Put number)) seat.old seat.new
+            AddFault.Full) }
     {
         Ok(self.put_where(rt, seat, key, Want::Any, number)?.before)
     }
 
     /// Puts a number at a key that has none, and answers what was there. `ConcurrentMap.putIfAbsent`.
-    pub fn put_if_absent<R: Wait>(&self, rt: &R, seat: &mut Seat, key: Key, number: Num) -> Result<Option<Num>, Full>
+    pub fn put_if_absent<R: Wait>(
+        &self,
+        rt: &R,
+        seat: &mut Seat,
+        key: Key,
+        number: Num,
+    ) -> Result<Option<Num>, Full>
         requires own { IsMine self.now seat.old }
-        ensures replied { IfOk result (λ before. HasReplied self.now (call.Write key want.Absent (change.Put number)) seat.old seat.new
-            (λ reply. reply.before ≡ before)) }
-        ensures full { IfErr result (λ fault. HasWaited self.now (call.Write key want.Absent (change.Put number)) seat.old seat.new []
-            × IsCrowded self.now.chain.shape seat.new.chain.seen key) }
+        ensures found { IfOk result (HasFound self.now (call.Write key want.Absent (change.Put number)) seat.old seat.new) }
+        ensures full { IfErr result (λ fault. HasRefused self.now (call.Write key want.Absent (change.Put number)) seat.old seat.new
+            AddFault.Full) }
     {
         Ok(self.put_where(rt, seat, key, Want::Absent, number)?.before)
     }
@@ -57,59 +67,69 @@ impl Map {
     /// Puts a number in place of another, and answers what was there. `ConcurrentMap.replace` of two arguments.
     pub fn replace<R: Wait>(&self, rt: &R, seat: &mut Seat, key: Key, number: Num) -> Option<Num>
         requires own { IsMine self.now seat.old }
-        ensures { HasReplied self.now (call.Write key want.Present (change.Put number)) seat.old seat.new
-            (λ reply. reply.before ≡ result) }
+        ensures { HasFound self.now (call.Write key want.Present (change.Put number)) seat.old seat.new result }
     {
-        self.change_where(rt, seat, key, Want::Present, Change::Put(number)).before
+        self.change_where(rt, seat, key, Want::Present, Change::Put(number))
+            .before
     }
 
     /// Puts a number in place of this one, and answers whether it did. `ConcurrentMap.replace` of three arguments.
     pub fn replace_if<R: Wait>(&self, rt: &R, seat: &mut Seat, key: Key, old: Num, new: Num) -> bool
         requires own { IsMine self.now seat.old }
-        ensures { HasReplied self.now (call.Write key (want.Equal old) (change.Put new)) seat.old seat.new
-            (λ reply. reply.matched ≡ result) }
+        ensures { HasMatched self.now (call.Write key (want.Equal old) (change.Put new)) seat.old seat.new result }
     {
-        self.change_where(rt, seat, key, Want::Equal(old), Change::Put(new)).matched
+        self.change_where(rt, seat, key, Want::Equal(old), Change::Put(new))
+            .matched
     }
 
     /// Takes out a key, and answers what was there. `ConcurrentMap.remove` of one argument.
     pub fn remove<R: Wait>(&self, rt: &R, seat: &mut Seat, key: Key) -> Option<Num>
         requires own { IsMine self.now seat.old }
-        ensures { HasReplied self.now (call.Write key want.Any change.Remove) seat.old seat.new (λ reply. reply.before ≡ result) }
+        ensures { HasFound self.now (call.Write key want.Any change.Remove) seat.old seat.new result }
     {
-        self.change_where(rt, seat, key, Want::Any, Change::Remove).before
+        self.change_where(rt, seat, key, Want::Any, Change::Remove)
+            .before
     }
 
     /// Takes out a key that has this number, and answers whether it did. `ConcurrentMap.remove` of two arguments.
     pub fn remove_if<R: Wait>(&self, rt: &R, seat: &mut Seat, key: Key, number: Num) -> bool
         requires own { IsMine self.now seat.old }
-        ensures { HasReplied self.now (call.Write key (want.Equal number) change.Remove) seat.old seat.new
-            (λ reply. reply.matched ≡ result) }
+        ensures { HasMatched self.now (call.Write key (want.Equal number) change.Remove) seat.old seat.new result }
     {
-        self.change_where(rt, seat, key, Want::Equal(number), Change::Remove).matched
+        self.change_where(rt, seat, key, Want::Equal(number), Change::Remove)
+            .matched
     }
 
     /// Raises the number at a key, an absent one counting as 0, and answers what was there.
-    pub fn add<R: Wait>(&self, rt: &R, seat: &mut Seat, key: Key, number: Num) -> Result<Option<Num>, AddFault>
+    pub fn add<R: Wait>(
+        &self,
+        rt: &R,
+        seat: &mut Seat,
+        key: Key,
+        number: Num,
+    ) -> Result<Option<Num>, AddFault>
         requires own { IsMine self.now seat.old }
-        ensures replied { IfOk result (λ before. HasReplied self.now (call.Write key want.Any (change.Add number)) seat.old seat.new
-            (λ reply. reply.before ≡ before)) }
-        ensures refused { IfErr result (λ fault. HasWaited self.now (call.Write key want.Any (change.Add number)) seat.old seat.new []
-            × IsJustAdd self.now.chain.shape (call.Write key want.Any (change.Add number)) seat.new.chain fault) }
+        ensures found { IfOk result (HasFound self.now (call.Write key want.Any (change.Add number)) seat.old seat.new) }
+        ensures refused { IfErr result (HasRefused self.now (call.Write key want.Any (change.Add number)) seat.old seat.new) }
     {
-        Ok(self.write(rt, seat, key, &Want::Any, &Change::Add(number))?.before)
+        let reply = self.write(rt, seat, key, &Want::Any, &Change::Add(number))?;
+        Ok(reply.before)
     }
 
     /// Puts a number where the condition holds.
-    fn put_where<R: Wait>(&self, rt: &R, seat: &mut Seat, key: Key, want: Want, number: Num) -> Result<Reply, Full>
+    fn put_where<R: Wait>(
+        &self,
+        rt: &R,
+        seat: &mut Seat,
+        key: Key,
+        want: Want,
+        number: Num,
+    ) -> Result<Reply, Full>
         requires own { IsMine self.now seat.old }
-        ensures replied { IfOk result (λ reply. HasWaited self.now (call.Write key want (change.Put number)) seat.old seat.new
-            ((call.Write key want (change.Put number), reply) ∷ [])) }
-        ensures full { IfErr result (λ fault. HasWaited self.now (call.Write key want (change.Put number)) seat.old seat.new []
-            × (leaves_alone (call.Write key want (change.Put number)) None ≡ false)
-            × IsCrowded self.now.chain.shape seat.new.chain.seen key) }
+        ensures replied { IfOk result (HasReplied self.now (call.Write key want (change.Put number)) seat.old seat.new) }
+        ensures full { IfErr result (λ fault. HasRefused self.now (call.Write key want (change.Put number)) seat.old seat.new
+            AddFault.Full) }
     {
-        number.known();
         match self.write(rt, seat, key, &want, &Change::Put(number)) {
             Ok(reply) => Ok(reply),
             Err(AddFault::Full) => Err(Full),
@@ -118,11 +138,18 @@ impl Map {
     }
 
     /// Makes a write that leaves an absent key absent.
-    fn change_where<R: Wait>(&self, rt: &R, seat: &mut Seat, key: Key, want: Want, change: Change) -> Reply
+    fn change_where<R: Wait>(
+        &self,
+        rt: &R,
+        seat: &mut Seat,
+        key: Key,
+        want: Want,
+        change: Change,
+    ) -> Reply
         requires own { IsMine self.now seat.old }
         requires no_put { leaves_alone (call.Write key want change) None ≡ true }
         requires in_range { (m : Numbers) → overflows (call.Write key want change) m ≡ false }
-        ensures { HasWaited self.now (call.Write key want change) seat.old seat.new ((call.Write key want change, result) ∷ []) }
+        ensures { HasReplied self.now (call.Write key want change) seat.old seat.new result }
     {
         match self.write(rt, seat, key, &want, &change) {
             Ok(reply) => reply,
@@ -131,21 +158,26 @@ impl Map {
     }
 
     /// Makes a write, and tries again while it is contended.
-    fn write<R: Wait>(&self, rt: &R, seat: &mut Seat, key: Key, want: &Want, change: &Change) -> Result<Reply, AddFault>
+    fn write<R: Wait>(
+        &self,
+        rt: &R,
+        seat: &mut Seat,
+        key: Key,
+        want: &Want,
+        change: &Change,
+    ) -> Result<Reply, AddFault>
         requires own { IsMine self.now seat.old }
-        ensures replied { IfOk result (λ reply. HasWaited self.now (call.Write key want.now change.now) seat.old seat.new
-            ((call.Write key want.now change.now, reply) ∷ [])) }
-        ensures refused { IfErr result (λ fault. HasWaited self.now (call.Write key want.now change.now) seat.old seat.new []
-            × IsJustAdd self.now.chain.shape (call.Write key want.now change.now) seat.new.chain fault) }
+        ensures replied { IfOk result (HasReplied self.now (call.Write key want.now change.now) seat.old seat.new) }
+        ensures refused { IfErr result (HasRefused self.now (call.Write key want.now change.now) seat.old seat.new) }
     {
+        laws::steps_add_up();
+        self.known(seat);
         for _ in rt.forever() {
             match self.put_if_match(seat, key, *want, *change, u32::MAX) {
                 Ok(reply) => return Ok(reply),
-                Err(fault) => match fault {
-                    PutFault::Contended => {}
-                    PutFault::Full => return Err(AddFault::Full),
-                    PutFault::ValueRange => return Err(AddFault::ValueRange),
-                },
+                Err(PutFault::Contended) => {}
+                Err(PutFault::Full) => return Err(AddFault::Full),
+                Err(PutFault::ValueRange) => return Err(AddFault::ValueRange),
             }
         }
         unreachable!()

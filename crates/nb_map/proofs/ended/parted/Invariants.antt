@@ -1,0 +1,12 @@
+use Rattle.std.proofs.Common.{◌≡◌, ◌≤◌, ◌++◌, length, map, All, vec_capacity}
+use Rattle.std.specs.Vec.Iter.{into_iter_items}
+use Rattle.nb_map.proofs.Parted.{IsParting}
+use Rattle.nb_map.proofs.ended.parted.Given as goal
+
+abbrev pub invariant-loop-seat : goal.invariant-loop-seat
+invariant-loop-seat l =
+    (goal.iterator-loop-seat).can_next l.seat-iterator
+    × (goal.iterator-loop-seat).is_finite l.seat-iterator
+    × IsParting l.fn.seats.items (into_iter_items l.seat-iterator) l.chain_seats.items l.count_seats.items
+    × (length l.fn.seats.items ≤ vec_capacity l.chain_seats)
+    × (length l.fn.seats.items ≤ vec_capacity l.count_seats)

@@ -1,0 +1,42 @@
+use Rattle.std.proofs.Common.{◌≡◌, ◌∙◌, ap, length, refl, subst, sym}
+use Rattle.std.proofs.lemmas.List.{length-map}
+use Rattle.nb_core.specs.Plans.{IsPlan}
+use Rattle.nb_map.proofs.Parted.{own-chains, own-counts}
+use Rattle.nb_map.proofs.Sizes.{AreGathered, ended-with, is-ended}
+use Rattle.nb_map.specs.Inside.{map_of}
+use Rattle.nb_map.specs.Maps.{AreMine}
+use Rattle.nb_map.proofs.map.Map.finish.Goals as goal
+
+pub close-requires : goal.close-requires
+close-requires c =
+    let mine = subst (λ m. AreMine m c.args.seats.items) (sym c.self.view_is) c.requires.own in
+    record { own = own-chains (map_of c.self.inside) _ _ _ c.parted-chain_seats.ensures mine }
+
+pub close-requires-2 : goal.close-requires-2
+close-requires-2 c =
+    let mine = subst (λ m. AreMine m c.args.seats.items) (sym c.self.view_is) c.requires.own in
+    record { own = own-counts (map_of c.self.inside) _ _ _ c.parted-chain_seats.ensures mine }
+
+-- what is known of the seats, once both are closed
+gathered :
+    (c : goal.In-Ok-Ok) → AreGathered c.args.self.chain.shape c.args.seats.items c.parted-chain_seats.result.0.items c.parted-chain_seats.result.1.items c.in-Ok-Ok.closed
+gathered c = record {
+  parted = c.parted-chain_seats.ensures;
+  shape = c.in-Ok-Ok.ensures.shape ∙ ap (λ m. m.chain.shape) c.self.view_is;
+  closed_with = c.in-Ok-Ok.ensures.closed;
+  all =
+      sym (length-map c.args.seats.items (λ seat. seat.chain)) ∙ ap length (sym c.parted-chain_seats.ensures.of_chain)
+      ∙ c.in-Ok-Ok.ensures.all.0 refl ∙ ap (λ m. m.chain.shape.seats) c.self.view_is;
+}
+
+pub invariant_of-result : goal.invariant_of-result
+invariant_of-result c =
+    let plan = subst IsPlan (ap (λ m. m.chain.shape) c.self.view_is) c.self.invariant.plan in
+    is-ended _ _ _ _ _ (gathered c) plan c.stands.ensures c.map_in_range.ensures c.size_is_net.ensures c.own_lasts.ensures
+    c.few_keys.ensures c.in-Ok-Ok.size c.in-Ok-Ok.ensures'.sum
+
+pub returns-clause-ended : goal.returns-clause-ended
+returns-clause-ended c =
+    let plan = subst IsPlan (ap (λ m. m.chain.shape) c.self.view_is) c.self.invariant.plan in
+    ended-with _ _ _ _ _ (gathered c) plan c.size_is_net.ensures c.own_lasts.ensures c.few_keys.ensures c.in-Ok-Ok.size
+    c.in-Ok-Ok.ensures'.sum
