@@ -115,8 +115,9 @@ fn callers_with(alloc: Global, map: &Map, seats: Vec<Seat>) -> Result<Vec<Caller
     requires own { AreMine map.now seats.items }
     ensures own { IfOk result (λ callers. All (λ c. IsMine map.now c.seat) callers.items) }
 {
+    let mut seats = seats;
     let mut callers = Vec::new(alloc);
-    for seat in seats {
+    while let Some(seat) = seats.pop() {
         callers.push(Caller {
             seat,
             told: NOTHING,
@@ -146,9 +147,10 @@ fn seats_of_all(
     requires own { All (λ c. IsMine map.now c.seat) callers.items }
     ensures own { IfOk result (λ parts. AreMine map.now parts.0.items) }
 {
+    let mut callers = callers;
     let mut seats = Vec::new(alloc);
     let mut told = NOTHING;
-    for caller in callers {
+    while let Some(caller) = callers.pop() {
         let Caller { seat, told: of_one } = caller;
         told = both(&told, &of_one);
         seats.push(seat)?;
@@ -163,7 +165,7 @@ fn has_just<R: Abort>(
     ended: &Ended,
     told: &Told,
 ) -> Result<(), OutOfMemory> {
-    let mut keys = 27;
+    let mut keys: u64 = 27;
     for i in 0..3 {
         let sum = ended.get(key(rt, i as u64));
         assert_eq!(rt; sum, Some(number(rt, told.added[i])), "key {i}");
@@ -171,7 +173,7 @@ fn has_just<R: Abort>(
     for i in 0..4 {
         let has = u64::from(ended.get(key(rt, 3 + i as u64)).is_some());
         assert_eq!(rt; told.kept[i], has, "key {i}");
-        keys += has;
+        keys = keys.wrapping_add(has);
     }
     let entries = ended.entries(alloc)?;
     assert_eq!(rt; ended.size(), keys);
