@@ -11,6 +11,7 @@ mod exchange;
 mod get;
 mod map;
 mod pause;
+mod room;
 mod search;
 pub mod steps;
 mod waiting;

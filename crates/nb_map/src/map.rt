@@ -17,21 +17,23 @@ ghost use Rattle.nb_map.specs.Refusing.{IsJust, put_steps};
 use crate::ended::{Ended, parted};
 use crate::get::get_in;
 use crate::pause::NoPause;
+use crate::room::Room;
 use crate::write::{PutFault, put_if_match_in};
 use nb_core::{Change, Key, NotAll, Num, OutOfMemory, Reply, Shape, Want};
 use nb_count::{CountSeat, Counter};
 use nb_table::{Chain, ChainSeat, laws};
 use std::alloc::Global;
 use std::marker::Model;
+use std::sync::Mutex;
 
 /// A map from whole numbers to whole numbers, which many threads share. Contracts see its chain of tables.
 #[derive(Drop)]
 pub struct Map {
     chain: Chain,
     counter: Counter,
-    /// Room in which `finish` gathers the seats, so that it takes no memory.
-    chain_seats: Vec<ChainSeat>,
-    count_seats: Vec<CountSeat>,
+    /// Room in which `finish` gathers the seats, so that it takes no memory. A vector for seats can't be shared by threads, and
+    /// a lock that holds one can. No call takes this lock.
+    room: Mutex<Room>,
 }
 
 impl Model for Map {
@@ -66,8 +68,8 @@ impl Model for Seat {
 }
 
 impl Map {
-    /// An empty map, and its seats. It takes memory for the words of its tables and its counter, and for the seats: nothing
-    /// that comes later but `Ended::entries` takes any.
+    /// An empty map, and its seats. It takes memory for the words of its tables and its counter, for the seats, and for room to
+    /// gather them: nothing that comes later but `Ended::entries` takes any.
     pub fn new(alloc: Global, shape: Shape) -> Result<(Map, Vec<Seat>), OutOfMemory>
         ensures map { IfOk result (λ made. made.0.chain.shape ≡ shape) }
         ensures seats { IfOk result (λ made. made.1.items ≡ seats_of made.0 0 shape.seats) }
@@ -82,11 +84,11 @@ impl Map {
             }
         }
         seats.reverse();
+        let room = Mutex::new(Room::new(alloc)?);
         let map = Map {
             chain,
             counter,
-            chain_seats,
-            count_seats,
+            room,
         };
         Ok((map, seats))
     }
@@ -232,9 +234,12 @@ impl Map {
         let Map {
             chain,
             counter,
+            room,
+        } = self;
+        let Room {
             chain_seats,
             count_seats,
-        } = self;
+        } = room.into_inner();
         let (chain_seats, count_seats) = parted(seats, chain_seats, count_seats);
         match (chain.close(chain_seats), counter.close(count_seats)) {
             (Ok(closed), Ok(size)) => Ok(Ended { closed, size }),

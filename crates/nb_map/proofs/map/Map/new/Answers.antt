@@ -53,17 +53,10 @@ loop-chain-preserved c =
     absurd (omega (arith, many, c.in-Some.ensures.len, c.in_default-pop.ensures))
 
 pub invariant_of-map : goal.invariant_of-map
-invariant_of-map c =
-    let none = nil_from_length c.loop-chain.chain_seats.items (omega (arith, c.in_default.ensures)) in
-    record {
-      plan = subst IsPlan (sym c.in_ok-chain.ensures.chain) c.known.ensures;
-      seats = c.in_ok-counter.ensures.counter.1 ∙ c.seats-2.ensures ∙ ap (λ q. q.seats) (sym c.in_ok-chain.ensures.chain);
-      chain_seats = nil_from_length c.pop.new.self.items (omega (arith, c.in_default.ensures));
-      count_seats = (dealing-done c.loop-chain.invariant.0 none).0;
-      chain_room =
-          omega (arith, ap (λ q. q.seats) c.in_ok-chain.ensures.chain, c.loop-chain.invariant, c.in_default.ensures.capacity);
-      count_room = omega (arith, ap (λ q. q.seats) c.in_ok-chain.ensures.chain, c.loop-chain.invariant);
-    }
+invariant_of-map c = record {
+  plan = subst IsPlan (sym c.in_ok-chain.ensures.chain) c.known.ensures;
+  seats = c.in_ok-counter.ensures.counter.1 ∙ c.seats-2.ensures ∙ ap (λ q. q.seats) (sym c.in_ok-chain.ensures.chain);
+}
 
 pub returns-clause-seats : goal.returns-clause-seats
 returns-clause-seats c =
