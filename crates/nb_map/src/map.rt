@@ -147,7 +147,7 @@ impl Map {
     }
 
     /// Reminds a proof of what the map's shape may be, and that what the seat has seen is a legal history. It does nothing.
-    pub(crate) fn known(&self, seat: &Seat)
+    pub fn known(&self, seat: &Seat)
         ensures plan { IsPlan self.now.chain.shape }
         ensures legal { IsLegal seat.now.chain.shape seat.now.chain.seen }
     {

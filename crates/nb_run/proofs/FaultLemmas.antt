@@ -1,5 +1,5 @@
 -- What the words give, and when each fault comes.
-use Rattle.std.proofs.Common.{◌≡◌, ◌∙◌, ◌⊎◌, ap, sym, subst, inl, inr, refl, true, List, []}
+use Rattle.std.proofs.Common.{◌≡◌, ◌∙◌, ◌⊎◌, sym, subst, inl, inr, refl, true, List, []}
 use Rattle.clap.specs.Words.{App, HasMatchesOf, IsAmong, Row, Text, fault_of, found_of, is_simple_and_free, matches_of, rows_of}
 use Rattle.clap.specs.declared.error.kind.ErrorKind.{ErrorKind}
 use Rattle.clap.specs.declared.error.kind.ErrorKind.TheVariants as kind
@@ -9,7 +9,6 @@ use Rattle.nb_core.specs.Plans.{Plan}
 use Rattle.nb_run.specs.declared.options.OptionFault.{OptionFault}
 use Rattle.nb_run.specs.declared.options.OptionFault.TheVariants.{Usage, Help, OutOfMemory}
 use Rattle.nb_run.specs.Options.{AreGiven, GivesNone, IsDue, IsFaultOf, IsFound, IsRefused, nbrun}
-use Rattle.nb_run.proofs.FoundLemmas.{found_same}
 
 -- the fault of an error of clap's
 pub is_due : (app : App) (words : List Text) (k : ErrorKind) (fault : OptionFault) → app ≡ nbrun
@@ -41,12 +40,8 @@ are_given app words m plan is kinds matched found = (
 
 -- the fault of words that clap takes
 pub is_none_due : (app : App) (words : List Text) (m : ArgMatches) → app ≡ nbrun → (is_simple_and_free app ≡ true → fault_of app words ≡ []) → HasMatchesOf app words m
-    → ((plan : Plan) → IsFound (rows_of (found_of m)) plan → plan.seats ≡ 1 → ⊥) → IsRefused words ⊎ GivesNone words
+    → ((plan : Plan) → IsFound (rows_of (found_of m)) plan → ⊥) → IsRefused words ⊎ GivesNone words
 is_none_due app words m is kinds matched none = inr (
   is_taken app words is kinds,
-  subst (λ (rs : List Row). (plan : Plan) → IsFound rs plan → plan.seats ≡ 1 → ⊥) (rows_are app words m is matched) none,
+  subst (λ (rs : List Row). (plan : Plan) → IsFound rs plan → ⊥) (rows_are app words m is matched) none,
 )
-
--- another number of seats leaves no plan with one
-pub seats_differ : (rows : List Row) (p : Plan) → IsFound rows p → (p.seats ≡ 1 → ⊥) → (plan : Plan) → IsFound rows plan → plan.seats ≡ 1 → ⊥
-seats_differ rows p found other plan given one = other (ap (λ (x : Plan). x.seats) (found_same rows p plan found given) ∙ one)

@@ -1,5 +1,7 @@
 pub mod Faults
 pub mod Options
+pub mod Outcomes
+pub mod Output
 pub mod Reading
 pub mod Runs
 pub mod Script

@@ -96,10 +96,9 @@ AreGiven words plan = (fault_of nbrun words ≡ []) × IsFound (matches_of nbrun
 abbrev pub IsRefused : List Text → Type 0
 IsRefused words = (k : ErrorKind) × IsAmong k (fault_of nbrun words) × (k ≢ DisplayHelp)
 
--- clap takes the words, but they give no plan with one seat
+-- clap takes the words, but they give no plan
 abbrev pub GivesNone : List Text → Type 0
-GivesNone words = (fault_of nbrun words ≡ [])
-    × ((plan : Plan) → IsFound (matches_of nbrun words) plan → plan.seats ≡ 1 → ⊥)
+GivesNone words = (fault_of nbrun words ≡ []) × ((plan : Plan) → IsFound (matches_of nbrun words) plan → ⊥)
 
 -- when each fault comes
 abbrev pub IsDue : List Text → OptionFault → Type 0

@@ -1,8 +1,10 @@
 -- What a run of a script has done, by the bytes that were read and written.
 use Rattle.std.specs.Prelude.{◌≡◌, ℕ, ◌⊎◌, ◌++◌, List, Option, Ok, Err}
 use Rattle.std.specs.Io.KnownBytes.{Appends, Consumes, IsAtEnd}
+use Rattle.nb_core.specs.Plans.{Plan}
+use Rattle.nb_core.specs.declared.events.Event.{Event}
 use Rattle.nb_run.specs.Script.{Bytes, Phase, script_of}
-use Rattle.nb_run.specs.Text.{none_full, text_of}
+use Rattle.nb_run.specs.Told.{IsLoneText, IsToldBy}
 use Rattle.nb_run.specs.declared.script.Cause.{Cause}
 use Rattle.nb_run.specs.declared.faults.RunFault.{RunFault}
 use Rattle.nb_run.specs.declared.faults.RunFault.TheVariants as fault
@@ -29,9 +31,13 @@ IsFaultOf seats unread unread' fault.Write = (phases : List Phase) × HasReadScr
 IsFaultOf seats unread unread' (fault.Line n cause) = HasReadFault seats unread unread' n cause
 IsFaultOf seats unread unread' fault.OutOfMemory = Unit {0}
 
--- The input was read whole and is a script without a fault, and the text of it was written: that of one worker,
--- with no command refused for want of room.
-pub record HasRun (seats : ℕ) (unread unread' written written' : Option Bytes) : Type 0 where
+-- The input was read whole and is a script without a fault. What was written is told by a legal history. With one worker it
+-- is the plain map's text but for commands that were refused for want of room.
+pub record HasRun (p : Plan) (unread unread' written written' : Option Bytes) : Type 0 where
   pub phases : List Phase
-  pub script : HasReadScript seats unread unread' phases
-  pub told : Appends written written' (text_of none_full phases)
+  pub script : HasReadScript p.seats unread unread' phases
+  pub text : Bytes
+  pub history : List Event
+  pub told : IsToldBy p phases history text
+  pub lone : p.seats ≡ 1 → IsLoneText p phases text
+  pub output : Appends written written' text

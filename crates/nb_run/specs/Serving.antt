@@ -34,7 +34,7 @@ GiveNone (Err e) f = f ≡ e
 pub record HasRunAsAsked (words : Words) (unread unread' written written' : Option Bytes) : Type 0 where
   pub plan : Plan
   pub given : GiveOptions words plan
-  pub run : HasRun plan.seats unread unread' written written'
+  pub run : HasRun plan unread unread' written written'
 
 -- The words ask for help, and its text was written. Nothing was read.
 pub record HasHelped (words : Words) (unread unread' written written' : Option Bytes) : Type 0 where

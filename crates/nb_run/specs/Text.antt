@@ -1,5 +1,5 @@
 -- What commands do to a map, one after another, and the text that tells of it.
-use Rattle.std.specs.Prelude.{ℕ, suc, Bool, true, false, if◌then◌else◌, List, [], ◌∷◌, ◌++◌, codes, decimal, Option, Some, None}
+use Rattle.std.specs.Prelude.{ℕ, suc, Bool, true, false, if◌then◌else◌, List, [], ◌∷◌, ◌++◌, codes, decimal, Option, Some, None, Result, Ok, Err}
 use Rattle.std.specs.List.{flat_map}
 use Rattle.std.specs.FinMap as map
 use Rattle.nb_core.specs.Calls.{Numbers, map_after, overflows, reply_of}
@@ -8,6 +8,9 @@ use Rattle.nb_core.specs.declared.calls.Call.TheVariants as call
 use Rattle.nb_core.specs.declared.calls.Want.TheVariants.{Any, Absent, Present, Equal}
 use Rattle.nb_core.specs.declared.calls.Change.TheVariants as change
 use Rattle.nb_core.specs.declared.calls.Reply.{Reply}
+use Rattle.nb_map.specs.declared.waiting.Full.{Full}
+use Rattle.nb_map.specs.declared.waiting.AddFault.{AddFault}
+use Rattle.nb_map.specs.declared.waiting.AddFault.TheVariants as fault
 use Rattle.nb_run.specs.Script.{Bytes, Phase}
 use Rattle.nb_run.specs.declared.script.Command.{Command}
 use Rattle.nb_run.specs.declared.script.Command.TheVariants as command
@@ -28,6 +31,17 @@ call_of (command.Add k n) = call.Write k Any (change.Add n)
 abbrev pub before : Option ℕ → Answer
 before None = answer.Nothing
 before (Some n) = answer.Value n
+
+-- what a put answers
+abbrev pub of_put : Result (Option ℕ) Full → Answer
+of_put (Ok value) = before value
+of_put (Err fault) = answer.Full
+
+-- what an add answers
+abbrev pub of_add : Result (Option ℕ) AddFault → Answer
+of_add (Ok value) = before value
+of_add (Err fault.Full) = answer.Full
+of_add (Err fault.ValueRange) = answer.Range
 
 -- what is shown of the map's reply: whether the two with an expected value acted, and else the earlier value
 abbrev pub shown : Command → Reply → Answer

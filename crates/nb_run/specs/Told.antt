@@ -1,19 +1,22 @@
 -- What a text tells of a history, for any number of workers.
-use Rattle.std.specs.Prelude.{◌≡◌, ◌==◌, ◌<◌, ◌≤◌, ◌-◌, ℕ, zero, suc, Bool, not, false, true, List, [], ◌∷◌, ◌++◌, All, filter, length, map, reverse, slice_get, take, None, Some}
+use Rattle.std.specs.Prelude.{◌≡◌, ◌==◌, ◌≤◌, ◌-◌, ℕ, suc, Bool, not, true, List, [], ◌∷◌, ◌++◌, All, filter, length, map, slice_get, take, None, Some}
 use Rattle.std.specs.List.{flat_map}
 use Rattle.std.specs.Set.{distinct_count}
-use Rattle.nb_core.specs.Calls.{leaves_alone}
+use Rattle.nb_core.specs.Calls.{leaves_alone, overflows}
 use Rattle.nb_core.specs.History.{IsLegal, key_of_call, map_of}
-use Rattle.nb_core.specs.Meaning.{calls_of}
+use Rattle.nb_core.specs.Meaning.{IsCrowded, calls_of}
 use Rattle.nb_core.specs.Plans.{Plan, generations_of, size_of}
+use Rattle.nb_core.specs.Tables.{tables_at}
 use Rattle.nb_core.specs.declared.calls.Call.{Call}
 use Rattle.nb_core.specs.declared.calls.Reply.{Reply}
 use Rattle.nb_core.specs.declared.events.Event.{Event}
+use Rattle.nb_table.specs.Chains.{own_events}
+use Rattle.nb_table.specs.Views.{IsBeginning}
+use Rattle.nb_map.specs.Calling.{MayMake}
 use Rattle.nb_run.specs.Script.{Bytes, Phase}
 use Rattle.nb_run.specs.Text.{answer_line, call_of, ending, shown, text_of}
 use Rattle.nb_run.specs.Working.{commands_of}
 use Rattle.nb_run.specs.declared.script.Command.{Command}
-use Rattle.nb_run.specs.declared.script.Command.TheVariants as command
 use Rattle.nb_run.specs.declared.answers.Answer.{Answer}
 use Rattle.nb_run.specs.declared.answers.Answer.TheVariants as answer
 
@@ -37,45 +40,53 @@ MayCrowd p commands c = (may_put c ≡ true) × (size_of p (generations_of p - 1
 
 -- ---- answers and calls
 
--- whether the command adds
-abbrev pub is_add : Command → Bool
-is_add (command.Add k n) = true
-is_add _ = false
+-- A moment is given by the history until then, the newest event first. From one moment to a later one the worker made these
+-- calls and no others, the newest first, and each of its events was such as the command's call may make.
+pub record HasDone (p : Plan) (w : ℕ) (c : Command) (calls : List (Call × Reply)) (before after : List Event) : Type 0 where
+  pub begun : IsBeginning before after
+  pub made : calls_of begun.later w ≡ calls
+  pub may : All (MayMake p (tables_at p after) (call_of c)) (own_events w begun.later)
 
--- One call was made, that of the command, and this is what is shown of its reply.
-abbrev pub IsCallShown : Command → Answer → List (Call × Reply) → Type 0
-IsCallShown c a calls = (reply : Reply) × (shown c reply ≡ a) × (calls ≡ (call_of c, reply) ∷ [])
+-- From one moment to a later one the worker made no event.
+pub record HasRested (w : ℕ) (before after : List Event) : Type 0 where
+  pub begun : IsBeginning before after
+  pub none : own_events w begun.later ≡ []
 
--- The calls that a command with this answer made. None where it was refused: for want of room, where all the script's
--- commands may have filled the map, or an add for its sum.
-abbrev pub IsTold : Plan → List Command → Command → Answer → List (Call × Reply) → Type 0
-IsTold p script c answer.Nothing calls = IsCallShown c answer.Nothing calls
-IsTold p script c (answer.Value n) calls = IsCallShown c (answer.Value n) calls
-IsTold p script c (answer.Matched b) calls = IsCallShown c (answer.Matched b) calls
-IsTold p script c answer.Full calls = MayCrowd p script c × (calls ≡ [])
-IsTold p script c answer.Range calls = (is_add c ≡ true) × (calls ≡ [])
+-- It made one call, that of the command, and this is what is shown of its reply.
+abbrev pub IsCallShown : Plan → (w : ℕ) → Command → Answer → (before after : List Event) → Type 0
+IsCallShown p w c a before after = (reply : Reply) × (shown c reply ≡ a) × HasDone p w c ((call_of c, reply) ∷ []) before after
 
--- the calls that these commands with these answers made, the first one first
-abbrev pub AreTold : Plan → List Command → List Command → List Answer → List (Call × Reply) → Type 0
-AreTold p script [] [] calls = calls ≡ []
-AreTold p script [] (a ∷ answers) calls = ⊥
-AreTold p script (c ∷ cs) [] calls = ⊥
-AreTold p script (c ∷ cs) (a ∷ answers) calls =
-    (first later : List (Call × Reply)) × (calls ≡ first ++ later) × IsTold p script c a first × AreTold p script cs answers later
+-- From one moment to the other the worker ran this command, which was answered so. A refused command made no call. One was
+-- refused for want of room only where other keys had all slots of the last table at the later moment, and the script's
+-- commands may have put them; and for its sum only where that was past the greatest number in the map of that moment.
+abbrev pub IsTold : Plan → List Command → (w : ℕ) → Command → Answer → (before after : List Event) → Type 0
+IsTold p script w c answer.Nothing before after = IsCallShown p w c answer.Nothing before after
+IsTold p script w c (answer.Value n) before after = IsCallShown p w c (answer.Value n) before after
+IsTold p script w c (answer.Matched b) before after = IsCallShown p w c (answer.Matched b) before after
+IsTold p script w c answer.Full before after = IsCrowded p after (key_of_command c) × MayCrowd p script c × HasDone p w c [] before after
+IsTold p script w c answer.Range before after = (overflows (call_of c) (map_of after) ≡ true) × HasDone p w c [] before after
 
--- In this part of a history the workers from number w on made the calls of their commands of the phase, in their order.
-abbrev pub IsPhaseTold : Plan → List Command → Phase → (w : ℕ) → List (List Answer) → List Event → Type 0
-IsPhaseTold p script phase w [] part = Unit {0}
-IsPhaseTold p script phase w (mine ∷ others) part =
-    AreTold p script (commands_of w phase) mine (reverse (calls_of part w)) × IsPhaseTold p script phase (suc w) others part
+-- So one command after another, and nothing behind the last one.
+abbrev pub AreTold : Plan → List Command → (w : ℕ) → List Command → List Answer → (before after : List Event) → Type 0
+AreTold p script w [] [] before after = HasRested w before after
+AreTold p script w [] (a ∷ answers) before after = ⊥
+AreTold p script w (c ∷ cs) [] before after = ⊥
+AreTold p script w (c ∷ cs) (a ∷ answers) before after =
+    (next : List Event) × IsTold p script w c a before next × AreTold p script w cs answers next after
 
--- The history, the newest event first, is in parts, one for each phase and one without calls at the end.
-abbrev pub ArePhasesTold : Plan → List Command → List Phase → List (List (List Answer)) → List Event → Type 0
-ArePhasesTold p script [] [] history = (w : ℕ) → w < p.seats → calls_of history w ≡ []
-ArePhasesTold p script [] (first ∷ answers) history = ⊥
-ArePhasesTold p script (phase ∷ phases) [] history = ⊥
-ArePhasesTold p script (phase ∷ phases) (first ∷ answers) history =
-    (later part : List Event) × (history ≡ later ++ part) × IsPhaseTold p script phase 0 first part × ArePhasesTold p script phases answers later
+-- From one moment to the other the workers from number w on ran their commands of the phase, each in their order.
+abbrev pub IsPhaseTold : Plan → List Command → Phase → (w : ℕ) → List (List Answer) → (before after : List Event) → Type 0
+IsPhaseTold p script phase w [] before after = Unit {0}
+IsPhaseTold p script phase w (mine ∷ others) before after =
+    AreTold p script w (commands_of w phase) mine before after × IsPhaseTold p script phase (suc w) others before after
+
+-- One phase after another was run from the moment on, and the history ends with the last one.
+abbrev pub ArePhasesTold : Plan → List Command → List Phase → List (List (List Answer)) → (before history : List Event) → Type 0
+ArePhasesTold p script [] [] before history = history ≡ before
+ArePhasesTold p script [] (first ∷ answers) before history = ⊥
+ArePhasesTold p script (phase ∷ phases) [] before history = ⊥
+ArePhasesTold p script (phase ∷ phases) (first ∷ answers) before history =
+    (next : List Event) × IsPhaseTold p script phase 0 first before next × ArePhasesTold p script phases answers next history
 
 -- ---- the text
 
@@ -89,12 +100,13 @@ abbrev pub all_commands : List Phase → List Command
 all_commands phases = flat_map (map (λ task. task.1)) phases
 
 -- A legal history in which each worker's calls are those of its commands that weren't refused, with the answers that the text
--- shows, phase after phase. Behind the answers the text has the size and the entries of the history's map.
+-- shows, phase after phase; and each refusal was just at its moment. Behind the answers the text has the size and the entries
+-- of the history's map.
 pub record IsToldBy (p : Plan) (phases : List Phase) (history : List Event) (text : Bytes) : Type 0 where
   pub legal : IsLegal p history
   pub answers : List (List (List Answer))
   pub each : All (λ phase. length phase ≡ p.seats) answers
-  pub told : ArePhasesTold p (all_commands phases) phases answers history
+  pub told : ArePhasesTold p (all_commands phases) phases answers [] history
   pub is : text ≡ flat_map (phase_text 0) answers ++ ending (map_of history)
 
 -- ---- one worker

@@ -1,6 +1,8 @@
 -- What workers do to a map, command by command and phase by phase.
-use Rattle.std.specs.Prelude.{◌≡◌, ◌==◌, ℕ, suc, List, [], ◌∷◌, All, filter, map}
-use Rattle.std.specs.List.{AllZip}
+use Rattle.std.specs.Prelude.{◌≡◌, ◌==◌, ℕ, suc, List, [], ◌∷◌, All, filter, map, length, replicate, vec_capacity, ◌+◌, ◌≤◌, ◌++◌}
+use Rattle.std.specs.List.{AllZip, flat_map}
+use Rattle.std.specs.declared.vec.Vec.{Vec}
+use Rattle.std.specs.declared.alloc.Global.{Global}
 use Rattle.nb_core.specs.declared.calls.Reply.{Reply}
 use Rattle.nb_map.specs.Maps.{HasReplied, IsMine, MapOf, SeatOf}
 use Rattle.nb_map.specs.Refusing.{HasRefused}
@@ -12,6 +14,7 @@ use Rattle.nb_run.specs.Text.{call_of, shown}
 use Rattle.nb_run.specs.declared.script.Command.{Command}
 use Rattle.nb_run.specs.declared.answers.Answer.{Answer}
 use Rattle.nb_run.specs.declared.answers.Answer.TheVariants as answer
+use Rattle.nb_run.specs.declared.workers.Worker.{Worker}
 
 -- the seat made the command's call, and this is what is shown of its reply
 abbrev pub HasShown : MapOf → Command → Answer → (before after : SeatOf) → Type 0
@@ -60,3 +63,68 @@ HaveRun m [] (first ∷ answers) before after = ⊥
 HaveRun m (phase ∷ phases) [] before after = ⊥
 HaveRun m (phase ∷ phases) (first ∷ answers) before after =
     (apart joined : List SeatOf) × PhaseRan m phase 0 first before apart × HaveMet apart joined × HaveRun m phases answers joined after
+
+-- ---- workers
+
+-- the phases that are kept in vectors
+abbrev pub phases_in : List (Vec (ℕ × Command) Global) → List Phase
+phases_in phases = map (λ phase. phase.items) phases
+
+-- the workers' seats
+abbrev pub seats_of : List Worker → List SeatOf
+seats_of workers = map (λ worker. worker.seat) workers
+
+-- A worker has run its commands of a phase, and has these answers more.
+pub record HasRunPhase (m : MapOf) (phase : Phase) (before after : Worker) : Type 0 where
+  pub number : after.number ≡ before.number
+  pub answers : List Answer
+  pub kept : after.answers.items ≡ before.answers.items ++ answers
+  pub room : vec_capacity after.answers ≡ vec_capacity before.answers
+  pub answered : AreAnswered m (commands_of before.number phase) answers before.seat after.seat
+
+-- the worker's seat is the map's, and it has room for its answers of a phase
+abbrev pub IsReady : MapOf → Phase → Worker → Type 0
+IsReady m phase worker = IsMine m worker.seat × (length worker.answers.items + length (commands_of worker.number phase) ≤ vec_capacity worker.answers)
+
+-- the worker has run its commands of the phase, and its seat is the map's
+abbrev pub IsRun : MapOf → Phase → (before after : Worker) → Type 0
+IsRun m phase before after = IsMine m after.seat × HasRunPhase m phase before after
+
+-- the worker's seat is the map's and has met these seats, and the rest of the worker is as it was
+pub record HasMetAs (m : MapOf) (seats : List SeatOf) (before after : Worker) : Type 0 where
+  pub number : after.number ≡ before.number
+  pub answers : after.answers ≡ before.answers
+  pub own : IsMine m after.seat
+  pub met : HasMet seats before.seat after.seat
+
+-- a worker has room for its answers of the phases
+abbrev pub HasRoom : List Phase → Worker → Type 0
+HasRoom phases worker =
+    length worker.answers.items + length (flat_map (commands_of worker.number) phases) ≤ vec_capacity worker.answers
+
+-- the workers' numbers count from w
+abbrev pub AreNumbered : (w : ℕ) → List Worker → Type 0
+AreNumbered w [] = Unit {0}
+AreNumbered w (worker ∷ workers) = (worker.number ≡ w) × AreNumbered (suc w) workers
+
+-- each worker's answers, and behind them those that it has more
+abbrev pub joined : List (List Answer) → List (List Answer) → List (List Answer)
+joined [] more = []
+joined (mine ∷ others) [] = mine ∷ others
+joined (mine ∷ others) (first ∷ more) = (mine ++ first) ∷ joined others more
+
+-- the answers of so many workers, each worker's of all phases
+abbrev pub all_answers : ℕ → List (List (List Answer)) → List (List Answer)
+all_answers n [] = replicate n []
+all_answers n (first ∷ later) = joined first (all_answers n later)
+
+-- what the workers' commands were answered so far
+abbrev pub answers_of : List Worker → List (List Answer)
+answers_of workers = map (λ worker. worker.answers.items) workers
+
+-- The workers have run the phases, and each has its answers of all phases more.
+pub record HaveRunAll (m : MapOf) (phases : List Phase) (before after : List Worker) : Type 0 where
+  pub answers : List (List (List Answer))
+  pub ran : HaveRun m phases answers (seats_of before) (seats_of after)
+  pub own : All (λ worker. IsMine m worker.seat) after
+  pub kept : answers_of after ≡ joined (answers_of before) (all_answers (length before) answers)

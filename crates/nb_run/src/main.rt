@@ -4,12 +4,16 @@
 
 pub mod answers;
 pub mod faults;
+pub mod gate;
 pub mod options;
+pub(crate) mod outcome;
+pub(crate) mod output;
 pub mod reader;
 pub mod run;
 pub mod script;
 pub mod serve;
 pub mod streams;
+pub(crate) mod workers;
 
 use options::OptionFault;
 use std::env;
@@ -40,7 +44,7 @@ fn main(rt: HostRuntime) -> ExitCode {
     let mut writer = FromWrite::new(rt.stdout());
     let mut errors = FromWrite::new(rt.stderr());
     let words = arguments(&rt);
-    let status = serve::serve(rt.alloc(), words, &mut reader, &mut writer, &mut errors);
+    let status = serve::serve(&rt, words, &mut reader, &mut writer, &mut errors);
     ExitCode::from(status)
 }
 

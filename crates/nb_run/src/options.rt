@@ -145,11 +145,9 @@ fn read_shape(matches: &ArgMatches<'_>) -> Option<Shape>
     }
 }
 
-/// The options that the words give, of which the first is the program's name. For now there is one
-/// seat.
+/// The options that the words give, of which the first is the program's name.
 pub fn read_options(alloc: Global, words: &[String]) -> Result<Options, OptionFault>
     ensures given { IfOk result (λ options. AreGiven (map string_bytes words.now) options.shape) }
-    ensures one_seat { IfOk result (λ options. options.shape.seats ≡ 1) }
     ensures fault { IfErr result (IsDue (map string_bytes words.now)) }
 {
     let matches = match command(alloc)?.try_get_matches_from(words) {
@@ -159,9 +157,6 @@ pub fn read_options(alloc: Global, words: &[String]) -> Result<Options, OptionFa
     let Some(shape) = read_shape(&matches) else {
         return Err(OptionFault::Usage);
     };
-    if shape.seats() != 1 {
-        return Err(OptionFault::Usage);
-    }
     Ok(Options { shape })
 }
 

@@ -2,29 +2,32 @@
 ghost use Rattle.std.specs.Prelude.{◌≡◌, ◌≢◌, ◌↔◌, false, IsTrue, IfErr, IsErrOf, OnOk};
 ghost use Rattle.nb_run.specs.Runs.{HasRun, IsFaultOf};
 
-use crate::answers::text_of;
 use crate::faults::RunFault;
+use crate::gate::{Gate, Open};
 use crate::options::Options;
+use crate::outcome::perform;
+use crate::output::tell;
 use crate::reader::read_script;
-use crate::streams::{Sink, Source, write_all};
-use std::alloc::Global;
+use crate::streams::{Sink, Source};
+use std::sync::Wait;
+use std::thread::Threads;
 
-/// Reads a script to its end, runs its commands, and writes what they answered and what the map contains at the end.
-/// No command runs until all of the script was read and found to be without a fault, and the output is written at the
-/// end.
+/// Reads a script to its end, runs its commands on a map, and writes what they were answered and what the map contains at
+/// the end. No command runs until all of the script was read and found to be without a fault, and the output is written at
+/// the end.
 ///
-/// For now there is one worker, over a plain map that is never full.
-pub fn run<R: Source, W: Sink>(
-    alloc: Global,
+/// Each seat of the map is a worker's, in a thread of its own. In each phase all workers run their commands at the same
+/// time; a phase begins when the one before it is over for all. A thread that can't be started is want of memory.
+pub fn run<H: Threads + Wait + AllocGlobal + Sync, R: Source, W: Sink>(
+    rt: &H,
     options: &Options,
     reader: &mut R,
     writer: &mut W,
 ) -> Result<(), RunFault>
-    requires one_worker { options.now.shape.seats ≡ 1 }
     requires reader { R.failed reader.old ≡ false }
     requires writer { W.failed writer.old ≡ false }
 
-    ensures ok { OnOk result (HasRun options.now.shape.seats (R.remaining reader.old) (R.remaining reader.new) (W.contents writer.old) (W.contents writer.new)) }
+    ensures ok { OnOk result (HasRun options.now.shape (R.remaining reader.old) (R.remaining reader.new) (W.contents writer.old) (W.contents writer.new)) }
     ensures fault { IfErr result (IsFaultOf options.now.shape.seats (R.remaining reader.old) (R.remaining reader.new)) }
 
     // These two say that the reader, or the writer, failed while this ran.
@@ -34,7 +37,39 @@ pub fn run<R: Source, W: Sink>(
     // Nothing is written before another fault.
     ensures silent { IfErr result (λ fault. fault ≢ RunFault.Write → writer.new ≡ writer.old) }
 {
-    let phases = read_script(alloc, options.shape.seats(), reader)?;
-    let text = text_of(alloc, phases.as_slice()).map_err(|_| RunFault::OutOfMemory)?;
-    write_all(writer, text.as_bytes()).map_err(|_| RunFault::Write)
+    run_gated(rt, &Open, options, reader, writer)
+}
+
+/// The same, with a gate round each command.
+pub fn run_gated<H: Threads + Wait + AllocGlobal + Sync, G: Gate + Sync, R: Source, W: Sink>(
+    rt: &H,
+    gate: &G,
+    options: &Options,
+    reader: &mut R,
+    writer: &mut W,
+) -> Result<(), RunFault>
+    requires reader { R.failed reader.old ≡ false }
+    requires writer { W.failed writer.old ≡ false }
+
+    ensures ok { OnOk result (HasRun options.now.shape (R.remaining reader.old) (R.remaining reader.new) (W.contents writer.old) (W.contents writer.new)) }
+    ensures fault { IfErr result (IsFaultOf options.now.shape.seats (R.remaining reader.old) (R.remaining reader.new)) }
+    ensures read { IsErrOf result RunFault.Read ↔ IsTrue (R.failed reader.new) }
+    ensures write { IsErrOf result RunFault.Write ↔ IsTrue (W.failed writer.new) }
+    ensures silent { IfErr result (λ fault. fault ≢ RunFault.Write → writer.new ≡ writer.old) }
+{
+    options.shape.known();
+    let phases = read_script(rt.alloc(), options.shape.seats(), reader)?;
+    let phases = phases.as_slice();
+    let outcome = perform(rt, rt.alloc(), gate, options.shape, phases).map_err(
+        |_| RunFault::OutOfMemory,
+    )?;
+    let answers = outcome.answers.as_slice();
+    tell(
+        writer,
+        phases,
+        answers,
+        outcome.size,
+        outcome.entries.as_slice(),
+    )
+    .map_err(|_| RunFault::Write)
 }

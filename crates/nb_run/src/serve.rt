@@ -7,6 +7,8 @@ use crate::options::{OptionFault, Options, read_options};
 use crate::run::run;
 use crate::streams::{Sink, Source, write_all};
 use std::alloc::Global;
+use std::sync::Wait;
+use std::thread::Threads;
 
 /// The options that the words give, if there are words.
 fn options_of(
@@ -14,7 +16,6 @@ fn options_of(
     words: Result<Vec<String>, OptionFault>,
 ) -> Result<Options, OptionFault>
     ensures given { IfOk result (λ options. GiveOptions words options.shape) }
-    ensures one_seat { IfOk result (λ options. options.shape.seats ≡ 1) }
     ensures fault { IfErr result (GiveNone words) }
 {
     match words {
@@ -24,8 +25,8 @@ fn options_of(
 }
 
 /// Reads the options and runs the script, or writes the help that the words ask for.
-fn attend<R: Source, W: Sink>(
-    alloc: Global,
+fn attend<H: Threads + Wait + AllocGlobal + Sync, R: Source, W: Sink>(
+    rt: &H,
     words: Result<Vec<String>, OptionFault>,
     reader: &mut R,
     writer: &mut W,
@@ -40,8 +41,8 @@ fn attend<R: Source, W: Sink>(
     ensures write { IsErrOf result (ServeFault.Run RunFault.Write) ↔ IsTrue (W.failed writer.new) }
     ensures silent { IfErr result (λ fault. fault ≢ ServeFault.Run RunFault.Write → writer.new ≡ writer.old) }
 {
-    match options_of(alloc, words) {
-        Ok(options) => run(alloc, &options, reader, writer).map_err(ServeFault::Run),
+    match options_of(rt.alloc(), words) {
+        Ok(options) => run(rt, &options, reader, writer).map_err(ServeFault::Run),
         Err(OptionFault::Usage) => Err(ServeFault::Usage),
         Err(OptionFault::OutOfMemory) => Err(ServeFault::Run(RunFault::OutOfMemory)),
         Err(OptionFault::Help(text)) => match write_all(writer, text.as_bytes()) {
@@ -53,9 +54,10 @@ fn attend<R: Source, W: Sink>(
 
 /// Runs the program on the words of its command line, and answers its exit status: 0 where the script was run or help
 /// was asked for, 1 where the reader or the writer failed, 2 for a fault of the script, 3 for words that give no
-/// options, 4 where memory ran out. A fault is told on `errors`; that `errors` fails changes no status.
-pub fn serve<R: Source, W: Sink, E: Sink>(
-    alloc: Global,
+/// options, 4 where memory ran out or a
+/// thread couldn't be started. A fault is told on `errors`; that `errors` fails changes no status.
+pub fn serve<H: Threads + Wait + AllocGlobal + Sync, R: Source, W: Sink, E: Sink>(
+    rt: &H,
     words: Result<Vec<String>, OptionFault>,
     reader: &mut R,
     writer: &mut W,
@@ -73,7 +75,7 @@ pub fn serve<R: Source, W: Sink, E: Sink>(
     ensures failed { result ≢ 0 → HasFailed words (R.remaining reader.old) (R.remaining reader.new) writer.old writer.new
         (E.contents errors.old) (E.contents errors.new) (R.failed reader.new) (W.failed writer.new) (E.failed errors.new) result }
 {
-    match attend(alloc, words, reader, writer) {
+    match attend(rt, words, reader, writer) {
         Ok(()) => 0,
         Err(fault) => {
             let _ = fault.complain(errors);

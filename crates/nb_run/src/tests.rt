@@ -1,7 +1,8 @@
 //! What must come of whole scripts, and of the words of a command line.
-ghost use Rattle.std.specs.Prelude.{◌≡◌, IfOk, false};
+ghost use Rattle.std.specs.Prelude.{◌≡◌, false};
 
 mod ends;
+mod workers;
 
 use crate::faults::{RunFault, ServeFault};
 use crate::options::{OptionFault, Options};
@@ -13,7 +14,9 @@ use nb_core::{Shape, ShapeFault};
 use std::alloc::{AllocError, Global};
 use std::fmt::Display;
 use std::process::Abort;
+use std::sync::Wait;
 use std::test::Fail;
+use std::thread::Threads;
 
 const PUT_GET_PUT: &str = "0 put 7 5\n0 get 7\n0 put 7 6\n";
 
@@ -27,9 +30,7 @@ const CONDITIONAL_ANSWERS: &str =
     0 -\n0 -\nsize 0\n";
 
 /// The options where none are given.
-fn plain_options() -> Result<Options, ShapeFault>
-    ensures { IfOk result (λ options. options.shape.seats ≡ 1) }
-{
+fn plain_options() -> Result<Options, ShapeFault> {
     let shape = Shape::new(4, 4, 1, 1)?;
     Ok(Options { shape })
 }
@@ -44,7 +45,7 @@ fn words_of(alloc: Global, given: &[&str]) -> Result<Vec<String>, AllocError> {
 }
 
 /// Asserts what a run without options answers, and all that it writes.
-fn assert_runs<H: Abort + AllocGlobal, R: Source>(
+fn assert_runs<H: Abort + AllocGlobal + Threads + Wait + Sync, R: Source>(
     rt: &H,
     reader: &mut R,
     answer: Result<(), RunFault>,
@@ -55,14 +56,14 @@ fn assert_runs<H: Abort + AllocGlobal, R: Source>(
     let options = plain_options()?;
     let mut output = Vec::new(rt.alloc());
     let mut writer = FromWrite::new(&mut output);
-    let result = run(rt.alloc(), &options, reader, &mut writer);
+    let result = run(rt, &options, reader, &mut writer);
     assert_eq!(rt; result, answer, "where {text:?} is due");
     assert_eq!(rt; output.as_slice(), text.as_bytes());
     Ok(())
 }
 
 /// Asserts the program's status, all that it writes, and all that it says of a fault.
-fn assert_serves<H: Abort + AllocGlobal>(
+fn assert_serves<H: Abort + AllocGlobal + Threads + Wait + Sync>(
     rt: &H,
     words: Result<Vec<String>, OptionFault>,
     script: &[u8],
@@ -75,7 +76,7 @@ fn assert_serves<H: Abort + AllocGlobal>(
     let mut reader = FromRead::new(script);
     let mut writer = FromWrite::new(&mut output);
     let mut errors = FromWrite::new(&mut said);
-    let given = serve(rt.alloc(), words, &mut reader, &mut writer, &mut errors);
+    let given = serve(rt, words, &mut reader, &mut writer, &mut errors);
     assert_eq!(rt; said.as_slice(), complaint.as_bytes(), "at {script:?}");
     assert_eq!(rt; given, status, "at {script:?}");
     assert_eq!(rt; output.as_slice(), text.as_bytes(), "at {script:?}");
@@ -288,7 +289,7 @@ fn help_is_written(rt: HostRuntime) -> Result<(), Fail> {
     let mut reader = FromRead::new(b"".as_slice());
     let mut writer = FromWrite::new(&mut output);
     let mut errors = FromWrite::new(&mut said);
-    let status = serve(rt.alloc(), words, &mut reader, &mut writer, &mut errors);
+    let status = serve(&rt, words, &mut reader, &mut writer, &mut errors);
     assert_eq!(rt; status, 0);
     assert!(rt; said.is_empty());
     let text = String::from_utf8(output)?;

@@ -38,7 +38,7 @@ fn a_plan_outweighs_bits(rt: HostRuntime) -> Result<(), Fail> {
 
 #[test]
 fn refuses_what_is_no_option(rt: HostRuntime) {
-    let refused: [&[&str]; 16] = [
+    let refused: [&[&str]; 15] = [
         &["--bits", "1"],
         &["--bits"],
         &["--bits", "2", "--bits", "3"],
@@ -50,7 +50,6 @@ fn refuses_what_is_no_option(rt: HostRuntime) {
         &["--plan", "4294967298"],
         &["--plan", "2,2,2,2,2,2,2,2,2,2,2,2,2,2,2,2,2"],
         &["--plan", "2", "--bits", "1"],
-        &["--seats", "2"],
         &["--seats", "9"],
         &["--nope"],
         &["stray"],

@@ -180,7 +180,7 @@ fn failures_at_every_write(rt: HostRuntime) -> Result<(), Fail> {
             writes_left,
             failed: false,
         };
-        let result = run(rt.alloc(), &options, &mut reader, &mut writer);
+        let result = run(&rt, &options, &mut reader, &mut writer);
         let whole = writes_left == text.len();
         let answer = if whole { Ok(()) } else { Err(RunFault::Write) };
         assert_eq!(rt; result, answer, "after {writes_left} writes");
@@ -201,14 +201,14 @@ fn interruptions_are_failures(rt: HostRuntime) -> Result<(), Fail> {
     let options = plain_options()?;
     let mut reader = slow_source(usize::MAX);
     let mut stuck = FromWrite::new(Stuck);
-    let result = run(rt.alloc(), &options, &mut reader, &mut stuck);
+    let result = run(&rt, &options, &mut reader, &mut stuck);
     assert_eq!(rt; result, Err(RunFault::Write));
     assert_eq!(rt; stuck.write(b"-"), Err(Failed));
     assert_eq!(rt; stuck.write(b""), Ok(0));
 
     let mut reader = slow_source(usize::MAX);
     let mut writer = FromWrite::new(Interrupted);
-    let result = run(rt.alloc(), &options, &mut reader, &mut writer);
+    let result = run(&rt, &options, &mut reader, &mut writer);
     assert_eq!(rt; result, Err(RunFault::Write));
     Ok(())
 }
@@ -218,7 +218,7 @@ fn failed_ends_are_told(rt: HostRuntime) -> Result<(), Fail> {
     let mut output = Vec::new(rt.alloc());
     let mut said = Vec::new(rt.alloc());
     let status = serve(
-        rt.alloc(),
+        &rt,
         Ok(words_of(rt.alloc(), &[])?),
         &mut FromRead::new(Interrupted),
         &mut FromWrite::new(&mut output),
@@ -230,7 +230,7 @@ fn failed_ends_are_told(rt: HostRuntime) -> Result<(), Fail> {
 
     said.clear();
     let status = serve(
-        rt.alloc(),
+        &rt,
         Ok(words_of(rt.alloc(), &[])?),
         &mut slow_source(usize::MAX),
         &mut FromWrite::new(Interrupted),
@@ -246,7 +246,7 @@ fn failing_errors_change_no_status(rt: HostRuntime) -> Result<(), Fail> {
     let words = Ok(words_of(rt.alloc(), &[])?);
     let mut output = Vec::new(rt.alloc());
     let read = serve(
-        rt.alloc(),
+        &rt,
         words,
         &mut FromRead::new(Interrupted),
         &mut FromWrite::new(&mut output),
@@ -261,7 +261,7 @@ fn failing_errors_change_no_status(rt: HostRuntime) -> Result<(), Fail> {
     ];
     for (words, due) in cases {
         let status = serve(
-            rt.alloc(),
+            &rt,
             words,
             &mut FromRead::new(b"0\n".as_slice()),
             &mut FromWrite::new(&mut output),

@@ -1,6 +1,6 @@
-use Rattle.std.proofs.Common.{arith, map, string_bytes}
+use Rattle.std.proofs.Common.{map, string_bytes}
 use Rattle.clap.specs.Words.{app_of, kind_of}
-use Rattle.nb_run.proofs.FaultLemmas.{are_given, is_due, is_none_due, seats_differ}
+use Rattle.nb_run.proofs.FaultLemmas.{are_given, is_due, is_none_due}
 use Rattle.nb_run.proofs.options.read_options.Goals as goal
 
 pub returns-in-Err-clause-fault : goal.returns-in-Err-clause-fault
@@ -10,12 +10,7 @@ returns-in-Err-clause-fault c =
 pub returns-in_default-clause-fault : goal.returns-in_default-clause-fault
 returns-in_default-clause-fault c =
     is_none_due (app_of c.in_ok-command.field-0) (map string_bytes c.args.words.now) c.in-Ok.matches c.in_ok-command.ensures c.in-Ok.ensures.kinds c.in-Ok.ensures.matches
-    (λ plan given one. c.in_default.ensures.none plan given)
-
-pub returns-then-seats-ne1-clause-fault : goal.returns-then-seats-ne1-clause-fault
-returns-then-seats-ne1-clause-fault c =
-    is_none_due (app_of c.in_ok-command.field-0) (map string_bytes c.args.words.now) c.in-Ok.matches c.in_ok-command.ensures c.in-Ok.ensures.kinds c.in-Ok.ensures.matches
-    (seats_differ _ c.in-Some.shape c.in-Some.ensures.some (λ one. omega (arith, c.seats.ensures)))
+    c.in_default.ensures.none
 
 pub returns-clause-given : goal.returns-clause-given
 returns-clause-given c =

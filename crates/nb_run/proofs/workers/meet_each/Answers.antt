@@ -1,0 +1,31 @@
+use Rattle.std.proofs.Common.{◌≡◌, ◌∙◌, ◌<◌, arith, get_or, length, subst, sym}
+use Rattle.std.proofs.lemmas.List.{get_or_default}
+use Rattle.nb_map.specs.Maps.{IsMine}
+use Rattle.nb_run.proofs.Meeting.{each-more, same-at}
+use Rattle.nb_run.proofs.workers.meet_each.Goals as goal
+
+pub meet-requires-clause-b_own : goal.meet-requires-clause-b_own
+meet-requires-clause-b_own c =
+    let workers = c.args.others.now in
+    let now = c.loop-other.others in
+    let i = c.loop-other.other-index in
+    let d = c.other-item.result in
+    let below : i < length now = omega (arith, c.loop-other-test.true, c.loop-other.auto.others) in
+    subst (λ w. IsMine c.args.map.now w.seat) (sym (same-at workers now i d c.loop-other-test.true below c.loop-other.invariant.3))
+    (c.requires.others i d c.loop-other-test.true)
+
+pub loop-other-preserved : goal.loop-other-preserved
+loop-other-preserved c =
+    let m = c.args.map.now in
+    let workers = c.args.others.now in
+    let now = c.loop-other.others in
+    let i = c.loop-other.other-index in
+    let d = c.other-item.result in
+    let inv = c.loop-other.invariant in
+    let worker = get_or now i d in
+    let below : i < length now = omega (arith, c.loop-other-test.true, c.loop-other.auto.others) in
+    let at : worker ≡ get_or workers i worker =
+    same-at workers now i d c.loop-other-test.true below inv.3 ∙ get_or_default workers i d worker c.loop-other-test.true in
+    let mine : IsMine m worker.seat = subst (λ w. IsMine m w.seat) (sym at) (c.requires.others i worker c.loop-other-test.true) in
+    each-more c.steps_add_up.ensures m workers now i worker c.args.seat.now c.loop-other.seat c.meet.new.a c.meet.new.b
+    c.loop-other-test.true below at inv.3 c.requires.own mine inv.1 inv.2 c.meet.ensures.a c.meet.ensures.b

@@ -1,0 +1,19 @@
+//! What is done round each command.
+
+/// What a run does round each command of its workers: the worker's number, and the command's, which counts from 0 within
+/// the worker and the phase.
+pub trait Gate {
+    fn before(&self, worker: usize, number: usize);
+
+    fn after(&self, worker: usize, number: usize);
+}
+
+/// The gate that does nothing.
+#[derive(Clone, Copy, Debug, PartialEq, Eq)]
+pub struct Open;
+
+impl Gate for Open {
+    fn before(&self, _worker: usize, _number: usize) {}
+
+    fn after(&self, _worker: usize, _number: usize) {}
+}

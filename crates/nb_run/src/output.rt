@@ -1,0 +1,195 @@
+//! The program's output, written from the answers through a buffer of fixed size. It takes no memory.
+ghost use Rattle.std.specs.Prelude.{◌≡◌, ◌<◌, ◌≤◌, ◌+◌, ◌||◌, ◌++◌, ℕ, [], List, Some, decimal, is_err, length, map, OnOk, slice_get, slice_index};
+ghost use Rattle.std.specs.Io.KnownBytes.{Appends};
+ghost use Rattle.std.specs.List.{flat_map};
+ghost use Rattle.nb_run.specs.Output.{AreAnswersOf, Says, all_lines, ending_of, left, phase_lines};
+ghost use Rattle.nb_run.specs.Text.{answer_line, answer_text, entry_line};
+ghost use Rattle.nb_run.specs.Working.{commands_of};
+
+use crate::answers::Answer;
+use crate::reader::Phase;
+use crate::script::Command;
+use crate::streams::{Failed, Sink, write_all};
+use arrayvec::ArrayVec;
+use itoa::Buffer;
+use nb_core::{Key, Num};
+
+/// How many bytes are written at once.
+const ROOM: usize = 4096;
+
+/// How many workers there are at most.
+const WORKERS: usize = 8;
+
+/// Bytes that wait to be written.
+type Waiting = ArrayVec<u8, ROOM>;
+
+/// Writes the bytes that wait.
+fn flush<W: Sink>(writer: &mut W, waiting: &mut Waiting) -> Result<(), Failed>
+    ensures written { OnOk result (Appends (W.contents writer.old) (W.contents writer.new) waiting.old.items) }
+    ensures empty { OnOk result (waiting.new.items ≡ []) }
+    ensures marks { W.failed writer.new ≡ (is_err result || W.failed writer.old) }
+{
+    write_all(writer, waiting.as_slice())?;
+    waiting.clear();
+    Ok(())
+}
+
+/// Puts the bytes behind those that wait. Where there is no room, it writes those first.
+fn say<W: Sink>(writer: &mut W, waiting: &mut Waiting, bytes: &[u8]) -> Result<(), Failed>
+    ensures said { OnOk result (Says (W.contents writer.old) waiting.old.items (W.contents writer.new) waiting.new.items bytes.now) }
+    ensures marks { W.failed writer.new ≡ (is_err result || W.failed writer.old) }
+{
+    if waiting.try_extend_from_slice(bytes).is_ok() {
+        return Ok(());
+    }
+    flush(writer, waiting)?;
+    match waiting.try_extend_from_slice(bytes) {
+        Ok(()) => Ok(()),
+        // They are more than the buffer takes.
+        Err(_) => write_all(writer, bytes),
+    }
+}
+
+fn say_number<W: Sink>(writer: &mut W, waiting: &mut Waiting, number: u64) -> Result<(), Failed>
+    ensures said { OnOk result (Says (W.contents writer.old) waiting.old.items (W.contents writer.new) waiting.new.items (decimal number)) }
+    ensures marks { W.failed writer.new ≡ (is_err result || W.failed writer.old) }
+{
+    say(writer, waiting, Buffer::new().format(number).as_bytes())
+}
+
+fn say_answer<W: Sink>(writer: &mut W, waiting: &mut Waiting, answer: &Answer) -> Result<(), Failed>
+    ensures said { OnOk result (Says (W.contents writer.old) waiting.old.items (W.contents writer.new) waiting.new.items (answer_text answer.now)) }
+    ensures marks { W.failed writer.new ≡ (is_err result || W.failed writer.old) }
+{
+    match answer {
+        Answer::Nothing => say(writer, waiting, b"-"),
+        Answer::Value(number) => say_number(writer, waiting, number.get()),
+        Answer::Matched(true) => say(writer, waiting, b"true"),
+        Answer::Matched(false) => say(writer, waiting, b"false"),
+        Answer::Full => say(writer, waiting, b"full"),
+        Answer::Range => say(writer, waiting, b"range"),
+    }
+}
+
+/// Says one answer, on a line of its own.
+fn say_line<W: Sink>(
+    writer: &mut W,
+    waiting: &mut Waiting,
+    worker: usize,
+    answer: &Answer,
+) -> Result<(), Failed>
+    ensures said { OnOk result (Says (W.contents writer.old) waiting.old.items (W.contents writer.new) waiting.new.items (answer_line worker answer.now)) }
+    ensures marks { W.failed writer.new ≡ (is_err result || W.failed writer.old) }
+{
+    say_number(writer, waiting, worker as u64)?;
+    say(writer, waiting, b" ")?;
+    say_answer(writer, waiting, answer)?;
+    say(writer, waiting, b"\n")
+}
+
+/// Says one worker's answers.
+fn say_lines<W: Sink>(
+    writer: &mut W,
+    waiting: &mut Waiting,
+    worker: usize,
+    answers: &[Answer],
+) -> Result<(), Failed>
+    ensures said { OnOk result (Says (W.contents writer.old) waiting.old.items (W.contents writer.new) waiting.new.items (flat_map (answer_line worker) answers.now)) }
+    ensures marks { W.failed writer.new ≡ (is_err result || W.failed writer.old) }
+{
+    for answer in answers {
+        say_line(writer, waiting, worker, answer)?;
+    }
+    Ok(())
+}
+
+/// How many commands of a phase are the worker's.
+pub(crate) fn count_of(worker: usize, phase: &[(usize, Command)]) -> usize
+    ensures { result ≡ length (commands_of worker phase.now) }
+{
+    phase.iter().filter(|task| task.0 == worker).count()
+}
+
+/// Says the answers of a phase, worker by worker. `done` counts for each worker the answers that were said.
+fn say_phase<W: Sink>(
+    writer: &mut W,
+    waiting: &mut Waiting,
+    phase: &[(usize, Command)],
+    answers: &[Vec<Answer>],
+    done: &mut [usize; WORKERS],
+) -> Result<(), Failed>
+    requires few { length answers.now ≤ 8 }
+    requires enough { (w : ℕ) (mine : List Answer) → slice_get (map (λ list. list.items) answers.now) w ≡ Some mine
+        → slice_index done.old w + length (commands_of w phase.now) ≤ length mine }
+    ensures said { OnOk result (Says (W.contents writer.old) waiting.old.items (W.contents writer.new) waiting.new.items
+        (phase_lines phase.now 0 (left done.old 0 (map (λ list. list.items) answers.now)))) }
+    ensures done { OnOk result ((w : ℕ) → w < length answers.now
+        → slice_index done.new w ≡ slice_index done.old w + length (commands_of w phase.now)) }
+    ensures marks { W.failed writer.new ≡ (is_err result || W.failed writer.old) }
+{
+    for (worker, list) in answers.iter().enumerate() {
+        let first = done[worker];
+        let end = first + count_of(worker, phase);
+        say_lines(writer, waiting, worker, &list.as_slice()[first..end])?;
+        done[worker] = end;
+    }
+    Ok(())
+}
+
+/// Says the size and the entries.
+fn say_ending<W: Sink>(
+    writer: &mut W,
+    waiting: &mut Waiting,
+    size: u64,
+    entries: &[(Key, Num)],
+) -> Result<(), Failed>
+    ensures said { OnOk result (Says (W.contents writer.old) waiting.old.items (W.contents writer.new) waiting.new.items (ending_of size entries.now)) }
+    ensures marks { W.failed writer.new ≡ (is_err result || W.failed writer.old) }
+{
+    say(writer, waiting, b"size ")?;
+    say_number(writer, waiting, size)?;
+    say(writer, waiting, b"\n")?;
+    say_entries(writer, waiting, entries)
+}
+
+/// Says the entries, each on a line of its own.
+fn say_entries<W: Sink>(
+    writer: &mut W,
+    waiting: &mut Waiting,
+    entries: &[(Key, Num)],
+) -> Result<(), Failed>
+    ensures said { OnOk result (Says (W.contents writer.old) waiting.old.items (W.contents writer.new) waiting.new.items (flat_map entry_line entries.now)) }
+    ensures marks { W.failed writer.new ≡ (is_err result || W.failed writer.old) }
+{
+    for (key, number) in entries {
+        say_number(writer, waiting, key.get())?;
+        say(writer, waiting, b" ")?;
+        say_number(writer, waiting, number.get())?;
+        say(writer, waiting, b"\n")?;
+    }
+    Ok(())
+}
+
+/// Writes what the commands were answered, phase by phase and in each phase worker by worker, then the size and the
+/// entries. Each worker's answers stand in one list, for all phases one after another.
+pub(crate) fn tell<W: Sink>(
+    writer: &mut W,
+    phases: &[Phase],
+    answers: &[Vec<Answer>],
+    size: u64,
+    entries: &[(Key, Num)],
+) -> Result<(), Failed>
+    requires few { length answers.now ≤ 8 }
+    requires enough { AreAnswersOf (map (λ phase. phase.items) phases.now) 0 (map (λ list. list.items) answers.now) }
+    ensures told { OnOk result (Appends (W.contents writer.old) (W.contents writer.new)
+        (all_lines (map (λ phase. phase.items) phases.now) (map (λ list. list.items) answers.now) ++ ending_of size entries.now)) }
+    ensures marks { W.failed writer.new ≡ (is_err result || W.failed writer.old) }
+{
+    let mut waiting = ArrayVec::new();
+    let mut done = [0; WORKERS];
+    for phase in phases {
+        say_phase(writer, &mut waiting, phase.as_slice(), answers, &mut done)?;
+    }
+    say_ending(writer, &mut waiting, size, entries)?;
+    flush(writer, &mut waiting)
+}
