@@ -5,7 +5,7 @@ use Rattle.std.specs.Str.Parse.{ExplainsUnsignedError, HasUnsignedDigitsIfOk, Pa
 use Rattle.std.specs.declared.num.ParseIntError.{ParseIntError}
 use Rattle.clap.specs.declared.parser.matches.Found.{Found}
 use Rattle.clap.specs.Matches.{ReadsOne}
-use Rattle.clap.specs.Words.{Row, Text, first_of, first_value, one_text, rows_of}
+use Rattle.clap.specs.Words.{Text, first_of, first_value, one_text, rows_of}
 use Rattle.clap.proofs.WalkLemmas.{first_value-rows, one_text-rows}
 use Rattle.nb_core.specs.Plans.{Plan}
 use Rattle.nb_run.specs.Options.{IsFound, number_in, plan_of, u32_of}
@@ -78,12 +78,3 @@ module _ (f : Found) (bits generations seats stripes : ℕ) (given text : Option
       × (IfNone r (plan_of text bits generations seats stripes ≡ None) → IfNone r ((plan : Plan) → IsFound (rows_of f) plan → ⊥))
   settled (Some plan) = (found plan, λ h. h)
   settled None = (λ h. h, λ none plan x. let bad : None ≡ Some plan = sym none ∙ found_is plan x in cc)
-
--- the words give one plan at most
-pub found_same : (rows : List Row) (p q : Plan) → IsFound rows p → IsFound rows q → p ≡ q
-found_same rows p q x y =
-    let bits : x.bits ≡ y.bits = same_value (sym x.bits_found ∙ y.bits_found) in
-    let generations : x.generations ≡ y.generations = same_value (sym x.generations_found ∙ y.generations_found) in
-    let seats : x.seats ≡ y.seats = same_value (sym x.seats_found ∙ y.seats_found) in
-    let stripes : x.stripes ≡ y.stripes = same_value (sym x.stripes_found ∙ y.stripes_found) in
-    same_value (sym x.plan_found ∙ rw (bits, generations, seats, stripes) y.plan_found)

@@ -151,15 +151,6 @@ module _ (lasts : SeenLasts) (changes : LawfulChanges) (one : HasOneSlot) where
           subst (λ n. All (IsClaimOf p cs (tables_at p history)) (own_events n history)) found.1
           (claimed-history lasts p plan cs found.0.chain history found.2.1 found.2.0 legal)
 
-  -- So where a command was refused for want of room, by what a seat had seen then.
-  pub crowd-refused :
-      (m : MapOf) → IsPlan m.chain.shape → (phases : List Phase) (answers : List (List (List Answer))) (after : List SeatOf) (ended : EndedOf)
-      → HaveRun m phases answers (seats_of m 0 m.chain.shape.seats) after → (end : EndedWith m.chain.shape after ended) → (c : Command)
-      (before then : SeatOf) → IsAnswered m c answer.Full before then → IsBeginning then.chain.seen end.history
-      → MayCrowd m.chain.shape (all_commands phases) c
-  crowd-refused m plan phases answers after ended ran end c before then is beginning =
-      (ap not is.1.0, crowd-ended m plan phases answers after ended ran end (key_of_command c) then.chain.seen beginning is.1.1)
-
   -- ---- one worker
 
   module _ (m : MapOf) (plan : IsPlan m.chain.shape) where

@@ -47,9 +47,6 @@ pub record IsReadying (phases : List Phase) (seats left : List SeatOf) (workers 
   pub room : All (HasRoom phases) workers
   pub fresh : All IsFresh workers
 
-pub readying-first : (phases : List Phase) (seats : List SeatOf) → IsReadying phases seats seats []
-readying-first phases seats = record { seated = refl; numbered = tt; room = All-nil (HasRoom phases); fresh = All-nil IsFresh }
-
 -- one worker more
 pub readying-more :
     (phases : List Phase) (seats left left' : List SeatOf) (workers : List Worker) (w : Worker) → IsReadying phases seats left' workers
@@ -89,9 +86,6 @@ readying-left phases seats left left' s workers so_far is =
 pub record IsRetiring (workers left : List Worker) (seats : List SeatOf) (answers : List (Vec Answer Global)) : Type 0 where
   pub seated : seats_of workers ≡ seats ++ seats_of left
   pub answered : answers_of workers ≡ lists_in answers ++ answers_of left
-
-pub retiring-first : (workers : List Worker) → IsRetiring workers workers [] []
-retiring-first workers = record { seated = refl; answered = refl }
 
 pub retiring-more :
     (workers left left' : List Worker) (w : Worker) (seats : List SeatOf) (answers : List (Vec Answer Global))

@@ -1,11 +1,11 @@
 -- The lines of the output, from each worker's answers in one list, and what is left of the lists phase by phase.
-use Rattle.std.proofs.Common.{◌≡◌, ◌∙◌, ℕ, zero, suc, ◌+◌, ◌-◌, ◌<◌, ◌≤◌, List, [], ◌∷◌, ◌++◌, Some, None, All, ap, ap₂, sym, refl, length, drop, take, map, get_or, append_assoc, append-nil, add-one, arith, length-append, slice_get, slice_index, slice_set, replicate, inl, inr}
+use Rattle.std.proofs.Common.{◌≡◌, ◌∙◌, ℕ, zero, suc, ◌+◌, ◌-◌, ◌<◌, ◌≤◌, List, [], ◌∷◌, ◌++◌, Some, None, All, ap, ap₂, sym, refl, length, drop, take, map, get_or, add-one, arith, length-append, slice_get, slice_index, slice_set, replicate, inl, inr}
 use Rattle.std.specs.List.{flat_map}
 use Rattle.std.proofs.Math.Seq.{drop-append_seam, drop-cons, take-append_seam}
 use Rattle.std.proofs.lemmas.Bool.{cases_eq}
 use Rattle.std.proofs.lemmas.List.Elements.{All-head, All-tail}
 use Rattle.std.proofs.lemmas.List.{drop-drop, get_or-set_other, get_or-set_same}
-use Rattle.nb_run.specs.Output.{AreAnswersOf, AreFirst, AreJoined, AreLast, after_phase, all_lines, left, phase_lines}
+use Rattle.nb_run.specs.Output.{AreAnswersOf, AreFirst, AreJoined, after_phase, all_lines, left, phase_lines}
 use Rattle.nb_run.specs.Script.{Bytes, Phase}
 use Rattle.nb_run.specs.Text.{answer_line}
 use Rattle.nb_run.specs.Told.{phase_text}
@@ -174,51 +174,3 @@ joined-answers [] (first ∷ answers) whole h = absurd h
 joined-answers (phase ∷ phases) [] whole h = absurd h
 joined-answers (phase ∷ phases) (first ∷ answers) whole h =
     first-answers phase phases 0 first h.0 whole h.1 (joined-answers phases answers h.0 h.2)
-
--- ---- one phase more
-
-alone :
-    (phase : Phase) (w : ℕ) (before last whole : List (List Answer)) → All (λ mine. mine ≡ []) before → AreLast phase w before last whole
-    → AreFirst phase w last before whole
-alone phase w [] [] [] none h = tt
-alone phase w (begun ∷ before) (mine ∷ last) (all ∷ whole) none h =
-    let empty = All-head (λ mine. mine ≡ []) begun before none in (
-      h.0,
-      h.1 ∙ ap (λ list. list ++ mine) empty ∙ sym (append-nil mine) ∙ ap (λ list. mine ++ list) (sym empty),
-      alone phase (suc w) before last whole (All-tail (λ mine. mine ≡ []) begun before none) h.2,
-    )
-alone phase w [] [] (all ∷ whole) none h = absurd h
-alone phase w [] (mine ∷ last) whole none h = absurd h
-alone phase w (begun ∷ before) [] whole none h = absurd h
-alone phase w (begun ∷ before) (mine ∷ last) [] none h = absurd h
-
--- the lists behind the first phase's, with one phase more
-behind :
-    (phase more : Phase) (w : ℕ) (first rest before last whole : List (List Answer)) → AreFirst phase w first rest before → AreLast more w before last whole
-    → (rest' : List (List Answer)) × AreFirst phase w first rest' whole × AreLast more w rest last rest'
-behind phase more w [] [] [] [] [] h then = ([], tt, tt)
-behind phase more w (mine ∷ first) (others ∷ rest) (begun ∷ before) (newest ∷ last) (all ∷ whole) h then =
-    let next = behind phase more (suc w) first rest before last whole h.2 then.2 in (
-      (others ++ newest) ∷ next.0,
-      (h.0, then.1 ∙ ap (λ list. list ++ newest) h.1 ∙ append_assoc mine others newest, next.1),
-      (then.0, refl, next.2),
-    )
-behind phase more w [] [] [] [] (all ∷ whole) h then = absurd then
-behind phase more w [] [] [] (newest ∷ last) whole h then = absurd then
-behind phase more w [] [] (begun ∷ before) last whole h then = absurd h
-behind phase more w [] (others ∷ rest) before last whole h then = absurd h
-behind phase more w (mine ∷ first) [] before last whole h then = absurd h
-behind phase more w (mine ∷ first) (others ∷ rest) [] last whole h then = absurd h
-behind phase more w (mine ∷ first) (others ∷ rest) (begun ∷ before) [] whole h then = absurd then
-behind phase more w (mine ∷ first) (others ∷ rest) (begun ∷ before) (newest ∷ last) [] h then = absurd then
-
--- The lists of some phases, and behind them those of one more.
-pub joined-more :
-    (phases : List Phase) (answers : List (List (List Answer))) (before : List (List Answer)) (phase : Phase) (last whole : List (List Answer))
-    → AreJoined phases answers before → AreLast phase 0 before last whole → AreJoined (phases ++ phase ∷ []) (answers ++ last ∷ []) whole
-joined-more [] [] before phase last whole h then = (before, alone phase 0 before last whole h then, h)
-joined-more [] (first ∷ answers) before phase last whole h then = absurd h
-joined-more (earlier ∷ phases) [] before phase last whole h then = absurd h
-joined-more (earlier ∷ phases) (first ∷ answers) before phase last whole h then =
-    let next = behind earlier phase 0 first h.0 before last whole h.1 then in
-    (next.0, next.1, joined-more phases answers h.0 phase last next.0 h.2 next.2)

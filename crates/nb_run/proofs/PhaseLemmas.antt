@@ -278,11 +278,6 @@ module _ (m : MapOf) (kept : List (Vec (ℕ × Command) Global)) where
             (run-phase m phase.items later now apart next last so_far.numbered run met rest));
       }
 
-  pub some-first :
-      (workers : List Worker) → All (λ w. IsMine m w.seat) workers → AreNumbered 0 workers → All (HasRoom (phases_in kept)) workers
-      → HaveRunSome m (phases_in kept) 0 workers workers
-  some-first workers own numbered room = record { own = own; numbered = numbered; room = room; goes_on = λ last rest. rest }
-
   pub some-done :
       (i : ℕ) (first now : List Worker) → length kept ≤ i → HaveRunSome m (phases_in kept) i first now
       → HaveRunAll m (phases_in kept) first now

@@ -17,9 +17,6 @@ pub record IsRunning (m : MapOf) (w : ℕ) (phase : Phase) (i : ℕ) (before ans
       → AreAnswered m (commands_of w phase) (so_far ++ later) first last
 
 module _ (m : MapOf) (w : ℕ) (phase : Phase) where
-  pub running-first : (before : List Answer) (seat : SeatOf) → IsRunning m w phase 0 before before seat seat
-  running-first before seat = record { so_far = []; kept = sym (append-nil before); goes_on = λ later last rest. rest }
-
   -- the commands of the tasks from place i on
   next-own : (i : ℕ) (task : ℕ × Command) → i < length phase → task ≡ get_or phase i task → (task.0 == w) ≡ true
       → commands_of w (drop i phase) ≡ task.1 ∷ commands_of w (drop (i + 1) phase)

@@ -1,7 +1,6 @@
 -- What is said through the buffer, one part after another.
-use Rattle.std.proofs.Common.{◌≡◌, ◌∙◌, ℕ, suc, ◌+◌, ◌<◌, ◌≤◌, List, [], ◌∷◌, ◌++◌, Option, ap, sym, subst, subst₂, refl, length, drop, get_or, append_assoc, append-nil, add-one, codes, decimal}
+use Rattle.std.proofs.Common.{◌≡◌, ◌∙◌, ℕ, suc, ◌+◌, ◌<◌, List, [], ◌∷◌, ◌++◌, Option, ap, sym, subst₂, refl, length, drop, get_or, append_assoc, append-nil, add-one, codes, decimal}
 use Rattle.std.proofs.Math.Seq.{drop-cons}
-use Rattle.std.proofs.lemmas.List.{drop_all}
 use Rattle.std.specs.List.{flat_map}
 use Rattle.std.specs.Io.KnownBytes.{Appends}
 use Rattle.std.proofs.KnownBytes.{Appends-nil, Appends-trans}
@@ -12,15 +11,6 @@ use Rattle.nb_run.specs.declared.answers.Answer.{Answer}
 
 pub says-nothing : (written : Option Bytes) (waiting : Bytes) → Says written waiting written waiting []
 says-nothing written waiting = record { out = []; appended = Appends-nil written; is = append-nil waiting }
-
--- they wait
-pub says-kept : (written : Option Bytes) (waiting text : Bytes) (waiting' : Bytes) → waiting' ≡ waiting ++ text → Says written waiting written waiting' text
-says-kept written waiting text waiting' is = record { out = []; appended = Appends-nil written; is = sym is }
-
--- what waited goes out, and they wait
-pub says-flushed :
-    (old new : Option Bytes) (waiting waiting' text : Bytes) → Appends old new waiting → waiting' ≡ text → Says old waiting new waiting' text
-says-flushed old new waiting waiting' text gone is = record { out = waiting; appended = gone; is = ap (λ bytes. waiting ++ bytes) (sym is) }
 
 -- all goes out
 pub says-through :
@@ -40,14 +30,6 @@ says-both a b c p q r first second one two = record {
   is = sym (append_assoc p first second) ∙ ap (λ bytes. bytes ++ second) one.is ∙ append_assoc one.out q second
       ∙ ap (λ bytes. one.out ++ bytes) two.is ∙ sym (append_assoc one.out two.out r);
 }
-
--- what waits at the end goes out
-pub says-all :
-    (old mid new : Option Bytes) (waiting text : Bytes) → Says old [] mid waiting text → Appends mid new waiting → Appends old new text
-says-all old mid new waiting text said gone =
-    let whole : said.out ++ waiting ≡ text = sym said.is in
-    let P : Bytes → Type 0 = λ bytes. Appends old new bytes in
-    subst P whole (Appends-trans old mid new said.out waiting said.appended gone)
 
 -- ---- one part after another of a whole
 
@@ -69,10 +51,6 @@ has-more a b c p q r part rest rest' whole so_far said next = record {
   all = append_assoc so_far.text part rest' ∙ ap (λ bytes. so_far.text ++ bytes) (sym next) ∙ so_far.all;
 }
 
-pub has-all : (a b : Option Bytes) (p q rest whole : Bytes) → HasSaid a p b q rest whole → rest ≡ [] → Says a p b q whole
-has-all a b p q rest whole so_far none =
-    subst (Says a p b q) (sym (append-nil so_far.text) ∙ ap (λ bytes. so_far.text ++ bytes) (sym none) ∙ so_far.all) so_far.said
-
 -- ---- items, each with its text
 
 module _ {X : Type 0} (f : X → Bytes) (xs : List X) where
@@ -80,9 +58,6 @@ module _ {X : Type 0} (f : X → Bytes) (xs : List X) where
   texts-next i x below is =
       ap (flat_map f) (drop-cons xs i x below ∙ ap (λ y. y ∷ drop (suc i) xs) (sym is))
       ∙ ap (λ n. f x ++ flat_map f (drop n xs)) (sym (add-one i))
-
-  pub texts-done : (i : ℕ) → length xs ≤ i → flat_map f (drop i xs) ≡ []
-  texts-done i whole = ap (flat_map f) (drop_all i xs whole)
 
 -- ---- the texts of the program
 

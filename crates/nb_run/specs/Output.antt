@@ -61,10 +61,3 @@ AreJoined [] (first ∷ answers) whole = ⊥
 AreJoined (phase ∷ phases) [] whole = ⊥
 AreJoined (phase ∷ phases) (first ∷ answers) whole =
     (rest : List (List Answer)) × AreFirst phase 0 first rest whole × AreJoined phases answers rest
-
--- the lists of the workers from number w on are what they were before, and then those of this phase
-abbrev pub AreLast : Phase → (w : ℕ) → (before last whole : List (List Answer)) → Type 0
-AreLast phase w [] [] [] = Unit {0}
-AreLast phase w (begun ∷ before) (mine ∷ last) (all ∷ whole) =
-    (length mine ≡ length (commands_of w phase)) × (all ≡ begun ++ mine) × AreLast phase (suc w) before last whole
-AreLast phase w _ _ _ = ⊥

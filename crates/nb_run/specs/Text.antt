@@ -93,7 +93,3 @@ text_from full m (task ∷ tasks) =
 -- the text of a script for one worker, with these commands refused
 abbrev pub text_of : (ℕ → Bool) → List Phase → Bytes
 text_of full phases = text_from full map.empty (flat_map (λ phase. phase) phases)
-
--- no command is refused
-abbrev pub none_full : ℕ → Bool
-none_full n = false
