@@ -7,7 +7,7 @@ use crate::options::Options;
 use crate::run::run_gated;
 use crate::streams::{FromRead, FromWrite};
 use nb_core::Shape;
-use std::sync::atomic::{AtomicBool, Ordering};
+use std::sync::atomic::{AtomicBool, AtomicU64, Ordering};
 use std::test::Fail;
 
 const PUTS: &str = "0 put 0 10\n0 put 1 11\n0 put 2 12\n0 put 3 13\n";
@@ -181,5 +181,51 @@ fn two_workers_at_once(rt: HostRuntime) -> Result<(), Fail> {
         output.as_slice(),
         b"0 -\n1 -\nsize 2\n1 11\n2 12\n".as_slice()
     );
+    Ok(())
+}
+
+/// Adds up what it is called with, before and after commands.
+#[derive(Drop)]
+struct Sums {
+    before: AtomicU64,
+    after: AtomicU64,
+}
+
+/// A number for a worker's command, which differs for each worker and number below ten.
+fn place(worker: usize, number: usize) -> u64 {
+    (worker as u64)
+        .wrapping_mul(10)
+        .wrapping_add((number as u64).wrapping_mul(100))
+        .wrapping_add(1)
+}
+
+impl Gate for Sums {
+    fn before(&self, worker: usize, number: usize) {
+        self.before
+            .fetch_add(place(worker, number), Ordering::SeqCst);
+    }
+
+    fn after(&self, worker: usize, number: usize) {
+        self.after
+            .fetch_add(place(worker, number), Ordering::SeqCst);
+    }
+}
+
+/// The gate is called round each command, whose number counts from 0 in each phase.
+#[test]
+fn gate_round_each_command(rt: HostRuntime) -> Result<(), Fail> {
+    let shape = Shape::new(4, 4, 2, 1)?;
+    let gate = Sums {
+        before: AtomicU64::new(0),
+        after: AtomicU64::new(0),
+    };
+    let script = b"0 put 1 1\n1 put 2 2\n0 get 1\n--\n0 get 1\n1 get 2\n".as_slice();
+    let mut output = Vec::new(rt.alloc());
+    let mut reader = FromRead::new(script);
+    let mut writer = FromWrite::new(&mut output);
+    let result = run_gated(&rt, &gate, &Options { shape }, &mut reader, &mut writer);
+    assert_eq!(rt; result, Ok(()));
+    assert_eq!(rt; gate.before.load(Ordering::SeqCst), 125);
+    assert_eq!(rt; gate.after.load(Ordering::SeqCst), 125);
     Ok(())
 }
