@@ -10,8 +10,8 @@ use Rattle.std.proofs.lemmas.List.{map-append}
 use Rattle.std.proofs.lemmas.List.Elements.{All-append, All-head, All-nil, All-tail}
 use Rattle.nb_core.specs.Calls.{Numbers, changed, holds_of, is_past_max, map_after, overflows, reply_of, with_at}
 use Rattle.nb_core.specs.History.{IsLegal, map_of}
-use Rattle.nb_core.specs.Laws.{CallsReplayed, HasOneSlot, LawfulChanges, LoneSeat, MapInRange, SeenLasts}
-use Rattle.nb_core.specs.Meaning.{AreReplies, calls_of, map_of_calls}
+use Rattle.nb_core.specs.Laws.{CallsReplayed, CrowdedAbsent, HasOneSlot, LawfulChanges, LoneSeat, MapInRange, SeenLasts}
+use Rattle.nb_core.specs.Meaning.{AreReplies, IsCrowded, calls_of, map_of_calls}
 use Rattle.nb_core.specs.Plans.{IsPlan, Plan}
 use Rattle.nb_core.specs.declared.numbers.TheConstants.{VALUE_MAX}
 use Rattle.nb_core.specs.declared.calls.Call.{Call}
@@ -22,8 +22,8 @@ use Rattle.nb_table.specs.Chains.{Grown}
 use Rattle.nb_map.specs.Ending.{EndedOf, EndedWith}
 use Rattle.nb_map.specs.Maps.{HasWaited, MapOf, SeatOf, new_seat, seats_of}
 use Rattle.nb_run.specs.Script.{Bytes, Phase}
-use Rattle.nb_run.specs.Text.{answer_line, answer_of, call_of, ending, map_left, shown, text_from}
-use Rattle.nb_run.specs.Told.{IsLoneText, MayCrowd, all_commands, phase_text}
+use Rattle.nb_run.specs.Text.{answer_line, answer_of, call_of, ending, map_behind, map_left, shown, text_from}
+use Rattle.nb_run.specs.Told.{IsLoneText, MayCrowd, all_commands, key_of_command, phase_text}
 use Rattle.nb_run.specs.Working.{AreAnswered, HasMet, HasShown, HaveMet, HaveRun, IsAnswered, PhaseRan, commands_of}
 use Rattle.nb_run.specs.declared.answers.Answer.{Answer}
 use Rattle.nb_run.specs.declared.answers.Answer.TheVariants as answer
@@ -33,10 +33,10 @@ use Rattle.nb_run.proofs.Fullness.{AreJust, commands-lone, crowd-lone-run, just-
 
 -- ---- a plain map
 
--- What a command with this answer does to a plain map. Where it was refused for want of room, it leaves the map; else it
--- answers as on the map.
+-- What a command with this answer does to a plain map. Where it was refused for want of room, its key is absent and it leaves
+-- the map; else it answers as on the map.
 abbrev pub IsPlain : Command → Answer → (before after : Numbers) → Type 0
-IsPlain c answer.Full before after = after ≡ before
+IsPlain c answer.Full before after = (get before (key_of_command c) ≡ None) × (after ≡ before)
 IsPlain c a before after = (a ≡ answer_of c before) × (after ≡ map_left c before)
 
 -- the same of one command after another
@@ -79,6 +79,29 @@ full-at [] n is = absurd cc
 full-at (a ∷ answers) zero is = ap Some (full-is a is)
 full-at (a ∷ answers) (suc n) is = full-at answers n is
 
+-- the map that a command with this answer leaves
+plain-left : (c : Command) (a : Answer) (m next : Numbers) → IsPlain c a m next → cond (is_full a) m (map_left c m) ≡ next
+plain-left c answer.Full m next is = sym is.1
+plain-left c answer.Nothing m next is = sym is.1
+plain-left c (answer.Value n) m next is = sym is.1
+plain-left c (answer.Matched b) m next is = sym is.1
+plain-left c answer.Range m next is = sym is.1
+
+-- Where a command is refused for want of room, its key is absent from the map before it.
+absent-at :
+    (cs : List Command) (answers : List Answer) (m after : Numbers) → ArePlain cs answers m after → (n : ℕ) (c : Command)
+    → full_at answers n ≡ true → slice_get cs n ≡ Some c → get (map_behind (full_at answers) m (take n cs)) (key_of_command c) ≡ None
+absent-at [] [] m after plain n c full is = absurd cc
+absent-at [] (a ∷ answers) m after plain n c full is = absurd plain
+absent-at (d ∷ cs) [] m after plain n c full is = absurd plain
+absent-at (d ∷ cs) (a ∷ answers) m after plain zero c full is =
+    let same : d ≡ c = cc in
+    subst (λ b. get m (key_of_command b) ≡ None) same
+    (subst (λ b. IsPlain d b m plain.0) (full-is a full) plain.1).0
+absent-at (d ∷ cs) (a ∷ answers) m after plain (suc n) c full is =
+    subst (λ x. get (map_behind (full_at answers) x (take n cs)) (key_of_command c) ≡ None) (sym (plain-left d a m plain.0 plain.1))
+    (absent-at cs answers plain.0 after plain.2 n c full is)
+
 -- ---- the text
 
 -- one line, and the text for the commands behind it
@@ -98,7 +121,7 @@ text-one :
     → text_from (full_at (a ∷ answers)) m (task ∷ tasks) ≡ answer_line 0 a ++ rest
 text-one task tasks answer.Full answers m next rest worker is told =
     ap (λ w. answer_line w answer.Full ++ text_from (full_at answers) m tasks) worker
-    ∙ ap (λ n. answer_line 0 answer.Full ++ text_from (full_at answers) n tasks) (sym is)
+    ∙ ap (λ n. answer_line 0 answer.Full ++ text_from (full_at answers) n tasks) (sym is.1)
     ∙ ap (λ bytes. answer_line 0 answer.Full ++ bytes) told
 text-one task tasks answer.Nothing answers m next rest worker is told =
     line-plain task tasks answer.Nothing (full_at answers) m next rest worker is.0 is.1 told
@@ -167,7 +190,7 @@ fits (call.Write k want change) m within =
 -- ---- one seat
 
 module _
-    (replayed : CallsReplayed) (lone : LoneSeat) (in_range : MapInRange) (m : MapOf) (plan : IsPlan m.chain.shape)
+    (replayed : CallsReplayed) (lone : LoneSeat) (in_range : MapInRange) (absent : CrowdedAbsent) (m : MapOf) (plan : IsPlan m.chain.shape)
     (single : m.chain.shape.seats ≡ 1)
   where
     abbrev p : Plan
@@ -245,6 +268,14 @@ module _
     refused-left : (c : Command) (before after : SeatOf) → HasCalledMore [] before after → held after ≡ held before
     refused-left c before after more = ap map_of_calls more.calls
 
+    -- and where it is refused for want of room, its key is absent
+    refused-absent :
+        (c : Command) (before after : SeatOf) → HasCalledMore [] before after → IsCrowded p after.chain.seen (key_of_command c)
+        → get (held before) (key_of_command c) ≡ None
+    refused-absent c before after more crowded =
+        ap (λ x. get x (key_of_command c)) (sym (lone-map after.chain.seen more.legal ∙ refused-left c before after more))
+        ∙ absent p plan after.chain.seen more.legal (key_of_command c) crowded
+
     -- an add that is refused for its sum answers so on the plain map
     past-plain :
         (c : Command) (before after : SeatOf) → HasCalledMore [] before after → overflows (call_of c) (map_of after.chain.seen) ≡ true
@@ -268,7 +299,7 @@ module _
     answered-plain c (answer.Matched b) before after first is = shown-plain c (answer.Matched b) before after first is
     answered-plain c answer.Full before after first is =
         let more = waited-more (call_of c) before after [] first is.0 in
-        (more.first, refused-left c before after more)
+        (more.first, (refused-absent c before after more is.1.1, refused-left c before after more))
     answered-plain c answer.Range before after first is =
         let more = waited-more (call_of c) before after [] first is.0 in
         (more.first, past-plain c before after more is.1)
@@ -364,17 +395,20 @@ module _
 -- What one worker was answered is the plain map's text, but for commands that were refused for want of room, each where earlier
 -- commands may have filled the map.
 pub lone-text :
-    CallsReplayed → LoneSeat → MapInRange → SeenLasts → LawfulChanges → HasOneSlot → (m : MapOf) → IsPlan m.chain.shape
+    CallsReplayed → LoneSeat → MapInRange → CrowdedAbsent → SeenLasts → LawfulChanges → HasOneSlot → (m : MapOf) → IsPlan m.chain.shape
     → m.chain.shape.seats ≡ 1 → (phases : List Phase) (answers : List (List (List Answer))) (after : List SeatOf) (ended : EndedOf)
     → All (λ phase. All (λ task. task.0 < 1) phase) phases → HaveRun m phases answers (seats_of m 0 m.chain.shape.seats) after
     → (end : EndedWith m.chain.shape after ended)
     → IsLoneText m.chain.shape phases (flat_map (phase_text 0) answers ++ ending (map_of end.history))
-lone-text replayed lone in_range lasts changes one m plan single phases answers after ended below ran end = record {
+lone-text replayed lone in_range absent lasts changes one m plan single phases answers after ended below ran end = record {
   full = full_at all;
   is =
       ap (λ bytes. bytes ++ ending (map_of end.history)) done.lines ∙ ap (λ x. flat_map (answer_line 0) all ++ ending x) ends
       ∙ sym (text-plain (flat_map (λ phase. phase) phases) all map_none left (all-flat phases below)
       (subst (λ cs. ArePlain cs all map_none left) (same ∙ sym (commands-flat phases)) done.plain));
+  absent = λ n c full is.
+      subst (λ cs. get (map_behind (full_at all) map_none (take n cs)) (key_of_command c) ≡ None) same
+      (absent-at (flat_map (commands_of 0) phases) all map_none left done.plain n c full (subst (λ cs. slice_get cs n ≡ Some c) (sym same) is));
   just = λ n c full is.
       subst (λ cs. MayCrowd m.chain.shape (take n cs) c) same
       (just-at m.chain.shape [] (flat_map (commands_of 0) phases) all just n c (full-at all n full)
@@ -390,8 +424,8 @@ lone-text replayed lone in_range lasts changes one m plan single phases answers 
     from_new : HaveRun m phases answers (new_seat m 0 ∷ []) after
     from_new = subst (λ n. HaveRun m phases answers (seats_of m 0 n) after) single ran
 
-    done : HasRunPlain replayed lone in_range m plan single phases answers (new_seat m 0) after
-    done = run-plain replayed lone in_range m plan single phases answers (new_seat m 0) after (record { shape = refl; number = refl }) from_new
+    done : HasRunPlain replayed lone in_range absent m plan single phases answers (new_seat m 0) after
+    done = run-plain replayed lone in_range absent m plan single phases answers (new_seat m 0) after (record { shape = refl; number = refl }) from_new
 
     map_none : Numbers
     map_none = map_of_calls []
@@ -400,7 +434,7 @@ lone-text replayed lone in_range lasts changes one m plan single phases answers 
     left = map_of_calls (calls_of done.seat.chain.seen 0)
 
     ends : map_of end.history ≡ left
-    ends = ended-plain replayed lone in_range m plan single after ended end done.seat done.is done.first
+    ends = ended-plain replayed lone in_range absent m plan single after ended end done.seat done.is done.first
 
     just : AreJust m.chain.shape [] (flat_map (commands_of 0) phases) all
     just = crowd-lone-run lasts changes one m plan single [] phases answers (new_seat m 0) after (lone-new lasts changes one m plan) from_new

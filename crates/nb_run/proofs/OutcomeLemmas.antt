@@ -8,7 +8,7 @@ use Rattle.std.specs.declared.alloc.Global.{Global}
 use Rattle.std.specs.declared.vec.Vec.{Vec}
 use Rattle.nb_core.specs.Calls.{Numbers}
 use Rattle.nb_core.specs.History.{IsLegal, map_of}
-use Rattle.nb_core.specs.Laws.{CallsReplayed, HasOneSlot, LawfulChanges, LoneSeat, MapInRange, SeenLasts}
+use Rattle.nb_core.specs.Laws.{CallsReplayed, CrowdedAbsent, HasOneSlot, LawfulChanges, LoneSeat, MapInRange, SeenLasts}
 use Rattle.nb_core.specs.Plans.{IsPlan, Plan}
 use Rattle.nb_table.specs.Left.{HoldsOfMap}
 use Rattle.nb_map.specs.Ending.{EndedOf, EndedWith}
@@ -243,12 +243,12 @@ ending-same m size es count are = ap₂ ending_of (count ∙ sym (len-entries m)
 
 -- What the workers did on a new map, and what was left of it, are what a text may tell.
 pub is-outcome :
-    CallsReplayed → LoneSeat → MapInRange → SeenLasts → LawfulChanges → HasOneSlot → (m : MapOf) → IsPlan m.chain.shape → (phases : List Phase)
+    CallsReplayed → LoneSeat → MapInRange → CrowdedAbsent → SeenLasts → LawfulChanges → HasOneSlot → (m : MapOf) → IsPlan m.chain.shape → (phases : List Phase)
     (before after : List Worker) (ended : EndedOf) (o : Outcome) → seats_of before ≡ maps.seats_of m 0 m.chain.shape.seats → All IsFresh before
     → HaveRunAll m phases before after → EndedWith m.chain.shape (seats_of after) ended → lists_in o.answers.items ≡ answers_of after
     → HoldsOfMap ended.tables (λ numbers. o.size ≡ length (entries numbers))
     → HoldsOfMap ended.tables (λ numbers. o.entries.items ≡ entries numbers) → IsOutcome m.chain.shape phases o
-is-outcome replayed lone in_range lasts changes one m plan phases before after ended o are fresh ran end answers size kept = record {
+is-outcome replayed lone in_range absent lasts changes one m plan phases before after ended o are fresh ran end answers size kept = record {
   few =
       omega (
         arith,
@@ -270,7 +270,7 @@ is-outcome replayed lone in_range lasts changes one m plan phases before after e
   };
   lone = λ single below.
       subst (IsLoneText p phases) (sym text)
-      (lone-text replayed lone in_range lasts changes one m plan single phases ran.answers (seats_of after) ended
+      (lone-text replayed lone in_range absent lasts changes one m plan single phases ran.answers (seats_of after) ended
       (subst (λ n. HaveWorkers n phases) single below) from_new end);
 }
   where

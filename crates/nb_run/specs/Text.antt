@@ -62,6 +62,11 @@ answer_of c m = if overflows (call_of c) m then answer.Range else shown c (reply
 abbrev pub map_left : Command → Numbers → Numbers
 map_left c m = if overflows (call_of c) m then m else map_after (call_of c) m
 
+-- the map that commands leave, one after another, where the one at place n is refused for want of room if full n is true
+abbrev pub map_behind : (ℕ → Bool) → Numbers → List Command → Numbers
+map_behind full m [] = m
+map_behind full m (c ∷ cs) = map_behind (λ n. full (suc n)) (if full 0 then m else map_left c m) cs
+
 -- ---- the text
 
 abbrev pub answer_text : Answer → Bytes

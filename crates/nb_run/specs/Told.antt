@@ -1,5 +1,6 @@
 -- What a text tells of a history, for any number of workers.
 use Rattle.std.specs.Prelude.{◌≡◌, ◌==◌, ◌≤◌, ◌-◌, ℕ, suc, Bool, not, true, List, [], ◌∷◌, ◌++◌, All, filter, length, map, slice_get, take, None, Some}
+use Rattle.std.specs.FinMap.{empty, get}
 use Rattle.std.specs.List.{flat_map}
 use Rattle.std.specs.Set.{distinct_count}
 use Rattle.nb_core.specs.Calls.{leaves_alone, overflows}
@@ -14,7 +15,7 @@ use Rattle.nb_table.specs.Chains.{own_events}
 use Rattle.nb_table.specs.Views.{IsBeginning}
 use Rattle.nb_map.specs.Calling.{MayMake}
 use Rattle.nb_run.specs.Script.{Bytes, Phase}
-use Rattle.nb_run.specs.Text.{answer_line, call_of, ending, shown, text_of}
+use Rattle.nb_run.specs.Text.{answer_line, call_of, ending, map_behind, shown, text_of}
 use Rattle.nb_run.specs.Working.{commands_of}
 use Rattle.nb_run.specs.declared.script.Command.{Command}
 use Rattle.nb_run.specs.declared.answers.Answer.{Answer}
@@ -111,11 +112,14 @@ pub record IsToldBy (p : Plan) (phases : List Phase) (history : List Event) (tex
 
 -- ---- one worker
 
--- The text is the plain map's but for some commands that were refused for want of room. Each of these may put a number at an
--- absent key, and earlier commands may have filled the map.
+-- The text is the plain map's but for some commands that were refused for want of room. Before each of these its key was
+-- absent; the command may put a number there, and earlier commands may have filled the map.
 pub record IsLoneText (p : Plan) (phases : List Phase) (text : Bytes) : Type 0 where
   pub full : ℕ → Bool
   pub is : text ≡ text_of full phases
+  pub absent :
+      (n : ℕ) (c : Command) → full n ≡ true → slice_get (all_commands phases) n ≡ Some c
+      → get (map_behind full empty (take n (all_commands phases))) (key_of_command c) ≡ None
   pub just :
       (n : ℕ) (c : Command) → full n ≡ true → slice_get (all_commands phases) n ≡ Some c
       → MayCrowd p (take n (all_commands phases)) c

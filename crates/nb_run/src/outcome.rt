@@ -89,6 +89,7 @@ pub(crate) fn perform<R: Threads + Wait + Sync, G: Gate + Sync>(
     laws::calls_replayed();
     laws::lone_seat();
     laws::map_in_range();
+    laws::crowded_absent();
     laws::seen_lasts();
     laws::lawful_changes();
     laws::one_slot();
