@@ -4,7 +4,7 @@ use Rattle.std.proofs.Math.Nat.{le_refl, le_trans, mul-le-mul_right}
 use Rattle.std.proofs.lemmas.List.{get_or_past}
 use Rattle.std.proofs.lemmas.Nat.{pow_pos}
 use Rattle.nb_core.specs.Plans.{IsPlan, Plan, SizesNeverFall, generations_of, size_of}
-use Rattle.nb_map.specs.Looking.{get_steps, look_steps}
+use Rattle.nb_map.specs.Looking.{get_steps, look_steps, looked_below}
 use Rattle.nb_map.specs.Searching.{slots_below}
 
 -- no table is larger than the last one
@@ -12,11 +12,6 @@ size-most : (never_fall : SizesNeverFall) (p : Plan) → IsPlan p → (n g : ℕ
 size-most never_fall p plan zero g is = let last : g ≡ generations_of p - 1 = omega (arith, is) in subst (λ f. size_of p g ≤ size_of p f) last (le_refl (size_of p g))
 size-most never_fall p plan (suc n) g is =
     le_trans (never_fall p plan g (omega (arith, is))) (size-most never_fall p plan n (suc g) (omega (arith, is)))
-
--- the most steps of looks at all tables below one
-abbrev pub looked_below : Plan → ℕ → ℕ
-looked_below p zero = 0
-looked_below p (suc g) = look_steps p g + looked_below p g
 
 pub looked-more : (p : Plan) (g : ℕ) → looked_below p (g + 1) ≡ look_steps p g + looked_below p g
 looked-more p g = ap (looked_below p) (add-one g)
@@ -55,9 +50,20 @@ looked-few never_fall p plan (suc g) below =
     let next = next-size never_fall p plan g below in
     omega (arith, rest, next)
 
--- a read looks at each table once at most
+-- looks at more tables are more steps
+pub looked-most : (p : Plan) (m g : ℕ) → g ≤ m → looked_below p g ≤ looked_below p m
+looked-most p zero g below = let none : g ≡ 0 = omega (arith, below) in subst (λ f. looked_below p f ≤ 0) (sym none) (le_refl 0)
+looked-most p (suc m) g below = elim (less-or-same g m below) [
+  | inl less ↦ let rest = looked-most p m g less in omega (arith, rest)
+  | inr same ↦ subst (λ f. looked_below p f ≤ looked_below p (suc m)) (sym same) (le_refl (looked_below p (suc m)))
+]
+  where
+    less-or-same : (a b : ℕ) → a ≤ suc b → (a ≤ b) ⊎ (a ≡ suc b)
+    less-or-same a b below = grind (arith, below)
+
+-- a read looks at each table once at most, after three loads
 pub get-bound :
-    (never_fall : SizesNeverFall) (p : Plan) → IsPlan p → (g : ℕ) → g ≤ generations_of p → 1 + looked_below p g ≤ get_steps p
+    (never_fall : SizesNeverFall) (p : Plan) → IsPlan p → (g : ℕ) → g ≤ generations_of p → 3 + looked_below p g ≤ get_steps p
 get-bound never_fall p plan g below =
     let looked = looked-few never_fall p plan g below in
     let slots = slots-more p (generations_of p) g below in
@@ -66,5 +72,5 @@ get-bound never_fall p plan g below =
     plan.some_tables
   where
     fits : (looked s t g tables n : ℕ) → looked ≤ s + g * (2 * n + 10) → s ≤ t → g * (2 * n + 10) ≤ tables * (2 * n + 10) → 1 ≤ tables
-        → 1 + looked ≤ 8 * (t + tables) * (n + 8)
+        → 3 + looked ≤ 8 * (t + tables) * (n + 8)
     fits looked s t g tables n a b c d = omega (arith, a, b, c, d)

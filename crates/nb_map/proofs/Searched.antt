@@ -1,8 +1,9 @@
 -- How a key is searched for in a table.
-use Rattle.std.proofs.Common.{◌≡◌, ◌≢◌, ◌∙◌, ℕ, suc, zero, ◌+◌, ◌-◌, ◌==◌, ◌&&◌, ◌≤◌, ◌<◌, ◌⊎◌, Bool, true, false, not, cond, List, [], Option, Some, None, ap, sym, subst, subst₂, refl, inl, inr, below_more, arith}
+use Rattle.std.proofs.Common.{◌≡◌, ◌≢◌, ◌∙◌, ℕ, suc, zero, ◌+◌, ◌-◌, ◌^◌, ◌==◌, ◌&&◌, ◌≤◌, ◌<◌, ◌⊎◌, Bool, true, false, not, cond, List, [], Option, Some, None, ap, sym, subst, subst₂, refl, inl, inr, below_more, arith}
 use Rattle.std.proofs.lemmas.Bool.{eq-eqb, ne_eqb}
+use Rattle.std.proofs.Math.Pow.{pow_mono}
+use Rattle.std.proofs.lemmas.List.Elements.{All-get_or}
 use Rattle.std.proofs.lemmas.List.{append-nil}
-use Rattle.std.proofs.lemmas.Nat.{pow_pos}
 use Rattle.nb_core.specs.Calls.{leaves_alone}
 use Rattle.nb_core.specs.History.{IsLegal, key_of_call}
 use Rattle.nb_core.specs.Laws.{AtSlot, CompletePassed, IsOnPath, IsPassed, Lasts, PathsAreDistinct, TablesAreLinked, TopComplete}
@@ -142,9 +143,9 @@ read-before p g call d near = one (suc g == generations_of p) (ne_eqb d (size_of
 
 -- nor for a walk that goes on from a slot, which is no read
 pub read-start :
-    (p : Plan) (g : ℕ) (call : Call) (from : ℕ) → (from ≡ 0) ⊎ (leaves_alone call None ≡ false) → read_up_to p g call from ≡ []
+    (p : Plan) (g : ℕ) (call : Call) (from : ℕ) → (from < size_of p g) ⊎ (leaves_alone call None ≡ false) → read_up_to p g call from ≡ []
 read-start p g call from start = elim start [
-  | inl zero_is ↦ read-before p g call from (subst (λ n. n < size_of p g) (sym zero_is) (pow_pos _))
+  | inl near ↦ read-before p g call from near
   | inr acts ↦
       ap (λ b. cond (suc g == generations_of p && from == size_of p g) (cond b (replied call None) []) []) acts
       ∙ cond-none (suc g == generations_of p && from == size_of p g)
@@ -206,7 +207,7 @@ module _ (law : StepsAddUp) (distinct : PathsAreDistinct) (chain : ChainOf) (pla
       end-or-not a b = grind arith
 
   -- what a slot of another key shows is what the walk has read once it is behind it
-  shown-other :
+  pub shown-other :
       (call : Call) (d other : ℕ) → d < size_of p g → other ≢ key_of_call call
       → read_shown call (shown_by_key p g (path_slot p g (key_of_call call) d) (Claimed other) (key_of_call call)) ≡ read_up_to p g call (d + 1)
   shown-other call d other near differs =
@@ -245,6 +246,12 @@ module _ (law : StepsAddUp) (distinct : PathsAreDistinct) (chain : ChainOf) (pla
 
 -- ---- what was seen
 
+-- a table has more than one slot
+pub two-slots : (p : Plan) → IsPlan p → (g : ℕ) → g < generations_of p → 1 < size_of p g
+two-slots p plan g table =
+    let most : 2 ^ 2 ≤ size_of p g = pow_mono (All-get_or (λ e. (2 ≤ e) × (e ≤ 19)) p.exponents g 0 table plan.sizes).0 in
+    omega (arith, most)
+
 -- the slot lies on the key's path, behind slots of other keys
 pub on-path :
     (p : Plan) (t : Tables) (g k i d key : ℕ) → k ≡ key → d < size_of p g → path_slot p g key d ≡ i → AreOthers p t g key d
@@ -255,6 +262,10 @@ on-path p t g k i d key is near at others = record {
   at = ap (λ n. path_slot p g n d) is ∙ at;
   passed = subst (λ n. AreOthers p t g n d) (sym is) others;
 }
+
+-- nothing is asked of the slots before a path's first one
+pub others-none : (p : Plan) (t : Tables) (g key : ℕ) → AreOthers p t g key 0
+others-none p t g key e before = absurd (omega (arith, before))
 
 -- another key has the next slot of a key's path too
 pub others-more :

@@ -1,16 +1,17 @@
 //! Reading a key.
-ghost use Rattle.std.specs.Prelude.{◌≡◌, ◌+◌};
-ghost use Rattle.nb_core.specs.Tables.{IsSlot};
+ghost use Rattle.std.specs.Prelude.{◌≡◌, ◌+◌, ◌<◌};
+ghost use Rattle.nb_core.specs.Plans.{generations_of, size_of};
+ghost use Rattle.nb_core.specs.Tables.{AreOthers, IsSlot};
 ghost use Rattle.nb_core.specs.declared.calls.Call.TheVariants as call;
 ghost use Rattle.nb_core.specs.declared.states.KeyState.TheVariants as key_is;
 ghost use Rattle.nb_table.specs.Chains.{IsOwn, seen_by};
 ghost use Rattle.nb_table.specs.Conditions.{IsReached};
 ghost use Rattle.nb_map.specs.Calling.{HasMade, replied};
-ghost use Rattle.nb_map.specs.Looking.{IsLook, get_steps, look_steps, read_by};
+ghost use Rattle.nb_map.specs.Looking.{IsGlance, IsLook, get_steps, glanced_by, look_steps, looked_below, read_by};
 ghost use Rattle.nb_map.specs.Searching.{pass_steps};
 
 use crate::search::{Sought, pass_slot, seek};
-use nb_core::{Call, Key, Num, ValueState};
+use nb_core::{Call, Key, KeyState, Num, ValueState};
 use nb_table::{Chain, ChainSeat, laws};
 
 /// What a look at a table, or at a value, shows of a key.
@@ -22,8 +23,18 @@ pub(crate) enum Look {
     Above,
 }
 
+/// What a glance at a key's home slot shows of it.
+#[derive(Clone, Copy)]
+pub(crate) enum Glance {
+    /// The map has this number at the key, or none.
+    Shows(Option<Num>),
+    /// Nothing: the search goes on in this table, from a distance on the key's path.
+    From(usize),
+}
+
 /// What the map has at a key, as a `Get` of this seat. In the common case, where the key has its home slot in the top table,
 /// these are three loads: of the top word, of the slot's key and of its value. A number that is being copied is copied first.
+#[inline]
 pub fn get_in(chain: &Chain, seat: &mut ChainSeat, key: Key) -> Option<Num>
     requires own { IsOwn chain.now seat.old }
     ensures made { HasMade chain.now.shape (call.Get key) seat.old seat.new (replied (call.Get key) result)
@@ -35,19 +46,97 @@ pub fn get_in(chain: &Chain, seat: &mut ChainSeat, key: Key) -> Option<Num>
     nb_core::laws::complete_passed();
     nb_core::laws::sizes_never_fall();
     chain.shape().known();
-    for g in chain.load_top(seat)..chain.shape().generations() {
-        seat.known();
-        if let Look::Shows(number) = look_in(chain, seat, g, key) {
+    let top = chain.load_top(seat);
+    seat.known();
+    match glance_in(chain, seat, top, key) {
+        Glance::Shows(number) => number,
+        Glance::From(distance) => get_from(chain, seat, top, key, distance),
+    }
+}
+
+/// What the key's home slot in table `g` shows of it.
+#[inline]
+fn glance_in(chain: &Chain, seat: &mut ChainSeat, g: u32, key: Key) -> Glance
+    requires own { IsOwn chain.now seat.old }
+    requires reached { IsReached chain.now.shape (seen_by seat.old) g key }
+    ensures made { HasMade chain.now.shape (call.Get key) seat.old seat.new (glanced_by (call.Get key) result) 2 }
+    ensures glance { IsGlance chain.now.shape (seen_by seat.new) g key result }
+{
+    laws::steps_add_up();
+    nb_core::laws::linked();
+    nb_core::laws::paths_are_distinct();
+    chain.shape().known();
+    seat.known();
+    let home = chain.shape().path_slot(g, key, 0);
+    match chain.load_key(seat, g, home, Some(Call::Get { key })) {
+        KeyState::Claimed(other) => {
+            if other == key {
+                glance_at(chain, seat, g, home, key)
+            } else {
+                Glance::From(1)
+            }
+        }
+        KeyState::Empty => Glance::Shows(None),
+        KeyState::Dead => Glance::From(0),
+    }
+}
+
+/// What the value in the key's home slot `i` of table `g` shows of the key.
+#[inline]
+fn glance_at(chain: &Chain, seat: &mut ChainSeat, g: u32, i: usize, key: Key) -> Glance
+    requires own { IsOwn chain.now seat.old }
+    requires slot { IsSlot chain.now.shape g i }
+    requires claimed { (seen_by seat.old).key g i ≡ key_is.Claimed key }
+    requires reached { IsReached chain.now.shape (seen_by seat.old) g key }
+    ensures made { HasMade chain.now.shape (call.Get key) seat.old seat.new (glanced_by (call.Get key) result) 1 }
+    ensures glance { IsGlance chain.now.shape (seen_by seat.new) g key result }
+{
+    laws::steps_add_up();
+    chain.shape().known();
+    match chain.load_value(seat, g, i, Some(Call::Get { key })) {
+        ValueState::Null | ValueState::Tombstone => Glance::Shows(None),
+        ValueState::Live(number) => Glance::Shows(Some(number)),
+        _ => Glance::From(0),
+    }
+}
+
+/// What the map has at a key, from a distance of its path in table `first` on.
+#[cold]
+#[inline(never)]
+fn get_from(
+    chain: &Chain,
+    seat: &mut ChainSeat,
+    first: u32,
+    key: Key,
+    distance: usize,
+) -> Option<Num>
+    requires own { IsOwn chain.now seat.old }
+    requires reached { IsReached chain.now.shape (seen_by seat.old) first key }
+    requires near { distance < size_of chain.now.shape first }
+    requires others { AreOthers chain.now.shape (seen_by seat.old) first key distance }
+    ensures made { HasMade chain.now.shape (call.Get key) seat.old seat.new (replied (call.Get key) result)
+        (looked_below chain.now.shape (generations_of chain.now.shape)) }
+{
+    laws::steps_add_up();
+    nb_core::laws::linked();
+    chain.shape().known();
+    seat.known();
+    let mut from = distance;
+    for g in first..chain.shape().generations() {
+        if let Look::Shows(number) = look_in(chain, seat, g, key, from) {
             return number;
         }
+        from = 0;
     }
     None
 }
 
-/// What table `g` shows of a key.
-fn look_in(chain: &Chain, seat: &mut ChainSeat, g: u32, key: Key) -> Look
+/// What table `g` shows of a key, from a distance of its path on.
+fn look_in(chain: &Chain, seat: &mut ChainSeat, g: u32, key: Key, from: usize) -> Look
     requires own { IsOwn chain.now seat.old }
     requires reached { IsReached chain.now.shape (seen_by seat.old) g key }
+    requires near { from < size_of chain.now.shape g }
+    requires others { AreOthers chain.now.shape (seen_by seat.old) g key from }
     ensures made { HasMade chain.now.shape (call.Get key) seat.old seat.new (read_by (call.Get key) result)
         (look_steps chain.now.shape g) }
     ensures look { IsLook chain.now.shape (seen_by seat.new) g key result }
@@ -56,7 +145,7 @@ fn look_in(chain: &Chain, seat: &mut ChainSeat, g: u32, key: Key) -> Look
     nb_core::laws::linked();
     chain.shape().known();
     seat.known();
-    match seek(chain, seat, g, key, &Call::Get { key }) {
+    match seek(chain, seat, g, key, &Call::Get { key }, from) {
         Sought::Slot(i) => look_at(chain, seat, g, i, key),
         Sought::Absent => Look::Shows(None),
         Sought::Above => Look::Above,

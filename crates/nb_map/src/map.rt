@@ -94,6 +94,7 @@ impl Map {
     }
 
     /// What the map has at a key. In the common case, where the key has its home slot in the top table, these are three loads.
+    #[inline]
     pub fn get(&self, seat: &mut Seat, key: Key) -> Option<Num>
         requires own { IsMine self.now seat.old }
         ensures called { HasCalled self.now (call.Get key) seat.old seat.new (replied (call.Get key) result)

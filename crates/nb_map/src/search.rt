@@ -1,5 +1,5 @@
 //! The search for a key in one table.
-ghost use Rattle.std.specs.Prelude.{◌≡◌, ◌+◌, ◌-◌, ◌≤◌, ◌⊎◌, [], true, false, None};
+ghost use Rattle.std.specs.Prelude.{◌≡◌, ◌+◌, ◌-◌, ◌<◌, ◌≤◌, ◌⊎◌, [], true, false, None};
 ghost use Rattle.nb_core.specs.Calls.{leaves_alone};
 ghost use Rattle.nb_core.specs.History.{key_of_call};
 ghost use Rattle.nb_core.specs.Plans.{size_of};
@@ -38,9 +38,8 @@ pub(crate) enum Sought {
     Above,
 }
 
-/// Walks along the path of a call's key in table `g`, from a distance on: one load for each slot. A call that puts a number
-/// at an absent key may walk on from a slot that it saw; any other walks from the start, and what it comes upon may be its
-/// read.
+/// Walks along the path of a call's key in table `g`, from a distance on: one load for each slot. What the walk comes upon may
+/// be the call's read, so only a call that puts a number at an absent key may begin at the path's end.
 pub(crate) fn walk_path(
     chain: &Chain,
     seat: &mut ChainSeat,
@@ -54,7 +53,7 @@ pub(crate) fn walk_path(
     requires reached { IsReached chain.now.shape (seen_by seat.old) g key }
     requires within { from ≤ size_of chain.now.shape g }
     requires others { AreOthers chain.now.shape (seen_by seat.old) g key from }
-    requires start { (from ≡ 0) ⊎ (leaves_alone call.now None ≡ false) }
+    requires start { (from < size_of chain.now.shape g) ⊎ (leaves_alone call.now None ≡ false) }
     ensures made { HasMade chain.now.shape call.now seat.old seat.new (read_at chain.now.shape g call.now result)
         (walk_steps chain.now.shape g from result) }
     ensures ends { EndsAt chain.now.shape (seen_by seat.new) g key result }
@@ -79,20 +78,30 @@ pub(crate) fn walk_path(
     Place::Whole
 }
 
-/// Searches table `g` for the key of a call that leaves an absent key alone.
-pub(crate) fn seek(chain: &Chain, seat: &mut ChainSeat, g: u32, key: Key, call: &Call) -> Sought
+/// Searches table `g` for the key of a call that leaves an absent key alone, from a distance of the key's path on.
+pub(crate) fn seek(
+    chain: &Chain,
+    seat: &mut ChainSeat,
+    g: u32,
+    key: Key,
+    call: &Call,
+    from: usize,
+) -> Sought
     requires own { IsOwn chain.now seat.old }
     requires key { key_of_call call.now ≡ key }
     requires alone { leaves_alone call.now None ≡ true }
     requires reached { IsReached chain.now.shape (seen_by seat.old) g key }
-    ensures made { HasMade chain.now.shape call.now seat.old seat.new (read_sought call.now result) (size_of chain.now.shape g + 1) }
+    requires near { from < size_of chain.now.shape g }
+    requires others { AreOthers chain.now.shape (seen_by seat.old) g key from }
+    ensures made { HasMade chain.now.shape call.now seat.old seat.new (read_sought call.now result)
+        (size_of chain.now.shape g - from + 1) }
     ensures sought { IsSought chain.now.shape (seen_by seat.new) g key result }
 {
     laws::steps_add_up();
     nb_core::laws::linked();
     chain.shape().known();
     seat.known();
-    match walk_path(chain, seat, g, key, call, 0) {
+    match walk_path(chain, seat, g, key, call, from) {
         Place::Slot(i) => Sought::Slot(i),
         Place::Empty(_) => Sought::Absent,
         Place::Closed => Sought::Above,

@@ -150,7 +150,7 @@ fn aim(chain: &Chain, seat: &mut ChainSeat, g: u32, key: Key, call: &Call, below
     ensures target { IsTarget chain.now.shape call.now seat.new g key result }
 {
     if let Decision::Leave(reply) = decide(call, &None) {
-        return match seek(chain, seat, g, key, call) {
+        return match seek(chain, seat, g, key, call, 0) {
             Sought::Slot(i) => Target::Slot(i),
             Sought::Absent => Target::Absent(reply),
             Sought::Above => Target::Above(Below::Passed),

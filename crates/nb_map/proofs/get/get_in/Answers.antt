@@ -1,31 +1,24 @@
-use Rattle.std.proofs.Common.{◌+◌, ◌≤◌, ◌<◌, add-one, subst, sym, arith, rules}
+use Rattle.std.proofs.Common.{◌+◌, subst, arith}
+use Rattle.std.proofs.Math.Nat.{le_refl}
 use Rattle.nb_core.specs.Plans.{IsPlan, generations_of}
 use Rattle.nb_core.specs.declared.calls.Call.TheVariants as call
-use Rattle.nb_table.specs.Chains.{seen_by}
-use Rattle.nb_table.specs.Conditions.{IsReached}
-use Rattle.nb_map.specs.Looking.{get_steps, look_steps}
-use Rattle.nb_map.proofs.Bounds.{get-bound, looked_below, looked-more}
+use Rattle.nb_map.specs.Looking.{get_steps, looked_below}
+use Rattle.nb_map.proofs.Bounds.{get-bound}
 use Rattle.nb_map.proofs.Made.{made-more, made-own, made-quiet, made-stays, made-within}
-use Rattle.nb_map.proofs.Searched.{reached-above, reached-lasts, reached-top, table-within}
+use Rattle.nb_map.proofs.Searched.{reached-lasts, reached-top, table-within}
 use Rattle.nb_map.proofs.get.get_in.Goals as goal
 
-pub loop-g-init : goal.loop-g-init
-loop-g-init c =
+pub glance_in-requires : goal.glance_in-requires
+glance_in-requires c =
     let law = c.steps_add_up.ensures in
     let chain = c.args.chain.now in
     let plan = subst IsPlan c.shape.ensures c.known.ensures in
-    let step = c.load_top-g.ensures.grows in (
-      made-within 1 (1 + looked_below chain.shape c.load_top-g.result) (omega arith) (made-quiet law chain.shape (call.Get c.args.key) step),
-      reached-top c.linked.ensures c.top_complete.ensures c.complete_passed.ensures chain c.load_top-g.new.seat plan
-          (law.own c.requires.own (law.one step)) step.legal c.args.key c.load_top-g.result c.load_top-g.ensures.found,
-    )
-
-pub look_in-requires-clause-own : goal.look_in-requires-clause-own
-look_in-requires-clause-own c =
-    made-own c.steps_add_up.ensures c.args.chain.now (subst IsPlan c.shape.ensures c.known.ensures) c.requires.own c.loop-g.invariant.0
-
-pub look_in-requires-clause-reached : goal.look_in-requires-clause-reached
-look_in-requires-clause-reached c = c.loop-g.invariant.1
+    let own = law.own c.requires.own (law.one c.load_top-top.ensures.grows) in
+    record {
+      own = own;
+      reached = reached-top c.linked.ensures c.top_complete.ensures c.complete_passed.ensures chain c.load_top-top.new.seat plan own
+          c.load_top-top.ensures.grows.legal c.args.key c.load_top-top.result c.load_top-top.ensures.found;
+    }
 
 pub returns-in-Shows : goal.returns-in-Shows
 returns-in-Shows c =
@@ -33,36 +26,39 @@ returns-in-Shows c =
     let chain = c.args.chain.now in
     let p = chain.shape in
     let plan = subst IsPlan c.shape.ensures c.known.ensures in
-    let below : c.loop-g.g + 1 ≤ generations_of p = search rules in
-    let bound = get-bound c.sizes_never_fall.ensures p plan (c.loop-g.g + 1) below in
-    let more = looked-more p c.loop-g.g in
+    let bound = get-bound c.sizes_never_fall.ensures p plan (generations_of p) (le_refl (generations_of p)) in
     record {
-      made = made-within (1 + looked_below p c.loop-g.g + look_steps p c.loop-g.g) (get_steps p) (omega (arith, bound, more))
-          (made-more law chain plan c.requires.own c.loop-g.invariant.0 c.in-Shows.ensures.made);
+      made = made-within 3 (get_steps p) (omega (arith, bound))
+          (made-more law chain plan c.requires.own (made-quiet law p (call.Get c.args.key) c.load_top-top.ensures.grows) c.in-Shows.ensures.made);
     }
 
-pub loop-g-preserved : goal.loop-g-preserved
-loop-g-preserved c =
+pub get_from-requires : goal.get_from-requires
+get_from-requires c =
     let law = c.steps_add_up.ensures in
     let chain = c.args.chain.now in
     let p = chain.shape in
     let plan = subst IsPlan c.shape.ensures c.known.ensures in
-    let more = looked-more p c.loop-g.g in
-    let table : c.loop-g.g < generations_of p = search rules in
-    let own = made-own law chain plan c.requires.own c.loop-g.invariant.0 in
-    let lasting = made-stays law chain plan own c.in_default.ensures.made in
-    let reached = reached-above p (seen_by c.look_in.new.seat) c.loop-g.g c.args.key
-    (reached-lasts p _ _ lasting c.loop-g.g c.args.key table c.loop-g.invariant.1) c.in_default.ensures.look in (
-      made-within (1 + looked_below p c.loop-g.g + look_steps p c.loop-g.g) (1 + looked_below p (c.loop-g.g + 1)) (omega (arith, more))
-          (made-more law chain plan c.requires.own c.loop-g.invariant.0 c.in_default.ensures.made),
-      subst (λ g. IsReached p (seen_by c.look_in.new.seat) g c.args.key) (sym (add-one c.loop-g.g)) reached,
-    )
+    let own = law.own c.requires.own (law.one c.load_top-top.ensures.grows) in
+    let reached = reached-top c.linked.ensures c.top_complete.ensures c.complete_passed.ensures chain c.load_top-top.new.seat plan own
+    c.load_top-top.ensures.grows.legal c.args.key c.load_top-top.result c.load_top-top.ensures.found in
+    let table = table-within c.linked.ensures chain c.load_top-top.new.seat plan own c.load_top-top.ensures.grows.legal c.load_top-top.result reached.installed in
+    record {
+      own = made-own law chain plan own c.in-From.ensures.made;
+      reached = reached-lasts p _ _ (made-stays law chain plan own c.in-From.ensures.made) c.load_top-top.result c.args.key table reached;
+      near = c.in-From.ensures.glance.0;
+      others = c.in-From.ensures.glance.1;
+    }
 
-pub returns : goal.returns
-returns c =
+pub returns-in-From : goal.returns-in-From
+returns-in-From c =
+    let law = c.steps_add_up.ensures in
     let chain = c.args.chain.now in
+    let p = chain.shape in
     let plan = subst IsPlan c.shape.ensures c.known.ensures in
-    let own = made-own c.steps_add_up.ensures chain plan c.requires.own c.loop-g.invariant.0 in
-    let table = table-within c.linked.ensures chain c.loop-g.seat plan own c.loop-g.invariant.0.grown.legal c.loop-g.g c.loop-g.invariant.1.installed in
-    let past : generations_of chain.shape ≤ c.loop-g.g = search rules in
-    absurd (omega (arith, table, past))
+    let get = call.Get c.args.key in
+    let bound = get-bound c.sizes_never_fall.ensures p plan (generations_of p) (le_refl (generations_of p)) in
+    let glanced = made-more law chain plan c.requires.own (made-quiet law p get c.load_top-top.ensures.grows) c.in-From.ensures.made in
+    record {
+      made = made-within (1 + 2 + looked_below p (generations_of p)) (get_steps p) (omega (arith, bound))
+          (made-more law chain plan c.requires.own glanced c.get_from.ensures.made);
+    }

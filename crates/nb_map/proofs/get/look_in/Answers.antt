@@ -1,4 +1,4 @@
-use Rattle.std.proofs.Common.{◌+◌, subst, arith}
+use Rattle.std.proofs.Common.{◌+◌, ◌-◌, subst, arith}
 use Rattle.std.proofs.lemmas.List.{append-nil}
 use Rattle.nb_core.specs.Plans.{IsPlan, size_of}
 use Rattle.nb_core.specs.declared.calls.Call.TheVariants as call
@@ -23,7 +23,8 @@ returns-in-Slot-clause-made c =
     let p = chain.shape in
     let plan = subst IsPlan c.shape.ensures c.known.ensures in
     let get = call.Get c.args.key in
-    made-within (size_of p c.args.g + 1 + (pass_steps p c.args.g + 1)) (look_steps p c.args.g) (omega arith)
-    (subst (λ made. HasMade p get c.args.seat.now c.look_at.new.seat made (size_of p c.args.g + 1 + (pass_steps p c.args.g + 1)))
+    let most = size_of p c.args.g - c.args.from + 1 + (pass_steps p c.args.g + 1) in
+    made-within most (look_steps p c.args.g) (omega arith)
+    (subst (λ made. HasMade p get c.args.seat.now c.look_at.new.seat made most)
     (append-nil (read_by get c.look_at.result))
     (made-more c.steps_add_up.ensures chain plan c.requires.own c.in-Slot.ensures.made c.look_at.ensures.made))

@@ -1,4 +1,4 @@
-use Rattle.std.proofs.Common.{◌≡◌, ◌∙◌, ◌+◌, ◌==◌, None, Some, suc, sym, subst, refl, arith, rules}
+use Rattle.std.proofs.Common.{◌≡◌, ◌∙◌, ◌+◌, ◌-◌, ◌==◌, None, Some, suc, sym, subst, refl, arith, rules}
 use Rattle.std.proofs.lemmas.List.{append-nil}
 use Rattle.nb_core.specs.Laws.{Whole}
 use Rattle.nb_core.specs.Plans.{IsPlan, generations_of, size_of}
@@ -24,7 +24,7 @@ returns-then-load_next-clause-made c =
     let chain = c.args.chain.now in
     let plan = subst IsPlan c.shape.ensures c.known.ensures in
     let tables : c.generations.result ≡ generations_of chain.shape = search rules in
-    let walk = made-unless _ (suc c.args.g == generations_of chain.shape) _ (size_of chain.shape c.args.g)
+    let walk = made-unless _ (suc c.args.g == generations_of chain.shape) _ (size_of chain.shape c.args.g - c.args.from)
     (not-last chain.shape c.args.g tables c.if-g-generations.false) (omega arith) c.in-Whole.ensures.made in
     made-more law chain plan c.requires.own walk (made-quiet law chain.shape c.args.call.now c.if-load_next.ensures.grows)
 
@@ -44,8 +44,8 @@ returns-else-load_next-clause-made c =
     let chain = c.args.chain.now in
     let plan = subst IsPlan c.shape.ensures c.known.ensures in
     let tables : c.generations.result ≡ generations_of chain.shape = search rules in
-    let walk = made-unless _ (suc c.args.g == generations_of chain.shape) _ (size_of chain.shape c.args.g)
+    let walk = made-unless _ (suc c.args.g == generations_of chain.shape) _ (size_of chain.shape c.args.g - c.args.from)
     (not-last chain.shape c.args.g tables c.if-g-generations.false) (omega arith) c.in-Whole.ensures.made in
-    subst (λ made. HasMade chain.shape c.args.call.now c.args.seat.now c.load_next.new.seat made (size_of chain.shape c.args.g + 1))
+    subst (λ made. HasMade chain.shape c.args.call.now c.args.seat.now c.load_next.new.seat made (size_of chain.shape c.args.g - c.args.from + 1))
     (append-nil (read_of c.args.call.now None) ∙ read-alone c.args.call.now None c.requires.alone)
     (made-more law chain plan c.requires.own walk (made-read law chain.shape c.args.call.now (Some None) c.if-load_next.ensures.grows))

@@ -1,0 +1,28 @@
+use Rattle.std.proofs.Common.{◌≡◌, None, Some, ap, inl, inr, subst}
+use Rattle.std.proofs.lemmas.Nat.{pow_pos}
+use Rattle.nb_core.specs.declared.calls.Call.TheVariants as call
+use Rattle.nb_table.specs.Chains.{Extended, seen_by}
+use Rattle.nb_table.specs.Events.{read, shown_by_value}
+use Rattle.nb_map.proofs.Made.{made-quiet, made-read}
+use Rattle.nb_map.proofs.Searched.{is-primed, others-none, shown-primed}
+use Rattle.nb_map.proofs.get.glance_at.Goals as goal
+
+pub returns-in-Null-clause-made : goal.returns-in-Null-clause-made
+returns-in-Null-clause-made c =
+    let get = call.Get c.args.key in
+    let none : shown_by_value c.load_value.result ≡ Some None
+    = elim c.in-Null.is [ inl e ↦ ap shown_by_value e | inr e ↦ ap shown_by_value e ] in
+    made-read c.steps_add_up.ensures c.args.chain.now.shape get (Some None)
+    (subst (λ shown. Extended c.args.seat.now c.load_value.new.seat (read c.args.seat.now.number get shown) 1) none c.load_value.ensures.grows)
+
+pub returns-in_default : goal.returns-in_default
+returns-in_default c =
+    let p = c.args.chain.now.shape in
+    let get = call.Get c.args.key in
+    let none = shown-primed c.load_value.result
+    (is-primed c.load_value.result c.in_default.not-Null c.in_default.not-Tombstone c.in_default.not-Live) in
+    record {
+      made = made-quiet c.steps_add_up.ensures p get
+          (subst (λ shown. Extended c.args.seat.now c.load_value.new.seat (read c.args.seat.now.number get shown) 1) none c.load_value.ensures.grows);
+      glance = (pow_pos _, others-none p (seen_by c.load_value.new.seat) c.args.g c.args.key);
+    }
