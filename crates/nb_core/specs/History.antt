@@ -33,7 +33,7 @@ pub record MayClaim (p : Plan) (t : Tables) (g i k : ℕ) : Type 0 where
 
 -- Once there is a next table, a slot without a key may be closed.
 pub record MayKill (t : Tables) (g i : ℕ) : Type 0 where
-  pub growing : t.next g ≡ 1
+  pub growing : IsInstalled t (suc g)
   pub empty : t.key g i ≡ Empty
 
 -- the number in a value, if there is one
@@ -80,7 +80,7 @@ pub record MayCopyIn (p : Plan) (t : Tables) (g i k n : ℕ) : Type 0 where
 
 -- A value is primed once there is a next table.
 pub record MayPrime (t : Tables) (g i : ℕ) : Type 0 where
-  pub growing : t.next g ≡ 1
+  pub growing : IsInstalled t (suc g)
   pub key : ℕ
   pub claimed : t.key g i ≡ Claimed key
   pub unprimed : IsUnprimed (t.value g i)
@@ -109,7 +109,7 @@ pub record MayInstall (p : Plan) (t : Tables) (g k : ℕ) : Type 0 where
 
 -- Chunks of a table are handed out once there is a next table.
 abbrev pub MayTake : Tables → ℕ → Type 0
-MayTake t g = t.next g ≡ 1
+MayTake t g = IsInstalled t (suc g)
 
 -- the value is a null or a tombstone that isn't primed: priming finishes it
 abbrev pub is_empty_content : ValueState → Bool

@@ -87,9 +87,15 @@ IsValueChange _ g i from to = ⊥
 
 -- An event changes one word at most, and a key or a value only in its own slot and as its kind may.
 pub record IsLawfulChange (p : Plan) (e : Event) (h : List Event) : Type 0 where
-  pub one : (a b : ℕ) → slice_index (words_of p (e ∷ h)) a ≢ slice_index (words_of p h) a → slice_index (words_of p (e ∷ h)) b ≢ slice_index (words_of p h) b → a ≡ b
-  pub keys : (g i : ℕ) → IsSlot p g i → let t = tables_at p h in let u = tables_at p (e ∷ h) in (u.key g i ≡ t.key g i) ⊎ IsKeyChange e g i (t.key g i) (u.key g i)
-  pub values : (g i : ℕ) → IsSlot p g i → let t = tables_at p h in let u = tables_at p (e ∷ h) in (u.value g i ≡ t.value g i) ⊎ IsValueChange e g i (t.value g i) (u.value g i)
+  pub one :
+      (a b : ℕ) → slice_index (words_of p (e ∷ h)) a ≢ slice_index (words_of p h) a
+      → slice_index (words_of p (e ∷ h)) b ≢ slice_index (words_of p h) b → a ≡ b
+  pub keys :
+      (g i : ℕ) → IsSlot p g i → let t = tables_at p h in let u = tables_at p (e ∷ h) in
+      (u.key g i ≡ t.key g i) ⊎ IsKeyChange e g i (t.key g i) (u.key g i)
+  pub values :
+      (g i : ℕ) → IsSlot p g i → let t = tables_at p h in let u = tables_at p (e ∷ h) in
+      (u.value g i ≡ t.value g i) ⊎ IsValueChange e g i (t.value g i) (u.value g i)
 
 abbrev pub LawfulChanges : Type 0
 LawfulChanges = (p : Plan) → IsPlan p → (e : Event) (h : List Event) → IsLegal p (e ∷ h) → IsLawfulChange p e h
@@ -102,7 +108,9 @@ TablesStand = (p : Plan) → IsPlan p → (h : List Event) → IsLegal p h → S
 
 -- A key has at most one slot in a table.
 abbrev pub HasOneSlot : Type 0
-HasOneSlot = (p : Plan) → IsPlan p → (h : List Event) → IsLegal p h → (g i j k : ℕ) → IsSlot p g i → IsSlot p g j → (tables_at p h).key g i ≡ Claimed k → (tables_at p h).key g j ≡ Claimed k → i ≡ j
+HasOneSlot =
+    (p : Plan) → IsPlan p → (h : List Event) → IsLegal p h → (g i j k : ℕ) → IsSlot p g i → IsSlot p g j
+    → (tables_at p h).key g i ≡ Claimed k → (tables_at p h).key g j ≡ Claimed k → i ≡ j
 
 -- A slot that has a key, or is closed to keys, stays so for ever, and a finished slot keeps its value too.
 pub record Stays (t u : Tables) (g i : ℕ) : Type 0 where
@@ -110,7 +118,9 @@ pub record Stays (t u : Tables) (g i : ℕ) : Type 0 where
   pub finished : IsFinished t g i → (u.key g i ≡ t.key g i) × (u.value g i ≡ t.value g i)
 
 abbrev pub SlotsStay : Type 0
-SlotsStay = (p : Plan) → IsPlan p → (later h : List Event) → IsLegal p (later ++ h) → (g i : ℕ) → IsSlot p g i → Stays (tables_at p h) (tables_at p (later ++ h)) g i
+SlotsStay =
+    (p : Plan) → IsPlan p → (later h : List Event) → IsLegal p (later ++ h) → (g i : ℕ) → IsSlot p g i
+    → Stays (tables_at p h) (tables_at p (later ++ h)) g i
 
 -- the key got a number in this table, which may be gone again
 abbrev pub HasContent : ValueState → Type 0
@@ -124,11 +134,15 @@ HasContent (Finished n) = Unit {0}
 
 -- A value that was ever a number or a tombstone is never null again, primed or not.
 abbrev pub ContentOnce : Type 0
-ContentOnce = (p : Plan) → IsPlan p → (later h : List Event) → IsLegal p (later ++ h) → (g i : ℕ) → IsSlot p g i → HasContent ((tables_at p h).value g i) → HasContent ((tables_at p (later ++ h)).value g i)
+ContentOnce =
+    (p : Plan) → IsPlan p → (later h : List Event) → IsLegal p (later ++ h) → (g i : ℕ) → IsSlot p g i
+    → HasContent ((tables_at p h).value g i) → HasContent ((tables_at p (later ++ h)).value g i)
 
 -- A table is installed only where the one two below it is complete, so at most two tables have values to copy or to change.
 abbrev pub InstalledAfter : Type 0
-InstalledAfter = (p : Plan) → IsPlan p → (h : List Event) → IsLegal p h → (g : ℕ) → IsInstalled (tables_at p h) (suc (suc g)) → IsComplete p (tables_at p h) g
+InstalledAfter =
+    (p : Plan) → IsPlan p → (h : List Event) → IsLegal p h → (g : ℕ) → IsInstalled (tables_at p h) (suc (suc g))
+    → IsComplete p (tables_at p h) g
 
 -- ---- what a look at the tables decides
 
@@ -207,7 +221,9 @@ pub record HasRoom (p : Plan) (t : Tables) (g : ℕ) : Type 0 where
 
 -- While a table isn't complete the next one has room for it, whatever writers do, also where both have the same size.
 abbrev pub Room : Type 0
-Room = (p : Plan) → IsPlan p → (h : List Event) → IsLegal p h → (g : ℕ) → suc g < generations_of p → (IsComplete p (tables_at p h) g → ⊥) → HasRoom p (tables_at p h) g
+Room =
+    (p : Plan) → IsPlan p → (h : List Event) → IsLegal p h → (g : ℕ) → suc g < generations_of p → (IsComplete p (tables_at p h) g → ⊥)
+    → HasRoom p (tables_at p h) g
 
 -- A key that the last table has no slot left for is absent.
 abbrev pub CrowdedAbsent : Type 0
@@ -215,7 +231,9 @@ CrowdedAbsent = (p : Plan) → IsPlan p → (h : List Event) → IsLegal p h →
 
 -- The first place of a key from a table on is the same for ever.
 abbrev pub OnePlace : Type 0
-OnePlace = (p : Plan) → IsPlan p → (later h : List Event) → IsLegal p (later ++ h) → (g k : ℕ) → (place : ℕ × ℕ) → place_of p h g k ≡ Some place → place_of p (later ++ h) g k ≡ Some place
+OnePlace =
+    (p : Plan) → IsPlan p → (later h : List Event) → IsLegal p (later ++ h) → (g k : ℕ) → (place : ℕ × ℕ) → place_of p h g k ≡ Some place
+    → place_of p (later ++ h) g k ≡ Some place
 
 -- ---- the size
 
@@ -293,23 +311,33 @@ SeenLasts = (p : Plan) → IsPlan p → (later h : List Event) → IsLegal p (la
 
 -- Where a key's number is finished, the key has a value in the next table.
 abbrev pub Moved : Type 0
-Moved = (p : Plan) → IsPlan p → (h : List Event) → IsLegal p h → (g i k n : ℕ) → IsSlot p g i → (tables_at p h).key g i ≡ Claimed k → (tables_at p h).value g i ≡ Finished n → HasValue p (tables_at p h) (suc g) k
+Moved =
+    (p : Plan) → IsPlan p → (h : List Event) → IsLegal p h → (g i k n : ℕ) → IsSlot p g i → (tables_at p h).key g i ≡ Claimed k
+    → (tables_at p h).value g i ≡ Finished n → HasValue p (tables_at p h) (suc g) k
 
 -- Every key is passed in a complete table.
 abbrev pub CompletePassed : Type 0
-CompletePassed = (p : Plan) → IsPlan p → (h : List Event) → IsLegal p h → (g k : ℕ) → g < generations_of p → IsComplete p (tables_at p h) g → IsPassed p (tables_at p h) g k
+CompletePassed =
+    (p : Plan) → IsPlan p → (h : List Event) → IsLegal p h → (g k : ℕ) → g < generations_of p → IsComplete p (tables_at p h) g
+    → IsPassed p (tables_at p h) g k
 
 -- A passed key may be written in the next table.
 abbrev pub PassedSettled : Type 0
-PassedSettled = (p : Plan) → IsPlan p → (h : List Event) → IsLegal p h → (g k : ℕ) → g < generations_of p → IsPassed p (tables_at p h) g k → IsSettledBelow p (tables_at p h) (suc g) k
+PassedSettled =
+    (p : Plan) → IsPlan p → (h : List Event) → IsLegal p h → (g k : ℕ) → g < generations_of p → IsPassed p (tables_at p h) g k
+    → IsSettledBelow p (tables_at p h) (suc g) k
 
 -- Where a call may win an exchange, the map has at its key what the call replaces.
 abbrev pub WinNumber : Type 0
-WinNumber = (p : Plan) → IsPlan p → (h : List Event) → IsLegal p h → (g i : ℕ) (a b : ValueState) (c : Call) → IsSlot p g i → MayWin p (tables_at p h) g i a b c → map.get (map_of h) (key_of_call c) ≡ content_of a
+WinNumber =
+    (p : Plan) → IsPlan p → (h : List Event) → IsLegal p h → (g i : ℕ) (a b : ValueState) (c : Call) → IsSlot p g i
+    → MayWin p (tables_at p h) g i a b c → map.get (map_of h) (key_of_call c) ≡ content_of a
 
 -- All tables below the top word are complete.
 abbrev pub TopComplete : Type 0
-TopComplete = (p : Plan) → IsPlan p → (h : List Event) → IsLegal p h → (g : ℕ) → g < (tables_at p h).top → (g < generations_of p) × IsComplete p (tables_at p h) g
+TopComplete =
+    (p : Plan) → IsPlan p → (h : List Event) → IsLegal p h → (g : ℕ) → g < (tables_at p h).top
+    → (g < generations_of p) × IsComplete p (tables_at p h) g
 
 -- ---- which tables are there, and whose slots they have
 
@@ -345,7 +373,9 @@ pub record IsOnPath (p : Plan) (t : Tables) (g i k : ℕ) : Type 0 where
 
 -- A key's slot lies on its path, behind slots of other keys.
 abbrev pub ClaimedOnPath : Type 0
-ClaimedOnPath = (p : Plan) → IsPlan p → (h : List Event) → IsLegal p h → (g i k : ℕ) → IsSlot p g i → (tables_at p h).key g i ≡ Claimed k → IsOnPath p (tables_at p h) g i k
+ClaimedOnPath =
+    (p : Plan) → IsPlan p → (h : List Event) → IsLegal p h → (g i k : ℕ) → IsSlot p g i → (tables_at p h).key g i ≡ Claimed k
+    → IsOnPath p (tables_at p h) g i k
 
 -- The slots of a key's path are distinct.
 abbrev pub PathsAreDistinct : Type 0
@@ -353,12 +383,16 @@ PathsAreDistinct = (p : Plan) (g k d e : ℕ) → d < size_of p g → e < size_o
 
 -- Where other keys have a key's whole path in the last table, they have all of its slots.
 abbrev pub WholeCrowded : Type 0
-WholeCrowded = (p : Plan) → IsPlan p → (h : List Event) → IsLegal p h → (k : ℕ) → AreOthers p (tables_at p h) (generations_of p - 1) k (size_of p (generations_of p - 1)) → IsCrowded p h k
+WholeCrowded =
+    (p : Plan) → IsPlan p → (h : List Event) → IsLegal p h → (k : ℕ)
+    → AreOthers p (tables_at p h) (generations_of p - 1) k (size_of p (generations_of p - 1)) → IsCrowded p h k
 
 -- Where a key has a slot in a table and is passed in the next one, the table is complete: a copier that finds no place
 -- above has nothing left to copy.
 abbrev pub PassedAbove : Type 0
-PassedAbove = (p : Plan) → IsPlan p → (h : List Event) → IsLegal p h → (g k : ℕ) → suc g < generations_of p → HasSlot p (tables_at p h) g k → IsPassed p (tables_at p h) (suc g) k → IsComplete p (tables_at p h) g
+PassedAbove =
+    (p : Plan) → IsPlan p → (h : List Event) → IsLegal p h → (g k : ℕ) → suc g < generations_of p → HasSlot p (tables_at p h) g k
+    → IsPassed p (tables_at p h) (suc g) k → IsComplete p (tables_at p h) g
 
 -- ---- what other seats did meanwhile
 
@@ -374,7 +408,8 @@ LostExchange =
 abbrev pub PassedOverAdds : Type 0
 PassedOverAdds =
     (later mid h : List Event) (k s : ℕ)
-    → passed_over (later ++ (mid ++ h)) (length h) k s ≡ passed_over (later ++ (mid ++ h)) (length (mid ++ h)) k s + passed_over (mid ++ h) (length h) k s
+    → passed_over (later ++ (mid ++ h)) (length h) k s
+    ≡ passed_over (later ++ (mid ++ h)) (length (mid ++ h)) k s + passed_over (mid ++ h) (length h) k s
 
 -- what is a seat's own, and the same after more events: its calls, and what it counted and turned finished in each table
 pub record HasOwnStill (p : Plan) (later h : List Event) (s : ℕ) : Type 0 where
@@ -432,4 +467,5 @@ pub record IsFirstPlace (p : Plan) (t : Tables) (g k f i : ℕ) : Type 0 where
 abbrev pub PlaceIs : Type 0
 PlaceIs =
     (p : Plan) → IsPlan p → (h : List Event) → IsLegal p h → (g k f i : ℕ)
-    → (place_of p h g k ≡ Some (f, i) → IsFirstPlace p (tables_at p h) g k f i) × (IsFirstPlace p (tables_at p h) g k f i → place_of p h g k ≡ Some (f, i))
+    → (place_of p h g k ≡ Some (f, i) → IsFirstPlace p (tables_at p h) g k f i)
+    × (IsFirstPlace p (tables_at p h) g k f i → place_of p h g k ≡ Some (f, i))
