@@ -1,5 +1,5 @@
 -- What a look at a closed chain finds of a key: along the key's path in a table, and from the first table up.
-use Rattle.std.proofs.Common.{◌≡◌, ◌≢◌, ◌∙◌, ℕ, ◌+◌, ◌-◌, ◌%◌, ◌<◌, ◌⊎◌, zero, suc, add-one, ap, sym, subst, refl, inl, inr, Bool, true, false, cond, List, [], ◌∷◌, slice_index, Option, Some, None, bit_and, arith}
+use Rattle.std.proofs.Common.{◌≡◌, ◌≢◌, ◌∙◌, ℕ, ◌+◌, ◌-◌, ◌%◌, ◌<◌, ◌⊎◌, zero, suc, add-one, ap, below_more, sym, subst, refl, inl, inr, Bool, true, false, cond, List, [], ◌∷◌, slice_index, Option, Some, None, bit_and, arith}
 use mathlib.Core.Option.{some, some-injective, some-ne-none}
 use lib.ListN.{get_elem?}
 use Rattle.std.proofs.Math.Nat.{mod-add-mod}
@@ -138,13 +138,9 @@ module _ (p : Plan) (t : Tables) (g k : ℕ) where
   pub others-more :
       (d i other : ℕ) → AreOthers p t g k d → i ≡ path_slot p g k d → t.key g i ≡ Claimed other → other ≢ k
       → AreOthers p t g k (d + 1)
-  others-more d i other others at is differs e below =
-      elim (cases_eq e d) [
-        | inl same ↦
-            subst (λ x. IsOther (t.key g (path_slot p g k x)) k) (sym same)
-            (record { other = other; is = ap (t.key g) (sym at) ∙ is; differs = differs })
-        | inr away ↦ others e (omega arith)
-      ]
+  others-more d i other others at is differs =
+      below_more (λ e. IsOther (t.key g (path_slot p g k e)) k) d others
+      (record { other = other; is = ap (t.key g) (sym at) ∙ is; differs = differs })
 
   module _ (within : g < generations_of p) where
     -- the key's own slot has its value
