@@ -122,7 +122,7 @@ SlotsStay =
     (p : Plan) → IsPlan p → (later h : List Event) → IsLegal p (later ++ h) → (g i : ℕ) → IsSlot p g i
     → Stays (tables_at p h) (tables_at p (later ++ h)) g i
 
--- the key got a number in this table, which may be gone again
+-- the value is a number, or the tombstone that took its place, primed or not
 abbrev pub HasContent : ValueState → Type 0
 HasContent Null = ⊥
 HasContent Tombstone = Unit {0}

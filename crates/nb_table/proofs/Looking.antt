@@ -1,5 +1,5 @@
 -- What a look at a closed chain finds of a key: along the key's path in a table, and from the first table up.
-use Rattle.std.proofs.Common.{◌≡◌, ◌≢◌, ◌∙◌, ℕ, ◌+◌, ◌-◌, ◌%◌, ◌<◌, ◌⊎◌, zero, suc, add-one, ap, below_more, sym, subst, refl, inl, inr, Bool, true, false, cond, List, [], ◌∷◌, slice_index, Option, Some, None, bit_and, arith}
+use Rattle.std.proofs.Common.{◌≡◌, ◌≢◌, ◌∙◌, ℕ, ◌+◌, ◌-◌, ◌%◌, ◌<◌, ◌⊎◌, zero, suc, add-one, ap, below_more, sym, subst, refl, inl, inr, Bool, true, false, cond, List, [], ◌∷◌, slice_index, Option, Some, None, option_map, bit_and, arith}
 use mathlib.Core.Option.{some, some-injective, some-ne-none}
 use lib.ListN.{get_elem?}
 use Rattle.std.proofs.Math.Nat.{mod-add-mod}
@@ -8,7 +8,7 @@ use Rattle.std.proofs.lemmas.Nat.{and_mask}
 use Rattle.nb_core.specs.Plans.{Plan, IsPlan, generations_of, size_of}
 use Rattle.nb_core.specs.History.{IsLegal}
 use Rattle.nb_core.specs.Tables.{AreOthers, IsOther, IsSlot, IsUnprimed, Tables, path_slot, tables_at, tables_of}
-use Rattle.nb_core.specs.Meaning.{is_blank, is_claimed_by, is_installed, shown_by, shown_from, value_among, value_in}
+use Rattle.nb_core.specs.Meaning.{is_blank, is_claimed_by, is_installed, shown_by, shown_from, slot_among, value_in}
 use Rattle.nb_core.specs.Laws.{AreLinked, IsOnPath}
 use Rattle.nb_core.specs.declared.events.Event.{Event}
 use Rattle.nb_core.specs.declared.states.KeyState.{KeyState}
@@ -78,39 +78,47 @@ not-own k s other is = let same : Claimed other.other ≡ Claimed k = sym other.
 -- ---- the slots of a table
 
 module _ (t : Tables) (g k : ℕ) where
-  -- a slot that is the key's shows its value, another one what is before it
-  among-here : (n : ℕ) → t.key g n ≡ Claimed k → value_among t g k (suc n) ≡ Some (t.value g n)
+  -- a slot that is the key's is found, behind another one what is before it
+  among-here : (n : ℕ) → t.key g n ≡ Claimed k → slot_among t g k (suc n) ≡ Some n
   among-here n here =
-      ap (λ s. cond (is_claimed_by k s) (Some (t.value g n)) (value_among t g k n)) here
-      ∙ ap (λ b. cond b (Some (t.value g n)) (value_among t g k n)) (eq-eqb k k refl)
+      ap (λ s. cond (is_claimed_by k s) (Some n) (slot_among t g k n)) here
+      ∙ ap (λ b. cond b (Some n) (slot_among t g k n)) (eq-eqb k k refl)
 
-  among-before : (n : ℕ) → t.key g n ≢ Claimed k → value_among t g k (suc n) ≡ value_among t g k n
-  among-before n away = ap (λ b. cond b (Some (t.value g n)) (value_among t g k n)) (unclaimed k (t.key g n) away)
+  among-before : (n : ℕ) → t.key g n ≢ Claimed k → slot_among t g k (suc n) ≡ slot_among t g k n
+  among-before n away = ap (λ b. cond b (Some n) (slot_among t g k n)) (unclaimed k (t.key g n) away)
 
-  among-none : (n : ℕ) → ((i : ℕ) → i < n → t.key g i ≢ Claimed k) → value_among t g k n ≡ None
+  among-none : (n : ℕ) → ((i : ℕ) → i < n → t.key g i ≢ Claimed k) → slot_among t g k n ≡ None
   among-none zero away = refl
   among-none (suc n) away = among-before n (away n (omega arith)) ∙ among-none n (λ i below. away i (omega arith))
 
   among-some :
       (n i : ℕ) → i < n → t.key g i ≡ Claimed k → ((j : ℕ) → j < n → t.key g j ≡ Claimed k → j ≡ i)
-      → value_among t g k n ≡ Some (t.value g i)
+      → slot_among t g k n ≡ Some i
   among-some zero i within is one = absurd (omega arith)
   among-some (suc n) i within is one =
       elim (cases_eq n i) [
-        | inl same ↦ among-here n (ap (t.key g) same ∙ is) ∙ ap (λ j. Some (t.value g j)) same
+        | inl same ↦ among-here n (ap (t.key g) same ∙ is) ∙ ap Some same
         | inr differs ↦
             among-before n (λ here. differs (one n (omega arith) here))
             ∙ among-some n i (omega arith) is (λ j below. one j (omega arith))
       ]
 
-  -- a value that is found is in a slot
-  among-slot : (n : ℕ) (v : ValueState) → value_among t g k n ≡ Some v → (i : ℕ) × (i < n) × (t.value g i ≡ v)
-  among-slot zero v found = absurd cc
-  among-slot (suc n) v found =
-      elim (cases_cond (is_claimed_by k (t.key g n)) (Some (t.value g n)) (value_among t g k n) (Some v) (sym found)) [
-        | inl here ↦ (let value : t.value g n ≡ v = cc in (n, omega arith, value))
-        | inr before ↦ (let slot = among-slot n v (sym before) in (slot.0, omega (arith, slot.1), slot.2))
+  among-below : (n i : ℕ) → slot_among t g k n ≡ Some i → i < n
+  among-below zero i found = absurd cc
+  among-below (suc n) i found =
+      elim (cases_cond (is_claimed_by k (t.key g n)) (Some n) (slot_among t g k n) (Some i) (sym found)) [
+        | inl here ↦ (let same : n ≡ i = cc in omega arith)
+        | inr before ↦ omega (arith, among-below n i (sym before))
       ]
+
+  -- a value that is found is in a slot
+  among-slot :
+      (n : ℕ) (v : ValueState) → option_map (t.value g) (slot_among t g k n) ≡ Some v → (i : ℕ) × (i < n) × (t.value g i ≡ v)
+  among-slot n v found = of (slot_among t g k n) refl found
+    where
+      of : (o : Option ℕ) → slot_among t g k n ≡ o → option_map (t.value g) o ≡ Some v → (i : ℕ) × (i < n) × (t.value g i ≡ v)
+      of None is found = absurd cc
+      of (Some i) is found = let value : t.value g i ≡ v = cc in (i, among-below n i is, value)
 
 -- ---- the key's path in a table
 
@@ -147,27 +155,27 @@ module _ (p : Plan) (t : Tables) (g k : ℕ) where
     pub found-slot :
         HaveOneSlot p t → (i : ℕ) → i < size_of p g → t.key g i ≡ Claimed k → Some (t.value g i) ≡ value_in p t g k
     found-slot one_slot i in_table is =
-        sym (among-some t g k (size_of p g) i in_table is
-        (λ j below here. one_slot g j i k (within, below) (within, in_table) here is))
+        sym (ap (option_map (t.value g)) (among-some t g k (size_of p g) i in_table is
+        (λ j below here. one_slot g j i k (within, below) (within, in_table) here is)))
 
     -- a slot of no key ends the path
     pub found-end :
         AreOnPath p t → (d i : ℕ) → i ≡ path_slot p g k d → AreOthers p t g k d
         → (t.key g i ≡ Empty) ⊎ (t.key g i ≡ Dead) → None ≡ value_in p t g k
-    found-end on_path d i at others free = sym (among-none t g k (size_of p g) (λ j in_table is.
+    found-end on_path d i at others free = sym (ap (option_map (t.value g)) (among-none t g k (size_of p g) (λ j in_table is.
         let on = on_path g j k (within, in_table) is in
         elim (cases_order d on.distance) [
           | inl same ↦ no-key (t.key g i) free k (ap (t.key g) (at ∙ ap (path_slot p g k) same ∙ on.at) ∙ is)
           | inr (inl below) ↦
               let passed = on.passed d below in no-key (t.key g i) free passed.other (ap (t.key g) at ∙ passed.is)
           | inr (inr above) ↦ not-own k _ (others on.distance above) (ap (t.key g) on.at ∙ is)
-        ]))
+        ])))
 
     -- where other keys have the whole path, the key has no slot
     pub found-none : AreOnPath p t → AreOthers p t g k (size_of p g) → None ≡ value_in p t g k
-    found-none on_path others = sym (among-none t g k (size_of p g) (λ i in_table is.
+    found-none on_path others = sym (ap (option_map (t.value g)) (among-none t g k (size_of p g) (λ i in_table is.
         let on = on_path g i k (within, in_table) is in
-        not-own k _ (others on.distance on.in_table) (ap (t.key g) on.at ∙ is)))
+        not-own k _ (others on.distance on.in_table) (ap (t.key g) on.at ∙ is))))
 
     -- above a primed value there is a table
     pub primed-next : AreLinked p t → (n : ℕ) → Some (Primed n) ≡ value_in p t g k → g + 1 < generations_of p
