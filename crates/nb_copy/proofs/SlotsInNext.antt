@@ -6,7 +6,7 @@ use Rattle.nb_core.specs.Laws.{IsPassed, UpToDead, Lasts, OwnLasts}
 use Rattle.nb_core.specs.declared.states.KeyState.TheVariants.{Dead}
 use Rattle.nb_core.specs.declared.events.Event.TheVariants.{Claim}
 use Rattle.nb_table.specs.Chains.{ChainOf, Extended, IsOwn, SeenBy, seen_by}
-use Rattle.nb_table.specs.Conditions.{HasWay}
+use Rattle.nb_core.specs.History.{HasWay}
 use Rattle.nb_table.specs.Laws.{StepsAddUp}
 use Rattle.nb_copy.proofs.Copied.{copied-more, copied-one, copied-own, copied-quiet, copied-within}
 use Rattle.nb_copy.specs.Copying.{HasCopied}

@@ -1,16 +1,15 @@
 -- The laws of legal histories: what holds at every moment, whatever atomic steps were made, by whom, in which order.
 use Rattle.std.specs.Prelude.{◌≡◌, ◌≢◌, ℕ, suc, zero, ◌+◌, ◌-◌, ◌%◌, ◌<◌, ◌≤◌, ◌⊎◌, ◌||◌, ℤ, pos, ◌+ℤ◌, Bool, true, false, if◌then◌else◌, List, [], ◌∷◌, ◌++◌, length, slice_index, bit_or, Option, Some, None, All}
 use Rattle.std.specs.FinMap as map
-use Rattle.nb_core.specs.Calls.{holds_of, leaves_alone}
+use Rattle.nb_core.specs.Calls.{leaves_alone, reply_at}
 use Rattle.nb_core.specs.Plans.{Plan, IsPlan, generations_of, header_place, size_of, value_place, word_count}
 use Rattle.nb_core.specs.States.{IsKeyState, IsValueState, value_state, value_word}
-use Rattle.nb_core.specs.Tables.{AreOthers, HasSlot, IsComplete, IsFinished, IsFinishedValue, IsInstalled, IsReady, IsSettledBelow, IsSlot, IsUnprimed, Tables, is_finished_value, path_slot, tables_at, words_of}
+use Rattle.nb_core.specs.Tables.{AreOthers, HasSlot, IsComplete, IsFinished, IsFinishedValue, IsInstalled, IsOnPath, IsReady, IsSettledBelow, IsSlot, IsUnprimed, Tables, is_finished_value, path_slot, tables_at, words_of}
 use Rattle.nb_core.specs.History.{HasValue, IsLegal, MayWin, Replies, content_of, counted_by, key_of_call, map_of, seat_of_event, turned_by, turns_slot}
 use Rattle.nb_core.specs.Meaning.{AreReplies, IsCrowded, Stands, all_calls, calls_of, map_of_calls, net_of, passed_over, place_of}
 use Rattle.nb_core.specs.declared.numbers.TheConstants.{KEY_MAX, VALUE_MAX}
 use Rattle.nb_core.specs.declared.calls.Call.{Call}
 use Rattle.nb_core.specs.declared.calls.Call.TheVariants as call
-use Rattle.nb_core.specs.declared.calls.Reply.{Reply}
 use Rattle.nb_core.specs.declared.events.Event.{Event}
 use Rattle.nb_core.specs.declared.events.Event.TheVariants.{Claim, Kill, Won, CopyIn, Prime, Finish, Read}
 use Rattle.nb_core.specs.declared.states.KeyState.{KeyState}
@@ -364,13 +363,6 @@ pub record AreLinked (p : Plan) (t : Tables) : Type 0 where
 abbrev pub TablesAreLinked : Type 0
 TablesAreLinked = (p : Plan) → IsPlan p → (h : List Event) → IsLegal p h → AreLinked p (tables_at p h)
 
--- the slot lies on the key's path, behind slots of other keys
-pub record IsOnPath (p : Plan) (t : Tables) (g i k : ℕ) : Type 0 where
-  pub distance : ℕ
-  pub in_table : distance < size_of p g
-  pub at : path_slot p g k distance ≡ i
-  pub passed : AreOthers p t g k distance
-
 -- A key's slot lies on its path, behind slots of other keys.
 abbrev pub ClaimedOnPath : Type 0
 ClaimedOnPath =
@@ -422,11 +414,6 @@ abbrev pub OwnLasts : Type 0
 OwnLasts = (p : Plan) (later h : List Event) (s : ℕ) → All (λ e. seat_of_event e ≢ s) later → HasOwnStill p later h s
 
 -- ---- what a call may reply
-
--- what a call replies where its key has this number, or none
-abbrev pub reply_at : Call → Option ℕ → Reply
-reply_at (call.Get k) number = record { before = number; matched = true }
-reply_at (call.Write k want change) number = record { before = number; matched = holds_of want number }
 
 -- A call that may win an exchange may reply the number that it replaces, and that its condition held.
 abbrev pub WinReplies : Type 0

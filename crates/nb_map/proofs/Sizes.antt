@@ -25,8 +25,7 @@ use Rattle.nb_table.specs.Gathered.{ClosedWith}
 use Rattle.nb_table.specs.Left.{ClosedOf, HoldsOfMap, IsLeftBy}
 use Rattle.nb_table.specs.Views.{HasSeen}
 use Rattle.nb_map.specs.Ending.{EndedWith, IsParted, net_of_seats}
-use Rattle.nb_map.specs.Maps.{SeatOf}
-use Rattle.nb_map.proofs.Parted.{HasCounted}
+use Rattle.nb_map.specs.Maps.{HasCounted, SeatOf}
 
 -- ---- each number is one seat's, so a sum over the seats is one over the numbers
 
@@ -44,7 +43,7 @@ times-middle n front s back =
     let f : SeatOf → ℕ = λ seat. cond (seat.chain.number == n) 1 0 in
     omega (arith, times-cons n s back, sum_by-append f front (s ∷ back), sum_by-append f front back)
 
--- the seats of a list's seats are counted in it
+-- as many of their seats of the chain have it
 times-chains : (n : ℕ) (seats : List SeatOf) → count_by (λ seat. seat.number == n) (map (λ seat. seat.chain) seats) ≡ times n seats
 times-chains n [] = refl
 times-chains n (s ∷ seats) =
@@ -80,7 +79,7 @@ net-middle :
 net-middle h [] s back = refl
 net-middle h (x ∷ front) s back = let rest = net-middle h front s back in omega (arith, ints, rest)
 
--- the law sums over the numbers
+-- the law takes the sum over the numbers
 net-numbers :
     (h : List Event) (n : ℕ) (seats : List SeatOf) → length seats ≡ n → ((i : ℕ) → i < n → times i seats ≡ 1)
     → net_in h seats ≡ laws.net_of_seats h n

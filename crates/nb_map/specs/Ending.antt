@@ -8,7 +8,7 @@ use Rattle.nb_count.specs.Counts.{Counting}
 use Rattle.nb_table.specs.Chains.{SeenBy}
 use Rattle.nb_table.specs.Left.{ClosedOf, HoldsOfMap, IsLeftBy}
 use Rattle.nb_table.specs.Views.{HasSeen}
-use Rattle.nb_map.specs.Maps.{SeatOf}
+use Rattle.nb_map.specs.Maps.{HasCounted, SeatOf}
 use Rattle.nb_map.specs.declared.ended.Ended.TheInside as ended
 
 -- an ended map: what is left of its chain of tables, and what its seats counted
@@ -44,4 +44,4 @@ pub record EndedWith (p : Plan) (seats : List SeatOf) (ended : EndedOf) : Type 0
 pub record IsParted (seats : List SeatOf) (chains : List SeenBy) (counts : List Counting) : Type 0 where
   pub of_chain : chains ≡ map (λ seat. seat.chain) seats
   pub of_counter : counts ≡ map (λ seat. seat.count) seats
-  pub counted : All (λ seat. seat.count.added ≡ net_of (calls_of seat.chain.seen seat.chain.number)) seats
+  pub counted : All HasCounted seats

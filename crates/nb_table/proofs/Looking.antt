@@ -7,9 +7,9 @@ use Rattle.std.proofs.lemmas.Bool.{cases_cond, cases_eq, cases_order, eq-eqb, ne
 use Rattle.std.proofs.lemmas.Nat.{and_mask}
 use Rattle.nb_core.specs.Plans.{Plan, IsPlan, generations_of, size_of}
 use Rattle.nb_core.specs.History.{IsLegal}
-use Rattle.nb_core.specs.Tables.{AreOthers, IsOther, IsSlot, IsUnprimed, Tables, path_slot, tables_at, tables_of}
+use Rattle.nb_core.specs.Tables.{AreOthers, IsOnPath, IsOther, IsSlot, IsUnprimed, Tables, path_slot, tables_at, tables_of}
 use Rattle.nb_core.specs.Meaning.{is_blank, is_claimed_by, is_installed, shown_by, shown_from, slot_among, value_in}
-use Rattle.nb_core.specs.Laws.{AreLinked, IsOnPath}
+use Rattle.nb_core.specs.Laws.{AreLinked}
 use Rattle.nb_core.specs.declared.events.Event.{Event}
 use Rattle.nb_core.specs.declared.states.KeyState.{KeyState}
 use Rattle.nb_core.specs.declared.states.KeyState.TheVariants.{Empty, Dead, Claimed}
