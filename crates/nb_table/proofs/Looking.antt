@@ -1,20 +1,20 @@
 -- What a look at a closed chain finds of a key: along the key's path in a table, and from the first table up.
-use Rattle.std.proofs.Common.{◌≡◌, ◌≢◌, ◌∙◌, ℕ, ◌+◌, ◌-◌, ◌%◌, ◌<◌, ◌⊎◌, zero, suc, add-one, ap, below_more, sym, subst, refl, inl, inr, Bool, true, false, cond, List, [], ◌∷◌, slice_index, Option, Some, None, option_map, bit_and, arith}
+use Rattle.std.proofs.Common.{◌≡◌, ◌≢◌, ◌∙◌, ℕ, ◌+◌, ◌-◌, ◌%◌, ◌<◌, ◌≤◌, ◌⊎◌, zero, suc, add-one, ap, below_more, sym, subst, refl, inl, inr, Bool, true, false, cond, List, [], ◌∷◌, slice_index, Option, Some, None, option_map, bit_and, arith}
 use mathlib.Core.Option.{some, some-injective, some-ne-none}
 use lib.ListN.{get_elem?}
 use Rattle.std.proofs.Math.Nat.{mod-add-mod}
-use Rattle.std.proofs.lemmas.Bool.{cases_cond, cases_eq, cases_order, eq-eqb, ne_eqb}
+use Rattle.std.proofs.lemmas.Bool.{cases_cond, cases_eq, cases_order, eq-eqb, eqb-true, ne_eqb}
 use Rattle.std.proofs.lemmas.Nat.{and_mask}
 use Rattle.nb_core.specs.Plans.{Plan, IsPlan, generations_of, size_of}
 use Rattle.nb_core.specs.History.{IsLegal}
-use Rattle.nb_core.specs.Tables.{AreOthers, IsOnPath, IsOther, IsSlot, IsUnprimed, Tables, path_slot, tables_at, tables_of}
+use Rattle.nb_core.specs.Tables.{AreOthers, IsComplete, IsFinishedValue, IsInstalled, IsOnPath, IsOther, IsSlot, IsUnprimed, Tables, path_slot, tables_at, tables_of}
 use Rattle.nb_core.specs.Meaning.{is_blank, is_claimed_by, is_installed, shown_by, shown_from, slot_among, value_in}
 use Rattle.nb_core.specs.Laws.{AreLinked}
 use Rattle.nb_core.specs.declared.events.Event.{Event}
 use Rattle.nb_core.specs.declared.states.KeyState.{KeyState}
 use Rattle.nb_core.specs.declared.states.KeyState.TheVariants.{Empty, Dead, Claimed}
 use Rattle.nb_core.specs.declared.states.ValueState.{ValueState}
-use Rattle.nb_core.specs.declared.states.ValueState.TheVariants.{Null, Tombstone, PrimedNull, PrimedTombstone, Primed, Finished}
+use Rattle.nb_core.specs.declared.states.ValueState.TheVariants.{Null, Tombstone, Live, PrimedNull, PrimedTombstone, Primed, Finished}
 use Rattle.nb_table.specs.Closing.{IsClosed, closed_of}
 use Rattle.nb_table.specs.Left.{ClosedOf, IsLeftBy, tables_left}
 use Rattle.nb_table.specs.declared.closed.Closed.TheInside as inside
@@ -60,7 +60,12 @@ HaveOneSlot p t =
 
 -- ---- keys
 
--- a slot that isn't the key's
+-- a slot that is the key's, and one that isn't
+claimed-by : (k : ℕ) (s : KeyState) → is_claimed_by k s ≡ true → s ≡ Claimed k
+claimed-by k Empty is = absurd cc
+claimed-by k Dead is = absurd cc
+claimed-by k (Claimed j) is = ap Claimed (eqb-true j k is)
+
 unclaimed : (k : ℕ) (s : KeyState) → s ≢ Claimed k → is_claimed_by k s ≡ false
 unclaimed k Empty away = refl
 unclaimed k Dead away = refl
@@ -110,6 +115,17 @@ module _ (t : Tables) (g k : ℕ) where
         | inl here ↦ (let same : n ≡ i = cc in omega arith)
         | inr before ↦ omega (arith, among-below n i (sym before))
       ]
+
+  -- a slot that is found is the key's
+  among-is : (n i : ℕ) → slot_among t g k n ≡ Some i → t.key g i ≡ Claimed k
+  among-is zero i found = absurd cc
+  among-is (suc n) i found = of (is_claimed_by k (t.key g n)) refl (among-is n i) found
+    where
+      of :
+          (b : Bool) → is_claimed_by k (t.key g n) ≡ b → (slot_among t g k n ≡ Some i → t.key g i ≡ Claimed k)
+          → cond b (Some n) (slot_among t g k n) ≡ Some i → t.key g i ≡ Claimed k
+      of true is before found = let same : n ≡ i = cc in subst (λ j. t.key g j ≡ Claimed k) same (claimed-by k (t.key g n) is)
+      of false is before found = before found
 
   -- a value that is found is in a slot
   among-slot :
@@ -229,3 +245,56 @@ module _ (blank : Bool) (above : Option ℕ) where
   passes-final v (inl null) = ap (λ s. shown_by (Some s) blank above) null
   passes-final v (inr (inl gone)) = ap (λ s. shown_by (Some s) blank above) gone
   passes-final v (inr (inr copied)) = ap (λ s. shown_by (Some s) blank above) copied.1
+
+  -- so does a finished one
+  passes-finished : (v : ValueState) → IsFinishedValue v → shown_by (Some v) blank above ≡ above
+  passes-finished Null final = absurd cc
+  passes-finished Tombstone final = absurd cc
+  passes-finished (Live n) final = absurd cc
+  passes-finished PrimedNull final = refl
+  passes-finished PrimedTombstone final = refl
+  passes-finished (Primed n) final = absurd cc
+  passes-finished (Finished n) final = refl
+
+  -- and a table in which the key has a finished value, or none
+  passes-complete : (v : Option ValueState) → ((u : ValueState) → v ≡ Some u → IsFinishedValue u) → shown_by v blank above ≡ above
+  passes-complete None final = refl
+  passes-complete (Some u) final = passes-finished u (final u refl)
+
+-- ---- from the top word up
+
+-- a table that is there is found so
+installed-is : (t : Tables) (g : ℕ) → IsInstalled t g → true ≡ is_installed t g
+installed-is t zero installed = refl
+installed-is t (suc g) installed = sym (eq-eqb (t.next g) 1 installed)
+
+module _
+    (p : Plan) (t : Tables) (k : ℕ) (linked : AreLinked p t)
+    (complete : (g : ℕ) → g < t.top → (g < generations_of p) × IsComplete p t g)
+  where
+    -- a key's value in a complete table is finished
+    value-finished : (g : ℕ) → IsComplete p t g → (v : ValueState) → value_in p t g k ≡ Some v → IsFinishedValue v
+    value-finished g whole v found = of (slot_among t g k (size_of p g)) refl found
+      where
+        of :
+            (o : Option ℕ) → slot_among t g k (size_of p g) ≡ o → option_map (t.value g) o ≡ Some v → IsFinishedValue v
+        of None is found = absurd cc
+        of (Some i) is found =
+            let value : t.value g i ≡ v = cc in
+            elim (whole i (among-below t g k (size_of p g) i is)) [
+              | inl dead ↦ (let clash : Claimed k ≡ Dead = sym (among-is t g k (size_of p g) i is) ∙ dead in absurd cc)
+              | inr final ↦ subst IsFinishedValue value final
+            ]
+
+    -- The complete tables below the top word pass every key on.
+    pub shown-from-top :
+        (g : ℕ) → g ≤ t.top → shown_from p t k 0 (generations_of p) ≡ shown_from p t k g (generations_of p - g)
+    shown-from-top zero below = (let all : generations_of p ≡ generations_of p - 0 = omega arith in ap (shown_from p t k 0) all)
+    shown-from-top (suc g) below =
+        let here = complete g below in
+        let next = linked.complete g here.0 here.1 in
+        let above = shown_from p t k (g + 1) (generations_of p - (g + 1)) in
+        shown-from-top g (omega arith)
+        ∙ shown-value p t k g here.0 (value_in p t g k) (installed-is t g (linked.before g next)) refl
+        ∙ passes-complete (is_blank (value_in p t (g + 1) k)) above (value_in p t g k) (value-finished g here.1)
+        ∙ ap (λ f. shown_from p t k f (generations_of p - f)) (add-one g)
