@@ -2,7 +2,7 @@
 use Rattle.std.proofs.Common.{◌≡◌, ◌≢◌, ◌<◌, ◌≤◌, ◌⊎◌, ◌∙◌, ℕ, zero, suc, ◌+◌, List, [], ap, inl, inr, sym, subst, refl, arith}
 use Rattle.std.proofs.lemmas.Bool.Decides.{eqb_tells}
 use Rattle.nb_core.specs.Plans.{IsPlan, Plan, generations_of, limit_of, size_of}
-use Rattle.nb_core.specs.History.{IsLegal}
+use Rattle.nb_core.specs.History.{HasWay, IsLegal}
 use Rattle.nb_core.specs.Laws.{AreLinked, CompletePassed, IsPassed, TablesAreLinked, TopComplete, primed}
 use Rattle.nb_core.specs.Tables.{AreOthers, IsComplete, IsInstalled, IsOther, IsReady, IsSettledBelow, IsUnprimed, Tables, path_slot}
 use Rattle.nb_core.specs.declared.events.Event.{Event}
@@ -10,7 +10,7 @@ use Rattle.nb_core.specs.declared.states.KeyState.TheVariants.{Claimed}
 use Rattle.nb_core.specs.declared.states.ValueState.{ValueState}
 use Rattle.nb_core.specs.declared.states.ValueState.TheVariants.{Null, Tombstone, Live, PrimedNull, PrimedTombstone, Primed, Finished}
 use Rattle.nb_table.specs.Chains.{ChainOf, Extended, IsOwn, SeenBy, seen_by}
-use Rattle.nb_table.specs.Conditions.{HasWay, IsReached}
+use Rattle.nb_table.specs.Conditions.{IsReached}
 
 -- one more slot of a path that is another key's
 pub one-more :

@@ -2,5 +2,5 @@ mod ByHand
 mod Copied
 mod SlotsFinished
 mod SlotsInNext
-pub mod Counted
-pub mod Helped
+mod Counted
+mod Helped

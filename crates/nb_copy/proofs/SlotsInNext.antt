@@ -1,12 +1,12 @@
 -- How a slot is copied.
-use Rattle.std.proofs.Common.{◌≡◌, ◌≢◌, ◌∙◌, ℕ, suc, ◌+◌, ◌*◌, ◌<◌, [], ◌∷◌, ap, below_more, sym, subst, refl, inl, arith}
+use Rattle.std.proofs.Common.{◌≡◌, ◌∙◌, ℕ, suc, ◌+◌, ◌*◌, ◌<◌, [], ◌∷◌, ap, sym, subst, refl, inl, arith}
 use Rattle.nb_core.specs.Plans.{IsPlan, Plan, generations_of, size_of}
-use Rattle.nb_core.specs.Tables.{AreOthers, HasSlot, IsOther, Tables, path_slot}
+use Rattle.nb_core.specs.Tables.{AreOthers, HasSlot, Tables, path_slot}
 use Rattle.nb_core.specs.Laws.{IsPassed, UpToDead, Lasts, OwnLasts}
-use Rattle.nb_core.specs.declared.states.KeyState.TheVariants.{Claimed, Dead}
+use Rattle.nb_core.specs.declared.states.KeyState.TheVariants.{Dead}
 use Rattle.nb_core.specs.declared.events.Event.TheVariants.{Claim}
 use Rattle.nb_table.specs.Chains.{ChainOf, Extended, IsOwn, SeenBy, seen_by}
-use Rattle.nb_table.specs.Conditions.{HasWay}
+use Rattle.nb_core.specs.History.{HasWay}
 use Rattle.nb_table.specs.Laws.{StepsAddUp}
 use Rattle.nb_copy.proofs.Copied.{copied-more, copied-one, copied-own, copied-quiet, copied-within}
 use Rattle.nb_copy.specs.Copying.{HasCopied}
@@ -60,14 +60,6 @@ module _ (law : StepsAddUp) (own_lasts : OwnLasts) (chain : ChainOf) (plan : IsP
       {start before after : SeenBy} (d size : ℕ) → d < size → IsOwn chain start → HasCopied p g start before [] 0 0 (2 * d)
       → HasCopied p g before after [] 0 0 2 → HasCopied p g start after [] 0 0 (2 * size)
   looked-last d size near own so_far look = copied-within (2 * (d + 1)) (2 * size) (omega (arith, near)) (looked-on d own so_far look)
-
--- another key has the next slot of a key's path too
-pub others-more :
-    (p : Plan) (t u : Tables) → Lasts p t u → (f key d i other : ℕ) → f < generations_of p → AreOthers p t f key d → path_slot p f key d ≡ i
-    → u.key f i ≡ Claimed other → other ≢ key → AreOthers p u f key (d + 1)
-others-more p t u lasting f key d i other table others at is differs =
-    below_more (λ e. IsOther (u.key f (path_slot p f key e)) key) d (lasting.others f key d table others)
-    (record { other = other; is = ap (u.key f) at ∙ is; differs = differs })
 
 -- a closed slot behind other keys passes the key
 pub passed-dead :

@@ -37,8 +37,8 @@ pub record HasHelped (p : Plan) (g : ℕ) (before after : SeenBy) (turned : ℕ)
   pub others : List Event
   pub asked : after.seen ≡ since ++ (Take before.number g ∷ (others ++ before.seen))
   pub finished :
-      (i : ℕ) → (tables_at p (others ++ before.seen)).taken g ≤ i → i < (tables_at p (others ++ before.seen)).taken g + chunk_of p g → i < size_of p g
-      → IsFinished (seen_by after) g i
+      (i : ℕ) → (tables_at p (others ++ before.seen)).taken g ≤ i → i < (tables_at p (others ++ before.seen)).taken g + chunk_of p g
+      → i < size_of p g → IsFinished (seen_by after) g i
   pub raised : 1 ≤ turned → IsRaised p g after
 
 -- The seat copied the table: all its slots are finished, and the top word is past it. The seat counted just the slots that

@@ -74,16 +74,13 @@ final-above_step {t = t} {g = g} {i = i} above step final =
 -- a key that is being claimed has no slot in the table
 claim-first : (p : Plan) (t : Tables) → IsSound p t → (g i k : ℕ) → g < generations_of p → MayClaim p t g i k → HasSlot p t g k → ⊥
 claim-first p t s g i k within may has =
-    let empty : t.key g (path_slot p g k may.distance) ≡ Empty = ap (t.key g) may.on_path.1 ∙ may.empty in
-    no_slot-past p t s g k may.distance within may.passed (empty-unclaimed empty) has.slot has.in_table has.is
+    let path = may.way.path in
+    let empty : t.key g (path_slot p g k path.distance) ≡ Empty = ap (t.key g) path.at ∙ may.empty in
+    no_slot-past p t s g k path.distance within path.passed (empty-unclaimed empty) has.slot has.in_table has.is
 
 -- the slot that is claimed is what a claimed one has to be
 claim-right : (p : Plan) (t : Tables) (g i k : ℕ) → k ≤ KEY_MAX → MayClaim p t g i k → IsClaimedRight p t g i k
-claim-right p t g i k fits may = record {
-  key = fits;
-  installed = may.installed;
-  reached = record { distance = may.distance; in_table = may.on_path.0; at = may.on_path.1; passed = may.passed };
-}
+claim-right p t g i k fits may = record { key = fits; installed = may.installed; reached = may.way.path }
 
 -- no slot of the key is claimed where the next table has one
 pub claim-not_late :
@@ -183,7 +180,7 @@ module _ (p : Plan) (t u : Tables) (plan : IsPlan p) (s : IsSound p t) (step : S
   keeps-below g k within has =
       elim (key-was (step.key (suc g) has.slot (within, has.in_table)) has.is) [
         | inl was ↦ below-stays g k (omega arith) (s.below g k within (record { slot = has.slot; in_table = has.in_table; is = was }))
-        | inr claims ↦ elim (claims.1.reason) [
+        | inr claims ↦ elim (claims.1.way.reason) [
           | inl copier ↦ below-stays g k (omega arith) (inl copier)
           | inr fresh ↦ below-stays g k (omega arith) (inr fresh.0)
         ]

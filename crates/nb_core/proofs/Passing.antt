@@ -215,12 +215,17 @@ may_claim-true p t g i k d e =
     record {
       installed = is_installed-true t g a.0;
       empty = is_empty-true (t.key g i) b.0;
-      distance = d;
-      on_path = (ltb-true d (size_of p g) c.0, eqb-true (path_slot p g k d) i f.0);
-      passed = are_others-true p t g k d o.0;
-      reason = ⊎_elim (λ below. inl (has_slot_below-true p t g k below))
-          (λ fresh. let r = both (is_ready p t g) (ltb d (limit_of p g)) fresh in inr (is_ready-true p t g r.0, ltb-true d (limit_of p g) r.1))
-          (either (has_slot_below p t g k) (is_ready p t g && ltb d (limit_of p g)) o.1);
+      way = record {
+        path = record {
+          distance = d;
+          in_table = ltb-true d (size_of p g) c.0;
+          at = eqb-true (path_slot p g k d) i f.0;
+          passed = are_others-true p t g k d o.0;
+        };
+        reason = ⊎_elim (λ below. inl (has_slot_below-true p t g k below))
+            (λ fresh. let r = both (is_ready p t g) (ltb d (limit_of p g)) fresh in inr (is_ready-true p t g r.0, ltb-true d (limit_of p g) r.1))
+            (either (has_slot_below p t g k) (is_ready p t g && ltb d (limit_of p g)) o.1);
+      };
     }
 
 exchanges_of : (o : Option ℕ) (a b : ValueState) → exchanges_to o a b ≡ true → MatchOption o ((b ≡ Tombstone) × ((n : ℕ) × (a ≡ Live n))) (λ n. (b ≡ Live n) × (b ≢ a) × (n ≤ VALUE_MAX))

@@ -2,9 +2,9 @@
 use Rattle.std.proofs.Common.{◌≡◌, ◌≢◌, ◌∙◌, ℕ, ◌≤◌, ap, sym, subst, refl, inl, inr, Bool, true, false, cond, Option, Some, None, MatchOption}
 use Rattle.std.proofs.lemmas.Bool.{cond-false, le-ltb}
 use Rattle.std.specs.FinMap.{get}
-use Rattle.nb_core.specs.Calls.{Numbers, changed, holds_of, is_past_max, leaves_alone, map_after, overflows, reply_of}
+use Rattle.nb_core.specs.Calls.{Numbers, changed, holds_of, is_past_max, leaves_alone, map_after, overflows, reply_at, reply_of}
 use Rattle.nb_core.specs.History.{IsExchange, content_of, key_of_call, map_of}
-use Rattle.nb_core.specs.Laws.{ReadReplies, WinReplies, reply_at}
+use Rattle.nb_core.specs.Laws.{ReadReplies, WinReplies}
 use Rattle.nb_core.proofs.Keys.{map_in_range}
 use Rattle.nb_core.proofs.Replies.{alone-why, map_after-left}
 use Rattle.nb_core.proofs.Shown.{win_number}

@@ -1,9 +1,9 @@
 -- The slot of a key in a table, and its value there, as the searches of Meaning find them.
-use Rattle.std.proofs.Common.{◌≡◌, ◌≢◌, ◌∙◌, ℕ, ◌<◌, ◌⊎◌, zero, suc, ap, refl, inl, inr, true, false, cond, not, Option, Some, None, option_map, arith}
+use Rattle.std.proofs.Common.{◌≡◌, ◌≢◌, ◌∙◌, ℕ, ◌<◌, ◌⊎◌, zero, suc, ap, refl, inl, inr, not, Option, Some, None, option_map, arith}
 use Rattle.std.proofs.lemmas.Bool.{cond_both}
 use Rattle.nb_core.specs.Plans.{Plan, size_of}
 use Rattle.nb_core.specs.Tables.{HasSlot, IsSlot, Tables}
-use Rattle.nb_core.specs.Meaning.{is_claimed_by, slot_among, value_among, value_in}
+use Rattle.nb_core.specs.Meaning.{is_claimed_by, slot_among, value_in}
 use Rattle.nb_core.proofs.Passing.{below_suc, is_claimed_by-true, unclaimed}
 use Rattle.nb_core.proofs.Sound.{HasNoSlot, IsSound, one_slot}
 use Rattle.nb_core.specs.declared.states.KeyState.TheVariants.{Claimed}
@@ -48,21 +48,11 @@ slot_among-at p t s g i k slot is =
 
 -- ---- the value in a key's slot
 
--- the search for a value finds the value in the slot that the search for a slot finds
-value_among-is : (t : Tables) (g k n : ℕ) → value_among t g k n ≡ option_map (t.value g) (slot_among t g k n)
-value_among-is t g k zero = refl
-value_among-is t g k (suc n) =
-    elim (is_claimed_by k (t.key g n)) as (λ b.
-    cond b (Some (t.value g n)) (value_among t g k n) ≡ option_map (t.value g) (cond b (Some n) (slot_among t g k n))) [
-      | true ↦ refl
-      | false ↦ value_among-is t g k n
-    ]
-
 -- a key's value in a table, by what the search for its slot finds
 value_in-is :
     (p : Plan) (t : Tables) (g k : ℕ) (o : Option ℕ) → slot_among t g k (size_of p g) ≡ o
     → value_in p t g k ≡ option_map (t.value g) o
-value_in-is p t g k o found = value_among-is t g k (size_of p g) ∙ ap (option_map (t.value g)) found
+value_in-is p t g k o found = ap (option_map (t.value g)) found
 
 -- a key's value in a table is the one in its slot
 pub value_in-some :

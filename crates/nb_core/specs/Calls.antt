@@ -35,10 +35,15 @@ abbrev pub with_at : Numbers → ℕ → Option ℕ → Numbers
 with_at m k None = remove m k
 with_at m k (Some n) = insert m k n
 
+-- what a call replies where its key has this number, or none
+abbrev pub reply_at : Call → Option ℕ → Reply
+reply_at (Get k) number = record { before = number; matched = true }
+reply_at (Write k want change) number = record { before = number; matched = holds_of want number }
+
 -- what a call replies on a map
 abbrev pub reply_of : Call → Numbers → Reply
-reply_of (Get k) m = record { before = get m k; matched = true }
-reply_of (Write k want change) m = record { before = get m k; matched = holds_of want (get m k) }
+reply_of (Get k) m = reply_at (Get k) (get m k)
+reply_of (Write k want change) m = reply_at (Write k want change) (get m k)
 
 -- the map that a call leaves
 abbrev pub map_after : Call → Numbers → Numbers

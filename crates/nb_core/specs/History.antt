@@ -5,7 +5,7 @@ use Rattle.std.specs.Option.{option_map_or}
 use Rattle.nb_core.specs.Calls.{Numbers, changed, holds_of, map_after, overflows, reply_of}
 use Rattle.nb_core.specs.Plans.{Plan, generations_of, limit_of, size_of}
 use Rattle.nb_core.specs.States.{IsValueState}
-use Rattle.nb_core.specs.Tables.{AreOthers, HasSlotBelow, IsComplete, IsInstalled, IsReady, IsSettledBelow, IsSlot, IsUnprimed, Tables, path_slot, tables_at}
+use Rattle.nb_core.specs.Tables.{AreOthers, HasSlotBelow, IsComplete, IsInstalled, IsOnPath, IsReady, IsSettledBelow, IsSlot, IsUnprimed, Tables, tables_at}
 use Rattle.nb_core.specs.declared.numbers.TheConstants.{KEY_MAX, VALUE_MAX}
 use Rattle.nb_core.specs.declared.calls.Call.{Call}
 use Rattle.nb_core.specs.declared.calls.Call.TheVariants as call
@@ -21,19 +21,21 @@ use Rattle.nb_core.specs.declared.states.ValueState.TheVariants.{Null, Tombstone
 
 -- ---- when an event may follow
 
--- A key is claimed in the first slot of its path that isn't another key's, if it is empty: at any distance where the
--- key has a slot in the table below, and else within the limit, once the table below, if there is one, is complete.
+-- A key has a way to a slot of its path behind slots of other keys: at any distance where the key has a slot in the table
+-- below, and else within the limit, once the table below, if there is one, is complete.
+pub record HasWay (p : Plan) (t : Tables) (g i k : ℕ) : Type 0 where
+  pub path : IsOnPath p t g i k
+  pub reason : HasSlotBelow p t g k ⊎ (IsReady p t g × (path.distance < limit_of p g))
+
+-- A key is claimed in the first slot of its path that isn't another key's, if it is empty and the key has a way to it.
 pub record MayClaim (p : Plan) (t : Tables) (g i k : ℕ) : Type 0 where
   pub installed : IsInstalled t g
   pub empty : t.key g i ≡ Empty
-  pub distance : ℕ
-  pub on_path : (distance < size_of p g) × (path_slot p g k distance ≡ i)
-  pub passed : AreOthers p t g k distance
-  pub reason : HasSlotBelow p t g k ⊎ (IsReady p t g × (distance < limit_of p g))
+  pub way : HasWay p t g i k
 
 -- Once there is a next table, a slot without a key may be closed.
 pub record MayKill (t : Tables) (g i : ℕ) : Type 0 where
-  pub growing : t.next g ≡ 1
+  pub growing : IsInstalled t (suc g)
   pub empty : t.key g i ≡ Empty
 
 -- the number in a value, if there is one
@@ -80,7 +82,7 @@ pub record MayCopyIn (p : Plan) (t : Tables) (g i k n : ℕ) : Type 0 where
 
 -- A value is primed once there is a next table.
 pub record MayPrime (t : Tables) (g i : ℕ) : Type 0 where
-  pub growing : t.next g ≡ 1
+  pub growing : IsInstalled t (suc g)
   pub key : ℕ
   pub claimed : t.key g i ≡ Claimed key
   pub unprimed : IsUnprimed (t.value g i)
@@ -109,7 +111,7 @@ pub record MayInstall (p : Plan) (t : Tables) (g k : ℕ) : Type 0 where
 
 -- Chunks of a table are handed out once there is a next table.
 abbrev pub MayTake : Tables → ℕ → Type 0
-MayTake t g = t.next g ≡ 1
+MayTake t g = IsInstalled t (suc g)
 
 -- the value is a null or a tombstone that isn't primed: priming finishes it
 abbrev pub is_empty_content : ValueState → Bool

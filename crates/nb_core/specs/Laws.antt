@@ -1,16 +1,15 @@
 -- The laws of legal histories: what holds at every moment, whatever atomic steps were made, by whom, in which order.
 use Rattle.std.specs.Prelude.{◌≡◌, ◌≢◌, ℕ, suc, zero, ◌+◌, ◌-◌, ◌%◌, ◌<◌, ◌≤◌, ◌⊎◌, ◌||◌, ℤ, pos, ◌+ℤ◌, Bool, true, false, if◌then◌else◌, List, [], ◌∷◌, ◌++◌, length, slice_index, bit_or, Option, Some, None, All}
 use Rattle.std.specs.FinMap as map
-use Rattle.nb_core.specs.Calls.{holds_of, leaves_alone}
+use Rattle.nb_core.specs.Calls.{leaves_alone, reply_at}
 use Rattle.nb_core.specs.Plans.{Plan, IsPlan, generations_of, header_place, size_of, value_place, word_count}
 use Rattle.nb_core.specs.States.{IsKeyState, IsValueState, value_state, value_word}
-use Rattle.nb_core.specs.Tables.{AreOthers, HasSlot, IsComplete, IsFinished, IsFinishedValue, IsInstalled, IsReady, IsSettledBelow, IsSlot, IsUnprimed, Tables, is_finished_value, path_slot, tables_at, words_of}
+use Rattle.nb_core.specs.Tables.{AreOthers, HasSlot, IsComplete, IsFinished, IsFinishedValue, IsInstalled, IsOnPath, IsReady, IsSettledBelow, IsSlot, IsUnprimed, Tables, is_finished_value, path_slot, tables_at, words_of}
 use Rattle.nb_core.specs.History.{HasValue, IsLegal, MayWin, Replies, content_of, counted_by, key_of_call, map_of, seat_of_event, turned_by, turns_slot}
 use Rattle.nb_core.specs.Meaning.{AreReplies, IsCrowded, Stands, all_calls, calls_of, map_of_calls, net_of, passed_over, place_of}
 use Rattle.nb_core.specs.declared.numbers.TheConstants.{KEY_MAX, VALUE_MAX}
 use Rattle.nb_core.specs.declared.calls.Call.{Call}
 use Rattle.nb_core.specs.declared.calls.Call.TheVariants as call
-use Rattle.nb_core.specs.declared.calls.Reply.{Reply}
 use Rattle.nb_core.specs.declared.events.Event.{Event}
 use Rattle.nb_core.specs.declared.events.Event.TheVariants.{Claim, Kill, Won, CopyIn, Prime, Finish, Read}
 use Rattle.nb_core.specs.declared.states.KeyState.{KeyState}
@@ -87,9 +86,15 @@ IsValueChange _ g i from to = ⊥
 
 -- An event changes one word at most, and a key or a value only in its own slot and as its kind may.
 pub record IsLawfulChange (p : Plan) (e : Event) (h : List Event) : Type 0 where
-  pub one : (a b : ℕ) → slice_index (words_of p (e ∷ h)) a ≢ slice_index (words_of p h) a → slice_index (words_of p (e ∷ h)) b ≢ slice_index (words_of p h) b → a ≡ b
-  pub keys : (g i : ℕ) → IsSlot p g i → let t = tables_at p h in let u = tables_at p (e ∷ h) in (u.key g i ≡ t.key g i) ⊎ IsKeyChange e g i (t.key g i) (u.key g i)
-  pub values : (g i : ℕ) → IsSlot p g i → let t = tables_at p h in let u = tables_at p (e ∷ h) in (u.value g i ≡ t.value g i) ⊎ IsValueChange e g i (t.value g i) (u.value g i)
+  pub one :
+      (a b : ℕ) → slice_index (words_of p (e ∷ h)) a ≢ slice_index (words_of p h) a
+      → slice_index (words_of p (e ∷ h)) b ≢ slice_index (words_of p h) b → a ≡ b
+  pub keys :
+      (g i : ℕ) → IsSlot p g i → let t = tables_at p h in let u = tables_at p (e ∷ h) in
+      (u.key g i ≡ t.key g i) ⊎ IsKeyChange e g i (t.key g i) (u.key g i)
+  pub values :
+      (g i : ℕ) → IsSlot p g i → let t = tables_at p h in let u = tables_at p (e ∷ h) in
+      (u.value g i ≡ t.value g i) ⊎ IsValueChange e g i (t.value g i) (u.value g i)
 
 abbrev pub LawfulChanges : Type 0
 LawfulChanges = (p : Plan) → IsPlan p → (e : Event) (h : List Event) → IsLegal p (e ∷ h) → IsLawfulChange p e h
@@ -102,7 +107,9 @@ TablesStand = (p : Plan) → IsPlan p → (h : List Event) → IsLegal p h → S
 
 -- A key has at most one slot in a table.
 abbrev pub HasOneSlot : Type 0
-HasOneSlot = (p : Plan) → IsPlan p → (h : List Event) → IsLegal p h → (g i j k : ℕ) → IsSlot p g i → IsSlot p g j → (tables_at p h).key g i ≡ Claimed k → (tables_at p h).key g j ≡ Claimed k → i ≡ j
+HasOneSlot =
+    (p : Plan) → IsPlan p → (h : List Event) → IsLegal p h → (g i j k : ℕ) → IsSlot p g i → IsSlot p g j
+    → (tables_at p h).key g i ≡ Claimed k → (tables_at p h).key g j ≡ Claimed k → i ≡ j
 
 -- A slot that has a key, or is closed to keys, stays so for ever, and a finished slot keeps its value too.
 pub record Stays (t u : Tables) (g i : ℕ) : Type 0 where
@@ -110,9 +117,11 @@ pub record Stays (t u : Tables) (g i : ℕ) : Type 0 where
   pub finished : IsFinished t g i → (u.key g i ≡ t.key g i) × (u.value g i ≡ t.value g i)
 
 abbrev pub SlotsStay : Type 0
-SlotsStay = (p : Plan) → IsPlan p → (later h : List Event) → IsLegal p (later ++ h) → (g i : ℕ) → IsSlot p g i → Stays (tables_at p h) (tables_at p (later ++ h)) g i
+SlotsStay =
+    (p : Plan) → IsPlan p → (later h : List Event) → IsLegal p (later ++ h) → (g i : ℕ) → IsSlot p g i
+    → Stays (tables_at p h) (tables_at p (later ++ h)) g i
 
--- the key got a number in this table, which may be gone again
+-- the value is a number, or the tombstone that took its place, primed or not
 abbrev pub HasContent : ValueState → Type 0
 HasContent Null = ⊥
 HasContent Tombstone = Unit {0}
@@ -124,11 +133,15 @@ HasContent (Finished n) = Unit {0}
 
 -- A value that was ever a number or a tombstone is never null again, primed or not.
 abbrev pub ContentOnce : Type 0
-ContentOnce = (p : Plan) → IsPlan p → (later h : List Event) → IsLegal p (later ++ h) → (g i : ℕ) → IsSlot p g i → HasContent ((tables_at p h).value g i) → HasContent ((tables_at p (later ++ h)).value g i)
+ContentOnce =
+    (p : Plan) → IsPlan p → (later h : List Event) → IsLegal p (later ++ h) → (g i : ℕ) → IsSlot p g i
+    → HasContent ((tables_at p h).value g i) → HasContent ((tables_at p (later ++ h)).value g i)
 
 -- A table is installed only where the one two below it is complete, so at most two tables have values to copy or to change.
 abbrev pub InstalledAfter : Type 0
-InstalledAfter = (p : Plan) → IsPlan p → (h : List Event) → IsLegal p h → (g : ℕ) → IsInstalled (tables_at p h) (suc (suc g)) → IsComplete p (tables_at p h) g
+InstalledAfter =
+    (p : Plan) → IsPlan p → (h : List Event) → IsLegal p h → (g : ℕ) → IsInstalled (tables_at p h) (suc (suc g))
+    → IsComplete p (tables_at p h) g
 
 -- ---- what a look at the tables decides
 
@@ -207,7 +220,9 @@ pub record HasRoom (p : Plan) (t : Tables) (g : ℕ) : Type 0 where
 
 -- While a table isn't complete the next one has room for it, whatever writers do, also where both have the same size.
 abbrev pub Room : Type 0
-Room = (p : Plan) → IsPlan p → (h : List Event) → IsLegal p h → (g : ℕ) → suc g < generations_of p → (IsComplete p (tables_at p h) g → ⊥) → HasRoom p (tables_at p h) g
+Room =
+    (p : Plan) → IsPlan p → (h : List Event) → IsLegal p h → (g : ℕ) → suc g < generations_of p → (IsComplete p (tables_at p h) g → ⊥)
+    → HasRoom p (tables_at p h) g
 
 -- A key that the last table has no slot left for is absent.
 abbrev pub CrowdedAbsent : Type 0
@@ -215,7 +230,9 @@ CrowdedAbsent = (p : Plan) → IsPlan p → (h : List Event) → IsLegal p h →
 
 -- The first place of a key from a table on is the same for ever.
 abbrev pub OnePlace : Type 0
-OnePlace = (p : Plan) → IsPlan p → (later h : List Event) → IsLegal p (later ++ h) → (g k : ℕ) → (place : ℕ × ℕ) → place_of p h g k ≡ Some place → place_of p (later ++ h) g k ≡ Some place
+OnePlace =
+    (p : Plan) → IsPlan p → (later h : List Event) → IsLegal p (later ++ h) → (g k : ℕ) → (place : ℕ × ℕ) → place_of p h g k ≡ Some place
+    → place_of p (later ++ h) g k ≡ Some place
 
 -- ---- the size
 
@@ -293,23 +310,33 @@ SeenLasts = (p : Plan) → IsPlan p → (later h : List Event) → IsLegal p (la
 
 -- Where a key's number is finished, the key has a value in the next table.
 abbrev pub Moved : Type 0
-Moved = (p : Plan) → IsPlan p → (h : List Event) → IsLegal p h → (g i k n : ℕ) → IsSlot p g i → (tables_at p h).key g i ≡ Claimed k → (tables_at p h).value g i ≡ Finished n → HasValue p (tables_at p h) (suc g) k
+Moved =
+    (p : Plan) → IsPlan p → (h : List Event) → IsLegal p h → (g i k n : ℕ) → IsSlot p g i → (tables_at p h).key g i ≡ Claimed k
+    → (tables_at p h).value g i ≡ Finished n → HasValue p (tables_at p h) (suc g) k
 
 -- Every key is passed in a complete table.
 abbrev pub CompletePassed : Type 0
-CompletePassed = (p : Plan) → IsPlan p → (h : List Event) → IsLegal p h → (g k : ℕ) → g < generations_of p → IsComplete p (tables_at p h) g → IsPassed p (tables_at p h) g k
+CompletePassed =
+    (p : Plan) → IsPlan p → (h : List Event) → IsLegal p h → (g k : ℕ) → g < generations_of p → IsComplete p (tables_at p h) g
+    → IsPassed p (tables_at p h) g k
 
 -- A passed key may be written in the next table.
 abbrev pub PassedSettled : Type 0
-PassedSettled = (p : Plan) → IsPlan p → (h : List Event) → IsLegal p h → (g k : ℕ) → g < generations_of p → IsPassed p (tables_at p h) g k → IsSettledBelow p (tables_at p h) (suc g) k
+PassedSettled =
+    (p : Plan) → IsPlan p → (h : List Event) → IsLegal p h → (g k : ℕ) → g < generations_of p → IsPassed p (tables_at p h) g k
+    → IsSettledBelow p (tables_at p h) (suc g) k
 
 -- Where a call may win an exchange, the map has at its key what the call replaces.
 abbrev pub WinNumber : Type 0
-WinNumber = (p : Plan) → IsPlan p → (h : List Event) → IsLegal p h → (g i : ℕ) (a b : ValueState) (c : Call) → IsSlot p g i → MayWin p (tables_at p h) g i a b c → map.get (map_of h) (key_of_call c) ≡ content_of a
+WinNumber =
+    (p : Plan) → IsPlan p → (h : List Event) → IsLegal p h → (g i : ℕ) (a b : ValueState) (c : Call) → IsSlot p g i
+    → MayWin p (tables_at p h) g i a b c → map.get (map_of h) (key_of_call c) ≡ content_of a
 
 -- All tables below the top word are complete.
 abbrev pub TopComplete : Type 0
-TopComplete = (p : Plan) → IsPlan p → (h : List Event) → IsLegal p h → (g : ℕ) → g < (tables_at p h).top → (g < generations_of p) × IsComplete p (tables_at p h) g
+TopComplete =
+    (p : Plan) → IsPlan p → (h : List Event) → IsLegal p h → (g : ℕ) → g < (tables_at p h).top
+    → (g < generations_of p) × IsComplete p (tables_at p h) g
 
 -- ---- which tables are there, and whose slots they have
 
@@ -336,16 +363,11 @@ pub record AreLinked (p : Plan) (t : Tables) : Type 0 where
 abbrev pub TablesAreLinked : Type 0
 TablesAreLinked = (p : Plan) → IsPlan p → (h : List Event) → IsLegal p h → AreLinked p (tables_at p h)
 
--- the slot lies on the key's path, behind slots of other keys
-pub record IsOnPath (p : Plan) (t : Tables) (g i k : ℕ) : Type 0 where
-  pub distance : ℕ
-  pub in_table : distance < size_of p g
-  pub at : path_slot p g k distance ≡ i
-  pub passed : AreOthers p t g k distance
-
 -- A key's slot lies on its path, behind slots of other keys.
 abbrev pub ClaimedOnPath : Type 0
-ClaimedOnPath = (p : Plan) → IsPlan p → (h : List Event) → IsLegal p h → (g i k : ℕ) → IsSlot p g i → (tables_at p h).key g i ≡ Claimed k → IsOnPath p (tables_at p h) g i k
+ClaimedOnPath =
+    (p : Plan) → IsPlan p → (h : List Event) → IsLegal p h → (g i k : ℕ) → IsSlot p g i → (tables_at p h).key g i ≡ Claimed k
+    → IsOnPath p (tables_at p h) g i k
 
 -- The slots of a key's path are distinct.
 abbrev pub PathsAreDistinct : Type 0
@@ -353,12 +375,16 @@ PathsAreDistinct = (p : Plan) (g k d e : ℕ) → d < size_of p g → e < size_o
 
 -- Where other keys have a key's whole path in the last table, they have all of its slots.
 abbrev pub WholeCrowded : Type 0
-WholeCrowded = (p : Plan) → IsPlan p → (h : List Event) → IsLegal p h → (k : ℕ) → AreOthers p (tables_at p h) (generations_of p - 1) k (size_of p (generations_of p - 1)) → IsCrowded p h k
+WholeCrowded =
+    (p : Plan) → IsPlan p → (h : List Event) → IsLegal p h → (k : ℕ)
+    → AreOthers p (tables_at p h) (generations_of p - 1) k (size_of p (generations_of p - 1)) → IsCrowded p h k
 
 -- Where a key has a slot in a table and is passed in the next one, the table is complete: a copier that finds no place
 -- above has nothing left to copy.
 abbrev pub PassedAbove : Type 0
-PassedAbove = (p : Plan) → IsPlan p → (h : List Event) → IsLegal p h → (g k : ℕ) → suc g < generations_of p → HasSlot p (tables_at p h) g k → IsPassed p (tables_at p h) (suc g) k → IsComplete p (tables_at p h) g
+PassedAbove =
+    (p : Plan) → IsPlan p → (h : List Event) → IsLegal p h → (g k : ℕ) → suc g < generations_of p → HasSlot p (tables_at p h) g k
+    → IsPassed p (tables_at p h) (suc g) k → IsComplete p (tables_at p h) g
 
 -- ---- what other seats did meanwhile
 
@@ -374,7 +400,8 @@ LostExchange =
 abbrev pub PassedOverAdds : Type 0
 PassedOverAdds =
     (later mid h : List Event) (k s : ℕ)
-    → passed_over (later ++ (mid ++ h)) (length h) k s ≡ passed_over (later ++ (mid ++ h)) (length (mid ++ h)) k s + passed_over (mid ++ h) (length h) k s
+    → passed_over (later ++ (mid ++ h)) (length h) k s
+    ≡ passed_over (later ++ (mid ++ h)) (length (mid ++ h)) k s + passed_over (mid ++ h) (length h) k s
 
 -- what is a seat's own, and the same after more events: its calls, and what it counted and turned finished in each table
 pub record HasOwnStill (p : Plan) (later h : List Event) (s : ℕ) : Type 0 where
@@ -387,11 +414,6 @@ abbrev pub OwnLasts : Type 0
 OwnLasts = (p : Plan) (later h : List Event) (s : ℕ) → All (λ e. seat_of_event e ≢ s) later → HasOwnStill p later h s
 
 -- ---- what a call may reply
-
--- what a call replies where its key has this number, or none
-abbrev pub reply_at : Call → Option ℕ → Reply
-reply_at (call.Get k) number = record { before = number; matched = true }
-reply_at (call.Write k want change) number = record { before = number; matched = holds_of want number }
 
 -- A call that may win an exchange may reply the number that it replaces, and that its condition held.
 abbrev pub WinReplies : Type 0
@@ -432,4 +454,5 @@ pub record IsFirstPlace (p : Plan) (t : Tables) (g k f i : ℕ) : Type 0 where
 abbrev pub PlaceIs : Type 0
 PlaceIs =
     (p : Plan) → IsPlan p → (h : List Event) → IsLegal p h → (g k f i : ℕ)
-    → (place_of p h g k ≡ Some (f, i) → IsFirstPlace p (tables_at p h) g k f i) × (IsFirstPlace p (tables_at p h) g k f i → place_of p h g k ≡ Some (f, i))
+    → (place_of p h g k ≡ Some (f, i) → IsFirstPlace p (tables_at p h) g k f i)
+    × (IsFirstPlace p (tables_at p h) g k f i → place_of p h g k ≡ Some (f, i))

@@ -26,14 +26,14 @@ is_claimed_by k Empty = false
 is_claimed_by k Dead = false
 is_claimed_by k (Claimed j) = j == k
 
--- the key's value among the first n slots of a table, if it has a slot there
-abbrev pub value_among : Tables → ℕ → ℕ → ℕ → Option ValueState
-value_among t g k zero = None
-value_among t g k (suc n) = if is_claimed_by k (t.key g n) then Some (t.value g n) else value_among t g k n
+-- the key's slot among the first n slots of a table, if it has one there
+abbrev pub slot_among : Tables → ℕ → ℕ → ℕ → Option ℕ
+slot_among t g k zero = None
+slot_among t g k (suc n) = if is_claimed_by k (t.key g n) then Some n else slot_among t g k n
 
 -- the key's value in a table, if it has a slot there
 abbrev pub value_in : Plan → Tables → ℕ → ℕ → Option ValueState
-value_in p t g k = value_among t g k (size_of p g)
+value_in p t g k = option_map (t.value g) (slot_among t g k (size_of p g))
 
 -- whether the key has no slot, or a null value
 abbrev pub is_blank : Option ValueState → Bool
@@ -137,11 +137,6 @@ is_win_of_another k s _ = false
 -- how many exchanges on the key the other seats won after the first n events
 abbrev pub passed_over : List Event → ℕ → ℕ → ℕ → ℕ
 passed_over h n k s = count_by (is_win_of_another k s) (take (length h - n) h)
-
--- the key's slot among the first n slots of a table
-abbrev pub slot_among : Tables → ℕ → ℕ → ℕ → Option ℕ
-slot_among t g k zero = None
-slot_among t g k (suc n) = if is_claimed_by k (t.key g n) then Some n else slot_among t g k n
 
 -- the first of two places, where there is one
 abbrev pub first_place : Option (ℕ × ℕ) → Option (ℕ × ℕ) → Option (ℕ × ℕ)

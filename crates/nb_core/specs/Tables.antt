@@ -121,6 +121,13 @@ pub record IsOther (s : KeyState) (k : ℕ) : Type 0 where
 abbrev pub AreOthers : Plan → Tables → ℕ → ℕ → ℕ → Type 0
 AreOthers p t g k d = (e : ℕ) → e < d → IsOther (t.key g (path_slot p g k e)) k
 
+-- the slot lies on the key's path, behind slots of other keys
+pub record IsOnPath (p : Plan) (t : Tables) (g i k : ℕ) : Type 0 where
+  pub distance : ℕ
+  pub in_table : distance < size_of p g
+  pub at : path_slot p g k distance ≡ i
+  pub passed : AreOthers p t g k distance
+
 -- the key has a slot in the table
 pub record HasSlot (p : Plan) (t : Tables) (g k : ℕ) : Type 0 where
   pub slot : ℕ

@@ -48,11 +48,16 @@ added_by ts = total (λ t. t.added) ts
 
 -- the sum of the stripes is, modulo 2^64, what all seats have added
 abbrev pub StripesAreTheSum : Type 0
-StripesAreTheSum = (z : Size) (s : State (Unit {0}) (List Tally)) → 1 ≤ z.stripes → AreSums z s → sum_of_stripes s.words z.stripes % 2 ^ 64 ≡ wrapped (added_by (all_of s.views))
+StripesAreTheSum =
+    (z : Size) (s : State (Unit {0}) (List Tally)) → 1 ≤ z.stripes → AreSums z s
+    → sum_of_stripes s.words z.stripes % 2 ^ 64 ≡ wrapped (added_by (all_of s.views))
 
 -- where all seats have added the same, the sum of the stripes is the same modulo 2^64, however many stripes there are
 abbrev pub StripesAreFree : Type 0
-StripesAreFree = (y z : Size) (s t : State (Unit {0}) (List Tally)) → 1 ≤ y.stripes → 1 ≤ z.stripes → AreSums y s → AreSums z t → added_by (all_of s.views) ≡ added_by (all_of t.views) → sum_of_stripes s.words y.stripes % 2 ^ 64 ≡ sum_of_stripes t.words z.stripes % 2 ^ 64
+StripesAreFree =
+    (y z : Size) (s t : State (Unit {0}) (List Tally)) → 1 ≤ y.stripes → 1 ≤ z.stripes → AreSums y s → AreSums z t
+    → added_by (all_of s.views) ≡ added_by (all_of t.views)
+    → sum_of_stripes s.words y.stripes % 2 ^ 64 ≡ sum_of_stripes t.words z.stripes % 2 ^ 64
 
 -- a seat's tally after it has added
 abbrev pub after_add : ℤ → Tally → Tally

@@ -5,9 +5,9 @@ use Rattle.std.specs.List.{All}
 use Rattle.std.proofs.lemmas.Bool.{eq-eqb, ne_eqb}
 use Rattle.std.proofs.lemmas.List.{append-nil}
 use Rattle.std.proofs.lemmas.List.Elements.{All-cons, All-head, All-nil, All-tail}
-use Rattle.nb_core.specs.Calls.{leaves_alone}
+use Rattle.nb_core.specs.Calls.{leaves_alone, reply_at}
 use Rattle.nb_core.specs.History.{IsLegal, content_of, key_of_call, map_of, seat_of_event}
-use Rattle.nb_core.specs.Laws.{Decided, IsPassed, LostExchange, PassedOverAdds, PassedSettled, Shows, reply_at}
+use Rattle.nb_core.specs.Laws.{Decided, IsPassed, LostExchange, PassedOverAdds, PassedSettled, Shows}
 use Rattle.nb_core.specs.Meaning.{calls_of, passed_over}
 use Rattle.nb_core.specs.Plans.{IsPlan, Plan, generations_of}
 use Rattle.nb_core.specs.Tables.{IsSettledBelow, IsSlot, IsUnprimed, tables_at}

@@ -3,9 +3,9 @@ use Rattle.std.proofs.Common.{◌≡◌, ◌∙◌, ℕ, suc, zero, ◌+◌, ◌
 use Rattle.std.specs.List.{All}
 use Rattle.std.proofs.lemmas.Bool.{eq-eqb}
 use Rattle.std.proofs.lemmas.List.Elements.{All-append, All-cons, All-head, All-nil, All-tail, All-weaker}
-use Rattle.nb_core.specs.Calls.{leaves_alone}
+use Rattle.nb_core.specs.Calls.{leaves_alone, reply_at}
 use Rattle.nb_core.specs.History.{IsLegal, key_of_call}
-use Rattle.nb_core.specs.Laws.{Lasts, reply_at}
+use Rattle.nb_core.specs.Laws.{Lasts}
 use Rattle.nb_core.specs.Meaning.{calls_of}
 use Rattle.nb_core.specs.Plans.{IsPlan, Plan, generations_of}
 use Rattle.nb_core.specs.Tables.{HasSlotBelow, Tables}

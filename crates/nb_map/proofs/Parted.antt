@@ -8,11 +8,7 @@ use Rattle.nb_table.specs.Chains.{SeenBy}
 use Rattle.nb_map.specs.Ending.{IsParted}
 use Rattle.nb_count.specs.Counts as counted
 use Rattle.nb_table.specs.Gathered as chained
-use Rattle.nb_map.specs.Maps.{AreMine, MapOf, SeatOf}
-
--- what the seat has counted is the net of its calls
-abbrev pub HasCounted : SeatOf → Type 0
-HasCounted seat = seat.count.added ≡ net_of (calls_of seat.chain.seen seat.chain.number)
+use Rattle.nb_map.specs.Maps.{AreMine, HasCounted, MapOf, SeatOf}
 
 -- the seats are parted but for those that are left
 pub record IsParting (seats left : List SeatOf) (chains : List SeenBy) (counts : List Counting) : Type 0 where

@@ -6,9 +6,9 @@ use Rattle.std.proofs.lemmas.List.Elements.{All-get_or}
 use Rattle.std.proofs.lemmas.List.{append-nil}
 use Rattle.nb_core.specs.Calls.{leaves_alone}
 use Rattle.nb_core.specs.History.{IsLegal, key_of_call}
-use Rattle.nb_core.specs.Laws.{AtSlot, CompletePassed, IsOnPath, IsPassed, Lasts, PathsAreDistinct, TablesAreLinked, TopComplete}
+use Rattle.nb_core.specs.Laws.{AtSlot, CompletePassed, IsPassed, Lasts, PathsAreDistinct, TablesAreLinked, TopComplete}
 use Rattle.nb_core.specs.Plans.{IsPlan, Plan, generations_of, size_of}
-use Rattle.nb_core.specs.Tables.{AreOthers, IsComplete, IsFinished, IsInstalled, IsOther, IsReady, IsSlot, IsUnprimed, Tables, path_slot}
+use Rattle.nb_core.specs.Tables.{AreOthers, IsComplete, IsFinished, IsInstalled, IsOnPath, IsOther, IsReady, IsSlot, IsUnprimed, Tables, path_slot}
 use Rattle.nb_core.specs.declared.calls.Call.{Call}
 use Rattle.nb_core.specs.declared.calls.Reply.{Reply}
 use Rattle.nb_core.specs.declared.states.KeyState.TheVariants.{Claimed, Dead}

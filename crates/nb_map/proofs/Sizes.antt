@@ -1,15 +1,15 @@
 -- The size of a map whose seats are gathered is what they have counted.
-use Rattle.std.proofs.Common.{◌≡◌, ◌∙◌, ℕ, zero, suc, ◌+◌, ◌<◌, ◌≤◌, ◌==◌, ◌⊎◌, Bool, true, false, cond, nat_lt, List, [], ◌∷◌, length, map, All, get_or, Option, Some, None, ap, sym, subst, refl, inl, inr, arith}
+use Rattle.std.proofs.Common.{◌≡◌, ◌∙◌, ℕ, zero, suc, ◌+◌, ◌<◌, ◌≤◌, ◌==◌, ◌⊎◌, Bool, true, false, cond, List, [], ◌∷◌, ◌++◌, length, length-append, map, All, get_or, Option, Some, None, ap, ap₂, sym, subst, refl, inl, inr, arith}
 use Rattle.std.specs.Cmp.{nat_cmp_total}
 use Rattle.std.specs.FinMap.{entries, get, nat_cmp-IsAntisymmetric, same_map}
+use Rattle.std.specs.List.{count_by}
 use Rattle.std.specs.Prelude.{ℤ, pos}
 use Rattle.std.proofs.Math.IntN.{◌+ℤ◌}
 use Rattle.std.proofs.Math.Nat.{mod-eq_of_lt}
-use Rattle.std.proofs.lemmas.Bool.{cases_lt}
-use Rattle.std.proofs.lemmas.Bool.Decides.{nat_tests}
+use Rattle.std.proofs.lemmas.Bool.{cases_lt, eqb-true, ne_eqb}
 use Rattle.std.proofs.lemmas.Int.{ints}
-use Rattle.std.proofs.lemmas.List.{length-map}
 use Rattle.std.proofs.lemmas.List.Elements.{All-cons, All-head, All-nil, All-tail}
+use Rattle.std.proofs.lemmas.List.Sums.{sum_by-append, sum_by-cons}
 use Rattle.nb_core.specs.History.{IsLegal, map_of}
 use Rattle.nb_core.specs.Laws.{FewKeys, MapInRange, OwnLasts, SizeIsNet, TablesStand}
 use Rattle.nb_core.specs.Laws as laws
@@ -21,153 +21,88 @@ use Rattle.nb_core.specs.declared.numbers.TheConstants.{KEY_MAX}
 use Rattle.nb_count.specs.Counts.{Counting, total_of}
 use Rattle.nb_count.specs.Tallies.{wrapped}
 use Rattle.nb_table.specs.Chains.{SeenBy}
-use Rattle.nb_table.specs.Gathered.{ClosedWith, HasSeen, times_numbered}
+use Rattle.nb_table.specs.Gathered.{ClosedWith}
 use Rattle.nb_table.specs.Left.{ClosedOf, HoldsOfMap, IsLeftBy}
+use Rattle.nb_table.specs.Views.{HasSeen}
 use Rattle.nb_map.specs.Ending.{EndedWith, IsParted, net_of_seats}
-use Rattle.nb_map.specs.Maps.{SeatOf}
-use Rattle.nb_map.proofs.Parted.{HasCounted}
+use Rattle.nb_map.specs.Maps.{HasCounted, SeatOf}
 
 -- ---- each number is one seat's, so a sum over the seats is one over the numbers
 
--- no number is below 0
-none-below : (x : ℕ) → nat_lt x 0 ≡ false
-none-below x = grind (arith, nat_tests)
+-- how many of these seats have this number
+abbrev times : ℕ → List SeatOf → ℕ
+times n = count_by (λ seat. seat.chain.number == n)
 
-module _ (f : ℕ → ℤ) where
-  -- a number of each of these seats, in all
-  abbrev total : List SeenBy → ℤ
-  total [] = pos 0
-  total (s ∷ seats) = f s.number +ℤ total seats
+times-cons : (n : ℕ) (s : SeatOf) (seats : List SeatOf) → times n (s ∷ seats) ≡ cond (s.chain.number == n) 1 0 + times n seats
+times-cons n = sum_by-cons (λ seat. cond (seat.chain.number == n) 1 0)
 
-  -- the same of those seats alone whose number is below n
-  abbrev below : ℕ → List SeenBy → ℤ
-  below n [] = pos 0
-  below n (s ∷ seats) = cond (nat_lt s.number n) (f s.number) (pos 0) +ℤ below n seats
+times-middle :
+    (n : ℕ) (front : List SeatOf) (s : SeatOf) (back : List SeatOf)
+    → times n (front ++ s ∷ back) ≡ cond (s.chain.number == n) 1 0 + times n (front ++ back)
+times-middle n front s back =
+    let f : SeatOf → ℕ = λ seat. cond (seat.chain.number == n) 1 0 in
+    omega (arith, times-cons n s back, sum_by-append f front (s ∷ back), sum_by-append f front back)
 
-  -- and of those whose number is n
-  abbrev here : ℕ → List SeenBy → ℤ
-  here n [] = pos 0
-  here n (s ∷ seats) = cond (s.number == n) (f n) (pos 0) +ℤ here n seats
+-- as many of their seats of the chain have it
+times-chains : (n : ℕ) (seats : List SeatOf) → count_by (λ seat. seat.number == n) (map (λ seat. seat.chain) seats) ≡ times n seats
+times-chains n [] = refl
+times-chains n (s ∷ seats) =
+    let f : SeenBy → ℕ = λ seat. cond (seat.number == n) 1 0 in
+    omega (arith, times-cons n s seats, sum_by-cons f s.chain (map (λ seat. seat.chain) seats), times-chains n seats)
 
-  -- the numbers of the first n, in all
-  abbrev first : ℕ → ℤ
-  first zero = pos 0
-  first (suc n) = f n +ℤ first n
+-- a seat of this number, and those before and behind it
+record IsAmong (n : ℕ) (seats : List SeatOf) : Type 0 where
+  front : List SeatOf
+  seat : SeatOf
+  back : List SeatOf
+  is : seats ≡ front ++ seat ∷ back
+  number : seat.chain.number ≡ n
 
-  below-zero : (seats : List SeenBy) → below 0 seats ≡ pos 0
-  below-zero [] = refl
-  below-zero (s ∷ seats) =
-      let none = ap (λ b. cond b (f s.number) (pos 0)) (none-below s.number) in
-      let rest = below-zero seats in
-      omega (arith, ints, none, rest)
-
-  one-more :
-      (x n : ℕ) (a b c : Bool) → nat_lt x (suc n) ≡ a → (x == n) ≡ b → nat_lt x n ≡ c
-      → cond a (f x) (pos 0) ≡ cond b (f n) (pos 0) +ℤ cond c (f x) (pos 0)
-  one-more x n true true false a b c = let at : x ≡ n = grind (arith, nat_tests, b) in let same = ap f at in omega (arith, ints, same)
-  one-more x n true false true a b c = omega (arith, ints)
-  one-more x n false false false a b c = omega (arith, ints)
-  one-more x n true true true a b c = absurd (grind (arith, nat_tests, b, c))
-  one-more x n true false false a b c = absurd (grind (arith, nat_tests, a, b, c))
-  one-more x n false true d a b c = absurd (grind (arith, nat_tests, a, b))
-  one-more x n false false true a b c = absurd (grind (arith, nat_tests, a, c))
-
-  below-more : (n : ℕ) (seats : List SeenBy) → below (suc n) seats ≡ here n seats +ℤ below n seats
-  below-more n [] = omega (arith, ints)
-  below-more n (s ∷ seats) =
-      let one = one-more s.number n _ _ _ refl refl refl in
-      let rest = below-more n seats in
-      omega (arith, ints, one, rest)
-
-  here-none : (n : ℕ) (seats : List SeenBy) → times_numbered n seats ≡ 0 → here n seats ≡ pos 0
-  here-none n [] none = refl
-  here-none n (s ∷ seats) none = of (s.number == n) none (here-none n seats)
-    where
-      of : (b : Bool) → cond {A = ℕ} b 1 0 + times_numbered n seats ≡ 0 → (times_numbered n seats ≡ 0 → here n seats ≡ pos 0)
-          → cond b (f n) (pos 0) +ℤ here n seats ≡ pos 0
-      of true none rest = absurd (omega (arith, none))
-      of false none rest = let none = rest (omega (arith, none)) in omega (arith, ints, none)
-
-  here-once : (n : ℕ) (seats : List SeenBy) → times_numbered n seats ≡ 1 → here n seats ≡ f n
-  here-once n [] once = absurd (omega (arith, once))
-  here-once n (s ∷ seats) once = of (s.number == n) once (here-once n seats)
-    where
-      of : (b : Bool) → cond {A = ℕ} b 1 0 + times_numbered n seats ≡ 1 → (times_numbered n seats ≡ 1 → here n seats ≡ f n)
-          → cond b (f n) (pos 0) +ℤ here n seats ≡ f n
-      of true once rest = let none = here-none n seats (omega (arith, once)) in omega (arith, ints, none)
-      of false once rest = let one = rest (omega (arith, once)) in omega (arith, ints, one)
-
-  below-all : (n : ℕ) (seats : List SeenBy) → ((i : ℕ) → i < n → times_numbered i seats ≡ 1) → below n seats ≡ first n
-  below-all zero seats once = below-zero seats
-  below-all (suc n) seats once =
-      let more = below-more n seats in
-      let one = here-once n seats (once n (omega arith)) in
-      let rest = below-all n seats (λ i less. once i (omega (arith, less))) in
-      omega (arith, ints, more, one, rest)
-
--- how many of these seats have a number below n
-abbrev count-below : ℕ → List SeenBy → ℕ
-count-below n [] = 0
-count-below n (s ∷ seats) = cond (nat_lt s.number n) 1 0 + count-below n seats
-
-count-zero : (seats : List SeenBy) → count-below 0 seats ≡ 0
-count-zero [] = refl
-count-zero (s ∷ seats) = omega (arith, ap (λ b. cond {A = ℕ} b 1 0) (none-below s.number), count-zero seats)
-
-count-one :
-    (x n : ℕ) (a b c : Bool) → nat_lt x (suc n) ≡ a → (x == n) ≡ b → nat_lt x n ≡ c → cond {A = ℕ} a 1 0 ≡ cond b 1 0 + cond c 1 0
-count-one x n true true false a b c = refl
-count-one x n true false true a b c = refl
-count-one x n false false false a b c = refl
-count-one x n true true true a b c = absurd (grind (arith, nat_tests, b, c))
-count-one x n true false false a b c = absurd (grind (arith, nat_tests, a, b, c))
-count-one x n false true d a b c = absurd (grind (arith, nat_tests, a, b))
-count-one x n false false true a b c = absurd (grind (arith, nat_tests, a, c))
-
-count-more : (n : ℕ) (seats : List SeenBy) → count-below (suc n) seats ≡ times_numbered n seats + count-below n seats
-count-more n [] = omega arith
-count-more n (s ∷ seats) = omega (arith, count-one s.number n _ _ _ refl refl refl, count-more n seats)
-
-count-all : (n : ℕ) (seats : List SeenBy) → ((i : ℕ) → i < n → times_numbered i seats ≡ 1) → count-below n seats ≡ n
-count-all zero seats once = count-zero seats
-count-all (suc n) seats once =
-    omega (arith, count-more n seats, once n (omega arith), count-all n seats (λ i less. once i (omega (arith, less))))
-
-count-le : (n : ℕ) (seats : List SeenBy) → count-below n seats ≤ length seats
-count-le n [] = omega arith
-count-le n (s ∷ seats) = of (nat_lt s.number n) (count-le n seats)
+among : (n : ℕ) (seats : List SeatOf) → 1 ≤ times n seats → IsAmong n seats
+among n [] some = absurd (omega (arith, some))
+among n (s ∷ seats) some = of (s.chain.number == n) refl (among n seats)
   where
-    of : (b : Bool) → count-below n seats ≤ length seats → cond {A = ℕ} b 1 0 + count-below n seats ≤ suc (length seats)
-    of true rest = omega (arith, rest)
-    of false rest = omega (arith, rest)
+    of : (b : Bool) → (s.chain.number == n) ≡ b → (1 ≤ times n seats → IsAmong n seats) → IsAmong n (s ∷ seats)
+    of true here rest = record { front = []; seat = s; back = seats; is = refl; number = eqb-true s.chain.number n here }
+    of false away rest =
+        let there = rest (omega (arith, some, times-cons n s seats, ap {B = ℕ} (λ b. cond b 1 0) away)) in
+        record { front = s ∷ there.front; seat = there.seat; back = there.back; is = ap (λ xs. s ∷ xs) there.is; number = there.number }
 
--- where all numbers are below n, nothing is left out
-below-whole : (f : ℕ → ℤ) (n : ℕ) (seats : List SeenBy) → count-below n seats ≡ length seats → total f seats ≡ below f n seats
-below-whole f n [] whole = refl
-below-whole f n (s ∷ seats) whole = of (nat_lt s.number n) whole (below-whole f n seats)
-  where
-    of : (b : Bool) → cond {A = ℕ} b 1 0 + count-below n seats ≡ suc (length seats)
-        → (count-below n seats ≡ length seats → total f seats ≡ below f n seats)
-        → f s.number +ℤ total f seats ≡ cond b (f s.number) (pos 0) +ℤ below f n seats
-    of true whole rest = let same = rest (omega (arith, whole)) in omega (arith, ints, same)
-    of false whole rest = absurd (omega (arith, whole, count-le n seats))
+-- what the calls of these seats did to the number of keys, in a history
+abbrev net_in : List Event → List SeatOf → ℤ
+net_in h [] = pos 0
+net_in h (s ∷ seats) = net_of (calls_of h s.chain.number) +ℤ net_in h seats
 
-pub total-first :
-    (f : ℕ → ℤ) (n : ℕ) (seats : List SeenBy) → length seats ≡ n → ((i : ℕ) → i < n → times_numbered i seats ≡ 1)
-    → total f seats ≡ first f n
-total-first f n seats all once =
-    below-whole f n seats (omega (arith, count-all n seats once, all)) ∙ below-all f n seats once
+net-middle :
+    (h : List Event) (front : List SeatOf) (s : SeatOf) (back : List SeatOf)
+    → net_in h (front ++ s ∷ back) ≡ net_of (calls_of h s.chain.number) +ℤ net_in h (front ++ back)
+net-middle h [] s back = refl
+net-middle h (x ∷ front) s back = let rest = net-middle h front s back in omega (arith, ints, rest)
+
+-- the law takes the sum over the numbers
+net-numbers :
+    (h : List Event) (n : ℕ) (seats : List SeatOf) → length seats ≡ n → ((i : ℕ) → i < n → times i seats ≡ 1)
+    → net_in h seats ≡ laws.net_of_seats h n
+net-numbers h zero [] all once = refl
+net-numbers h zero (s ∷ seats) all once = absurd (omega (arith, all))
+net-numbers h (suc n) seats all once =
+    let last = among n seats (omega (arith, once n (omega arith))) in
+    let others = last.front ++ last.back in
+    let fewer : length others ≡ n = omega (
+      arith,
+      all,
+      ap length last.is,
+      length-append last.front (last.seat ∷ last.back),
+      length-append last.front last.back,
+    ) in
+    let rest = net-numbers h n others fewer (λ i less.
+    let differs = ap {B = ℕ} (λ b. cond b 1 0)
+    (ne_eqb last.seat.chain.number i (λ same. absurd (let number = last.number in omega (arith, less, same, number)))) in
+    omega (arith, once i (omega (arith, less)), ap (times i) last.is, times-middle i last.front last.seat last.back, differs)) in
+    ap (net_in h) last.is ∙ net-middle h last.front last.seat last.back
+    ∙ ap₂ (λ m z. net_of (calls_of h m) +ℤ z) last.number rest
 
 -- ---- what the seats have counted
-
--- the net of a seat's calls in a history
-abbrev net_in : List Event → ℕ → ℤ
-net_in h n = net_of (calls_of h n)
-
--- the law sums over the numbers
-net-first : (h : List Event) (n : ℕ) → laws.net_of_seats h n ≡ first (net_in h) n
-net-first h zero = refl
-net-first h (suc n) = ap (λ z. net_in h n +ℤ z) (net-first h n)
 
 -- the same calls, in the history and in what the seat has seen
 abbrev HasSameCalls : List Event → SeatOf → Type 0
@@ -175,7 +110,7 @@ HasSameCalls h seat = calls_of h seat.chain.number ≡ calls_of seat.chain.seen 
 
 net-seen :
     (h : List Event) (seats : List SeatOf) → All (HasSameCalls h) seats
-    → total (net_in h) (map (λ seat. seat.chain) seats) ≡ net_of_seats seats
+    → net_in h seats ≡ net_of_seats seats
 net-seen h [] same = refl
 net-seen h (s ∷ seats) same =
     let one = ap net_of (All-head (HasSameCalls h) s seats same) in
@@ -245,8 +180,10 @@ module _ (p : Plan) (seats : List SeatOf) (chains : List SeenBy) (counts : List 
   abbrev history : List Event
   history = gathered.closed_with.history
 
-  seen : All (λ seat. HasSeen history seat.chain) seats
-  seen = seen-chains (HasSeen history) seats (subst (All (HasSeen history)) gathered.parted.of_chain gathered.closed_with.seen)
+  seen : All (λ seat. HasSeen history seat.chain.number seat.chain.seen) seats
+  seen =
+      let P : SeenBy → Type 0 = λ seat. HasSeen history seat.number seat.seen in
+      seen-chains P seats (subst (All P) gathered.parted.of_chain gathered.closed_with.seen)
 
   same-calls : OwnLasts → All (HasSameCalls history) seats
   same-calls own k d within =
@@ -255,17 +192,15 @@ module _ (p : Plan) (seats : List SeatOf) (chains : List SeenBy) (counts : List 
       ap (λ h. calls_of h s.chain.number) is.is ∙ (own p is.later s.chain.seen s.chain.number is.others).calls
 
   -- each number is one seat's
-  once : (n : ℕ) → n < p.seats → times_numbered n (map (λ seat. seat.chain) seats) ≡ 1
+  once : (n : ℕ) → n < p.seats → times n seats ≡ 1
   once n less =
-      ap (times_numbered n) (sym gathered.parted.of_chain)
+      sym (times-chains n seats) ∙ ap (count_by (λ seat. seat.number == n)) (sym gathered.parted.of_chain)
       ∙ gathered.closed_with.once n (omega (arith, less, ap (λ z. z.seats) gathered.shape))
 
   -- what the seats have counted is the number of keys
   net-keys : IsPlan p → SizeIsNet → OwnLasts → net_of_seats seats ≡ pos (length (entries (map_of history)))
   net-keys is_plan net own =
-      sym (net-seen history seats (same-calls own))
-      ∙ total-first (net_in history) p.seats (map (λ seat. seat.chain) seats) (length-map seats (λ seat. seat.chain) ∙ gathered.all) once
-      ∙ sym (net-first history p.seats)
+      sym (net-seen history seats (same-calls own)) ∙ net-numbers history p.seats seats gathered.all once
       ∙ net p is_plan history (subst (λ z. IsLegal z history) gathered.shape gathered.closed_with.left.legal)
 
   size-keys : IsPlan p → SizeIsNet → OwnLasts → FewKeys → wrapped (total_of counts) ≡ length (entries (map_of history))

@@ -11,11 +11,13 @@ use Rattle.nb_copy.specs.Handing.{table_steps}
 use Rattle.nb_table.specs.Chains.{Grown, SeenBy}
 use Rattle.nb_map.proofs.Bounds.{next-size, slots-more}
 use Rattle.nb_map.proofs.Exchanged.{passed-at}
-use Rattle.nb_map.specs.Refusing.{IsJust, put_steps}
+use Rattle.nb_map.specs.Refusing.{IsJust, IsWritten, put_steps}
 use Rattle.nb_map.specs.Searching.{pass_steps, slots_below}
 use Rattle.nb_map.specs.Writing.{find_steps, passed_since, steps_below}
 use Rattle.nb_map.specs.declared.write.PutFault.{PutFault}
 use Rattle.nb_map.specs.declared.write.PutFault.TheVariants.{Full, Contended, ValueRange}
+use Rattle.nb_map.specs.declared.write.Written.{Written}
+use Rattle.nb_map.specs.declared.write.Written.TheVariants.{Replied, Refused, Above}
 
 -- what others won since a later moment, they won since an earlier one
 pub passed-longer :
@@ -42,6 +44,16 @@ pub just-longer :
 just-longer adds p call tries left a b spent Full just = just
 just-longer adds p call tries left a b spent Contended just = let both = passed-both adds call a b in omega (arith, spent, just, both)
 just-longer adds p call tries left a b spent ValueRange just = just
+
+-- and what a write came to from the later moment on, it came to from the earlier one on
+pub written-longer :
+    PassedOverAdds → (p : Plan) (call : Call) {start mid after : SeenBy} {own own' : List Event} {count count' : ℕ} (g tries : ℕ)
+    → Grown start mid own count → Grown mid after own' count' → (written : Written) → IsWritten p call mid after g tries written
+    → IsWritten p call start after g tries written
+written-longer adds p call g tries a b (Replied reply) is = tt
+written-longer adds p call g tries a b (Refused fault) is = just-longer adds p call tries tries a b (omega arith) fault is
+written-longer adds p call g tries a b (Above below left) is =
+    let longer = passed-longer adds call a b in let spent = is.4 in (is.0, is.1, is.2, is.3, omega (arith, spent, longer))
 
 -- ---- bounds of steps
 

@@ -1,8 +1,7 @@
 -- What the steps of one call of the map do.
 use Rattle.std.specs.Prelude.{◌≡◌, ℕ, ◌<◌, ◌≤◌, ◌⊎◌, false, if◌then◌else◌, List, [], ◌∷◌, All, Option, None}
-use Rattle.nb_core.specs.Calls.{leaves_alone}
+use Rattle.nb_core.specs.Calls.{leaves_alone, reply_at}
 use Rattle.nb_core.specs.History.{key_of_call}
-use Rattle.nb_core.specs.Laws.{reply_at}
 use Rattle.nb_core.specs.Meaning.{calls_of}
 use Rattle.nb_core.specs.Plans.{Plan, generations_of}
 use Rattle.nb_core.specs.Tables.{HasSlotBelow, Tables}

@@ -1,14 +1,14 @@
 -- What is left of a map when all its seats are gathered.
-use Rattle.std.specs.Prelude.{◌≡◌, ◌<◌, ℕ, ℤ, pos, ◌+ℤ◌, List, [], ◌∷◌, All, length, map}
+use Rattle.std.specs.Prelude.{◌≡◌, ◌<◌, ◌==◌, ℕ, ℤ, pos, ◌+ℤ◌, List, [], ◌∷◌, All, count_by, length, map}
 use Rattle.std.specs.FinMap as numbers
 use Rattle.nb_core.specs.Meaning.{calls_of, net_of}
 use Rattle.nb_core.specs.Plans.{Plan}
 use Rattle.nb_core.specs.declared.events.Event.{Event}
 use Rattle.nb_count.specs.Counts.{Counting}
 use Rattle.nb_table.specs.Chains.{SeenBy}
-use Rattle.nb_table.specs.Gathered.{HasSeen, times_numbered}
 use Rattle.nb_table.specs.Left.{ClosedOf, HoldsOfMap, IsLeftBy}
-use Rattle.nb_map.specs.Maps.{SeatOf}
+use Rattle.nb_table.specs.Views.{HasSeen}
+use Rattle.nb_map.specs.Maps.{HasCounted, SeatOf}
 use Rattle.nb_map.specs.declared.ended.Ended.TheInside as ended
 
 -- an ended map: what is left of its chain of tables, and what its seats counted
@@ -35,13 +35,13 @@ pub record EndedWith (p : Plan) (seats : List SeatOf) (ended : EndedOf) : Type 0
   pub shape : ended.tables.shape ≡ p
   pub history : List Event
   pub left : IsLeftBy ended.tables history
-  pub seen : All (λ seat. HasSeen history seat.chain) seats
+  pub seen : All (λ seat. HasSeen history seat.chain.number seat.chain.seen) seats
   pub calls : All (λ seat. calls_of history seat.chain.number ≡ calls_of seat.chain.seen seat.chain.number) seats
-  pub once : (n : ℕ) → n < p.seats → times_numbered n (map (λ seat. seat.chain) seats) ≡ 1
+  pub once : (n : ℕ) → n < p.seats → count_by (λ seat. seat.chain.number == n) seats ≡ 1
   pub size : pos ended.size ≡ net_of_seats seats
 
 -- The seats are parted in those of the chain and those of the counter.
 pub record IsParted (seats : List SeatOf) (chains : List SeenBy) (counts : List Counting) : Type 0 where
   pub of_chain : chains ≡ map (λ seat. seat.chain) seats
   pub of_counter : counts ≡ map (λ seat. seat.count) seats
-  pub counted : All (λ seat. seat.count.added ≡ net_of (calls_of seat.chain.seen seat.chain.number)) seats
+  pub counted : All HasCounted seats

@@ -1,5 +1,6 @@
 -- How contracts see a map and its seats.
 use Rattle.std.specs.Prelude.{◌≡◌, ℕ, zero, suc, pos, Bool, List, [], ◌∷◌, All, Option}
+use Rattle.nb_core.specs.Meaning.{calls_of, net_of}
 use Rattle.nb_core.specs.declared.calls.Call.{Call}
 use Rattle.nb_core.specs.declared.calls.Reply.{Reply}
 use Rattle.nb_count.specs.Counts.{Counted, Counting}
@@ -24,6 +25,10 @@ IsMine map seat = IsOwn map.chain seat.chain × (seat.count.counter ≡ map.coun
 -- all these seats are this map's
 abbrev pub AreMine : MapOf → List SeatOf → Type 0
 AreMine map seats = All (IsMine map) seats
+
+-- what the seat has counted is what its calls added, less what they took out
+abbrev pub HasCounted : SeatOf → Type 0
+HasCounted seat = seat.count.added ≡ net_of (calls_of seat.chain.seen seat.chain.number)
 
 -- a map's seat that has seen and counted nothing
 abbrev pub new_seat : MapOf → ℕ → SeatOf

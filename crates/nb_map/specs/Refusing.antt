@@ -19,18 +19,19 @@ use Rattle.nb_map.specs.declared.write.Target.TheVariants as target
 use Rattle.nb_map.specs.declared.write.Written.{Written}
 use Rattle.nb_map.specs.declared.write.Written.TheVariants as written
 
--- Why a write with so many tries may be refused. It is full only where the call puts a number at an absent key, and other
--- keys have all slots of the last table; contended only where others have won as many exchanges on the key since it began;
--- and past the range only where it is an add whose sum is, in the map of what the seat has seen.
-abbrev pub IsJust : Plan → Call → (before after : SeenBy) → (tries : ℕ) → PutFault → Type 0
-IsJust p call before after tries fault.Full = (leaves_alone call None ≡ false) × IsCrowded p after.seen (key_of_call call)
-IsJust p call before after tries fault.Contended = tries ≤ passed_since call before after
-IsJust p call before after tries fault.ValueRange = overflows call (map_of after.seen) ≡ true
-
--- why a write that tries again for as long as it takes may be refused
+-- Why a write that tries again for as long as it takes may be refused. It is full only where the call puts a number at an
+-- absent key, and other keys have all slots of the last table; and past the range only where it is an add whose sum is, in
+-- the map of what the seat has seen.
 abbrev pub IsJustAdd : Plan → Call → SeenBy → AddFault → Type 0
 IsJustAdd p call after add_fault.Full = (leaves_alone call None ≡ false) × IsCrowded p after.seen (key_of_call call)
 IsJustAdd p call after add_fault.ValueRange = overflows call (map_of after.seen) ≡ true
+
+-- Why a write with so many tries may be refused: for these reasons, and contended only where others have won as many
+-- exchanges on the key since it began.
+abbrev pub IsJust : Plan → Call → (before after : SeenBy) → (tries : ℕ) → PutFault → Type 0
+IsJust p call before after tries fault.Full = IsJustAdd p call after add_fault.Full
+IsJust p call before after tries fault.Contended = tries ≤ passed_since call before after
+IsJust p call before after tries fault.ValueRange = IsJustAdd p call after add_fault.ValueRange
 
 -- the seat has made no call, in however many steps, and the refusal is just
 abbrev pub HasRefused : MapOf → Call → (before after : SeatOf) → AddFault → Type 0
@@ -52,7 +53,8 @@ made_at call (target.Absent reply) = (call, reply) ∷ []
 made_at call (target.Above below) = []
 made_at call target.Full = []
 
--- what the seat has seen where a write with so many tries came to this in table g
+-- What the seat has seen where a write with so many tries came to this in table g: a reason for its refusal; or that it goes
+-- on in the next table, with as many tries fewer at most as others won exchanges.
 abbrev pub IsWritten : Plan → Call → (before after : SeenBy) → (g tries : ℕ) → Written → Type 0
 IsWritten p call before after g tries (written.Replied reply) = Unit {0}
 IsWritten p call before after g tries (written.Refused fault) = IsJust p call before after tries fault
@@ -61,22 +63,22 @@ IsWritten p call before after g tries (written.Above below left) =
     × (tries ≤ left + passed_since call before after)
 
 -- the call, where it was made
-abbrev pub written_by : Call → Written → List (Call × Reply)
-written_by call (written.Replied reply) = (call, reply) ∷ []
-written_by call (written.Refused fault) = []
-written_by call (written.Above below left) = []
+abbrev pub made_by : Call → Written → List (Call × Reply)
+made_by call (written.Replied reply) = (call, reply) ∷ []
+made_by call (written.Refused fault) = []
+made_by call (written.Above below left) = []
 
 -- ---- bounds of steps
 
 -- how many of so many tries are spent
-abbrev pub spent_in : ℕ → Written → ℕ
-spent_in tries (written.Replied reply) = tries
-spent_in tries (written.Refused fault) = tries
-spent_in tries (written.Above below left) = tries - left
+abbrev pub spent_by : ℕ → Written → ℕ
+spent_by tries (written.Replied reply) = tries
+spent_by tries (written.Refused fault) = tries
+spent_by tries (written.Above below left) = tries - left
 
 -- the most steps of a write in table g
 abbrev pub write_steps : Plan → (g tries : ℕ) → Written → ℕ
-write_steps p g tries written = find_steps p g + exchange_steps p g (spent_in tries written)
+write_steps p g tries written = find_steps p g + exchange_steps p g (spent_by tries written)
 
 -- the most steps of a write, with T slots in all tables, G tables, and N slots in the last one: 8 (T + tries + G) (N + 8)
 abbrev pub put_steps : Plan → (tries : ℕ) → ℕ

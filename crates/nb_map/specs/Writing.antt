@@ -1,14 +1,12 @@
--- What a write does in one table, and when it is refused.
-use Rattle.std.specs.Prelude.{◌≡◌, ℕ, zero, suc, ◌+◌, ◌-◌, ◌*◌, ◌≤◌, true, false, List, [], ◌∷◌, length, Option}
+-- What a write does in one table, and how long it takes.
+use Rattle.std.specs.Prelude.{◌≡◌, ℕ, zero, suc, ◌+◌, ◌*◌, true, false, length, Option}
 use Rattle.std.specs.FinMap as map
-use Rattle.nb_core.specs.Calls.{Numbers, leaves_alone, overflows}
-use Rattle.nb_core.specs.History.{IsExchange, content_of, key_of_call, map_of}
-use Rattle.nb_core.specs.Laws.{reply_at}
+use Rattle.nb_core.specs.Calls.{Numbers, leaves_alone, overflows, reply_at}
+use Rattle.nb_core.specs.History.{IsExchange, content_of, key_of_call}
 use Rattle.nb_core.specs.Meaning.{IsCrowded, passed_over}
 use Rattle.nb_core.specs.Plans.{Plan, size_of}
-use Rattle.nb_core.specs.Tables.{HasSlot, HasSlotBelow, IsReady, IsUnprimed, Tables}
+use Rattle.nb_core.specs.Tables.{HasSlotBelow, IsReady, IsUnprimed, Tables}
 use Rattle.nb_core.specs.declared.calls.Call.{Call}
-use Rattle.nb_core.specs.declared.calls.Reply.{Reply}
 use Rattle.nb_core.specs.declared.states.ValueState.{ValueState}
 use Rattle.nb_table.specs.Chains.{SeenBy, seen_by}
 use Rattle.nb_copy.specs.Handing.{table_steps}
@@ -19,8 +17,6 @@ use Rattle.nb_map.specs.declared.claim.Below.{Below}
 use Rattle.nb_map.specs.declared.claim.Below.TheVariants as below
 use Rattle.nb_map.specs.declared.claim.Found.{Found}
 use Rattle.nb_map.specs.declared.claim.Found.TheVariants as found
-use Rattle.nb_map.specs.declared.exchange.Outcome.{Outcome}
-use Rattle.nb_map.specs.declared.exchange.Outcome.TheVariants as outcome
 
 -- ---- what a call does at its key
 
@@ -75,31 +71,6 @@ find_steps p g = 3 * size_of p g + steps_below p g + 4 + table_steps p g
 -- how many exchanges on the call's key other seats have won since the seat had seen no more than `before`
 abbrev pub passed_since : Call → (before after : SeenBy) → ℕ
 passed_since call before after = passed_over after.seen (length before.seen) (key_of_call call) before.number
-
--- the call, where it was replied
-abbrev pub made_by : Call → Outcome → List (Call × Reply)
-made_by call (outcome.Replied reply) = (call, reply) ∷ []
-made_by call outcome.Contended = []
-made_by call outcome.ValueRange = []
-made_by call (outcome.Above tries) = []
-
--- What the seat has seen where a call with so many tries came to this at the key's slot in table g: as many exchanges of
--- others as it had tries; or a sum past the greatest number in the map; or a slot that is finished, and then there are as many
--- tries fewer as others won exchanges.
-abbrev pub IsOutcome : Plan → Call → (before after : SeenBy) → (g tries : ℕ) → Outcome → Type 0
-IsOutcome p call before after g tries (outcome.Replied reply) = Unit {0}
-IsOutcome p call before after g tries outcome.Contended = tries ≤ passed_since call before after
-IsOutcome p call before after g tries outcome.ValueRange = overflows call (map_of after.seen) ≡ true
-IsOutcome p call before after g tries (outcome.Above left) =
-    IsAbove p (seen_by after) g (key_of_call call) × HasSlot p (seen_by after) g (key_of_call call) × (1 ≤ left) × (left ≤ tries)
-    × (tries ≤ left + passed_since call before after)
-
--- how many of so many tries are spent
-abbrev pub spent_by : ℕ → Outcome → ℕ
-spent_by tries (outcome.Replied reply) = tries
-spent_by tries outcome.Contended = tries
-spent_by tries outcome.ValueRange = tries
-spent_by tries (outcome.Above left) = tries - left
 
 -- the most steps at a slot: a load and an exchange for each try that is spent and one more, and the end of a copy
 abbrev pub exchange_steps : Plan → (g spent : ℕ) → ℕ

@@ -7,29 +7,19 @@ ghost use Rattle.nb_table.specs.Chains.{IsOwn, seen_by};
 ghost use Rattle.nb_table.specs.Conditions.{IsReached};
 ghost use Rattle.nb_table.specs.Events.{shown_by_value};
 ghost use Rattle.nb_map.specs.Calling.{HasMade};
-ghost use Rattle.nb_map.specs.Writing.{IsOutcome, exchange_steps, made_by, spent_by};
+ghost use Rattle.nb_map.specs.Refusing.{IsWritten, made_by, spent_by};
+ghost use Rattle.nb_map.specs.Writing.{exchange_steps};
 
+use crate::claim::Below;
 use crate::decide::{Decision, decide};
 use crate::pause::Pause;
 use crate::search::pass_slot;
+use crate::write::{PutFault, Written};
 use nb_core::{Call, Key, Num, Reply, ValueState};
 use nb_table::{Chain, ChainSeat, laws};
 
-/// What a call comes to at its key's slot.
-#[derive(Clone, Copy)]
-pub(crate) enum Outcome {
-    /// It is made, and this is its reply.
-    Replied(Reply),
-    /// Other seats won as many exchanges on the key as it had tries.
-    Contended,
-    /// It would put a number past the greatest one.
-    ValueRange,
-    /// The slot is finished: it goes on in the next table, with so many tries left.
-    Above(u32),
-}
-
-/// Makes a call at its key's slot `i` of table `g`: a load decides it, or an exchange of the value that was loaded, which is
-/// tried so many times.
+/// Makes a write at its key's slot `i` of table `g`: a load decides it, or an exchange of the value that was loaded, which is
+/// tried so many times. Where the slot is finished, it goes on in the next table.
 pub(crate) fn exchange<P: Pause>(
     chain: &Chain,
     seat: &mut ChainSeat,
@@ -39,7 +29,7 @@ pub(crate) fn exchange<P: Pause>(
     call: &Call,
     tries: u32,
     pause: &mut P,
-) -> Outcome
+) -> Written
     requires own { IsOwn chain.now seat.old }
     requires key { key_of_call call.now ≡ key }
     requires slot { IsSlot chain.now.shape g i }
@@ -49,7 +39,7 @@ pub(crate) fn exchange<P: Pause>(
     requires serves { P.serves pause.old chain.now }
     ensures made { HasMade chain.now.shape call.now seat.old seat.new (made_by call.now result)
         (exchange_steps chain.now.shape g (spent_by tries result)) }
-    ensures outcome { IsOutcome chain.now.shape call.now seat.old seat.new g tries result }
+    ensures written { IsWritten chain.now.shape call.now seat.old seat.new g tries result }
     ensures serves { P.serves pause.new chain.now }
 {
     laws::steps_add_up();
@@ -63,28 +53,28 @@ pub(crate) fn exchange<P: Pause>(
         let from = chain.load_value(seat, g, i, Some(*call));
         let Some(number) = shown(&from) else {
             pass_slot(chain, seat, g, i, key, call, from);
-            return Outcome::Above(tries - lost);
+            return Written::Above(Below::HasKey, tries - lost);
         };
         match decide(call, &number) {
-            Decision::Leave(reply) => return Outcome::Replied(reply),
-            Decision::Overflow => return Outcome::ValueRange,
+            Decision::Leave(reply) => return Written::Replied(reply),
+            Decision::Overflow => return Written::Refused(PutFault::ValueRange),
             Decision::Exchange(to) => {
                 pause.before_exchange(chain);
                 let found = chain.win_value(seat, g, i, *call, from, to);
                 if found == from {
-                    return Outcome::Replied(Reply {
+                    return Written::Replied(Reply {
                         before: number,
                         matched: true,
                     });
                 }
                 if shown(&found).is_none() {
                     pass_slot(chain, seat, g, i, key, call, found);
-                    return Outcome::Above(tries - lost);
+                    return Written::Above(Below::HasKey, tries - lost);
                 }
             }
         }
     }
-    Outcome::Contended
+    Written::Refused(PutFault::Contended)
 }
 
 /// What a value shows of its key: the number in it, or that there is none; once it is primed, nothing.

@@ -5,12 +5,12 @@ ghost use Rattle.nb_core.specs.declared.calls.Call.TheVariants as call;
 ghost use Rattle.nb_table.specs.Chains.{IsOwn, seen_by};
 ghost use Rattle.nb_table.specs.Conditions.{IsReached};
 ghost use Rattle.nb_map.specs.Calling.{HasMade};
-ghost use Rattle.nb_map.specs.Refusing.{IsJust, IsTarget, IsWritten, made_at, put_steps, written_by, write_steps};
+ghost use Rattle.nb_map.specs.Refusing.{IsJust, IsTarget, IsWritten, made_at, made_by, put_steps, write_steps};
 ghost use Rattle.nb_map.specs.Writing.{HasBelow, find_steps};
 
 use crate::claim::{Below, Found, find_or_claim};
 use crate::decide::{Decision, decide};
-use crate::exchange::{Outcome, exchange};
+use crate::exchange::exchange;
 use crate::pause::Pause;
 use crate::search::{Sought, seek};
 use nb_core::{Call, Change, Key, Reply, Want};
@@ -46,7 +46,7 @@ enum Target {
 
 /// What a write comes to in a table.
 #[derive(Clone, Copy)]
-enum Written {
+pub(crate) enum Written {
     /// It is made, and this is its reply.
     Replied(Reply),
     Refused(PutFault),
@@ -116,7 +116,7 @@ fn write_in<P: Pause>(
     requires below { HasBelow chain.now.shape (seen_by seat.old) g key below }
     requires some { 1 ≤ tries }
     requires serves { P.serves pause.old chain.now }
-    ensures made { HasMade chain.now.shape call.now seat.old seat.new (written_by call.now result)
+    ensures made { HasMade chain.now.shape call.now seat.old seat.new (made_by call.now result)
         (write_steps chain.now.shape g tries result) }
     ensures written { IsWritten chain.now.shape call.now seat.old seat.new g tries result }
     ensures serves { P.serves pause.new chain.now }
@@ -127,12 +127,7 @@ fn write_in<P: Pause>(
     chain.shape().known();
     seat.known();
     match aim(chain, seat, g, key, call, below) {
-        Target::Slot(i) => match exchange(chain, seat, g, i, key, call, tries, pause) {
-            Outcome::Replied(reply) => Written::Replied(reply),
-            Outcome::Contended => Written::Refused(PutFault::Contended),
-            Outcome::ValueRange => Written::Refused(PutFault::ValueRange),
-            Outcome::Above(left) => Written::Above(Below::HasKey, left),
-        },
+        Target::Slot(i) => exchange(chain, seat, g, i, key, call, tries, pause),
         Target::Absent(reply) => Written::Replied(reply),
         Target::Above(below) => Written::Above(below, tries),
         Target::Full => Written::Refused(PutFault::Full),

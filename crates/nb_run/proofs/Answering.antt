@@ -1,6 +1,6 @@
 -- What a command is answered, by what its call of the map said.
 use Rattle.std.proofs.Common.{◌≡◌, ◌∙◌, ℕ, Bool, Option, Some, None, Result, Ok, Err, IfOk, IfErr, ap, refl}
-use Rattle.nb_core.specs.Laws.{reply_at}
+use Rattle.nb_core.specs.Calls.{reply_at}
 use Rattle.nb_core.specs.declared.calls.Call.TheVariants as call
 use Rattle.nb_core.specs.declared.calls.Reply.{Reply}
 use Rattle.nb_map.specs.Calling.{replied}

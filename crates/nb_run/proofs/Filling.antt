@@ -11,7 +11,7 @@ use Rattle.nb_core.specs.declared.calls.Reply.{Reply}
 use Rattle.nb_core.specs.declared.events.Event.{Event}
 use Rattle.nb_core.specs.declared.events.Event.TheVariants.{Claim, Kill, Won, CopyIn, Prime, Finish, Install, Take, Count, Promote, Read}
 use Rattle.nb_table.specs.Chains.{Grown, SeenBy, own_events}
-use Rattle.nb_table.specs.Gathered.{HasSeen}
+use Rattle.nb_table.specs.Views.{HasSeen}
 use Rattle.nb_map.specs.Calling.{HasMade, MayMake}
 use Rattle.nb_map.specs.Maps.{MapOf, SeatOf, new_seat, seats_of}
 use Rattle.nb_run.specs.Script.{Phase}
@@ -126,7 +126,7 @@ module _ (lasts : SeenLasts) (p : Plan) (plan : IsPlan p) where
 
   -- in a history that it has seen a beginning of with all its own events, its own claims are so too
   pub claimed-history :
-      (cs : List Command) (seat : SeenBy) (history : List Event) → HasClaimed p cs seat → HasSeen history seat → IsLegal p history
+      (cs : List Command) (seat : SeenBy) (history : List Event) → HasClaimed p cs seat → HasSeen history seat.number seat.seen → IsLegal p history
       → All (IsClaimOf p cs (tables_at p history)) (own_events seat.number history)
   claimed-history cs seat history claimed seen legal =
       All-same (IsClaimOf p cs (tables_at p history)) _ _ parts

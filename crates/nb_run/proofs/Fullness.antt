@@ -1,9 +1,10 @@
 -- When a map can be full: for any number of workers at the end, and for one at each of its commands.
-use Rattle.std.proofs.Common.{◌≡◌, ◌≢◌, ◌∙◌, ◌==◌, ◌≤◌, ◌<◌, ◌-◌, ◌+◌, not, Bool, true, false, cond, ℕ, zero, suc, List, [], ◌∷◌, ◌++◌, Some, map, take, ap, sym, subst, refl, inl, inr, append_assoc, append-nil, arith}
+use Rattle.std.proofs.Common.{◌≡◌, ◌≢◌, ◌∙◌, ◌==◌, ◌≤◌, ◌<◌, ◌-◌, ◌+◌, not, cond, ℕ, zero, suc, List, [], ◌∷◌, ◌++◌, Some, map, take, ap, sym, subst, refl, inl, inr, append_assoc, append-nil, arith}
 use Rattle.std.specs.Prelude.{slice_get}
-use Rattle.std.specs.List.{All, flat_map}
+use Rattle.std.specs.List.{All, count_by, flat_map}
 use Rattle.std.proofs.lemmas.Bool.{cases_Bool, eq-eqb, eqb-true}
 use Rattle.std.proofs.lemmas.List.Elements.{All-head, All-tail}
+use Rattle.std.proofs.lemmas.List.Sums.{sum_by-cons}
 use Rattle.nb_core.specs.History.{IsLegal}
 use Rattle.nb_core.specs.Laws.{HasOneSlot, LawfulChanges, SeenLasts}
 use Rattle.nb_core.specs.Meaning.{IsCrowded}
@@ -11,8 +12,7 @@ use Rattle.nb_core.specs.Plans.{IsPlan, Plan, generations_of, size_of}
 use Rattle.nb_core.specs.Tables.{HasSlot, tables_at}
 use Rattle.nb_core.specs.declared.events.Event.{Event}
 use Rattle.nb_table.specs.Chains.{SeenBy, own_events}
-use Rattle.nb_table.specs.Gathered.{HasSeen, times_numbered}
-use Rattle.nb_table.specs.Views.{IsBeginning}
+use Rattle.nb_table.specs.Views.{HasSeen, IsBeginning}
 use Rattle.nb_map.specs.Ending.{EndedOf, EndedWith}
 use Rattle.nb_map.specs.Maps.{MapOf, SeatOf, new_seat, seats_of}
 use Rattle.nb_run.specs.Script.{Phase}
@@ -85,19 +85,17 @@ commands-lone (phase ∷ phases) below =
 
 -- a seat with this number is one of these, and what holds of all holds of it
 seat-numbered :
-    (P : SeatOf → Type 0) (n : ℕ) (seats : List SeatOf) → times_numbered n (map (λ seat. seat.chain) seats) ≡ 1 → All P seats
+    (P : SeatOf → Type 0) (n : ℕ) (seats : List SeatOf) → count_by (λ seat. seat.chain.number == n) seats ≡ 1 → All P seats
     → (seat : SeatOf) × (seat.chain.number ≡ n) × P seat
 seat-numbered P n [] once all = absurd (omega (arith, once))
 seat-numbered P n (seat ∷ seats) once all =
     elim (cases_Bool (seat.chain.number == n)) [
       | inl mine ↦ (seat, eqb-true seat.chain.number n mine, All-head P seat seats all)
-      | inr other ↦ seat-numbered P n seats (rest (seat.chain.number == n) other once) (All-tail P seat seats all)
+      | inr other ↦
+          let first = sum_by-cons (λ (s : SeatOf). cond (s.chain.number == n) 1 0) seat seats in
+          let none = ap {B = ℕ} (λ b. cond b 1 0) other in
+          seat-numbered P n seats (omega (arith, once, first, none)) (All-tail P seat seats all)
     ]
-  where
-    rest : (b : Bool) → b ≡ false → cond {A = ℕ} b 1 0 + times_numbered n (map (λ seat. seat.chain) seats) ≡ 1
-        → times_numbered n (map (λ seat. seat.chain) seats) ≡ 1
-    rest true is once = cc
-    rest false is once = omega (arith, once)
 
 module _ (lasts : SeenLasts) (changes : LawfulChanges) (one : HasOneSlot) where
   -- In a legal history in which each seat's own claims are of keys that the commands may put, these may put each key with a
@@ -146,7 +144,7 @@ module _ (lasts : SeenLasts) (changes : LawfulChanges) (one : HasOneSlot) where
 
       own : (s : ℕ) → s < p.seats → All (IsClaimOf p cs (tables_at p history)) (own_events s history)
       own s less =
-          let found = seat-numbered (λ seat. HasSeen history seat.chain × HasClaimed p cs seat.chain) s after (end.once s less)
+          let found = seat-numbered (λ seat. HasSeen history seat.chain.number seat.chain.seen × HasClaimed p cs seat.chain) s after (end.once s less)
           (λ i d within. (end.seen i d within, claimed i d within)) in
           subst (λ n. All (IsClaimOf p cs (tables_at p history)) (own_events n history)) found.1
           (claimed-history lasts p plan cs found.0.chain history found.2.1 found.2.0 legal)

@@ -10,8 +10,7 @@ use Rattle.nb_core.specs.Plans.{Plan, generations_of, size_of}
 use Rattle.nb_core.specs.Tables.{tables_at}
 use Rattle.nb_core.specs.declared.events.Event.{Event}
 use Rattle.nb_table.specs.Chains.{Grown, own_events}
-use Rattle.nb_table.specs.Gathered.{HasSeen}
-use Rattle.nb_table.specs.Views.{IsBeginning}
+use Rattle.nb_table.specs.Views.{HasSeen, IsBeginning}
 use Rattle.nb_map.specs.Calling.{MayMake}
 use Rattle.nb_map.specs.Ending.{EndedOf, EndedWith}
 use Rattle.nb_map.specs.Maps.{HasWaited, MapOf, SeatOf, seats_of}
@@ -298,7 +297,7 @@ module _ (m : MapOf) (script : List Command) (history : List Event) (crowded : M
 
   -- the seat has seen a beginning of the history, and made no event since
   abbrev IsDone : SeatOf → Type 0
-  IsDone seat = HasSeen history seat.chain
+  IsDone seat = HasSeen history seat.chain.number seat.chain.seen
 
   abbrev begins : (seat : SeatOf) → IsDone seat → HasSeenOf history seat
   begins seat done = record { later = done.later; is = done.is }

@@ -3,7 +3,7 @@ use Rattle.std.proofs.Common.{◌≡◌, ◌≢◌, ◌<◌, ◌≤◌, ◌⊎�
 use Rattle.std.proofs.lemmas.Bool.{eq-eqb}
 use Rattle.std.proofs.lemmas.Bool.Decides.{eqb_tells}
 use Rattle.nb_core.specs.Plans.{IsPlan, Plan, generations_of, limit_of, size_of}
-use Rattle.nb_core.specs.History.{IsLegal, counted_by, turned_by}
+use Rattle.nb_core.specs.History.{HasWay, IsLegal, counted_by, turned_by}
 use Rattle.nb_core.specs.Laws.{CountedOnce, primed}
 use Rattle.nb_core.specs.Tables.{AreOthers, IsComplete, IsOther, IsSettledBelow, IsUnprimed, Tables, path_slot}
 use Rattle.nb_core.specs.declared.events.Event.{Event}
@@ -12,7 +12,6 @@ use Rattle.nb_core.specs.declared.states.KeyState.TheVariants.{Claimed}
 use Rattle.nb_core.specs.declared.states.ValueState.{ValueState}
 use Rattle.nb_core.specs.declared.states.ValueState.TheVariants.{Null, Tombstone, Live, PrimedNull, PrimedTombstone, Primed, Finished}
 use Rattle.nb_table.specs.Chains.{Extended, SeenBy}
-use Rattle.nb_table.specs.Conditions.{HasWay}
 
 -- one more slot of a path that is another key's
 pub one_more : (p : Plan) (t : Tables) (g k d : ℕ) → AreOthers p t g k d → IsOther (t.key g (path_slot p g k d)) k → AreOthers p t g k (d + 1)

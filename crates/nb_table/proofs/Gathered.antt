@@ -1,22 +1,24 @@
 -- One token gathers the parts of all seats, and what it knows fits the words that are left.
-use Rattle.std.proofs.Common.{◌≡◌, ◌∙◌, ℕ, ◌+◌, ◌<◌, ap, sym, subst, refl, true, false, List, [], ◌∷◌, ◌++◌, length, length-append, slice_set, All, arith}
+use Rattle.std.proofs.Common.{◌≡◌, ◌∙◌, ℕ, ◌+◌, ◌<◌, ◌==◌, cond, ap, sym, subst, refl, true, false, List, [], ◌∷◌, ◌++◌, length, length-append, slice_set, All, arith}
 use mathlib.Core.Option.{some}
 use lib.ListN.{get_elem?}
+use Rattle.std.specs.List.{count_by}
 use Rattle.std.proofs.lemmas.List.{nil_from_length}
 use Rattle.std.proofs.lemmas.List.Elements.{All-head, All-nil, All-push, All-same}
+use Rattle.std.proofs.lemmas.List.Sums.{sum_by-append}
 use Rattle.atomic_table.specs.Seated.{TableId}
 use Rattle.atomic_table.specs.Table.{Final, Seen, State}
 use Rattle.atomic_table.specs.declared.shared.Seat.{Seat}
 use Rattle.nb_core.specs.Plans.{Plan}
 use Rattle.nb_core.specs.declared.events.Event.{Event}
 use Rattle.nb_table.specs.Chains.{SeenBy}
-use Rattle.nb_table.specs.Gathered.{AreOwn, ClosedWith, HasGathered, HasSeen, times_numbered}
+use Rattle.nb_table.specs.Gathered.{AreOwn, ClosedWith, HasGathered}
 use Rattle.nb_table.specs.Inside.{IsSeat, part_of, seat_of}
 use Rattle.nb_table.specs.Left.{ClosedOf}
-use Rattle.nb_table.specs.Views.{Fits, IsChained, all_parts, joined, spent_view, times_among}
+use Rattle.nb_table.specs.Views.{HasSeen, IsChained, all_parts, joined, spent_view}
 use Rattle.nb_table.specs.declared.chain.ChainSeat.TheInside as seat
 use Rattle.nb_table.specs.declared.view.View.{View}
-use Rattle.nb_table.proofs.Parted.{All-left, All-right, parts-at, sum-set, times-append}
+use Rattle.nb_table.proofs.Parted.{All-left, All-right, Fits, parts-at, sum-set, times-append, times_among}
 
 -- ---- lists whose last was taken
 
@@ -31,11 +33,14 @@ own-last chain seats left s is own =
     All-head (λ x. x.chain ≡ chain) s [] (All-right (λ x. x.chain ≡ chain) left (s ∷ [])
     (All-same (λ x. x.chain ≡ chain) (left ++ s ∷ []) seats (sym is) own))
 
+-- how many of these seats have this number
+abbrev times_numbered : ℕ → List SeenBy → ℕ
+times_numbered n = count_by (λ seat. seat.number == n)
+
 times_numbered-append :
     (n : ℕ) (left : List SeenBy) (s : SeenBy)
     → times_numbered n (left ++ s ∷ []) ≡ times_numbered n left + times_numbered n (s ∷ [])
-times_numbered-append n [] s = omega arith
-times_numbered-append n (x ∷ left) s = omega (arith, times_numbered-append n left s)
+times_numbered-append n left s = sum_by-append (λ seat. cond (seat.number == n) 1 0) left (s ∷ [])
 
 -- a list from which nothing can be taken is empty
 pub none-left : (left : List SeenBy) → (0 < length left → false ≡ true) → left ≡ []
@@ -44,14 +49,18 @@ none-left (x ∷ left) none = absurd (let e : false ≡ true = none (omega arith
 
 -- ---- gathering
 
+-- the seat has seen a beginning of the history, and made no event since
+abbrev FitsSeat : List Event → SeenBy → Type 0
+FitsSeat history seat = HasSeen history seat.number seat.seen
+
 -- a seat has seen what its one part has
 seen-by :
     (h : List Event) (s : seat.Inside) (next : SeenBy) → IsSeat s → seat_of s ≡ next → All (Fits h) s.seat.me.0.parts
-    → HasSeen h next
+    → FitsSeat h next
 seen-by h s next is_seat view fits =
     let part = part_of s.seat.me.0.parts in
     let own = All-head (Fits h) part [] (All-same (Fits h) (part ∷ []) s.seat.me.0.parts (sym is_seat.one) fits) in
-    subst (HasSeen h) view (record { later = own.later; is = own.is; others = own.others })
+    subst (FitsSeat h) view own
 
 -- and its number is its one part's
 numbered-by :
@@ -69,8 +78,8 @@ gathered-first chain s last left seats is_seat view is own = record {
   count = omega (arith, ap length is_seat.one, ap length is, length-append left (last ∷ []));
   times = λ n. omega (arith, numbered-by n s last is_seat view, ap (times_numbered n) is, times_numbered-append n left last);
   seen =
-      λ h fits others. All-same (HasSeen h) seats (left ++ last ∷ []) is
-      (All-push (HasSeen h) left last others (seen-by h s last is_seat view fits));
+      λ h fits others. All-same (FitsSeat h) seats (left ++ last ∷ []) is
+      (All-push (FitsSeat h) left last others (seen-by h s last is_seat view fits));
 }
 
 -- one seat's token more
@@ -108,7 +117,7 @@ gathered-more chain token token' s next left left' seats g is_seat view is table
       let all = All-same (Fits h) (token.me.0.parts ++ s.seat.me.0.parts) token'.me.0.parts (sym parts) fits in
       let own = seen-by h s next is_seat view (All-right (Fits h) token.me.0.parts s.seat.me.0.parts all) in
       g.seen h (All-left (Fits h) token.me.0.parts s.seat.me.0.parts all)
-      (All-same (HasSeen h) left' (left ++ next ∷ []) is (All-push (HasSeen h) left next others own));
+      (All-same (FitsSeat h) left' (left ++ next ∷ []) is (All-push (FitsSeat h) left next others own));
 }
   where
     parts : token'.me.0.parts ≡ token.me.0.parts ++ s.seat.me.0.parts
@@ -139,7 +148,7 @@ closed-with closed key same chain token seats slots g all final =
       history = rule.history;
       left = record { legal = rule.legal; is = sym final.2 ∙ rule.words };
       seen =
-          g.seen rule.history (parts-at (Fits rule.history) final.0.views token.id token.me.0 final.1.1 rule.fits)
-          (All-nil (HasSeen rule.history));
+          g.seen rule.history (parts-at (Fits rule.history) final.0.views token.id token.me.0 final.1.1 rule.seen)
+          (All-nil (FitsSeat rule.history));
       once = λ n below. omega (arith, g.times n, times-whole p final.0 token.id token.me.0 rule final.1.1 count n below);
     }

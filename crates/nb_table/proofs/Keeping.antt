@@ -13,9 +13,10 @@ use Rattle.nb_core.specs.History.{IsLegal, seat_of_event}
 use Rattle.nb_core.specs.declared.events.Event.{Event}
 use Rattle.nb_table.specs.Inside.{part_of}
 use Rattle.nb_table.specs.Steps.{Can, MayStep}
-use Rattle.nb_table.specs.Views.{Fits, HasMoved, IsBeginning, IsChained, Moves, all_parts, moved, times_among}
+use Rattle.nb_table.specs.Views.{HasMoved, IsBeginning, IsChained, Moves, all_parts, moved}
 use Rattle.nb_table.specs.declared.view.Part.{Part}
 use Rattle.nb_table.specs.declared.view.View.{View}
+use Rattle.nb_table.proofs.Parted.{All-at, Fits, IsTold, times-cons, times_among}
 
 -- ---- one part among others
 
@@ -34,18 +35,18 @@ module _ {X : Type 0} (P : X → Type 0) where
       All-cons P y (front ++ x ∷ back) (All-head P y (front ++ back) all)
       (all-between front x back here (All-tail P y (front ++ back) all))
 
-  -- and what holds of each, of the one at a place
-  all-at : (xs : List X) (id : ℕ) (x : X) → get_elem? xs id ≡ some x → All P xs → P x
-  all-at [] id x at all = absurd (some-ne-none x (sym at))
-  all-at (y ∷ xs) zero x at all = subst P (some-injective y x at) (All-head P y xs all)
-  all-at (y ∷ xs) (suc id) x at all = all-at xs id x at (All-tail P y xs all)
-
 -- a seat's number, counted among the parts with one more in the middle
 times-middle :
     (n : ℕ) (front : List Part) (part : Part) (back : List Part)
     → times_among n (front ++ part ∷ back) ≡ cond (eqb part.number n) 1 0 + times_among n (front ++ back)
-times-middle n [] part back = refl
-times-middle n (other ∷ front) part back = omega (arith, times-middle n front part back)
+times-middle n [] part back = times-cons n part back
+times-middle n (other ∷ front) part back =
+    omega (
+      arith,
+      times-cons n other (front ++ part ∷ back),
+      times-cons n other (front ++ back),
+      times-middle n front part back,
+    )
 
 -- a seat's own part counts one
 counted-once : (m n : ℕ) → m ≡ n → ◌≡◌ {A = ℕ} (cond (eqb m n) 1 0) 1
@@ -55,8 +56,9 @@ counted-once m n same = ap (λ b. cond b 1 0) (eq-eqb m n same)
 all-differ : (n : ℕ) (parts : List Part) → times_among n parts ≡ 0 → All (λ part. part.number ≢ n) parts
 all-differ n [] never = All-nil (λ part. part.number ≢ n)
 all-differ n (part ∷ parts) never =
-    let differs : part.number ≢ n = λ same. absurd (omega (arith, counted-once part.number n same)) in
-    All-cons (λ q. q.number ≢ n) part parts differs (all-differ n parts (omega arith))
+    let first = times-cons n part parts in
+    let differs : part.number ≢ n = λ same. absurd (omega (arith, never, first, counted-once part.number n same)) in
+    All-cons (λ q. q.number ≢ n) part parts differs (all-differ n parts (omega (arith, never, first)))
 
 -- the parts before and behind the one part of a token
 record Around (views : List View) (id : ℕ) (part : Part) : Type 0 where
@@ -117,10 +119,6 @@ beginning-more history own seen b = record {
 abbrev HasNumber : Plan → Part → Type 0
 HasNumber p part = part.number < p.seats
 
--- what the token was told of are beginnings of the history
-abbrev IsTold : List Event → View → Type 0
-IsTold history v = All (λ seen. IsBeginning seen history) v.told
-
 module _
     (p : Plan) (s : State (Unit {0}) View) (rule : IsChained p s) (id : ℕ) (v : View) (part : Part)
     (at : get_elem? s.views id ≡ some v) (one : v.parts ≡ part ∷ []) where
@@ -130,7 +128,7 @@ module _
 
   -- what the rule says of it, and of all others
   fit : Fits rule.history part × All (Fits rule.history) (there.front ++ there.back)
-  fit = all-middle (Fits rule.history) there.front part there.back (subst (All (Fits rule.history)) there.is rule.fits)
+  fit = all-middle (Fits rule.history) there.front part there.back (subst (All (Fits rule.history)) there.is rule.seen)
 
   numbers : HasNumber p part × All (HasNumber p) (there.front ++ there.back)
   numbers = all-middle (HasNumber p) there.front part there.back (subst (All (HasNumber p)) there.is rule.numbers)
@@ -169,7 +167,7 @@ module _
     told-after u same =
         let all : All (IsTold (own ++ rule.history)) s.views
         = λ k d below j e within. beginning-more rule.history own _ (rule.told k d below j e within) in
-        let here = all-at (IsTold (own ++ rule.history)) s.views id v at all in
+        let here = All-at (IsTold (own ++ rule.history)) s.views id v at all in
         All-set (IsTold (own ++ rule.history)) s.views id u
         (subst (All (λ seen. IsBeginning seen (own ++ rule.history))) (sym same) here) all
 
@@ -185,7 +183,7 @@ module _
           words =
               ap (λ w. slice_set w place new) (rule.words ∙ ap (words_of p) fit.0.is) ∙ sym may.words
               ∙ ap (words_of p) (sym longer);
-          fits =
+          seen =
               subst (All (Fits (own ++ rule.history))) (sym after)
               (all-between (Fits (own ++ rule.history)) there.front part' there.back part-fits others-fit);
           told = told-after (record { parts = part' ∷ []; told = v.told }) refl;

@@ -6,7 +6,7 @@ use Rattle.std.proofs.lemmas.List.{get_or-set_same}
 use Rattle.nb_core.specs.Plans.{Plan, IsPlan, PlacesAreDistinct, Header, Key, generations_of, header_place, key_place, limit_of, word_count}
 use Rattle.nb_core.specs.States.{key_state, key_word}
 use Rattle.nb_core.specs.Tables.{AreOthers, HasSlotBelow, IsInstalled, IsReady, IsSlot, Tables, tables_at, words_of}
-use Rattle.nb_core.specs.History.{IsLegal, seat_of_event}
+use Rattle.nb_core.specs.History.{HasWay, IsLegal, seat_of_event}
 use Rattle.nb_core.specs.Laws.{Lasts, LawfulWords, SeenLasts, TablesAreLinked}
 use Rattle.nb_core.specs.declared.numbers.TheConstants.{KEY_MAX}
 use Rattle.nb_core.specs.declared.events.Event.{Event}
@@ -15,7 +15,6 @@ use Rattle.nb_core.specs.declared.states.KeyState.{KeyState}
 use Rattle.nb_core.specs.declared.states.KeyState.TheVariants.{Empty}
 use Rattle.nb_table.proofs.Following.{if-follows, later, none-follows, one-follows}
 use Rattle.nb_table.specs.Chains.{Extended, SeenBy, seen_by}
-use Rattle.nb_table.specs.Conditions.{HasWay}
 use Rattle.nb_table.specs.Events.{claims, installs, kills, only}
 use Rattle.nb_table.specs.Steps.{Can, MayStep, Stepped}
 
@@ -72,10 +71,15 @@ module _ (p : Plan) (lasts : SeenLasts) (number g : ℕ) (seen : List Event) whe
         record {
           installed = lasting.installed g installed;
           empty = ap key_state zero_found;
-          distance = way.path.distance;
-          on_path = (way.path.in_table, way.path.at);
-          passed = lasting.others g k way.path.distance slot.0 way.path.passed;
-          reason = reason-lasts p g k way.path.distance _ _ slot.0 lasting way.reason;
+          way = record {
+            path = record {
+              distance = way.path.distance;
+              in_table = way.path.in_table;
+              at = way.path.at;
+              passed = lasting.others g k way.path.distance slot.0 way.path.passed;
+            };
+            reason = reason-lasts p g k way.path.distance _ _ slot.0 lasting way.reason;
+          };
         },
         tt,
       ))

@@ -6,10 +6,10 @@ use Rattle.std.specs.Ordering.{eq_by_cmp, nat_cmp}
 use Rattle.std.proofs.lemmas.Bool.{cases_eq, eq-eqb, eqb-false, ne_eqb}
 use Rattle.nb_core.specs.Calls.{Numbers}
 use Rattle.nb_core.specs.Plans.{IsPlan, generations_of, size_of}
-use Rattle.nb_core.specs.Tables.{IsInstalled}
+use Rattle.nb_core.specs.Tables.{IsInstalled, tables_at}
 use Rattle.nb_core.specs.History.{map_of}
 use Rattle.nb_core.specs.Meaning.{is_installed}
-use Rattle.nb_core.specs.Laws.{AreLinked, HeldHasPlace, PlaceIs}
+use Rattle.nb_core.specs.Laws.{AreLinked, HeldHasPlace, PlaceIs, TablesAreLinked, TopComplete}
 use Rattle.nb_core.specs.declared.states.KeyState.TheVariants.{Claimed}
 use Rattle.nb_table.specs.Left.{ClosedOf, HoldsOfMap, tables_left}
 use Rattle.nb_table.specs.Listing.{HasRight, IsListing}
@@ -22,10 +22,10 @@ on_ok P (Err e) is holds = absurd cc
 
 module _ (closed : ClosedOf) where
   -- nothing is done yet
-  pub listing-first : (found : Numbers) → found ≡ empty → IsListing closed found 0 0
+  pub listing-first : (found : Numbers) → found ≡ empty → IsListing closed found (tables_left closed).top 0
   listing-first found none = record {
     so_far = λ k. inl (ap (λ m. get m k) none ∙ get-empty nat_cmp k);
-    tables = λ f j k below slot is. absurd (omega arith);
+    tables = λ f j k from below slot is. absurd (omega arith);
     slots = λ j k below is. absurd (omega arith);
   }
 
@@ -55,7 +55,7 @@ module _ (closed : ClosedOf) where
         | inr before ↦ inr (λ h left. others k other ∙ before h left)
       ]
     ];
-    tables = λ f j k below slot is. kept k (listing.tables f j k below slot is);
+    tables = λ f j k from below slot is. kept k (listing.tables f j k from below slot is);
     slots = λ j k below is. elim (cases_eq j i) [
       | inl same ↦
           let claimed : Claimed key ≡ Claimed k = sym here ∙ ap ((tables_left closed).key g) (sym same) ∙ is in
@@ -105,11 +105,11 @@ module _ (closed : ClosedOf) where
       → IsListing closed found g size → IsListing closed found (g + 1) 0
   listing-table found g size whole listing = record {
     so_far = listing.so_far;
-    tables = λ f j k below slot is. elim (cases_eq f g) [
+    tables = λ f j k from below slot is. elim (cases_eq f g) [
       | inl same ↦
           let in_table : j < size_of closed.shape g = subst (λ x. j < size_of closed.shape x) same slot.1 in
           listing.slots j k (omega arith) (ap (λ x. (tables_left closed).key x j) (sym same) ∙ is)
-      | inr before ↦ listing.tables f j k (omega arith) slot is
+      | inr before ↦ listing.tables f j k from (omega arith) slot is
     ];
     slots = λ j k below is. absurd (omega arith);
   }
@@ -120,9 +120,9 @@ module _ (closed : ClosedOf) where
       → IsListing closed found g 0 → IsListing closed found (g + 1) 0
   listing-skip linked found g absent listing = record {
     so_far = listing.so_far;
-    tables = λ f j k below slot is. elim (cases_eq f g) [
+    tables = λ f j k from below slot is. elim (cases_eq f g) [
       | inl same ↦ absurd (away g absent (subst (IsInstalled (tables_left closed)) same (linked.claimed f j k slot is)))
-      | inr before ↦ listing.tables f j k (omega arith) slot is
+      | inr before ↦ listing.tables f j k from (omega arith) slot is
     ];
     slots = λ j k below is. absurd (omega arith);
   }
@@ -131,11 +131,11 @@ module _ (closed : ClosedOf) where
       away zero absent installed = cc
       away (suc g) absent installed = eqb-false ((tables_left closed).next g) 1 (sym absent) installed
 
-  -- Each key that the map has was found at its place, so once all tables are done the two are the same.
+  -- Each key that the map has was found at its place from the top word on, so once all tables are done the two are the same.
   pub listing-all :
-      IsPlan closed.shape → HeldHasPlace → PlaceIs → (found : Numbers) (g : ℕ) → generations_of closed.shape ≤ g
-      → IsListing closed found g 0 → HoldsOfMap closed (λ m. found ≡ m)
-  listing-all plan held place found g whole listing history from =
+      IsPlan closed.shape → TablesAreLinked → TopComplete → HeldHasPlace → PlaceIs → (found : Numbers) (g : ℕ)
+      → generations_of closed.shape ≤ g → IsListing closed found g 0 → HoldsOfMap closed (λ m. found ≡ m)
+  listing-all plan linked complete held place found g whole listing history from =
       same_map nat_cmp_total nat_cmp-IsAntisymmetric found (map_of history) (λ k.
       elim (listing.so_far k) [
         | inl none ↦ same-none k none (get (map_of history) k) refl
@@ -147,11 +147,15 @@ module _ (closed : ClosedOf) where
           → get found k ≡ get (map_of history) k
       same-none k none None is = none ∙ sym is
       same-none k none (Some n) is =
+          let p = closed.shape in
           let legal = from.legal in
-          let first_there : 0 < generations_of closed.shape = omega (arith, plan.some_tables) in
-          let found_at = held closed.shape plan history legal 0 k n first_there (λ f below. absurd (omega arith)) is in
+          let top = (tables_at p history).top in
+          let links = linked p plan history legal in
+          let found_at = held p plan history legal top k n (links.within top links.top)
+          (λ f below. (complete p plan history legal f below).1) is in
           let f = found_at.0.0 in
           let i = found_at.0.1 in
-          let first = (place closed.shape plan history legal 0 k f i).0 found_at.1 in
+          let first = (place p plan history legal top k f i).0 found_at.1 in
           let claimed = of-left closed history from (λ t. t.key f i ≡ Claimed k) first.is in
-          listing.tables f i k (omega (arith, first.slot.0)) first.slot claimed history from
+          let above = of-left closed history from (λ t. t.top ≤ f) first.from in
+          listing.tables f i k above (omega (arith, first.slot.0)) first.slot claimed history from

@@ -12,12 +12,12 @@ use Rattle.nb_core.specs.History.{IsLegal, seat_of_event}
 use Rattle.nb_core.specs.declared.events.Event.{Event}
 use Rattle.nb_table.specs.Chains.{Extended, SeenBy}
 use Rattle.nb_table.specs.Inside.{IsSeat, part_of, seat_of}
-use Rattle.nb_table.specs.Views.{Fits, HasHeard, HasMoved, IsBeginning, IsChained, all_parts, joined, moved, noted, spent_view, times_among}
+use Rattle.nb_table.specs.Views.{HasHeard, HasMoved, IsBeginning, IsChained, all_parts, joined, moved, noted, spent_view}
 use Rattle.nb_table.specs.declared.chain.ChainSeat.TheInside as seat
 use Rattle.nb_table.specs.declared.view.Part.{Part}
 use Rattle.nb_table.specs.declared.view.View.{View}
-use Rattle.nb_table.proofs.Opening.{IsTold, kept, split-keeps}
-use Rattle.nb_table.proofs.Parted.{All-at, All-right, parts-at, parts-set, sum-nil, sum-set, times-append}
+use Rattle.nb_table.proofs.Opening.{kept, split-keeps}
+use Rattle.nb_table.proofs.Parted.{All-at, All-right, Fits, IsTold, parts-at, parts-set, sum-nil, sum-set, times-append, times_among}
 
 -- ---- notes
 
@@ -40,7 +40,7 @@ notes p id v = split-keeps p id v v (noted v) refl (λ h fits told. (told, noted
 pub joins : (p : Plan) (id : ℕ) (v : View) (other : ℕ) (w : View) → Joins (IsChained p) id v other w (joined v w) spent_view
 joins p id v other w s rule at differs other_at =
     kept p s (slice_set (slice_set s.views id (joined v w)) other spent_view) rule
-    (shared (Fits rule.history) rule.fits)
+    (shared (Fits rule.history) rule.seen)
     (All-set (IsTold rule.history) (slice_set s.views id (joined v w)) other spent_view
     (All-nil (λ seen. IsBeginning seen rule.history)) (All-set (IsTold rule.history) s.views id (joined v w) told rule.told))
     (shared (λ part. part.number < p.seats) rule.numbers)
@@ -85,8 +85,8 @@ whole-keeps p s rule id v part after at one number whole words same = record {
   history = rule.history;
   legal = rule.legal;
   words = same ∙ rule.words;
-  fits =
-      parts-set (Fits rule.history) s.views id (alone after) rule.fits
+  seen =
+      parts-set (Fits rule.history) s.views id (alone after) rule.seen
       (All-cons (Fits rule.history) after [] (record { later = []; is = whole; others = All-nil _ })
       (All-nil (Fits rule.history)));
   told = All-set (IsTold rule.history) s.views id (alone after) (All-nil (λ seen. IsBeginning seen rule.history)) rule.told;
@@ -140,7 +140,7 @@ allows-hears p key same slots id place me one =
     subst (λ k. Allows (IsChained k) slots id me place (λ n. n) (HasHeard p place me)) (sym same)
     (λ s rule homes at word.
     let part = part_of me.0.parts in
-    let all = subst (All (Fits rule.history)) one (parts-at (Fits rule.history) s.views id me.0 at rule.fits) in
+    let all = subst (All (Fits rule.history)) one (parts-at (Fits rule.history) s.views id me.0 at rule.seen) in
     let fits = All-head (Fits rule.history) part [] all in (
       alone (moved part fits.later []),
       keeps,

@@ -6,16 +6,12 @@ use Rattle.std.proofs.lemmas.List.Elements.{All-cons, All-nil, All-push, All-sam
 use Rattle.atomic_table.specs.Table.{Splits, State, opening}
 use Rattle.nb_core.specs.Plans.{Plan, word_count}
 use Rattle.nb_core.specs.declared.events.Event.{Event}
-use Rattle.nb_table.specs.Views.{Fits, IsBeginning, IsChained, all_parts, first_part, first_view, fresh, other_parts, times_among}
+use Rattle.nb_table.specs.Views.{IsBeginning, IsChained, all_parts, first_part, first_view, fresh, other_parts}
 use Rattle.nb_table.specs.declared.view.Part.{Part}
 use Rattle.nb_table.specs.declared.view.View.{View}
-use Rattle.nb_table.proofs.Parted.{All-at, All-left, All-right, IsSum, parts-at, parts-more, parts-set, sum-more, sum-set, times-append}
+use Rattle.nb_table.proofs.Parted.{All-at, All-left, All-right, Fits, IsSum, IsTold, parts-at, parts-more, parts-set, sum-more, sum-set, times-append, times-cons, times_among}
 
 -- ---- the start
-
--- what a token was told of is a beginning of the history
-abbrev pub IsTold : List Event → View → Type 0
-IsTold history v = All (λ seen. IsBeginning seen history) v.told
 
 -- a seat that has seen nothing
 abbrev pub new_part : ℕ → Part
@@ -38,7 +34,7 @@ times-below : (number count n : ℕ) → n < number → times_among n (fresh num
 times-below number zero n below = refl
 times-below number (suc count) n below =
     let other = ap {B = ℕ} (λ b. cond b 1 0) (ne_eqb number n (λ same. absurd (omega arith))) in
-    omega (arith, other, times-below (suc number) count n (omega arith))
+    omega (arith, times-cons n (new_part number) (fresh (suc number) count), other, times-below (suc number) count n (omega arith))
 
 -- and each other number is among them once
 times-fresh : (number count n : ℕ) → number ≤ n → n < number + count → times_among n (fresh number count) ≡ 1
@@ -47,10 +43,15 @@ times-fresh number (suc count) n low high =
     elim (cases_lt number n) [
       | inl lower ↦
           let other = ap {B = ℕ} (λ b. cond b 1 0) (ne_eqb number n (λ same. absurd (omega arith))) in
-          omega (arith, other, times-fresh (suc number) count n (omega arith) (omega arith))
+          omega (
+            arith,
+            times-cons n (new_part number) (fresh (suc number) count),
+            other,
+            times-fresh (suc number) count n (omega arith) (omega arith),
+          )
       | inr here ↦
           let own = ap {B = ℕ} (λ b. cond b 1 0) (eq-eqb number n (omega arith)) in
-          omega (arith, own, times-below (suc number) count n (omega arith))
+          omega (arith, times-cons n (new_part number) (fresh (suc number) count), own, times-below (suc number) count n (omega arith))
     ]
 
 -- a seat that has seen nothing fits the empty history
@@ -66,7 +67,7 @@ opens p words zeros =
       history = [];
       legal = tt;
       words = zeros;
-      fits = All-same (Fits []) _ _ parts (all-fresh (Fits []) 0 p.seats p.seats (omega arith) (λ n within. fits-none n));
+      seen = All-same (Fits []) _ _ parts (all-fresh (Fits []) 0 p.seats p.seats (omega arith) (λ n within. fits-none n));
       told = All-cons (IsTold []) (first_view p.seats) [] (All-nil (λ seen. IsBeginning seen [])) (All-nil (IsTold []));
       numbers =
           All-same (λ part. part.number < p.seats) _ _ parts
@@ -96,7 +97,7 @@ kept p s views rule fits told numbers sums = record {
   history = rule.history;
   legal = rule.legal;
   words = rule.words;
-  fits = fits;
+  seen = fits;
   told = told;
   numbers = numbers;
   once = λ n within. sums (times_among n) (times-append n) ∙ rule.once n within;
@@ -110,7 +111,7 @@ pub split-keeps :
     → Splits (IsChained p) id v left right
 split-keeps p id v left right parts hears s rule at =
     let views = slice_set s.views id left in
-    kept p s (views ++ right ∷ []) rule (shared (Fits rule.history) rule.fits)
+    kept p s (views ++ right ∷ []) rule (shared (Fits rule.history) rule.seen)
     (All-push (IsTold rule.history) views right (All-set (IsTold rule.history) s.views id left told.0 rule.told) told.1)
     (shared (λ part. part.number < p.seats) rule.numbers)
     (λ f sum. omega (
@@ -129,7 +130,7 @@ split-keeps p id v left right parts hears s rule at =
 
     told : IsTold rule.history left × IsTold rule.history right
     told =
-        hears rule.history (parts-at (Fits rule.history) s.views id v at rule.fits)
+        hears rule.history (parts-at (Fits rule.history) s.views id v at rule.seen)
         (All-at (IsTold rule.history) s.views id v at rule.told)
 
 -- the first part goes to a new token

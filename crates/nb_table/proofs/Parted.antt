@@ -1,9 +1,12 @@
 -- The parts of all tokens, where one token's have changed.
-use Rattle.std.proofs.Common.{◌≡◌, ℕ, zero, suc, ◌+◌, ap, sym, subst, List, [], ◌∷◌, ◌++◌, slice_set, All, arith}
+use Rattle.std.proofs.Common.{◌≡◌, ℕ, zero, suc, ◌+◌, ◌==◌, cond, ap, sym, subst, List, [], ◌∷◌, ◌++◌, slice_set, All, arith}
 use mathlib.Core.Option.{some, some-injective, some-ne-none}
 use lib.ListN.{get_elem?}
+use Rattle.std.specs.List.{count_by}
 use Rattle.std.proofs.lemmas.List.Elements.{All-append, All-cons, All-head, All-nil, All-tail}
-use Rattle.nb_table.specs.Views.{all_parts, times_among}
+use Rattle.std.proofs.lemmas.List.Sums.{sum_by-append, sum_by-cons}
+use Rattle.nb_core.specs.declared.events.Event.{Event}
+use Rattle.nb_table.specs.Views.{HasSeen, IsBeginning, all_parts}
 use Rattle.nb_table.specs.declared.view.Part.{Part}
 use Rattle.nb_table.specs.declared.view.View.{View}
 
@@ -27,6 +30,14 @@ module _ {X : Type 0} (P : X → Type 0) where
   All-at (y ∷ xs) (suc i) x at every = All-at xs i x at (All-tail P y xs every)
 
 -- ---- what holds of each part
+
+-- the part's seat has seen a beginning of the history, and made no event since
+abbrev pub Fits : List Event → Part → Type 0
+Fits history part = HasSeen history part.number part.seen
+
+-- what a token was told of is a beginning of the history
+abbrev pub IsTold : List Event → View → Type 0
+IsTold history v = All (λ seen. IsBeginning seen history) v.told
 
 module _ (P : Part → Type 0) where
   -- what holds of all tokens' parts holds of one token's
@@ -61,9 +72,17 @@ module _ (P : Part → Type 0) where
 abbrev pub IsSum : (List Part → ℕ) → Type 0
 IsSum f = (xs ys : List Part) → f (xs ++ ys) ≡ f xs + f ys
 
+-- how many of these parts have this number
+abbrev pub times_among : ℕ → List Part → ℕ
+times_among n = count_by (λ part. part.number == n)
+
+pub times-cons :
+    (n : ℕ) (part : Part) (parts : List Part)
+    → times_among n (part ∷ parts) ≡ cond (part.number == n) 1 0 + times_among n parts
+times-cons n = sum_by-cons (λ part. cond (part.number == n) 1 0)
+
 pub times-append : (n : ℕ) → IsSum (times_among n)
-times-append n [] ys = omega arith
-times-append n (x ∷ xs) ys = omega (arith, times-append n xs ys)
+times-append n = sum_by-append (λ part. cond (part.number == n) 1 0)
 
 module _ (f : List Part → ℕ) (sum : IsSum f) where
   pub sum-nil : f [] ≡ 0

@@ -1,16 +1,10 @@
 -- What a seat must have seen before some steps.
-use Rattle.std.specs.Prelude.{◌≡◌, ℕ, zero, suc, ◌<◌, ◌⊎◌}
-use Rattle.nb_core.specs.Plans.{Plan, limit_of, size_of}
-use Rattle.nb_core.specs.Tables.{HasSlotBelow, IsInstalled, IsReady, Tables}
+use Rattle.std.specs.Prelude.{◌≡◌, ℕ, zero, suc, ◌<◌}
+use Rattle.nb_core.specs.Plans.{Plan, size_of}
+use Rattle.nb_core.specs.Tables.{IsInstalled, Tables}
 use Rattle.nb_core.specs.History.{HasValue}
-use Rattle.nb_core.specs.Laws.{IsOnPath, IsPassed, IsPrimedOrFinished}
+use Rattle.nb_core.specs.Laws.{IsPassed, IsPrimedOrFinished}
 use Rattle.nb_core.specs.declared.states.KeyState.TheVariants.{Claimed}
-
--- The slot is on the key's path, behind slots of other keys. Also, either the key has a slot in the table below; or the
--- table below, if there is one, is complete, and the slot lies within the limit: its distance on the path is less.
-pub record HasWay (p : Plan) (t : Tables) (g i k : ℕ) : Type 0 where
-  pub path : IsOnPath p t g i k
-  pub reason : HasSlotBelow p t g k ⊎ (IsReady p t g × (path.distance < limit_of p g))
 
 -- The key's slot in the table below holds this number, primed or finished. The first table has none below it.
 abbrev pub HasSource : Plan → Tables → ℕ → ℕ → ℕ → Type 0

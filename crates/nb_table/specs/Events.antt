@@ -1,9 +1,8 @@
 -- The event of each step, by the word that it finds: a load is one only as the read of a call, any other step only where it
 -- changes its word.
 use Rattle.std.specs.Prelude.{ℕ, suc, ◌-◌, ◌%◌, ◌==◌, ◌&&◌, nat_le, Bool, true, not, if◌then◌else◌, List, [], ◌∷◌, Option, Some, None}
-use Rattle.nb_core.specs.Calls.{leaves_alone}
+use Rattle.nb_core.specs.Calls.{leaves_alone, reply_at}
 use Rattle.nb_core.specs.History.{content_of, key_of_call}
-use Rattle.nb_core.specs.Laws.{reply_at}
 use Rattle.nb_core.specs.Plans.{Plan, generations_of, size_of}
 use Rattle.nb_core.specs.States.{value_word}
 use Rattle.nb_core.specs.Tables.{path_slot}

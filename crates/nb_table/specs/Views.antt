@@ -1,5 +1,5 @@
 -- What the tokens of a chain's table know, and the rule that its words keep.
-use Rattle.std.specs.Prelude.{◌≡◌, ◌≢◌, ℕ, zero, suc, ◌+◌, ◌<◌, ◌==◌, if◌then◌else◌, List, [], ◌∷◌, ◌++◌, length, map, take, drop, All, slice_index}
+use Rattle.std.specs.Prelude.{◌≡◌, ◌≢◌, ℕ, zero, suc, ◌+◌, ◌<◌, ◌==◌, List, [], ◌∷◌, ◌++◌, length, map, take, drop, count_by, All, slice_index}
 use Rattle.atomic_table.specs.Table.{State, Me, Step}
 use Rattle.nb_core.specs.Plans.{Plan}
 use Rattle.nb_core.specs.Tables.{words_of}
@@ -13,21 +13,16 @@ pub record IsBeginning (seen history : List Event) : Type 0 where
   pub later : List Event
   pub is : history ≡ later ++ seen
 
--- the seat has seen a beginning of the history, and made no event since
-pub record Fits (history : List Event) (part : Part) : Type 0 where
+-- the seat of this number has seen a beginning of the history, and made no event since
+pub record HasSeen (history : List Event) (number : ℕ) (seen : List Event) : Type 0 where
   pub later : List Event
-  pub is : history ≡ later ++ part.seen
-  pub others : All (λ e. seat_of_event e ≢ part.number) later
+  pub is : history ≡ later ++ seen
+  pub others : All (λ e. seat_of_event e ≢ number) later
 
 -- the parts of all tokens, one for each seat
 abbrev pub all_parts : List View → List Part
 all_parts [] = []
 all_parts (v ∷ views) = v.parts ++ all_parts views
-
--- how many of these parts have this number
-abbrev pub times_among : ℕ → List Part → ℕ
-times_among n [] = 0
-times_among n (part ∷ parts) = (if part.number == n then 1 else 0) + times_among n parts
 
 -- the parts of so many seats from a number on, which have seen nothing
 abbrev pub fresh : ℕ → ℕ → List Part
@@ -64,10 +59,10 @@ pub record IsChained (p : Plan) (s : State (Unit {0}) View) : Type 0 where
   pub history : List Event
   pub legal : IsLegal p history
   pub words : s.words ≡ words_of p history
-  pub fits : All (Fits history) (all_parts s.views)
+  pub seen : All (λ part. HasSeen history part.number part.seen) (all_parts s.views)
   pub told : All (λ v. All (λ seen. IsBeginning seen history) v.told) s.views
   pub numbers : All (λ part. part.number < p.seats) (all_parts s.views)
-  pub once : (n : ℕ) → n < p.seats → times_among n (all_parts s.views) ≡ 1
+  pub once : (n : ℕ) → n < p.seats → count_by (λ part. part.number == n) (all_parts s.views) ≡ 1
   pub count : length (all_parts s.views) ≡ p.seats
 
 -- ---- steps

@@ -48,10 +48,11 @@ impl Closed {
         ensures { IfOk result (λ entries. HoldsOfMap self.now (λ m. entries.items ≡ map.entries m)) }
     {
         laws::linked();
+        laws::top_complete();
         laws::held_has_place();
         laws::place_is();
         let mut found = PlainMap::new(alloc);
-        for g in 0..self.shape.generations() {
+        for g in self.top()..self.shape.generations() {
             if self.is_installed(g) {
                 self.list_table(g, &mut found)?;
             }
@@ -76,12 +77,13 @@ impl Closed {
         Ok(())
     }
 
-    /// The number that the tables show at the key, from the first table up.
+    /// The number that the tables show at the key. Those below the top word are complete, and pass every key on.
     fn shown(&self, key: Key) -> Option<Num>
         ensures { result ≡ shown_from self.now.shape (tables_left self.now) key 0 (generations_of self.now.shape) }
     {
         laws::linked();
-        for g in 0..self.shape.generations() {
+        laws::top_complete();
+        for g in self.top()..self.shape.generations() {
             if !self.is_installed(g) {
                 return None;
             }
@@ -132,6 +134,15 @@ impl Closed {
             i = (i + 1) & (size - 1);
         }
         None
+    }
+
+    /// The top word.
+    fn top(&self) -> u32
+        ensures { result ≡ (tables_left self.now).top }
+    {
+        laws::linked();
+        self.shape.known();
+        self.word(0) as u32
     }
 
     /// Whether table `g` is there: the first is from the start.

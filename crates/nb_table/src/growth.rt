@@ -1,11 +1,10 @@
 //! The steps that grow a chain and copy its tables.
-ghost use Rattle.std.specs.Prelude.{◌≡◌, ◌≢◌, ◌+◌, ◌<◌, ◌≤◌, suc, [], ◌∷◌, ◌⊎◌, IsTrue, false};
+ghost use Rattle.std.specs.Prelude.{◌≡◌, ◌≢◌, ◌+◌, ◌<◌, ◌≤◌, suc, [], ◌∷◌, IsTrue, false};
 ghost use Rattle.nb_core.specs.Plans.{generations_of, limit_of};
 ghost use Rattle.nb_core.specs.Tables.{AreOthers, IsComplete, IsInstalled, IsReady, IsSlot};
-ghost use Rattle.nb_core.specs.History.{counted_by, turned_by};
+ghost use Rattle.nb_core.specs.History.{HasWay, counted_by, turned_by};
 ghost use Rattle.nb_core.specs.declared.events.Event.TheVariants as event;
 ghost use Rattle.nb_core.specs.declared.states.KeyState.TheVariants as key_is;
-ghost use Rattle.nb_table.specs.Conditions.{HasWay};
 ghost use Rattle.nb_table.specs.Chains.{Extended, IsOwn, seen_before, seen_by};
 
 use crate::chain::{Chain, ChainSeat, Spot};

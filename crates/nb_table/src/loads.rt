@@ -1,9 +1,8 @@
 //! The loads of slots and of next words, and the calls that they decide.
 ghost use Rattle.std.specs.Prelude.{◌≡◌, ◌<◌, ◌↔◌, suc, [], true, IfSome};
 ghost use Rattle.nb_core.specs.History.{IsCallInRange, key_of_call};
-ghost use Rattle.nb_core.specs.Laws.{IsOnPath};
 ghost use Rattle.nb_core.specs.Plans.{generations_of, size_of};
-ghost use Rattle.nb_core.specs.Tables.{AreOthers, IsInstalled, IsSlot};
+ghost use Rattle.nb_core.specs.Tables.{AreOthers, IsInstalled, IsOnPath, IsSlot};
 ghost use Rattle.nb_core.specs.declared.states.KeyState.TheVariants as key_is;
 ghost use Rattle.nb_table.specs.Chains.{Extended, IsOwn, seen_by};
 ghost use Rattle.nb_table.specs.Conditions.{IsReached};

@@ -1,9 +1,10 @@
-use Rattle.std.proofs.Common.{◌∙◌, ◌≢◌, ◌<◌, ◌≡◌, suc, inl, inr, sym, subst, arith, rules}
+use Rattle.std.proofs.Common.{◌∙◌, ◌≢◌, ◌<◌, ◌≡◌, suc, ap, below_more, inl, inr, sym, subst, arith, rules}
 use Rattle.std.proofs.lemmas.Bool.{eqb-false}
 use Rattle.nb_core.specs.Plans.{IsPlan, generations_of, size_of}
-use Rattle.nb_core.specs.Tables.{path_slot}
+use Rattle.nb_core.specs.Tables.{IsOther, path_slot}
+use Rattle.nb_table.specs.Chains.{seen_by}
 use Rattle.nb_copy.proofs.Copied.{copied-none, copied-own, copied-stays}
-use Rattle.nb_copy.proofs.SlotsInNext.{looked-last, looked-on, others-more, passed-dead}
+use Rattle.nb_copy.proofs.SlotsInNext.{looked-last, looked-on, passed-dead}
 use Rattle.nb_copy.proofs.slots.place_in_next.Goals as goal
 
 pub loop-distance-init : goal.loop-distance-init
@@ -61,8 +62,10 @@ loop-distance-preserved c =
     let look = c.key_or_claim.ensures in
     let own = copied-own law c.args.chain.now plan c.args.g table c.requires.own so_far.0 in
     let lasting = copied-stays law c.args.chain.now plan c.args.g table own look.copied in
+    let keys = (seen_by c.key_or_claim.new.seat).key (suc c.args.g) in
     let differs : c.in-Claimed.other ≢ c.args.key = eqb-false c.in-Claimed.other c.args.key (sym c.eq.ensures ∙ c.if-eq.false) in (
       looked-on law c.own_lasts.ensures c.args.chain.now plan c.args.g table c.loop-distance.distance c.requires.own so_far.0 look.copied,
-      others-more shape _ _ lasting (suc c.args.g) c.args.key c.loop-distance.distance _ c.in-Claimed.other c.requires.table so_far.1 at
-          (look.found ∙ c.in-Claimed.is) differs,
+      below_more (λ e. IsOther (keys (path_slot shape (suc c.args.g) c.args.key e)) c.args.key) c.loop-distance.distance
+          (lasting.others (suc c.args.g) c.args.key c.loop-distance.distance c.requires.table so_far.1)
+          (record { other = c.in-Claimed.other; is = ap keys at ∙ (look.found ∙ c.in-Claimed.is); differs = differs }),
     )

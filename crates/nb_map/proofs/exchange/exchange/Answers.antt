@@ -70,8 +70,8 @@ returns-in_default-clause-made g c =
     made-within (2 * lost + 1 + pass) (exchange_steps p c.args.g (c.args.tries - (c.args.tries - lost))) (omega (arith, enough))
     (made-more law chain plan c.requires.own quiet c.pass_slot.ensures.made)
 
-pub returns-in_default-clause-outcome : goal.returns-in_default-clause-outcome
-returns-in_default-clause-outcome g c =
+pub returns-in_default-clause-written : goal.returns-in_default-clause-written
+returns-in_default-clause-written g c =
     let law = c.steps_add_up.ensures in
     let chain = c.args.chain.now in
     let plan = subst IsPlan c.shape.ensures c.known.ensures in
@@ -126,8 +126,8 @@ returns-in-Overflow-clause-made g c =
     (subst (λ made. HasMade p c.args.call.now c.args.seat.now c.load_value-from.new.seat made (2 * lost + 1))
     (read-acting c.args.call.now c.load_value-from.result c.in-Some.number (sym c.shown.ensures ∙ c.in-Some.is) refused.0) look)
 
-pub returns-in-Overflow-clause-outcome : goal.returns-in-Overflow-clause-outcome
-returns-in-Overflow-clause-outcome g c =
+pub returns-in-Overflow-clause-written : goal.returns-in-Overflow-clause-written
+returns-in-Overflow-clause-written g c =
     let law = c.steps_add_up.ensures in
     let chain = c.args.chain.now in
     let plan = subst IsPlan c.shape.ensures c.known.ensures in
@@ -258,8 +258,8 @@ returns-then-is_none-clause-made g c =
     made-within (2 * lost + 1 + 1 + pass) (exchange_steps p c.args.g (c.args.tries - (c.args.tries - lost))) (omega (arith, enough))
     (made-more law chain plan c.requires.own steps c.pass_slot-then-is_none.ensures.made)
 
-pub returns-then-is_none-clause-outcome : goal.returns-then-is_none-clause-outcome
-returns-then-is_none-clause-outcome g c =
+pub returns-then-is_none-clause-written : goal.returns-then-is_none-clause-written
+returns-then-is_none-clause-written g c =
     let law = c.steps_add_up.ensures in
     let chain = c.args.chain.now in
     let plan = subst IsPlan c.shape.ensures c.known.ensures in
@@ -323,8 +323,8 @@ returns-clause-made g c =
     let enough = enough-here lost c.args.tries (pass_steps p c.args.g) c.loop-lost.auto.lost-end in
     made-within (2 * lost) (exchange_steps p c.args.g c.args.tries) (omega (arith, enough)) c.loop-lost.invariant.0
 
-pub returns-clause-outcome : goal.returns-clause-outcome
-returns-clause-outcome g c =
+pub returns-clause-written : goal.returns-clause-written
+returns-clause-written g c =
     let lost = c.loop-lost.invariant.1 in
     let end = c.loop-lost-test.false in
     omega (arith, lost, end)

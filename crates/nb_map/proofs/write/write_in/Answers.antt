@@ -1,8 +1,11 @@
-use Rattle.std.proofs.Common.{subst, arith}
+use Rattle.std.proofs.Common.{subst}
+use Rattle.std.proofs.lemmas.List.{append-nil}
 use Rattle.nb_core.specs.Plans.{IsPlan}
+use Rattle.nb_map.specs.Calling.{HasMade}
+use Rattle.nb_map.specs.Refusing.{made_by, write_steps}
 use Rattle.nb_map.proofs.Made.{made-more, made-own, made-stays}
 use Rattle.nb_map.proofs.Searched.{reached-lasts, table-within}
-use Rattle.nb_map.proofs.Written.{passed-longer}
+use Rattle.nb_map.proofs.Written.{written-longer}
 use Rattle.nb_map.proofs.write.write_in.Goals as goal
 
 pub exchange-requires-clause-own : goal.exchange-requires-clause-own
@@ -17,35 +20,16 @@ exchange-requires-clause-reached g c =
     reached-lasts chain.shape _ _ (made-stays c.steps_add_up.ensures chain plan c.requires.own c.aim.ensures.made) c.args.g c.args.key table
     c.requires.reached
 
-pub returns-in-Replied-clause-made : goal.returns-in-Replied-clause-made
-returns-in-Replied-clause-made g c =
-    made-more c.steps_add_up.ensures c.args.chain.now (subst IsPlan c.shape.ensures c.known.ensures) c.requires.own c.in-Slot.ensures.made
-    c.in-Replied.ensures.made
+pub returns-in-Slot-clause-made : goal.returns-in-Slot-clause-made
+returns-in-Slot-clause-made g c =
+    let p = c.args.chain.now.shape in
+    let call = c.args.call.now in
+    subst (λ made. HasMade p call c.args.seat.now c.exchange.new.seat made (write_steps p c.args.g c.args.tries c.exchange.result))
+    (append-nil (made_by call c.exchange.result))
+    (made-more c.steps_add_up.ensures c.args.chain.now (subst IsPlan c.shape.ensures c.known.ensures) c.requires.own c.in-Slot.ensures.made
+    c.exchange.ensures.made)
 
-pub returns-in-Contended-clause-made : goal.returns-in-Contended-clause-made
-returns-in-Contended-clause-made g c =
-    made-more c.steps_add_up.ensures c.args.chain.now (subst IsPlan c.shape.ensures c.known.ensures) c.requires.own c.in-Slot.ensures.made
-    c.in-Contended.ensures.made
-
-pub returns-in-Contended-clause-written : goal.returns-in-Contended-clause-written
-returns-in-Contended-clause-written g c =
-    let longer = passed-longer c.passed_over_adds.ensures c.args.call.now c.in-Slot.ensures.made.grown c.in-Contended.ensures.made.grown in
-    let lost = c.in-Contended.ensures.outcome in
-    omega (arith, longer, lost)
-
-pub returns-in-ValueRange-clause-made : goal.returns-in-ValueRange-clause-made
-returns-in-ValueRange-clause-made g c =
-    made-more c.steps_add_up.ensures c.args.chain.now (subst IsPlan c.shape.ensures c.known.ensures) c.requires.own c.in-Slot.ensures.made
-    c.in-ValueRange.ensures.made
-
-pub returns-in-Above-exchange-clause-made : goal.returns-in-Above-exchange-clause-made
-returns-in-Above-exchange-clause-made g c =
-    made-more c.steps_add_up.ensures c.args.chain.now (subst IsPlan c.shape.ensures c.known.ensures) c.requires.own c.in-Slot.ensures.made
-    c.in-Above-exchange.ensures.made
-
-pub returns-in-Above-exchange-clause-written : goal.returns-in-Above-exchange-clause-written
-returns-in-Above-exchange-clause-written g c =
-    let longer = passed-longer c.passed_over_adds.ensures c.args.call.now c.in-Slot.ensures.made.grown c.in-Above-exchange.ensures.made.grown in
-    let above = c.in-Above-exchange.ensures.outcome in
-    let spent = above.4 in
-    (above.0, above.1, above.2, above.3, omega (arith, spent, longer))
+pub returns-in-Slot-clause-written : goal.returns-in-Slot-clause-written
+returns-in-Slot-clause-written g c =
+    written-longer c.passed_over_adds.ensures c.args.chain.now.shape c.args.call.now c.args.g c.args.tries c.in-Slot.ensures.made.grown
+    c.exchange.ensures.made.grown c.exchange.result c.exchange.ensures.written

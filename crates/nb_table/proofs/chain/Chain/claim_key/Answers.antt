@@ -2,7 +2,7 @@ use Rattle.std.proofs.Common.{◌∙◌, ◌<◌, ap, cond, eqb, subst, sym, sli
 use Rattle.nb_core.specs.Plans.{IsPlan, Key, key_place, word_count}
 use Rattle.nb_core.specs.Tables.{IsInstalled, tables_at, words_of}
 use Rattle.nb_core.specs.declared.events.Event.TheVariants.{Claim}
-use Rattle.nb_table.specs.Conditions.{HasWay}
+use Rattle.nb_core.specs.History.{HasWay}
 use Rattle.nb_table.specs.Events.{claims}
 use Rattle.nb_table.specs.Steps.{Can}
 use Rattle.nb_table.proofs.Keys.{can-claim, key-won}

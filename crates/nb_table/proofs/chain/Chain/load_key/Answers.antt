@@ -2,9 +2,8 @@ use Rattle.std.proofs.Common.{◌∙◌, ℕ, ap, slice_index, subst, sym}
 use Rattle.std.specs.Option.{IfSome}
 use Rattle.nb_core.specs.Plans.{key_place}
 use Rattle.nb_core.specs.States.{key_state}
-use Rattle.nb_core.specs.Tables.{tables_at}
+use Rattle.nb_core.specs.Tables.{IsOnPath, tables_at}
 use Rattle.nb_core.specs.History.{key_of_call}
-use Rattle.nb_core.specs.Laws.{IsOnPath}
 use Rattle.nb_table.specs.Chains.{Extended}
 use Rattle.nb_table.specs.Conditions.{IsReached}
 use Rattle.nb_table.specs.Events.{reads, shown_by_key}

@@ -12,7 +12,10 @@ use Rattle.nb_table.proofs.closed.Closed.entries.Goals as goal
 use Rattle.nb_table.proofs.closed.Closed.entries.Goals.{then-is_installed+in_ok-list_table, else-is_installed}
 
 pub loop-g-init : goal.loop-g-init
-loop-g-init c = listing-first c.args.self.now _ c.new-found.ensures
+loop-g-init c =
+    let closed = c.args.self.now in
+    subst (λ g. IsListing closed c.new-found.result g 0) (sym c.top-g.ensures)
+    (listing-first closed c.new-found.result c.new-found.ensures)
 
 pub loop-g-preserved : goal.loop-g-preserved
 loop-g-preserved c =
@@ -35,8 +38,8 @@ returns c =
     let whole : generations_of closed.shape ≤ c.loop-g.g
     = omega (arith, c.generations-g-end.ensures, ap (λ v. generations_of v.shape) c.self.view_is) in
     let all =
-    listing-all closed left.plan c.held_has_place.ensures c.place_is.ensures c.loop-g.found c.loop-g.g whole
-    c.loop-g.invariant in
+    listing-all closed left.plan c.linked.ensures c.top_complete.ensures c.held_has_place.ensures c.place_is.ensures c.loop-g.found
+    c.loop-g.g whole c.loop-g.invariant in
     IfOk-weaker c.entries.result (λ entries. entries.items ≡ map.entries c.loop-g.found)
     (λ entries. HoldsOfMap closed (λ m. entries.items ≡ map.entries m))
     (λ entries is history from. is ∙ ap (λ m. map.entries m) (all history from)) c.entries.ensures

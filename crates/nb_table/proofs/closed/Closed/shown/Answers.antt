@@ -1,18 +1,21 @@
-use Rattle.std.proofs.Common.{◌≡◌, ◌∙◌, ◌-◌, ◌<◌, ap, sym, Some, None, arith}
+use Rattle.std.proofs.Common.{◌≡◌, ◌∙◌, ◌-◌, ◌<◌, ℕ, ap, sym, Some, None, arith}
 use Rattle.nb_core.specs.Plans.{generations_of}
 use Rattle.nb_core.specs.Meaning.{shown_from}
 use Rattle.nb_core.specs.Laws.{AreLinked}
+use Rattle.nb_core.specs.Tables.{IsComplete}
 use Rattle.nb_core.specs.declared.states.ValueState.TheVariants.{Live, Primed}
 use Rattle.nb_table.specs.Left.{tables_left}
-use Rattle.nb_table.proofs.Looking.{is-left, law-left, passes-final, passes-primed, primed-next, shown-absent, shown-value, shows-none, shows-primed}
+use Rattle.nb_table.proofs.Looking.{is-left, law-left, passes-final, passes-primed, primed-next, shown-absent, shown-from-top, shown-value, shows-none, shows-primed}
 use Rattle.nb_table.proofs.closed.Closed.shown.Goals as goal
 use Rattle.nb_table.proofs.closed.Closed.shown.Goals.{in-Some+in-Primed+else-is_blank_in, in-Some+in-PrimedNull, in_default}
 
 pub loop-g-init : goal.loop-g-init
 loop-g-init c =
     let closed = c.args.self.now in
-    let all : generations_of closed.shape ≡ generations_of closed.shape - 0 = omega arith in
-    ap (shown_from closed.shape (tables_left closed) c.args.key 0) all
+    let left = is-left c.self.inside closed c.self.invariant c.self.view_is in
+    let complete = law-left closed left (λ p t. (g : ℕ) → g < t.top → (g < generations_of p) × IsComplete p t g) c.top_complete.ensures in
+    shown-from-top closed.shape (tables_left closed) c.args.key (law-left closed left AreLinked c.linked.ensures) complete c.top-g.result
+    (omega (arith, c.top-g.ensures))
 
 pub returns-then-not-is_installed : goal.returns-then-not-is_installed
 returns-then-not-is_installed c =
