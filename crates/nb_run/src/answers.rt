@@ -21,6 +21,7 @@ pub enum Answer {
 }
 
 impl Answer {
+    /// What a command answers that tells the earlier value.
     pub(crate) fn before(value: Option<Num>) -> Answer
         ensures { result ≡ before value }
     {

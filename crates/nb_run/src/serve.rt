@@ -54,8 +54,8 @@ fn attend<H: Threads + Wait + AllocGlobal + Sync, R: Source, W: Sink>(
 
 /// Runs the program on the words of its command line, and answers its exit status: 0 where the script was run or help
 /// was asked for, 1 where the reader or the writer failed, 2 for a fault of the script, 3 for words that give no
-/// options, 4 where memory ran out or a
-/// thread couldn't be started. A fault is told on `errors`; that `errors` fails changes no status.
+/// options, 4 where memory ran out or a thread couldn't be started. A fault is told on `errors`; that `errors` fails
+/// changes no status.
 pub fn serve<H: Threads + Wait + AllocGlobal + Sync, R: Source, W: Sink, E: Sink>(
     rt: &H,
     words: Result<Vec<String>, OptionFault>,

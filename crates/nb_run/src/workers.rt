@@ -10,7 +10,7 @@ use crate::gate::Gate;
 use crate::reader::Phase;
 use crate::script::Command;
 use nb_core::OutOfMemory;
-use nb_map::{AddFault, Full, Map, Seat};
+use nb_map::{Map, Seat};
 use nb_table::laws;
 use std::snapshot::Snapshot;
 use std::sync::Wait;
