@@ -9,7 +9,6 @@ use Rattle.nb_core.specs.History.{HasValue, IsLegal, MayWin, Replies, content_of
 use Rattle.nb_core.specs.Meaning.{AreReplies, IsCrowded, Stands, all_calls, calls_of, map_of_calls, net_of, passed_over, place_of}
 use Rattle.nb_core.specs.declared.numbers.TheConstants.{KEY_MAX, VALUE_MAX}
 use Rattle.nb_core.specs.declared.calls.Call.{Call}
-use Rattle.nb_core.specs.declared.calls.Call.TheVariants as call
 use Rattle.nb_core.specs.declared.events.Event.{Event}
 use Rattle.nb_core.specs.declared.events.Event.TheVariants.{Claim, Kill, Won, CopyIn, Prime, Finish, Read}
 use Rattle.nb_core.specs.declared.states.KeyState.{KeyState}

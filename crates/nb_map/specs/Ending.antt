@@ -40,7 +40,7 @@ pub record EndedWith (p : Plan) (seats : List SeatOf) (ended : EndedOf) : Type 0
   pub once : (n : ℕ) → n < p.seats → count_by (λ seat. seat.chain.number == n) seats ≡ 1
   pub size : pos ended.size ≡ net_of_seats seats
 
--- The seats are parted in those of the chain and those of the counter.
+-- The seats are parted in those of the chain and those of the counter, and each had counted the net of its calls.
 pub record IsParted (seats : List SeatOf) (chains : List SeenBy) (counts : List Counting) : Type 0 where
   pub of_chain : chains ≡ map (λ seat. seat.chain) seats
   pub of_counter : counts ≡ map (λ seat. seat.count) seats

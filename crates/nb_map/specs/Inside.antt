@@ -9,7 +9,7 @@ use Rattle.nb_map.specs.declared.map.Seat.TheInside as seat
 abbrev pub map_of : map.Inside → MapOf
 map_of c = record { chain = c.chain; counter = c.counter }
 
--- the counter has as many seats as the chain
+-- the shape is a plan, and the counter has as many seats as the chain
 pub record IsMap (c : map.Inside) : Type 0 where
   pub plan : IsPlan c.chain.shape
   pub seats : c.counter.seats ≡ c.chain.shape.seats

@@ -43,7 +43,7 @@ seats_of map number zero = []
 seats_of map number (suc count) = new_seat map number ∷ seats_of map (suc number) count
 
 -- The seat has made these calls with their replies, and no others, in at most so many steps on the chain; and its steps were
--- such as this call may make.
+-- such as this call may make. It stays a seat of the same counter.
 pub record HasCalled (map : MapOf) (call : Call) (before after : SeatOf) (made : List (Call × Reply)) (most : ℕ) : Type 0 where
   pub counter : after.count.counter ≡ before.count.counter
   pub steps : HasMade map.chain.shape call before.chain after.chain made most

@@ -5,3 +5,4 @@ mod on_map;
 mod rows;
 mod stress;
 mod threads;
+mod visits;

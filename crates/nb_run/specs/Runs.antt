@@ -24,7 +24,7 @@ pub record HasReadFault (seats : ℕ) (unread unread' : Option Bytes) (n : ℕ) 
   pub lasting : IsAtEnd unread' ⊎ ((more : Bytes) → script_of seats (read ++ more) ≡ Err (n, cause))
 
 -- When a fault comes of a script: a line's fault is the first one in the bytes that were read, and a write fails only
--- after a script without a fault. Of the others the reader and the memory know.
+-- after a script without a fault. Of the other two nothing is said of the script.
 abbrev pub IsFaultOf : ℕ → Option Bytes → Option Bytes → RunFault → Type 0
 IsFaultOf seats unread unread' fault.Read = Unit {0}
 IsFaultOf seats unread unread' fault.Write = (phases : List Phase) × HasReadScript seats unread unread' phases

@@ -45,7 +45,7 @@ PhaseRan m phase w [] [] [] = Unit {0}
 PhaseRan m phase w (mine ∷ others) (s ∷ before) (t ∷ after) = AreAnswered m (commands_of w phase) mine s t × PhaseRan m phase (suc w) others before after
 PhaseRan m phase w _ _ _ = ⊥
 
--- The seat has made no call since, and has seen what all these seats had.
+-- The seat has made no event since, and has seen what all these seats had.
 pub record HasMet (seats : List SeatOf) (before after : SeatOf) : Type 0 where
   pub steps : ℕ
   pub grown : Grown before.chain after.chain [] steps

@@ -1,7 +1,7 @@
 //! Scripts of several workers, and such as fill the map.
 ghost use Rattle.std.specs.Prelude.{◌≡◌, false};
 
-use super::{assert_serves, words_of};
+use super::{CONDITIONAL_ANSWERS, CONDITIONAL_WRITES, assert_serves, words_of};
 use crate::gate::Gate;
 use crate::options::Options;
 use crate::run::run_gated;
@@ -9,8 +9,6 @@ use crate::streams::{FromRead, FromWrite};
 use nb_core::Shape;
 use std::sync::atomic::{AtomicBool, AtomicU64, Ordering};
 use std::test::Fail;
-
-const PUTS: &str = "0 put 0 10\n0 put 1 11\n0 put 2 12\n0 put 3 13\n";
 
 const EIGHT: &str =
     "0 put 0 9\n1 put 1 9\n2 put 2 9\n3 put 3 9\n4 put 4 9\n5 put 5 9\n6 put 6 9\n7 put 7 9\n";
@@ -21,7 +19,7 @@ const EIGHT_TOLD: &str =
 #[test]
 fn scripts_fill_the_map(rt: HostRuntime) -> Result<(), Fail> {
     let small = &["--bits", "2", "--generations", "1"];
-    let cases: [(&[&str], &str, &str); 8] = [
+    let cases: [(&[&str], &str, &str); 10] = [
         // grows_when_a_path_is_crowded
         (
             &["--bits", "2", "--generations", "3"],
@@ -34,7 +32,13 @@ fn scripts_fill_the_map(rt: HostRuntime) -> Result<(), Fail> {
             "0 put 0 10\n0 put 4 14\n0 put 8 18\n0 remove 4\n0 put 12 22\n",
             "0 -\n0 -\n0 -\n0 14\n0 -\nsize 3\n0 10\n8 18\n12 22\n",
         ),
-        // full_table, full_and_kept_keys
+        // full_table
+        (
+            small,
+            "0 put 0 10\n0 put 1 11\n0 put 2 12\n0 put 3 13\n0 put 4 14\n0 put 0 20\n",
+            "0 -\n0 -\n0 -\n0 -\n0 full\n0 10\nsize 4\n0 20\n1 11\n2 12\n3 13\n",
+        ),
+        // full_and_kept_keys
         (
             small,
             "0 put 0 10\n0 put 1 11\n0 put 2 12\n0 put 3 13\n0 put 4 14\n0 put 0 20\n\
@@ -73,11 +77,10 @@ fn scripts_fill_the_map(rt: HostRuntime) -> Result<(), Fail> {
             "0 put 0 10\n0 put 1 11\n0 put 2 12\n0 put 3 13\n0 add 4 1\n0 add 0 1\n",
             "0 -\n0 -\n0 -\n0 -\n0 full\n0 10\nsize 4\n0 11\n1 11\n2 12\n3 13\n",
         ),
-        (
-            small,
-            PUTS,
-            "0 -\n0 -\n0 -\n0 -\nsize 4\n0 10\n1 11\n2 12\n3 13\n",
-        ),
+        // empty_script
+        (small, "", "size 0\n"),
+        // conditional_writes
+        (small, CONDITIONAL_WRITES, CONDITIONAL_ANSWERS),
     ];
     for (words, script, text) in cases {
         let words = words_of(rt.alloc(), words)?;

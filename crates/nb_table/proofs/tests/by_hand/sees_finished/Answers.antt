@@ -1,5 +1,4 @@
-use Rattle.std.proofs.Common.{◌≡◌, sym, subst, rules}
-use Rattle.nb_core.specs.Laws.{IsPassed}
+use Rattle.std.proofs.Common.{sym, subst, rules}
 use Rattle.nb_core.specs.Laws.IsPassed.{AtSlot}
 use Rattle.nb_core.specs.Plans.{IsPlan}
 use Rattle.nb_core.specs.Tables.{IsFinishedValue}
