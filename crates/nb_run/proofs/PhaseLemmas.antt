@@ -1,7 +1,7 @@
 -- Workers run a script's phases, one after another.
 use Rattle.std.proofs.Common.{◌≡◌, ◌∙◌, ℕ, suc, ◌+◌, ◌<◌, ◌≤◌, List, [], ◌∷◌, ◌++◌, length, drop, get_or, replicate, ap, sym, subst, refl, arith, vec_capacity, zero}
 use Rattle.std.proofs.lemmas.List.{append-nil, append_assoc, drop_all, drop_more, get_or-map, length-append, length-map}
-use Rattle.std.proofs.lemmas.List.Elements.{All-cons, All-nil, length_all_zip}
+use Rattle.std.proofs.lemmas.List.Elements.{All-cons, All-head, All-nil, All-tail, length_all_zip}
 use Rattle.std.specs.List.{All, AllZip, flat_map}
 use Rattle.std.specs.declared.alloc.Global.{Global}
 use Rattle.std.specs.declared.vec.Vec.{Vec}
@@ -159,6 +159,20 @@ module _ (m : MapOf) (phase : Phase) where
         own k d below,
         omega (arith, room k d below, length-append (commands_of worker.number phase) (flat_map (commands_of worker.number) phases)),
       )
+
+-- where a phase has no commands, the workers have run them
+pub idle-run :
+    (m : MapOf) (phase : Phase) (workers : List Worker) → length phase ≡ 0 → All (IsReady m phase) workers
+    → AllZip (IsRun m phase) workers workers
+idle-run m [] [] none ready = tt
+idle-run m [] (w ∷ workers) none ready = (
+  (
+    (All-head (IsReady m []) w workers ready).0,
+    record { number = refl; answers = []; kept = sym (append-nil w.answers.items); room = refl; answered = refl },
+  ),
+  idle-run m [] workers none (All-tail (IsReady m []) w workers ready),
+)
+idle-run m (task ∷ phase) workers none ready = absurd (omega (arith, none))
 
 -- the numbers stay
 numbered-after :

@@ -101,7 +101,7 @@ impl<'a> Promise<Worker> for Runs<'a> {
 
 /// Runs the commands of a phase, those of all workers at the same time: a thread of its own runs those of the last worker,
 /// while this one goes on with the others in the same way.
-pub(crate) fn run_phase<R: Threads + Wait + Sync, G: Gate + Sync>(
+fn run_together<R: Threads + Wait + Sync, G: Gate + Sync>(
     rt: &R,
     gate: &G,
     map: &Map,
@@ -145,11 +145,28 @@ pub(crate) fn run_phase<R: Threads + Wait + Sync, G: Gate + Sync>(
                 { last.run(rt, gate, map, phase) },
             );
             let child = spawned.map_err(|_| OutOfMemory)?;
-            let mut workers = run_phase(rt, gate, map, phase, workers)?;
+            let mut workers = run_together(rt, gate, map, phase, workers)?;
             workers.push_reserved(child.join(rt));
             Ok(workers)
         },
     )
+}
+
+/// Runs the commands of a phase. Where there are none, no thread is started.
+fn run_phase<R: Threads + Wait + Sync, G: Gate + Sync>(
+    rt: &R,
+    gate: &G,
+    map: &Map,
+    phase: &[(usize, Command)],
+    workers: Vec<Worker>,
+) -> Result<Vec<Worker>, OutOfMemory>
+    requires ready { All (IsReady map.now phase.now) workers.items }
+    ensures ran { IfOk result (λ ran. AllZip (IsRun map.now phase.now) workers.items ran.items) }
+{
+    if phase.is_empty() {
+        return Ok(workers);
+    }
+    run_together(rt, gate, map, phase, workers)
 }
 
 /// Lets a seat and each of these workers meet.

@@ -3,7 +3,7 @@ use Rattle.std.proofs.lemmas.List.Elements.{length_all_zip}
 use Rattle.std.specs.List.{AllZip}
 use Rattle.nb_run.specs.Working.{IsRun}
 use Rattle.nb_run.proofs.Together.{all-zip-push}
-use Rattle.nb_run.proofs.workers.+fn-run_phase-scope+run_phase.Goals as goal
+use Rattle.nb_run.proofs.workers.+fn-run_together-scope+run_together.Goals as goal
 
 pub scope-push_reserved-requires : goal.scope-push_reserved-requires
 scope-push_reserved-requires g t c =
