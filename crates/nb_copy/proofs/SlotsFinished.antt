@@ -3,7 +3,7 @@ use Rattle.std.proofs.Common.{◌≡◌, ◌≢◌, ◌∙◌, ◌⊎◌, ℕ, s
 use Rattle.std.proofs.lemmas.Bool.{eq-eqb}
 use Rattle.nb_core.specs.Plans.{IsPlan, Plan, generations_of, size_of}
 use Rattle.nb_core.specs.Tables.{HasSlot, IsComplete, IsFinished, IsFinishedValue, IsInstalled, IsSlot, IsUnprimed, Tables, tables_at}
-use Rattle.nb_core.specs.History.{IsLegal, is_empty_content}
+use Rattle.nb_core.specs.History.{IsLegal, is_finished_by_priming}
 use Rattle.nb_core.specs.Laws.{IsPassed, IsPrimedOrFinished, Lasts, OwnLasts, PassedAbove, TablesAreLinked, primed}
 use Rattle.nb_core.specs.declared.states.KeyState.TheVariants.{Claimed}
 use Rattle.nb_core.specs.declared.states.ValueState.{ValueState}
@@ -137,12 +137,12 @@ module _ (law : StepsAddUp) (own_lasts : OwnLasts) (chain : ChainOf) (plan : IsP
   -- a step that primed an unprimed value, and so turned the slot finished if there is nothing to copy
   primed-now :
       {before after : SeenBy} (s i : ℕ) (v : ValueState) → IsOwn chain before → Extended before after (Prime s g i ∷ []) 1
-      → (seen_before after).value g i ≡ v → HasCopied p g before after (cond (is_empty_content v) (i ∷ []) []) 0 0 1
+      → (seen_before after).value g i ≡ v → HasCopied p g before after (cond (is_finished_by_priming v) (i ∷ []) []) 0 0 1
   primed-now {before} {after} s i v own step was =
       let met : Plan → ValueState = λ q. (tables_at q (drop 1 after.seen)).value g i in
-      let slot : ValueState → List ℕ = λ x. slot_in g (cond (is_empty_content x) (Some (g, i)) None) in
-      let turned : slot (met p) ≡ cond (is_empty_content v) (i ∷ []) [] =
-      ap (λ q. slot (met q)) (sym (law.own own (law.one step)).1) ∙ ap slot was ∙ slot-if (is_empty_content v) in
+      let slot : ValueState → List ℕ = λ x. slot_in g (cond (is_finished_by_priming x) (Some (g, i)) None) in
+      let turned : slot (met p) ≡ cond (is_finished_by_priming v) (i ∷ []) [] =
+      ap (λ q. slot (met q)) (sym (law.own own (law.one step)).1) ∙ ap slot was ∙ slot-if (is_finished_by_priming v) in
       copied-one law own_lasts p g before after (Prime s g i) _ 0 0 step refl turned refl refl
     where
       slot-if : (b : Bool) → slot_in g (cond b (Some (g, i)) None) ≡ cond b (i ∷ []) []
@@ -154,7 +154,7 @@ module _ (law : StepsAddUp) (own_lasts : OwnLasts) (chain : ChainOf) (plan : IsP
       {before after : SeenBy} (s i : ℕ) (v : ValueState) → IsOwn chain before
       → (IsUnprimed v → Extended before after (Prime s g i ∷ []) 1 × ((seen_before after).value g i ≡ v) × ((seen_by after).value g i ≡ primed v))
       → ((IsUnprimed v → ⊥) → Extended before after [] 1 × ((seen_by after).value g i ≡ v))
-      → HasCopied p g before after (cond (is_empty_content v) (i ∷ []) []) 0 0 1
+      → HasCopied p g before after (cond (is_finished_by_priming v) (i ∷ []) []) 0 0 1
   copied-prime s i Null own won lost = let w = won tt in primed-now s i Null own w.0 w.1
   copied-prime s i Tombstone own won lost = let w = won tt in primed-now s i Tombstone own w.0 w.1
   copied-prime s i (Live n) own won lost = let w = won tt in primed-now s i (Live n) own w.0 w.1

@@ -7,7 +7,7 @@ use Rattle.std.proofs.lemmas.Bool.{eqb-false, eqb-true, false_from_ne_true, ne_e
 use Rattle.std.specs.Option.{IfSome, option_map_or}
 use Rattle.nb_core.specs.Plans.{Plan, IsPlan, Header, generations_of, size_of}
 use Rattle.nb_core.specs.Tables.{IsFinished, IsFinishedValue, IsSlot, IsUnprimed, Tables, is_finished_value, tables_at}
-use Rattle.nb_core.specs.History.{IsInRange, IsLegal, MayClaim, MayFinish, MayFollow, MayKill, MayPrime, counted_by, counts, is_empty_content, seat_of_event, turned_by, turned_slot, turns, turns_slot}
+use Rattle.nb_core.specs.History.{IsInRange, IsLegal, MayClaim, MayFinish, MayFollow, MayKill, MayPrime, counted_by, counts, is_finished_by_priming, seat_of_event, turned_by, turned_slot, turns, turns_slot}
 use Rattle.nb_core.specs.Laws.{CountedOnce, finished_among, is_dead, over_seats, primed, times_turned}
 use Rattle.nb_core.proofs.Frames.{finished, key_after, key-first, key-frame, value_after, value-first, value-frame}
 use Rattle.nb_core.proofs.Keeping.{sound}
@@ -97,7 +97,7 @@ is_finished_value-unprimed : (v : ValueState) → IsUnprimed v → is_finished_v
 is_finished_value-unprimed v u = false_from_ne_true _ (unprimed-not_final v u)
 
 -- priming finishes what has no number
-is_finished_value-primed : (v : ValueState) → IsUnprimed v → is_finished_value (primed v) ≡ is_empty_content v
+is_finished_value-primed : (v : ValueState) → IsUnprimed v → is_finished_value (primed v) ≡ is_finished_by_priming v
 is_finished_value-primed Null u = refl
 is_finished_value-primed Tombstone u = refl
 is_finished_value-primed (Live n) u = refl
@@ -158,7 +158,7 @@ slot_bit-prime :
     ≡ bit (turns_slot p h (Prime s f j) g i) + slot_bit t g i
 slot_bit-prime p h s f j g i may =
     let t = tables_at p h in
-    let empty = is_empty_content (t.value f j) in
+    let empty = is_finished_by_priming (t.value f j) in
     at_slot (λ g i here. bit (is_finished_slot (t.key g i) (cond here (primed (t.value g i)) (t.value g i)))
     ≡ bit (here && empty) + slot_bit t g i) f j g i
     (rw (may.claimed, is_finished_value-primed (t.value f j) may.unprimed, is_finished_value-unprimed (t.value f j) may.unprimed)
@@ -256,7 +256,7 @@ turned_slot-in_range p h (Kill s g i) range = range.1
 turned_slot-in_range p h (Finish s g i) range = range.1
 turned_slot-in_range p h (Prime s g i) range =
     let IsWithin = λ (slot : ℕ × ℕ). IsSlot p slot.0 slot.1 in
-    elim (is_empty_content ((tables_at p h).value g i)) as (λ b. IfSome (cond b (Some (g, i)) None) IsWithin) [
+    elim (is_finished_by_priming ((tables_at p h).value g i)) as (λ b. IfSome (cond b (Some (g, i)) None) IsWithin) [
       | true ↦ range.1
       | false ↦ tt
     ]

@@ -3,7 +3,7 @@ use Rattle.std.proofs.Common.{◌≡◌, ◌≢◌, ◌∙◌, ℕ, ◌<◌, ◌
 use Rattle.nb_core.specs.Calls.{changed}
 use Rattle.nb_core.specs.Plans.{Plan, IsPlan, generations_of}
 use Rattle.nb_core.specs.Tables.{AreOthers, HasSlot, IsComplete, IsFinished, IsFinishedValue, IsInstalled, IsSlot, IsUnprimed, Tables, path_slot}
-use Rattle.nb_core.specs.History.{IsExchange, MayClaim, MayWin, content_of, key_of_call}
+use Rattle.nb_core.specs.History.{IsExchange, MayClaim, MayWin, number_in_value, key_of_call}
 use Rattle.nb_core.specs.Laws.{HasContent, IsPrimedOrFinished, primed}
 use Rattle.nb_core.proofs.Legality.{number_left}
 use Rattle.nb_core.proofs.Passing.{no_true}
@@ -33,7 +33,7 @@ exchange-of (Some n) a b P e = PutsNumber n e.0 e.1
 
 exchange-puts : (c : Call) (k : ℕ) (a b : ValueState) → IsExchange c k a b → Puts a b
 exchange-puts (call.Get key) k a b e = absurd e
-exchange-puts (call.Write key want change) k a b e = exchange-of (changed change (content_of a)) a b _ e.2
+exchange-puts (call.Write key want change) k a b e = exchange-of (changed change (number_in_value a)) a b _ e.2
 
 exchange-key : (c : Call) (k : ℕ) (a b : ValueState) → IsExchange c k a b → key_of_call c ≡ k
 exchange-key (call.Get key) k a b e = absurd e
@@ -59,7 +59,7 @@ module _ {a b : ValueState} where
   put-content (PutsNumber n e differs) = subst HasContent (sym e) tt
 
   -- the map has what was put
-  pub put-number : (before : Option ℕ) → Puts a b → number_left b before ≡ content_of b
+  pub put-number : (before : Option ℕ) → Puts a b → number_left b before ≡ number_in_value b
   put-number before (PutsNone n was e) = rw e refl
   put-number before (PutsNumber n e differs) = rw e refl
 

@@ -4,7 +4,7 @@ use Rattle.nb_core.specs.Calls.{changed, holds_of, is_past_max, leaves_alone, sa
 use Rattle.nb_core.specs.Plans.{Plan, generations_of, limit_of, size_of}
 use Rattle.nb_core.specs.Tables.{Tables, is_finished_value, path_slot, tables_at}
 use Rattle.nb_core.specs.Histories.{is_empty}
-use Rattle.nb_core.specs.History.{content_of, counted_by, key_of_call, turned_by}
+use Rattle.nb_core.specs.History.{number_in_value, counted_by, key_of_call, turned_by}
 use Rattle.nb_core.specs.Laws.{is_dead}
 use Rattle.nb_core.specs.Meaning.{is_claimed_by, is_installed, slot_among}
 use Rattle.nb_core.specs.declared.numbers.TheConstants.{KEY_MAX, VALUE_MAX}
@@ -114,7 +114,7 @@ exchanges_to (Some n) a b = same_value b (Live n) && (not (same_value b a) && na
 
 abbrev pub is_exchange : Call → ValueState → ValueState → Bool
 is_exchange (call.Get k) a b = false
-is_exchange (call.Write k want change) a b = holds_of want (content_of a) && exchanges_to (changed change (content_of a)) a b
+is_exchange (call.Write k want change) a b = holds_of want (number_in_value a) && exchanges_to (changed change (number_in_value a)) a b
 
 abbrev pub may_win : Plan → Tables → ℕ → ℕ → ValueState → ValueState → Call → Bool
 may_win p t g i a b c =

@@ -9,7 +9,7 @@ use Rattle.std.specs.Option.{is_some}
 use Rattle.std.specs.Ordering.{nat_cmp}
 use Rattle.nb_core.specs.Calls.{Numbers, changed, holds_of, map_after, reply_of, with_at}
 use Rattle.nb_core.specs.Plans.{Plan, IsPlan}
-use Rattle.nb_core.specs.History.{Exchanges, IsExchange, IsLegal, after_win, content_of, key_of_call, map_of}
+use Rattle.nb_core.specs.History.{Exchanges, IsExchange, IsLegal, after_win, number_in_value, key_of_call, map_of}
 use Rattle.nb_core.specs.Meaning.{calls_of, net_of, net_of_call, net_of_change}
 use Rattle.nb_core.specs.Laws.{SizeIsNet, WinNumber, net_of_seats}
 use Rattle.nb_core.specs.declared.calls.Call.{Call}
@@ -68,13 +68,13 @@ net-map_after (call.Write k want change) m =
 -- an exchange puts at the key what its change makes of the number in the value
 after_win-exchange :
     (m : Numbers) (k : ℕ) (change : Change) (a b : ValueState) → Exchanges change a b
-    → after_win m k b ≡ with_at m k (changed change (content_of a))
+    → after_win m k b ≡ with_at m k (changed change (number_in_value a))
 after_win-exchange m k Remove a b e = ap (after_win m k) e.0
 after_win-exchange m k _ a b e = ap (after_win m k) e.0
 
 -- where the map has at the key what an exchange replaces, the exchange leaves the map that its call leaves
 pub after_win-call :
-    (m : Numbers) (c : Call) (k : ℕ) (a b : ValueState) → get m (key_of_call c) ≡ content_of a → IsExchange c k a b
+    (m : Numbers) (c : Call) (k : ℕ) (a b : ValueState) → get m (key_of_call c) ≡ number_in_value a → IsExchange c k a b
     → after_win m (key_of_call c) b ≡ map_after c m
 after_win-call m (call.Get key) k a b at e = absurd e
 after_win-call m (call.Write key want change) k a b at e =

@@ -3,7 +3,7 @@ use Rattle.std.proofs.Common.{◌≡◌, ◌≢◌, ◌∙◌, ℕ, ◌≤◌, z
 use Rattle.std.proofs.lemmas.Bool.{cases_order, cond-true, cond_both, eqb-false, eqb-true}
 use Rattle.nb_core.specs.Plans.{Plan, IsPlan}
 use Rattle.nb_core.specs.Tables.{IsSlot, IsUnprimed, Tables, tables_at}
-use Rattle.nb_core.specs.History.{IsLegal, IsPrimedBelow, MayWin, content_of, key_of_call}
+use Rattle.nb_core.specs.History.{IsLegal, IsPrimedBelow, MayWin, number_in_value, key_of_call}
 use Rattle.nb_core.specs.Laws.{HasContent, primed}
 use Rattle.nb_core.proofs.Frames.{finished, key-first, value_after, value-frame}
 use Rattle.nb_core.proofs.Keeping.{above-primed, sound}
@@ -25,7 +25,7 @@ use Rattle.nb_core.specs.declared.states.ValueState.TheVariants.{Null, Live, Pri
 record HasSame (a b : ValueState) : Type 0 where
   there : HasContent a → HasContent b
   back : HasContent b → HasContent a
-  number : content_of b ≡ content_of a
+  number : number_in_value b ≡ number_in_value a
 
 -- a value has the same as itself
 HasSame-refl : (a : ValueState) → HasSame a a
@@ -69,7 +69,7 @@ pub record IsNewestAt (p : Plan) (t : Tables) (k g i : ℕ) : Type 0 where
 
 -- The number is the one in the key's newest value. Where the key never got one at all, it is none.
 pub record IsNewest (p : Plan) (t : Tables) (k : ℕ) (number : Option ℕ) : Type 0 where
-  pub at : (g i : ℕ) → IsNewestAt p t k g i → number ≡ content_of (t.value g i)
+  pub at : (g i : ℕ) → IsNewestAt p t k g i → number ≡ number_in_value (t.value g i)
   pub never : HasNoneFrom p t k 0 → number ≡ None
 
 module _
@@ -93,7 +93,7 @@ module _
       unprimed-not_final (t.value g i) unprimed (finished-value t g i k (complete-below p t s f g above installed i slot.1) is))
 
 -- the newest value has the newest number
-IsNewest-at : (p : Plan) (t : Tables) → IsSound p t → (k g i : ℕ) → IsNewestAt p t k g i → IsNewest p t k (content_of (t.value g i))
+IsNewest-at : (p : Plan) (t : Tables) → IsSound p t → (k g i : ℕ) → IsNewestAt p t k g i → IsNewest p t k (number_in_value (t.value g i))
 IsNewest-at p t s k g i here = record {
   at = λ f j there.
       elim (cases_order f g) [
@@ -104,10 +104,10 @@ IsNewest-at p t s k g i here = record {
   never = λ nowhere. absurd (nowhere g (omega arith) i here.slot here.is here.content);
 }
   where
-    in_table : (f : ℕ) → f ≡ g → (j : ℕ) → IsSlot p f j → t.key f j ≡ Claimed k → content_of (t.value g i) ≡ content_of (t.value f j)
+    in_table : (f : ℕ) → f ≡ g → (j : ℕ) → IsSlot p f j → t.key f j ≡ Claimed k → number_in_value (t.value g i) ≡ number_in_value (t.value f j)
     in_table f same =
-        subst (λ f. (j : ℕ) → IsSlot p f j → t.key f j ≡ Claimed k → content_of (t.value g i) ≡ content_of (t.value f j)) (sym same)
-        (λ j j_slot j_is. ap (λ j. content_of (t.value g j)) (one_slot p t s g i j k here.slot j_slot here.is j_is))
+        subst (λ f. (j : ℕ) → IsSlot p f j → t.key f j ≡ Claimed k → number_in_value (t.value g i) ≡ number_in_value (t.value f j)) (sym same)
+        (λ j j_slot j_is. ap (λ j. number_in_value (t.value g j)) (one_slot p t s g i j k here.slot j_slot here.is j_is))
 
 -- ---- a step without an exchange on the key
 
@@ -149,7 +149,7 @@ module _
         is = below.2;
         content = subst HasContent (sym below.3) tt;
         none_above = HasNoneFrom-slot p t s k (suc g) i slot is (λ content. subst HasContent null content) none;
-      }) ∙ ap content_of below.3
+      }) ∙ ap number_in_value below.3
 
   -- what is newest stays so
   IsNewest-quiet : (number : Option ℕ) → IsNewest p t k number → IsNewest p u k number
@@ -161,7 +161,7 @@ module _
           | Stays same ↦
               newest.at g i (record { slot = here.slot; is = was; content = same.back here.content; none_above = none })
               ∙ sym same.number
-          | CopiesUp n below null e ↦ copied-newest number newest g i n here.slot was null below none ∙ sym (ap content_of e)
+          | CopiesUp n below null e ↦ copied-newest number newest g i n here.slot was null below none ∙ sym (ap number_in_value e)
         ];
     never = λ none. newest.never (none-before 0 none);
   }
@@ -225,7 +225,7 @@ IsNewest-won p t u s step k g i a b c before slot may e of_call =
     let puts = win-puts may in
     let same : may.key ≡ k = sym (win-key may) ∙ sym of_call in
     let is : u.key g i ≡ Claimed k = key-claimed (step.key g i slot) (may.claimed ∙ ap Claimed same) in
-    subst (IsNewest p u k) (ap content_of e ∙ sym (put-number before puts))
+    subst (IsNewest p u k) (ap number_in_value e ∙ sym (put-number before puts))
     (IsNewest-at p u s k g i (record {
       slot = slot;
       is = is;

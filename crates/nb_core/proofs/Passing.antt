@@ -6,7 +6,7 @@ use Rattle.nb_core.specs.Plans.{Plan, generations_of, limit_of, size_of}
 use Rattle.nb_core.specs.States.{IsValueState}
 use Rattle.nb_core.specs.Tables.{AreOthers, HasSlotBelow, IsComplete, IsFinished, IsFinishedValue, IsInstalled, IsOther, IsReady, IsSettledBelow, IsSlot, IsUnprimed, Tables, is_finished_value, path_slot, tables_at}
 use Rattle.nb_core.specs.Histories.{is_empty}
-use Rattle.nb_core.specs.History.{Exchanges, HasValue, IsCallInRange, IsChangeInRange, IsExchange, IsInRange, IsPrimedBelow, IsWantInRange, MayClaim, MayFinish, MayFollow, MayWin, content_of, counted_by, key_of_call, turned_by}
+use Rattle.nb_core.specs.History.{Exchanges, HasValue, IsCallInRange, IsChangeInRange, IsExchange, IsInRange, IsPrimedBelow, IsWantInRange, MayClaim, MayFinish, MayFollow, MayWin, number_in_value, counted_by, key_of_call, turned_by}
 use Rattle.nb_core.specs.Meaning.{is_claimed_by, is_installed, slot_among}
 use Rattle.nb_core.specs.Laws.{is_dead}
 use Rattle.nb_core.proofs.Legality.{all_finished, are_others, claimed_key, distance_of, exchanges_to, has_slot_below, has_value_at, is_call_in_range, is_change_in_range, is_complete, is_exchange, is_finished, is_in_range, is_live, is_null, is_other, is_primed_at, is_primed_below, is_ready, is_settled_below, is_slot, is_unprimed, is_value_in_range, is_want_in_range, may_claim_at, may_finish_of, may_follow, may_win, primed_number, same_value, settled_among}
@@ -235,13 +235,13 @@ exchanges_of (Some n) a b e =
     let d = both (not (same_value b a)) (leb n VALUE_MAX) s.1 in
     (same_value-true b (Live n) s.0, (λ h. both_ways (same_value b a) (not_true _ d.0) (rw h (same_value_itself a))), leb-true n VALUE_MAX d.1)
 
-exchanges-true : (change : Change) (a b : ValueState) → exchanges_to (changed change (content_of a)) a b ≡ true → Exchanges change a b
-exchanges-true change a b e = exchanges_of (changed change (content_of a)) a b e
+exchanges-true : (change : Change) (a b : ValueState) → exchanges_to (changed change (number_in_value a)) a b ≡ true → Exchanges change a b
+exchanges-true change a b e = exchanges_of (changed change (number_in_value a)) a b e
 
 is_exchange-true : (c : Call) (a b : ValueState) → is_exchange c a b ≡ true → IsExchange c (key_of_call c) a b
 is_exchange-true (call.Get k) a b e = no_true e
 is_exchange-true (call.Write k want change) a b e =
-    let s = both (holds_of want (content_of a)) (exchanges_to (changed change (content_of a)) a b) e in
+    let s = both (holds_of want (number_in_value a)) (exchanges_to (changed change (number_in_value a)) a b) e in
     (refl, s.0, exchanges-true change a b s.1)
 
 may_win-true : (p : Plan) (t : Tables) (g i : ℕ) (a b : ValueState) (c : Call) → may_win p t g i a b c ≡ true → MayWin p t g i a b c

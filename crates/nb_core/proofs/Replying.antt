@@ -3,7 +3,7 @@ use Rattle.std.proofs.Common.{◌≡◌, ◌≢◌, ◌∙◌, ℕ, ◌≤◌, a
 use Rattle.std.proofs.lemmas.Bool.{cond-false, le-ltb}
 use Rattle.std.specs.FinMap.{get}
 use Rattle.nb_core.specs.Calls.{Numbers, changed, holds_of, is_past_max, leaves_alone, map_after, overflows, reply_at, reply_of}
-use Rattle.nb_core.specs.History.{IsExchange, content_of, key_of_call, map_of}
+use Rattle.nb_core.specs.History.{IsExchange, number_in_value, key_of_call, map_of}
 use Rattle.nb_core.specs.Laws.{ReadReplies, WinReplies}
 use Rattle.nb_core.proofs.Keys.{map_in_range}
 use Rattle.nb_core.proofs.Replies.{alone-why, map_after-left}
@@ -25,13 +25,13 @@ put-fits (Some n) a b exchange = le-ltb VALUE_MAX n exchange.2
 
 -- the condition of an exchange held, and it doesn't overflow
 exchange-replies :
-    (c : Call) (k : ℕ) (a b : ValueState) (m : Numbers) → get m (key_of_call c) ≡ content_of a → IsExchange c k a b
-    → (record { before = content_of a; matched = true } ≡ reply_of c m) × (overflows c m ≡ false)
+    (c : Call) (k : ℕ) (a b : ValueState) (m : Numbers) → get m (key_of_call c) ≡ number_in_value a → IsExchange c k a b
+    → (record { before = number_in_value a; matched = true } ≡ reply_of c m) × (overflows c m ≡ false)
 exchange-replies (call.Get key) k a b m at exchange = absurd exchange
 exchange-replies (call.Write key want change) k a b m at exchange =
     let holds : holds_of want (get m key) ≡ true = ap (holds_of want) at ∙ exchange.1 in (
       λ i. record { before = sym at i; matched = sym holds i },
-      rw (holds, at) (put-fits (changed change (content_of a)) a b exchange.2),
+      rw (holds, at) (put-fits (changed change (number_in_value a)) a b exchange.2),
     )
 
 pub win_replies : WinReplies

@@ -3,7 +3,7 @@ use Rattle.std.proofs.Common.{◌≡◌, ◌≢◌, ◌∙◌, ℕ, ◌+◌, ◌
 use Rattle.std.proofs.lemmas.Bool.{cases_lt, cases_order, cond_both, eq-eqb}
 use Rattle.nb_core.specs.Plans.{Plan, IsPlan, generations_of, size_of}
 use Rattle.nb_core.specs.Tables.{AreOthers, HasSlot, IsComplete, IsFinishedValue, IsInstalled, IsSettledBelow, IsSlot, IsUnprimed, Tables, path_slot, tables_at}
-use Rattle.nb_core.specs.History.{MayWin, content_of, key_of_call}
+use Rattle.nb_core.specs.History.{MayWin, number_in_value, key_of_call}
 use Rattle.nb_core.specs.Meaning.{is_blank, is_installed, shown_by, shown_from, value_in}
 use Rattle.nb_core.specs.Laws.{AtEmpty, AtValue, CrowdedAbsent, Decided, HasContent, InLast, IsPassed, NoNext, Shows, TablesStand, WinNumber}
 use Rattle.nb_core.proofs.Keeping.{sound}
@@ -29,18 +29,18 @@ content_or_none PrimedNull = inr (λ none. none)
 content_or_none _ = inl tt
 
 -- a value in which the key never got a number has none
-content_of-without : (v : ValueState) → (HasContent v → ⊥) → content_of v ≡ None
-content_of-without (Live n) without = absurd (without tt)
-content_of-without (Primed n) without = absurd (without tt)
-content_of-without (Finished n) without = absurd (without tt)
-content_of-without _ without = refl
+number_in_value-without : (v : ValueState) → (HasContent v → ⊥) → number_in_value v ≡ None
+number_in_value-without (Live n) without = absurd (without tt)
+number_in_value-without (Primed n) without = absurd (without tt)
+number_in_value-without (Finished n) without = absurd (without tt)
+number_in_value-without _ without = refl
 
 -- a final value without a finished number has none
-content_of-final : (v : ValueState) → IsFinishedValue v → ((n : ℕ) → v ≢ Finished n) → content_of v ≡ None
-content_of-final (Live n) final unmoved = no_true final
-content_of-final (Primed n) final unmoved = no_true final
-content_of-final (Finished n) final unmoved = absurd (unmoved n refl)
-content_of-final _ final unmoved = refl
+number_in_value-final : (v : ValueState) → IsFinishedValue v → ((n : ℕ) → v ≢ Finished n) → number_in_value v ≡ None
+number_in_value-final (Live n) final unmoved = no_true final
+number_in_value-final (Primed n) final unmoved = no_true final
+number_in_value-final (Finished n) final unmoved = absurd (unmoved n refl)
+number_in_value-final _ final unmoved = refl
 
 -- a value without a number, below nothing, shows none
 shown_by-without : (v : ValueState) (blank : Bool) → (HasContent v → ⊥) → shown_by (Some v) blank None ≡ None
@@ -60,7 +60,7 @@ shown_by-primed _ blank above primed copied = refl
 
 -- the newest value shows its number
 shown_by-newest : (v : ValueState) (blank : Bool) → ((n : ℕ) → v ≡ Primed n → blank ≡ true) → ((n : ℕ) → v ≢ Finished n)
-    → shown_by (Some v) blank None ≡ content_of v
+    → shown_by (Some v) blank None ≡ number_in_value v
 shown_by-newest (Primed n) blank uncopied unmoved = rw (uncopied n refl) refl
 shown_by-newest (Finished n) blank uncopied unmoved = absurd (unmoved n refl)
 shown_by-newest _ blank uncopied unmoved = refl
@@ -207,19 +207,19 @@ module _ (p : Plan) (t : Tables) (plan : IsPlan p) (s : IsSound p t) (k : ℕ) w
         ]
 
     -- its table shows its number,
-    shown_from-newest : (tables : ℕ) → g + suc tables ≡ generations_of p → shown_from p t k g (suc tables) ≡ content_of (t.value g i)
+    shown_from-newest : (tables : ℕ) → g + suc tables ≡ generations_of p → shown_from p t k g (suc tables) ≡ number_in_value (t.value g i)
     shown_from-newest tables whole =
         let installed = is_installed-holds t g (s.claimed g i k here.slot here.is).installed in
         rw (installed, value_in-some p t s g i k here.slot here.is, shown_from-none (suc g) tables (omega arith) here.none_above)
         (shown_by-newest (t.value g i) _ is_blank-above (λ n. newest-not_moved g i n here))
 
     -- and so do all tables below it
-    shown_from-below : (f tables : ℕ) → f + tables ≡ generations_of p → f ≤ g → shown_from p t k f tables ≡ content_of (t.value g i)
+    shown_from-below : (f tables : ℕ) → f + tables ≡ generations_of p → f ≤ g → shown_from p t k f tables ≡ number_in_value (t.value g i)
     shown_from-below f zero whole below = let within = here.slot.0 in absurd (omega arith)
     shown_from-below f (suc tables) whole below =
         elim (cases_order f g) [
           | inl same ↦
-              subst (λ f. shown_from p t k f (suc tables) ≡ content_of (t.value g i)) (sym same)
+              subst (λ f. shown_from p t k f (suc tables) ≡ number_in_value (t.value g i)) (sym same)
               (shown_from-newest tables (omega arith))
           | inr (inl less) ↦
               let rest = shown_from-below (suc f) tables (omega arith) (omega arith) in
@@ -257,7 +257,7 @@ module _ (p : Plan) (t : Tables) (plan : IsPlan p) (s : IsSound p t) (k : ℕ) w
               elim (cases_lt f g) [
                 | inl less ↦
                     is_newest.at f i here
-                    ∙ content_of-final (t.value f i) (final f less i here.slot here.is) (λ n. newest-not_moved f i n here)
+                    ∙ number_in_value-final (t.value f i) (final f less i here.slot here.is) (λ n. newest-not_moved f i n here)
                 | inr more ↦ absurd (none f more i here.slot here.is here.content)
               ]
         ]
@@ -265,14 +265,14 @@ module _ (p : Plan) (t : Tables) (plan : IsPlan p) (s : IsSound p t) (k : ℕ) w
     -- where the key's values below a table are final, it has the number of its unprimed value there
     number-unprimed :
         (g i : ℕ) → AreFinalBelow p t g k → IsSlot p g i → t.key g i ≡ Claimed k → IsUnprimed (t.value g i)
-        → number ≡ content_of (t.value g i)
+        → number ≡ number_in_value (t.value g i)
     number-unprimed g i final slot is unprimed =
         let above = HasNoneFrom-unprimed p t s k g i slot is unprimed in
         elim (content_or_none (t.value g i)) [
           | inl content ↦ is_newest.at g i (record { slot = slot; is = is; content = content; none_above = above })
           | inr without ↦
               number-none g final (HasNoneFrom-slot p t s k g i slot is without above)
-              ∙ sym (content_of-without (t.value g i) without)
+              ∙ sym (number_in_value-without (t.value g i) without)
         ]
 
     -- what a table shows of a key whose values below are final is the newest number
@@ -303,14 +303,14 @@ module _ (p : Plan) (t : Tables) (plan : IsPlan p) (s : IsSound p t) (k : ℕ) w
 -- what a call may replace is the newest number of its key
 number-won :
     (p : Plan) (t : Tables) → IsPlan p → IsSound p t → (g i : ℕ) (a b : ValueState) (c : Call) (number : Option ℕ) → IsSlot p g i
-    → MayWin p t g i a b c → IsNewest p t (key_of_call c) number → number ≡ content_of a
+    → MayWin p t g i a b c → IsNewest p t (key_of_call c) number → number ≡ number_in_value a
 number-won p t plan s g i a b c number slot may is_newest =
     let k = may.key in
     let of_call : key_of_call c ≡ k = win-key may in
     number-unprimed p t plan s k number (subst (λ k. IsNewest p t k number) of_call is_newest) g i
     (settled-final p t plan s k g (s.claimed g i k slot may.claimed).installed may.settled) slot may.claimed
     (subst IsUnprimed (sym may.stands) may.unprimed)
-    ∙ ap content_of may.stands
+    ∙ ap number_in_value may.stands
 
 -- ---- the laws
 

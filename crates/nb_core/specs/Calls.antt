@@ -1,5 +1,5 @@
 -- What a call of the map replies, and what map it leaves, in the words of `java.util.concurrent.ConcurrentMap`.
-use Rattle.std.specs.Prelude.{ℕ, ◌+◌, ◌==◌, ◌||◌, Bool, true, false, not, if◌then◌else◌, nat_lt, Option, Some, None, is_some, is_none, unwrap_or}
+use Rattle.std.specs.Prelude.{◌≡◌, ℕ, ◌+◌, ◌==◌, ◌||◌, Bool, true, false, not, if◌then◌else◌, nat_lt, Option, Some, None, is_some, is_none, unwrap_or}
 use Rattle.std.specs.Option.{option_eq}
 use Rattle.std.specs.Ordering.{nat_cmp}
 use Rattle.std.specs.FinMap.{FinMap, get, insert, remove}
@@ -59,6 +59,10 @@ same_number = option_eq (λ m n. m == n)
 abbrev pub leaves_alone : Call → Option ℕ → Bool
 leaves_alone (Get k) before = true
 leaves_alone (Write k want change) before = not (holds_of want before) || same_number (changed change before) before
+
+-- the call puts a number at a key that is absent
+abbrev pub Fills : Call → Type 0
+Fills call = leaves_alone call None ≡ false
 
 -- the change would put a number past the greatest one
 abbrev pub is_past_max : Option ℕ → Bool

@@ -39,18 +39,18 @@ pub record MayKill (t : Tables) (g i : ℕ) : Type 0 where
   pub empty : t.key g i ≡ Empty
 
 -- the number in a value, if there is one
-abbrev pub content_of : ValueState → Option ℕ
-content_of Null = None
-content_of Tombstone = None
-content_of (Live n) = Some n
-content_of PrimedNull = None
-content_of PrimedTombstone = None
-content_of (Primed n) = Some n
-content_of (Finished n) = Some n
+abbrev pub number_in_value : ValueState → Option ℕ
+number_in_value Null = None
+number_in_value Tombstone = None
+number_in_value (Live n) = Some n
+number_in_value PrimedNull = None
+number_in_value PrimedTombstone = None
+number_in_value (Primed n) = Some n
+number_in_value (Finished n) = Some n
 
 -- what a change puts in place of a value: another number, or a tombstone for a number
 abbrev pub Exchanges : Change → ValueState → ValueState → Type 0
-Exchanges change a b = MatchOption (changed change (content_of a))
+Exchanges change a b = MatchOption (changed change (number_in_value a))
     ((b ≡ Tombstone) × ((n : ℕ) × (a ≡ Live n)))
     (λ n. (b ≡ Live n) × (b ≢ a) × (n ≤ VALUE_MAX))
 
@@ -58,7 +58,7 @@ Exchanges change a b = MatchOption (changed change (content_of a))
 abbrev pub IsExchange : Call → ℕ → ValueState → ValueState → Type 0
 IsExchange (call.Get key) k a b = ⊥
 IsExchange (call.Write key want change) k a b =
-    (key ≡ k) × (holds_of want (content_of a) ≡ true) × Exchanges change a b
+    (key ≡ k) × (holds_of want (number_in_value a) ≡ true) × Exchanges change a b
 
 -- A call exchanges the value of its key, once the key has no unfinished slot in the table below.
 pub record MayWin (p : Plan) (t : Tables) (g i : ℕ) (a b : ValueState) (c : Call) : Type 0 where
@@ -114,10 +114,10 @@ abbrev pub MayTake : Tables → ℕ → Type 0
 MayTake t g = IsInstalled t (suc g)
 
 -- the value is a null or a tombstone that isn't primed: priming finishes it
-abbrev pub is_empty_content : ValueState → Bool
-is_empty_content Null = true
-is_empty_content Tombstone = true
-is_empty_content _ = false
+abbrev pub is_finished_by_priming : ValueState → Bool
+is_finished_by_priming Null = true
+is_finished_by_priming Tombstone = true
+is_finished_by_priming _ = false
 
 -- the seat of an event
 abbrev pub seat_of_event : Event → ℕ
@@ -137,7 +137,7 @@ seat_of_event (Read s c r) = s
 abbrev pub turned_slot : Plan → List Event → Event → Option (ℕ × ℕ)
 turned_slot p h (Kill s g i) = Some (g, i)
 turned_slot p h (Finish s g i) = Some (g, i)
-turned_slot p h (Prime s g i) = if is_empty_content ((tables_at p h).value g i) then Some (g, i) else None
+turned_slot p h (Prime s g i) = if is_finished_by_priming ((tables_at p h).value g i) then Some (g, i) else None
 turned_slot p h _ = None
 
 -- whether the event turned a slot of this table finished, and was the seat's

@@ -5,7 +5,7 @@ use Rattle.nb_core.specs.Calls.{leaves_alone, reply_at}
 use Rattle.nb_core.specs.Plans.{Plan, IsPlan, generations_of, header_place, size_of, value_place, word_count}
 use Rattle.nb_core.specs.States.{IsKeyState, IsValueState, value_state, value_word}
 use Rattle.nb_core.specs.Tables.{AreOthers, HasSlot, IsComplete, IsFinished, IsFinishedValue, IsInstalled, IsOnPath, IsReady, IsSettledBelow, IsSlot, IsUnprimed, Tables, is_finished_value, path_slot, tables_at, words_of}
-use Rattle.nb_core.specs.History.{HasValue, IsLegal, MayWin, Replies, content_of, counted_by, key_of_call, map_of, seat_of_event, turned_by, turns_slot}
+use Rattle.nb_core.specs.History.{HasValue, IsLegal, MayWin, Replies, number_in_value, counted_by, key_of_call, map_of, seat_of_event, turned_by, turns_slot}
 use Rattle.nb_core.specs.Meaning.{AreReplies, IsCrowded, Stands, all_calls, calls_of, map_of_calls, net_of, passed_over, place_of}
 use Rattle.nb_core.specs.declared.numbers.TheConstants.{KEY_MAX, VALUE_MAX}
 use Rattle.nb_core.specs.declared.calls.Call.{Call}
@@ -156,7 +156,7 @@ pub data IsPassed (p : Plan) (t : Tables) (g k : ℕ) : Type 0 where
 -- tombstone, as long as its value isn't primed.
 pub data Shows (p : Plan) (t : Tables) (g k : ℕ) (number : Option ℕ) : Type 0 where
   AtEmpty : (d : ℕ) → d < size_of p g → AreOthers p t g k d → t.key g (path_slot p g k d) ≡ Empty → number ≡ None → Shows p t g k number
-  AtValue : (i : ℕ) → i < size_of p g → t.key g i ≡ Claimed k → IsUnprimed (t.value g i) → number ≡ content_of (t.value g i) → Shows p t g k number
+  AtValue : (i : ℕ) → i < size_of p g → t.key g i ≡ Claimed k → IsUnprimed (t.value g i) → number ≡ number_in_value (t.value g i) → Shows p t g k number
   NoNext : AreOthers p t g k (size_of p g) → t.next g ≡ 0 → number ≡ None → Shows p t g k number
   InLast : AreOthers p t g k (size_of p g) → suc g ≡ generations_of p → number ≡ None → Shows p t g k number
 
@@ -329,7 +329,7 @@ PassedSettled =
 abbrev pub WinNumber : Type 0
 WinNumber =
     (p : Plan) → IsPlan p → (h : List Event) → IsLegal p h → (g i : ℕ) (a b : ValueState) (c : Call) → IsSlot p g i
-    → MayWin p (tables_at p h) g i a b c → map.get (map_of h) (key_of_call c) ≡ content_of a
+    → MayWin p (tables_at p h) g i a b c → map.get (map_of h) (key_of_call c) ≡ number_in_value a
 
 -- All tables below the top word are complete.
 abbrev pub TopComplete : Type 0
@@ -418,7 +418,7 @@ OwnLasts = (p : Plan) (later h : List Event) (s : ℕ) → All (λ e. seat_of_ev
 abbrev pub WinReplies : Type 0
 WinReplies =
     (p : Plan) → IsPlan p → (h : List Event) → IsLegal p h → (s g i : ℕ) (a b : ValueState) (c : Call) → IsSlot p g i
-    → MayWin p (tables_at p h) g i a b c → Replies (map_of h) (Won s g i a b c (record { before = content_of a; matched = true }))
+    → MayWin p (tables_at p h) g i a b c → Replies (map_of h) (Won s g i a b c (record { before = number_in_value a; matched = true }))
 
 -- A call that leaves alone what the map has at its key may reply it.
 abbrev pub ReadReplies : Type 0

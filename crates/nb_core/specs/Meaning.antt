@@ -121,7 +121,7 @@ net_of (c ∷ calls) = net_of_call c.0 c.1 +ℤ net_of calls
 abbrev pub beginning : List Event → ℕ → List Event
 beginning h n = drop (length h - n) h
 
--- the map has the key all the while, from the first n events to the first m
+-- the map has the key all the while, from the first n events to the first m (a walk must meet such a key)
 abbrev pub HeldThrough : List Event → ℕ → ℕ → ℕ → Type 0
 HeldThrough h n m k = (l : ℕ) → n ≤ l → l ≤ m → IsTrue (map.contains_key (map_of (beginning h l)) k)
 
@@ -152,7 +152,8 @@ place_from p t k g (suc tables) = first_place (option_map (λ i. (g, i)) (slot_a
 abbrev pub place_of : Plan → List Event → ℕ → ℕ → Option (ℕ × ℕ)
 place_of p h g k = place_from p (tables_at p h) k g (generations_of p - g)
 
--- One place comes before another: in an earlier table, or in an earlier slot of the same one. The end comes after all.
+-- One place comes before another, as a walk meets them: in an earlier table, or in an earlier slot of the same one. The end comes
+-- after all.
 abbrev pub IsBefore : Option (ℕ × ℕ) → Option (ℕ × ℕ) → Type 0
 IsBefore None later = ⊥
 IsBefore (Some a) None = Unit {0}

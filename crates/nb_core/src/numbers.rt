@@ -39,6 +39,7 @@ impl Model for Key {
 }
 
 impl Key {
+    /// The key of a number, if it is at most [`KEY_MAX`].
     pub const fn new(key: u64) -> Result<Key, RangeFault>
         ensures { result ≡ (if nat_le key KEY_MAX then Ok key else Err RangeFault.KeyRange) }
     {
@@ -47,6 +48,14 @@ impl Key {
         } else {
             Err(RangeFault::KeyRange)
         }
+    }
+
+    /// The key of a number that is known to be one. It makes no test of that.
+    pub(crate) const fn in_range(key: u64) -> Key
+        requires { key ≤ KEY_MAX }
+        ensures { result ≡ key }
+    {
+        Key { key }
     }
 
     pub const fn get(self) -> u64
@@ -82,6 +91,7 @@ impl Model for Num {
 }
 
 impl Num {
+    /// The value number of a number, if it is at most [`VALUE_MAX`].
     pub const fn new(number: u64) -> Result<Num, RangeFault>
         ensures { result ≡ (if nat_le number VALUE_MAX then Ok number else Err RangeFault.ValueRange) }
     {

@@ -2,7 +2,7 @@
 ghost use Rattle.std.specs.Prelude.{◌≡◌, ◌<◌, ◌≤◌, All, length};
 ghost use Rattle.std.specs.List.Sorted.{IsNonDecreasing};
 ghost use Rattle.nb_core.specs.Plans.{IsPlan, base_of, checked_plan, checked_shape, generations_of, header_place, key_place, limit_of, seated, size_of, value_place, word_count};
-ghost use Rattle.nb_core.specs.Tables.{path_slot};
+ghost use Rattle.nb_core.specs.Tables.{chunk_of, path_slot};
 
 use crate::numbers::Key;
 use std::marker::Model;
@@ -24,7 +24,16 @@ pub enum ShapeFault {
 }
 
 /// The most tables of a chain.
-const MAX_GENERATIONS: usize = 16;
+pub const MAX_GENERATIONS: usize = 16;
+
+/// The most seats of a chain.
+pub const MAX_SEATS: usize = 8;
+
+/// The most stripes of a counter.
+pub const MAX_STRIPES: usize = 8;
+
+/// The most slots that are handed out for copying at once.
+const CHUNK: usize = 8;
 
 /// The shape of a chain of tables: how many slots each table has, how many seats may call, and over how many
 /// stripes a size is counted. A contract sees its plan. It takes no memory, and it answers in a few instructions:
@@ -88,10 +97,10 @@ impl Shape {
         requires never_fall { IsNonDecreasing exponents.now }
         ensures { result ≡ seated exponents.now seats stripes }
     {
-        if !(1..=8).contains(&seats) {
+        if !(1..=MAX_SEATS).contains(&seats) {
             return Err(ShapeFault::Seats);
         }
-        if !(1..=8).contains(&stripes) {
+        if !(1..=MAX_STRIPES).contains(&stripes) {
             return Err(ShapeFault::Stripes);
         }
         let mut kept = [0; MAX_GENERATIONS];
@@ -136,24 +145,28 @@ impl Shape {
         let _ = &self.generations;
     }
 
+    /// How many tables there are.
     pub fn generations(&self) -> u32
         ensures { result ≡ generations_of self.now }
     {
         u32::from(self.generations)
     }
 
+    /// How many seats may call.
     pub fn seats(&self) -> usize
         ensures { result ≡ self.now.seats }
     {
         usize::from(self.seats)
     }
 
+    /// Over how many stripes a size is counted.
     pub fn stripes(&self) -> usize
         ensures { result ≡ self.now.stripes }
     {
         usize::from(self.stripes)
     }
 
+    /// How many slots table `g` has, a power of two.
     pub fn size_of(&self, g: u32) -> usize
         requires { g < generations_of self.now }
         ensures { result ≡ size_of self.now g }
@@ -161,7 +174,16 @@ impl Shape {
         1 << self.exponents[g as usize]
     }
 
-    /// How many slots of its path a key may be claimed in by a fresh writer: in the last table, all.
+    /// How many slots of table `g` are handed out for copying at once: 8, or all of a smaller table.
+    pub fn chunk_of(&self, g: u32) -> usize
+        requires { g < generations_of self.now }
+        ensures { result ≡ chunk_of self.now g }
+    {
+        self.size_of(g).min(CHUNK)
+    }
+
+    /// How many slots of its path in table `g` a key that has no slot in the table below may be claimed in: `2 + size / 4`,
+    /// and in the last table all. The idea is `reprobe_limit` of high-scale-lib.
     pub fn limit_of(&self, g: u32) -> usize
         requires { g < generations_of self.now }
         ensures { result ≡ limit_of self.now g }
@@ -196,6 +218,7 @@ impl Shape {
         self.bases[g as usize] as usize + h
     }
 
+    /// The place of the key word of slot `i` of table `g`.
     pub fn key_place(&self, g: u32, i: usize) -> usize
         requires table { g < generations_of self.now }
         requires slot { i < size_of self.now g }
@@ -204,6 +227,7 @@ impl Shape {
         self.bases[g as usize] as usize + 3 + 2 * i
     }
 
+    /// The place of the value word of slot `i` of table `g`, behind its key word.
     pub fn value_place(&self, g: u32, i: usize) -> usize
         requires table { g < generations_of self.now }
         requires slot { i < size_of self.now g }

@@ -62,7 +62,7 @@ pub fn decode_key(word: u64) -> KeyState
     match word {
         0 => KeyState::Empty,
         1 => KeyState::Dead,
-        _ => KeyState::Claimed(Key::new(word - 2).unwrap()),
+        _ => KeyState::Claimed(Key::in_range(word - 2)),
     }
 }
 

@@ -6,7 +6,7 @@ use Rattle.std.proofs.lemmas.Bool.{eq-eqb, ne_eqb}
 use Rattle.std.proofs.lemmas.List.{append-nil}
 use Rattle.std.proofs.lemmas.List.Elements.{All-cons, All-head, All-nil, All-tail}
 use Rattle.nb_core.specs.Calls.{leaves_alone, reply_at}
-use Rattle.nb_core.specs.History.{IsLegal, content_of, key_of_call, map_of, seat_of_event}
+use Rattle.nb_core.specs.History.{IsLegal, number_in_value, key_of_call, map_of, seat_of_event}
 use Rattle.nb_core.specs.Laws.{Decided, IsPassed, LostExchange, PassedOverAdds, PassedSettled, Shows}
 use Rattle.nb_core.specs.Meaning.{calls_of, passed_over}
 use Rattle.nb_core.specs.Plans.{IsPlan, Plan, generations_of}
@@ -31,7 +31,7 @@ use Rattle.nb_map.specs.Writing.{passed_since}
 -- ---- what a value shows
 
 -- a value that shows something isn't primed, and shows the number in it
-pub shown-some : (v : ValueState) (number : Option ℕ) → shown_by_value v ≡ Some number → IsUnprimed v × (content_of v ≡ number)
+pub shown-some : (v : ValueState) (number : Option ℕ) → shown_by_value v ≡ Some number → IsUnprimed v × (number_in_value v ≡ number)
 shown-some Null number is = let same : ◌≡◌ {A = Option (Option ℕ)} (Some None) (Some number) = is in (tt, cc)
 shown-some Tombstone number is = let same : ◌≡◌ {A = Option (Option ℕ)} (Some None) (Some number) = is in (tt, cc)
 shown-some (Live n) number is = let same : ◌≡◌ {A = Option (Option ℕ)} (Some (Some n)) (Some number) = is in (tt, cc)
@@ -188,7 +188,7 @@ shown-decided law chain seat plan own legal g i k slot reached claimed v number 
     let slot' = subst (λ p. IsSlot p g i) (sym own.1) slot in
     law seat.shape (subst IsPlan (sym own.1) plan) seat.seen legal g k slot'.0 reached.installed
     (λ f below. subst (λ p. IsPassed p (seen_by seat) f k) (sym own.1) (reached.below f below)) number
-    (Shows.AtValue i slot'.1 claimed (subst IsUnprimed (sym held) value.0) (sym value.1 ∙ ap content_of (sym held)))
+    (Shows.AtValue i slot'.1 claimed (subst IsUnprimed (sym held) value.0) (sym value.1 ∙ ap number_in_value (sym held)))
 
 module _ (law : StepsAddUp) (chain : ChainOf) (plan : IsPlan chain.shape) where
   abbrev p : Plan
@@ -217,11 +217,11 @@ module _ (law : StepsAddUp) (chain : ChainOf) (plan : IsPlan chain.shape) where
 
   -- an exchange that was won
   pub made-won :
-      {call : Call} {before after : SeenBy} {g i : ℕ} {from to : ValueState} (number : Option ℕ) → content_of from ≡ number
-      → Extended before after (Won before.number g i from to call (record { before = content_of from; matched = true }) ∷ []) 1
+      {call : Call} {before after : SeenBy} {g i : ℕ} {from to : ValueState} (number : Option ℕ) → number_in_value from ≡ number
+      → Extended before after (Won before.number g i from to call (record { before = number_in_value from; matched = true }) ∷ []) 1
       → HasMade p call before after ((call, record { before = number; matched = true }) ∷ []) 1
   made-won {call} {before} {after} {g} {i} {from} {to} number is step =
-      let reply : Reply = record { before = content_of from; matched = true } in
+      let reply : Reply = record { before = number_in_value from; matched = true } in
       made-step law p call step
       (ap (λ b. cond b ((call, reply) ∷ []) []) (eq-eqb before.number before.number refl)
       ∙ ap (λ n. (call, record { before = n; matched = true }) ∷ []) is)

@@ -1,6 +1,6 @@
 -- What the steps of one call of the map do.
-use Rattle.std.specs.Prelude.{◌≡◌, ℕ, ◌<◌, ◌≤◌, ◌⊎◌, false, if◌then◌else◌, List, [], ◌∷◌, All, Option, None}
-use Rattle.nb_core.specs.Calls.{leaves_alone, reply_at}
+use Rattle.std.specs.Prelude.{◌≡◌, ℕ, ◌<◌, ◌≤◌, ◌⊎◌, if◌then◌else◌, List, [], ◌∷◌, All, Option}
+use Rattle.nb_core.specs.Calls.{Fills, leaves_alone, reply_at}
 use Rattle.nb_core.specs.History.{key_of_call}
 use Rattle.nb_core.specs.Meaning.{calls_of}
 use Rattle.nb_core.specs.Plans.{Plan, generations_of}
@@ -8,25 +8,16 @@ use Rattle.nb_core.specs.Tables.{HasSlotBelow, Tables}
 use Rattle.nb_core.specs.declared.calls.Call.{Call}
 use Rattle.nb_core.specs.declared.calls.Reply.{Reply}
 use Rattle.nb_core.specs.declared.events.Event.{Event}
-use Rattle.nb_core.specs.declared.events.Event.TheVariants.{Claim, Kill, Won, CopyIn, Prime, Finish, Install, Take, Count, Promote, Read}
+use Rattle.nb_core.specs.declared.events.Event.TheVariants.{Claim, Install}
 use Rattle.nb_table.specs.Chains.{Grown, SeenBy, seen_by}
 
--- The call may make the event. Copying is free to every call. A table is installed, and a slot claimed for a key that has
--- none in the table below, only for the call's own key, and only by a put or an add whose condition holds of an absent key:
--- a call that doesn't leave an absent key absent.
+-- The call may make the event. Copying is free to every call, and `HasMade` tells of wins and reads. A table is installed, and
+-- a slot claimed for a key that has none in the table below, only for the call's own key, and only by a put or an add whose
+-- condition holds of an absent key.
 abbrev pub MayMake : Plan → Tables → Call → Event → Type 0
-MayMake p t call (Claim s g i k) =
-    (g < generations_of p) × (HasSlotBelow p t g k ⊎ ((k ≡ key_of_call call) × (leaves_alone call None ≡ false)))
-MayMake p t call (Kill s g i) = Unit {0}
-MayMake p t call (Won s g i a b c r) = Unit {0}
-MayMake p t call (CopyIn s g i k n) = Unit {0}
-MayMake p t call (Prime s g i) = Unit {0}
-MayMake p t call (Finish s g i) = Unit {0}
-MayMake p t call (Install s g k) = (k ≡ key_of_call call) × (leaves_alone call None ≡ false)
-MayMake p t call (Take s g) = Unit {0}
-MayMake p t call (Count s g c) = Unit {0}
-MayMake p t call (Promote s g) = Unit {0}
-MayMake p t call (Read s c r) = Unit {0}
+MayMake p t call (Claim s g i k) = (g < generations_of p) × (HasSlotBelow p t g k ⊎ ((k ≡ key_of_call call) × Fills call))
+MayMake p t call (Install s g k) = (k ≡ key_of_call call) × Fills call
+MayMake p t call _ = Unit {0}
 
 -- Among what the seat has seen anew, its own events are such as the call may make. Its own wins and reads among them are
 -- these calls with their replies. They took at most so many steps.

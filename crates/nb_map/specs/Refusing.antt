@@ -1,6 +1,6 @@
 -- What a write comes to, and when it is refused.
-use Rattle.std.specs.Prelude.{◌≡◌, ℕ, suc, ◌+◌, ◌-◌, ◌*◌, ◌≤◌, true, false, List, [], ◌∷◌, None}
-use Rattle.nb_core.specs.Calls.{leaves_alone, overflows}
+use Rattle.std.specs.Prelude.{◌≡◌, ℕ, suc, ◌+◌, ◌-◌, ◌*◌, ◌≤◌, true, List, [], ◌∷◌}
+use Rattle.nb_core.specs.Calls.{Fills, overflows}
 use Rattle.nb_core.specs.History.{key_of_call, map_of}
 use Rattle.nb_core.specs.Meaning.{IsCrowded}
 use Rattle.nb_core.specs.Plans.{Plan, generations_of, size_of}
@@ -23,7 +23,7 @@ use Rattle.nb_map.specs.declared.write.Written.TheVariants as written
 -- absent key, and other keys have all slots of the last table; and past the range only where it is an add whose sum is, in
 -- the map of what the seat has seen.
 abbrev pub IsJustAdd : Plan → Call → SeenBy → AddFault → Type 0
-IsJustAdd p call after add_fault.Full = (leaves_alone call None ≡ false) × IsCrowded p after.seen (key_of_call call)
+IsJustAdd p call after add_fault.Full = Fills call × IsCrowded p after.seen (key_of_call call)
 IsJustAdd p call after add_fault.ValueRange = overflows call (map_of after.seen) ≡ true
 
 -- Why a write with so many tries may be refused: for these reasons, and contended only where others have won as many
@@ -44,7 +44,7 @@ abbrev pub IsTarget : Plan → Call → SeenBy → (g k : ℕ) → Target → Ty
 IsTarget p call seat g k (target.Slot i) = IsSlotOf p (seen_by seat) g i k
 IsTarget p call seat g k (target.Absent reply) = Unit {0}
 IsTarget p call seat g k (target.Above below) = IsAbove p (seen_by seat) g k × HasBelow p (seen_by seat) (suc g) k below
-IsTarget p call seat g k target.Full = (leaves_alone call None ≡ false) × IsCrowded p seat.seen k
+IsTarget p call seat g k target.Full = Fills call × IsCrowded p seat.seen k
 
 -- the call, where the search was its read
 abbrev pub made_at : Call → Target → List (Call × Reply)

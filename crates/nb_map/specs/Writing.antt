@@ -2,7 +2,7 @@
 use Rattle.std.specs.Prelude.{◌≡◌, ℕ, zero, suc, ◌+◌, ◌*◌, true, false, length, Option}
 use Rattle.std.specs.FinMap as map
 use Rattle.nb_core.specs.Calls.{Numbers, leaves_alone, overflows, reply_at}
-use Rattle.nb_core.specs.History.{IsExchange, content_of, key_of_call}
+use Rattle.nb_core.specs.History.{IsExchange, number_in_value, key_of_call}
 use Rattle.nb_core.specs.Meaning.{IsCrowded, passed_over}
 use Rattle.nb_core.specs.Plans.{Plan, size_of}
 use Rattle.nb_core.specs.Tables.{HasSlotBelow, IsReady, IsUnprimed, Tables}
@@ -26,7 +26,7 @@ abbrev pub IsDecided : Call → Option ℕ → Decision → Type 0
 IsDecided call number (decision.Leave reply) = (leaves_alone call number ≡ true) × (reply ≡ reply_at call number)
 IsDecided call number (decision.Exchange to) =
     (leaves_alone call number ≡ false) × (reply_at call number ≡ record { before = number; matched = true })
-    × ((from : ValueState) → IsUnprimed from → content_of from ≡ number → IsExchange call (key_of_call call) from to)
+    × ((from : ValueState) → IsUnprimed from → number_in_value from ≡ number → IsExchange call (key_of_call call) from to)
 IsDecided call number decision.Overflow =
     (leaves_alone call number ≡ false) × ((m : Numbers) → map.get m (key_of_call call) ≡ number → overflows call m ≡ true)
 

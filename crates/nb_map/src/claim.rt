@@ -1,6 +1,6 @@
 //! A slot for the key of a call that puts a number at an absent key.
-ghost use Rattle.std.specs.Prelude.{◌≡◌, ◌≢◌, ℕ, ◌+◌, ◌-◌, ◌<◌, ◌≤◌, [], false, None, suc, IfSome, IfNone};
-ghost use Rattle.nb_core.specs.Calls.{leaves_alone};
+ghost use Rattle.std.specs.Prelude.{◌≡◌, ◌≢◌, ℕ, ◌+◌, ◌-◌, ◌<◌, ◌≤◌, [], suc, IfSome, IfNone};
+ghost use Rattle.nb_core.specs.Calls.{Fills};
 ghost use Rattle.nb_core.specs.History.{key_of_call};
 ghost use Rattle.nb_core.specs.Plans.{generations_of, limit_of, size_of};
 ghost use Rattle.nb_core.specs.Tables.{AreOthers, IsComplete, IsInstalled, IsReady};
@@ -51,7 +51,7 @@ pub(crate) fn find_or_claim(
 ) -> Found
     requires own { IsOwn chain.now seat.old }
     requires key { key_of_call call.now ≡ key }
-    requires acts { leaves_alone call.now None ≡ false }
+    requires acts { Fills call.now }
     requires reached { IsReached chain.now.shape (seen_by seat.old) g key }
     requires below { HasBelow chain.now.shape (seen_by seat.old) g key below }
     ensures made { HasMade chain.now.shape call.now seat.old seat.new [] (find_steps chain.now.shape g) }
@@ -92,7 +92,7 @@ fn claim_at(
 ) -> Option<Found>
     requires own { IsOwn chain.now seat.old }
     requires key { key_of_call call.now ≡ key }
-    requires acts { leaves_alone call.now None ≡ false }
+    requires acts { Fills call.now }
     requires installed { IsInstalled (seen_by seat.old) g }
     requires below { HasBelow chain.now.shape (seen_by seat.old) g key below }
     requires known { below ≢ below_is.Passed }
@@ -142,7 +142,7 @@ fn leave_whole(
 ) -> Found
     requires own { IsOwn chain.now seat.old }
     requires key { key_of_call call.now ≡ key }
-    requires acts { leaves_alone call.now None ≡ false }
+    requires acts { Fills call.now }
     requires installed { IsInstalled (seen_by seat.old) g }
     requires below { HasBelow chain.now.shape (seen_by seat.old) g key below }
     requires others { AreOthers chain.now.shape (seen_by seat.old) g key (size_of chain.now.shape g) }
@@ -167,7 +167,7 @@ fn leave_whole(
 fn grow(chain: &Chain, seat: &mut ChainSeat, g: u32, key: Key, call: &Call, below: Below)
     requires own { IsOwn chain.now seat.old }
     requires key { key_of_call call.now ≡ key }
-    requires acts { leaves_alone call.now None ≡ false }
+    requires acts { Fills call.now }
     requires room { suc g < generations_of chain.now.shape }
     requires installed { IsInstalled (seen_by seat.old) g }
     requires below { HasBelow chain.now.shape (seen_by seat.old) g key below }

@@ -1,6 +1,6 @@
 //! The search for a key in one table.
-ghost use Rattle.std.specs.Prelude.{◌≡◌, ◌+◌, ◌-◌, ◌<◌, ◌≤◌, ◌⊎◌, [], true, false, None};
-ghost use Rattle.nb_core.specs.Calls.{leaves_alone};
+ghost use Rattle.std.specs.Prelude.{◌≡◌, ◌+◌, ◌-◌, ◌<◌, ◌≤◌, ◌⊎◌, [], true, None};
+ghost use Rattle.nb_core.specs.Calls.{Fills, leaves_alone};
 ghost use Rattle.nb_core.specs.History.{key_of_call};
 ghost use Rattle.nb_core.specs.Plans.{size_of};
 ghost use Rattle.nb_core.specs.Tables.{AreOthers, IsSlot, IsUnprimed};
@@ -53,7 +53,7 @@ pub(crate) fn walk_path(
     requires reached { IsReached chain.now.shape (seen_by seat.old) g key }
     requires within { from ≤ size_of chain.now.shape g }
     requires others { AreOthers chain.now.shape (seen_by seat.old) g key from }
-    requires start { (from < size_of chain.now.shape g) ⊎ (leaves_alone call.now None ≡ false) }
+    requires start { (from < size_of chain.now.shape g) ⊎ Fills call.now }
     ensures made { HasMade chain.now.shape call.now seat.old seat.new (read_at chain.now.shape g call.now result)
         (walk_steps chain.now.shape g from result) }
     ensures ends { EndsAt chain.now.shape (seen_by seat.new) g key result }

@@ -10,7 +10,7 @@ use Rattle.nb_core.specs.Calls.{leaves_alone, reply_at}
 use Rattle.nb_core.specs.Plans.{Plan, IsPlan, generations_of, header_place, key_place, size_of, value_place}
 use Rattle.nb_core.specs.States.{key_state, value_state}
 use Rattle.nb_core.specs.Tables.{AreOthers, IsOnPath, IsSlot, IsUnprimed, Tables, path_slot, tables_at, tables_of, words_of}
-use Rattle.nb_core.specs.History.{IsCallInRange, IsLegal, content_of, key_of_call, map_of}
+use Rattle.nb_core.specs.History.{IsCallInRange, IsLegal, number_in_value, key_of_call, map_of}
 use Rattle.nb_core.specs.Laws.{Decided, Lasts, ReadReplies, SeenLasts, Shows, AtEmpty, AtValue, NoNext, InLast, TablesAreLinked}
 use Rattle.nb_core.specs.declared.calls.Call.{Call}
 use Rattle.nb_core.specs.declared.calls.Reply.{Reply}
@@ -112,7 +112,7 @@ value-shows :
     (p : Plan) (t : Tables) (g i k : ℕ) (state : ValueState) (n : Option ℕ) → IsSlot p g i → t.key g i ≡ Claimed k
     → t.value g i ≡ state → shown_by_value state ≡ Some n → Shows p t g k n
 value-shows p t g i k state n slot claimed is shown =
-    AtValue i slot.1 claimed (subst IsUnprimed (sym is) (unprimed state shown)) (content state shown ∙ ap content_of (sym is))
+    AtValue i slot.1 claimed (subst IsUnprimed (sym is) (unprimed state shown)) (content state shown ∙ ap number_in_value (sym is))
   where
     unprimed : (state : ValueState) → shown_by_value state ≡ Some n → IsUnprimed state
     unprimed Null shown = tt
@@ -123,7 +123,7 @@ value-shows p t g i k state n slot claimed is shown =
     unprimed (Primed m) shown = cc
     unprimed (Finished m) shown = cc
 
-    content : (state : ValueState) → shown_by_value state ≡ Some n → n ≡ content_of state
+    content : (state : ValueState) → shown_by_value state ≡ Some n → n ≡ number_in_value state
     content Null shown = shown-is None n shown
     content Tombstone shown = shown-is None n shown
     content (Live m) shown = shown-is (Some m) n shown

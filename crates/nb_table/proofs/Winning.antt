@@ -5,7 +5,7 @@ use Rattle.std.specs.Option.{unwrap_or}
 use Rattle.nb_core.specs.Plans.{Plan, IsPlan, PlacesAreDistinct, value_place}
 use Rattle.nb_core.specs.States.{value_state, value_word}
 use Rattle.nb_core.specs.Tables.{IsSettledBelow, IsSlot, IsUnprimed, tables_at, words_of}
-use Rattle.nb_core.specs.History.{IsCallInRange, IsExchange, MayWin, content_of, key_of_call}
+use Rattle.nb_core.specs.History.{IsCallInRange, IsExchange, MayWin, number_in_value, key_of_call}
 use Rattle.nb_core.specs.Laws.{BeginningsAreLegal, Codings, LawfulWords, SeenLasts, WinReplies}
 use Rattle.nb_core.specs.declared.calls.Call.{Call}
 use Rattle.nb_core.specs.declared.events.Event.{Event}
@@ -21,7 +21,7 @@ use Rattle.nb_table.proofs.Values.{value-kept, value-made}
 
 -- the event of a call that puts a value in place of another
 abbrev win : ℕ → ℕ → ℕ → ValueState → ValueState → Call → Event
-win number g i from to call = Won number g i from to call (record { before = content_of from; matched = true })
+win number g i from to call = Won number g i from to call (record { before = number_in_value from; matched = true })
 
 -- the events by the words of two values are those by the values
 pub wins-of :

@@ -2,7 +2,7 @@
 -- changes its word.
 use Rattle.std.specs.Prelude.{ℕ, suc, ◌-◌, ◌%◌, ◌==◌, ◌&&◌, nat_le, Bool, true, not, if◌then◌else◌, List, [], ◌∷◌, Option, Some, None}
 use Rattle.nb_core.specs.Calls.{leaves_alone, reply_at}
-use Rattle.nb_core.specs.History.{content_of, key_of_call}
+use Rattle.nb_core.specs.History.{number_in_value, key_of_call}
 use Rattle.nb_core.specs.Plans.{Plan, generations_of, size_of}
 use Rattle.nb_core.specs.States.{value_word}
 use Rattle.nb_core.specs.Tables.{path_slot}
@@ -33,7 +33,7 @@ kills number g i found = only (found == 0) (Kill number g i)
 -- a call wins its exchange where it finds the value that it replaces, and replies the content of that
 abbrev pub wins : (number g i : ℕ) (from to : ValueState) (call : Call) → ℕ → List Event
 wins number g i from to call found =
-    only (found == value_word from) (Won number g i from to call (record { before = content_of from; matched = true }))
+    only (found == value_word from) (Won number g i from to call (record { before = number_in_value from; matched = true }))
 
 -- a number is copied only where the value is null
 abbrev pub copies : (number g i k n : ℕ) → ℕ → List Event

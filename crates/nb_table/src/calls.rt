@@ -1,6 +1,6 @@
 //! The steps by which calls change the map.
 ghost use Rattle.std.specs.Prelude.{◌≡◌, ◌≢◌, true, [], ◌∷◌};
-ghost use Rattle.nb_core.specs.History.{IsCallInRange, IsExchange, content_of, key_of_call};
+ghost use Rattle.nb_core.specs.History.{IsCallInRange, IsExchange, number_in_value, key_of_call};
 ghost use Rattle.nb_core.specs.Tables.{IsSettledBelow, IsSlot, IsUnprimed};
 ghost use Rattle.nb_core.specs.declared.events.Event.TheVariants as event;
 ghost use Rattle.nb_core.specs.declared.states.KeyState.TheVariants as key_is;
@@ -49,7 +49,7 @@ impl Chain {
         requires exchange { IsExchange call (key_of_call call) from to }
         ensures won { result ≡ from
             → Extended seat.old seat.new
-            (event.Won seat.old.number g i from to call (record { before = content_of from; matched = true }) ∷ []) 1
+            (event.Won seat.old.number g i from to call (record { before = number_in_value from; matched = true }) ∷ []) 1
             × ((seen_by seat.new).value g i ≡ to) }
         ensures lost { result ≢ from → Extended seat.old seat.new [] 1 × ((seen_by seat.new).value g i ≡ result) }
     {

@@ -1,5 +1,5 @@
 use Rattle.std.proofs.Common.{◌*◌, ◌≡◌, true, false, suc, inl, inr, ap, subst, arith}
-use Rattle.nb_core.specs.History.{is_empty_content}
+use Rattle.nb_core.specs.History.{is_finished_by_priming}
 use Rattle.nb_core.specs.Plans.{IsPlan, size_of}
 use Rattle.nb_copy.proofs.SlotsFinished.{copied-prime, primed-first, primed-last}
 use Rattle.nb_copy.proofs.slots.prime_value.Goals as goal
@@ -25,8 +25,8 @@ returns-in-Null-clause-copied c =
     let plan = subst IsPlan c.shape.ensures c.known.ensures in
     let prime = copied-prime c.steps_add_up.ensures c.own_lasts.ensures c.args.chain.now plan c.args.g c.requires.slot.0 _ c.args.i c.prime.result
     c.requires.own c.prime.ensures.won c.prime.ensures.lost in
-    let turned : is_empty_content c.prime.result ≡ true = elim c.in-Null.is [ inl e ↦ ap is_empty_content e | inr e ↦ ap is_empty_content e ] in
-    primed-last c.steps_add_up.ensures c.own_lasts.ensures c.args.chain.now plan c.args.g c.requires.slot.0 c.args.i _ (is_empty_content c.prime.result)
+    let turned : is_finished_by_priming c.prime.result ≡ true = elim c.in-Null.is [ inl e ↦ ap is_finished_by_priming e | inr e ↦ ap is_finished_by_priming e ] in
+    primed-last c.steps_add_up.ensures c.own_lasts.ensures c.args.chain.now plan c.args.g c.requires.slot.0 c.args.i _ (is_finished_by_priming c.prime.result)
     true turned (omega arith) prime
 
 pub returns-in-PrimedNull-clause-copied : goal.returns-in-PrimedNull-clause-copied
@@ -34,11 +34,11 @@ returns-in-PrimedNull-clause-copied c =
     let plan = subst IsPlan c.shape.ensures c.known.ensures in
     let prime = copied-prime c.steps_add_up.ensures c.own_lasts.ensures c.args.chain.now plan c.args.g c.requires.slot.0 _ c.args.i c.prime.result
     c.requires.own c.prime.ensures.won c.prime.ensures.lost in
-    let turned : is_empty_content c.prime.result ≡ false = elim c.in-PrimedNull.is [
-      | inl e ↦ ap is_empty_content e
-      | inr others ↦ elim others [ inl e ↦ ap is_empty_content e | inr e ↦ ap is_empty_content e.1 ]
+    let turned : is_finished_by_priming c.prime.result ≡ false = elim c.in-PrimedNull.is [
+      | inl e ↦ ap is_finished_by_priming e
+      | inr others ↦ elim others [ inl e ↦ ap is_finished_by_priming e | inr e ↦ ap is_finished_by_priming e.1 ]
     ] in
-    primed-last c.steps_add_up.ensures c.own_lasts.ensures c.args.chain.now plan c.args.g c.requires.slot.0 c.args.i _ (is_empty_content c.prime.result)
+    primed-last c.steps_add_up.ensures c.own_lasts.ensures c.args.chain.now plan c.args.g c.requires.slot.0 c.args.i _ (is_finished_by_priming c.prime.result)
     false turned (omega arith) prime
 
 pub returns-in-Live-clause-copied : goal.returns-in-Live-clause-copied
@@ -46,6 +46,6 @@ returns-in-Live-clause-copied c =
     let plan = subst IsPlan c.shape.ensures c.known.ensures in
     let prime = copied-prime c.steps_add_up.ensures c.own_lasts.ensures c.args.chain.now plan c.args.g c.requires.slot.0 _ c.args.i c.prime.result
     c.requires.own c.prime.ensures.won c.prime.ensures.lost in
-    let not_turned : is_empty_content c.prime.result ≡ false = elim c.in-Live.is [ inl e ↦ ap is_empty_content e | inr e ↦ ap is_empty_content e ] in
+    let not_turned : is_finished_by_priming c.prime.result ≡ false = elim c.in-Live.is [ inl e ↦ ap is_finished_by_priming e | inr e ↦ ap is_finished_by_priming e ] in
     primed-first c.steps_add_up.ensures c.own_lasts.ensures c.args.chain.now plan c.args.g c.requires.slot.0 c.args.i
-    (2 * size_of c.args.chain.now.shape (suc c.args.g)) (is_empty_content c.prime.result) c.requires.own not_turned prime c.copy_number.ensures.copied
+    (2 * size_of c.args.chain.now.shape (suc c.args.g)) (is_finished_by_priming c.prime.result) c.requires.own not_turned prime c.copy_number.ensures.copied
