@@ -8,14 +8,14 @@ use Rattle.clap.specs.declared.parser.matches.ArgMatches.{ArgMatches}
 use Rattle.nb_core.specs.Plans.{Plan}
 use Rattle.nb_run.specs.declared.options.OptionFault.{OptionFault}
 use Rattle.nb_run.specs.declared.options.OptionFault.TheVariants.{Usage, Help, OutOfMemory}
-use Rattle.nb_run.specs.Options.{AreGiven, GivesNone, IsDue, IsFaultOf, IsFound, IsRefused, nbrun}
+use Rattle.nb_run.specs.Options.{AreGiven, ComesTo, GivesNone, IsDue, IsFound, IsRefused, nbrun}
 
 -- the fault of an error of clap's
 pub is_due : (app : App) (words : List Text) (k : ErrorKind) (fault : OptionFault) → app ≡ nbrun
-    → (is_simple_and_free app ≡ true → (k ≡ kind.OutOfMemory) ⊎ IsAmong k (fault_of app words)) → IsFaultOf k fault → IsDue words fault
+    → (is_simple_and_free app ≡ true → (k ≡ kind.OutOfMemory) ⊎ IsAmong k (fault_of app words)) → ComesTo k fault → IsDue words fault
 is_due app words k fault is kinds h = go fault (subst (λ (a : App). is_simple_and_free a ≡ true → (k ≡ kind.OutOfMemory) ⊎ IsAmong k (fault_of a words)) is kinds refl) h
   where
-    go : (x : OptionFault) → (k ≡ kind.OutOfMemory) ⊎ IsAmong k (fault_of nbrun words) → IsFaultOf k x → IsDue words x
+    go : (x : OptionFault) → (k ≡ kind.OutOfMemory) ⊎ IsAmong k (fault_of nbrun words) → ComesTo k x → IsDue words x
     go Usage (inl memory) h = absurd (h.0 memory)
     go Usage (inr among) h = inl (k, among, h.1)
     go (Help text) (inl memory) h =

@@ -15,9 +15,8 @@ use Rattle.nb_map.specs.Ending.{EndedOf, EndedWith}
 use Rattle.nb_map.specs.Maps.{AreMine, IsMine, MapOf, SeatOf, new_seat}
 use Rattle.nb_map.specs.Maps as maps
 use Rattle.nb_run.specs.Outcomes.{HaveWorkers, IsOutcome, lists_in, text_of_outcome}
-use Rattle.nb_run.specs.Output.{AreFirst, AreJoined, ending_of}
 use Rattle.nb_run.specs.Script.{Phase}
-use Rattle.nb_run.specs.Text.{ending}
+use Rattle.nb_run.specs.Text.{ending, ending_of}
 use Rattle.nb_run.specs.Told.{ArePhasesTold, IsLoneText, all_commands, phase_text}
 use Rattle.nb_run.specs.Working.{AreNumbered, HasRoom, HaveRun, HaveRunAll, all_answers, answers_of, commands_of, joined, seats_of}
 use Rattle.nb_run.specs.declared.answers.Answer.{Answer}
@@ -25,7 +24,7 @@ use Rattle.nb_run.specs.declared.outcome.Outcome.{Outcome}
 use Rattle.nb_run.specs.declared.workers.Worker.{Worker}
 use Rattle.nb_run.proofs.Fullness.{crowd-ended}
 use Rattle.nb_run.proofs.LoneText.{lone-text}
-use Rattle.nb_run.proofs.OutputLemmas.{joined-answers, joined-lines}
+use Rattle.nb_run.proofs.OutputLemmas.{AreFirst, AreJoined, joined-answers, joined-lines}
 use Rattle.nb_run.proofs.PhaseLemmas.{AnswersFit, PhaseFits, answers-fit, answers-workers}
 use Rattle.nb_run.proofs.ToldLemmas.{MayFill, told-phases}
 

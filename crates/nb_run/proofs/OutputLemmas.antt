@@ -5,7 +5,7 @@ use Rattle.std.proofs.Math.Seq.{drop-append_seam, drop-cons, take-append_seam}
 use Rattle.std.proofs.lemmas.Bool.{cases_eq}
 use Rattle.std.proofs.lemmas.List.Elements.{All-head, All-tail}
 use Rattle.std.proofs.lemmas.List.{drop-drop, get_or-set_other, get_or-set_same}
-use Rattle.nb_run.specs.Output.{AreAnswersOf, AreFirst, AreJoined, after_phase, all_lines, left, phase_lines}
+use Rattle.nb_run.specs.Output.{AreAnswersOf, after_phase, all_lines, left, phase_lines}
 use Rattle.nb_run.specs.Script.{Bytes, Phase}
 use Rattle.nb_run.specs.Text.{answer_line}
 use Rattle.nb_run.specs.Told.{phase_text}
@@ -106,7 +106,22 @@ module _ {V : Type 0} (f : V → Phase) (vs : List V) where
       ap (λ phases. length (flat_map (commands_of w) phases)) (rest-next i v below is)
       ∙ length-append (commands_of w (f v)) (flat_map (commands_of w) (map f (drop (i + 1) vs)))
 
--- ---- the answers of each phase
+-- ---- the answers of each phase, and those of all
+
+-- the lists of the workers from number w on are those of this phase, and then the rest
+abbrev pub AreFirst : Phase → (w : ℕ) → (first rest whole : List (List Answer)) → Type 0
+AreFirst phase w [] [] [] = Unit {0}
+AreFirst phase w (mine ∷ first) (others ∷ rest) (all ∷ whole) =
+    (length mine ≡ length (commands_of w phase)) × (all ≡ mine ++ others) × AreFirst phase (suc w) first rest whole
+AreFirst phase w _ _ _ = ⊥
+
+-- worker by worker, the answers of the phases make these lists
+abbrev pub AreJoined : List Phase → List (List (List Answer)) → (whole : List (List Answer)) → Type 0
+AreJoined [] [] whole = All (λ mine. mine ≡ []) whole
+AreJoined [] (first ∷ answers) whole = ⊥
+AreJoined (phase ∷ phases) [] whole = ⊥
+AreJoined (phase ∷ phases) (first ∷ answers) whole =
+    (rest : List (List Answer)) × AreFirst phase 0 first rest whole × AreJoined phases answers rest
 
 take-seam : (xs ys : List Answer) (n : ℕ) → length xs ≡ n → take n (xs ++ ys) ≡ xs
 take-seam xs ys n is = ap (λ m. take m (xs ++ ys)) (sym is) ∙ take-append_seam xs ys

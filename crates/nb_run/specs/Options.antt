@@ -107,7 +107,7 @@ IsDue words (Help text) = IsAmong DisplayHelp (fault_of nbrun words)
 IsDue words OutOfMemory = Unit {0}
 
 -- the fault that a kind of clap's error comes to, where the text of help may find no memory
-abbrev pub IsFaultOf : ErrorKind → OptionFault → Type 0
-IsFaultOf k Usage = (k ≢ kind.OutOfMemory) × (k ≢ DisplayHelp)
-IsFaultOf k (Help text) = k ≡ DisplayHelp
-IsFaultOf k OutOfMemory = (k ≡ kind.OutOfMemory) ⊎ (k ≡ DisplayHelp)
+abbrev pub ComesTo : ErrorKind → OptionFault → Type 0
+ComesTo k Usage = (k ≢ kind.OutOfMemory) × (k ≢ DisplayHelp)
+ComesTo k (Help text) = k ≡ DisplayHelp
+ComesTo k OutOfMemory = (k ≡ kind.OutOfMemory) ⊎ (k ≡ DisplayHelp)

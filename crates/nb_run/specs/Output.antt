@@ -1,9 +1,9 @@
 -- The output, written through a buffer from the workers' answers, each worker's in one list for all phases.
-use Rattle.std.specs.Prelude.{◌≡◌, ℕ, suc, List, [], ◌∷◌, ◌++◌, All, Option, codes, decimal, drop, length, slice_index, take}
+use Rattle.std.specs.Prelude.{◌≡◌, ℕ, suc, List, [], ◌∷◌, ◌++◌, Option, drop, length, slice_index, take}
 use Rattle.std.specs.Io.KnownBytes.{Appends}
 use Rattle.std.specs.List.{flat_map}
 use Rattle.nb_run.specs.Script.{Bytes, Phase}
-use Rattle.nb_run.specs.Text.{answer_line, entry_line}
+use Rattle.nb_run.specs.Text.{answer_line}
 use Rattle.nb_run.specs.Working.{commands_of}
 use Rattle.nb_run.specs.declared.answers.Answer.{Answer}
 
@@ -29,10 +29,6 @@ abbrev pub all_lines : List Phase → List (List Answer) → Bytes
 all_lines [] answers = []
 all_lines (phase ∷ phases) answers = phase_lines phase 0 answers ++ all_lines phases (after_phase phase 0 answers)
 
--- the size and the entries
-abbrev pub ending_of : ℕ → List (ℕ × ℕ) → Bytes
-ending_of size entries = codes "size " ++ decimal size ++ codes "\n" ++ flat_map entry_line entries
-
 -- Each worker from number w on has as many answers as it has commands in these phases.
 abbrev pub AreAnswersOf : List Phase → (w : ℕ) → List (List Answer) → Type 0
 AreAnswersOf phases w [] = Unit {0}
@@ -44,20 +40,3 @@ AreAnswersOf phases w (mine ∷ others) = (length mine ≡ length (flat_map (com
 abbrev pub left : (done : List ℕ) (w : ℕ) → List (List Answer) → List (List Answer)
 left done w [] = []
 left done w (mine ∷ others) = drop (slice_index done w) mine ∷ left done (suc w) others
-
--- ---- the answers of each phase, and those of all
-
--- the lists of the workers from number w on are those of this phase, and then the rest
-abbrev pub AreFirst : Phase → (w : ℕ) → (first rest whole : List (List Answer)) → Type 0
-AreFirst phase w [] [] [] = Unit {0}
-AreFirst phase w (mine ∷ first) (others ∷ rest) (all ∷ whole) =
-    (length mine ≡ length (commands_of w phase)) × (all ≡ mine ++ others) × AreFirst phase (suc w) first rest whole
-AreFirst phase w _ _ _ = ⊥
-
--- worker by worker, the answers of the phases make these lists
-abbrev pub AreJoined : List Phase → List (List (List Answer)) → (whole : List (List Answer)) → Type 0
-AreJoined [] [] whole = All (λ mine. mine ≡ []) whole
-AreJoined [] (first ∷ answers) whole = ⊥
-AreJoined (phase ∷ phases) [] whole = ⊥
-AreJoined (phase ∷ phases) (first ∷ answers) whole =
-    (rest : List (List Answer)) × AreFirst phase 0 first rest whole × AreJoined phases answers rest

@@ -37,7 +37,7 @@ pub record HasRunAsAsked (words : Words) (unread unread' written written' : Opti
   pub run : HasRun plan unread unread' written written'
 
 -- The words ask for help, and its text was written. Nothing was read.
-pub record HasHelped (words : Words) (unread unread' written written' : Option Bytes) : Type 0 where
+pub record HasShownHelp (words : Words) (unread unread' written written' : Option Bytes) : Type 0 where
   pub text : String Global
   pub asked : GiveNone words (option.Help text)
   pub unread_kept : unread' ≡ unread
@@ -49,15 +49,16 @@ pub record HasFault (words : Words) (unread unread' : Option Bytes) (f : RunFaul
   pub given : GiveOptions words plan
   pub due : IsFaultOf plan.seats unread unread' f
 
--- the words ask for help, and it is the writer that failed
-abbrev pub IsHelpFault : Words → RunFault → Type 0
-IsHelpFault words f = (f ≡ run.Write) × ((text : String Global) × GiveNone words (option.Help text))
+-- The words ask for help, and it is the writer that failed. Nothing was read.
+abbrev pub IsHelpFault : Words → Option Bytes → Option Bytes → RunFault → Type 0
+IsHelpFault words unread unread' f =
+    (f ≡ run.Write) × (unread' ≡ unread) × ((text : String Global) × GiveNone words (option.Help text))
 
 -- When a fault comes: of words that give no options, of the script, of writing the help, or of the memory.
 abbrev pub IsServeFaultOf : Words → Option Bytes → Option Bytes → ServeFault → Type 0
 IsServeFaultOf words unread unread' serve.Usage = GiveNone words option.Usage × (unread' ≡ unread)
 IsServeFaultOf words unread unread' (serve.Run run.OutOfMemory) = Unit {0}
-IsServeFaultOf words unread unread' (serve.Run f) = HasFault words unread unread' f ⊎ IsHelpFault words f
+IsServeFaultOf words unread unread' (serve.Run f) = HasFault words unread unread' f ⊎ IsHelpFault words unread unread' f
 
 -- The program ended by a fault: its status, what came of it, and what was said. Another fault than a failed write
 -- leaves the writer as it was.

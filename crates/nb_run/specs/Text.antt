@@ -83,9 +83,13 @@ answer_line worker a = decimal worker ++ codes " " ++ answer_text a ++ codes "\n
 abbrev pub entry_line : ℕ × ℕ → Bytes
 entry_line entry = decimal entry.0 ++ codes " " ++ decimal entry.1 ++ codes "\n"
 
--- the size, and the entries, ascending by key
+-- the size and the entries
+abbrev pub ending_of : ℕ → List (ℕ × ℕ) → Bytes
+ending_of size entries = codes "size " ++ decimal size ++ codes "\n" ++ flat_map entry_line entries
+
+-- those of a map, ascending by key
 abbrev pub ending : Numbers → Bytes
-ending m = codes "size " ++ decimal (map.len m) ++ codes "\n" ++ flat_map entry_line (map.entries m)
+ending m = ending_of (map.len m) (map.entries m)
 
 -- The text for commands from a map on, each with its worker's number. The command at place n is refused for want of
 -- room where full n is true: it answers so, and leaves the map as it is.

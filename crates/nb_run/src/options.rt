@@ -2,17 +2,14 @@
 ghost use Rattle.std.specs.Prelude.{◌≡◌, ◌≤◌, ◌^◌, false, ℕ, [], IfErr, IfNone, IfOk, IfSome, OnOk, map, string_bytes};
 ghost use Rattle.clap.specs.Words.{app_of, fault_of, found_of, kind_of, rows_of, rule_of};
 ghost use Rattle.nb_core.specs.Plans.{Plan};
-ghost use Rattle.nb_run.specs.Options.{AreGiven, IsDue, IsFaultOf, IsFound, nbrun, option_rule, plan_of_text};
+ghost use Rattle.nb_run.specs.Options.{AreGiven, ComesTo, IsDue, IsFound, nbrun, option_rule, plan_of_text};
 ghost use Rattle.nb_run.specs.Script.{number_of};
 
 use clap::error::ErrorKind;
 use clap::{Arg, ArgAction, ArgMatches, Command, value_parser};
-use nb_core::Shape;
+use nb_core::{MAX_GENERATIONS, Shape};
 use std::alloc::{AllocError, Global};
 use thiserror::Error;
-
-/// How many exponents a plan may have.
-const MAX_TABLES: usize = 16;
 
 /// Why words give no options.
 #[derive(Debug, Drop, Error)]
@@ -65,7 +62,7 @@ fn command<'a>(alloc: Global) -> Result<Command<'a>, AllocError>
     let generations = option(alloc, "generations", "G", "Tables, each twice the last")
         .value_parser(value_parser!(u32).range(1..=8))
         .default_value("4");
-    let seats = option(alloc, "seats", "S", "Callers at once")
+    let seats = option(alloc, "seats", "S", "Workers at once")
         .value_parser(value_parser!(u32).range(1..=8))
         .default_value("1");
     let stripes = option(alloc, "stripes", "P", "Words that a count is spread over")
@@ -88,7 +85,7 @@ fn command<'a>(alloc: Global) -> Result<Command<'a>, AllocError>
 
 /// What clap's error comes to.
 fn option_fault(alloc: Global, error: &clap::Error) -> OptionFault
-    ensures { IsFaultOf (kind_of error.now) result }
+    ensures { ComesTo (kind_of error.now) result }
 {
     match error.kind() {
         ErrorKind::OutOfMemory => OptionFault::OutOfMemory,
@@ -117,10 +114,10 @@ fn read_plan(text: &str, seats: usize, stripes: usize) -> Option<Shape>
     ensures some { IfSome result (λ shape. plan_of_text text.now seats stripes ≡ Some shape) }
     ensures none { IfNone result (plan_of_text text.now seats stripes ≡ None) }
 {
-    let mut exponents = [0; MAX_TABLES];
+    let mut exponents = [0; MAX_GENERATIONS];
     let mut count = 0;
     for part in text.split(',') {
-        if count == MAX_TABLES {
+        if count == MAX_GENERATIONS {
             return None;
         }
         exponents[count] = read_exponent(part)?;

@@ -2,8 +2,8 @@
 ghost use Rattle.std.specs.Prelude.{◌≡◌, ◌<◌, ◌≤◌, ◌+◌, ◌||◌, ◌++◌, ℕ, [], List, Some, decimal, is_err, length, map, OnOk, slice_get, slice_index};
 ghost use Rattle.std.specs.Io.KnownBytes.{Appends};
 ghost use Rattle.std.specs.List.{flat_map};
-ghost use Rattle.nb_run.specs.Output.{AreAnswersOf, Says, all_lines, ending_of, left, phase_lines};
-ghost use Rattle.nb_run.specs.Text.{answer_line, answer_text, entry_line};
+ghost use Rattle.nb_run.specs.Output.{AreAnswersOf, Says, all_lines, left, phase_lines};
+ghost use Rattle.nb_run.specs.Text.{answer_line, answer_text, ending_of, entry_line};
 ghost use Rattle.nb_run.specs.Working.{commands_of};
 
 use crate::answers::Answer;
@@ -12,13 +12,10 @@ use crate::script::Command;
 use crate::streams::{Failed, Sink, write_all};
 use arrayvec::ArrayVec;
 use itoa::Buffer;
-use nb_core::{Key, Num};
+use nb_core::{Key, MAX_SEATS, Num};
 
 /// How many bytes are written at once.
 const ROOM: usize = 4096;
-
-/// How many workers there are at most.
-const WORKERS: usize = 8;
 
 /// Bytes that wait to be written.
 type Waiting = ArrayVec<u8, ROOM>;
@@ -116,7 +113,7 @@ fn say_phase<W: Sink>(
     waiting: &mut Waiting,
     phase: &[(usize, Command)],
     answers: &[Vec<Answer>],
-    done: &mut [usize; WORKERS],
+    done: &mut [usize; MAX_SEATS],
 ) -> Result<(), Failed>
     requires few { length answers.now ≤ 8 }
     requires enough { (w : ℕ) (mine : List Answer) → slice_get (map (λ list. list.items) answers.now) w ≡ Some mine
@@ -186,7 +183,7 @@ pub(crate) fn tell<W: Sink>(
     ensures marks { W.failed writer.new ≡ (is_err result || W.failed writer.old) }
 {
     let mut waiting = ArrayVec::new();
-    let mut done = [0; WORKERS];
+    let mut done = [0; MAX_SEATS];
     for phase in phases {
         say_phase(writer, &mut waiting, phase.as_slice(), answers, &mut done)?;
     }

@@ -1,5 +1,5 @@
 //! Reads a script, in pieces.
-ghost use Rattle.std.specs.Prelude.{◌≡◌, ◌<◌, ◌≤◌, ◌+◌, ◌-◌, ◌^◌, ◌∷◌, ◌++◌, ◌↔◌, [], List, false, length, IsTrue, IfOk, IfErr, OnOk, IsErrOf, map};
+ghost use Rattle.std.specs.Prelude.{◌≡◌, ◌<◌, ◌≤◌, ◌+◌, ◌-◌, ◌^◌, ◌∷◌, ◌++◌, ◌↔◌, [], List, count_by, false, if◌then◌else◌, length, IsTrue, IfOk, IfErr, OnOk, IsErrOf, map};
 ghost use Rattle.std.specs.List.{list_any};
 ghost use Rattle.nb_run.specs.Script.{Bytes, is_newline, script_of};
 ghost use Rattle.nb_run.specs.Runs.{HasReadScript, IsFaultOf};
@@ -38,7 +38,8 @@ impl Lines {
 
     fn new(alloc: Global, seats: usize) -> Lines
         requires { seats < 2 ^ 64 - 1 }
-        ensures { (more : Bytes) → with_bytes result more ≡ script_of seats more }
+        ensures bytes { (more : Bytes) → with_bytes result more ≡ script_of seats more }
+        ensures first { result.number ≡ 1 }
     {
         Lines {
             seats,
@@ -88,6 +89,7 @@ impl Lines {
     /// Takes the next byte.
     fn take(&mut self, byte: u8) -> Result<(), RunFault>
         ensures ok { OnOk result ((more : Bytes) → with_bytes self.new more ≡ with_bytes self.old (byte ∷ more)) }
+        ensures lines { OnOk result (self.new.number ≡ self.old.number + (if is_newline byte then 1 else 0)) }
         ensures fault { IfErr result (λ fault. IsFirst (λ more. with_bytes self.old (byte ∷ more)) fault) }
         ensures room { OnOk result (room self.new + 1 ≤ room self.old) }
     {
@@ -107,6 +109,7 @@ impl Lines {
     /// Takes the next bytes.
     fn take_all(&mut self, bytes: &[u8]) -> Result<(), RunFault>
         ensures ok { OnOk result ((more : Bytes) → with_bytes self.new more ≡ with_bytes self.old (bytes.now ++ more)) }
+        ensures lines { OnOk result (self.new.number ≡ self.old.number + count_by is_newline bytes.now) }
         ensures fault { IfErr result (λ fault. IsFirst (λ more. with_bytes self.old (bytes.now ++ more)) fault) }
         ensures room { OnOk result (room self.new + length bytes.now ≤ room self.old) }
     {

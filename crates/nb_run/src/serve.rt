@@ -1,6 +1,6 @@
 //! The program: options, a script, and what is said of a fault.
 ghost use Rattle.std.specs.Prelude.{◌≡◌, ◌≢◌, ◌⊎◌, ◌↔◌, false, IsTrue, IfOk, IfErr, IsErrOf, OnOk, Result};
-ghost use Rattle.nb_run.specs.Serving.{GiveNone, GiveOptions, HasFailed, HasHelped, HasRunAsAsked, IsServeFaultOf};
+ghost use Rattle.nb_run.specs.Serving.{GiveNone, GiveOptions, HasFailed, HasShownHelp, HasRunAsAsked, IsServeFaultOf};
 
 use crate::faults::{RunFault, ServeFault};
 use crate::options::{OptionFault, Options, read_options};
@@ -18,10 +18,8 @@ fn options_of(
     ensures given { IfOk result (λ options. GiveOptions words options.shape) }
     ensures fault { IfErr result (GiveNone words) }
 {
-    match words {
-        Ok(words) => read_options(alloc, words.as_slice()),
-        Err(fault) => Err(fault),
-    }
+    let words = words?;
+    read_options(alloc, words.as_slice())
 }
 
 /// Reads the options and runs the script, or writes the help that the words ask for.
@@ -35,7 +33,7 @@ fn attend<H: Threads + Wait + AllocGlobal + Sync, R: Source, W: Sink>(
     requires writer { W.failed writer.old ≡ false }
 
     ensures ok { OnOk result (HasRunAsAsked words (R.remaining reader.old) (R.remaining reader.new) (W.contents writer.old) (W.contents writer.new)
-        ⊎ HasHelped words (R.remaining reader.old) (R.remaining reader.new) (W.contents writer.old) (W.contents writer.new)) }
+        ⊎ HasShownHelp words (R.remaining reader.old) (R.remaining reader.new) (W.contents writer.old) (W.contents writer.new)) }
     ensures fault { IfErr result (IsServeFaultOf words (R.remaining reader.old) (R.remaining reader.new)) }
     ensures read { IsErrOf result (ServeFault.Run RunFault.Read) ↔ IsTrue (R.failed reader.new) }
     ensures write { IsErrOf result (ServeFault.Run RunFault.Write) ↔ IsTrue (W.failed writer.new) }
@@ -68,7 +66,7 @@ pub fn serve<H: Threads + Wait + AllocGlobal + Sync, R: Source, W: Sink, E: Sink
     requires errors { E.failed errors.old ≡ false }
 
     ensures done { result ≡ 0 → HasRunAsAsked words (R.remaining reader.old) (R.remaining reader.new) (W.contents writer.old) (W.contents writer.new)
-        ⊎ HasHelped words (R.remaining reader.old) (R.remaining reader.new) (W.contents writer.old) (W.contents writer.new) }
+        ⊎ HasShownHelp words (R.remaining reader.old) (R.remaining reader.new) (W.contents writer.old) (W.contents writer.new) }
     ensures whole { result ≡ 0 → (R.failed reader.new ≡ false) × (W.failed writer.new ≡ false) }
     ensures quiet { result ≡ 0 → errors.new ≡ errors.old }
 

@@ -4,7 +4,7 @@ ghost use Rattle.std.specs.Prelude.{◌≡◌, false};
 use super::{CONDITIONAL_ANSWERS, CONDITIONAL_WRITES, assert_serves, words_of};
 use crate::gate::Gate;
 use crate::options::Options;
-use crate::run::run_gated;
+use crate::run::{run, run_gated};
 use crate::streams::{FromRead, FromWrite};
 use nb_core::Shape;
 use std::sync::atomic::{AtomicBool, AtomicU64, Ordering};
@@ -135,7 +135,7 @@ fn two_adders(rt: HostRuntime) -> Result<(), Fail> {
         let mut output = Vec::new(rt.alloc());
         let mut reader = FromRead::new(b"0 add 1 2\n1 add 1 3\n".as_slice());
         let mut writer = FromWrite::new(&mut output);
-        let result = crate::run::run(&rt, &options, &mut reader, &mut writer);
+        let result = run(&rt, &options, &mut reader, &mut writer);
         assert_eq!(rt; result, Ok(()));
         let text = String::from_utf8(output)?;
         assert!(rt; text.as_str().ends_with("size 1\n1 5\n"));

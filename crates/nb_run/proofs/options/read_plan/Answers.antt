@@ -6,8 +6,8 @@ use Rattle.nb_run.specs.Options.{numbers_of}
 use Rattle.nb_run.proofs.PlanLemmas.{by_ok, part_read, plan_of_exponents, too_large, too_many}
 use Rattle.nb_run.proofs.options.read_plan.Goals as goal
 
-pub returns-then-count-eq-MAX_TABLES-clause-none : goal.returns-then-count-eq-MAX_TABLES-clause-none
-returns-then-count-eq-MAX_TABLES-clause-none c =
+pub returns-then-count-eq-MAX_GENERATIONS-clause-none : goal.returns-then-count-eq-MAX_GENERATIONS-clause-none
+returns-then-count-eq-MAX_GENERATIONS-clause-none c =
     let split = YieldsList-from_str_split {s = c.into_iter-part-iterator.result} 44 c.args.text.now (lit< tt) (cc) (cc) (cc) in
     let turn = YieldsList-turn split c.loop-part.yielded _ c.loop-part.yielded_by _ _ c.in-Some.part c.in-Some.is c.next.ensures.steps in
     too_many c.args.text.now c.args.seats c.args.stripes (omega (arith, turn.0))

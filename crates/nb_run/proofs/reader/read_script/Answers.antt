@@ -1,11 +1,15 @@
 use Rattle.std.proofs.Common.{arith, rules}
 use Rattle.std.proofs.lemmas.Result.{err_from_is_err_and}
-use Rattle.nb_run.proofs.Taken.{fault_of_end, fault_of_read, read_more}
+use Rattle.nb_run.proofs.Taken.{fault_of_end, fault_of_failure, fault_of_read, read_more}
 use Rattle.nb_run.proofs.reader.read_script.Goals as goal
 
 pub loop-count-preserved : goal.loop-count-preserved
 loop-count-preserved g c =
-    (read_more _ _ _ _ _ _ _ c.loop-count.invariant.0 c.in-Ok.ensures.bytes.0 c.in_ok-take_all.ensures.ok, search rules, search rules)
+    (read_more _ _ _ _ _ _ _ c.loop-count.invariant.0 c.in-Ok.ensures.bytes.0 c.in_ok-take_all.ensures.ok
+    c.in_ok-take_all.ensures.lines, search rules, search rules)
+
+pub returns-in_default-clause-fault : goal.returns-in_default-clause-fault
+returns-in_default-clause-fault g c = fault_of_failure _ _ _ _ _ c.loop-count.invariant.0 c.in_default.ensures.bytes
 
 pub returns-in_err-end_text-clause-fault : goal.returns-in_err-end_text-clause-fault
 returns-in_err-end_text-clause-fault g c =

@@ -1,4 +1,4 @@
 use Rattle.nb_run.proofs.serve.options_of.Goals as goal
 
-pub returns-in-Ok-clause-given : goal.returns-in-Ok-clause-given
-returns-in-Ok-clause-given c = rw (c.in-Ok.is, ← c.as_slice.ensures.value) c.read_options.ensures.given
+pub returns-clause-given : goal.returns-clause-given
+returns-clause-given c = rw (c.in_ok-words.was, ← c.as_slice.ensures.value) c.read_options.ensures.given
