@@ -62,9 +62,9 @@ pub loop-number-preserved : goal.loop-number-preserved
 loop-number-preserved c =
     let s : Inside = record { shape = c.args.shape; seat = c.split_seat-seat.result } in (
       dealing-more _ c.args.shape c.loop-number.rest _ c.loop-number.dealt.items _ s c.loop-number._number
-    (omega (arith, c.loop-number-test.true, c.seats-number-end.ensures)) c.loop-number.invariant.0
-    c.split_seat-seat.ensures.0 c.split_seat-seat.ensures.2 refl c.split_seat-seat.ensures.3 c.split_seat-seat.ensures.4
-    c.push_reserved.ensures.items,
+          (omega (arith, c.loop-number-test.true, c.seats-number-end.ensures)) c.loop-number.invariant.0
+          c.split_seat-seat.ensures.0 c.split_seat-seat.ensures.2 refl c.split_seat-seat.ensures.3 c.split_seat-seat.ensures.4
+          c.push_reserved.ensures.items,
       omega (arith, c.loop-number.invariant.1, c.push_reserved.ensures.capacity),
     )
 
