@@ -120,9 +120,8 @@ impl Closed {
     {
         laws::on_path();
         laws::one_slot();
-        let size = self.shape.size_of(g);
-        let mut i = (key.get() & (size as u64 - 1)) as usize;
-        for _distance in 0..size {
+        for distance in 0..self.shape.size_of(g) {
+            let i = self.shape.path_slot(g, key, distance);
             match self.key_at(g, i) {
                 KeyState::Claimed(other) => {
                     if other == key {
@@ -131,7 +130,6 @@ impl Closed {
                 }
                 KeyState::Empty | KeyState::Dead => return None,
             }
-            i = (i + 1) & (size - 1);
         }
         None
     }
