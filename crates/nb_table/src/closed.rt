@@ -9,7 +9,7 @@ ghost use Rattle.nb_table.specs.Listing.{IsListing};
 
 use nb_core::{
     Change, Key, KeyState, Num, OutOfMemory, PlainMap, Shape, ValueState, Want, decode_key,
-    decode_value, laws,
+    decode_lawful_value, laws,
 };
 use std::alloc::Global;
 use std::marker::Model;
@@ -163,7 +163,8 @@ impl Closed {
         requires { IsSlot self.now.shape g i }
         ensures { result ≡ (tables_left self.now).value g i }
     {
-        decode_value(self.word(self.shape.value_place(g, i))).unwrap_or(ValueState::Null)
+        laws::lawful_words();
+        decode_lawful_value(self.word(self.shape.value_place(g, i)))
     }
 
     fn word(&self, place: usize) -> u64
