@@ -1,5 +1,5 @@
 -- Who made the newest event has seen all of the history.
-use Rattle.std.proofs.Common.{◌≡◌, ◌≢◌, ◌∙◌, ℕ, ◌<◌, ◌==◌, Bool, cond, inl, inr, ap, sym, subst, refl, List, [], ◌∷◌, ◌++◌, All, arith}
+use Rattle.std.proofs.Common.{◌≡◌, ◌≢◌, ◌∙◌, ℕ, ◌<◌, Bool, cond, inl, inr, ap, sym, subst, refl, List, [], ◌∷◌, ◌++◌, All, arith}
 use Rattle.std.specs.List.{Contains}
 use Rattle.std.proofs.lemmas.Bool.{cases_eq, ne_eqb}
 use Rattle.std.proofs.lemmas.List.Elements.{All-contains, All-head, Contains-append_right}
