@@ -55,6 +55,16 @@ dealt-seat_of number seats rest s below left me =
     let tally : tally_of s.seat.me.0 ≡ new_tally number = ap (λ m. tally_of m.0) (me ∙ ap (λ ts. (ts, [])) (dealt-token rest number seats below left)) in
     ap (λ (t : Tally). record { counter = s.seat.table_id; number = t.number; added = t.added; steps = t.steps }) tally
 
+many-seats : (counter : TableId) (first count : ℕ) → length (seats_of counter first count) ≡ count
+many-seats counter first zero = refl
+many-seats counter first (suc count) = ap (λ n. suc n) (many-seats counter (suc first) count)
+
+-- so many seats are dealt
+pub dealing-count :
+    {counter : TableId} {rest : Seat (Unit {0}) (List Tally)} {dealt : List Counting} {number seats : ℕ}
+    → IsDealing counter rest dealt number seats → length dealt ≡ number
+dealing-count {counter} {rest} {dealt} {number} {seats} d = ap length d.so_far ∙ many-seats counter 0 number
+
 pub dealing-first : (counter : TableId) (rest : Seat (Unit {0}) (List Tally)) (dealt : List Counting) (seats : ℕ) → rest.table_id ≡ counter → rest.me ≡ (fresh 0 seats, []) → dealt ≡ [] → IsDealing counter rest dealt 0 seats
 dealing-first counter rest dealt seats own me none = record {
   own = own;

@@ -7,7 +7,7 @@ ghost use Rattle.std.specs.Mem.Slots.{IsFull, slots_items, slots_len};
 
 use crate::tally::{Adds, Deal, Gather, Looks, SPREAD, Size, Stripes, Tallies};
 use atomic_table::{Closed, Seat, Table};
-use nb_core::{NotAll, OutOfMemory};
+use nb_core::{MAX_STRIPES, NotAll, OutOfMemory};
 use std::alloc::Global;
 use std::marker::Model;
 
@@ -63,13 +63,13 @@ impl Counter {
     {
         let size = Size { stripes, seats };
         let mut dealt = Vec::with_capacity(alloc, seats)?;
-        let words = [0; 8 * SPREAD];
+        let words = [0; MAX_STRIPES * SPREAD];
         let (table, mut rest) = Table::of_words(alloc, &words[..SPREAD * stripes], &size)?;
         let counter = Counter { table, size };
         for number in 0..seats {
             let seat = counter.table.shared.split_seat::<Deal>(&mut rest);
             let place = SPREAD * (number % stripes);
-            dealt.push(CountSeat { place, seat })?;
+            dealt.push_reserved(CountSeat { place, seat });
         }
         Ok((counter, dealt))
     }

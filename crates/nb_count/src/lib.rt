@@ -9,4 +9,3 @@ pub mod laws;
 mod tally;
 
 pub use counter::{CountSeat, Counter};
-pub use tally::{SPREAD, Tally};

@@ -1,5 +1,5 @@
 -- The seats of a chain are dealt one after another.
-use Rattle.std.proofs.Common.{◌≡◌, ◌∙◌, ℕ, zero, suc, ◌+◌, ◌-◌, ◌<◌, ◌≤◌, ap, sym, subst, List, [], ◌∷◌, ◌++◌, take, drop, arith}
+use Rattle.std.proofs.Common.{◌≡◌, ◌∙◌, ℕ, zero, suc, ◌+◌, ◌-◌, ◌<◌, ◌≤◌, ap, sym, subst, refl, List, [], ◌∷◌, ◌++◌, length, take, drop, arith}
 use Rattle.atomic_table.specs.Seated.{TableId}
 use Rattle.atomic_table.specs.declared.shared.Seat.{Seat}
 use Rattle.nb_core.specs.Plans.{Plan}
@@ -67,6 +67,16 @@ dealt-seat_of :
 dealt-seat_of rest number seats s below left me =
     ap (λ (t : Part). record { chain = s.seat.table_id; shape = s.shape; number = t.number; seen = t.seen; steps = t.steps })
     (ap part_of (dealt-parts rest number seats s below left me))
+
+many-seats : (chain : TableId) (p : Plan) (first count : ℕ) → length (seats_of chain p first count) ≡ count
+many-seats chain p first zero = refl
+many-seats chain p first (suc count) = ap (λ n. suc n) (many-seats chain p (suc first) count)
+
+-- so many seats are dealt
+pub dealing-count :
+    {chain : TableId} {p : Plan} {rest : Seat (Unit {0}) View} {dealt : List SeenBy} {number : ℕ}
+    → IsDealing chain p rest dealt number → length dealt ≡ number
+dealing-count {chain} {p} {rest} {dealt} {number} d = ap length d.so_far ∙ many-seats chain p 0 number
 
 pub dealing-first :
     (chain : TableId) (p : Plan) (rest : Seat (Unit {0}) View) (dealt : List SeenBy) → rest.table_id ≡ chain

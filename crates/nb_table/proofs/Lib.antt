@@ -10,6 +10,7 @@ mod Listing
 mod Loading
 mod Looking
 mod Meeting
+mod Newest
 mod Opening
 mod Parted
 mod Values

@@ -1,10 +1,8 @@
 -- What a look at a closed chain finds of a key: along the key's path in a table, and from the first table up.
-use Rattle.std.proofs.Common.{◌≡◌, ◌≢◌, ◌∙◌, ℕ, ◌+◌, ◌-◌, ◌%◌, ◌<◌, ◌≤◌, ◌⊎◌, zero, suc, add-one, ap, below_more, sym, subst, refl, inl, inr, Bool, true, false, cond, List, [], ◌∷◌, slice_index, Option, Some, None, option_map, bit_and, arith}
+use Rattle.std.proofs.Common.{◌≡◌, ◌≢◌, ◌∙◌, ℕ, ◌+◌, ◌-◌, ◌<◌, ◌≤◌, ◌⊎◌, zero, suc, add-one, ap, below_more, sym, subst, refl, inl, inr, Bool, true, false, cond, List, [], ◌∷◌, slice_index, Option, Some, None, option_map, arith}
 use mathlib.Core.Option.{some, some-injective, some-ne-none}
 use lib.ListN.{get_elem?}
-use Rattle.std.proofs.Math.Nat.{mod-add-mod}
 use Rattle.std.proofs.lemmas.Bool.{cases_cond, cases_eq, cases_order, eq-eqb, eqb-true, ne_eqb}
-use Rattle.std.proofs.lemmas.Nat.{and_mask}
 use Rattle.nb_core.specs.Plans.{Plan, IsPlan, generations_of, size_of}
 use Rattle.nb_core.specs.History.{IsLegal}
 use Rattle.nb_core.specs.Tables.{AreOthers, IsComplete, IsFinishedValue, IsInstalled, IsOnPath, IsOther, IsSlot, IsUnprimed, Tables, path_slot, tables_at, tables_of}
@@ -139,25 +137,6 @@ module _ (t : Tables) (g k : ℕ) where
 -- ---- the key's path in a table
 
 module _ (p : Plan) (t : Tables) (g k : ℕ) where
-  -- the path begins at the key's home slot
-  pub home-is : (size : ℕ) → size ≡ size_of p g → bit_and k (size - 1) ≡ path_slot p g k 0
-  home-is size is =
-      let same : k ≡ k + 0 = omega arith in
-      ap (λ s. bit_and k (s - 1)) is ∙ and_mask k (slice_index p.exponents g) ∙ ap (λ x. x % size_of p g) same
-
-  -- the slot that follows on it
-  pub next-is :
-      (d i size : ℕ) → size ≡ size_of p g → i ≡ path_slot p g k d
-      → bit_and (i + 1) (size - 1) ≡ path_slot p g k (d + 1)
-  next-is d i size is at =
-      let sum : k + d + 1 ≡ k + (d + 1) = omega arith in
-      ap (λ s. bit_and (i + 1) (s - 1)) is ∙ and_mask (i + 1) (slice_index p.exponents g)
-      ∙ ap (λ x. (x + 1) % size_of p g) at ∙ mod-add-mod (k + d) (size_of p g) 1 ∙ ap (λ x. x % size_of p g) sum
-
-  -- a slot of the path is one of the table
-  pub path-within : (d i size : ℕ) → size ≡ size_of p g → d < size → i ≡ path_slot p g k d → i < size_of p g
-  path-within d i size is below at = let some : 0 < size_of p g = omega arith in omega arith
-
   -- one slot more of the path is another key's
   pub others-more :
       (d i other : ℕ) → AreOthers p t g k d → i ≡ path_slot p g k d → t.key g i ≡ Claimed other → other ≢ k

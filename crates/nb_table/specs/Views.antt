@@ -1,5 +1,5 @@
 -- What the tokens of a chain's table know, and the rule that its words keep.
-use Rattle.std.specs.Prelude.{◌≡◌, ◌≢◌, ℕ, zero, suc, ◌+◌, ◌<◌, ◌==◌, List, [], ◌∷◌, ◌++◌, length, map, take, drop, count_by, All, slice_index}
+use Rattle.std.specs.Prelude.{◌≡◌, ◌≢◌, ℕ, zero, suc, ◌+◌, ◌<◌, ◌==◌, List, [], ◌∷◌, ◌++◌, length, map, take, drop, count_by, All, Contains, slice_index}
 use Rattle.atomic_table.specs.Table.{State, Me, Step}
 use Rattle.nb_core.specs.Plans.{Plan}
 use Rattle.nb_core.specs.Tables.{words_of}
@@ -64,6 +64,13 @@ pub record IsChained (p : Plan) (s : State (Unit {0}) View) : Type 0 where
   pub numbers : All (λ part. part.number < p.seats) (all_parts s.views)
   pub once : (n : ℕ) → n < p.seats → count_by (λ part. part.number == n) (all_parts s.views) ≡ 1
   pub count : length (all_parts s.views) ≡ p.seats
+
+-- The seat that made the newest event of the one history has seen all of it. What a seat has seen only grows, so the history of
+-- a later moment goes on from that of an earlier one.
+abbrev pub NewestIsSeen : Type 0
+NewestIsSeen =
+    (p : Plan) (s : State (Unit {0}) View) (rule : IsChained p s) (e : Event) (h : List Event) → rule.history ≡ e ∷ h
+    → (part : Part) × Contains (all_parts s.views) part × (part.number ≡ seat_of_event e) × (part.seen ≡ rule.history)
 
 -- ---- steps
 

@@ -2,7 +2,7 @@
 ghost use Rattle.std.specs.Prelude.{◌≡◌, ◌+◌, ◌%◌, ◌^◌, ◌<◌, ◌==◌, ◌↔◌, if◌then◌else◌, [], ◌∷◌, bit_or, max, length, IfOk, IfErr, true, is_ok};
 ghost use Rattle.nb_core.specs.Plans.{word_count};
 ghost use Rattle.nb_core.specs.History.{IsLegal};
-ghost use Rattle.nb_table.specs.Chains.{Extended, seats_of};
+ghost use Rattle.nb_table.specs.Chains.{Extended, IsOwn, seats_of};
 ghost use Rattle.nb_table.specs.Gathered.{AreOwn, ClosedWith, HasGathered};
 ghost use Rattle.nb_table.specs.Inside.{part_of};
 ghost use Rattle.nb_table.specs.Steps.{Can, Stepped};
@@ -15,7 +15,7 @@ use nb_core::{Call, Key, NotAll, Num, OutOfMemory, Shape};
 use std::alloc::Global;
 use std::marker::{Brand, Model};
 
-/// A chain of tables that many threads share.
+/// A chain of tables that many threads share. Contracts see which chain it is, and its shape.
 #[derive(Drop)]
 pub struct Chain {
     table: Table<(), View, Shape, Chained, Global>,
@@ -34,7 +34,8 @@ impl Model for Chain {
     ghost invariant = { IsChain };
 }
 
-/// The right of one holder to make steps.
+/// The right of one holder to make steps. Contracts see its chain and shape, its number, the history that it has seen, the
+/// newest event first, and how many steps it has made.
 #[derive(Drop)]
 pub struct ChainSeat {
     shape: Shape,
@@ -84,7 +85,7 @@ impl Chain {
         let chain = Chain { table, shape };
         for _number in 0..shape.seats() {
             let seat = chain.table.shared.split_seat::<Deal>(&mut rest);
-            dealt.push(ChainSeat { shape, seat })?;
+            dealt.push_reserved(ChainSeat { shape, seat });
         }
         Ok((chain, dealt))
     }
@@ -191,12 +192,11 @@ impl Chain {
             .fetch_max::<Move<B>>(&mut seat.seat, place, least)
     }
 
-    /// Each of two seats sees what the other has seen. Of the loads that this takes, one of each seat counts as its step: the
-    /// others tell it nothing.
+    /// Each of two seats sees what the other has seen. This makes six loads of the top word, three by each seat, of which the
+    /// last counts as its step. By the others `atomic_table` passes on what is known: what they find is ignored.
     pub fn meet(&self, a: &mut ChainSeat, b: &mut ChainSeat)
-        requires a_own { a.old.chain ≡ self.now.id }
-        requires b_own { b.old.chain ≡ self.now.id }
-        requires shapes { (a.old.shape ≡ self.now.shape) × (b.old.shape ≡ self.now.shape) }
+        requires a_own { IsOwn self.now a.old }
+        requires b_own { IsOwn self.now b.old }
         ensures a { Extended a.old a.new [] 1 × IsBeginning b.old.seen a.new.seen }
         ensures b { Extended b.old b.new [] 1 × IsBeginning a.old.seen b.new.seen }
     {

@@ -9,7 +9,7 @@ ghost use Rattle.nb_table.specs.Listing.{IsListing};
 
 use nb_core::{
     Change, Key, KeyState, Num, OutOfMemory, PlainMap, Shape, ValueState, Want, decode_key,
-    decode_value, laws,
+    decode_lawful_value, laws,
 };
 use std::alloc::Global;
 use std::marker::Model;
@@ -120,9 +120,8 @@ impl Closed {
     {
         laws::on_path();
         laws::one_slot();
-        let size = self.shape.size_of(g);
-        let mut i = (key.get() & (size as u64 - 1)) as usize;
-        for _distance in 0..size {
+        for distance in 0..self.shape.size_of(g) {
+            let i = self.shape.path_slot(g, key, distance);
             match self.key_at(g, i) {
                 KeyState::Claimed(other) => {
                     if other == key {
@@ -131,7 +130,6 @@ impl Closed {
                 }
                 KeyState::Empty | KeyState::Dead => return None,
             }
-            i = (i + 1) & (size - 1);
         }
         None
     }
@@ -165,7 +163,8 @@ impl Closed {
         requires { IsSlot self.now.shape g i }
         ensures { result ≡ (tables_left self.now).value g i }
     {
-        decode_value(self.word(self.shape.value_place(g, i))).unwrap_or(ValueState::Null)
+        laws::lawful_words();
+        decode_lawful_value(self.word(self.shape.value_place(g, i)))
     }
 
     fn word(&self, place: usize) -> u64

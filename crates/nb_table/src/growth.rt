@@ -25,7 +25,7 @@ impl Chain {
         laws::lawful_words();
         laws::places_are_distinct();
         let place = self.shape.header_place(g, 1);
-        let chunk = self.shape.size_of(g).min(8) as u64;
+        let chunk = self.shape.chunk_of(g) as u64;
         self.adds::<Brand>(seat, place, chunk, g)
     }
 

@@ -1,4 +1,4 @@
-//! The chain of tables.
+//! The chain of tables, step by step. A step takes no memory, waits for nobody and returns.
 #![tactic(auto)]
 
 mod calls;

@@ -78,7 +78,7 @@ fn meeting<R: Threads + Sync + Abort>(rt: &R, chain: Chain, seats: Vec<ChainSeat
 
 #[test]
 fn two_seats_meet(rt: HostRuntime) -> Result<(), Fail> {
-    let shape = Shape::new(2, 1, 3, 1).map_err(|_| OutOfMemory)?;
+    let shape = Shape::new(2, 1, 3, 1)?;
     let (chain, seats) = Chain::new(rt.alloc(), shape)?;
     assert_eq!(rt; meeting(&rt, chain, seats), (0, 0));
     Ok(())
@@ -87,7 +87,7 @@ fn two_seats_meet(rt: HostRuntime) -> Result<(), Fail> {
 /// With each request for memory refused in turn (`rt try --test --fail-alloc N -- refused_memory`).
 #[test]
 fn refused_memory(rt: HostRuntime) -> Result<(), Fail> {
-    let shape = Shape::new(2, 2, 8, 1).map_err(|_| OutOfMemory)?;
+    let shape = Shape::new(2, 2, 8, 1)?;
     let (chain, seats) = match Chain::new(rt.alloc(), shape) {
         Ok(made) => made,
         Err(_) => Chain::new(rt.alloc(), shape)?,
@@ -107,7 +107,7 @@ fn refused_memory(rt: HostRuntime) -> Result<(), Fail> {
 #[test]
 fn fresh_chains_are_empty(rt: HostRuntime) -> Result<(), Fail> {
     for generations in 1..4 {
-        let shape = Shape::new(3, generations, 2, 1).map_err(|_| OutOfMemory)?;
+        let shape = Shape::new(3, generations, 2, 1)?;
         let (chain, seats) = Chain::new(rt.alloc(), shape)?;
         let Ok(closed) = chain.close(seats) else {
             panic!(rt; "all seats are there")
@@ -123,7 +123,7 @@ fn fresh_chains_are_empty(rt: HostRuntime) -> Result<(), Fail> {
 
 #[test]
 fn all_seats_close(rt: HostRuntime) -> Result<(), Fail> {
-    let shape = Shape::new(2, 3, 4, 1).map_err(|_| OutOfMemory)?;
+    let shape = Shape::new(2, 3, 4, 1)?;
     let (chain, seats) = Chain::new(rt.alloc(), shape)?;
     assert_eq!(rt; chain.shape().generations(), 3);
     let (chain, seats) = without_last(&rt, chain, seats)?;

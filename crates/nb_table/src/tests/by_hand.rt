@@ -35,7 +35,7 @@ fn is_slot<R: Abort>(rt: &R, chain: &Chain, g: u32, i: usize)
     assert!(rt; i < chain.shape().size_of(g));
 }
 
-/// The slot at this distance on the path of a small key.
+/// The slot at this distance on the key's path.
 pub(super) fn slot_on_path<R: Abort>(
     rt: &R,
     chain: &Chain,
@@ -48,10 +48,7 @@ pub(super) fn slot_on_path<R: Abort>(
     ensures path { result ≡ path_slot chain.now.shape g key distance }
 {
     is_slot(rt, chain, g, distance);
-    let home = key.get() as usize;
-    assert!(rt; home < 1000);
-    assert!(rt; distance < 1000);
-    (home + distance) % chain.shape().size_of(g)
+    chain.shape().path_slot(g, key, distance)
 }
 
 /// Looks at a slot of the key's path, which is another key's.

@@ -82,7 +82,7 @@ fn two_copy_one_slot<R: Abort>(rt: &R, chain: &Chain, a: &mut ChainSeat, b: &mut
 
 #[test]
 fn copy_of_one_slot(rt: HostRuntime) -> Result<(), Fail> {
-    let shape = Shape::new(2, 2, 2, 1).map_err(|_| OutOfMemory)?;
+    let shape = Shape::new(2, 2, 2, 1)?;
     let (chain, mut seats) = Chain::new(rt.alloc(), shape)?;
     let (Some(mut b), Some(mut a)) = (seats.pop(), seats.pop()) else {
         panic!(rt; "there are two seats")
@@ -166,7 +166,7 @@ fn stops_and_goes_on<R: Abort>(rt: &R, chain: &Chain, a: &mut ChainSeat, b: &mut
 
 #[test]
 fn stopped_copier(rt: HostRuntime) -> Result<(), Fail> {
-    let shape = Shape::new(2, 3, 2, 1).map_err(|_| OutOfMemory)?;
+    let shape = Shape::new(2, 3, 2, 1)?;
     let (chain, mut seats) = Chain::new(rt.alloc(), shape)?;
     let (Some(mut b), Some(mut a)) = (seats.pop(), seats.pop()) else {
         panic!(rt; "there are two seats")
@@ -208,7 +208,7 @@ fn three_help<R: Abort>(
 
 #[test]
 fn three_helpers(rt: HostRuntime) -> Result<(), Fail> {
-    let shape = Shape::new(4, 2, 3, 1).map_err(|_| OutOfMemory)?;
+    let shape = Shape::new(4, 2, 3, 1)?;
     let (chain, mut seats) = Chain::new(rt.alloc(), shape)?;
     let (Some(mut c), Some(mut b), Some(mut a)) = (seats.pop(), seats.pop(), seats.pop()) else {
         panic!(rt; "there are three seats")

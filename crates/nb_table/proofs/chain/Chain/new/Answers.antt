@@ -1,7 +1,7 @@
 use Rattle.std.proofs.Common.{◌∙◌, ap, arith, refl, replicate}
 use Rattle.nb_table.specs.declared.chain.ChainSeat.TheInside.{Inside}
 use Rattle.nb_table.proofs.Opening.{count-words, deals, opens, some-words}
-use Rattle.nb_table.proofs.Dealt.{dealing-done, dealing-first, dealing-more, dealt-is_seat}
+use Rattle.nb_table.proofs.Dealt.{dealing-count, dealing-done, dealing-first, dealing-more, dealt-is_seat}
 use Rattle.nb_table.proofs.chain.Chain.new.Goals as goal
 
 pub of_words-requires : goal.of_words-requires
@@ -22,13 +22,16 @@ invariant_of-chain c =
     }
 
 pub loop-number-init : goal.loop-number-init
-loop-number-init c = dealing-first _ _ _ _ c.in_ok-table.ensures.2 c.in_ok-table.ensures.4 c.in_ok-dealt.ensures.items
+loop-number-init c = (
+  dealing-first _ _ _ _ c.in_ok-table.ensures.2 c.in_ok-table.ensures.4 c.in_ok-dealt.ensures.items,
+  omega (arith, c.in_ok-dealt.ensures.capacity, c.seats.ensures),
+)
 
 pub split_seat-seat-requires : goal.split_seat-seat-requires
 split_seat-seat-requires c =
     let zeros = c.as_slice.ensures.value ∙ c.in_ok-words.ensures.items_if_clones_equal (λ y e. e)
     ∙ ap (λ n. replicate n 0) c.words.ensures in (
-      c.loop-number.invariant.own,
+      c.loop-number.invariant.0.own,
       omega (
         arith,
         c.in_ok-table.ensures.0,
@@ -38,22 +41,34 @@ split_seat-seat-requires c =
       deals _ _ _,
     )
 
-pub invariant_of-push : goal.invariant_of-push
-invariant_of-push c =
+pub invariant_of-push_reserved : goal.invariant_of-push_reserved
+invariant_of-push_reserved c =
     dealt-is_seat c.loop-number.rest.me.0 c.loop-number._number c.args.shape.seats
     (record { shape = c.args.shape; seat = c.split_seat-seat.result })
-    (omega (arith, c.loop-number-test.true, c.seats-number-end.ensures)) c.loop-number.invariant.left
+    (omega (arith, c.loop-number-test.true, c.seats-number-end.ensures)) c.loop-number.invariant.0.left
     c.split_seat-seat.ensures.4
+
+pub push_reserved-requires : goal.push_reserved-requires
+push_reserved-requires c =
+    omega (
+      arith,
+      dealing-count c.loop-number.invariant.0,
+      c.loop-number.invariant.1,
+      c.loop-number-test.true,
+      c.seats-number-end.ensures,
+    )
 
 pub loop-number-preserved : goal.loop-number-preserved
 loop-number-preserved c =
-    let s : Inside = record { shape = c.args.shape; seat = c.split_seat-seat.result } in
-    dealing-more _ c.args.shape c.loop-number.rest _ c.loop-number.dealt.items _ s c.loop-number._number
-    (omega (arith, c.loop-number-test.true, c.seats-number-end.ensures)) c.loop-number.invariant
-    c.split_seat-seat.ensures.0 c.split_seat-seat.ensures.2 refl c.split_seat-seat.ensures.3 c.split_seat-seat.ensures.4
-    c.in_ok-push.ensures.items
+    let s : Inside = record { shape = c.args.shape; seat = c.split_seat-seat.result } in (
+      dealing-more _ c.args.shape c.loop-number.rest _ c.loop-number.dealt.items _ s c.loop-number._number
+          (omega (arith, c.loop-number-test.true, c.seats-number-end.ensures)) c.loop-number.invariant.0
+          c.split_seat-seat.ensures.0 c.split_seat-seat.ensures.2 refl c.split_seat-seat.ensures.3 c.split_seat-seat.ensures.4
+          c.push_reserved.ensures.items,
+      omega (arith, c.loop-number.invariant.1, c.push_reserved.ensures.capacity),
+    )
 
 pub returns-clause-seats : goal.returns-clause-seats
 returns-clause-seats c =
     dealing-done _ c.args.shape _ _ c.loop-number._number (omega (arith, c.loop-number-test.false, c.seats-number-end.ensures))
-    (omega (arith, c.loop-number.auto._number-end, c.seats-number-end.ensures)) c.loop-number.invariant
+    (omega (arith, c.loop-number.auto._number-end, c.seats-number-end.ensures)) c.loop-number.invariant.0

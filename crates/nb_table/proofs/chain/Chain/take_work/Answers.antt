@@ -1,4 +1,4 @@
-use Rattle.std.proofs.Common.{◌∙◌, min, suc, ap, subst}
+use Rattle.std.proofs.Common.{◌∙◌, suc, ap, subst}
 use Rattle.nb_core.specs.Plans.{header_place}
 use Rattle.nb_core.specs.Tables.{IsInstalled, chunk_of, tables_at}
 use Rattle.nb_table.proofs.Counts.{can-take, taken}
@@ -9,8 +9,8 @@ adds-requires-clause-can c =
     let shape = ap (λ v. v.shape) c.self.view_is in
     can-take c.args.self.now.shape c.seen_lasts.ensures c.args.seat.now.number c.args.g c.args.seat.now.seen c.requires.table
     (subst (λ p. IsInstalled (tables_at p c.args.seat.now.seen) (suc c.args.g)) c.requires.own.1 c.requires.growing)
-    c.header_place-place.result c.min-chunk.result (c.header_place-place.ensures ∙ ap (λ p. header_place p c.args.g 1) shape)
-    (c.min-chunk.ensures ∙ ap (λ n. min n 8) c.size_of.ensures ∙ ap (λ p. chunk_of p c.args.g) shape)
+    c.header_place-place.result c.chunk_of-chunk.result (c.header_place-place.ensures ∙ ap (λ p. header_place p c.args.g 1) shape)
+    (c.chunk_of-chunk.ensures ∙ ap (λ p. chunk_of p c.args.g) shape)
 
 pub returns-clause-found : goal.returns-clause-found
 returns-clause-found c =
