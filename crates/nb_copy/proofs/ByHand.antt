@@ -1,6 +1,8 @@
 -- What is so of the steps that the tests make by hand.
 use Rattle.std.proofs.Common.{◌≡◌, ◌≢◌, ◌<◌, ◌≤◌, ◌⊎◌, ◌∙◌, ℕ, zero, suc, ◌+◌, List, [], ap, inl, inr, sym, subst, refl, arith}
+use Rattle.std.specs.List.{All}
 use Rattle.std.proofs.lemmas.Bool.Decides.{eqb_tells}
+use Rattle.std.proofs.lemmas.List.Elements.{All-cons, All-nil, All-same}
 use Rattle.nb_core.specs.Plans.{IsPlan, Plan, generations_of, limit_of, size_of}
 use Rattle.nb_core.specs.History.{HasWay, IsLegal}
 use Rattle.nb_core.specs.Laws.{AreLinked, CompletePassed, IsPassed, TablesAreLinked, TopComplete, primed}
@@ -9,8 +11,18 @@ use Rattle.nb_core.specs.declared.events.Event.{Event}
 use Rattle.nb_core.specs.declared.states.KeyState.TheVariants.{Claimed}
 use Rattle.nb_core.specs.declared.states.ValueState.{ValueState}
 use Rattle.nb_core.specs.declared.states.ValueState.TheVariants.{Null, Tombstone, Live, PrimedNull, PrimedTombstone, Primed, Finished}
-use Rattle.nb_table.specs.Chains.{ChainOf, Extended, IsOwn, SeenBy, seen_by}
+use Rattle.nb_table.specs.Chains.{ChainOf, Extended, IsOwn, SeenBy, new_seat, seats_of, seen_by}
 use Rattle.nb_table.specs.Conditions.{IsReached}
+
+-- all seats of a new chain are its own
+pub seats-own :
+    (chain : ChainOf) (p : Plan) (seats : List SeenBy) (count : ℕ) → chain.shape ≡ p → seats ≡ seats_of chain.id p 0 count
+    → All (IsOwn chain) seats
+seats-own chain p seats count shape are = All-same (IsOwn chain) seats (seats_of chain.id p 0 count) are (all 0 count)
+  where
+    all : (number count : ℕ) → All (IsOwn chain) (seats_of chain.id p number count)
+    all number zero = All-nil (IsOwn chain)
+    all number (suc count) = All-cons (IsOwn chain) (new_seat chain.id p number) _ (refl, sym shape) (all (suc number) count)
 
 -- one more slot of a path that is another key's
 pub one-more :

@@ -1,9 +1,11 @@
 -- How slots are counted, and chunks and tables are copied.
-use Rattle.std.proofs.Common.{◌≡◌, ◌∙◌, ℕ, suc, ◌+◌, ◌*◌, ◌==◌, ◌&&◌, ◌⊎◌, ◌≤◌, ◌<◌, Bool, true, false, cond, List, [], ◌∷◌, ◌++◌, length, Option, Some, None, ap, sym, subst, subst₂, refl, inl, inr, arith}
+use Rattle.std.proofs.Common.{◌≡◌, ◌∙◌, ℕ, suc, ◌+◌, ◌-◌, ◌*◌, ◌==◌, ◌&&◌, ◌⊎◌, ◌≤◌, ◌<◌, Bool, true, false, cond, List, [], ◌∷◌, ◌++◌, length, Option, Some, None, ap, sym, subst, subst₂, refl, inl, inr, arith}
 use mir.Val.{bool_byte}
 use Rattle.std.specs.Option.{option_map_or}
 use Rattle.std.proofs.lemmas.Bool.{eq-eqb}
+use Rattle.std.specs.List.{All}
 use Rattle.std.proofs.lemmas.List.{length-append}
+use Rattle.std.proofs.lemmas.List.Elements.{All-append, All-cons, All-nil, All-weaker}
 use Rattle.nb_core.specs.Plans.{IsPlan, Plan, generations_of, size_of}
 use Rattle.nb_core.specs.Tables.{IsFinished}
 use Rattle.nb_core.specs.History.{IsLegal, counted_by, seat_of_event, turned_by, turned_slot}
@@ -12,7 +14,7 @@ use Rattle.nb_core.specs.declared.events.Event.{Event}
 use Rattle.nb_core.specs.declared.events.Event.TheVariants.{Count, Promote, Take}
 use Rattle.nb_table.specs.Chains.{ChainOf, Extended, IsOwn, SeenBy, seen_by}
 use Rattle.nb_table.specs.Laws.{StepsAddUp}
-use Rattle.nb_copy.proofs.Copied.{copied-more, copied-one, copied-own, copied-quiet, copied-stays, copied-within}
+use Rattle.nb_copy.proofs.Copied.{copied-more, copied-one, copied-own, copied-quiet, copied-stays}
 use Rattle.nb_copy.specs.Copying.{HasCopied, slot_in, slots_turned}
 
 -- ---- what may be counted
@@ -24,6 +26,10 @@ length-if false i = refl
 byte-in : (b : Bool) (i : ℕ) → bool_byte b ≡ length (cond b (i ∷ []) [])
 byte-in true i = refl
 byte-in false i = refl
+
+All-if : (P : ℕ → Type 0) (b : Bool) (i : ℕ) → P i → All P (cond b (i ∷ []) [])
+All-if P true i holds = All-cons P i [] holds (All-nil P)
+All-if P false i holds = All-nil P
 
 pub byte-small : (b : Bool) → bool_byte b ≤ 1
 byte-small true = omega arith
@@ -100,19 +106,30 @@ module _ (law : StepsAddUp) (chain : ChainOf) (plan : IsPlan chain.shape) (g : �
 
   -- the copy of one slot more, which a step of its own turned, or not
   pub copied-slot :
-      {start before after : SeenBy} (i d most number n : ℕ) (turned : Bool) → IsOwn chain start → n ≡ bool_byte turned
-      → (slots : List ℕ) × (length slots ≡ number) × HasCopied p g start before slots 0 0 (d * most)
+      {start before after : SeenBy} (from i most number n : ℕ) (turned : Bool) → from ≤ i → IsOwn chain start → n ≡ bool_byte turned
+      → (slots : List ℕ) × (length slots ≡ number) × All (λ j. (from ≤ j) × (j < i)) slots
+      × HasCopied p g start before slots 0 0 ((i - from) * most)
       → HasCopied p g before after (cond turned (i ∷ []) []) 0 0 most
-      → (slots : List ℕ) × (length slots ≡ number + n) × HasCopied p g start after slots 0 0 ((d + 1) * most)
-  copied-slot {start} {before} {after} i d most number n turned own is so_far slot =
+      → (slots : List ℕ) × (length slots ≡ number + n) × All (λ j. (from ≤ j) × (j < i + 1)) slots
+      × HasCopied p g start after slots 0 0 ((i + 1 - from) * most)
+  copied-slot {start} {before} {after} from i most number n turned first own is so_far slot =
       let new = cond turned (i ∷ []) [] in
       let longer = length-append new so_far.0 in
-      let is_new : n ≡ length new = is ∙ byte-in turned i in (
+      let is_new : n ≡ length new = is ∙ byte-in turned i in
+      let inside : ℕ → Type 0 = λ j. (from ≤ j) × (j < i + 1) in (
         new ++ so_far.0,
         omega (arith, longer, is_new, so_far.1),
-        copied-within (d * most + most) ((d + 1) * most) (omega arith)
-            (copied-more law chain plan g table (copied-own law chain plan g table own so_far.2) so_far.2 slot),
+        All-append inside new so_far.0 (All-if inside turned i (first, omega arith))
+            (All-weaker (λ j. (from ≤ j) × (j < i)) inside (λ j at. (at.0, omega (arith, at.1))) so_far.0 so_far.2),
+        subst (HasCopied p g start after (new ++ so_far.0) 0 0) (one-more (i - from) (i + 1 - from) (omega (arith, first)))
+            (copied-more law chain plan g table (copied-own law chain plan g table own so_far.3) so_far.3 slot),
       )
+    where
+      steps : (d : ℕ) → d * most + most ≡ (d + 1) * most
+      steps d = omega arith
+
+      one-more : (d e : ℕ) → d + 1 ≡ e → d * most + most ≡ e * most
+      one-more d e is = steps d ∙ ap (λ n. n * most) is
 
   -- one slot more is finished
   pub finished-slot :

@@ -1,7 +1,7 @@
 -- How a slot is copied.
 use Rattle.std.proofs.Common.{◌≡◌, ◌∙◌, ℕ, suc, ◌+◌, ◌*◌, ◌<◌, [], ◌∷◌, ap, sym, subst, refl, inl, arith}
 use Rattle.nb_core.specs.Plans.{IsPlan, Plan, generations_of, size_of}
-use Rattle.nb_core.specs.Tables.{AreOthers, HasSlot, Tables, path_slot}
+use Rattle.nb_core.specs.Tables.{AreOthers, HasSlot, IsOnPath, Tables, path_slot}
 use Rattle.nb_core.specs.Laws.{IsPassed, UpToDead, Lasts, OwnLasts}
 use Rattle.nb_core.specs.declared.states.KeyState.TheVariants.{Dead}
 use Rattle.nb_core.specs.declared.events.Event.TheVariants.{Claim}
@@ -13,12 +13,16 @@ use Rattle.nb_copy.specs.Copying.{HasCopied}
 
 -- what was seen of a key's path in the next table lets it be claimed there
 pub claim-way :
-    (p : Plan) (t u : Tables) → Lasts p t u → (g next i key distance : ℕ) → next ≡ suc g → suc g < generations_of p
-    → HasSlot p t g key → distance < size_of p (suc g) → path_slot p (suc g) key distance ≡ i → AreOthers p t (suc g) key distance
-    → HasWay p u next i key
-claim-way p t u lasting g next i key distance is table below near at others =
+    (p : Plan) (t u : Tables) → Lasts p t u → (g next i key : ℕ) → next ≡ suc g → suc g < generations_of p
+    → HasSlot p t g key → IsOnPath p t (suc g) i key → HasWay p u next i key
+claim-way p t u lasting g next i key is table below path =
     let way : HasWay p u (suc g) i key = record {
-      path = record { distance = distance; in_table = near; at = at; passed = lasting.others (suc g) key distance table others };
+      path = record {
+        distance = path.distance;
+        in_table = path.in_table;
+        at = path.at;
+        passed = lasting.others (suc g) key path.distance table path.passed;
+      };
       reason = inl (lasting.has_slot g key (omega arith) below);
     } in
     subst (λ f. HasWay p u f i key) (sym is) way

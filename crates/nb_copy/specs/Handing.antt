@@ -1,5 +1,5 @@
 -- What it takes to copy slots, chunks and whole tables.
-use Rattle.std.specs.Prelude.{◌≡◌, ℕ, suc, ◌+◌, ◌*◌, ◌<◌, ◌≤◌, List, ◌∷◌, ◌++◌, length}
+use Rattle.std.specs.Prelude.{◌≡◌, ℕ, suc, ◌+◌, ◌*◌, ◌<◌, ◌≤◌, List, ◌∷◌, ◌++◌, length, All}
 use Rattle.nb_core.specs.Plans.{Plan, size_of}
 use Rattle.nb_core.specs.Tables.{IsComplete, IsFinished, chunk_of, tables_at}
 use Rattle.nb_core.specs.declared.events.Event.{Event}
@@ -27,8 +27,13 @@ table_steps p g = size_of p g * (2 * slot_steps p g + 3) + 1
 abbrev pub IsRaised : Plan → ℕ → SeenBy → Type 0
 IsRaised p g seat = (seen_by seat).counted g ≡ size_of p g → g < (seen_by seat).top
 
--- The seat asked for one chunk, and all slots that it was handed are finished: those of the table from where its take word
--- stood. Its steps turned so many slots finished, and it counted just these.
+-- the slot is one of the chunk that is handed out where the take word stands at this
+abbrev pub IsHanded : Plan → (g start i : ℕ) → Type 0
+IsHanded p g start i = (start ≤ i) × (i < start + chunk_of p g) × (i < size_of p g)
+
+-- The seat asked for one chunk, and was handed the one from where the table's take word stood: all slots of it are finished.
+-- Its steps turned so many slots finished, all of them in this chunk, and it counted just these. Where no slot was left to hand
+-- out, it made one step and turned none.
 pub record HasHelped (p : Plan) (g : ℕ) (before after : SeenBy) (turned : ℕ) : Type 0 where
   pub slots : List ℕ
   pub number : length slots ≡ turned
@@ -36,9 +41,11 @@ pub record HasHelped (p : Plan) (g : ℕ) (before after : SeenBy) (turned : ℕ)
   pub since : List Event
   pub others : List Event
   pub asked : after.seen ≡ since ++ (Take before.number g ∷ (others ++ before.seen))
-  pub finished :
-      (i : ℕ) → (tables_at p (others ++ before.seen)).taken g ≤ i → i < (tables_at p (others ++ before.seen)).taken g + chunk_of p g
-      → i < size_of p g → IsFinished (seen_by after) g i
+  pub start : ℕ
+  pub stood : (tables_at p (others ++ before.seen)).taken g ≡ start
+  pub finished : (i : ℕ) → IsHanded p g start i → IsFinished (seen_by after) g i
+  pub handed : All (IsHanded p g start) slots
+  pub idle : size_of p g ≤ start → (turned ≡ 0) × (after.steps ≡ before.steps + 1)
   pub raised : 1 ≤ turned → IsRaised p g after
 
 -- The seat copied the table: all its slots are finished, and the top word is past it. The seat counted just the slots that

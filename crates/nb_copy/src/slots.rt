@@ -2,7 +2,7 @@
 ghost use Rattle.std.specs.Prelude.{◌≡◌, ◌≢◌, ◌+◌, ◌*◌, ◌<◌, suc, [], ◌∷◌, if◌then◌else◌, IfSome, IfNone};
 ghost use Rattle.nb_core.specs.Laws.{IsPassed, IsPrimedOrFinished};
 ghost use Rattle.nb_core.specs.Plans.{generations_of, size_of};
-ghost use Rattle.nb_core.specs.Tables.{AreOthers, HasSlot, IsFinished, IsInstalled, IsSlot, path_slot};
+ghost use Rattle.nb_core.specs.Tables.{HasSlot, IsFinished, IsInstalled, IsOnPath, IsSlot};
 ghost use Rattle.nb_core.specs.declared.states.KeyState.TheVariants as key_is;
 ghost use Rattle.nb_table.specs.Chains.{IsOwn, seen_by};
 ghost use Rattle.nb_copy.specs.Copying.{HasCopied};
@@ -13,7 +13,8 @@ use nb_table::{Chain, ChainSeat, laws};
 
 /// Finishes slot `i` of table `g`, which has a next one, whatever others do to it meanwhile: an empty slot is closed, a value
 /// is primed, and a number is copied to the key's slot in the next table first. Answers whether a step of this call turned
-/// the slot finished. It counts nothing. The idea is `copy_slot` of high-scale-lib.
+/// the slot finished. It counts nothing. It makes at most 2 n + 6 steps, where the next table has n slots. The idea is
+/// `copy_slot` of high-scale-lib.
 pub fn copy_slot(chain: &Chain, seat: &mut ChainSeat, g: u32, i: usize) -> bool
     requires own { IsOwn chain.now seat.old }
     requires slot { IsSlot chain.now.shape g i }
@@ -132,7 +133,7 @@ fn place_in_next(chain: &Chain, seat: &mut ChainSeat, g: u32, key: Key) -> Optio
     seat.known();
     for distance in 0..chain.shape().size_of(g + 1) {
         let j = chain.shape().path_slot(g + 1, key, distance);
-        match key_or_claim(chain, seat, g, key, distance, j) {
+        match key_or_claim(chain, seat, g, key, j) {
             KeyState::Claimed(other) => {
                 if other == key {
                     return Some(j);
@@ -144,23 +145,14 @@ fn place_in_next(chain: &Chain, seat: &mut ChainSeat, g: u32, key: Key) -> Optio
     None
 }
 
-/// What the key word of a slot of the next table holds, on the path of a key of table `g`, behind slots of other keys: an
+/// What the key word of slot `j` of the next table holds, on the path of a key of table `g`, behind slots of other keys: an
 /// empty slot is claimed for the key first.
-fn key_or_claim(
-    chain: &Chain,
-    seat: &mut ChainSeat,
-    g: u32,
-    key: Key,
-    distance: usize,
-    j: usize,
-) -> KeyState
+fn key_or_claim(chain: &Chain, seat: &mut ChainSeat, g: u32, key: Key, j: usize) -> KeyState
     requires own { IsOwn chain.now seat.old }
-    requires table { suc g < generations_of chain.now.shape }
+    requires slot { IsSlot chain.now.shape (suc g) j }
     requires growing { IsInstalled (seen_by seat.old) (suc g) }
     requires below { HasSlot chain.now.shape (seen_by seat.old) g key }
-    requires near { distance < size_of chain.now.shape (suc g) }
-    requires at { path_slot chain.now.shape (suc g) key distance ≡ j }
-    requires others { AreOthers chain.now.shape (seen_by seat.old) (suc g) key distance }
+    requires on_path { IsOnPath chain.now.shape (seen_by seat.old) (suc g) j key }
     ensures copied { HasCopied chain.now.shape g seat.old seat.new [] 0 0 2 }
     ensures found { (seen_by seat.new).key (suc g) j ≡ result }
     ensures some { result ≢ key_is.Empty }

@@ -1,5 +1,5 @@
 //! Copying chunks and whole tables, and counting what was copied.
-ghost use Rattle.std.specs.Prelude.{◌≡◌, ℕ, ◌+◌, ◌-◌, ◌*◌, ◌<◌, ◌≤◌, suc, [], ◌∷◌, List, length, if◌then◌else◌, unwrap_or, IsTrue};
+ghost use Rattle.std.specs.Prelude.{◌≡◌, ℕ, ◌+◌, ◌-◌, ◌*◌, ◌<◌, ◌≤◌, suc, [], ◌∷◌, List, length, All, if◌then◌else◌, unwrap_or, IsTrue};
 ghost use Rattle.nb_core.specs.History.{counted_by, turned_by};
 ghost use Rattle.nb_core.specs.Plans.{generations_of, size_of};
 ghost use Rattle.nb_core.specs.Tables.{IsFinished, IsInstalled, IsSlot};
@@ -11,8 +11,9 @@ use crate::slots::copy_slot;
 use nb_table::{Chain, ChainSeat, laws};
 
 /// Copies the next chunk of table `g` that nobody was handed: 8 slots, or the table if that is smaller. Answers how many slots
-/// its own steps turned finished. It counts just these, by one add, and raises the top word if that brings the count to the
-/// size. Once all chunks are handed out it makes one step and answers 0. The idea is `help_copy_impl` of high-scale-lib.
+/// its own steps turned finished, all of them in the chunk. It counts just these, by one add, and raises the top word if that
+/// brings the count to the size. It makes at most three steps beside those of `copy_slot` for each slot of the chunk. Once all
+/// chunks are handed out it makes one step and answers 0. The idea is `help_copy_impl` of high-scale-lib.
 pub fn help(chain: &Chain, seat: &mut ChainSeat, g: u32) -> usize
     requires own { IsOwn chain.now seat.old }
     requires growing { IsInstalled (seen_by seat.old) (suc g) }
@@ -40,7 +41,7 @@ pub fn complete(chain: &Chain, seat: &mut ChainSeat, g: u32)
 }
 
 /// Finishes slot `i` of table `g` as `copy_slot` does, and counts it if a step of this call turned it finished: then it
-/// answers true, and has raised the top word if that brought the count to the size.
+/// answers true, and has raised the top word if that brought the count to the size. This takes at most two steps more.
 pub fn copy_and_count(chain: &Chain, seat: &mut ChainSeat, g: u32, i: usize) -> bool
     requires own { IsOwn chain.now seat.old }
     requires slot { IsSlot chain.now.shape g i }
@@ -81,20 +82,22 @@ fn copy_chunk(chain: &Chain, seat: &mut ChainSeat, g: u32) -> Option<usize>
         return None;
     }
     let start = start as usize;
-    let turned = copy_slots(chain, seat, g, start, size.min(start + 8));
+    let end = size.min(start + chain.shape().chunk_of(g));
+    let turned = copy_slots(chain, seat, g, start, end);
     if turned > 0 {
         count(chain, seat, g, turned);
     }
     Some(turned)
 }
 
-/// Finishes the slots of table `g` from one on, up to another. Answers how many its own steps turned. It counts nothing.
+/// Finishes the slots of table `g` from one on, up to another. Answers how many of them its own steps turned. It turns no other
+/// slot, and counts nothing.
 fn copy_slots(chain: &Chain, seat: &mut ChainSeat, g: u32, from: usize, to: usize) -> usize
     requires own { IsOwn chain.now seat.old }
     requires table { g < generations_of chain.now.shape }
     requires within { (from ≤ to) × (to ≤ size_of chain.now.shape g) }
     requires growing { IsInstalled (seen_by seat.old) (suc g) }
-    ensures copied { (slots : List ℕ) × (length slots ≡ result)
+    ensures copied { (slots : List ℕ) × (length slots ≡ result) × All (λ i. (from ≤ i) × (i < to)) slots
         × HasCopied chain.now.shape g seat.old seat.new slots 0 0 ((to - from) * slot_steps chain.now.shape g) }
     ensures finished { (i : ℕ) → from ≤ i → i < to → IsFinished (seen_by seat.new) g i }
 {
@@ -142,7 +145,7 @@ fn copy_chunks(chain: &Chain, seat: &mut ChainSeat, g: u32)
     nb_core::laws::linked();
     chain.shape().known();
     seat.known();
-    let chunks = (chain.shape().size_of(g) / 8).max(1);
+    let chunks = chain.shape().size_of(g) / chain.shape().chunk_of(g);
     for _taken in 0..chunks {
         if copy_chunk(chain, seat, g).is_none() {
             return;

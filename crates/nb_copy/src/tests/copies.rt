@@ -87,7 +87,7 @@ fn two_copy_one_slot<R: Abort>(rt: &R, chain: &Chain, a: &mut ChainSeat, b: &mut
 
 #[test]
 fn copy_of_one_slot(rt: HostRuntime) -> Result<(), Fail> {
-    let shape = Shape::new(2, 2, 2, 1).map_err(|_| OutOfMemory)?;
+    let shape = Shape::new(2, 2, 2, 1)?;
     let (chain, mut seats) = Chain::new(rt.alloc(), shape)?;
     let (Some(mut b), Some(mut a)) = (seats.pop(), seats.pop()) else {
         panic!(rt; "there are two seats")
@@ -152,7 +152,7 @@ fn stops_and_goes_on<R: Abort>(rt: &R, chain: &Chain, a: &mut ChainSeat, b: &mut
 
 #[test]
 fn stopped_copier(rt: HostRuntime) -> Result<(), Fail> {
-    let shape = Shape::new(2, 3, 2, 1).map_err(|_| OutOfMemory)?;
+    let shape = Shape::new(2, 3, 2, 1)?;
     let (chain, mut seats) = Chain::new(rt.alloc(), shape)?;
     let (Some(mut b), Some(mut a)) = (seats.pop(), seats.pop()) else {
         panic!(rt; "there are two seats")
@@ -211,7 +211,7 @@ fn stops_after<R: Abort>(rt: &R, chain: &Chain, a: &mut ChainSeat, b: &mut Chain
 #[test]
 fn stopped_after_each_step(rt: HostRuntime) -> Result<(), Fail> {
     for steps in 0..9 {
-        let shape = Shape::new(2, 3, 2, 1).map_err(|_| OutOfMemory)?;
+        let shape = Shape::new(2, 3, 2, 1)?;
         let (chain, mut seats) = Chain::new(rt.alloc(), shape)?;
         let (Some(mut b), Some(mut a)) = (seats.pop(), seats.pop()) else {
             panic!(rt; "there are two seats")
@@ -263,7 +263,7 @@ fn three_help<R: Abort>(
 
 #[test]
 fn three_helpers(rt: HostRuntime) -> Result<(), Fail> {
-    let shape = Shape::new(4, 2, 3, 1).map_err(|_| OutOfMemory)?;
+    let shape = Shape::new(4, 2, 3, 1)?;
     let (chain, mut seats) = Chain::new(rt.alloc(), shape)?;
     let (Some(mut c), Some(mut b), Some(mut a)) = (seats.pop(), seats.pop(), seats.pop()) else {
         panic!(rt; "there are three seats")
@@ -296,7 +296,7 @@ fn one_finishes_for_another<R: Abort>(rt: &R, chain: &Chain, a: &mut ChainSeat, 
 
 #[test]
 fn finished_by_another(rt: HostRuntime) -> Result<(), Fail> {
-    let shape = Shape::new(4, 2, 2, 1).map_err(|_| OutOfMemory)?;
+    let shape = Shape::new(4, 2, 2, 1)?;
     let (chain, mut seats) = Chain::new(rt.alloc(), shape)?;
     let (Some(mut b), Some(mut a)) = (seats.pop(), seats.pop()) else {
         panic!(rt; "there are two seats")
@@ -333,7 +333,7 @@ fn grows_twice<R: Abort>(rt: &R, chain: &Chain, seat: &mut ChainSeat)
 
 #[test]
 fn plan_of_three(rt: HostRuntime) -> Result<(), Fail> {
-    let shape = Shape::with_plan(&[2, 2, 3], 1, 1).map_err(|_| OutOfMemory)?;
+    let shape = Shape::with_plan(&[2, 2, 3], 1, 1)?;
     let (chain, mut seats) = Chain::new(rt.alloc(), shape)?;
     let Some(mut seat) = seats.pop() else {
         panic!(rt; "there is a seat")
@@ -370,8 +370,8 @@ fn makes_room<R: Abort>(rt: &R, chain: &Chain, seat: &mut ChainSeat)
 }
 
 #[test]
-fn same_size_tables(rt: HostRuntime) -> Result<(), Fail> {
-    let shape = Shape::with_plan(&[2, 2], 1, 1).map_err(|_| OutOfMemory)?;
+fn same_size_successor(rt: HostRuntime) -> Result<(), Fail> {
+    let shape = Shape::with_plan(&[2, 2], 1, 1)?;
     let (chain, mut seats) = Chain::new(rt.alloc(), shape)?;
     let Some(mut seat) = seats.pop() else {
         panic!(rt; "there is a seat")

@@ -1,10 +1,11 @@
 //! Copies by several threads at once.
+ghost use Rattle.std.specs.Prelude.{All, IfOk};
 ghost use Rattle.nb_core.specs.Tables.{IsInstalled, IsSlot};
 ghost use Rattle.nb_table.specs.Chains.{IsOwn, seen_by};
 
 use super::by_hand::*;
 use super::copies::{fills_two_chunks, leaves};
-use crate::{complete, copy_and_count, copy_slot};
+use crate::{copy_and_count, copy_slot};
 use nb_core::{OutOfMemory, Shape, ValueState};
 use nb_table::{Chain, ChainSeat, laws};
 use std::alloc::Global;
@@ -13,73 +14,32 @@ use std::test::Fail;
 use std::thread;
 use std::thread::Threads;
 
-/// Copies the whole of table 0, if it has a next one, and answers whether it has.
-fn completes_alone(chain: &Chain, seat: ChainSeat) -> (bool, ChainSeat)
-    requires { IsOwn chain.now seat }
-    ensures { IsOwn chain.now result.1 }
+/// A chain with so many seats, one of which has filled a table 0 of two chunks and installed table 1.
+fn filled<R: Abort>(
+    rt: &R,
+    alloc: Global,
+    seats: usize,
+) -> Result<(Chain, Vec<ChainSeat>), OutOfMemory>
+    ensures own { IfOk result (λ made. All (IsOwn made.0) made.1.items) }
 {
-    laws::steps_add_up();
-    chain.shape().known();
-    let mut seat = seat;
-    let grown = chain.load_next(&mut seat, 0, None);
-    if grown {
-        complete(chain, &mut seat, 0);
-    }
-    (grown, seat)
+    let shape = Shape::new(4, 2, seats, 1).expect(rt, "a shape");
+    let (chain, mut seats) = Chain::new(alloc, shape)?;
+    let mut seat = taken(rt, &chain, &mut seats);
+    fills_two_chunks(rt, &chain, &mut seat);
+    seats.push(seat)?;
+    Ok((chain, seats))
 }
 
-/// Two threads copy the whole of table 0 at once.
-fn two_complete<R: Threads + Sync>(
-    rt: &R,
-    chain: &Chain,
-    a: ChainSeat,
-    b: ChainSeat,
-) -> (bool, ChainSeat, ChainSeat)
-    requires a { IsOwn chain.now a }
-    requires b { IsOwn chain.now b }
-    ensures { IsOwn chain.now result.1 × IsOwn chain.now result.2 }
+/// One of the seats.
+fn taken<R: Abort>(rt: &R, chain: &Chain, seats: &mut Vec<ChainSeat>) -> ChainSeat
+    requires own { All (IsOwn chain.now) seats.old.items }
+    ensures taken { IsOwn chain.now result }
+    ensures left { All (IsOwn chain.now) seats.new.items }
 {
-    let ((by_a, a), (by_b, b)) = thread::join(
-        rt,
-        move || -> (bool, ChainSeat)
-            requires { IsOwn chain.now a }
-            ensures { IsOwn chain.entry.now result.1 }
-        { completes_alone(chain, a) },
-        move || -> (bool, ChainSeat)
-            requires { IsOwn chain.now b }
-            ensures { IsOwn chain.entry.now result.1 }
-        { completes_alone(chain, b) },
-    );
-    (by_a && by_b, a, b)
-}
-
-/// Four threads copy the whole of table 0 at once.
-fn four_complete<R: Threads + Sync>(
-    rt: &R,
-    chain: &Chain,
-    a: ChainSeat,
-    b: ChainSeat,
-    c: ChainSeat,
-    d: ChainSeat,
-) -> (bool, ChainSeat, ChainSeat, ChainSeat, ChainSeat)
-    requires a { IsOwn chain.now a }
-    requires b { IsOwn chain.now b }
-    requires c { IsOwn chain.now c }
-    requires d { IsOwn chain.now d }
-    ensures { IsOwn chain.now result.1 × IsOwn chain.now result.2 × IsOwn chain.now result.3 × IsOwn chain.now result.4 }
-{
-    let ((by_ab, a, b), (by_cd, c, d)) = thread::join(
-        rt,
-        move || -> (bool, ChainSeat, ChainSeat)
-            requires { IsOwn chain.now a × IsOwn chain.now b }
-            ensures { IsOwn chain.entry.now result.1 × IsOwn chain.entry.now result.2 }
-        { two_complete(rt, chain, a, b) },
-        move || -> (bool, ChainSeat, ChainSeat)
-            requires { IsOwn chain.now c × IsOwn chain.now d }
-            ensures { IsOwn chain.entry.now result.1 × IsOwn chain.entry.now result.2 }
-        { two_complete(rt, chain, c, d) },
-    );
-    (by_ab && by_cd, a, b, c, d)
+    let Some(seat) = seats.pop() else {
+        panic!(rt; "there is a seat")
+    };
+    seat
 }
 
 /// Sees that table 0 is complete, that the top word says so, and that table 1 has the six keys: the three of each home lie
@@ -99,20 +59,60 @@ fn is_copied<R: Abort>(rt: &R, chain: &Chain, seat: &mut ChainSeat)
     assert_eq!(rt; chain.load_top(seat), 1);
 }
 
+/// Sees that the table is copied, and closes the chain with all its seats.
+fn ends<R: Abort>(
+    rt: &R,
+    alloc: Global,
+    chain: Chain,
+    seats: Vec<ChainSeat>,
+) -> Result<(), OutOfMemory>
+    requires own { All (IsOwn chain) seats.items }
+{
+    let mut seats = seats;
+    let mut seat = taken(rt, &chain, &mut seats);
+    is_copied(rt, &chain, &mut seat);
+    seats.push(seat)?;
+    leaves(rt, alloc, chain, seats, &[0, 16, 32, 48, 64, 80])
+}
+
+/// Each seat copies the whole of table 0 in a thread of its own.
+fn all_complete<R: Threads + Sync + Abort>(rt: &R, chain: &Chain, seats: &mut [ChainSeat])
+    requires own { All (IsOwn chain.now) seats.old }
+    ensures own { All (IsOwn chain.now) seats.new }
+{
+    thread::for_each_mut(
+        rt,
+        seats,
+        8,
+        &|_, seat: &mut ChainSeat|
+            requires { IsOwn chain.now seat.now }
+            ensures { IsOwn chain.entry.now seat.exit.now }
+        { completes(rt, chain, seat, 0) },
+    );
+}
+
+/// So many threads copy one table, each all of it.
+fn complete_one_table<R: Threads + Sync + Abort>(
+    rt: &R,
+    alloc: Global,
+    threads: usize,
+) -> Result<(), OutOfMemory> {
+    let (chain, mut seats) = filled(rt, alloc, threads)?;
+    all_complete(rt, &chain, seats.as_mut_slice());
+    ends(rt, alloc, chain, seats)
+}
+
 #[test]
 fn two_completers(rt: HostRuntime) -> Result<(), Fail> {
-    let shape = Shape::new(4, 2, 2, 1).map_err(|_| OutOfMemory)?;
-    let (chain, mut seats) = Chain::new(rt.alloc(), shape)?;
-    let (Some(b), Some(mut a)) = (seats.pop(), seats.pop()) else {
-        panic!(rt; "there are two seats")
-    };
-    fills_two_chunks(&rt, &chain, &mut a);
-    let (by_both, mut a, b) = two_complete(&rt, &chain, a, b);
-    assert!(rt; by_both);
-    is_copied(&rt, &chain, &mut a);
-    seats.push(a)?;
-    seats.push(b)?;
-    leaves(&rt, rt.alloc(), chain, seats, &[0, 16, 32, 48, 64, 80])?;
+    complete_one_table(&rt, rt.alloc(), 2)?;
+    Ok(())
+}
+
+#[test]
+fn many_complete_one_table(rt: HostRuntime) -> Result<(), Fail> {
+    for _round in 0..1000 {
+        complete_one_table(&rt, rt.alloc(), 4)?;
+    }
     Ok(())
 }
 
@@ -148,125 +148,51 @@ fn turns_alone(chain: &Chain, seat: ChainSeat, counted: bool) -> (usize, ChainSe
     (turned, seat)
 }
 
-/// Two threads copy the slots of table 0 one after another at once.
-fn two_turn<R: Threads + Sync>(
-    rt: &R,
-    chain: &Chain,
-    a: ChainSeat,
-    b: ChainSeat,
-    counted: bool,
-) -> (usize, ChainSeat, ChainSeat)
-    requires a { IsOwn chain.now a }
-    requires b { IsOwn chain.now b }
-    ensures { IsOwn chain.now result.1 × IsOwn chain.now result.2 }
-{
-    let ((by_a, a), (by_b, b)) = thread::join(
-        rt,
-        move || -> (usize, ChainSeat)
-            requires { IsOwn chain.now a }
-            ensures { IsOwn chain.entry.now result.1 }
-        { turns_alone(chain, a, counted) },
-        move || -> (usize, ChainSeat)
-            requires { IsOwn chain.now b }
-            ensures { IsOwn chain.entry.now result.1 }
-        { turns_alone(chain, b, counted) },
-    );
-    (by_a.wrapping_add(by_b), a, b)
-}
-
-/// Four threads copy the slots of table 0 one after another at once.
-fn four_turn<R: Threads + Sync>(
-    rt: &R,
-    chain: &Chain,
-    a: ChainSeat,
-    b: ChainSeat,
-    c: ChainSeat,
-    d: ChainSeat,
-    counted: bool,
-) -> (usize, ChainSeat, ChainSeat, ChainSeat, ChainSeat)
-    requires a { IsOwn chain.now a }
-    requires b { IsOwn chain.now b }
-    requires c { IsOwn chain.now c }
-    requires d { IsOwn chain.now d }
-    ensures { IsOwn chain.now result.1 × IsOwn chain.now result.2 × IsOwn chain.now result.3 × IsOwn chain.now result.4 }
-{
-    let ((by_ab, a, b), (by_cd, c, d)) = thread::join(
-        rt,
-        move || -> (usize, ChainSeat, ChainSeat)
-            requires { IsOwn chain.now a × IsOwn chain.now b }
-            ensures { IsOwn chain.entry.now result.1 × IsOwn chain.entry.now result.2 }
-        { two_turn(rt, chain, a, b, counted) },
-        move || -> (usize, ChainSeat, ChainSeat)
-            requires { IsOwn chain.now c × IsOwn chain.now d }
-            ensures { IsOwn chain.entry.now result.1 × IsOwn chain.entry.now result.2 }
-        { two_turn(rt, chain, c, d, counted) },
-    );
-    (by_ab.wrapping_add(by_cd), a, b, c, d)
-}
-
-/// Four threads copy one table, each all of it.
-fn four_complete_one_table<R: Threads + Sync + Abort>(
+/// Each seat copies the slots of table 0 one after another, in a thread of its own. Answers how many this turned finished in
+/// all, and the seats.
+fn all_turn<R: Threads + Sync>(
     rt: &R,
     alloc: Global,
-) -> Result<(), OutOfMemory> {
-    let shape = Shape::new(4, 2, 4, 1).map_err(|_| OutOfMemory)?;
-    let (chain, mut seats) = Chain::new(alloc, shape)?;
-    let (Some(d), Some(c), Some(b), Some(mut a)) = (
-        seats.pop(),
-        seats.pop(),
-        seats.pop(),
-        seats.pop(),
-    ) else {
-        panic!(rt; "there are four seats")
-    };
-    fills_two_chunks(rt, &chain, &mut a);
-    let (by_all, mut a, b, c, d) = four_complete(rt, &chain, a, b, c, d);
-    assert!(rt; by_all);
-    is_copied(rt, &chain, &mut a);
-    seats.push(a)?;
-    seats.push(b)?;
-    seats.push(c)?;
-    seats.push(d)?;
-    leaves(rt, alloc, chain, seats, &[0, 16, 32, 48, 64, 80])
-}
-
-#[test]
-fn many_complete_one_table(rt: HostRuntime) -> Result<(), Fail> {
-    for _round in 0..1000 {
-        four_complete_one_table(&rt, rt.alloc())?;
+    chain: &Chain,
+    seats: Vec<ChainSeat>,
+    counted: bool,
+) -> Result<(usize, Vec<ChainSeat>), OutOfMemory>
+    requires own { All (IsOwn chain.now) seats.items }
+    ensures own { IfOk result (λ all. All (IsOwn chain.now) all.1.items) }
+{
+    let mut done = thread::map_vec(
+        rt,
+        seats,
+        &|seat: ChainSeat| -> (usize, ChainSeat)
+            requires { IsOwn chain.now seat }
+            ensures { IsOwn chain.entry.now result.1 }
+        { turns_alone(chain, seat, counted) },
+    )?;
+    let mut turned = 0usize;
+    let mut seats = Vec::new(alloc);
+    while let Some((by_one, seat)) = done.pop() {
+        turned = turned.wrapping_add(by_one);
+        seats.push(seat)?;
     }
-    Ok(())
+    Ok((turned, seats))
 }
 
 /// Four threads copy all slots of one table, one after another. Each of its 16 slots was turned finished by one of them. If
-/// they counted, the top word says that the table is complete; else nothing says so until the first seat completes it.
+/// they counted, the top word says that the table is complete; else nothing says so until a seat completes it.
 fn four_turn_one_table<R: Threads + Sync + Abort>(
     rt: &R,
     alloc: Global,
     counted: bool,
 ) -> Result<(), OutOfMemory> {
-    let shape = Shape::new(4, 2, 4, 1).map_err(|_| OutOfMemory)?;
-    let (chain, mut seats) = Chain::new(alloc, shape)?;
-    let (Some(d), Some(c), Some(b), Some(mut a)) = (
-        seats.pop(),
-        seats.pop(),
-        seats.pop(),
-        seats.pop(),
-    ) else {
-        panic!(rt; "there are four seats")
-    };
-    fills_two_chunks(rt, &chain, &mut a);
-    let (turned, mut a, b, c, d) = four_turn(rt, &chain, a, b, c, d, counted);
+    let (chain, seats) = filled(rt, alloc, 4)?;
+    let (turned, mut seats) = all_turn(rt, alloc, &chain, seats, counted)?;
     assert_eq!(rt; turned, 16);
-    is_complete(rt, &chain, &mut a, 0);
-    assert_eq!(rt; chain.load_top(&mut a), u32::from(counted));
-    completes(rt, &chain, &mut a, 0);
-    is_copied(rt, &chain, &mut a);
-    seats.push(a)?;
-    seats.push(b)?;
-    seats.push(c)?;
-    seats.push(d)?;
-    leaves(rt, alloc, chain, seats, &[0, 16, 32, 48, 64, 80])
+    let mut seat = taken(rt, &chain, &mut seats);
+    is_complete(rt, &chain, &mut seat, 0);
+    assert_eq!(rt; chain.load_top(&mut seat), u32::from(counted));
+    completes(rt, &chain, &mut seat, 0);
+    seats.push(seat)?;
+    ends(rt, alloc, chain, seats)
 }
 
 #[test]

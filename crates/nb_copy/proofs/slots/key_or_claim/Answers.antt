@@ -18,13 +18,13 @@ claim_key-requires-clause-way c =
     let law = c.steps_add_up.ensures in
     let plan = subst IsPlan c.shape.ensures c.known.ensures in
     let lasting = law.stays plan c.requires.own (law.one c.load_key.ensures.grows) in
-    claim-way _ _ _ lasting c.args.g _ _ _ _ (add-one c.args.g) c.requires.table c.requires.below c.requires.near c.requires.at c.requires.others
+    claim-way _ _ _ lasting c.args.g _ _ _ (add-one c.args.g) c.requires.slot.0 c.requires.below c.requires.on_path
 
 pub returns-in-Empty-claim_key-clause-copied : goal.returns-in-Empty-claim_key-clause-copied
 returns-in-Empty-claim_key-clause-copied c =
     let plan = subst IsPlan c.shape.ensures c.known.ensures in
     let won = c.claim_key.ensures.won c.in-Empty-claim_key.is in
-    claimed-next c.steps_add_up.ensures c.own_lasts.ensures c.args.chain.now plan c.args.g (omega (arith, c.requires.table))
+    claimed-next c.steps_add_up.ensures c.own_lasts.ensures c.args.chain.now plan c.args.g (omega (arith, c.requires.slot.0))
     _ _ _ _ (add-one c.args.g) c.requires.own c.requires.below c.load_key.ensures.grows won.0
 
 pub returns-in_default-claim_key : goal.returns-in_default-claim_key
@@ -32,7 +32,7 @@ returns-in_default-claim_key c =
     let plan = subst IsPlan c.shape.ensures c.known.ensures in
     let lost = c.claim_key.ensures.lost c.in_default-claim_key.not-Empty in
     record {
-      copied = two-quiet c.steps_add_up.ensures c.own_lasts.ensures c.args.chain.now plan c.args.g (omega (arith, c.requires.table))
+      copied = two-quiet c.steps_add_up.ensures c.own_lasts.ensures c.args.chain.now plan c.args.g (omega (arith, c.requires.slot.0))
           c.requires.own c.load_key.ensures.grows lost.0;
       found = subst (λ f. (seen_by c.claim_key.new.seat).key f c.args.j ≡ c.claim_key.result) (add-one c.args.g) lost.1;
       some = c.in_default-claim_key.not-Empty;

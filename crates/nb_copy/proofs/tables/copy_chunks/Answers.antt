@@ -1,5 +1,6 @@
-use Rattle.std.proofs.Common.{◌≡◌, ◌+◌, ◌/◌, max, [], suc, subst, arith, rules}
+use Rattle.std.proofs.Common.{◌≡◌, ◌+◌, ◌/◌, [], suc, subst, arith, rules}
 use Rattle.nb_core.specs.Plans.{IsPlan, size_of}
+use Rattle.nb_core.specs.Tables.{chunk_of}
 use Rattle.nb_copy.proofs.Copied.{copied-none, copied-own, copied-stays, copied-within}
 use Rattle.nb_copy.proofs.Helped.{helped-all, helped-more}
 use Rattle.nb_copy.proofs.SlotsFinished.{next-in-plan}
@@ -28,7 +29,7 @@ returns-then-is_none c =
     let chain = c.args.chain.now in
     let plan = subst IsPlan c.shape.ensures c.known.ensures in
     let next = next-in-plan c.linked.ensures chain c.args.seat.now plan c.requires.own c.known-2.ensures c.args.g c.requires.growing in
-    let chunks : c.max-chunks.result ≡ max (size_of chain.shape c.args.g / 8) 1 = search rules in
+    let chunks : c.size_of.result / c.chunk_of.result ≡ size_of chain.shape c.args.g / chunk_of chain.shape c.args.g = search rules in
     record {
       copied = helped-all law c.own_lasts.ensures chain plan c.args.g (omega (arith, next)) (c.loop-taken._taken + 1)
           (omega (arith, chunks, c.loop-taken-test.true))
@@ -51,7 +52,7 @@ returns c =
     let chain = c.args.chain.now in
     let plan = subst IsPlan c.shape.ensures c.known.ensures in
     let next = next-in-plan c.linked.ensures chain c.args.seat.now plan c.requires.own c.known-2.ensures c.args.g c.requires.growing in
-    let chunks : c.max-chunks.result ≡ max (size_of chain.shape c.args.g / 8) 1 = search rules in
+    let chunks : c.size_of.result / c.chunk_of.result ≡ size_of chain.shape c.args.g / chunk_of chain.shape c.args.g = search rules in
     record {
       copied = helped-all law c.own_lasts.ensures chain plan c.args.g (omega (arith, next)) c.loop-taken._taken
           (omega (arith, chunks, c.loop-taken.auto._taken-end)) c.loop-taken.invariant;

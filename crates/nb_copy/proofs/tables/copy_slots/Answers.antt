@@ -1,4 +1,6 @@
-use Rattle.std.proofs.Common.{◌≡◌, ◌+◌, ◌-◌, ◌*◌, ◌<◌, suc, ℕ, List, [], length, refl, subst, sym, arith, rules}
+use Rattle.std.proofs.Common.{◌≡◌, ◌-◌, ◌*◌, ◌<◌, ◌≤◌, suc, ℕ, List, [], length, refl, subst, sym, arith, rules}
+use Rattle.std.specs.List.{All}
+use Rattle.std.proofs.lemmas.List.Elements.{All-nil}
 use Rattle.nb_core.specs.Plans.{IsPlan}
 use Rattle.nb_copy.specs.Copying.{HasCopied}
 use Rattle.nb_copy.specs.Handing.{slot_steps}
@@ -7,21 +9,22 @@ use Rattle.nb_copy.proofs.Counted.{byte-small, copied-slot, finished-slot}
 use Rattle.nb_copy.proofs.tables.copy_slots.Goals as goal
 
 pub loop-i-init : goal.loop-i-init
-loop-i-init c = (
-  omega arith,
-  ([], refl, copied-within 0 _ (omega arith) (copied-none c.steps_add_up.ensures c.own_lasts.ensures c.args.chain.now.shape c.args.g c.args.seat.now c.known-2.ensures)),
-  λ j after below. absurd (omega (arith, after, below)),
-)
+loop-i-init c =
+    let none = copied-none c.steps_add_up.ensures c.own_lasts.ensures c.args.chain.now.shape c.args.g c.args.seat.now c.known-2.ensures in (
+      omega arith,
+      ([], refl, All-nil (λ j. (c.args.from ≤ j) × (j < c.args.from)), copied-within 0 _ (omega arith) none),
+      λ j after below. absurd (omega (arith, after, below)),
+    )
 
 pub copy_slot-requires-clause-own : goal.copy_slot-requires-clause-own
 copy_slot-requires-clause-own c =
     copied-own c.steps_add_up.ensures c.args.chain.now (subst IsPlan c.shape.ensures c.known.ensures) c.args.g c.requires.table c.requires.own
-    c.loop-i.invariant.1.2
+    c.loop-i.invariant.1.3
 
 pub copy_slot-requires-clause-growing : goal.copy_slot-requires-clause-growing
 copy_slot-requires-clause-growing c =
     let plan = subst IsPlan c.shape.ensures c.known.ensures in
-    (copied-stays c.steps_add_up.ensures c.args.chain.now plan c.args.g c.requires.table c.requires.own c.loop-i.invariant.1.2).installed (suc c.args.g)
+    (copied-stays c.steps_add_up.ensures c.args.chain.now plan c.args.g c.requires.table c.requires.own c.loop-i.invariant.1.3).installed (suc c.args.g)
     c.requires.growing
 
 pub overflow_add-turned : goal.overflow_add-turned
@@ -34,14 +37,11 @@ loop-i-preserved c =
     let chain = c.args.chain.now in
     let plan = subst IsPlan c.shape.ensures c.known.ensures in
     let so_far = c.loop-i.invariant in
-    let own = copied-own law chain plan c.args.g c.requires.table c.requires.own so_far.1.2 in
-    let next : c.loop-i.i - c.args.from + 1 ≡ c.loop-i.i + 1 - c.args.from = omega (arith, c.loop-i.auto.i) in (
+    let own = copied-own law chain plan c.args.g c.requires.table c.requires.own so_far.1.3 in
+    let first : c.args.from ≤ c.loop-i.i = omega (arith, c.loop-i.auto.i) in (
       omega (arith, so_far.0, c.from-turned.ensures, byte-small c.copy_slot.result),
-      subst
-          (λ d. (slots : List ℕ) × (length slots ≡ c.loop-i.turned + c.from-turned.result)
-          × HasCopied chain.shape c.args.g c.args.seat.now c.copy_slot.new.seat slots 0 0 (d * slot_steps chain.shape c.args.g)) next
-          (copied-slot law chain plan c.args.g c.requires.table c.loop-i.i (c.loop-i.i - c.args.from) _ _ _ c.copy_slot.result c.requires.own
-          c.from-turned.ensures so_far.1 c.copy_slot.ensures.copied),
+      copied-slot law chain plan c.args.g c.requires.table c.args.from c.loop-i.i (slot_steps chain.shape c.args.g) _ _
+          c.copy_slot.result first c.requires.own c.from-turned.ensures so_far.1 c.copy_slot.ensures.copied,
       finished-slot law chain plan c.args.g c.requires.table c.args.from c.loop-i.i own (omega (arith, c.loop-i-test.true, c.requires.within.1)) so_far.2
           c.copy_slot.ensures.copied c.copy_slot.ensures.finished,
     )
@@ -50,7 +50,7 @@ pub returns-clause-copied : goal.returns-clause-copied
 returns-clause-copied c =
     let end : c.loop-i.i ≡ c.args.to = search rules in
     subst
-    (λ i. (slots : List ℕ) × (length slots ≡ c.loop-i.turned)
+    (λ i. (slots : List ℕ) × (length slots ≡ c.loop-i.turned) × All (λ j. (c.args.from ≤ j) × (j < i)) slots
     × HasCopied c.args.chain.now.shape c.args.g c.args.seat.now c.loop-i.seat slots 0 0 ((i - c.args.from) * slot_steps c.args.chain.now.shape c.args.g)) end
     c.loop-i.invariant.1
 
