@@ -11,8 +11,7 @@ use Rattle.std.proofs.lemmas.Int.{ints}
 use Rattle.std.proofs.lemmas.List.Elements.{All-cons, All-head, All-nil, All-tail}
 use Rattle.std.proofs.lemmas.List.Sums.{sum_by-append, sum_by-cons}
 use Rattle.nb_core.specs.History.{IsLegal, map_of}
-use Rattle.nb_core.specs.Laws.{FewKeys, MapInRange, OwnLasts, SizeIsNet, TablesStand}
-use Rattle.nb_core.specs.Laws as laws
+use Rattle.nb_core.specs.Laws.{FewKeys, MapInRange, OwnLasts, SizeIsNet, TablesStand, net_of_seats}
 use Rattle.nb_core.specs.Meaning.{calls_of, net_of, shown_from}
 use Rattle.nb_core.specs.Plans.{IsPlan, Plan, generations_of}
 use Rattle.nb_core.specs.Tables.{tables_of, words_of}
@@ -24,7 +23,7 @@ use Rattle.nb_table.specs.Chains.{SeenBy}
 use Rattle.nb_table.specs.Gathered.{ClosedWith}
 use Rattle.nb_table.specs.Left.{ClosedOf, HoldsOfMap, IsLeftBy}
 use Rattle.nb_table.specs.Views.{HasSeen}
-use Rattle.nb_map.specs.Ending.{EndedWith, IsParted, net_of_seats}
+use Rattle.nb_map.specs.Ending.{EndedWith, IsParted}
 use Rattle.nb_map.specs.Maps.{HasCounted, SeatOf}
 
 -- ---- each number is one seat's, so a sum over the seats is one over the numbers
@@ -82,7 +81,7 @@ net-middle h (x ∷ front) s back = let rest = net-middle h front s back in omeg
 -- the law takes the sum over the numbers
 net-numbers :
     (h : List Event) (n : ℕ) (seats : List SeatOf) → length seats ≡ n → ((i : ℕ) → i < n → times i seats ≡ 1)
-    → net_in h seats ≡ laws.net_of_seats h n
+    → net_in h seats ≡ net_of_seats h n
 net-numbers h zero [] all once = refl
 net-numbers h zero (s ∷ seats) all once = absurd (omega (arith, all))
 net-numbers h (suc n) seats all once =
@@ -108,23 +107,16 @@ net-numbers h (suc n) seats all once =
 abbrev HasSameCalls : List Event → SeatOf → Type 0
 HasSameCalls h seat = calls_of h seat.chain.number ≡ calls_of seat.chain.seen seat.chain.number
 
-net-seen :
-    (h : List Event) (seats : List SeatOf) → All (HasSameCalls h) seats
-    → net_in h seats ≡ net_of_seats seats
-net-seen h [] same = refl
-net-seen h (s ∷ seats) same =
-    let one = ap net_of (All-head (HasSameCalls h) s seats same) in
-    let rest = net-seen h seats (All-tail (HasSameCalls h) s seats same) in
-    omega (arith, ints, one, rest)
-
-net-counted :
-    (seats : List SeatOf) → All HasCounted seats
-    → total_of (map (λ seat. seat.count) seats) ≡ net_of_seats seats
-net-counted [] counted = refl
-net-counted (s ∷ seats) counted =
+-- what each seat has counted is the net of its calls, so all have counted the net of all calls
+counted-net :
+    (h : List Event) (seats : List SeatOf) → All HasCounted seats → All (HasSameCalls h) seats
+    → total_of (map (λ seat. seat.count) seats) ≡ net_in h seats
+counted-net h [] counted same = refl
+counted-net h (s ∷ seats) counted same =
     let one = All-head HasCounted s seats counted in
-    let rest = net-counted seats (All-tail HasCounted s seats counted) in
-    omega (arith, ints, one, rest)
+    let calls = ap net_of (All-head (HasSameCalls h) s seats same) in
+    let rest = counted-net h seats (All-tail HasCounted s seats counted) (All-tail (HasSameCalls h) s seats same) in
+    omega (arith, ints, one, calls, rest)
 
 -- ---- the end
 
@@ -197,30 +189,35 @@ module _ (p : Plan) (seats : List SeatOf) (chains : List SeenBy) (counts : List 
       sym (times-chains n seats) ∙ ap (count_by (λ seat. seat.number == n)) (sym gathered.parted.of_chain)
       ∙ gathered.closed_with.once n (omega (arith, less, ap (λ z. z.seats) gathered.shape))
 
-  -- what the seats have counted is the number of keys
-  net-keys : IsPlan p → SizeIsNet → OwnLasts → net_of_seats seats ≡ pos (length (entries (map_of history)))
-  net-keys is_plan net own =
-      sym (net-seen history seats (same-calls own)) ∙ net-numbers history p.seats seats gathered.all once
-      ∙ net p is_plan history (subst (λ z. IsLegal z history) gathered.shape gathered.closed_with.left.legal)
+  -- what the seats have counted is the net of all calls
+  total-net : OwnLasts → total_of (map (λ seat. seat.count) seats) ≡ net_of_seats history p.seats
+  total-net own =
+      counted-net history seats gathered.parted.counted (same-calls own) ∙ net-numbers history p.seats seats gathered.all once
+
+  -- and that is the number of keys
+  net-keys : IsPlan p → SizeIsNet → net_of_seats history p.seats ≡ pos (length (entries (map_of history)))
+  net-keys is_plan net = net p is_plan history (subst (λ z. IsLegal z history) gathered.shape gathered.closed_with.left.legal)
 
   size-keys : IsPlan p → SizeIsNet → OwnLasts → FewKeys → wrapped (total_of counts) ≡ length (entries (map_of history))
   size-keys is_plan net own few =
-      ap (λ xs. wrapped (total_of xs)) gathered.parted.of_counter ∙ ap wrapped (net-counted seats gathered.parted.counted)
-      ∙ ap wrapped (net-keys is_plan net own)
+      ap (λ xs. wrapped (total_of xs)) gathered.parted.of_counter ∙ ap wrapped (total-net own ∙ net-keys is_plan net)
       ∙ wrapped-small _ (few p is_plan history (subst (λ z. IsLegal z history) gathered.shape gathered.closed_with.left.legal))
 
   pub ended-with :
       IsPlan p → SizeIsNet → OwnLasts → FewKeys → (size : ℕ) → size ≡ wrapped (total_of counts)
       → EndedWith p seats (record { tables = closed; size = size })
-  ended-with is_plan net own few size counted = record {
-    shape = gathered.shape;
-    history = history;
-    left = gathered.closed_with.left;
-    seen = seen;
-    calls = same-calls own;
-    once = once;
-    size = ap pos (counted ∙ size-keys is_plan net own few) ∙ sym (net-keys is_plan net own);
-  }
+  ended-with is_plan net own few size sum =
+      let is_net = ap pos (sum ∙ size-keys is_plan net own few) ∙ sym (net-keys is_plan net) in
+      record {
+        shape = gathered.shape;
+        history = history;
+        left = gathered.closed_with.left;
+        seen = seen;
+        calls = same-calls own;
+        once = once;
+        counted = is_net ∙ sym (total-net own);
+        size = is_net;
+      }
 
   pub is-ended :
       IsPlan p → TablesStand → MapInRange → SizeIsNet → OwnLasts → FewKeys → (size : ℕ) → size ≡ wrapped (total_of counts)

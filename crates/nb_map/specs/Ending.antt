@@ -1,10 +1,11 @@
 -- What is left of a map when all its seats are gathered.
-use Rattle.std.specs.Prelude.{◌≡◌, ◌<◌, ◌==◌, ℕ, ℤ, pos, ◌+ℤ◌, List, [], ◌∷◌, All, count_by, length, map}
+use Rattle.std.specs.Prelude.{◌≡◌, ◌<◌, ◌==◌, ℕ, pos, List, All, count_by, length, map}
 use Rattle.std.specs.FinMap as numbers
-use Rattle.nb_core.specs.Meaning.{calls_of, net_of}
+use Rattle.nb_core.specs.Laws.{net_of_seats}
+use Rattle.nb_core.specs.Meaning.{calls_of}
 use Rattle.nb_core.specs.Plans.{Plan}
 use Rattle.nb_core.specs.declared.events.Event.{Event}
-use Rattle.nb_count.specs.Counts.{Counting}
+use Rattle.nb_count.specs.Counts.{Counting, total_of}
 use Rattle.nb_table.specs.Chains.{SeenBy}
 use Rattle.nb_table.specs.Left.{ClosedOf, HoldsOfMap, IsLeftBy}
 use Rattle.nb_table.specs.Views.{HasSeen}
@@ -24,13 +25,9 @@ ended_of c = record { tables = c.closed; size = c.size }
 abbrev pub IsEnded : ended.Inside → Type 0
 IsEnded c = HoldsOfMap c.closed (λ m. c.size ≡ length (numbers.entries m))
 
--- what the calls of all these seats did to the number of keys
-abbrev pub net_of_seats : List SeatOf → ℤ
-net_of_seats [] = pos 0
-net_of_seats (seat ∷ seats) = net_of (calls_of seat.chain.seen seat.chain.number) +ℤ net_of_seats seats
-
 -- There was one legal history that left these words. Each seat has seen a beginning of it with all its own events, so its
--- calls are all that have its number; and each number is one seat's. The size is what these calls did to the number of keys.
+-- calls are all that have its number; and each number is one seat's. The size is what the seats have counted in all, and that
+-- is what the calls of all seats did to the number of keys.
 pub record EndedWith (p : Plan) (seats : List SeatOf) (ended : EndedOf) : Type 0 where
   pub shape : ended.tables.shape ≡ p
   pub history : List Event
@@ -38,7 +35,8 @@ pub record EndedWith (p : Plan) (seats : List SeatOf) (ended : EndedOf) : Type 0
   pub seen : All (λ seat. HasSeen history seat.chain.number seat.chain.seen) seats
   pub calls : All (λ seat. calls_of history seat.chain.number ≡ calls_of seat.chain.seen seat.chain.number) seats
   pub once : (n : ℕ) → n < p.seats → count_by (λ seat. seat.chain.number == n) seats ≡ 1
-  pub size : pos ended.size ≡ net_of_seats seats
+  pub counted : pos ended.size ≡ total_of (map (λ seat. seat.count) seats)
+  pub size : pos ended.size ≡ net_of_seats history p.seats
 
 -- The seats are parted in those of the chain and those of the counter, and each had counted the net of its calls.
 pub record IsParted (seats : List SeatOf) (chains : List SeenBy) (counts : List Counting) : Type 0 where

@@ -1,5 +1,5 @@
 -- How contracts see a map and its seats.
-use Rattle.std.specs.Prelude.{◌≡◌, ℕ, zero, suc, pos, Bool, List, [], ◌∷◌, All, Option}
+use Rattle.std.specs.Prelude.{◌≡◌, ℕ, zero, suc, ◌+◌, ℤ, pos, ◌+ℤ◌, Bool, List, [], ◌∷◌, All, Option}
 use Rattle.nb_core.specs.Meaning.{calls_of, net_of}
 use Rattle.nb_core.specs.declared.calls.Call.{Call}
 use Rattle.nb_core.specs.declared.calls.Reply.{Reply}
@@ -42,10 +42,20 @@ abbrev pub seats_of : MapOf → ℕ → ℕ → List SeatOf
 seats_of map number zero = []
 seats_of map number (suc count) = new_seat map number ∷ seats_of map (suc number) count
 
+-- how many steps it takes to count this: one, or none where it is nothing
+abbrev pub count_steps : ℤ → ℕ
+count_steps (pos zero) = 0
+count_steps net = 1
+
+-- a counter's seat after calls that did this to the number of keys
+abbrev pub accounted : ℤ → Counting → Counting
+accounted net count = record count { added = count.added +ℤ net; steps = count.steps + count_steps net }
+
 -- The seat has made these calls with their replies, and no others, in at most so many steps on the chain; and its steps were
--- such as this call may make. It stays a seat of the same counter.
+-- such as this call may make. On the counter it has added what the calls did to the number of keys, by one step, and made no
+-- step where that is nothing.
 pub record HasCalled (map : MapOf) (call : Call) (before after : SeatOf) (made : List (Call × Reply)) (most : ℕ) : Type 0 where
-  pub counter : after.count.counter ≡ before.count.counter
+  pub count : after.count ≡ accounted (net_of made) before.count
   pub steps : HasMade map.chain.shape call before.chain after.chain made most
 
 -- The same, in however many steps.

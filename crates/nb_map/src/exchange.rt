@@ -52,7 +52,7 @@ pub(crate) fn exchange<P: Pause>(
     for lost in 0..tries {
         let from = chain.load_value(seat, g, i, Some(*call));
         let Some(number) = shown(&from) else {
-            pass_slot(chain, seat, g, i, key, call, from);
+            pass_slot(chain, seat, g, i, from);
             return Written::Above(Below::HasKey, tries - lost);
         };
         match decide(call, &number) {
@@ -68,7 +68,7 @@ pub(crate) fn exchange<P: Pause>(
                     });
                 }
                 if shown(&found).is_none() {
-                    pass_slot(chain, seat, g, i, key, call, found);
+                    pass_slot(chain, seat, g, i, found);
                     return Written::Above(Below::HasKey, tries - lost);
                 }
             }

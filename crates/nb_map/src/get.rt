@@ -128,7 +128,7 @@ fn get_from(
         }
         from = 0;
     }
-    None
+    unreachable!()
 }
 
 /// What table `g` shows of a key, from a distance of its path on.
@@ -168,7 +168,7 @@ fn look_at(chain: &Chain, seat: &mut ChainSeat, g: u32, i: usize, key: Key) -> L
         ValueState::Null | ValueState::Tombstone => Look::Shows(None),
         ValueState::Live(number) => Look::Shows(Some(number)),
         value => {
-            pass_slot(chain, seat, g, i, key, &Call::Get { key }, value);
+            pass_slot(chain, seat, g, i, value);
             Look::Above
         }
     }

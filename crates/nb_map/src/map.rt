@@ -1,5 +1,5 @@
 //! The map and its seats.
-ghost use Rattle.std.specs.Prelude.{◌≡◌, ◌<◌, ◌≤◌, ◌+ℤ◌, ◌↔◌, ℕ, pos, IfOk, IfErr, is_ok, is_some, true, if◌then◌else◌, Option, [], ◌∷◌, length};
+ghost use Rattle.std.specs.Prelude.{◌≡◌, ◌<◌, ◌≤◌, ◌↔◌, ℕ, pos, IfOk, IfErr, is_ok, is_some, true, if◌then◌else◌, Option, [], ◌∷◌, length};
 ghost use Rattle.nb_core.specs.History.{IsLegal};
 ghost use Rattle.nb_core.specs.Meaning.{net_of_change};
 ghost use Rattle.nb_core.specs.Plans.{IsPlan};
@@ -11,7 +11,7 @@ ghost use Rattle.nb_table.specs.Views.{IsBeginning};
 ghost use Rattle.nb_map.specs.Calling.{replied};
 ghost use Rattle.nb_map.specs.Looking.{get_steps};
 ghost use Rattle.nb_map.specs.Ending.{EndedWith};
-ghost use Rattle.nb_map.specs.Maps.{AreMine, HasCalled, IsMine, seats_of};
+ghost use Rattle.nb_map.specs.Maps.{AreMine, HasCalled, HasCounted, IsMine, accounted, seats_of};
 ghost use Rattle.nb_map.specs.Refusing.{IsJust, put_steps};
 
 use crate::ended::{Ended, parted};
@@ -26,7 +26,7 @@ use std::alloc::Global;
 use std::marker::Model;
 use std::sync::Mutex;
 
-/// A map from whole numbers to whole numbers, which many threads share. Contracts see its chain of tables.
+/// A map from whole numbers to whole numbers, which many threads share. Contracts see its chain of tables and its counter.
 #[derive(Drop)]
 pub struct Map {
     chain: Chain,
@@ -48,7 +48,8 @@ impl Model for Map {
     ghost invariant = { IsMap };
 }
 
-/// The right of one holder to make calls. Contracts see what it has seen of the map's history, in which its own calls stand.
+/// The right of one holder to make calls. Contracts see what it has seen of the map's history, in which its own calls stand,
+/// and what it has counted.
 #[derive(Drop)]
 pub struct Seat {
     pub(crate) chain: ChainSeat,
@@ -72,6 +73,7 @@ impl Map {
     /// gather them: nothing that comes later but `Ended::entries` takes any.
     pub fn new(alloc: Global, shape: Shape) -> Result<(Map, Vec<Seat>), OutOfMemory>
         ensures map { IfOk result (λ made. made.0.chain.shape ≡ shape) }
+        ensures counter { IfOk result (λ made. (made.0.counter.stripes ≡ shape.stripes) × (made.0.counter.seats ≡ shape.seats)) }
         ensures seats { IfOk result (λ made. made.1.items ≡ seats_of made.0 0 shape.seats) }
     {
         shape.known();
@@ -113,7 +115,10 @@ impl Map {
     }
 
     /// Changes what the map has at a key, where the condition holds of it, and replies what it had: `steps::put_if_match_in` on
-    /// the map's tables. A key that came is counted afterwards, and one that went, by one step on the counter.
+    /// the map's tables. An exchange that another seat came before is tried again, `tries` times in all, so this waits for
+    /// nobody: it takes at most 8 (T + `tries` + G) (N + 8) steps on the chain, whose G tables have T slots and the last of
+    /// them N. A key that came is counted afterwards, and one that went, by one step on the counter. A refused write leaves the
+    /// map as it is; but tables may have been installed and copied for it, and its key may keep a slot without a number.
     pub fn put_if_match(
         &self,
         seat: &mut Seat,
@@ -130,7 +135,7 @@ impl Map {
             (put_steps self.now.chain.shape tries)
             × IsJust self.now.chain.shape (call.Write key want change) seat.old.chain seat.new.chain tries fault) }
     {
-        match put_if_match_in(
+        let reply = put_if_match_in(
             &self.chain,
             &mut seat.chain,
             key,
@@ -138,19 +143,17 @@ impl Map {
             change,
             tries,
             &mut NoPause,
-        ) {
-            Ok(reply) => {
-                self.count(&mut seat.count, &change, &reply);
-                Ok(reply)
-            }
-            Err(fault) => Err(fault),
-        }
+        )?;
+        self.count(&mut seat.count, &change, &reply);
+        Ok(reply)
     }
 
-    /// Reminds a proof of what the map's shape may be, and that what the seat has seen is a legal history. It does nothing.
+    /// Reminds a proof of what the map's shape may be, that what the seat has seen is a legal history, and that it has counted
+    /// the net of its calls. It does nothing.
     pub fn known(&self, seat: &Seat)
         ensures plan { IsPlan self.now.chain.shape }
         ensures legal { IsLegal seat.now.chain.shape seat.now.chain.seen }
+        ensures counted { HasCounted seat.now }
     {
         self.chain.shape().known();
         seat.chain.known();
@@ -159,9 +162,7 @@ impl Map {
     /// Counts what a write with this change and reply did to the number of keys.
     fn count(&self, seat: &mut CountSeat, change: &Change, reply: &Reply)
         requires own { seat.old.counter ≡ self.now.counter.id }
-        ensures counter { seat.new.counter ≡ seat.old.counter }
-        ensures counted { seat.new.added ≡ seat.old.added +ℤ
-            (if reply.now.matched then net_of_change change.now reply.now.before else pos 0) }
+        ensures { seat.new ≡ accounted (if reply.now.matched then net_of_change change.now reply.now.before else pos 0) seat.old }
     {
         if !reply.matched {
             return;
@@ -217,7 +218,8 @@ impl Map {
         self.chain.meet(&mut a.chain, &mut b.chain);
     }
 
-    /// With all seats: what is left of the map. With another number of seats everything comes back, and the map works on.
+    /// With all seats: what is left of the map. With another number of seats everything comes back, and the map works on. It
+    /// takes no memory: `new` has reserved the room.
     pub fn finish(self, seats: Vec<Seat>) -> Result<Ended, NotAll<Map, Seat>>
         requires own { AreMine self seats.items }
         ensures all { (is_ok result ≡ true) ↔ (length seats.items ≡ self.chain.shape.seats) }

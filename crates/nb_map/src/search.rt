@@ -1,9 +1,10 @@
 //! The search for a key in one table.
-ghost use Rattle.std.specs.Prelude.{◌≡◌, ◌+◌, ◌-◌, ◌<◌, ◌≤◌, ◌⊎◌, [], true, None};
+ghost use Rattle.std.specs.Prelude.{◌≡◌, ℕ, ◌+◌, ◌-◌, ◌<◌, ◌≤◌, ◌⊎◌, [], true, None};
 ghost use Rattle.nb_core.specs.Calls.{Fills, leaves_alone};
 ghost use Rattle.nb_core.specs.History.{key_of_call};
 ghost use Rattle.nb_core.specs.Plans.{size_of};
 ghost use Rattle.nb_core.specs.Tables.{AreOthers, IsSlot, IsUnprimed};
+ghost use Rattle.nb_core.specs.declared.calls.Call.{Call};
 ghost use Rattle.nb_core.specs.declared.states.KeyState.TheVariants as key_is;
 ghost use Rattle.nb_table.specs.Chains.{IsOwn, seen_by};
 ghost use Rattle.nb_table.specs.Conditions.{IsReached};
@@ -118,23 +119,14 @@ pub(crate) fn seek(
     }
 }
 
-/// Finishes the key's slot `i` of table `g`, which holds this value, primed or final.
-pub(crate) fn pass_slot(
-    chain: &Chain,
-    seat: &mut ChainSeat,
-    g: u32,
-    i: usize,
-    key: Key,
-    call: &Call,
-    value: ValueState,
-)
+/// Finishes slot `i` of table `g`, which holds this value, primed or final: a call that looks for the slot's key goes on above.
+pub(crate) fn pass_slot(chain: &Chain, seat: &mut ChainSeat, g: u32, i: usize, value: ValueState)
     requires own { IsOwn chain.now seat.old }
     requires slot { IsSlot chain.now.shape g i }
-    requires claimed { (seen_by seat.old).key g i ≡ key_is.Claimed key }
     requires primed { IsUnprimed value → ⊥ }
     requires held { (seen_by seat.old).value g i ≡ value }
-    ensures made { HasMade chain.now.shape call.now seat.old seat.new [] (pass_steps chain.now.shape g) }
-    ensures passed { IsAbove chain.now.shape (seen_by seat.new) g key }
+    ensures made { (call : Call) → HasMade chain.now.shape call seat.old seat.new [] (pass_steps chain.now.shape g) }
+    ensures passed { (key : ℕ) → (seen_by seat.old).key g i ≡ key_is.Claimed key → IsAbove chain.now.shape (seen_by seat.new) g key }
 {
     laws::steps_add_up();
     nb_core::laws::linked();

@@ -96,7 +96,7 @@ pub fn put_if_match_in<P: Pause>(
             }
         }
     }
-    Err(PutFault::Full)
+    unreachable!()
 }
 
 /// Makes a write in table `g`, or finds that it goes on in the next one.

@@ -3,8 +3,8 @@ ghost use Rattle.nb_map.specs.Maps.{IsMine};
 
 use super::by_hand::number;
 use super::on_map::*;
-use crate::{AddFault, Full, Map, Seat};
-use nb_core::{Change, NotAll, Reply, Want};
+use crate::{AddFault, Full, Map, PutFault, Seat};
+use nb_core::{Change, NotAll, Reply, VALUE_MAX, Want};
 use std::process::Abort;
 use std::sync::Wait;
 use std::test::Fail;
@@ -253,10 +253,8 @@ fn add_when_full(rt: HostRuntime) -> Result<(), Fail> {
     Ok(())
 }
 
-/// The most that an add after 11 may bring, and the sum.
-const REST: u64 = 1_152_921_504_606_846_964;
-
-const MOST: u64 = 1_152_921_504_606_846_975;
+/// The most that may be added to 11.
+const REST: u64 = VALUE_MAX - 11;
 
 #[test]
 fn adds(rt: HostRuntime) -> Result<(), Fail> {
@@ -267,8 +265,27 @@ fn adds(rt: HostRuntime) -> Result<(), Fail> {
     assert_eq!(rt; add(&rt, &map, &mut seat, 1, REST), Ok(Some(11)));
     let past = add(&rt, &map, &mut seat, 1, 1);
     assert_eq!(rt; past, Err(AddFault::ValueRange));
-    assert_eq!(rt; add(&rt, &map, &mut seat, 1, 0), Ok(Some(MOST)));
+    assert_eq!(rt; add(&rt, &map, &mut seat, 1, 0), Ok(Some(VALUE_MAX)));
     assert_eq!(rt; add(&rt, &map, &mut seat, 2, 0), Ok(None));
-    one_leaves(&rt, rt.alloc(), map, seat, &[(1, MOST), (2, 0)])?;
+    one_leaves(&rt, rt.alloc(), map, seat, &[(1, VALUE_MAX), (2, 0)])?;
+    Ok(())
+}
+
+#[test]
+fn fault_texts(rt: HostRuntime) -> Result<(), Fail> {
+    assert_eq!(rt; Full.to_string(rt.alloc())?.as_str(), "the map is full");
+    for (fault, text) in [
+        (AddFault::Full, "the map is full"),
+        (AddFault::ValueRange, "value too large"),
+    ] {
+        assert_eq!(rt; fault.to_string(rt.alloc())?.as_str(), text);
+    }
+    for (fault, text) in [
+        (PutFault::Full, "the map is full"),
+        (PutFault::Contended, "other writes of the key came first"),
+        (PutFault::ValueRange, "value too large"),
+    ] {
+        assert_eq!(rt; fault.to_string(rt.alloc())?.as_str(), text);
+    }
     Ok(())
 }

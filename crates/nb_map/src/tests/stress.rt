@@ -165,7 +165,8 @@ fn has_just<R: Abort>(
     ended: &Ended,
     told: &Told,
 ) -> Result<(), OutOfMemory> {
-    let mut keys: u64 = 27;
+    // The three keys that all only add at, and three of each thread's own.
+    let mut keys: u64 = 3 + 3 * 8;
     for i in 0..3 {
         let sum = ended.get(key(rt, i as u64));
         assert_eq!(rt; sum, Some(number(rt, told.added[i])), "key {i}");

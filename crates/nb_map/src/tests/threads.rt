@@ -123,14 +123,16 @@ fn four_write<R: Threads + Sync + Abort>(rt: &R, alloc: Global) -> Result<(), Ou
         panic!(rt; "there are four seats")
     };
     let (added, mut a, b, c, d) = four_add(rt, &chain, a, b, c, d);
-    assert_eq!(rt; added, 8000);
+    // Each of the four makes 2000 adds.
+    assert_eq!(rt; added, 4 * 2000);
     assert_eq!(rt; chain.load_top(&mut a), 3);
     seats.push(a)?;
     seats.push(b)?;
     seats.push(c)?;
     seats.push(d)?;
     let closed = closes(rt, chain, seats);
-    adds_up_to(rt, alloc, &closed, added, 31)
+    // The three keys that all add at, and seven of each thread's own.
+    adds_up_to(rt, alloc, &closed, added, 3 + 7 * 4)
 }
 
 #[test]

@@ -41,15 +41,6 @@ pass_slot-requires-clause-own g c =
     made-own law chain plan c.requires.own
     (looked law chain plan c.load_value-from.result c.requires.own c.loop-lost.invariant.0 c.load_value-from.ensures.grows)
 
-pub pass_slot-requires-clause-claimed : goal.pass_slot-requires-clause-claimed
-pass_slot-requires-clause-claimed g c =
-    let law = c.steps_add_up.ensures in
-    let chain = c.args.chain.now in
-    let plan = subst IsPlan c.shape.ensures c.known.ensures in
-    let look = looked law chain plan c.load_value-from.result c.requires.own c.loop-lost.invariant.0 c.load_value-from.ensures.grows in
-    (stands law chain plan c.requires.own look c.args.g c.args.i c.args.key c.requires.key c.requires.slot c.requires.claimed c.requires.reached).0
-    ∙ ap Claimed c.requires.key
-
 pub pass_slot-requires-clause-primed : goal.pass_slot-requires-clause-primed
 pass_slot-requires-clause-primed g c =
     shown-none c.load_value-from.result (sym c.shown.ensures ∙ none-of c.shown.result c.in_default.not-Some)
@@ -68,7 +59,7 @@ returns-in_default-clause-made g c =
     (read-primed c.args.call.now c.load_value-from.result none) look in
     let enough = enough-above lost c.args.tries pass c.loop-lost-test.true in
     made-within (2 * lost + 1 + pass) (exchange_steps p c.args.g (c.args.tries - (c.args.tries - lost))) (omega (arith, enough))
-    (made-more law chain plan c.requires.own quiet c.pass_slot.ensures.made)
+    (made-more law chain plan c.requires.own quiet (c.pass_slot.ensures.made c.args.call.now))
 
 pub returns-in_default-clause-written : goal.returns-in_default-clause-written
 returns-in_default-clause-written g c =
@@ -78,12 +69,15 @@ returns-in_default-clause-written g c =
     let so_far = c.loop-lost.invariant in
     let below = c.loop-lost-test.true in
     let look = looked law chain plan c.load_value-from.result c.requires.own so_far.0 c.load_value-from.ensures.grows in
-    let steps = made-more law chain plan c.requires.own look c.pass_slot.ensures.made in
+    let found = stands law chain plan c.requires.own look c.args.g c.args.i c.args.key c.requires.key
+    c.requires.slot c.requires.claimed c.requires.reached in
+    let pass = c.pass_slot.ensures.made c.args.call.now in
+    let steps = made-more law chain plan c.requires.own look pass in
     let here = stands law chain plan c.requires.own steps c.args.g c.args.i c.args.key c.requires.key
     c.requires.slot c.requires.claimed c.requires.reached in
     let passed = passed-still c.passed_over_adds.ensures c.args.call.now c.loop-lost.lost so_far.0.grown
-    (law.more (law.one c.load_value-from.ensures.grows) c.pass_slot.ensures.made.grown) so_far.1 in (
-      subst (λ k. IsAbove chain.shape (seen_by c.pass_slot.new.seat) c.args.g k) (sym c.requires.key) c.pass_slot.ensures.passed,
+    (law.more (law.one c.load_value-from.ensures.grows) pass.grown) so_far.1 in (
+      c.pass_slot.ensures.passed (key_of_call c.args.call.now) found.0,
       record { slot = c.args.i; in_table = c.requires.slot.1; is = here.0 },
       omega (arith, below),
       omega arith,
@@ -219,18 +213,6 @@ pass_slot-requires-then-is_none-clause-own g c =
     let look = looked law chain plan c.load_value-from.result c.requires.own c.loop-lost.invariant.0 c.load_value-from.ensures.grows in
     law.own (made-own law chain plan c.requires.own look) (law.one (c.win_value-found.ensures.lost differs).0)
 
-pub pass_slot-requires-then-is_none-clause-claimed : goal.pass_slot-requires-then-is_none-clause-claimed
-pass_slot-requires-then-is_none-clause-claimed g c =
-    let law = c.steps_add_up.ensures in
-    let chain = c.args.chain.now in
-    let plan = subst IsPlan c.shape.ensures c.known.ensures in
-    let differs = not-same c.win_value-found.result c.load_value-from.result (sym c.eq.ensures ∙ c.if-eq.false) in
-    let look = looked law chain plan c.load_value-from.result c.requires.own c.loop-lost.invariant.0 c.load_value-from.ensures.grows in
-    let steps = made-more law chain plan c.requires.own look
-    (made-quiet law chain.shape c.args.call.now (c.win_value-found.ensures.lost differs).0) in
-    (stands law chain plan c.requires.own steps c.args.g c.args.i c.args.key c.requires.key c.requires.slot c.requires.claimed c.requires.reached).0
-    ∙ ap Claimed c.requires.key
-
 pub pass_slot-requires-then-is_none-clause-primed : goal.pass_slot-requires-then-is_none-clause-primed
 pass_slot-requires-then-is_none-clause-primed g c =
     shown-none c.win_value-found.result (sym c.shown-in-Exchange.ensures ∙ none-is c.shown-in-Exchange.result c.if-is_none.ensures)
@@ -256,7 +238,7 @@ returns-then-is_none-clause-made g c =
     let steps = made-more law chain plan c.requires.own quiet (made-quiet law p c.args.call.now (c.win_value-found.ensures.lost differs).0) in
     let enough = enough-above lost c.args.tries pass c.loop-lost-test.true in
     made-within (2 * lost + 1 + 1 + pass) (exchange_steps p c.args.g (c.args.tries - (c.args.tries - lost))) (omega (arith, enough))
-    (made-more law chain plan c.requires.own steps c.pass_slot-then-is_none.ensures.made)
+    (made-more law chain plan c.requires.own steps (c.pass_slot-then-is_none.ensures.made c.args.call.now))
 
 pub returns-then-is_none-clause-written : goal.returns-then-is_none-clause-written
 returns-then-is_none-clause-written g c =
@@ -267,11 +249,12 @@ returns-then-is_none-clause-written g c =
     let below = c.loop-lost-test.true in
     let differs = not-same c.win_value-found.result c.load_value-from.result (sym c.eq.ensures ∙ c.if-eq.false) in
     let lost = law.one (c.win_value-found.ensures.lost differs).0 in
-    let then = law.more (law.one c.load_value-from.ensures.grows) (law.more lost c.pass_slot-then-is_none.ensures.made.grown) in
+    let then = law.more (law.one c.load_value-from.ensures.grows) (law.more lost (c.pass_slot-then-is_none.ensures.made c.args.call.now).grown) in
     let lasting = law.stays plan c.requires.own (law.more so_far.0.grown then) in
+    let found = law.stays plan c.requires.own (law.more so_far.0.grown (law.more (law.one c.load_value-from.ensures.grows) lost)) in
     let passed = passed-still c.passed_over_adds.ensures c.args.call.now c.loop-lost.lost so_far.0.grown then so_far.1 in (
       subst (λ k. IsAbove chain.shape (seen_by c.pass_slot-then-is_none.new.seat) c.args.g k) (sym c.requires.key)
-          c.pass_slot-then-is_none.ensures.passed,
+          (c.pass_slot-then-is_none.ensures.passed c.args.key (found.claimed c.args.g c.args.i c.args.key c.requires.slot c.requires.claimed)),
       record {
         slot = c.args.i;
         in_table = c.requires.slot.1;

@@ -57,8 +57,8 @@ loop-g-preserved c =
       others-none p (seen_by c.look_in.new.seat) (c.loop-g.g + 1) c.args.key,
     )
 
-pub returns : goal.returns
-returns c =
+pub unreachable-requires : goal.unreachable-requires
+unreachable-requires c =
     let chain = c.args.chain.now in
     let plan = subst IsPlan c.shape.ensures c.known.ensures in
     let own = made-own c.steps_add_up.ensures chain plan c.requires.own c.loop-g.invariant.0 in

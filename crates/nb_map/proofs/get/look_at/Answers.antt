@@ -11,12 +11,9 @@ use Rattle.nb_map.proofs.get.look_at.Goals as goal
 pub pass_slot-requires : goal.pass_slot-requires
 pass_slot-requires c =
     let law = c.steps_add_up.ensures in
-    let plan = subst IsPlan c.shape.ensures c.known.ensures in
-    let lasting = law.stays plan c.requires.own (law.one c.load_value.ensures.grows) in
     record {
       own = law.own c.requires.own (law.one c.load_value.ensures.grows);
       slot = c.requires.slot;
-      claimed = lasting.claimed c.args.g c.args.i c.args.key c.requires.slot c.requires.claimed;
       primed = is-primed c.load_value.result c.in_default.not-Null c.in_default.not-Tombstone c.in_default.not-Live;
       held = c.load_value.ensures.found;
     }
@@ -37,12 +34,13 @@ returns-in_default c =
     let chain = c.args.chain.now in
     let plan = subst IsPlan c.shape.ensures c.known.ensures in
     let get = call.Get c.args.key in
+    let lasting = law.stays plan c.requires.own (law.one c.load_value.ensures.grows) in
     let none = shown-primed c.load_value.result
     (is-primed c.load_value.result c.in_default.not-Null c.in_default.not-Tombstone c.in_default.not-Live) in
     let load : Extended c.args.seat.now c.load_value.new.seat [] 1
     = subst (λ shown. Extended c.args.seat.now c.load_value.new.seat (read c.args.seat.now.number get shown) 1) none c.load_value.ensures.grows in
     record {
       made = made-within (1 + pass_steps chain.shape c.args.g) (pass_steps chain.shape c.args.g + 1) (omega arith)
-          (made-more law chain plan c.requires.own (made-quiet law chain.shape get load) c.pass_slot.ensures.made);
-      look = c.pass_slot.ensures.passed;
+          (made-more law chain plan c.requires.own (made-quiet law chain.shape get load) (c.pass_slot.ensures.made get));
+      look = c.pass_slot.ensures.passed c.args.key (lasting.claimed c.args.g c.args.i c.args.key c.requires.slot c.requires.claimed);
     }

@@ -12,37 +12,37 @@ copy_and_count-requires-clause-growing c =
     c.args.g c.args.i c.requires.slot c.args.value c.requires.held c.requires.primed
 
 pub returns-then-not-is_finished-clause-made : goal.returns-then-not-is_finished-clause-made
-returns-then-not-is_finished-clause-made c =
+returns-then-not-is_finished-clause-made c call =
     let chain = c.args.chain.now in
     let plan = subst IsPlan c.shape.ensures c.known.ensures in
     let next = primed-next c.linked.ensures chain c.args.seat.now plan c.requires.own c.known-2.ensures c.args.g c.args.i c.requires.slot c.args.value
     c.requires.held c.requires.primed in
-    made-copied c.steps_add_up.ensures chain plan c.args.call.now
+    made-copied c.steps_add_up.ensures chain plan call
     (table-within c.linked.ensures chain c.args.seat.now plan c.requires.own c.known-2.ensures (suc c.args.g) next) c.copy_and_count.ensures.copied
 
 pub returns-then-not-is_finished-clause-passed : goal.returns-then-not-is_finished-clause-passed
-returns-then-not-is_finished-clause-passed c =
+returns-then-not-is_finished-clause-passed c key claimed =
     let chain = c.args.chain.now in
     let plan = subst IsPlan c.shape.ensures c.known.ensures in
     let next = primed-next c.linked.ensures chain c.args.seat.now plan c.requires.own c.known-2.ensures c.args.g c.args.i c.requires.slot c.args.value
     c.requires.held c.requires.primed in
     let lasting = c.steps_add_up.ensures.stays plan c.requires.own c.copy_and_count.ensures.copied.grown in (
-      finished-passed chain.shape _ c.args.g c.args.i c.args.key c.requires.slot.1
-          (lasting.claimed c.args.g c.args.i c.args.key c.requires.slot c.requires.claimed) c.copy_and_count.ensures.finished,
+      finished-passed chain.shape _ c.args.g c.args.i key c.requires.slot.1
+          (lasting.claimed c.args.g c.args.i key c.requires.slot claimed) c.copy_and_count.ensures.finished,
       lasting.installed (suc c.args.g) next,
     )
 
 pub returns-else-not-is_finished-clause-made : goal.returns-else-not-is_finished-clause-made
-returns-else-not-is_finished-clause-made c =
+returns-else-not-is_finished-clause-made c call =
     made-within 0 (pass_steps c.args.chain.now.shape c.args.g) (omega arith)
-    (made-none c.steps_add_up.ensures c.args.chain.now.shape c.args.call.now c.args.seat.now c.known-2.ensures)
+    (made-none c.steps_add_up.ensures c.args.chain.now.shape call c.args.seat.now c.known-2.ensures)
 
 pub returns-else-not-is_finished-clause-passed : goal.returns-else-not-is_finished-clause-passed
-returns-else-not-is_finished-clause-passed c =
+returns-else-not-is_finished-clause-passed c key claimed =
     let chain = c.args.chain.now in
     let plan = subst IsPlan c.shape.ensures c.known.ensures in
     let final : IsFinishedValue c.args.value = sym c.if-not-is_finished.ensures in (
-      finished-passed chain.shape _ c.args.g c.args.i c.args.key c.requires.slot.1 c.requires.claimed
+      finished-passed chain.shape _ c.args.g c.args.i key c.requires.slot.1 claimed
           (inr (subst IsFinishedValue (sym c.requires.held) final)),
       primed-next c.linked.ensures chain c.args.seat.now plan c.requires.own c.known-2.ensures c.args.g c.args.i c.requires.slot c.args.value
           c.requires.held c.requires.primed,

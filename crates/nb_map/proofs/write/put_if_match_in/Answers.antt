@@ -110,8 +110,8 @@ loop-g-preserved g c =
       c.in-Above.ensures.serves,
     )
 
-pub returns-clause-refused : goal.returns-clause-refused
-returns-clause-refused g c =
+pub unreachable-requires : goal.unreachable-requires
+unreachable-requires g c =
     let chain = c.args.chain.now in
     let plan = subst IsPlan c.shape.ensures c.known.ensures in
     let own = made-own c.steps_add_up.ensures chain plan c.requires.own c.loop-g.invariant.0 in
