@@ -1,5 +1,5 @@
 -- What is so of the seats that the tests call with.
-use Rattle.std.proofs.Common.{◌≡◌, ◌∙◌, ℕ, zero, suc, List, [], ◌∷◌, ◌++◌, Some, option_to_list, Result, Ok, Err, IfOk, IfErr, Vec, Global, sym, refl}
+use Rattle.std.proofs.Common.{◌≡◌, ℕ, zero, suc, List, [], ◌∷◌, ◌++◌, Some, Result, Ok, Err, IfOk, IfErr, Vec, Global, sym, refl}
 use Rattle.std.specs.List.{All}
 use Rattle.std.proofs.lemmas.List.Elements.{All-cons, All-nil, All-pop, All-push, All-same}
 use Rattle.nb_core.specs.Plans.{Plan}
@@ -28,12 +28,12 @@ all-own chain p first (suc count) same =
     All-cons (IsOwn chain) (new_seat chain.id p first) (seats_of chain.id p (suc first) count) (refl, sym same)
     (all-own chain p (suc first) count same)
 
--- so is the last of them
-pub last-own :
-    (chain : ChainOf) (p : Plan) (seats left : List SeenBy) (seat : SeenBy) → chain.shape ≡ p → seats ≡ seats_of chain.id p 0 p.seats
-    → seats ≡ left ++ option_to_list (Some seat) → IsOwn chain seat
-last-own chain p seats left seat same all last =
-    (All-pop (IsOwn chain) (seats_of chain.id p 0 p.seats) left (Some seat) (sym all ∙ last) (all-own chain p 0 p.seats same)).1
+pub made-own :
+    {E : Type 0} (result : Result (ChainOf × Vec SeenBy Global) E) (p : Plan) (count : ℕ) → IfOk result (λ made. made.0.shape ≡ p)
+    → IfOk result (λ made. made.1.items ≡ seats_of made.0.id p 0 count) → IfOk result (λ made. All (IsOwn made.0) made.1.items)
+made-own (Ok made) p count same are =
+    All-same (IsOwn made.0) made.1.items (seats_of made.0.id p 0 count) are (all-own made.0 p 0 count same)
+made-own (Err fault) p count same are = tt
 
 -- the seats that a map is made with are its own
 pub all-mine : (map : MapOf) (first count : ℕ) → All (IsMine map) (maps.seats_of map first count)

@@ -1,6 +1,6 @@
-//! Calls of the map, and calls over chains of tables that are made by hand.
-mod by_hand;
+//! Calls of the map, and the same calls over a chain of tables alone.
 mod calls;
+mod on_chain;
 mod on_map;
 mod rows;
 mod stress;

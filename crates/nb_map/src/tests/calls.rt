@@ -1,7 +1,7 @@
 //! The map's calls one after another, or of two seats, with their replies and with what they leave.
 ghost use Rattle.nb_map.specs.Maps.{IsMine};
 
-use super::by_hand::number;
+use super::on_chain::number;
 use super::on_map::*;
 use crate::{AddFault, Full, Map, PutFault, Seat};
 use nb_core::{Change, NotAll, Reply, VALUE_MAX, Want};

@@ -2,7 +2,7 @@
 ghost use Rattle.std.specs.Prelude.{◌≡◌, IfOk};
 ghost use Rattle.nb_map.specs.Maps.{AreMine, IsMine};
 
-use super::by_hand::{key, number};
+use super::on_chain::{key, number};
 use crate::{AddFault, Ended, Full, Map, PutFault, Seat};
 use nb_core::{Change, Num, OutOfMemory, Reply, Shape, Want};
 use std::alloc::Global;

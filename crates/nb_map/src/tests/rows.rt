@@ -1,31 +1,14 @@
 //! Calls one after another, with the replies and the slots that they leave.
-ghost use Rattle.std.specs.Prelude.{◌≡◌, IfOk};
 ghost use Rattle.nb_table.specs.Chains.{IsOwn};
 
-use super::by_hand::*;
+use super::on_chain::*;
 use crate::PutFault;
 use crate::steps::{Pause, put_if_match_in};
-use nb_core::{Change, Key, KeyState, NotAll, Num, OutOfMemory, Reply, Shape, ShapeFault, Want};
+use nb_core::{Change, Key, KeyState, NotAll, Num, OutOfMemory, Reply, Shape, Want};
 use nb_table::{Chain, ChainSeat};
 use std::alloc::Global;
 use std::process::Abort;
 use std::test::Fail;
-
-/// A chain of this shape, which has one seat.
-fn chain_of<R: Abort>(
-    rt: &R,
-    alloc: Global,
-    shape: Result<Shape, ShapeFault>,
-) -> Result<(Chain, ChainSeat), OutOfMemory>
-    ensures { IfOk result (λ made. IsOwn made.0 made.1) }
-{
-    let shape = shape.expect(rt, "a shape");
-    let (chain, mut seats) = Chain::new(alloc, shape)?;
-    let Some(seat) = seats.pop() else {
-        panic!(rt; "there is a seat")
-    };
-    Ok((chain, seat))
-}
 
 /// A seat fills a table of four slots. There is no room for a fifth key.
 fn fills_one_table<R: Abort>(rt: &R, chain: &Chain, seat: &mut ChainSeat)
@@ -47,7 +30,7 @@ fn unmatched() -> Result<Reply, PutFault> {
 /// Closing without the seat gives the chain back, and with it what is in it.
 #[test]
 fn one_table_by_hand(rt: HostRuntime) -> Result<(), Fail> {
-    let (chain, mut seat) = chain_of(&rt, rt.alloc(), Shape::new(2, 1, 1, 1))?;
+    let (chain, mut seat) = with_one(&rt, rt.alloc(), Shape::new(2, 1, 1, 1))?;
     fills_one_table(&rt, &chain, &mut seat);
     let change = Change::Put(number(&rt, 14));
     let answer = writes(&rt, &chain, &mut seat, 4, Want::Present, change);
@@ -90,7 +73,7 @@ fn grows_when_crowded<R: Abort>(rt: &R, chain: &Chain, seat: &mut ChainSeat)
 
 #[test]
 fn grows_when_a_path_is_crowded(rt: HostRuntime) -> Result<(), Fail> {
-    let (chain, mut seat) = chain_of(&rt, rt.alloc(), Shape::new(2, 3, 1, 1))?;
+    let (chain, mut seat) = with_one(&rt, rt.alloc(), Shape::new(2, 3, 1, 1))?;
     grows_when_crowded(&rt, &chain, &mut seat);
     let left = [(0, 10), (4, 14), (8, 18), (12, 22)];
     one_leaves(&rt, rt.alloc(), chain, seat, &left)?;
@@ -111,7 +94,7 @@ fn removes_before_copy<R: Abort>(rt: &R, chain: &Chain, seat: &mut ChainSeat)
 
 #[test]
 fn a_removal_is_not_copied(rt: HostRuntime) -> Result<(), Fail> {
-    let (chain, mut seat) = chain_of(&rt, rt.alloc(), Shape::new(2, 3, 1, 1))?;
+    let (chain, mut seat) = with_one(&rt, rt.alloc(), Shape::new(2, 3, 1, 1))?;
     removes_before_copy(&rt, &chain, &mut seat);
     let left = [(0, 10), (8, 18), (12, 22)];
     one_leaves(&rt, rt.alloc(), chain, seat, &left)?;
@@ -138,7 +121,7 @@ fn keeps_slots<R: Abort>(rt: &R, chain: &Chain, seat: &mut ChainSeat)
 
 #[test]
 fn full_and_kept_keys(rt: HostRuntime) -> Result<(), Fail> {
-    let (chain, mut seat) = chain_of(&rt, rt.alloc(), Shape::new(2, 1, 1, 1))?;
+    let (chain, mut seat) = with_one(&rt, rt.alloc(), Shape::new(2, 1, 1, 1))?;
     keeps_slots(&rt, &chain, &mut seat);
     let left = [(0, 30), (1, 11), (2, 12), (3, 13)];
     one_leaves(&rt, rt.alloc(), chain, seat, &left)?;
@@ -176,11 +159,9 @@ fn contends<R: Abort>(
     change: Change,
     tries: u32,
 ) -> Result<(Result<Option<u64>, PutFault>, Option<u64>), OutOfMemory> {
-    let shape = Shape::new(2, 1, 2, 1).expect(rt, "a shape");
-    let (chain, mut seats) = Chain::new(alloc, shape)?;
-    let (Some(seat), Some(mut a)) = (seats.pop(), seats.pop()) else {
-        panic!(rt; "there are two seats")
-    };
+    let (chain, mut seats) = chain_of(rt, alloc, Shape::new(2, 1, 2, 1))?;
+    let seat = taken(rt, &chain, &mut seats);
+    let mut a = taken(rt, &chain, &mut seats);
     assert!(rt; tries > 0);
     let seven = key(rt, 7);
     let mut pause = PutsOnce {
@@ -241,8 +222,8 @@ fn refills<R: Abort>(rt: &R, chain: &Chain, seat: &mut ChainSeat)
 }
 
 #[test]
-fn refilled(rt: HostRuntime) -> Result<(), Fail> {
-    let (chain, mut seat) = chain_of(&rt, rt.alloc(), Shape::new(2, 2, 1, 1))?;
+fn filled_removed_refilled(rt: HostRuntime) -> Result<(), Fail> {
+    let (chain, mut seat) = with_one(&rt, rt.alloc(), Shape::new(2, 2, 1, 1))?;
     refills(&rt, &chain, &mut seat);
     let left = [
         (0, 10),
@@ -279,7 +260,7 @@ fn grows_twice<R: Abort>(rt: &R, chain: &Chain, seat: &mut ChainSeat)
 #[test]
 fn plan_of_three(rt: HostRuntime) -> Result<(), Fail> {
     let shape = Shape::with_plan(&[2, 2, 3], 1, 1);
-    let (chain, mut seat) = chain_of(&rt, rt.alloc(), shape)?;
+    let (chain, mut seat) = with_one(&rt, rt.alloc(), shape)?;
     grows_twice(&rt, &chain, &mut seat);
     let left = [(0, 10), (4, 14), (8, 18), (12, 22)];
     one_leaves(&rt, rt.alloc(), chain, seat, &left)?;
@@ -301,7 +282,7 @@ fn makes_room<R: Abort>(rt: &R, chain: &Chain, seat: &mut ChainSeat)
 #[test]
 fn same_size_successor(rt: HostRuntime) -> Result<(), Fail> {
     let shape = Shape::with_plan(&[2, 2], 1, 1);
-    let (chain, mut seat) = chain_of(&rt, rt.alloc(), shape)?;
+    let (chain, mut seat) = with_one(&rt, rt.alloc(), shape)?;
     makes_room(&rt, &chain, &mut seat);
     let left = [(12, 22), (16, 26), (20, 30), (24, 34)];
     one_leaves(&rt, rt.alloc(), chain, seat, &left)?;
@@ -320,7 +301,7 @@ fn fills_both<R: Abort>(rt: &R, chain: &Chain, seat: &mut ChainSeat)
 #[test]
 fn same_size_full(rt: HostRuntime) -> Result<(), Fail> {
     let shape = Shape::with_plan(&[2, 2], 1, 1);
-    let (chain, mut seat) = chain_of(&rt, rt.alloc(), shape)?;
+    let (chain, mut seat) = with_one(&rt, rt.alloc(), shape)?;
     fills_both(&rt, &chain, &mut seat);
     let left = [(0, 10), (4, 14), (8, 18), (12, 22)];
     one_leaves(&rt, rt.alloc(), chain, seat, &left)?;
@@ -346,7 +327,7 @@ fn adds_in_turn<R: Abort>(rt: &R, chain: &Chain, seat: &mut ChainSeat)
 
 #[test]
 fn adds(rt: HostRuntime) -> Result<(), Fail> {
-    let (chain, mut seat) = chain_of(&rt, rt.alloc(), Shape::new(2, 1, 1, 1))?;
+    let (chain, mut seat) = with_one(&rt, rt.alloc(), Shape::new(2, 1, 1, 1))?;
     adds_in_turn(&rt, &chain, &mut seat);
     let left = [(1, 1_152_921_504_606_846_975), (2, 0)];
     one_leaves(&rt, rt.alloc(), chain, seat, &left)?;
@@ -354,7 +335,7 @@ fn adds(rt: HostRuntime) -> Result<(), Fail> {
 }
 
 /// A puts three keys, B grows the chain for a fourth and copies them, and A finds all four.
-fn goes_on<R: Abort>(rt: &R, chain: &Chain, a: &mut ChainSeat, b: &mut ChainSeat)
+fn finds_copies<R: Abort>(rt: &R, chain: &Chain, a: &mut ChainSeat, b: &mut ChainSeat)
     requires a { IsOwn chain.now a.old }
     requires b { IsOwn chain.now b.old }
     ensures a { IsOwn chain.now a.new }
@@ -367,13 +348,11 @@ fn goes_on<R: Abort>(rt: &R, chain: &Chain, a: &mut ChainSeat, b: &mut ChainSeat
 }
 
 #[test]
-fn stopped_copier_goes_on(rt: HostRuntime) -> Result<(), Fail> {
-    let shape = Shape::new(2, 3, 2, 1).expect(&rt, "a shape");
-    let (chain, mut seats) = Chain::new(rt.alloc(), shape)?;
-    let (Some(mut b), Some(mut a)) = (seats.pop(), seats.pop()) else {
-        panic!(rt; "there are two seats")
-    };
-    goes_on(&rt, &chain, &mut a, &mut b);
+fn finds_what_another_copied(rt: HostRuntime) -> Result<(), Fail> {
+    let (chain, mut seats) = chain_of(&rt, rt.alloc(), Shape::new(2, 3, 2, 1))?;
+    let mut b = taken(&rt, &chain, &mut seats);
+    let mut a = taken(&rt, &chain, &mut seats);
+    finds_copies(&rt, &chain, &mut a, &mut b);
     seats.push(a)?;
     seats.push(b)?;
     let left = [(0, 10), (4, 14), (8, 18), (12, 22)];

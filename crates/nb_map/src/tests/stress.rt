@@ -2,7 +2,7 @@
 ghost use Rattle.std.specs.Prelude.{All, IfOk};
 ghost use Rattle.nb_map.specs.Maps.{AreMine, IsMine};
 
-use super::by_hand::{key, number};
+use super::on_chain::{key, number};
 use super::on_map::*;
 use crate::{Ended, Map, Seat};
 use nb_core::OutOfMemory;

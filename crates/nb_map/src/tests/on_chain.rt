@@ -1,15 +1,54 @@
-//! The map's calls with small numbers, and looks at what they leave in the slots.
-ghost use Rattle.std.specs.Prelude.{◌≤◌};
+//! The map's calls over a chain of tables alone, with small numbers, and looks at what they leave in the slots.
+ghost use Rattle.std.specs.Prelude.{All, IfOk, ◌≤◌};
 ghost use Rattle.nb_core.specs.Tables.{IsSlot};
 ghost use Rattle.nb_table.specs.Chains.{IsOwn};
 ghost use Rattle.nb_table.specs.Gathered.{AreOwn};
 
 use crate::PutFault;
 use crate::steps::{NoPause, get_in, put_if_match_in};
-use nb_core::{Change, Key, KeyState, Num, OutOfMemory, Reply, ValueState, Want};
+use nb_core::{
+    Change, Key, KeyState, Num, OutOfMemory, Reply, Shape, ShapeFault, ValueState, Want,
+};
 use nb_table::{Chain, ChainSeat, Closed, laws};
 use std::alloc::Global;
 use std::process::Abort;
+
+/// A chain of this shape with its seats.
+pub(super) fn chain_of<R: Abort>(
+    rt: &R,
+    alloc: Global,
+    shape: Result<Shape, ShapeFault>,
+) -> Result<(Chain, Vec<ChainSeat>), OutOfMemory>
+    ensures { IfOk result (λ made. All (IsOwn made.0) made.1.items) }
+{
+    let shape = shape.expect(rt, "a shape");
+    Chain::new(alloc, shape)
+}
+
+/// One of the seats.
+pub(super) fn taken<R: Abort>(rt: &R, chain: &Chain, seats: &mut Vec<ChainSeat>) -> ChainSeat
+    requires own { All (IsOwn chain.now) seats.old.items }
+    ensures taken { IsOwn chain.now result }
+    ensures left { All (IsOwn chain.now) seats.new.items }
+{
+    let Some(seat) = seats.pop() else {
+        panic!(rt; "there is a seat")
+    };
+    seat
+}
+
+/// A chain of this shape, which has one seat.
+pub(super) fn with_one<R: Abort>(
+    rt: &R,
+    alloc: Global,
+    shape: Result<Shape, ShapeFault>,
+) -> Result<(Chain, ChainSeat), OutOfMemory>
+    ensures { IfOk result (λ made. IsOwn made.0 made.1) }
+{
+    let (chain, mut seats) = chain_of(rt, alloc, shape)?;
+    let seat = taken(rt, &chain, &mut seats);
+    Ok((chain, seat))
+}
 
 /// The key, which is a small one.
 pub(super) fn key<R: Abort>(rt: &R, key: u64) -> Key {

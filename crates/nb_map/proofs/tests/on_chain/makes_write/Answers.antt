@@ -1,5 +1,5 @@
 use Rattle.nb_map.proofs.ByHand.{write-own}
-use Rattle.nb_map.proofs.tests.by_hand.makes_write.Goals as goal
+use Rattle.nb_map.proofs.tests.on_chain.makes_write.Goals as goal
 
 pub returns : goal.returns
 returns c =

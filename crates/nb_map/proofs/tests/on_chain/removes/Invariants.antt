@@ -1,5 +1,5 @@
 use Rattle.nb_table.specs.Chains.{IsOwn}
-use Rattle.nb_map.proofs.tests.by_hand.puts.Given as goal
+use Rattle.nb_map.proofs.tests.on_chain.removes.Given as goal
 
 abbrev pub invariant-loop-k : goal.invariant-loop-k
 invariant-loop-k g l = IsOwn l.chain l.seat
