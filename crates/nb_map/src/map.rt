@@ -207,7 +207,8 @@ impl Map {
         self.counter.estimate(&mut seat.count)
     }
 
-    /// Lets each of two seats see all that the other has seen, by one load of the top word by each.
+    /// Lets each of two seats see all that the other has seen. Each makes one step, a load of the top word, and two loads
+    /// beside it by which `atomic_table` passes on what is known.
     pub fn meet(&self, a: &mut Seat, b: &mut Seat)
         requires a_own { IsMine self.now a.old }
         requires b_own { IsMine self.now b.old }

@@ -1,5 +1,5 @@
 -- When a map can be full: for any number of workers at the end, and for one at each of its commands.
-use Rattle.std.proofs.Common.{◌≡◌, ◌≢◌, ◌∙◌, ◌==◌, ◌≤◌, ◌<◌, ◌-◌, ◌+◌, not, cond, ℕ, zero, suc, List, [], ◌∷◌, ◌++◌, Some, map, take, ap, sym, subst, refl, inl, inr, append_assoc, append-nil, arith}
+use Rattle.std.proofs.Common.{◌≡◌, ◌≢◌, ◌∙◌, ◌==◌, ◌≤◌, ◌<◌, ◌-◌, not, cond, ℕ, zero, suc, List, [], ◌∷◌, ◌++◌, Some, map, take, ap, sym, subst, refl, inl, inr, append_assoc, append-nil, arith}
 use Rattle.std.specs.Prelude.{slice_get}
 use Rattle.std.specs.List.{All, count_by, flat_map}
 use Rattle.std.proofs.lemmas.Bool.{cases_Bool, eq-eqb, eqb-true}

@@ -4,9 +4,12 @@ use Rattle.nb_run.proofs.Taken.{fault_of_end, fault_of_failure, fault_of_read, r
 use Rattle.nb_run.proofs.reader.read_script.Goals as goal
 
 pub loop-count-preserved : goal.loop-count-preserved
-loop-count-preserved g c =
-    (read_more _ _ _ _ _ _ _ c.loop-count.invariant.0 c.in-Ok.ensures.bytes.0 c.in_ok-take_all.ensures.ok
-    c.in_ok-take_all.ensures.lines, search rules, search rules)
+loop-count-preserved g c = (
+  read_more _ _ _ _ _ _ _ c.loop-count.invariant.0 c.in-Ok.ensures.bytes.0 c.in_ok-take_all.ensures.ok
+      c.in_ok-take_all.ensures.lines,
+  search rules,
+  search rules,
+)
 
 pub returns-in_default-clause-fault : goal.returns-in_default-clause-fault
 returns-in_default-clause-fault g c = fault_of_failure _ _ _ _ _ c.loop-count.invariant.0 c.in_default.ensures.bytes
