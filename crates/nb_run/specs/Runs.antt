@@ -9,7 +9,8 @@ use Rattle.nb_run.specs.declared.script.Cause.{Cause}
 use Rattle.nb_run.specs.declared.faults.RunFault.{RunFault}
 use Rattle.nb_run.specs.declared.faults.RunFault.TheVariants as fault
 
--- Of bytes all this speaks where the reader and the writer tell theirs. For one that doesn't, some bytes are as it says.
+-- All this speaks of the bytes of a reader and of a writer that tell theirs. Of one that doesn't, it says no more than that
+-- there are such bytes.
 
 -- The input was read whole, and is a script without a fault, with these phases.
 pub record HasReadScript (seats : ℕ) (unread unread' : Option Bytes) (phases : List Phase) : Type 0 where

@@ -62,7 +62,9 @@ IsServeFaultOf words unread unread' (serve.Run f) = HasFault words unread unread
 
 -- The program ended by a fault: its status, what came of it, and what was said. Another fault than a failed write
 -- leaves the writer as it was.
-pub record HasFailed {W : Type 0} (words : Words) (unread unread' : Option Bytes) (writer writer' : W) (said said' : Option Bytes) (reader_failed writer_failed errors_failed : Bool) (status : ℕ) : Type 0 where
+pub record HasFailed {W : Type 0}
+    (words : Words) (unread unread' : Option Bytes) (writer writer' : W) (said said' : Option Bytes)
+    (reader_failed writer_failed errors_failed : Bool) (status : ℕ) : Type 0 where
   pub fault : ServeFault
   pub status_is : status ≡ status_of fault
   pub due : IsServeFaultOf words unread unread' fault
