@@ -101,12 +101,11 @@ module _ (law : StepsAddUp) (own_lasts : OwnLasts) (chain : ChainOf) (plan : IsP
 
   -- one chunk more
   pub helped-more :
-      {start before after : SeenBy} {slots : List ℕ} {chunks turned : ℕ} (taken : ℕ) → IsOwn chain start
-      → HasCopied p g start before slots chunks (length slots) (taken * chunk_steps p g) → HasHelped p g before after turned
-      → (slots : List ℕ) × (chunks : ℕ) × HasCopied p g start after slots chunks (length slots) ((taken + 1) * chunk_steps p g)
-  helped-more {slots = slots} {chunks} taken own so_far chunk = (
+      {start before after : SeenBy} {slots : List ℕ} {turned : ℕ} (taken : ℕ) → IsOwn chain start
+      → HasCopied p g start before slots taken (length slots) (taken * chunk_steps p g) → HasHelped p g before after turned
+      → (slots : List ℕ) × HasCopied p g start after slots (taken + 1) (length slots) ((taken + 1) * chunk_steps p g)
+  helped-more {slots = slots} taken own so_far chunk = (
     chunk.slots ++ slots,
-    chunks + 1,
     copied-within (taken * chunk_steps p g + chunk_steps p g) ((taken + 1) * chunk_steps p g) (omega arith)
         (copied-counting law chain plan g table own so_far chunk.number chunk.copied),
   )
@@ -114,12 +113,14 @@ module _ (law : StepsAddUp) (own_lasts : OwnLasts) (chain : ChainOf) (plan : IsP
   -- the chunks of the table
   pub helped-all :
       {start after : SeenBy} (taken : ℕ) → taken ≤ size_of p g / chunk_of p g
-      → (slots : List ℕ) × (chunks : ℕ) × HasCopied p g start after slots chunks (length slots) (taken * chunk_steps p g)
-      → (slots : List ℕ) × (chunks : ℕ) × HasCopied p g start after slots chunks (length slots) (size_of p g * (slot_steps p g + 1))
+      → (slots : List ℕ) × HasCopied p g start after slots taken (length slots) (taken * chunk_steps p g)
+      → (slots : List ℕ) × (chunks : ℕ) × (chunks ≤ size_of p g / chunk_of p g)
+      × HasCopied p g start after slots chunks (length slots) (size_of p g * (slot_steps p g + 1))
   helped-all taken few copied = (
     copied.0,
-    copied.1,
+    taken,
+    few,
     copied-within (taken * chunk_steps p g) (size_of p g * (slot_steps p g + 1))
         (chunks-bound (size_of p g) (chunk_of p g) taken (slot_steps p g) (four-handed p plan g table)
-        (le_trans (mul-le-mul_right (chunk_of p g) few) (div-mul-le_self (size_of p g) (chunk_of p g)))) copied.2,
+        (le_trans (mul-le-mul_right (chunk_of p g) few) (div-mul-le_self (size_of p g) (chunk_of p g)))) copied.1,
   )

@@ -1,5 +1,5 @@
 -- What it takes to copy slots, chunks and whole tables.
-use Rattle.std.specs.Prelude.{◌≡◌, ℕ, suc, ◌+◌, ◌*◌, ◌<◌, ◌≤◌, List, ◌∷◌, ◌++◌, length, All}
+use Rattle.std.specs.Prelude.{◌≡◌, ℕ, suc, ◌+◌, ◌*◌, ◌/◌, ◌<◌, ◌≤◌, List, ◌∷◌, ◌++◌, length, All}
 use Rattle.nb_core.specs.Plans.{Plan, size_of}
 use Rattle.nb_core.specs.Tables.{IsComplete, IsFinished, chunk_of, tables_at}
 use Rattle.nb_core.specs.declared.events.Event.{Event}
@@ -48,11 +48,12 @@ pub record HasHelped (p : Plan) (g : ℕ) (before after : SeenBy) (turned : ℕ)
   pub idle : size_of p g ≤ start → (turned ≡ 0) × (after.steps ≡ before.steps + 1)
   pub raised : 1 ≤ turned → IsRaised p g after
 
--- The seat copied the table: all its slots are finished, and the top word is past it. The seat counted just the slots that
--- its own steps turned finished.
+-- The seat copied the table: all its slots are finished, and the top word is past it. The seat asked for no more chunks than
+-- the table has, and counted just the slots that its own steps turned finished.
 pub record HasCompleted (p : Plan) (g : ℕ) (before after : SeenBy) : Type 0 where
   pub slots : List ℕ
   pub chunks : ℕ
+  pub few : chunks ≤ size_of p g / chunk_of p g
   pub copied : HasCopied p g before after slots chunks (length slots) (table_steps p g)
   pub complete : IsComplete p (seen_by after) g
   pub raised : g < (seen_by after).top

@@ -1,8 +1,8 @@
 //! Copying chunks and whole tables, and counting what was copied.
-ghost use Rattle.std.specs.Prelude.{◌≡◌, ℕ, ◌+◌, ◌-◌, ◌*◌, ◌<◌, ◌≤◌, suc, [], ◌∷◌, List, length, All, if◌then◌else◌, unwrap_or, IsTrue};
+ghost use Rattle.std.specs.Prelude.{◌≡◌, ℕ, ◌+◌, ◌-◌, ◌*◌, ◌/◌, ◌<◌, ◌≤◌, suc, [], ◌∷◌, List, length, All, if◌then◌else◌, unwrap_or, IsTrue};
 ghost use Rattle.nb_core.specs.History.{counted_by, turned_by};
 ghost use Rattle.nb_core.specs.Plans.{generations_of, size_of};
-ghost use Rattle.nb_core.specs.Tables.{IsFinished, IsInstalled, IsSlot};
+ghost use Rattle.nb_core.specs.Tables.{IsFinished, IsInstalled, IsSlot, chunk_of};
 ghost use Rattle.nb_table.specs.Chains.{IsOwn, seen_by};
 ghost use Rattle.nb_copy.specs.Copying.{HasCopied};
 ghost use Rattle.nb_copy.specs.Handing.{HasCompleted, HasHelped, IsRaised, slot_steps};
@@ -137,7 +137,7 @@ fn count(chain: &Chain, seat: &mut ChainSeat, g: u32, slots: usize)
 fn copy_chunks(chain: &Chain, seat: &mut ChainSeat, g: u32)
     requires own { IsOwn chain.now seat.old }
     requires growing { IsInstalled (seen_by seat.old) (suc g) }
-    ensures copied { (slots : List ℕ) × (chunks : ℕ)
+    ensures copied { (slots : List ℕ) × (chunks : ℕ) × (chunks ≤ size_of chain.now.shape g / chunk_of chain.now.shape g)
         × HasCopied chain.now.shape g seat.old seat.new slots chunks (length slots) (size_of chain.now.shape g * (slot_steps chain.now.shape g + 1)) }
 {
     laws::steps_add_up();
