@@ -3,15 +3,16 @@ use Rattle.std.proofs.Common.{◌≡◌, ◌≢◌, ◌∙◌, ℕ, suc, zero, �
 use Rattle.std.proofs.lemmas.Bool.{eq-eqb, ne_eqb}
 use Rattle.std.proofs.Math.Pow.{pow_mono}
 use Rattle.std.proofs.lemmas.List.Elements.{All-get_or}
+use Rattle.std.proofs.lemmas.Nat.{mod_below, pow_pos}
 use Rattle.std.proofs.lemmas.List.{append-nil}
 use Rattle.nb_core.specs.Calls.{leaves_alone}
 use Rattle.nb_core.specs.History.{IsLegal, key_of_call}
 use Rattle.nb_core.specs.Laws.{AtSlot, CompletePassed, IsPassed, Lasts, PathsAreDistinct, TablesAreLinked, TopComplete}
 use Rattle.nb_core.specs.Plans.{IsPlan, Plan, generations_of, size_of}
-use Rattle.nb_core.specs.Tables.{AreOthers, IsComplete, IsFinished, IsInstalled, IsOnPath, IsOther, IsReady, IsSlot, IsUnprimed, Tables, path_slot}
+use Rattle.nb_core.specs.Tables.{AreOthers, IsComplete, IsFinished, IsFinishedValue, IsInstalled, IsOnPath, IsOther, IsReady, IsSlot, IsUnprimed, Tables, path_slot}
 use Rattle.nb_core.specs.declared.calls.Call.{Call}
 use Rattle.nb_core.specs.declared.calls.Reply.{Reply}
-use Rattle.nb_core.specs.declared.states.KeyState.TheVariants.{Claimed, Dead}
+use Rattle.nb_core.specs.declared.states.KeyState.TheVariants.{Claimed, Dead, Empty}
 use Rattle.nb_core.specs.declared.states.ValueState.{ValueState}
 use Rattle.nb_core.specs.declared.states.ValueState.TheVariants.{Null, Tombstone, Live, PrimedNull, PrimedTombstone, Primed, Finished}
 use Rattle.nb_table.specs.Chains.{ChainOf, Extended, IsOwn, SeenBy, seen_by}
@@ -20,6 +21,7 @@ use Rattle.nb_table.specs.Events.{is_last_slot, read, shown_by_key, shown_by_val
 use Rattle.nb_table.specs.Laws.{StepsAddUp}
 use Rattle.nb_map.proofs.Made.{made-more, made-read, made-within, read_shown}
 use Rattle.nb_map.specs.Calling.{HasMade, read_of, replied}
+use Rattle.nb_map.specs.Looking.{IsAtHome, IsAway}
 use Rattle.nb_map.specs.Searching.{IsAbove}
 
 -- a table that is there is one of the plan's
@@ -274,3 +276,61 @@ pub others-more :
 others-more p t u lasting g key d i other table others at is differs =
     below_more (λ e. IsOther (u.key g (path_slot p g key e)) key) d (lasting.others g key d table others)
     (record { other = other; is = ap (u.key g) at ∙ is; differs = differs })
+
+-- ---- at home
+
+-- a value that is primed stays primed
+primed-lasts :
+    (p : Plan) (t u : Tables) → Lasts p t u → (g i : ℕ) → IsSlot p g i → (v : ValueState) → t.value g i ≡ v → (IsUnprimed v → ⊥)
+    → IsUnprimed (u.value g i) → ⊥
+primed-lasts p t u lasting g i slot Null is primed later = primed tt
+primed-lasts p t u lasting g i slot Tombstone is primed later = primed tt
+primed-lasts p t u lasting g i slot (Live n) is primed later = primed tt
+primed-lasts p t u lasting g i slot PrimedNull is primed later =
+    subst IsUnprimed (lasting.final g i slot (subst IsFinishedValue (sym is) refl) ∙ is) later
+primed-lasts p t u lasting g i slot PrimedTombstone is primed later =
+    subst IsUnprimed (lasting.final g i slot (subst IsFinishedValue (sym is) refl) ∙ is) later
+primed-lasts p t u lasting g i slot (Primed n) is primed later = elim (lasting.primed_or_finished g i n slot (inl is)) [
+  | inl same ↦ subst IsUnprimed same later
+  | inr done ↦ subst IsUnprimed done later
+]
+primed-lasts p t u lasting g i slot (Finished n) is primed later =
+    subst IsUnprimed (lasting.final g i slot (subst IsFinishedValue (sym is) refl) ∙ is) later
+
+-- a key that is away from home stays away
+pub away-lasts :
+    (p : Plan) (t u : Tables) → Lasts p t u → (g k : ℕ) → g < generations_of p → IsAway p t g k → IsAway p u g k
+away-lasts p t u lasting g k table away =
+    let slot : IsSlot p g (path_slot p g k 0) = (table, mod_below (k + 0) (size_of p g) (pow_pos _)) in
+    elim away [
+      | inl others ↦ inl (lasting.others g k 1 table others)
+      | inr rest ↦ elim rest [
+        | inl dead ↦ inr (inl (lasting.dead g (path_slot p g k 0) slot dead))
+        | inr own ↦
+            inr (inr (
+              lasting.claimed g (path_slot p g k 0) k slot own.0,
+              primed-lasts p t u lasting g (path_slot p g k 0) slot (t.value g (path_slot p g k 0)) refl own.1,
+            ))
+      ]
+    ]
+
+-- and isn't at home
+pub not-both : (p : Plan) (t : Tables) (g k : ℕ) → IsAway p t g k → IsAtHome p t g k → ⊥
+not-both p t g k away home = elim away [
+  | inl others ↦
+      let first = others 0 (omega arith) in
+      elim home [
+        | inl empty ↦ (let both : Empty ≡ Claimed first.other = sym empty ∙ first.is in cc)
+        | inr own ↦ first.differs (let both : Claimed first.other ≡ Claimed k = sym first.is ∙ own.0 in cc)
+      ]
+  | inr rest ↦ elim rest [
+    | inl dead ↦ elim home [
+      | inl empty ↦ (let both : Empty ≡ Dead = sym empty ∙ dead in cc)
+      | inr own ↦ (let both : Claimed k ≡ Dead = sym own.0 ∙ dead in cc)
+    ]
+    | inr primed ↦ elim home [
+      | inl empty ↦ (let both : Empty ≡ Claimed k = sym empty ∙ primed.0 in cc)
+      | inr own ↦ primed.1 own.1
+    ]
+  ]
+]

@@ -1,13 +1,13 @@
 //! Reading a key.
-ghost use Rattle.std.specs.Prelude.{◌≡◌, ◌+◌, ◌<◌};
+ghost use Rattle.std.specs.Prelude.{◌≡◌, ◌+◌, ◌<◌, ◌≤◌};
 ghost use Rattle.nb_core.specs.Plans.{generations_of, size_of};
-ghost use Rattle.nb_core.specs.Tables.{AreOthers, IsSlot};
+ghost use Rattle.nb_core.specs.Tables.{AreOthers, IsSlot, path_slot};
 ghost use Rattle.nb_core.specs.declared.calls.Call.TheVariants as call;
 ghost use Rattle.nb_core.specs.declared.states.KeyState.TheVariants as key_is;
 ghost use Rattle.nb_table.specs.Chains.{IsOwn, seen_by};
 ghost use Rattle.nb_table.specs.Conditions.{IsReached};
 ghost use Rattle.nb_map.specs.Calling.{HasMade, replied};
-ghost use Rattle.nb_map.specs.Looking.{IsGlance, IsLook, get_steps, glanced_by, look_steps, looked_below, read_by};
+ghost use Rattle.nb_map.specs.Looking.{IsGlance, IsLook, IsSeenAtHome, get_steps, glanced_by, look_steps, looked_below, read_by};
 ghost use Rattle.nb_map.specs.Searching.{pass_steps};
 
 use crate::search::{Sought, pass_slot, seek};
@@ -39,6 +39,7 @@ pub fn get_in(chain: &Chain, seat: &mut ChainSeat, key: Key) -> Option<Num>
     requires own { IsOwn chain.now seat.old }
     ensures made { HasMade chain.now.shape (call.Get key) seat.old seat.new (replied (call.Get key) result)
         (get_steps chain.now.shape) }
+    ensures three_loads { IsSeenAtHome chain.now.shape seat.old seat.new key → seat.new.steps ≤ seat.old.steps + 3 }
 {
     laws::steps_add_up();
     nb_core::laws::linked();
@@ -86,6 +87,7 @@ fn glance_in(chain: &Chain, seat: &mut ChainSeat, g: u32, key: Key) -> Glance
 fn glance_at(chain: &Chain, seat: &mut ChainSeat, g: u32, i: usize, key: Key) -> Glance
     requires own { IsOwn chain.now seat.old }
     requires slot { IsSlot chain.now.shape g i }
+    requires home { path_slot chain.now.shape g key 0 ≡ i }
     requires claimed { (seen_by seat.old).key g i ≡ key_is.Claimed key }
     requires reached { IsReached chain.now.shape (seen_by seat.old) g key }
     ensures made { HasMade chain.now.shape (call.Get key) seat.old seat.new (glanced_by (call.Get key) result) 1 }

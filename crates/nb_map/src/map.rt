@@ -1,5 +1,5 @@
 //! The map and its seats.
-ghost use Rattle.std.specs.Prelude.{◌≡◌, ◌<◌, ◌≤◌, ◌↔◌, ℕ, pos, IfOk, IfErr, is_ok, is_some, true, if◌then◌else◌, Option, [], ◌∷◌, length};
+ghost use Rattle.std.specs.Prelude.{◌≡◌, ◌+◌, ◌<◌, ◌≤◌, ◌↔◌, ℕ, pos, IfOk, IfErr, is_ok, is_some, true, if◌then◌else◌, Option, [], ◌∷◌, length};
 ghost use Rattle.nb_core.specs.History.{IsLegal};
 ghost use Rattle.nb_core.specs.Meaning.{net_of_change};
 ghost use Rattle.nb_core.specs.Plans.{IsPlan};
@@ -9,7 +9,7 @@ ghost use Rattle.nb_count.specs.Counts.{with_looks};
 ghost use Rattle.nb_table.specs.Chains.{Extended, seen_by};
 ghost use Rattle.nb_table.specs.Views.{IsBeginning};
 ghost use Rattle.nb_map.specs.Calling.{replied};
-ghost use Rattle.nb_map.specs.Looking.{get_steps};
+ghost use Rattle.nb_map.specs.Looking.{IsSeenAtHome, get_steps};
 ghost use Rattle.nb_map.specs.Ending.{EndedWith};
 ghost use Rattle.nb_map.specs.Maps.{AreMine, HasCalled, HasCounted, IsMine, accounted, seats_of};
 ghost use Rattle.nb_map.specs.Refusing.{IsJust, put_steps};
@@ -101,6 +101,8 @@ impl Map {
         requires own { IsMine self.now seat.old }
         ensures called { HasCalled self.now (call.Get key) seat.old seat.new (replied (call.Get key) result)
             (get_steps self.now.chain.shape) }
+        ensures three_loads { IsSeenAtHome self.now.chain.shape seat.old.chain seat.new.chain key
+            → seat.new.chain.steps ≤ seat.old.chain.steps + 3 }
     {
         get_in(&self.chain, &mut seat.chain, key)
     }

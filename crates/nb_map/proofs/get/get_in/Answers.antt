@@ -1,11 +1,12 @@
-use Rattle.std.proofs.Common.{◌+◌, subst, arith}
+use Rattle.std.proofs.Common.{◌≡◌, ◌+◌, subst, arith}
 use Rattle.std.proofs.Math.Nat.{le_refl}
 use Rattle.nb_core.specs.Plans.{IsPlan, generations_of}
 use Rattle.nb_core.specs.declared.calls.Call.TheVariants as call
-use Rattle.nb_map.specs.Looking.{get_steps, looked_below}
+use Rattle.nb_table.specs.Chains.{seen_by}
+use Rattle.nb_map.specs.Looking.{IsAtHome, get_steps, looked_below}
 use Rattle.nb_map.proofs.Bounds.{get-bound}
 use Rattle.nb_map.proofs.Made.{made-more, made-own, made-quiet, made-stays, made-within}
-use Rattle.nb_map.proofs.Searched.{reached-lasts, reached-top, table-within}
+use Rattle.nb_map.proofs.Searched.{away-lasts, not-both, reached-lasts, reached-top, table-within}
 use Rattle.nb_map.proofs.get.get_in.Goals as goal
 
 pub glance_in-requires : goal.glance_in-requires
@@ -27,9 +28,11 @@ returns-in-Shows c =
     let p = chain.shape in
     let plan = subst IsPlan c.shape.ensures c.known.ensures in
     let bound = get-bound c.sizes_never_fall.ensures p plan (generations_of p) (le_refl (generations_of p)) in
+    let glanced = made-more law chain plan c.requires.own (made-quiet law p (call.Get c.args.key) c.load_top-top.ensures.grows)
+    c.in-Shows.ensures.made in
     record {
-      made = made-within 3 (get_steps p) (omega (arith, bound))
-          (made-more law chain plan c.requires.own (made-quiet law p (call.Get c.args.key) c.load_top-top.ensures.grows) c.in-Shows.ensures.made);
+      made = made-within 3 (get_steps p) (omega (arith, bound)) glanced;
+      three_loads = λ home. omega (arith, glanced.grown.steps, glanced.few);
     }
 
 pub get_from-requires : goal.get_from-requires
@@ -58,7 +61,21 @@ returns-in-From c =
     let get = call.Get c.args.key in
     let bound = get-bound c.sizes_never_fall.ensures p plan (generations_of p) (le_refl (generations_of p)) in
     let glanced = made-more law chain plan c.requires.own (made-quiet law p get c.load_top-top.ensures.grows) c.in-From.ensures.made in
+    let then = law.own c.requires.own (law.one c.load_top-top.ensures.grows) in
+    let reached = reached-top c.linked.ensures c.top_complete.ensures c.complete_passed.ensures chain c.load_top-top.new.seat plan then
+    c.load_top-top.ensures.grows.legal c.args.key c.load_top-top.result c.load_top-top.ensures.found in
+    let table = table-within c.linked.ensures chain c.load_top-top.new.seat plan then c.load_top-top.ensures.grows.legal c.load_top-top.result reached.installed in
+    let first = law.stays plan c.requires.own (law.one c.load_top-top.ensures.grows) in
+    let second = made-stays law chain plan then c.in-From.ensures.made in
+    let third = made-stays law chain plan (made-own law chain plan then c.in-From.ensures.made) c.get_from.ensures.made in
     record {
       made = made-within (1 + 2 + looked_below p (generations_of p)) (get_steps p) (omega (arith, bound))
           (made-more law chain plan c.requires.own glanced c.get_from.ensures.made);
+      three_loads = λ home.
+          let same : (seen_by c.get_from.new.seat).top ≡ c.load_top-top.result =
+          omega (arith, home.0, first.top, second.top, third.top, c.load_top-top.ensures.found) in
+          absurd
+          (not-both p (seen_by c.get_from.new.seat) c.load_top-top.result c.args.key
+          (away-lasts p _ _ third c.load_top-top.result c.args.key table c.in-From.ensures.glance.2)
+          (subst (λ g. IsAtHome p (seen_by c.get_from.new.seat) g c.args.key) same home.1));
     }

@@ -1,6 +1,9 @@
-use Rattle.std.proofs.Common.{◌≡◌, None, Some, ap, inl, inr, subst}
+use Rattle.std.proofs.Common.{◌≡◌, None, Some, ap, inl, inr, subst, sym}
 use Rattle.std.proofs.lemmas.Nat.{pow_pos}
+use Rattle.nb_core.specs.Plans.{IsPlan}
+use Rattle.nb_core.specs.Tables.{IsUnprimed}
 use Rattle.nb_core.specs.declared.calls.Call.TheVariants as call
+use Rattle.nb_core.specs.declared.states.KeyState.TheVariants.{Claimed}
 use Rattle.nb_table.specs.Chains.{Extended, seen_by}
 use Rattle.nb_table.specs.Events.{read, shown_by_value}
 use Rattle.nb_map.proofs.Made.{made-quiet, made-read}
@@ -19,10 +22,21 @@ pub returns-in_default : goal.returns-in_default
 returns-in_default c =
     let p = c.args.chain.now.shape in
     let get = call.Get c.args.key in
-    let none = shown-primed c.load_value.result
-    (is-primed c.load_value.result c.in_default.not-Null c.in_default.not-Tombstone c.in_default.not-Live) in
+    let primed = is-primed c.load_value.result c.in_default.not-Null c.in_default.not-Tombstone c.in_default.not-Live in
+    let none = shown-primed c.load_value.result primed in
+    let seen = seen_by c.load_value.new.seat in
+    let claimed = (c.steps_add_up.ensures.stays (subst IsPlan c.shape.ensures c.known.ensures) c.requires.own
+    (c.steps_add_up.ensures.one c.load_value.ensures.grows)).claimed c.args.g c.args.i c.args.key c.requires.slot c.requires.claimed in
     record {
       made = made-quiet c.steps_add_up.ensures p get
           (subst (λ shown. Extended c.args.seat.now c.load_value.new.seat (read c.args.seat.now.number get shown) 1) none c.load_value.ensures.grows);
-      glance = (pow_pos _, others-none p (seen_by c.load_value.new.seat) c.args.g c.args.key);
+      glance = (
+        pow_pos _,
+        others-none p seen c.args.g c.args.key,
+        inr (inr (
+          subst (λ i. seen.key c.args.g i ≡ Claimed c.args.key) (sym c.requires.home) claimed,
+          subst (λ i. IsUnprimed (seen.value c.args.g i) → ⊥) (sym c.requires.home)
+              (subst (λ v. IsUnprimed v → ⊥) (sym c.load_value.ensures.found) primed),
+        )),
+      );
     }

@@ -1,4 +1,4 @@
-use Rattle.std.proofs.Common.{◌≡◌, ◌∙◌, ◌≢◌, None, Some, ap, sym, subst, refl, arith, rules}
+use Rattle.std.proofs.Common.{◌≡◌, ◌∙◌, ◌≢◌, None, Some, ap, inl, inr, sym, subst, refl, arith, rules}
 use Rattle.std.proofs.lemmas.Bool.{eqb-false}
 use Rattle.std.proofs.lemmas.List.{append-nil}
 use Rattle.std.proofs.lemmas.Nat.{pow_pos}
@@ -65,14 +65,12 @@ returns-else-eq c =
     ∙ shown-other law c.paths_are_distinct.ensures chain plan c.args.g table get 0 c.in-Claimed.other (pow_pos _) differs
     ∙ read-before p c.args.g get 1 more in
     let lasting = law.stays plan c.requires.own (law.one c.load_key.ensures.grows) in
+    let others = others-more p _ _ lasting c.args.g c.args.key 0 _ c.in-Claimed.other table
+    (others-none p (seen_by c.args.seat.now) c.args.g c.args.key) at (c.load_key.ensures.found ∙ c.in-Claimed.is) differs in
     record {
       made = made-within 1 2 (omega arith) (subst (λ made. HasMade p get c.args.seat.now c.load_key.new.seat made 1) none
           (made-read law p get (shown_by_key p c.args.g c.path_slot-home.result (Claimed c.in-Claimed.other) c.args.key) (subst seen c.in-Claimed.is c.load_key.ensures.grows)));
-      glance = (
-        more,
-        others-more p _ _ lasting c.args.g c.args.key 0 _ c.in-Claimed.other table (others-none p (seen_by c.args.seat.now) c.args.g c.args.key) at
-            (c.load_key.ensures.found ∙ c.in-Claimed.is) differs,
-      );
+      glance = (more, others, inl others);
     }
 
 pub returns-in-Empty-clause-made : goal.returns-in-Empty-clause-made
@@ -87,7 +85,12 @@ returns-in-Dead c =
     let p = c.args.chain.now.shape in
     let get = call.Get c.args.key in
     let seen = λ (s : KeyState). Extended c.args.seat.now c.load_key.new.seat (read c.args.seat.now.number get (shown_by_key p c.args.g c.path_slot-home.result s c.args.key)) 1 in
+    let at : path_slot p c.args.g c.args.key 0 ≡ c.path_slot-home.result = search rules in
     record {
       made = made-within 1 2 (omega arith) (made-quiet c.steps_add_up.ensures p get (subst seen c.in-Dead.is c.load_key.ensures.grows));
-      glance = (pow_pos _, others-none p (seen_by c.load_key.new.seat) c.args.g c.args.key);
+      glance = (
+        pow_pos _,
+        others-none p (seen_by c.load_key.new.seat) c.args.g c.args.key,
+        inr (inl (ap ((seen_by c.load_key.new.seat).key c.args.g) at ∙ c.load_key.ensures.found ∙ c.in-Dead.is)),
+      );
     }
