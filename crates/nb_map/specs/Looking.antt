@@ -35,7 +35,7 @@ IsAway p t g k =
     AreOthers p t g k 1 ⊎ (t.key g (path_slot p g k 0) ≡ Dead)
     ⊎ ((t.key g (path_slot p g k 0) ≡ Claimed k) × (IsUnprimed (t.value g (path_slot p g k 0)) → ⊥))
 
--- the top table stayed the same while the seat saw more, and the key is at home in it
+-- the seat has learned of no new top table, and has seen the key at home in the one that it knows
 abbrev pub IsSeenAtHome : Plan → (before after : SeenBy) → ℕ → Type 0
 IsSeenAtHome p before after k =
     ((seen_by before).top ≡ (seen_by after).top) × IsAtHome p (seen_by after) (seen_by after).top k

@@ -39,7 +39,7 @@ pub fn get_in(chain: &Chain, seat: &mut ChainSeat, key: Key) -> Option<Num>
     requires own { IsOwn chain.now seat.old }
     ensures made { HasMade chain.now.shape (call.Get key) seat.old seat.new (replied (call.Get key) result)
         (get_steps chain.now.shape) }
-    ensures three_loads { IsSeenAtHome chain.now.shape seat.old seat.new key → seat.new.steps ≤ seat.old.steps + 3 }
+    ensures three_steps { IsSeenAtHome chain.now.shape seat.old seat.new key → seat.new.steps ≤ seat.old.steps + 3 }
 {
     laws::steps_add_up();
     nb_core::laws::linked();

@@ -101,7 +101,7 @@ impl Map {
         requires own { IsMine self.now seat.old }
         ensures called { HasCalled self.now (call.Get key) seat.old seat.new (replied (call.Get key) result)
             (get_steps self.now.chain.shape) }
-        ensures three_loads { IsSeenAtHome self.now.chain.shape seat.old.chain seat.new.chain key
+        ensures three_steps { IsSeenAtHome self.now.chain.shape seat.old.chain seat.new.chain key
             → seat.new.chain.steps ≤ seat.old.chain.steps + 3 }
     {
         get_in(&self.chain, &mut seat.chain, key)

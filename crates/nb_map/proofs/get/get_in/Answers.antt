@@ -32,7 +32,7 @@ returns-in-Shows c =
     c.in-Shows.ensures.made in
     record {
       made = made-within 3 (get_steps p) (omega (arith, bound)) glanced;
-      three_loads = λ home. omega (arith, glanced.grown.steps, glanced.few);
+      three_steps = λ home. omega (arith, glanced.grown.steps, glanced.few);
     }
 
 pub get_from-requires : goal.get_from-requires
@@ -71,7 +71,7 @@ returns-in-From c =
     record {
       made = made-within (1 + 2 + looked_below p (generations_of p)) (get_steps p) (omega (arith, bound))
           (made-more law chain plan c.requires.own glanced c.get_from.ensures.made);
-      three_loads = λ home.
+      three_steps = λ home.
           let same : (seen_by c.get_from.new.seat).top ≡ c.load_top-top.result =
           omega (arith, home.0, first.top, second.top, third.top, c.load_top-top.ensures.found) in
           absurd
