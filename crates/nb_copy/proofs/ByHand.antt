@@ -3,26 +3,17 @@ use Rattle.std.proofs.Common.{◌≡◌, ◌≢◌, ◌<◌, ◌≤◌, ◌⊎�
 use Rattle.std.specs.List.{All}
 use Rattle.std.proofs.lemmas.Bool.Decides.{eqb_tells}
 use Rattle.std.proofs.lemmas.List.Elements.{All-cons, All-nil, All-same}
-use Rattle.nb_core.specs.Plans.{IsPlan, Plan, generations_of, limit_of, size_of}
-use Rattle.nb_core.specs.History.{HasWay, IsLegal}
-use Rattle.nb_core.specs.Laws.{AreLinked, CompletePassed, IsPassed, TablesAreLinked, TopComplete, primed}
+use Rattle.nb_core.specs.Plans.{Plan, generations_of, limit_of, size_of}
+use Rattle.nb_core.specs.History.{HasWay}
+use Rattle.nb_core.proofs.Theorems.{complete_passed, linked, top_complete}
+use Rattle.nb_core.specs.Laws.{primed}
 use Rattle.nb_core.specs.Tables.{AreOthers, IsComplete, IsInstalled, IsOther, IsReady, IsSettledBelow, IsUnprimed, Tables, path_slot}
 use Rattle.nb_core.specs.declared.events.Event.{Event}
 use Rattle.nb_core.specs.declared.states.KeyState.TheVariants.{Claimed}
 use Rattle.nb_core.specs.declared.states.ValueState.{ValueState}
 use Rattle.nb_core.specs.declared.states.ValueState.TheVariants.{Null, Tombstone, Live, PrimedNull, PrimedTombstone, Primed, Finished}
-use Rattle.nb_table.specs.Chains.{ChainOf, Extended, IsOwn, SeenBy, new_seat, seats_of, seen_by}
+use Rattle.nb_table.specs.Chains.{ChainOf, Extended, IsOwn, SeenBy, seen_by}
 use Rattle.nb_table.specs.Conditions.{IsReached}
-
--- all seats of a new chain are its own
-pub seats-own :
-    (chain : ChainOf) (p : Plan) (seats : List SeenBy) (count : ℕ) → chain.shape ≡ p → seats ≡ seats_of chain.id p 0 count
-    → All (IsOwn chain) seats
-seats-own chain p seats count shape are = All-same (IsOwn chain) seats (seats_of chain.id p 0 count) are (all 0 count)
-  where
-    all : (number count : ℕ) → All (IsOwn chain) (seats_of chain.id p number count)
-    all number zero = All-nil (IsOwn chain)
-    all number (suc count) = All-cons (IsOwn chain) (new_seat chain.id p number) _ (refl, sym shape) (all (suc number) count)
 
 -- one more slot of a path that is another key's
 pub one-more :
@@ -67,43 +58,37 @@ way-up p t i j k d in_table at passed below claimed = record {
   reason = inl (record { slot = i; in_table = below; is = claimed });
 }
 
-module _
-    (chain : ChainOf) (seat : SeenBy) (plan : IsPlan chain.shape) (own : IsOwn chain seat)
-    (legal : IsLegal seat.shape seat.seen) where
-  own-plan : IsPlan seat.shape
-  own-plan = subst IsPlan (sym own.1) plan
+module _ (chain : ChainOf) (seat : SeenBy) (own : IsOwn chain seat) where
+  abbrev seen : Tables
+  seen = seen_by chain.shape seat
 
   -- the tables below the top word are complete
-  pub below-top : TopComplete → (g : ℕ) → g ≤ (seen_by seat).top → (f : ℕ) → f < g → IsComplete chain.shape (seen_by seat) f
-  below-top law g high f less =
-      subst (λ p. IsComplete p (seen_by seat) f) own.1 (law seat.shape own-plan seat.seen legal f (omega (arith, less, high))).1
+  pub below-top : (g : ℕ) → g ≤ seen.top → (f : ℕ) → f < g → IsComplete chain.shape seen f
+  below-top g high f less = (top_complete chain.shape own.plan seat.seen own.legal f (omega (arith, less, high))).1
 
   -- a table above complete ones is there
   pub there :
-      TablesAreLinked → (g : ℕ) → g < generations_of chain.shape → ((f : ℕ) → f < g → IsComplete chain.shape (seen_by seat) f)
-      → IsInstalled (seen_by seat) g
-  there linked zero table below = tt
-  there linked (suc g) table below =
-      let links = subst (λ p. AreLinked p (seen_by seat)) own.1 (linked seat.shape own-plan seat.seen legal) in
-      links.complete g (omega (arith, table)) (below g (omega arith))
+      (g : ℕ) → g < generations_of chain.shape → ((f : ℕ) → f < g → IsComplete chain.shape seen f) → IsInstalled seen g
+  there zero table below = tt
+  there (suc g) table below =
+      (linked chain.shape own.plan seat.seen own.legal).complete g (omega (arith, table)) (below g (omega arith))
 
   -- and a search for a key may have come to it
   pub reached :
-      CompletePassed → (g k : ℕ) → g < generations_of chain.shape → IsInstalled (seen_by seat) g
-      → ((f : ℕ) → f < g → IsComplete chain.shape (seen_by seat) f) → IsReached chain.shape (seen_by seat) g k
-  reached law g k table installed below = record {
+      (g k : ℕ) → g < generations_of chain.shape → IsInstalled seen g → ((f : ℕ) → f < g → IsComplete chain.shape seen f)
+      → IsReached chain.shape seen g k
+  reached g k table installed below = record {
     installed = installed;
     below = λ f less.
-        subst (λ p. f < generations_of p → IsComplete p (seen_by seat) f → IsPassed p (seen_by seat) f k) own.1
-        (law seat.shape own-plan seat.seen legal f k) (omega (arith, less, table)) (below f less);
+        complete_passed chain.shape own.plan seat.seen own.legal f k (omega (arith, less, table)) (below f less);
   }
 
-module _ {before after : SeenBy} where
+module _ {p : Plan} {before after : SeenBy} where
   -- a value is primed after a step that was to prime it
   pub primed-step :
-      (x v : ValueState) {own : List Event} {met : Type 0} → (IsUnprimed v → Extended before after own 1 × met × (x ≡ primed v))
-      → ((IsUnprimed v → ⊥) → Extended before after [] 1 × (x ≡ v))
-      → ((es : List Event) × Extended before after es 1) × (x ≡ primed v)
+      (x v : ValueState) {own : List Event} {met : Type 0} → (IsUnprimed v → Extended p before after own 1 × met × (x ≡ primed v))
+      → ((IsUnprimed v → ⊥) → Extended p before after [] 1 × (x ≡ v))
+      → ((es : List Event) × Extended p before after es 1) × (x ≡ primed v)
   primed-step x v won lost = elim (unprimed-or-not v) [
     | inl unprimed ↦ let w = won unprimed in ((_, w.0), w.2)
     | inr other ↦ let l = lost other.0 in ((_, l.0), l.1 ∙ sym other.1)
@@ -120,8 +105,8 @@ module _ {before after : SeenBy} where
 
   -- a step that was to finish a number was one, whether or not it was finished already
   pub finished-step :
-      (v : ValueState) (n : ℕ) {own : List Event} {now stays found : Type 0} → (v ≡ Primed n → Extended before after own 1 × now)
-      → (v ≢ Primed n → Extended before after [] 1 × stays × found) → (es : List Event) × Extended before after es 1
+      (v : ValueState) (n : ℕ) {own : List Event} {now stays found : Type 0} → (v ≡ Primed n → Extended p before after own 1 × now)
+      → (v ≢ Primed n → Extended p before after [] 1 × stays × found) → (es : List Event) × Extended p before after es 1
   finished-step (Primed m) n won lost = elim (eqb_tells m n) [
     | inl same ↦ (_, (won (ap Primed same.1)).0)
     | inr other ↦ (_, (lost (λ e. other.1 (cc))).0)

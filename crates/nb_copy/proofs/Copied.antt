@@ -4,14 +4,15 @@ use Rattle.std.specs.List.{All}
 use Rattle.std.proofs.lemmas.Bool.{eq-eqb, ne_eqb}
 use Rattle.std.proofs.lemmas.List.{append-nil, append_assoc, length-append}
 use Rattle.std.proofs.lemmas.List.Elements.{All-append, All-cons, All-head, All-nil, All-tail, All-weaker, filter-append}
-use Rattle.nb_core.specs.Plans.{IsPlan, Plan, generations_of}
+use Rattle.nb_core.specs.Plans.{Plan, generations_of}
 use Rattle.nb_core.specs.Tables.{Tables}
-use Rattle.nb_core.specs.History.{IsLegal, counted_by, counts, seat_of_event, turned_slot}
-use Rattle.nb_core.specs.Laws.{Lasts, OwnLasts}
+use Rattle.nb_core.specs.History.{counted_by, counts, seat_of_event, turned_slot}
+use Rattle.nb_core.specs.Laws.{Lasts}
 use Rattle.nb_core.specs.declared.events.Event.{Event}
 use Rattle.nb_core.specs.declared.events.Event.TheVariants.{Claim, Kill, Won, CopyIn, Prime, Finish, Install, Take, Count, Promote, Read}
 use Rattle.nb_table.specs.Chains.{ChainOf, Extended, IsOwn, SeenBy, seen_by}
-use Rattle.nb_table.specs.Laws.{StepsAddUp}
+use Rattle.nb_core.proofs.Theorems.{own_lasts, counted}
+use Rattle.nb_table.proofs.Theorems.{steps_add_up}
 use Rattle.nb_copy.specs.Copying.{HasCopied, IsCopying, is_take, slot_in, slots_turned}
 
 -- ---- one step
@@ -25,27 +26,27 @@ slots-others p number g (e ∷ others) h not_own =
     let P : Event → Type 0 = λ e. seat_of_event e ≢ number in
     rw (ne_eqb (seat_of_event e) number (All-head P e others not_own)) (slots-others p number g others h (All-tail P e others not_own))
 
-module _ (law : StepsAddUp) (own_lasts : OwnLasts) (p : Plan) (g : ℕ) where
-  -- no step
-  pub copied-none : (seat : SeenBy) → IsLegal seat.shape seat.seen → HasCopied p g seat seat [] 0 0 0
-  copied-none seat legal = record {
-    own = [];
-    count = 0;
-    grown = law.none legal;
-    copying = All-nil (IsCopying p (seen_by seat) g);
-    turned = refl;
-    taken = refl;
-    counted = omega arith;
-    few = omega arith;
-  }
+-- no step
+pub copied-none : (chain : ChainOf) (g : ℕ) (seat : SeenBy) → IsOwn chain seat → HasCopied chain.shape g seat seat [] 0 0 0
+copied-none chain g seat own = record {
+  own = [];
+  count = 0;
+  grown = steps_add_up.none own;
+  copying = All-nil (IsCopying chain.shape (seen_by chain.shape seat) g);
+  turned = refl;
+  taken = refl;
+  counted = omega arith;
+  few = omega arith;
+}
 
+module _ (p : Plan) (g : ℕ) where
   -- a step without an event
-  pub copied-quiet : (before after : SeenBy) → Extended before after [] 1 → HasCopied p g before after [] 0 0 1
+  pub copied-quiet : (before after : SeenBy) → Extended p before after [] 1 → HasCopied p g before after [] 0 0 1
   copied-quiet before after step = record {
     own = [];
     count = 1;
-    grown = law.one step;
-    copying = All-nil (IsCopying p (seen_by after) g);
+    grown = steps_add_up.one step;
+    copying = All-nil (IsCopying p (seen_by p after) g);
     turned = ap (λ h. slots_turned p h before.number g) step.seen
         ∙ slots-others p before.number g step.others before.seen step.not_own;
     taken = refl;
@@ -59,8 +60,8 @@ module _ (law : StepsAddUp) (own_lasts : OwnLasts) (p : Plan) (g : ℕ) where
 
   -- a step with an event
   pub copied-one :
-      (before after : SeenBy) (e : Event) (slots : List ℕ) (chunks adding : ℕ) → Extended before after (e ∷ []) 1
-      → IsCopying p (seen_by after) g e → slot_in g (turned_slot p (drop 1 after.seen) e) ≡ slots → length (filter is_take (e ∷ [])) ≡ chunks
+      (before after : SeenBy) (e : Event) (slots : List ℕ) (chunks adding : ℕ) → Extended p before after (e ∷ []) 1
+      → IsCopying p (seen_by p after) g e → slot_in g (turned_slot p (drop 1 after.seen) e) ≡ slots → length (filter is_take (e ∷ [])) ≡ chunks
       → counts e before.number g ≡ adding → HasCopied p g before after slots chunks adding 1
   copied-one before after e slots chunks adding step copying turned taken counted =
       let met = step.others ++ before.seen in
@@ -68,8 +69,8 @@ module _ (law : StepsAddUp) (own_lasts : OwnLasts) (p : Plan) (g : ℕ) where
       record {
         own = e ∷ [];
         count = 1;
-        grown = law.one step;
-        copying = All-cons (IsCopying p (seen_by after) g) e [] copying (All-nil (IsCopying p (seen_by after) g));
+        grown = steps_add_up.one step;
+        copying = All-cons (IsCopying p (seen_by p after) g) e [] copying (All-nil (IsCopying p (seen_by p after) g));
         turned =
             ap (λ h. slots_turned p h before.number g) step.seen
             ∙ ap (λ b. cond b (slot_in g (turned_slot p met e)) [] ++ slots_turned p met before.number g)
@@ -120,7 +121,7 @@ copying-lasts p g t u table lasting (Count s f c) copying = copying
 copying-lasts p g t u table lasting (Promote s f) copying = copying
 copying-lasts p g t u table lasting (Read s c r) copying = copying
 
-module _ (law : StepsAddUp) (chain : ChainOf) (plan : IsPlan chain.shape) (g : ℕ) (table : g < generations_of chain.shape) where
+module _ (chain : ChainOf) (g : ℕ) (table : g < generations_of chain.shape) where
   abbrev p : Plan
   p = chain.shape
 
@@ -128,15 +129,15 @@ module _ (law : StepsAddUp) (chain : ChainOf) (plan : IsPlan chain.shape) (g : �
   pub copied-stays :
       {before after : SeenBy} {slots : List ℕ} {chunks adding most : ℕ} → IsOwn chain before
       → HasCopied p g before after slots chunks adding most
-      → Lasts p (seen_by before) (seen_by after)
-  copied-stays own copied = law.stays plan own copied.grown
+      → Lasts p (seen_by p before) (seen_by p after)
+  copied-stays own copied = steps_add_up.stays own copied.grown
 
   -- and it is the chain's
   pub copied-own :
       {before after : SeenBy} {slots : List ℕ} {chunks adding most : ℕ} → IsOwn chain before
       → HasCopied p g before after slots chunks adding most
       → IsOwn chain after
-  copied-own own copied = law.own own copied.grown
+  copied-own own copied = steps_add_up.own own copied.grown
 
   -- some copying after other
   pub copied-more :
@@ -146,10 +147,10 @@ module _ (law : StepsAddUp) (chain : ChainOf) (plan : IsPlan chain.shape) (g : �
   copied-more {before} {then} {after} {slots} {slots'} {chunks} {chunks'} {adding} {adding'} own a b = record {
     own = b.own ++ a.own;
     count = a.count + b.count;
-    grown = law.more a.grown b.grown;
-    copying = All-append (IsCopying p (seen_by after) g) b.own a.own b.copying
-        (All-weaker (IsCopying p (seen_by then) g) (IsCopying p (seen_by after) g)
-        (copying-lasts p g (seen_by then) (seen_by after) table (law.stays plan own b.grown)) a.own a.copying);
+    grown = steps_add_up.more a.grown b.grown;
+    copying = All-append (IsCopying p (seen_by p after) g) b.own a.own b.copying
+        (All-weaker (IsCopying p (seen_by p then) g) (IsCopying p (seen_by p after) g)
+        (copying-lasts p g (seen_by p then) (seen_by p after) table (steps_add_up.stays own b.grown)) a.own a.copying);
     turned =
         ap (λ n. slots_turned p after.seen n g) (sym a.grown.number) ∙ b.turned
         ∙ ap (λ n. slots' ++ slots_turned p then.seen n g) a.grown.number

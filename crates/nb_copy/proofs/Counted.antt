@@ -6,14 +6,13 @@ use Rattle.std.proofs.lemmas.Bool.{eq-eqb}
 use Rattle.std.specs.List.{All}
 use Rattle.std.proofs.lemmas.List.{length-append}
 use Rattle.std.proofs.lemmas.List.Elements.{All-append, All-cons, All-nil, All-weaker}
-use Rattle.nb_core.specs.Plans.{IsPlan, Plan, generations_of, size_of}
-use Rattle.nb_core.specs.Tables.{IsFinished}
-use Rattle.nb_core.specs.History.{IsLegal, counted_by, seat_of_event, turned_by, turned_slot}
-use Rattle.nb_core.specs.Laws.{CountedOnce, OwnLasts}
+use Rattle.nb_core.specs.Plans.{Plan, generations_of, size_of}
+use Rattle.nb_core.specs.Tables.{IsComplete, IsFinished, tables_at}
+use Rattle.nb_core.specs.History.{counted_by, seat_of_event, turned_by, turned_slot}
 use Rattle.nb_core.specs.declared.events.Event.{Event}
 use Rattle.nb_core.specs.declared.events.Event.TheVariants.{Count, Promote, Take}
 use Rattle.nb_table.specs.Chains.{ChainOf, Extended, IsOwn, SeenBy, seen_by}
-use Rattle.nb_table.specs.Laws.{StepsAddUp}
+use Rattle.nb_core.proofs.Theorems.{counted}
 use Rattle.nb_copy.proofs.Copied.{copied-more, copied-one, copied-own, copied-quiet, copied-stays}
 use Rattle.nb_copy.specs.Copying.{HasCopied, slot_in, slots_turned}
 
@@ -53,12 +52,11 @@ turned-length p (e ∷ h) number g =
 
 -- what a seat has turned, and not counted, it may count
 pub may-count :
-    (counted : CountedOnce) (chain : ChainOf) {before after : SeenBy} {slots : List ℕ} {chunks most : ℕ} → IsPlan chain.shape → IsOwn chain before
-    → IsLegal before.shape before.seen → (g : ℕ) → g < generations_of chain.shape → HasCopied chain.shape g before after slots chunks 0 most
+    (chain : ChainOf) {before after : SeenBy} {slots : List ℕ} {chunks most : ℕ} → IsOwn chain before → (g : ℕ) → g < generations_of chain.shape → HasCopied chain.shape g before after slots chunks 0 most
     → counted_by after.seen after.number g + length slots ≤ turned_by chain.shape after.seen after.number g
-may-count counted chain {before} {after} {slots} plan own legal g table copied =
+may-count chain {before} {after} {slots} own g table copied =
     let p = chain.shape in
-    let once = counted p plan before.seen (subst (λ q. IsLegal q before.seen) own.1 legal) g table in
+    let once = counted p own.plan before.seen own.legal g table in
     let turned : turned_by p after.seen after.number g ≡ length slots + turned_by p before.seen before.number g
     = ap (λ n. turned_by p after.seen n g) copied.grown.number ∙ turned-length p after.seen before.number g ∙ ap length copied.turned
     ∙ length-append slots (slots_turned p before.seen before.number g)
@@ -70,29 +68,36 @@ may-count counted chain {before} {after} {slots} plan own legal g table copied =
     fits : (now turned_now was turned_was new : ℕ) → turned_now ≡ new + turned_was → now ≡ was + 0 → was ≤ turned_was → now + new ≤ turned_now
     fits now turned_now was turned_was new is is' below = omega (arith, is, is', below)
 
+-- where the count has come to the size, all slots are finished
+pub all-counted :
+    (chain : ChainOf) (seat : SeenBy) → IsOwn chain seat → (g : ℕ)
+    → g < generations_of chain.shape → (seen_by chain.shape seat).counted g ≡ size_of chain.shape g → IsComplete chain.shape (seen_by chain.shape seat) g
+all-counted chain seat own g table =
+    (counted chain.shape own.plan seat.seen own.legal g table).whole
+
 -- ---- steps
 
-module _ (law : StepsAddUp) (own_lasts : OwnLasts) (p : Plan) (g : ℕ) where
+module _ (p : Plan) (g : ℕ) where
   -- a step that takes a chunk
-  pub copied-take : (before after : SeenBy) → Extended before after (Take before.number g ∷ []) 1 → HasCopied p g before after [] 1 0 1
-  copied-take before after step = copied-one law own_lasts p g before after (Take before.number g) [] 1 0 step refl refl refl refl
+  pub copied-take : (before after : SeenBy) → Extended p before after (Take before.number g ∷ []) 1 → HasCopied p g before after [] 1 0 1
+  copied-take before after step = copied-one p g before after (Take before.number g) [] 1 0 step refl refl refl refl
 
   -- a step that counts
   pub copied-count :
-      (before after : SeenBy) (c : ℕ) → Extended before after (Count before.number g c ∷ []) 1 → HasCopied p g before after [] 0 c 1
+      (before after : SeenBy) (c : ℕ) → Extended p before after (Count before.number g c ∷ []) 1 → HasCopied p g before after [] 0 c 1
   copied-count before after c step =
-      copied-one law own_lasts p g before after (Count before.number g c) [] 0 c step refl refl refl
+      copied-one p g before after (Count before.number g c) [] 0 c step refl refl refl
       (ap (λ b. cond (b && (g == g)) c 0) (eq-eqb before.number before.number refl) ∙ ap (λ b. cond b c 0) (eq-eqb g g refl))
 
   -- a step that raises the top word, or finds it high enough
   pub copied-promote :
-      (before after : SeenBy) (top : ℕ) → (top ≤ g → Extended before after (Promote before.number g ∷ []) 1 × ((seen_by after).top ≡ suc g))
-      → (g < top → Extended before after [] 1 × ((seen_by after).top ≡ top)) → HasCopied p g before after [] 0 0 1 × (g < (seen_by after).top)
+      (before after : SeenBy) (top : ℕ) → (top ≤ g → Extended p before after (Promote before.number g ∷ []) 1 × ((seen_by p after).top ≡ suc g))
+      → (g < top → Extended p before after [] 1 × ((seen_by p after).top ≡ top)) → HasCopied p g before after [] 0 0 1 × (g < (seen_by p after).top)
   copied-promote before after top raised higher = elim (low-or-high top g) [
     | inl low ↦
         let step = raised low in
-        (copied-one law own_lasts p g before after (Promote before.number g) [] 0 0 step.0 refl refl refl refl, omega (arith, step.1))
-    | inr high ↦ let step = higher high in (copied-quiet law own_lasts p g before after step.0, omega (arith, step.1, high))
+        (copied-one p g before after (Promote before.number g) [] 0 0 step.0 refl refl refl refl, omega (arith, step.1))
+    | inr high ↦ let step = higher high in (copied-quiet p g before after step.0, omega (arith, step.1, high))
   ]
     where
       low-or-high : (a b : ℕ) → (a ≤ b) ⊎ (b < a)
@@ -100,7 +105,7 @@ module _ (law : StepsAddUp) (own_lasts : OwnLasts) (p : Plan) (g : ℕ) where
 
 -- ---- slots and chunks
 
-module _ (law : StepsAddUp) (chain : ChainOf) (plan : IsPlan chain.shape) (g : ℕ) (table : g < generations_of chain.shape) where
+module _ (chain : ChainOf) (g : ℕ) (table : g < generations_of chain.shape) where
   abbrev p : Plan
   p = chain.shape
 
@@ -122,7 +127,7 @@ module _ (law : StepsAddUp) (chain : ChainOf) (plan : IsPlan chain.shape) (g : �
         All-append inside new so_far.0 (All-if inside turned i (first, omega arith))
             (All-weaker (λ j. (from ≤ j) × (j < i)) inside (λ j at. (at.0, omega (arith, at.1))) so_far.0 so_far.2),
         subst (HasCopied p g start after (new ++ so_far.0) 0 0) (one-more (i - from) (i + 1 - from) (omega (arith, first)))
-            (copied-more law chain plan g table (copied-own law chain plan g table own so_far.3) so_far.3 slot),
+            (copied-more chain g table (copied-own chain g table own so_far.3) so_far.3 slot),
       )
     where
       steps : (d : ℕ) → d * most + most ≡ (d + 1) * most
@@ -134,13 +139,13 @@ module _ (law : StepsAddUp) (chain : ChainOf) (plan : IsPlan chain.shape) (g : �
   -- one slot more is finished
   pub finished-slot :
       {before after : SeenBy} {slots : List ℕ} {chunks adding most : ℕ} (from i : ℕ) → IsOwn chain before
-      → i < size_of p g → ((j : ℕ) → from ≤ j → j < i → IsFinished (seen_by before) g j)
-      → HasCopied p g before after slots chunks adding most → IsFinished (seen_by after) g i
-      → (j : ℕ) → from ≤ j → j < i + 1 → IsFinished (seen_by after) g j
+      → i < size_of p g → ((j : ℕ) → from ≤ j → j < i → IsFinished (seen_by p before) g j)
+      → HasCopied p g before after slots chunks adding most → IsFinished (seen_by p after) g i
+      → (j : ℕ) → from ≤ j → j < i + 1 → IsFinished (seen_by p after) g j
   finished-slot {before} {after} from i own within so_far copied finished j after_from below = elim (below-or-same j i below) [
     | inl lower ↦
-        (copied-stays law chain plan g table own copied).finished g j (table, omega (arith, lower, within)) (so_far j after_from lower)
-    | inr same ↦ subst (λ k. IsFinished (seen_by after) g k) (sym same) finished
+        (copied-stays chain g table own copied).finished g j (table, omega (arith, lower, within)) (so_far j after_from lower)
+    | inr same ↦ subst (λ k. IsFinished (seen_by p after) g k) (sym same) finished
   ]
     where
       below-or-same : (a b : ℕ) → a < b + 1 → (a < b) ⊎ (a ≡ b)
@@ -155,7 +160,7 @@ module _ (law : StepsAddUp) (chain : ChainOf) (plan : IsPlan chain.shape) (g : �
       let longer = length-append slots' slots in
       let all : length slots + adding ≡ length (slots' ++ slots) = omega (arith, longer, number) in
       subst (λ n. HasCopied p g start after (slots' ++ slots) (chunks + chunks') n (most + most')) all
-      (copied-more law chain plan g table (copied-own law chain plan g table own so_far) so_far copied)
+      (copied-more chain g table (copied-own chain g table own so_far) so_far copied)
 
   -- copying, and then steps that neither turned a slot nor counted one
   pub copied-last :
@@ -164,7 +169,7 @@ module _ (law : StepsAddUp) (chain : ChainOf) (plan : IsPlan chain.shape) (g : �
       → HasCopied p g start after slots chunks adding (most + most')
   copied-last {start} {before} {after} {slots} {chunks} {adding} {most} {most'} own so_far last =
       subst₂ (λ c n. HasCopied p g start after slots c n (most + most')) (none chunks) (none adding)
-      (copied-more law chain plan g table (copied-own law chain plan g table own so_far) so_far last)
+      (copied-more chain g table (copied-own chain g table own so_far) so_far last)
     where
       none : (n : ℕ) → n + 0 ≡ n
       none n = omega arith

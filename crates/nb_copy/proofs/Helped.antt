@@ -7,10 +7,10 @@ use Rattle.std.proofs.lemmas.List.Elements.{All-get_or}
 use Rattle.std.proofs.lemmas.List.{append-nil}
 use Rattle.nb_core.specs.Plans.{IsPlan, Plan, generations_of, size_of}
 use Rattle.nb_core.specs.Tables.{IsFinished, chunk_of, tables_at}
-use Rattle.nb_core.specs.Laws.{OwnLasts}
 use Rattle.nb_core.specs.declared.events.Event.TheVariants.{Take}
 use Rattle.nb_table.specs.Chains.{ChainOf, Extended, IsOwn, SeenBy, seen_before, seen_by}
-use Rattle.nb_table.specs.Laws.{StepsAddUp}
+use Rattle.nb_core.proofs.Theorems.{counted}
+use Rattle.nb_table.proofs.Theorems.{steps_add_up}
 use Rattle.nb_copy.proofs.Copied.{copied-more, copied-own, copied-within}
 use Rattle.nb_copy.proofs.Counted.{copied-counting, copied-take}
 use Rattle.nb_copy.specs.Copying.{HasCopied}
@@ -52,17 +52,16 @@ chunks-bound size chunk n most four within =
     let counted = mul-le-mul_left n four in
     grind (arith, within, copied, counted)
 
-module _ (law : StepsAddUp) (own_lasts : OwnLasts) (chain : ChainOf) (plan : IsPlan chain.shape) (g : ℕ) (table : g < generations_of chain.shape) where
+module _ (chain : ChainOf) (g : ℕ) (table : g < generations_of chain.shape) where
   abbrev p : Plan
   p = chain.shape
 
   -- the take word from which a seat was handed its chunk
   taken-at :
-      {before then : SeenBy} {start : ℕ} → IsOwn chain before → (step : Extended before then (Take before.number g ∷ []) 1)
-      → (seen_before then).taken g ≡ start → (tables_at p (step.others ++ before.seen)).taken g ≡ start
-  taken-at {before} {then} own step found =
-      ap (λ h. (tables_at p (drop 1 h)).taken g) (sym step.seen)
-      ∙ ap (λ q. (tables_at q (drop 1 then.seen)).taken g) (sym (law.own own (law.one step)).1) ∙ found
+      {before then : SeenBy} {start : ℕ} → (step : Extended p before then (Take before.number g ∷ []) 1)
+      → (seen_before p then).taken g ≡ start → (tables_at p (step.others ++ before.seen)).taken g ≡ start
+  taken-at {before} {then} step found =
+      ap (λ h. (tables_at p (drop 1 h)).taken g) (sym step.seen) ∙ found
 
   -- slots that were copied, and then counted
   pub counted-after :
@@ -70,19 +69,19 @@ module _ (law : StepsAddUp) (own_lasts : OwnLasts) (chain : ChainOf) (plan : IsP
       → HasCopied p g before after [] 0 adding 2 → HasCopied p g start after slots 0 adding (most + 2)
   counted-after {start} {before} {after} {slots} {adding} {most} own copied counted =
       subst (λ n. HasCopied p g start after slots 0 n (most + 2)) (none adding)
-      (copied-more law chain plan g table (copied-own law chain plan g table own copied) copied counted)
+      (copied-more chain g table (copied-own chain g table own copied) copied counted)
 
   -- a chunk that was taken, copied and counted
   pub helped :
       {before then after : SeenBy} {slots : List ℕ} {adding most : ℕ} (start : ℕ) → IsOwn chain before
-      → Extended before then (Take before.number g ∷ []) 1 → (seen_before then).taken g ≡ start
+      → Extended p before then (Take before.number g ∷ []) 1 → (seen_before p then).taken g ≡ start
       → HasCopied p g then after slots 0 adding most → most ≤ chunk_of p g * slot_steps p g + 2 → length slots ≡ adding
-      → ((i : ℕ) → IsHanded p g start i → IsFinished (seen_by after) g i) → All (IsHanded p g start) slots
+      → ((i : ℕ) → IsHanded p g start i → IsFinished (seen_by p after) g i) → All (IsHanded p g start) slots
       → (size_of p g ≤ start → (adding ≡ 0) × (after.steps ≡ then.steps)) → (1 ≤ adding → IsRaised p g after)
       → HasHelped p g before after adding
   helped {before} {then} {after} {slots} {adding} {most} start own step found work few number finished handed idle raised =
-      let take = copied-take law own_lasts p g before then step in
-      let all = copied-more law chain plan g table (law.own own (law.one step)) take work in
+      let take = copied-take p g before then step in
+      let all = copied-more chain g table (steps_add_up.own own (steps_add_up.one step)) take work in
       record {
         slots = slots;
         number = number;
@@ -92,7 +91,7 @@ module _ (law : StepsAddUp) (own_lasts : OwnLasts) (chain : ChainOf) (plan : IsP
         others = step.others;
         asked = work.grown.seen ∙ ap (λ h. work.grown.later ++ h) step.seen;
         start = start;
-        stood = taken-at own step found;
+        stood = taken-at step found;
         finished = finished;
         handed = handed;
         idle = λ past. ((idle past).0, (idle past).1 ∙ step.steps);
@@ -107,20 +106,20 @@ module _ (law : StepsAddUp) (own_lasts : OwnLasts) (chain : ChainOf) (plan : IsP
   helped-more {slots = slots} taken own so_far chunk = (
     chunk.slots ++ slots,
     copied-within (taken * chunk_steps p g + chunk_steps p g) ((taken + 1) * chunk_steps p g) (omega arith)
-        (copied-counting law chain plan g table own so_far chunk.number chunk.copied),
+        (copied-counting chain g table own so_far chunk.number chunk.copied),
   )
 
   -- the chunks of the table
   pub helped-all :
-      {start after : SeenBy} (taken : ℕ) → taken ≤ size_of p g / chunk_of p g
+      {start after : SeenBy} (taken : ℕ) → IsOwn chain start → taken ≤ size_of p g / chunk_of p g
       → (slots : List ℕ) × HasCopied p g start after slots taken (length slots) (taken * chunk_steps p g)
       → (slots : List ℕ) × (chunks : ℕ) × (chunks ≤ size_of p g / chunk_of p g)
       × HasCopied p g start after slots chunks (length slots) (size_of p g * (slot_steps p g + 1))
-  helped-all taken few copied = (
+  helped-all taken own few copied = (
     copied.0,
     taken,
     few,
     copied-within (taken * chunk_steps p g) (size_of p g * (slot_steps p g + 1))
-        (chunks-bound (size_of p g) (chunk_of p g) taken (slot_steps p g) (four-handed p plan g table)
+        (chunks-bound (size_of p g) (chunk_of p g) taken (slot_steps p g) (four-handed p own.plan g table)
         (le_trans (mul-le-mul_right (chunk_of p g) few) (div-mul-le_self (size_of p g) (chunk_of p g)))) copied.1,
   )

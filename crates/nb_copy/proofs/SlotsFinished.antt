@@ -1,17 +1,18 @@
 -- How a slot is finished.
 use Rattle.std.proofs.Common.{◌≡◌, ◌≢◌, ◌∙◌, ◌⊎◌, ℕ, suc, ◌+◌, ◌≤◌, ◌<◌, Bool, true, false, cond, List, [], ◌∷◌, drop, Some, None, ap, sym, subst, refl, inl, inr, arith}
 use Rattle.std.proofs.lemmas.Bool.{eq-eqb}
-use Rattle.nb_core.specs.Plans.{IsPlan, Plan, generations_of, size_of}
+use Rattle.nb_core.specs.Plans.{Plan, generations_of, size_of}
 use Rattle.nb_core.specs.Tables.{HasSlot, IsComplete, IsFinished, IsFinishedValue, IsInstalled, IsSlot, IsUnprimed, Tables, tables_at}
-use Rattle.nb_core.specs.History.{IsLegal, is_finished_by_priming}
-use Rattle.nb_core.specs.Laws.{IsPassed, IsPrimedOrFinished, Lasts, OwnLasts, PassedAbove, TablesAreLinked, primed}
+use Rattle.nb_core.specs.History.{is_finished_by_priming}
+use Rattle.nb_core.specs.Laws.{IsPassed, IsPrimedOrFinished, Lasts, primed}
 use Rattle.nb_core.specs.declared.states.KeyState.TheVariants.{Claimed}
 use Rattle.nb_core.specs.declared.states.ValueState.{ValueState}
 use Rattle.nb_core.specs.declared.states.ValueState.TheVariants.{Null, Tombstone, Live, PrimedNull, PrimedTombstone, Primed, Finished}
 use Rattle.nb_core.specs.declared.events.Event.TheVariants.{CopyIn, Finish, Kill, Prime}
 use Rattle.nb_table.specs.Chains.{ChainOf, Extended, IsOwn, SeenBy, seen_before, seen_by}
 use Rattle.nb_table.specs.Conditions.{HasSource, IsCopied}
-use Rattle.nb_table.specs.Laws.{StepsAddUp}
+use Rattle.nb_core.proofs.Theorems.{linked, passed_above}
+use Rattle.nb_table.proofs.Theorems.{steps_add_up}
 use Rattle.nb_copy.proofs.Copied.{copied-one, copied-quiet, copied-then, copied-within}
 use Rattle.nb_copy.specs.Copying.{HasCopied, slot_in}
 
@@ -19,22 +20,19 @@ use Rattle.nb_copy.specs.Copying.{HasCopied, slot_in}
 
 -- the plan has a next table that is there
 pub next-in-plan :
-    TablesAreLinked → (chain : ChainOf) (seat : SeenBy) → IsPlan chain.shape → IsOwn chain seat → IsLegal seat.shape seat.seen
-    → (g : ℕ) → IsInstalled (seen_by seat) (suc g) → suc g < generations_of chain.shape
-next-in-plan linked chain seat plan own legal g installed =
-    let links = linked seat.shape (subst IsPlan (sym own.1) plan) seat.seen legal in
-    subst (λ p. suc g < generations_of p) own.1 (links.within (suc g) installed)
+    (chain : ChainOf) (seat : SeenBy) → IsOwn chain seat → (g : ℕ) → IsInstalled (seen_by chain.shape seat) (suc g)
+    → suc g < generations_of chain.shape
+next-in-plan chain seat own g installed =
+    (linked chain.shape own.plan seat.seen own.legal).within (suc g) installed
 
 -- where a key of the table is passed in the next one, all slots are finished
 pub passed-finished :
-    PassedAbove → (chain : ChainOf) (seat : SeenBy) → IsPlan chain.shape → IsOwn chain seat → IsLegal seat.shape seat.seen
-    → (g i key : ℕ) → suc g < generations_of chain.shape → i < size_of chain.shape g → HasSlot chain.shape (seen_by seat) g key
-    → IsPassed chain.shape (seen_by seat) (suc g) key → IsFinished (seen_by seat) g i
-passed-finished passed_above chain seat plan own legal g i key table slot below passed =
-    let complete = subst
-    (λ p. suc g < generations_of p → HasSlot p (seen_by seat) g key → IsPassed p (seen_by seat) (suc g) key → IsComplete p (seen_by seat) g) own.1
-    (passed_above seat.shape (subst IsPlan (sym own.1) plan) seat.seen legal g key) in
-    complete table below passed i slot
+    (chain : ChainOf) (seat : SeenBy) → IsOwn chain seat
+    → (g i key : ℕ) → suc g < generations_of chain.shape → i < size_of chain.shape g
+    → HasSlot chain.shape (seen_by chain.shape seat) g key → IsPassed chain.shape (seen_by chain.shape seat) (suc g) key
+    → IsFinished (seen_by chain.shape seat) g i
+passed-finished chain seat own g i key table slot below passed =
+    passed_above chain.shape own.plan seat.seen own.legal g key table below passed i slot
 
 -- a number in a key's slot is one to be copied to the next table
 pub number-source :
@@ -79,52 +77,52 @@ primed-number v m n is other = elim (same-or-not m n) [
 slot-of-table : (g i : ℕ) → slot_in g (Some (g, i)) ≡ i ∷ []
 slot-of-table g i = ap (λ b. cond b (i ∷ []) []) (eq-eqb g g refl)
 
-module _ (law : StepsAddUp) (own_lasts : OwnLasts) (chain : ChainOf) (plan : IsPlan chain.shape) (g : ℕ) (table : g < generations_of chain.shape) where
+module _ (chain : ChainOf) (g : ℕ) (table : g < generations_of chain.shape) where
   abbrev p : Plan
   p = chain.shape
 
   -- a copy of a number to the next table, which leaves a value there
   pub copied-in :
       {before after : SeenBy} (s f j key n : ℕ) (v : ValueState) → f ≡ suc g
-      → (v ≡ Null → Extended before after (CopyIn s f j key n ∷ []) 1 × ((seen_by after).value f j ≡ Live n))
-      → (v ≢ Null → Extended before after [] 1 × ((seen_by after).value f j ≡ v))
-      → HasCopied p g before after [] 0 0 1 × ((seen_by after).value (suc g) j ≢ Null)
+      → (v ≡ Null → Extended p before after (CopyIn s f j key n ∷ []) 1 × ((seen_by p after).value f j ≡ Live n))
+      → (v ≢ Null → Extended p before after [] 1 × ((seen_by p after).value f j ≡ v))
+      → HasCopied p g before after [] 0 0 1 × ((seen_by p after).value (suc g) j ≢ Null)
   copied-in {before} {after} s f j key n v is won lost = elim (null-or-not v) [
     | inl null ↦
         let w = won null in (
-          copied-one law own_lasts p g before after (CopyIn s f j key n) [] 0 0 w.0 is refl refl refl,
-          λ e. let copied : Live n ≡ Null = sym w.1 ∙ ap (λ x. (seen_by after).value x j) is ∙ e in cc,
+          copied-one p g before after (CopyIn s f j key n) [] 0 0 w.0 is refl refl refl,
+          λ e. let copied : Live n ≡ Null = sym w.1 ∙ ap (λ x. (seen_by p after).value x j) is ∙ e in cc,
         )
     | inr some ↦
         let l = lost some in
-        (copied-quiet law own_lasts p g before after l.0, λ e. some (sym l.1 ∙ ap (λ x. (seen_by after).value x j) is ∙ e))
+        (copied-quiet p g before after l.0, λ e. some (sym l.1 ∙ ap (λ x. (seen_by p after).value x j) is ∙ e))
   ]
 
   -- a step that closed the slot
-  pub copied-kill : {before after : SeenBy} (s i : ℕ) → Extended before after (Kill s g i ∷ []) 1 → HasCopied p g before after (i ∷ []) 0 0 1
+  pub copied-kill : {before after : SeenBy} (s i : ℕ) → Extended p before after (Kill s g i ∷ []) 1 → HasCopied p g before after (i ∷ []) 0 0 1
   copied-kill {before} {after} s i step =
-      copied-one law own_lasts p g before after (Kill s g i) (i ∷ []) 0 0 step refl (slot-of-table g i) refl refl
+      copied-one p g before after (Kill s g i) (i ∷ []) 0 0 step refl (slot-of-table g i) refl refl
 
   -- a finish of a number that was primed
   pub finished-now :
       {before after : SeenBy} (s i n m : ℕ) (v : ValueState) → v ≡ Primed m
-      → (v ≡ Primed n → Extended before after (Finish s g i ∷ []) 1 × ((seen_by after).value g i ≡ Finished n))
-      → (v ≢ Primed n → Extended before after [] 1 × ((seen_by after).value g i ≡ v) × (v ≡ Finished n))
-      → HasCopied p g before after (i ∷ []) 0 0 1 × IsFinished (seen_by after) g i
+      → (v ≡ Primed n → Extended p before after (Finish s g i ∷ []) 1 × ((seen_by p after).value g i ≡ Finished n))
+      → (v ≢ Primed n → Extended p before after [] 1 × ((seen_by p after).value g i ≡ v) × (v ≡ Finished n))
+      → HasCopied p g before after (i ∷ []) 0 0 1 × IsFinished (seen_by p after) g i
   finished-now {before} {after} s i n m v is won lost =
       let w = won (primed-number v m n is (λ differs. (lost differs).2)) in (
-        copied-one law own_lasts p g before after (Finish s g i) (i ∷ []) 0 0 w.0 refl (slot-of-table g i) refl refl,
+        copied-one p g before after (Finish s g i) (i ∷ []) 0 0 w.0 refl (slot-of-table g i) refl refl,
         inr (subst IsFinishedValue (sym w.1) refl),
       )
 
   -- and of one that was finished already
   pub finished-before :
       {before after : SeenBy} (i n : ℕ) (v : ValueState) → v ≢ Primed n
-      → (v ≢ Primed n → Extended before after [] 1 × ((seen_by after).value g i ≡ v) × (v ≡ Finished n))
-      → HasCopied p g before after [] 0 0 1 × IsFinished (seen_by after) g i
+      → (v ≢ Primed n → Extended p before after [] 1 × ((seen_by p after).value g i ≡ v) × (v ≡ Finished n))
+      → HasCopied p g before after [] 0 0 1 × IsFinished (seen_by p after) g i
   finished-before {before} {after} i n v differs lost =
       let l = lost differs in
-      (copied-quiet law own_lasts p g before after l.0, inr (subst IsFinishedValue (sym (l.1 ∙ l.2)) refl))
+      (copied-quiet p g before after l.0, inr (subst IsFinishedValue (sym (l.1 ∙ l.2)) refl))
 
   -- a search, a copy, and a finish
   pub copied-three :
@@ -132,18 +130,17 @@ module _ (law : StepsAddUp) (own_lasts : OwnLasts) (chain : ChainOf) (plan : IsP
       → HasCopied p g placed filled [] 0 0 1 → HasCopied p g filled after slots 0 0 1 → HasCopied p g start after slots 0 0 (most + 2)
   copied-three most own search copy finish =
       copied-within (most + 1 + 1) (most + 2) (omega arith)
-      (copied-then law chain plan g table own (copied-then law chain plan g table own search copy) finish)
+      (copied-then chain g table own (copied-then chain g table own search copy) finish)
 
   -- a step that primed an unprimed value, and so turned the slot finished if there is nothing to copy
   primed-now :
-      {before after : SeenBy} (s i : ℕ) (v : ValueState) → IsOwn chain before → Extended before after (Prime s g i ∷ []) 1
-      → (seen_before after).value g i ≡ v → HasCopied p g before after (cond (is_finished_by_priming v) (i ∷ []) []) 0 0 1
-  primed-now {before} {after} s i v own step was =
-      let met : Plan → ValueState = λ q. (tables_at q (drop 1 after.seen)).value g i in
+      {before after : SeenBy} (s i : ℕ) (v : ValueState) → Extended p before after (Prime s g i ∷ []) 1
+      → (seen_before p after).value g i ≡ v → HasCopied p g before after (cond (is_finished_by_priming v) (i ∷ []) []) 0 0 1
+  primed-now {before} {after} s i v step was =
       let slot : ValueState → List ℕ = λ x. slot_in g (cond (is_finished_by_priming x) (Some (g, i)) None) in
-      let turned : slot (met p) ≡ cond (is_finished_by_priming v) (i ∷ []) [] =
-      ap (λ q. slot (met q)) (sym (law.own own (law.one step)).1) ∙ ap slot was ∙ slot-if (is_finished_by_priming v) in
-      copied-one law own_lasts p g before after (Prime s g i) _ 0 0 step refl turned refl refl
+      let turned : slot ((seen_before p after).value g i) ≡ cond (is_finished_by_priming v) (i ∷ []) [] =
+      ap slot was ∙ slot-if (is_finished_by_priming v) in
+      copied-one p g before after (Prime s g i) _ 0 0 step refl turned refl refl
     where
       slot-if : (b : Bool) → slot_in g (cond b (Some (g, i)) None) ≡ cond b (i ∷ []) []
       slot-if true = slot-of-table g i
@@ -151,17 +148,17 @@ module _ (law : StepsAddUp) (own_lasts : OwnLasts) (chain : ChainOf) (plan : IsP
 
   -- a step that primes a value
   pub copied-prime :
-      {before after : SeenBy} (s i : ℕ) (v : ValueState) → IsOwn chain before
-      → (IsUnprimed v → Extended before after (Prime s g i ∷ []) 1 × ((seen_before after).value g i ≡ v) × ((seen_by after).value g i ≡ primed v))
-      → ((IsUnprimed v → ⊥) → Extended before after [] 1 × ((seen_by after).value g i ≡ v))
+      {before after : SeenBy} (s i : ℕ) (v : ValueState)
+      → (IsUnprimed v → Extended p before after (Prime s g i ∷ []) 1 × ((seen_before p after).value g i ≡ v) × ((seen_by p after).value g i ≡ primed v))
+      → ((IsUnprimed v → ⊥) → Extended p before after [] 1 × ((seen_by p after).value g i ≡ v))
       → HasCopied p g before after (cond (is_finished_by_priming v) (i ∷ []) []) 0 0 1
-  copied-prime s i Null own won lost = let w = won tt in primed-now s i Null own w.0 w.1
-  copied-prime s i Tombstone own won lost = let w = won tt in primed-now s i Tombstone own w.0 w.1
-  copied-prime s i (Live n) own won lost = let w = won tt in primed-now s i (Live n) own w.0 w.1
-  copied-prime s i PrimedNull own won lost = copied-quiet law own_lasts p g _ _ (lost (λ e. e)).0
-  copied-prime s i PrimedTombstone own won lost = copied-quiet law own_lasts p g _ _ (lost (λ e. e)).0
-  copied-prime s i (Primed n) own won lost = copied-quiet law own_lasts p g _ _ (lost (λ e. e)).0
-  copied-prime s i (Finished n) own won lost = copied-quiet law own_lasts p g _ _ (lost (λ e. e)).0
+  copied-prime s i Null won lost = let w = won tt in primed-now s i Null w.0 w.1
+  copied-prime s i Tombstone won lost = let w = won tt in primed-now s i Tombstone w.0 w.1
+  copied-prime s i (Live n) won lost = let w = won tt in primed-now s i (Live n) w.0 w.1
+  copied-prime s i PrimedNull won lost = copied-quiet p g _ _ (lost (λ e. e)).0
+  copied-prime s i PrimedTombstone won lost = copied-quiet p g _ _ (lost (λ e. e)).0
+  copied-prime s i (Primed n) won lost = copied-quiet p g _ _ (lost (λ e. e)).0
+  copied-prime s i (Finished n) won lost = copied-quiet p g _ _ (lost (λ e. e)).0
 
   -- a step that primed a value with nothing to copy, or met a final one
   pub primed-last :
@@ -177,4 +174,4 @@ module _ (law : StepsAddUp) (own_lasts : OwnLasts) (chain : ChainOf) (plan : IsP
       → HasCopied p g before after slots 0 0 (most + 3)
   primed-first {before} {then} i most turned own not_turned prime copy =
       copied-within (1 + (most + 2)) (most + 3) (omega arith)
-      (copied-then law chain plan g table own (subst (λ b. HasCopied p g before then (cond b (i ∷ []) []) 0 0 1) not_turned prime) copy)
+      (copied-then chain g table own (subst (λ b. HasCopied p g before then (cond b (i ∷ []) []) 0 0 1) not_turned prime) copy)

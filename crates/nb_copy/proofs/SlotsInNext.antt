@@ -1,13 +1,13 @@
 -- How a slot is copied.
 use Rattle.std.proofs.Common.{◌≡◌, ◌∙◌, ℕ, suc, ◌+◌, ◌*◌, ◌<◌, [], ◌∷◌, ap, sym, subst, refl, inl, arith}
-use Rattle.nb_core.specs.Plans.{IsPlan, Plan, generations_of, size_of}
+use Rattle.nb_core.specs.Plans.{Plan, generations_of, size_of}
 use Rattle.nb_core.specs.Tables.{AreOthers, HasSlot, IsOnPath, Tables, path_slot}
-use Rattle.nb_core.specs.Laws.{IsPassed, UpToDead, Lasts, OwnLasts}
+use Rattle.nb_core.specs.Laws.{IsPassed, UpToDead, Lasts}
 use Rattle.nb_core.specs.declared.states.KeyState.TheVariants.{Dead}
 use Rattle.nb_core.specs.declared.events.Event.TheVariants.{Claim}
 use Rattle.nb_table.specs.Chains.{ChainOf, Extended, IsOwn, SeenBy, seen_by}
 use Rattle.nb_core.specs.History.{HasWay}
-use Rattle.nb_table.specs.Laws.{StepsAddUp}
+use Rattle.nb_table.proofs.Theorems.{steps_add_up}
 use Rattle.nb_copy.proofs.Copied.{copied-more, copied-one, copied-own, copied-quiet, copied-within}
 use Rattle.nb_copy.specs.Copying.{HasCopied}
 
@@ -27,28 +27,28 @@ claim-way p t u lasting g next i key is table below path =
     } in
     subst (λ f. HasWay p u f i key) (sym is) way
 
-module _ (law : StepsAddUp) (own_lasts : OwnLasts) (chain : ChainOf) (plan : IsPlan chain.shape) (g : ℕ) (table : g < generations_of chain.shape) where
+module _ (chain : ChainOf) (g : ℕ) (table : g < generations_of chain.shape) where
   abbrev p : Plan
   p = chain.shape
 
   -- two steps without an event
   pub two-quiet :
-      {before then after : SeenBy} → IsOwn chain before → Extended before then [] 1 → Extended then after [] 1
+      {before then after : SeenBy} → IsOwn chain before → Extended p before then [] 1 → Extended p then after [] 1
       → HasCopied p g before after [] 0 0 2
   two-quiet {before} {then} {after} own a b =
-      copied-more law chain plan g table (law.own own (law.one a)) (copied-quiet law own_lasts p g before then a)
-      (copied-quiet law own_lasts p g then after b)
+      copied-more chain g table (steps_add_up.own own (steps_add_up.one a)) (copied-quiet p g before then a)
+      (copied-quiet p g then after b)
 
   -- a claim in the next table of a key of the table, after a step without an event
   pub claimed-next :
-      {before then after : SeenBy} (s f i key : ℕ) → f ≡ suc g → IsOwn chain before → HasSlot p (seen_by before) g key
-      → Extended before then [] 1 → Extended then after (Claim s f i key ∷ []) 1 → HasCopied p g before after [] 0 0 2
+      {before then after : SeenBy} (s f i key : ℕ) → f ≡ suc g → IsOwn chain before → HasSlot p (seen_by p before) g key
+      → Extended p before then [] 1 → Extended p then after (Claim s f i key ∷ []) 1 → HasCopied p g before after [] 0 0 2
   claimed-next {before} {then} {after} s f i key is own below a b =
-      let own' = law.own own (law.one a) in
-      let lasting = law.stays plan own (law.one a) in
-      let lasting' = law.stays plan own' (law.one b) in
-      copied-more law chain plan g table own' (copied-quiet law own_lasts p g before then a)
-      (copied-one law own_lasts p g then after (Claim s f i key) [] 0 0 b
+      let own' = steps_add_up.own own (steps_add_up.one a) in
+      let lasting = steps_add_up.stays own (steps_add_up.one a) in
+      let lasting' = steps_add_up.stays own' (steps_add_up.one b) in
+      copied-more chain g table own' (copied-quiet p g before then a)
+      (copied-one p g then after (Claim s f i key) [] 0 0 b
       (is, lasting'.has_slot g key table (lasting.has_slot g key table below)) refl refl refl)
 
   -- a look at one more slot of the key's path in the next table
@@ -57,7 +57,7 @@ module _ (law : StepsAddUp) (own_lasts : OwnLasts) (chain : ChainOf) (plan : IsP
       → HasCopied p g start after [] 0 0 (2 * (d + 1))
   looked-on d own so_far look =
       copied-within (2 * d + 2) (2 * (d + 1)) (omega arith)
-      (copied-more law chain plan g table (copied-own law chain plan g table own so_far) so_far look)
+      (copied-more chain g table (copied-own chain g table own so_far) so_far look)
 
   -- and the end of the looks
   pub looked-last :

@@ -43,8 +43,8 @@ is_take _ = false
 pub record HasCopied (p : Plan) (g : ℕ) (before after : SeenBy) (slots : List ℕ) (chunks adding most : ℕ) : Type 0 where
   pub own : List Event
   pub count : ℕ
-  pub grown : Grown before after own count
-  pub copying : All (IsCopying p (seen_by after) g) own
+  pub grown : Grown p before after own count
+  pub copying : All (IsCopying p (seen_by p after) g) own
   pub turned : slots_turned p after.seen before.number g ≡ slots ++ slots_turned p before.seen before.number g
   pub taken : length (filter is_take own) ≡ chunks
   pub counted : counted_by after.seen before.number g ≡ counted_by before.seen before.number g + adding

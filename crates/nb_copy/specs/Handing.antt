@@ -25,7 +25,7 @@ table_steps p g = size_of p g * (2 * slot_steps p g + 3) + 1
 
 -- where the seat's counting has brought the count to the size of the table, the top word is past the table
 abbrev pub IsRaised : Plan → ℕ → SeenBy → Type 0
-IsRaised p g seat = (seen_by seat).counted g ≡ size_of p g → g < (seen_by seat).top
+IsRaised p g seat = (seen_by p seat).counted g ≡ size_of p g → g < (seen_by p seat).top
 
 -- the slot is one of the chunk that is handed out where the take word stands at this
 abbrev pub IsHanded : Plan → (g start i : ℕ) → Type 0
@@ -43,7 +43,7 @@ pub record HasHelped (p : Plan) (g : ℕ) (before after : SeenBy) (turned : ℕ)
   pub asked : after.seen ≡ since ++ (Take before.number g ∷ (others ++ before.seen))
   pub start : ℕ
   pub stood : (tables_at p (others ++ before.seen)).taken g ≡ start
-  pub finished : (i : ℕ) → IsHanded p g start i → IsFinished (seen_by after) g i
+  pub finished : (i : ℕ) → IsHanded p g start i → IsFinished (seen_by p after) g i
   pub handed : All (IsHanded p g start) slots
   pub idle : size_of p g ≤ start → (turned ≡ 0) × (after.steps ≡ before.steps + 1)
   pub raised : 1 ≤ turned → IsRaised p g after
@@ -55,5 +55,5 @@ pub record HasCompleted (p : Plan) (g : ℕ) (before after : SeenBy) : Type 0 wh
   pub chunks : ℕ
   pub few : chunks ≤ size_of p g / chunk_of p g
   pub copied : HasCopied p g before after slots chunks (length slots) (table_steps p g)
-  pub complete : IsComplete p (seen_by after) g
-  pub raised : g < (seen_by after).top
+  pub complete : IsComplete p (seen_by p after) g
+  pub raised : g < (seen_by p after).top

@@ -9,7 +9,7 @@ ghost use Rattle.nb_copy.specs.Copying.{HasCopied};
 ghost use Rattle.nb_copy.specs.Handing.{slot_steps};
 
 use nb_core::{Key, KeyState, Num, ValueState};
-use nb_table::{Chain, ChainSeat, laws};
+use nb_table::{Chain, ChainSeat};
 
 /// Finishes slot `i` of table `g`, which has a next one, whatever others do to it meanwhile: an empty slot is closed, a value
 /// is primed, and a number is copied to the key's slot in the next table first. Answers whether a step of this call turned
@@ -18,13 +18,11 @@ use nb_table::{Chain, ChainSeat, laws};
 pub fn copy_slot(chain: &Chain, seat: &mut ChainSeat, g: u32, i: usize) -> bool
     requires own { IsOwn chain.now seat.old }
     requires slot { IsSlot chain.now.shape g i }
-    requires growing { IsInstalled (seen_by seat.old) (suc g) }
+    requires growing { IsInstalled (seen_by chain.now.shape seat.old) (suc g) }
     ensures copied { HasCopied chain.now.shape g seat.old seat.new (if result then i ∷ [] else []) 0 0
         (slot_steps chain.now.shape g) }
-    ensures finished { IsFinished (seen_by seat.new) g i }
+    ensures finished { IsFinished (seen_by chain.now.shape seat.new) g i }
 {
-    laws::steps_add_up();
-    chain.shape().known();
     match key_or_close(chain, seat, g, i) {
         KeyState::Empty => true,
         KeyState::Dead => false,
@@ -36,15 +34,12 @@ pub fn copy_slot(chain: &Chain, seat: &mut ChainSeat, g: u32, i: usize) -> bool
 fn key_or_close(chain: &Chain, seat: &mut ChainSeat, g: u32, i: usize) -> KeyState
     requires own { IsOwn chain.now seat.old }
     requires slot { IsSlot chain.now.shape g i }
-    requires growing { IsInstalled (seen_by seat.old) (suc g) }
+    requires growing { IsInstalled (seen_by chain.now.shape seat.old) (suc g) }
     ensures closed { result ≡ key_is.Empty
-        → HasCopied chain.now.shape g seat.old seat.new (i ∷ []) 0 0 2 × ((seen_by seat.new).key g i ≡ key_is.Dead) }
+        → HasCopied chain.now.shape g seat.old seat.new (i ∷ []) 0 0 2 × ((seen_by chain.now.shape seat.new).key g i ≡ key_is.Dead) }
     ensures found { result ≢ key_is.Empty
-        → HasCopied chain.now.shape g seat.old seat.new [] 0 0 2 × ((seen_by seat.new).key g i ≡ result) }
+        → HasCopied chain.now.shape g seat.old seat.new [] 0 0 2 × ((seen_by chain.now.shape seat.new).key g i ≡ result) }
 {
-    laws::steps_add_up();
-    nb_core::laws::own_lasts();
-    chain.shape().known();
     match chain.load_key(seat, g, i, None) {
         KeyState::Empty => chain.kill_key(seat, g, i),
         other => other,
@@ -55,15 +50,12 @@ fn key_or_close(chain: &Chain, seat: &mut ChainSeat, g: u32, i: usize) -> KeySta
 fn copy_value(chain: &Chain, seat: &mut ChainSeat, g: u32, i: usize, key: Key) -> bool
     requires own { IsOwn chain.now seat.old }
     requires slot { IsSlot chain.now.shape g i }
-    requires growing { IsInstalled (seen_by seat.old) (suc g) }
-    requires claimed { (seen_by seat.old).key g i ≡ key_is.Claimed key }
+    requires growing { IsInstalled (seen_by chain.now.shape seat.old) (suc g) }
+    requires claimed { (seen_by chain.now.shape seat.old).key g i ≡ key_is.Claimed key }
     ensures copied { HasCopied chain.now.shape g seat.old seat.new (if result then i ∷ [] else []) 0 0
         (2 * size_of chain.now.shape (suc g) + 4) }
-    ensures finished { IsFinished (seen_by seat.new) g i }
+    ensures finished { IsFinished (seen_by chain.now.shape seat.new) g i }
 {
-    laws::steps_add_up();
-    nb_core::laws::own_lasts();
-    chain.shape().known();
     if chain.load_value(seat, g, i, None).is_finished() {
         return false;
     }
@@ -74,15 +66,12 @@ fn copy_value(chain: &Chain, seat: &mut ChainSeat, g: u32, i: usize, key: Key) -
 fn prime_value(chain: &Chain, seat: &mut ChainSeat, g: u32, i: usize, key: Key) -> bool
     requires own { IsOwn chain.now seat.old }
     requires slot { IsSlot chain.now.shape g i }
-    requires growing { IsInstalled (seen_by seat.old) (suc g) }
-    requires claimed { (seen_by seat.old).key g i ≡ key_is.Claimed key }
+    requires growing { IsInstalled (seen_by chain.now.shape seat.old) (suc g) }
+    requires claimed { (seen_by chain.now.shape seat.old).key g i ≡ key_is.Claimed key }
     ensures copied { HasCopied chain.now.shape g seat.old seat.new (if result then i ∷ [] else []) 0 0
         (2 * size_of chain.now.shape (suc g) + 3) }
-    ensures finished { IsFinished (seen_by seat.new) g i }
+    ensures finished { IsFinished (seen_by chain.now.shape seat.new) g i }
 {
-    laws::steps_add_up();
-    nb_core::laws::own_lasts();
-    chain.shape().known();
     match chain.prime(seat, g, i) {
         ValueState::Null | ValueState::Tombstone => true,
         ValueState::PrimedNull | ValueState::PrimedTombstone | ValueState::Finished(_) => false,
@@ -96,19 +85,13 @@ fn prime_value(chain: &Chain, seat: &mut ChainSeat, g: u32, i: usize, key: Key) 
 fn copy_number(chain: &Chain, seat: &mut ChainSeat, g: u32, i: usize, key: Key, number: Num) -> bool
     requires own { IsOwn chain.now seat.old }
     requires slot { IsSlot chain.now.shape g i }
-    requires growing { IsInstalled (seen_by seat.old) (suc g) }
-    requires claimed { (seen_by seat.old).key g i ≡ key_is.Claimed key }
-    requires held { IsPrimedOrFinished (seen_by seat.old) g i number }
+    requires growing { IsInstalled (seen_by chain.now.shape seat.old) (suc g) }
+    requires claimed { (seen_by chain.now.shape seat.old).key g i ≡ key_is.Claimed key }
+    requires held { IsPrimedOrFinished (seen_by chain.now.shape seat.old) g i number }
     ensures copied { HasCopied chain.now.shape g seat.old seat.new (if result then i ∷ [] else []) 0 0
         (2 * size_of chain.now.shape (suc g) + 2) }
-    ensures finished { IsFinished (seen_by seat.new) g i }
+    ensures finished { IsFinished (seen_by chain.now.shape seat.new) g i }
 {
-    laws::steps_add_up();
-    nb_core::laws::own_lasts();
-    nb_core::laws::linked();
-    nb_core::laws::passed_above();
-    chain.shape().known();
-    seat.known();
     let Some(j) = place_in_next(chain, seat, g, key) else {
         return false;
     };
@@ -121,16 +104,12 @@ fn copy_number(chain: &Chain, seat: &mut ChainSeat, g: u32, i: usize, key: Key, 
 fn place_in_next(chain: &Chain, seat: &mut ChainSeat, g: u32, key: Key) -> Option<usize>
     requires own { IsOwn chain.now seat.old }
     requires table { suc g < generations_of chain.now.shape }
-    requires growing { IsInstalled (seen_by seat.old) (suc g) }
-    requires below { HasSlot chain.now.shape (seen_by seat.old) g key }
+    requires growing { IsInstalled (seen_by chain.now.shape seat.old) (suc g) }
+    requires below { HasSlot chain.now.shape (seen_by chain.now.shape seat.old) g key }
     ensures copied { HasCopied chain.now.shape g seat.old seat.new [] 0 0 (2 * size_of chain.now.shape (suc g)) }
-    ensures found { IfSome result (λ j. (j < size_of chain.now.shape (suc g)) × ((seen_by seat.new).key (suc g) j ≡ key_is.Claimed key)) }
-    ensures passed { IfNone result (IsPassed chain.now.shape (seen_by seat.new) (suc g) key) }
+    ensures found { IfSome result (λ j. (j < size_of chain.now.shape (suc g)) × ((seen_by chain.now.shape seat.new).key (suc g) j ≡ key_is.Claimed key)) }
+    ensures passed { IfNone result (IsPassed chain.now.shape (seen_by chain.now.shape seat.new) (suc g) key) }
 {
-    laws::steps_add_up();
-    nb_core::laws::own_lasts();
-    chain.shape().known();
-    seat.known();
     for distance in 0..chain.shape().size_of(g + 1) {
         let j = chain.shape().path_slot(g + 1, key, distance);
         match key_or_claim(chain, seat, g, key, j) {
@@ -150,16 +129,13 @@ fn place_in_next(chain: &Chain, seat: &mut ChainSeat, g: u32, key: Key) -> Optio
 fn key_or_claim(chain: &Chain, seat: &mut ChainSeat, g: u32, key: Key, j: usize) -> KeyState
     requires own { IsOwn chain.now seat.old }
     requires slot { IsSlot chain.now.shape (suc g) j }
-    requires growing { IsInstalled (seen_by seat.old) (suc g) }
-    requires below { HasSlot chain.now.shape (seen_by seat.old) g key }
-    requires on_path { IsOnPath chain.now.shape (seen_by seat.old) (suc g) j key }
+    requires growing { IsInstalled (seen_by chain.now.shape seat.old) (suc g) }
+    requires below { HasSlot chain.now.shape (seen_by chain.now.shape seat.old) g key }
+    requires on_path { IsOnPath chain.now.shape (seen_by chain.now.shape seat.old) (suc g) j key }
     ensures copied { HasCopied chain.now.shape g seat.old seat.new [] 0 0 2 }
-    ensures found { (seen_by seat.new).key (suc g) j ≡ result }
+    ensures found { (seen_by chain.now.shape seat.new).key (suc g) j ≡ result }
     ensures some { result ≢ key_is.Empty }
 {
-    laws::steps_add_up();
-    nb_core::laws::own_lasts();
-    chain.shape().known();
     match chain.load_key(seat, g + 1, j, None) {
         KeyState::Empty => match chain.claim_key(seat, g + 1, j, key) {
             KeyState::Empty => KeyState::Claimed(key),

@@ -8,7 +8,7 @@ ghost use Rattle.nb_copy.specs.Copying.{HasCopied};
 ghost use Rattle.nb_copy.specs.Handing.{HasCompleted, HasHelped, IsRaised, slot_steps};
 
 use crate::slots::copy_slot;
-use nb_table::{Chain, ChainSeat, laws};
+use nb_table::{Chain, ChainSeat};
 
 /// Copies the next chunk of table `g` that nobody was handed: 8 slots, or the table if that is smaller. Answers how many slots
 /// its own steps turned finished, all of them in the chunk. It counts just these, by one add, and raises the top word if that
@@ -16,7 +16,7 @@ use nb_table::{Chain, ChainSeat, laws};
 /// chunks are handed out it makes one step and answers 0. The idea is `help_copy_impl` of high-scale-lib.
 pub fn help(chain: &Chain, seat: &mut ChainSeat, g: u32) -> usize
     requires own { IsOwn chain.now seat.old }
-    requires growing { IsInstalled (seen_by seat.old) (suc g) }
+    requires growing { IsInstalled (seen_by chain.now.shape seat.old) (suc g) }
     ensures helped { HasHelped chain.now.shape g seat.old seat.new result }
 {
     copy_chunk(chain, seat, g).unwrap_or(0)
@@ -25,16 +25,12 @@ pub fn help(chain: &Chain, seat: &mut ChainSeat, g: u32) -> usize
 /// Copies the whole of table `g`, which has a next one, together with whoever copies it too. It takes chunks while there are
 /// some, then goes through every slot itself, so that it waits for no other thread, and raises the top word. It costs at most
 /// a few steps for each pair of a slot of this table and one of the next.
+#[tactic(auto, using(nb_core::proofs::Theorems::linked))]
 pub fn complete(chain: &Chain, seat: &mut ChainSeat, g: u32)
     requires own { IsOwn chain.now seat.old }
-    requires growing { IsInstalled (seen_by seat.old) (suc g) }
+    requires growing { IsInstalled (seen_by chain.now.shape seat.old) (suc g) }
     ensures completed { HasCompleted chain.now.shape g seat.old seat.new }
 {
-    laws::steps_add_up();
-    nb_core::laws::own_lasts();
-    nb_core::laws::linked();
-    chain.shape().known();
-    seat.known();
     copy_chunks(chain, seat, g);
     copy_all(chain, seat, g);
     chain.promote(seat, g);
@@ -45,17 +41,12 @@ pub fn complete(chain: &Chain, seat: &mut ChainSeat, g: u32)
 pub fn copy_and_count(chain: &Chain, seat: &mut ChainSeat, g: u32, i: usize) -> bool
     requires own { IsOwn chain.now seat.old }
     requires slot { IsSlot chain.now.shape g i }
-    requires growing { IsInstalled (seen_by seat.old) (suc g) }
+    requires growing { IsInstalled (seen_by chain.now.shape seat.old) (suc g) }
     ensures copied { HasCopied chain.now.shape g seat.old seat.new (if result then i ∷ [] else []) 0 (if result then 1 else 0)
         (slot_steps chain.now.shape g + 2) }
-    ensures finished { IsFinished (seen_by seat.new) g i }
+    ensures finished { IsFinished (seen_by chain.now.shape seat.new) g i }
     ensures raised { IsTrue result → IsRaised chain.now.shape g seat.new }
 {
-    laws::steps_add_up();
-    nb_core::laws::own_lasts();
-    nb_core::laws::counted();
-    chain.shape().known();
-    seat.known();
     let turned = copy_slot(chain, seat, g, i);
     if turned {
         count(chain, seat, g, 1);
@@ -65,17 +56,12 @@ pub fn copy_and_count(chain: &Chain, seat: &mut ChainSeat, g: u32, i: usize) -> 
 
 /// Takes a chunk of table `g`, copies it and counts it, and answers how many slots its own steps turned finished. `None` says
 /// that there is no chunk left.
+#[tactic(auto, using(nb_core::proofs::Theorems::linked))]
 fn copy_chunk(chain: &Chain, seat: &mut ChainSeat, g: u32) -> Option<usize>
     requires own { IsOwn chain.now seat.old }
-    requires growing { IsInstalled (seen_by seat.old) (suc g) }
+    requires growing { IsInstalled (seen_by chain.now.shape seat.old) (suc g) }
     ensures helped { HasHelped chain.now.shape g seat.old seat.new (unwrap_or result 0) }
 {
-    laws::steps_add_up();
-    nb_core::laws::own_lasts();
-    nb_core::laws::counted();
-    nb_core::laws::linked();
-    chain.shape().known();
-    seat.known();
     let size = chain.shape().size_of(g);
     let start = chain.take_work(seat, g);
     if start >= size as u64 {
@@ -96,15 +82,11 @@ fn copy_slots(chain: &Chain, seat: &mut ChainSeat, g: u32, from: usize, to: usiz
     requires own { IsOwn chain.now seat.old }
     requires table { g < generations_of chain.now.shape }
     requires within { (from ≤ to) × (to ≤ size_of chain.now.shape g) }
-    requires growing { IsInstalled (seen_by seat.old) (suc g) }
+    requires growing { IsInstalled (seen_by chain.now.shape seat.old) (suc g) }
     ensures copied { (slots : List ℕ) × (length slots ≡ result) × All (λ i. (from ≤ i) × (i < to)) slots
         × HasCopied chain.now.shape g seat.old seat.new slots 0 0 ((to - from) * slot_steps chain.now.shape g) }
-    ensures finished { (i : ℕ) → from ≤ i → i < to → IsFinished (seen_by seat.new) g i }
+    ensures finished { (i : ℕ) → from ≤ i → i < to → IsFinished (seen_by chain.now.shape seat.new) g i }
 {
-    laws::steps_add_up();
-    nb_core::laws::own_lasts();
-    chain.shape().known();
-    seat.known();
     let mut turned = 0;
     for i in from..to {
         turned += usize::from(copy_slot(chain, seat, g, i));
@@ -122,29 +104,20 @@ fn count(chain: &Chain, seat: &mut ChainSeat, g: u32, slots: usize)
     ensures counted { HasCopied chain.now.shape g seat.old seat.new [] 0 slots 2 }
     ensures raised { IsRaised chain.now.shape g seat.new }
 {
-    laws::steps_add_up();
-    nb_core::laws::own_lasts();
-    nb_core::laws::counted();
-    chain.shape().known();
     let before = chain.count_done(seat, g, slots as u64);
-    seat.known();
     if before + slots as u64 == chain.shape().size_of(g) as u64 {
         chain.promote(seat, g);
     }
 }
 
 /// Takes and copies chunks of table `g` while there are some, at most as many as the table has.
+#[tactic(auto, using(nb_core::proofs::Theorems::linked))]
 fn copy_chunks(chain: &Chain, seat: &mut ChainSeat, g: u32)
     requires own { IsOwn chain.now seat.old }
-    requires growing { IsInstalled (seen_by seat.old) (suc g) }
+    requires growing { IsInstalled (seen_by chain.now.shape seat.old) (suc g) }
     ensures copied { (slots : List ℕ) × (chunks : ℕ) × (chunks ≤ size_of chain.now.shape g / chunk_of chain.now.shape g)
         × HasCopied chain.now.shape g seat.old seat.new slots chunks (length slots) (size_of chain.now.shape g * (slot_steps chain.now.shape g + 1)) }
 {
-    laws::steps_add_up();
-    nb_core::laws::own_lasts();
-    nb_core::laws::linked();
-    chain.shape().known();
-    seat.known();
     let chunks = chain.shape().size_of(g) / chain.shape().chunk_of(g);
     for _taken in 0..chunks {
         if copy_chunk(chain, seat, g).is_none() {
@@ -157,15 +130,11 @@ fn copy_chunks(chain: &Chain, seat: &mut ChainSeat, g: u32)
 fn copy_all(chain: &Chain, seat: &mut ChainSeat, g: u32)
     requires own { IsOwn chain.now seat.old }
     requires table { g < generations_of chain.now.shape }
-    requires growing { IsInstalled (seen_by seat.old) (suc g) }
+    requires growing { IsInstalled (seen_by chain.now.shape seat.old) (suc g) }
     ensures copied { (slots : List ℕ)
         × HasCopied chain.now.shape g seat.old seat.new slots 0 (length slots) (size_of chain.now.shape g * (slot_steps chain.now.shape g + 2)) }
-    ensures complete { (i : ℕ) → i < size_of chain.now.shape g → IsFinished (seen_by seat.new) g i }
+    ensures complete { (i : ℕ) → i < size_of chain.now.shape g → IsFinished (seen_by chain.now.shape seat.new) g i }
 {
-    laws::steps_add_up();
-    nb_core::laws::own_lasts();
-    chain.shape().known();
-    seat.known();
     for i in 0..chain.shape().size_of(g) {
         copy_and_count(chain, seat, g, i);
     }

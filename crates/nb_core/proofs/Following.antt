@@ -4,14 +4,12 @@ use Rattle.std.proofs.lemmas.Bool.{cases_lt}
 use Rattle.nb_core.specs.Plans.{Plan, IsPlan, Top, generations_of}
 use Rattle.nb_core.specs.Tables.{IsComplete, Tables, tables_at}
 use Rattle.nb_core.specs.History.{HasValue}
-use Rattle.nb_core.specs.Laws.{CompletePassed, HasOneSlot, InstalledAfter, Moved, OnePlace, PassedSettled, Room, SizeIsNet, TopComplete}
+use Rattle.nb_core.specs.Laws.{CompletePassed, HasOneSlot, InstalledAfter, Moved, OnePlace, PassedSettled, Room, TopComplete}
 use Rattle.nb_core.proofs.Keeping.{sound}
 use Rattle.nb_core.proofs.Lasting.{complete-stays, content-some}
 use Rattle.nb_core.proofs.Later.{beginnings_are_legal, seen_lasts}
-use Rattle.nb_core.proofs.Net.{size_is_net_by}
 use Rattle.nb_core.proofs.Places.{place_from-same}
 use Rattle.nb_core.proofs.Room.{complete-passed, incomplete-room, passed-settled}
-use Rattle.nb_core.proofs.Shown.{win_number}
 use Rattle.nb_core.proofs.Sound.{IsSound, HasGot, complete-below, complete-growing, one_slot}
 use Rattle.nb_core.proofs.Steps.{Step, TopKept, Promotes, step_of}
 use Rattle.nb_core.proofs.Words.{word-first}
@@ -67,6 +65,3 @@ top_complete p plan [] legal g below = absurd (omega (arith, word-first p plan T
 top_complete p plan (e ∷ h) legal g below =
     top-right p (tables_at p h) (tables_at p (e ∷ h)) plan (sound p h plan legal.0) (step_of p e h plan legal)
     (top_complete p plan h legal.0) g below
-
-pub size_is_net : SizeIsNet
-size_is_net = size_is_net_by win_number

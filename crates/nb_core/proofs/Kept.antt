@@ -1,13 +1,26 @@
 -- What the fields of a shape say of its plan.
-use Rattle.std.proofs.Common.{◌≡◌, ◌∙◌, ℕ, ◌<◌, ap, subst, cond, ltb, slice_index, arith}
+use Rattle.std.proofs.Common.{◌≡◌, ◌∙◌, ℕ, ◌<◌, ◌≤◌, ap, sym, subst, cond, ltb, slice_index, arith}
 use Rattle.std.proofs.lemmas.Bool.{lt-ltb}
+use Rattle.std.proofs.lemmas.List.{get_or-take, length-take}
+use Rattle.std.proofs.lemmas.List.Elements.{All-get_or}
 use Rattle.std.proofs.lemmas.List.FromFn.{get_or-map-range_with_len}
 use Rattle.nb_core.specs.declared.shapes.Shape.TheInside.{Inside}
-use Rattle.nb_core.specs.Plans.{Plan, IsPlan, base_of, generations_of}
+use Rattle.nb_core.specs.Plans.{Plan, IsPlan, base_of, generations_of, size_of}
 use Rattle.nb_core.specs.Places.{IsInside, inside_of, kept_bases, plan_of}
 
 pub plan-kept : (a : Inside) (p : Plan) → IsInside a → plan_of a ≡ p → IsPlan p
 plan-kept a p h e = subst IsPlan e h.plan
+
+-- the exponent of a table is a small one
+pub exponents-few : (a : Inside) (p : Plan) (g : ℕ) → IsInside a → plan_of a ≡ p → g < generations_of p → slice_index a.exponents g ≤ 19
+exponents-few a p g h e within =
+    let all = (plan-kept a p h e).sizes in
+    let at : slice_index p.exponents g ≡ slice_index a.exponents g
+    = ap (λ q. slice_index q.exponents g) (sym e) ∙ get_or-take a.generations a.exponents g 0 (in-table a p g e within) in
+    subst (λ n. n ≤ 19) at (All-get_or (λ n. (2 ≤ n) × (n ≤ 19)) p.exponents g 0 within all).1
+  where
+    in-table : (a : Inside) (p : Plan) (g : ℕ) → plan_of a ≡ p → g < generations_of p → g < a.generations
+    in-table a p g e within = omega (arith, length-take a.generations a.exponents, ap (λ q. generations_of q) e)
 
 kept_bases-at : (p : Plan) (g : ℕ) → IsPlan p → g < generations_of p → slice_index (kept_bases p) g ≡ base_of p g
 unfolding kept_bases

@@ -33,5 +33,6 @@ mod Slots
 mod Sound
 mod Steps
 mod Tables
+pub mod Theorems
 mod Words
 mod Worked

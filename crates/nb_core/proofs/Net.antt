@@ -11,8 +11,9 @@ use Rattle.nb_core.specs.Calls.{Numbers, changed, holds_of, map_after, reply_of,
 use Rattle.nb_core.specs.Plans.{Plan, IsPlan}
 use Rattle.nb_core.specs.History.{Exchanges, IsExchange, IsLegal, after_win, number_in_value, key_of_call, map_of}
 use Rattle.nb_core.specs.Meaning.{calls_of, net_of, net_of_call, net_of_change}
-use Rattle.nb_core.specs.Laws.{SizeIsNet, WinNumber, net_of_seats}
+use Rattle.nb_core.specs.Laws.{SizeIsNet, net_of_seats}
 use Rattle.nb_core.specs.declared.calls.Call.{Call}
+use Rattle.nb_core.proofs.Shown.{win_number}
 use Rattle.nb_core.specs.declared.calls.Call.TheVariants as call
 use Rattle.nb_core.specs.declared.calls.Change.{Change}
 use Rattle.nb_core.specs.declared.calls.Change.TheVariants.{Put, Remove, Add}
@@ -138,14 +139,14 @@ adds_alike-call p e h s c r within map reply has = record {
 }
 
 -- each event of a legal history adds alike, and one without a call adds nothing
-adds_alike : WinNumber → (p : Plan) → IsPlan p → (e : Event) (h : List Event) → IsLegal p (e ∷ h) → AddsAlike p e h
-adds_alike win p plan (Won s g i a b c r) h legal =
-    let number = win p plan h legal.0 g i a b c legal.1.1 legal.2 in
+adds_alike : (p : Plan) → IsPlan p → (e : Event) (h : List Event) → IsLegal p (e ∷ h) → AddsAlike p e h
+adds_alike p plan (Won s g i a b c r) h legal =
+    let number = win_number p plan h legal.0 g i a b c legal.1.1 legal.2 in
     let map = after_win-call (map_of h) c legal.2.key a b number legal.2.exchange in
     adds_alike-call p (Won s g i a b c r) h s c r legal.1.0 map legal.3.0 (record { calls = λ n. refl })
-adds_alike win p plan (Read s c r) h legal =
+adds_alike p plan (Read s c r) h legal =
     adds_alike-call p (Read s c r) h s c r legal.1.0 (sym legal.3.2) legal.3.0 (record { calls = λ n. refl })
-adds_alike win p plan e h legal = record {
+adds_alike p plan e h legal = record {
   net = pos 0;
   keys = omega (arith, ints);
   seats = net_of_seats-same h (e ∷ h) p.seats (λ s below. refl) ∙ omega (arith, ints);
@@ -156,10 +157,10 @@ net_of_seats-none : (n : ℕ) → net_of_seats [] n ≡ pos 0
 net_of_seats-none zero = refl
 net_of_seats-none (suc n) = let rest = net_of_seats-none n in omega (arith, ints)
 
--- given what the map has where a call wins: what all seats' calls added, less what they took out, is the number of keys
-pub size_is_net_by : WinNumber → SizeIsNet
-size_is_net_by win p plan [] legal = net_of_seats-none p.seats ∙ ap pos (sym (len-empty nat_cmp ℕ) ∙ len-entries (map_of []))
-size_is_net_by win p plan (e ∷ h) legal =
-    let alike = adds_alike win p plan e h legal in
-    let before = size_is_net_by win p plan h legal.0 ∙ ap pos (sym (len-entries (map_of h))) in
+-- what all seats' calls added, less what they took out, is the number of keys
+pub size_is_net : SizeIsNet
+size_is_net p plan [] legal = net_of_seats-none p.seats ∙ ap pos (sym (len-empty nat_cmp ℕ) ∙ len-entries (map_of []))
+size_is_net p plan (e ∷ h) legal =
+    let alike = adds_alike p plan e h legal in
+    let before = size_is_net p plan h legal.0 ∙ ap pos (sym (len-entries (map_of h))) in
     alike.seats ∙ ap (λ net. alike.net +ℤ net) before ∙ sym alike.keys ∙ ap pos (len-entries (map_of (e ∷ h)))

@@ -1,6 +1,6 @@
 //! The laws of every shape and of every legal history, which say what holds at each moment, whatever atomic steps were made
-//! by whom. Each function carries a law as its contract and does nothing when it runs: a call of it hands the law to the
-//! proof of its caller.
+//! by whom. Each function carries a law as its contract, so that the gate guards it; nobody calls it. The crates above take
+//! the laws as theorems, from `proofs/Theorems.antt`, under the same names.
 ghost use Rattle.nb_core.specs.Laws.{BeginningsAreLegal, CallsReplayed, ClaimedOnPath, Codings, CompletePassed, ContentOnce, CountedOnce, CrowdedAbsent, Decided, FewKeys, HasOneSlot, HeldHasPlace, InstalledAfter, LawfulChanges, LawfulWords, LoneSeat, LostExchange, MapInRange, Moved, OnePlace, OwnLasts, PassedAbove, PassedOverAdds, PassedSettled, PathsAreDistinct, PlaceIs, ReadReplies, Room, SeenLasts, SizeIsNet, SlotsStay, TablesAreLinked, TablesStand, TopComplete, WholeCrowded, WinNumber, WinReplies};
 ghost use Rattle.nb_core.specs.Plans.{LimitsFit, PlacesAreDistinct, SizesNeverFall};
 

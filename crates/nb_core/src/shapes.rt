@@ -1,5 +1,5 @@
 //! The shape of a chain of tables.
-ghost use Rattle.std.specs.Prelude.{◌≡◌, ◌<◌, ◌≤◌, All, length};
+ghost use Rattle.std.specs.Prelude.{◌≡◌, ◌^◌, ◌<◌, ◌≤◌, All, length};
 ghost use Rattle.std.specs.List.Sorted.{IsNonDecreasing};
 ghost use Rattle.nb_core.specs.Plans.{IsPlan, base_of, checked_plan, checked_shape, generations_of, header_place, key_place, limit_of, seated, size_of, value_place, word_count};
 ghost use Rattle.nb_core.specs.Tables.{chunk_of, path_slot};
@@ -138,13 +138,6 @@ impl Shape {
         Self::seated(exponents, seats, stripes)
     }
 
-    /// Reminds a proof of what a shape may be. It does nothing.
-    pub fn known(&self)
-        ensures { IsPlan self.now }
-    {
-        let _ = &self.generations;
-    }
-
     /// How many tables there are.
     pub fn generations(&self) -> u32
         ensures { result ≡ generations_of self.now }
@@ -154,7 +147,8 @@ impl Shape {
 
     /// How many seats may call.
     pub fn seats(&self) -> usize
-        ensures { result ≡ self.now.seats }
+        ensures number { result ≡ self.now.seats }
+        ensures plan { IsPlan self.now }
     {
         usize::from(self.seats)
     }
@@ -169,7 +163,8 @@ impl Shape {
     /// How many slots table `g` has, a power of two.
     pub fn size_of(&self, g: u32) -> usize
         requires { g < generations_of self.now }
-        ensures { result ≡ size_of self.now g }
+        ensures size { result ≡ size_of self.now g }
+        ensures few { result ≤ 2 ^ 19 }
     {
         1 << self.exponents[g as usize]
     }
@@ -204,7 +199,6 @@ impl Shape {
         ensures slot { result ≡ path_slot self.now g key distance }
         ensures in_table { result < size_of self.now g }
     {
-        self.known();
         let last = self.size_of(g) - 1;
         (key.get() as usize).wrapping_add(distance) & last
     }

@@ -1,7 +1,7 @@
 //! What the two words of a slot hold.
 ghost use Rattle.std.specs.Prelude.{◌≡◌, ◌≢◌, Some, IfSome, IfNone};
 ghost use Rattle.nb_core.specs.Laws.{IsValueWord};
-ghost use Rattle.nb_core.specs.States.{IsValueState, key_state, key_word, value_state, value_word};
+ghost use Rattle.nb_core.specs.States.{IsKeyState, IsValueState, key_state, key_word, value_state, value_word};
 ghost use Rattle.nb_core.specs.Tables.{is_finished_value};
 
 use crate::numbers::{Key, Num};
@@ -46,6 +46,7 @@ impl ValueState {
 pub fn encode_key(state: KeyState) -> u64
     ensures word { result ≡ key_word state }
     ensures back { key_state result ≡ state }
+    ensures in_range { IsKeyState state }
 {
     match state {
         KeyState::Empty => 0,

@@ -1,4 +1,5 @@
-//! What the stripes of a counter stand for. Each function carries a law as its contract and does nothing when it runs.
+//! What the stripes of a counter stand for. Each function carries a law as its contract, so that the gate guards it; nobody
+//! calls it. A crate above takes them as theorems, from `proofs/Theorems.antt`.
 ghost use Rattle.nb_count.specs.Tallies.{StripesAreFree, StripesAreTheSum};
 
 /// The sum of the stripes is what all seats have added, modulo 2^64.

@@ -6,21 +6,22 @@ use Rattle.std.proofs.lemmas.Nat.{pow_pos}
 use Rattle.nb_core.specs.Plans.{IsPlan, Plan, SizesNeverFall, generations_of, size_of}
 use Rattle.nb_map.specs.Looking.{get_steps, look_steps, looked_below}
 use Rattle.nb_map.specs.Searching.{slots_below}
+use Rattle.nb_core.proofs.Theorems.{sizes_never_fall}
 
 -- no table is larger than the last one
-size-most : (never_fall : SizesNeverFall) (p : Plan) → IsPlan p → (n g : ℕ) → g + n + 1 ≡ generations_of p → size_of p g ≤ size_of p (generations_of p - 1)
-size-most never_fall p plan zero g is = let last : g ≡ generations_of p - 1 = omega (arith, is) in subst (λ f. size_of p g ≤ size_of p f) last (le_refl (size_of p g))
-size-most never_fall p plan (suc n) g is =
-    le_trans (never_fall p plan g (omega (arith, is))) (size-most never_fall p plan n (suc g) (omega (arith, is)))
+size-most : (p : Plan) → IsPlan p → (n g : ℕ) → g + n + 1 ≡ generations_of p → size_of p g ≤ size_of p (generations_of p - 1)
+size-most p plan zero g is = let last : g ≡ generations_of p - 1 = omega (arith, is) in subst (λ f. size_of p g ≤ size_of p f) last (le_refl (size_of p g))
+size-most p plan (suc n) g is =
+    le_trans (sizes_never_fall p plan g (omega (arith, is))) (size-most p plan n (suc g) (omega (arith, is)))
 
 pub looked-more : (p : Plan) (g : ℕ) → looked_below p (g + 1) ≡ look_steps p g + looked_below p g
 looked-more p g = ap (looked_below p) (add-one g)
 
 -- nor is the table above one of the plan's, where there is one
 pub next-size :
-    (never_fall : SizesNeverFall) (p : Plan) → IsPlan p → (g : ℕ) → g < generations_of p → size_of p (suc g) ≤ size_of p (generations_of p - 1)
-next-size never_fall p plan g table = elim (more-or-last (suc g) (generations_of p)) [
-  | inl more ↦ size-most never_fall p plan (generations_of p - suc (suc g)) (suc g) (omega (arith, more))
+    (p : Plan) → IsPlan p → (g : ℕ) → g < generations_of p → size_of p (suc g) ≤ size_of p (generations_of p - 1)
+next-size p plan g table = elim (more-or-last (suc g) (generations_of p)) [
+  | inl more ↦ size-most p plan (generations_of p - suc (suc g)) (suc g) (omega (arith, more))
   | inr last ↦
       let none : slice_index p.exponents (suc g) ≡ 0 = get_or_past p.exponents (suc g) 0 last in
       subst (λ e. 2 ^ e ≤ size_of p (generations_of p - 1)) (sym none) (pow_pos (slice_index p.exponents (generations_of p - 1)))
@@ -42,12 +43,12 @@ slots-more p (suc m) g below = elim (less-or-same g m below) [
 
 -- the looks at the first tables, by the slots of these and by the last table's size
 looked-few :
-    (never_fall : SizesNeverFall) (p : Plan) → IsPlan p → (g : ℕ) → g ≤ generations_of p
+    (p : Plan) → IsPlan p → (g : ℕ) → g ≤ generations_of p
     → looked_below p g ≤ slots_below p g + g * (2 * size_of p (generations_of p - 1) + 10)
-looked-few never_fall p plan zero below = omega arith
-looked-few never_fall p plan (suc g) below =
-    let rest = looked-few never_fall p plan g (omega (arith, below)) in
-    let next = next-size never_fall p plan g below in
+looked-few p plan zero below = omega arith
+looked-few p plan (suc g) below =
+    let rest = looked-few p plan g (omega (arith, below)) in
+    let next = next-size p plan g below in
     omega (arith, rest, next)
 
 -- looks at more tables are more steps
@@ -63,9 +64,9 @@ looked-most p (suc m) g below = elim (less-or-same g m below) [
 
 -- a read looks at each table once at most, after three loads
 pub get-bound :
-    (never_fall : SizesNeverFall) (p : Plan) → IsPlan p → (g : ℕ) → g ≤ generations_of p → 3 + looked_below p g ≤ get_steps p
-get-bound never_fall p plan g below =
-    let looked = looked-few never_fall p plan g below in
+    (p : Plan) → IsPlan p → (g : ℕ) → g ≤ generations_of p → 3 + looked_below p g ≤ get_steps p
+get-bound p plan g below =
+    let looked = looked-few p plan g below in
     let slots = slots-more p (generations_of p) g below in
     let all = mul-le-mul_right (2 * size_of p (generations_of p - 1) + 10) below in
     fits (looked_below p g) (slots_below p g) (slots_below p (generations_of p)) g (generations_of p) (size_of p (generations_of p - 1)) looked slots all

@@ -24,6 +24,7 @@ use Rattle.nb_map.specs.declared.claim.Below.TheVariants.{Complete, HasKey, Pass
 use Rattle.nb_map.specs.declared.claim.Found.TheVariants.{Above, Full}
 use Rattle.nb_map.specs.declared.search.Place.{Place}
 use Rattle.nb_map.specs.declared.search.Place.TheVariants as place
+use Rattle.nb_core.proofs.Theorems.{complete_passed, linked, whole_crowded}
 
 -- a table below that isn't known to be complete is owed all its steps
 pub owed-all : (p : Plan) (g : ℕ) (below : Below) → below ≢ Complete → owed_below p g below ≡ steps_below p g
@@ -44,14 +45,14 @@ first-ready p t (suc g) low = absurd (omega (arith, low))
 
 -- the table below another was completed
 pub completed-below :
-    StepsAddUp → (call : Call) (chain : ChainOf) → IsPlan chain.shape → (g : ℕ) {before after : SeenBy} → 0 < g → g < generations_of chain.shape
+    (call : Call) (chain : ChainOf) → (g : ℕ) {before after : SeenBy} → 0 < g → g < generations_of chain.shape
     → HasCompleted chain.shape (g - 1) before after
-    → HasMade chain.shape call before after [] (steps_below chain.shape g) × IsReady chain.shape (seen_by after) g
-completed-below law call chain plan zero some table done = absurd (omega (arith, some))
-completed-below law call chain plan (suc g) {before} {after} some table done =
+    → HasMade chain.shape call before after [] (steps_below chain.shape g) × IsReady chain.shape (seen_by chain.shape after) g
+completed-below call chain zero some table done = absurd (omega (arith, some))
+completed-below call chain (suc g) {before} {after} some table done =
     let same : suc g - 1 ≡ g = omega arith in
     let done' = subst (λ f. HasCompleted chain.shape f before after) same done in
-    (made-copied law chain plan call table done'.copied, done'.complete)
+    (made-copied chain call table done'.copied, done'.complete)
 
 -- what is known of the table below is so still
 pub below-lasts :
@@ -96,35 +97,29 @@ empty-behind p t g k from d others empty = elim (before-or-not d from) [
 
 -- a complete table has a next one
 pub complete-next :
-    TablesAreLinked → (chain : ChainOf) (seat : SeenBy) → IsPlan chain.shape → IsOwn chain seat → IsLegal seat.shape seat.seen
-    → (g : ℕ) → g < generations_of chain.shape → IsComplete chain.shape (seen_by seat) g → IsInstalled (seen_by seat) (suc g)
-complete-next linked chain seat plan own legal g table complete =
-    (linked seat.shape (subst IsPlan (sym own.1) plan) seat.seen legal).complete g (subst (λ q. g < generations_of q) (sym own.1) table)
-    (subst (λ q. IsComplete q (seen_by seat) g) (sym own.1) complete)
+    (chain : ChainOf) (seat : SeenBy) → IsOwn chain seat → (g : ℕ) → g < generations_of chain.shape → IsComplete chain.shape (seen_by chain.shape seat) g → IsInstalled (seen_by chain.shape seat) (suc g)
+complete-next chain seat own g table complete =
+    (linked chain.shape own.plan seat.seen own.legal).complete g table
+    complete
 
 -- above a complete table, which has a next one, a call may go on
 pub above-complete :
-    CompletePassed → (chain : ChainOf) (seat : SeenBy) → IsPlan chain.shape → IsOwn chain seat → IsLegal seat.shape seat.seen
-    → (g k : ℕ) → g < generations_of chain.shape → IsComplete chain.shape (seen_by seat) g → IsInstalled (seen_by seat) (suc g)
+    (chain : ChainOf) (seat : SeenBy) → IsOwn chain seat → (g k : ℕ) → g < generations_of chain.shape → IsComplete chain.shape (seen_by chain.shape seat) g → IsInstalled (seen_by chain.shape seat) (suc g)
     → IsFound chain.shape seat g k (Above Complete)
-above-complete passed chain seat plan own legal g k table complete next =
-    let pass : IsPassed chain.shape (seen_by seat) g k = subst (λ q. IsPassed q (seen_by seat) g k) own.1
-    (passed seat.shape (subst IsPlan (sym own.1) plan) seat.seen legal g k (subst (λ q. g < generations_of q) (sym own.1) table)
-    (subst (λ q. IsComplete q (seen_by seat) g) (sym own.1) complete)) in
+above-complete chain seat own g k table complete next =
+    let pass : IsPassed chain.shape (seen_by chain.shape seat) g k = complete_passed chain.shape own.plan seat.seen own.legal g k table
+    complete in
     ((pass, next), complete)
 
 -- where other keys have a key's whole path in the last table, there is no slot for the key
 pub whole-full :
-    WholeCrowded → (chain : ChainOf) (seat : SeenBy) → IsPlan chain.shape → IsOwn chain seat → IsLegal seat.shape seat.seen
-    → (g k : ℕ) → g + 1 ≡ generations_of chain.shape → AreOthers chain.shape (seen_by seat) g k (size_of chain.shape g)
+    (chain : ChainOf) (seat : SeenBy) → IsOwn chain seat → (g k : ℕ) → g + 1 ≡ generations_of chain.shape → AreOthers chain.shape (seen_by chain.shape seat) g k (size_of chain.shape g)
     → IsFound chain.shape seat g k Full
-whole-full crowded chain seat plan own legal g k last others =
+whole-full chain seat own g k last others =
     let q = chain.shape in
     let at : g ≡ generations_of q - 1 = omega (arith, last) in
-    let others' : AreOthers q (tables_at q seat.seen) g k (size_of q g)
-    = subst (λ r. AreOthers q (tables_at r seat.seen) g k (size_of q g)) own.1 others in
-    crowded q plan seat.seen (subst (λ r. IsLegal r seat.seen) own.1 legal) k
-    (subst (λ f. AreOthers q (tables_at q seat.seen) f k (size_of q f)) at others')
+    whole_crowded q own.plan seat.seen own.legal k
+    (subst (λ f. AreOthers q (tables_at q seat.seen) f k (size_of q f)) at others)
 
 -- slots of other keys are so up to any nearer one
 pub others-nearer : (p : Plan) (t : Tables) (g k d e : ℕ) → e ≤ d → AreOthers p t g k d → AreOthers p t g k e
@@ -132,34 +127,34 @@ others-nearer p t g k d e nearer others f near = others f (omega (arith, near, n
 
 -- ---- what was done
 
-module _ (law : StepsAddUp) (chain : ChainOf) (plan : IsPlan chain.shape) where
+module _ (chain : ChainOf) where
   abbrev p : Plan
   p = chain.shape
 
   -- a table was installed, or was there already
   pub made-install :
       (call : Call) (key g : ℕ) {before after : SeenBy} (result : Bool) → key_of_call call ≡ key → leaves_alone call None ≡ false
-      → (IsTrue result → Extended before after (Install before.number g key ∷ []) 1) → (result ≡ false → Extended before after [] 1)
+      → (IsTrue result → Extended p before after (Install before.number g key ∷ []) 1) → (result ≡ false → Extended p before after [] 1)
       → HasMade p call before after [] 1
   made-install call key g {before} {after} true is acts won lost =
-      made-step law p call (won refl) refl
-      (All-cons (MayMake p (seen_by after) call) (Install before.number g key) [] (sym is, acts) (All-nil (MayMake p (seen_by after) call)))
-  made-install call key g false is acts won lost = made-quiet law p call (lost refl)
+      made-step p call (won refl) refl
+      (All-cons (MayMake p (seen_by p after) call) (Install before.number g key) [] (sym is, acts) (All-nil (MayMake p (seen_by p after) call)))
+  made-install call key g false is acts won lost = made-quiet p call (lost refl)
 
   -- a slot was claimed for the call's key
   pub made-claim :
       (call : Call) (key g i : ℕ) {before after : SeenBy} → key_of_call call ≡ key → leaves_alone call None ≡ false → g < generations_of p
-      → Extended before after (Claim before.number g i key ∷ []) 1 → HasMade p call before after [] 1
+      → Extended p before after (Claim before.number g i key ∷ []) 1 → HasMade p call before after [] 1
   made-claim call key g i {before} {after} is acts table won =
-      made-step law p call won refl
-      (All-cons (MayMake p (seen_by after) call) (Claim before.number g i key) [] (table, inr (sym is, acts))
-      (All-nil (MayMake p (seen_by after) call)))
+      made-step p call won refl
+      (All-cons (MayMake p (seen_by p after) call) (Claim before.number g i key) [] (table, inr (sym is, acts))
+      (All-nil (MayMake p (seen_by p after) call)))
 
   -- then a table was completed
   pub made-complete :
       {call : Call} {before then after : SeenBy} {g most : ℕ} → suc g < generations_of p → IsOwn chain before
       → HasMade p call before then [] most → HasCompleted p g then after → HasMade p call before after [] (most + table_steps p g)
-  made-complete {call} next own so_far done = made-more law chain plan own so_far (made-copied law chain plan call next done.copied)
+  made-complete {call} next own so_far done = made-more chain own so_far (made-copied chain call next done.copied)
 
 -- the number behind a slot is small
 pub behind-fits : (p : Plan) → IsPlan p → (g d : ℕ) → g < generations_of p → d < size_of p g → d + 1 ≤ 2 ^ 19
@@ -190,12 +185,12 @@ pub record HasWalked (p : Plan) (call : Call) (before after : SeenBy) (g from : 
 
 -- it begins with no step
 pub walked-none :
-    StepsAddUp → (p : Plan) (call : Call) (seat : SeenBy) → IsLegal seat.shape seat.seen → (g : ℕ) (below : Below)
-    → HasWalked p call seat seat g 0 below
-walked-none law p call seat legal g below = record {
+    (chain : ChainOf) (call : Call) (seat : SeenBy) → IsOwn chain seat → (g : ℕ) (below : Below)
+    → HasWalked chain.shape call seat seat g 0 below
+walked-none chain call seat own g below = record {
   most = 0;
-  made = made-none law p call seat legal;
-  few = start (owed_below p g below) (steps_below p g) (owed-most p g below);
+  made = made-none chain call seat own;
+  few = start (owed_below chain.shape g below) (steps_below chain.shape g) (owed-most chain.shape g below);
 }
   where
     start : (owed steps : ℕ) → owed ≤ steps → 0 + owed ≤ 3 * 0 + steps
@@ -221,7 +216,7 @@ few-on :
     → most + (d + 1 - from) + (owed - owed') + 2 + owed' ≤ 3 * (d + 1) + steps
 few-on most owed owed' from d steps few fewer ahead = omega (arith, few, fewer, ahead)
 
-module _ (law : StepsAddUp) (chain : ChainOf) (plan : IsPlan chain.shape) where
+module _ (chain : ChainOf) where
   abbrev q : Plan
   q = chain.shape
 
@@ -232,7 +227,7 @@ module _ (law : StepsAddUp) (chain : ChainOf) (plan : IsPlan chain.shape) where
       → HasMade q call then after (read_at q g call place) (walk_steps q g from place)
       → HasMade q call before after [] (walked.most + walk_steps q g from place)
   walked-to {call} {before} {then} {after} {g} {from} own acts walked place made =
-      made-more law chain plan own walked.made
+      made-more chain own walked.made
       (subst (λ reads. HasMade q call then after reads (walk_steps q g from place)) (read-never q g call place acts) made)
 
   -- where it ends in this table
@@ -252,7 +247,7 @@ module _ (law : StepsAddUp) (chain : ChainOf) (plan : IsPlan chain.shape) where
   walked-whole {g = g} {from} {below} own within walked made left =
       made-within (walked.most + (size_of q g - from) + grow_steps q g below) (find_steps q g)
       (few-whole walked.most (owed_below q g below) from (size_of q g) (steps_below q g) (table_steps q g) walked.few within)
-      (made-more law chain plan own made left)
+      (made-more chain own made left)
 
   -- where a slot was empty and the table below is settled, and the call ends there
   pub walked-claimed :
@@ -264,7 +259,7 @@ module _ (law : StepsAddUp) (chain : ChainOf) (plan : IsPlan chain.shape) where
       made-within (walked.most + (d + 1 - from) + (owed_below q g below - owed_below q g below') + (2 + grow_steps q g below')) (find_steps q g)
       (few-empty walked.most (owed_below q g below) (owed_below q g below') from d (size_of q g) (steps_below q g) (table_steps q g) walked.few fewer
       within near)
-      (made-more law chain plan own made claimed)
+      (made-more chain own made claimed)
 
   -- or goes on behind the slot
   pub walked-behind :
@@ -274,6 +269,6 @@ module _ (law : StepsAddUp) (chain : ChainOf) (plan : IsPlan chain.shape) where
       → HasMade q call settled after [] 2 → HasWalked q call before after g (d + 1) below'
   walked-behind {g = g} {from} {below} below' d own ahead fewer walked made lost = record {
     most = walked.most + (d + 1 - from) + (owed_below q g below - owed_below q g below') + 2;
-    made = made-more law chain plan own made lost;
+    made = made-more chain own made lost;
     few = few-on walked.most (owed_below q g below) (owed_below q g below') from d (steps_below q g) walked.few fewer ahead;
   }

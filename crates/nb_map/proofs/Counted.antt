@@ -1,5 +1,5 @@
 -- What a seat's calls did to the number of keys.
-use Rattle.std.proofs.Common.{◌≡◌, ◌∙◌, ◌==◌, Bool, true, false, cond, ℕ, List, [], ◌∷◌, ◌++◌, ap, sym, refl, arith}
+use Rattle.std.proofs.Common.{◌≡◌, ◌∙◌, ◌==◌, Bool, true, false, cond, ℕ, List, [], ◌∷◌, ◌++◌, pos, ap, sym, refl, arith}
 use Rattle.std.proofs.Math.IntN.{◌+ℤ◌}
 use Rattle.std.proofs.lemmas.Int.{ints}
 use Rattle.nb_core.specs.History.{seat_of_event}
@@ -12,8 +12,9 @@ use Rattle.nb_core.specs.declared.events.Event.{Event}
 use Rattle.nb_core.specs.declared.events.Event.TheVariants.{Claim, Kill, Won, CopyIn, Prime, Finish, Install, Take, Count, Promote, Read}
 use Rattle.nb_table.specs.Chains.{Extended, SeenBy, own_events}
 use Rattle.nb_table.specs.Laws.{StepsAddUp}
-use Rattle.nb_map.proofs.Made.{calls-append, made-quiet}
+use Rattle.nb_map.proofs.Made.{calls-append, made-own, made-quiet}
 use Rattle.nb_map.specs.Calling.{HasMade}
+use Rattle.nb_map.specs.Maps.{HasCalled, IsMine, MapOf, SeatOf}
 
 -- a seat's calls are those of its own events
 calls-own : (s : ℕ) (es : List Event) → calls_of es s ≡ calls_of (own_events s es) s
@@ -75,6 +76,44 @@ net-made {before = before} {made = made} steps =
 
 -- a step without an event is no call
 pub net-quiet :
-    StepsAddUp → (p : Plan) {before after : SeenBy} → Extended before after [] 1
+    (p : Plan) {before after : SeenBy} → Extended p before after [] 1
     → net_of (calls_of after.seen after.number) ≡ net_of (calls_of before.seen before.number)
-net-quiet law p step = let net = net-made (made-quiet law p (Get 0) step) in omega (arith, ints, net)
+net-quiet p step = let net = net-made (made-quiet p (Get 0) step) in omega (arith, ints, net)
+
+-- ---- the seat stays the map's
+
+-- after steps of a call, where it has counted what it made
+pub kept-mine :
+    {map : MapOf} {call : Call} {before after : SeatOf} {made : List (Call × Reply)} {most : ℕ} → IsMine map before
+    → HasMade map.chain.shape call before.chain after.chain made most → after.count.counter ≡ before.count.counter
+    → after.count.added ≡ before.count.added +ℤ net_of made → IsMine map after
+kept-mine {map} mine steps counter added =
+    let net = net-made steps in
+    let was = mine.counted in
+    record {
+      chain = made-own map.chain mine.chain steps;
+      counter = counter ∙ mine.counter;
+      counted = omega (arith, ints, net, added, was);
+    }
+
+-- after a call, whether it was made or refused
+pub called-mine :
+    {map : MapOf} {call : Call} {before after : SeatOf} {made : List (Call × Reply)} {most : ℕ} → IsMine map before
+    → HasCalled map call before after made most → IsMine map after
+called-mine mine called =
+    kept-mine mine called.steps (ap (λ count. count.counter) called.count) (ap (λ count. count.added) called.count)
+
+-- after steps of a call that counted nothing, and made none that would count
+pub uncounted-mine :
+    {map : MapOf} {call : Call} {before after : SeatOf} {made : List (Call × Reply)} {most : ℕ} → IsMine map before
+    → HasMade map.chain.shape call before.chain after.chain made most → after.count ≡ before.count → net_of made ≡ pos 0
+    → IsMine map after
+uncounted-mine mine steps same none =
+    let added = ap (λ count. count.added) same in
+    kept-mine mine steps (ap (λ count. count.counter) same) (omega (arith, ints, added, none))
+
+-- after a step without an event
+pub quiet-mine :
+    {map : MapOf} {before after : SeatOf} → IsMine map before → Extended map.chain.shape before.chain after.chain [] 1
+    → after.count ≡ before.count → IsMine map after
+quiet-mine {map} mine step same = uncounted-mine mine (made-quiet map.chain.shape (Get 0) step) same refl

@@ -1,13 +1,13 @@
 -- The seats of a map are put together from those of its chain and of its counter, the last first.
 use Rattle.std.proofs.Common.{◌≡◌, ◌∙◌, ℕ, zero, suc, ◌+◌, pos, ap, ap₂, sym, refl, List, [], ◌∷◌, ◌++◌, drop, length, length-append, reverse, arith}
 use Rattle.std.proofs.lemmas.List.{length-reverse, reverse-append}
-use Rattle.nb_core.specs.Meaning.{calls_of, net_of}
-use Rattle.nb_core.specs.Plans.{Plan}
+use Rattle.std.proofs.lemmas.List.Elements.{All-cons, All-nil, All-same}
+use Rattle.nb_core.specs.Plans.{IsPlan, Plan}
 use Rattle.nb_count.specs.Counts.{Counting}
 use Rattle.nb_count.specs.Counts as counts
 use Rattle.nb_table.specs.Chains.{SeenBy}
 use Rattle.nb_table.specs.Chains as chains
-use Rattle.nb_map.specs.Maps.{MapOf, SeatOf, new_seat, seats_of}
+use Rattle.nb_map.specs.Maps.{AreMine, IsMine, MapOf, SeatOf, new_seat, seats_of}
 
 -- ---- a list of values for the numbers from one on
 
@@ -56,14 +56,14 @@ numbered-taken value (suc fewer) xs left x are is =
 
 -- the seats of a map's chain, and those of its counter
 abbrev chain_seat : MapOf → ℕ → SeenBy
-chain_seat map = chains.new_seat map.chain.id map.chain.shape
+chain_seat map = chains.new_seat map.chain.id
 
 abbrev count_seat : MapOf → ℕ → Counting
 count_seat map number = record { counter = map.counter.id; number = number; added = pos 0; steps = 0 }
 
 chains-numbered :
     (map : MapOf) (first count : ℕ)
-    → chains.seats_of map.chain.id map.chain.shape first count ≡ numbered (chain_seat map) first count
+    → chains.seats_of map.chain.id first count ≡ numbered (chain_seat map) first count
 chains-numbered map first zero = refl
 chains-numbered map first (suc count) = ap (λ seats. chain_seat map first ∷ seats) (chains-numbered map (suc first) count)
 
@@ -87,14 +87,13 @@ pub record IsDealing (map : MapOf) (of_chain : List SeenBy) (of_counter : List C
 
 pub dealing-first :
     (map : MapOf) (of_chain : List SeenBy) (of_counter : List Counting) (seats : List SeatOf) (p : Plan) → map.chain.shape ≡ p
-    → of_chain ≡ chains.seats_of map.chain.id p 0 p.seats → of_counter ≡ counts.seats_of map.counter.id 0 p.seats → seats ≡ []
+    → of_chain ≡ chains.seats_of map.chain.id 0 p.seats → of_counter ≡ counts.seats_of map.counter.id 0 p.seats → seats ≡ []
     → IsDealing map of_chain of_counter seats
 dealing-first map of_chain of_counter seats p shape of_chain_are of_counter_are none = record {
   left = p.seats;
   dealt = 0;
   all = omega (arith, ap (λ q. q.seats) shape);
-  chains =
-      of_chain_are ∙ ap (λ q. chains.seats_of map.chain.id q 0 p.seats) (sym shape) ∙ chains-numbered map 0 p.seats;
+  chains = of_chain_are ∙ chains-numbered map 0 p.seats;
   counts = of_counter_are ∙ counts-numbered map 0 p.seats;
   so_far = ap reverse none;
 }
@@ -135,16 +134,6 @@ dealing-as_many {map} {of_chain} {of_counter} {seats} d =
     let dealt = sym (length-reverse seats) ∙ ap length d.so_far ∙ length-seats map d.left d.dealt in
     (omega (arith, chains, counts), omega (arith, chains, dealt, d.all))
 
--- a seat that is dealt has counted nothing, and has made no calls
-pub dealing-counted :
-    (map : MapOf) (of_chain chain_left : List SeenBy) (of_counter counter_left : List Counting) (seats : List SeatOf)
-    (chain : SeenBy) (count : Counting) → IsDealing map of_chain of_counter seats → of_chain ≡ chain_left ++ chain ∷ []
-    → of_counter ≡ counter_left ++ count ∷ [] → count.added ≡ net_of (calls_of chain.seen chain.number)
-dealing-counted map of_chain chain_left of_counter counter_left seats chain count d chain_is count_is =
-    let of_chain_last = numbered-taken (chain_seat map) d.left of_chain chain_left chain d.chains chain_is in
-    let of_counter_last = numbered-taken (count_seat map) d.left of_counter counter_left count d.counts count_is in
-    ap (λ k. k.added) of_counter_last.3 ∙ sym (ap (λ c. net_of (calls_of c.seen c.number)) of_chain_last.3)
-
 -- where none is left, all are dealt
 pub dealing-done :
     {map : MapOf} {of_chain : List SeenBy} {of_counter : List Counting} {seats : List SeatOf}
@@ -157,3 +146,17 @@ dealing-done {map} {of_chain} {of_counter} {seats} d none =
       d.counts ∙ ap (numbered (count_seat map) 0) zero_left,
       d.so_far ∙ ap₂ (seats_of map) zero_left all,
     )
+
+-- ---- new seats are the map's
+
+new-mine : (map : MapOf) → IsPlan map.chain.shape → (first count : ℕ) → AreMine map (seats_of map first count)
+new-mine map plan first zero = All-nil (IsMine map)
+new-mine map plan first (suc count) =
+    All-cons (IsMine map) (new_seat map first) (seats_of map (suc first) count)
+    (record { chain = record { at = refl; plan = plan; legal = tt }; counter = refl; counted = refl })
+    (new-mine map plan (suc first) count)
+
+pub dealt-mine :
+    (map : MapOf) → IsPlan map.chain.shape → (seats : List SeatOf) (count : ℕ) → seats ≡ seats_of map 0 count → AreMine map seats
+dealt-mine map plan seats count are =
+    All-same (IsMine map) seats (seats_of map 0 count) are (new-mine map plan 0 count)

@@ -27,6 +27,8 @@ use Rattle.nb_map.proofs.Made.{made-more, made-read, made-stays, made-step, read
 use Rattle.nb_map.proofs.Searched.{reached-lasts}
 use Rattle.nb_map.specs.Calling.{HasMade, MayMake, replied}
 use Rattle.nb_map.specs.Writing.{passed_since}
+use Rattle.nb_core.proofs.Theorems.{decided, lost_exchange, passed_over_adds, passed_settled}
+use Rattle.nb_table.proofs.Theorems.{steps_add_up}
 
 -- ---- what a value shows
 
@@ -114,27 +116,27 @@ enough-here lost tries pass below = omega (arith, below)
 -- ---- the exchanges that others won
 
 pub passed-at :
-    PassedOverAdds → (start mid after later later' : List Event) → mid ≡ later ++ start → after ≡ later' ++ mid → (k s : ℕ)
+    (start mid after later later' : List Event) → mid ≡ later ++ start → after ≡ later' ++ mid → (k s : ℕ)
     → passed_over after (length start) k s ≡ passed_over after (length mid) k s + passed_over mid (length start) k s
-passed-at adds start mid after later later' is is' k s =
+passed-at start mid after later later' is is' k s =
     subst₂ (λ m a. passed_over a (length start) k s ≡ passed_over a (length m) k s + passed_over m (length start) k s) (sym is)
-    (sym (is' ∙ ap (λ h. later' ++ h) is)) (adds later' later start k s)
+    (sym (is' ∙ ap (λ h. later' ++ h) is)) (passed_over_adds later' later start k s)
 
 -- as many as won, have won later
 pub passed-still :
-    PassedOverAdds → (call : Call) {start mid after : SeenBy} {own own' : List Event} {count count' : ℕ} (n : ℕ)
-    → Grown start mid own count → Grown mid after own' count' → n ≤ passed_since call start mid → n ≤ passed_since call start after
-passed-still adds call {start} {mid} {after} n a b below =
-    let sum = passed-at adds start.seen mid.seen after.seen a.later b.later a.seen b.seen (key_of_call call) start.number in
+    (call : Call) {p : Plan} {start mid after : SeenBy} {own own' : List Event} {count count' : ℕ} (n : ℕ)
+    → Grown p start mid own count → Grown p mid after own' count' → n ≤ passed_since call start mid → n ≤ passed_since call start after
+passed-still call {p} {start} {mid} {after} n a b below =
+    let sum = passed-at start.seen mid.seen after.seen a.later b.later a.seen b.seen (key_of_call call) start.number in
     omega (arith, sum, below)
 
 -- and one more, if one has won since
 passed-more :
-    PassedOverAdds → (call : Call) {start mid after : SeenBy} {own own' : List Event} {count count' : ℕ} (n : ℕ)
-    → Grown start mid own count → Grown mid after own' count' → 1 ≤ passed_over after.seen (length mid.seen) (key_of_call call) start.number
+    (call : Call) {p : Plan} {start mid after : SeenBy} {own own' : List Event} {count count' : ℕ} (n : ℕ)
+    → Grown p start mid own count → Grown p mid after own' count' → 1 ≤ passed_over after.seen (length mid.seen) (key_of_call call) start.number
     → n ≤ passed_since call start mid → n + 1 ≤ passed_since call start after
-passed-more adds call {start} {mid} {after} n a b one below =
-    let sum = passed-at adds start.seen mid.seen after.seen a.later b.later a.seen b.seen (key_of_call call) start.number in
+passed-more call {p} {start} {mid} {after} n a b one below =
+    let sum = passed-at start.seen mid.seen after.seen a.later b.later a.seen b.seen (key_of_call call) start.number in
     omega (arith, sum, below, one)
 
 -- events of others are no calls of the seat
@@ -150,96 +152,91 @@ calls-others s (e ∷ es) others =
 
 -- another seat won an exchange between a load and an exchange that found another value
 lost-at :
-    LostExchange → (p q r : Plan) → IsPlan p → (later h after : List Event) → q ≡ p → r ≡ p → after ≡ later ++ h → (g i k s : ℕ)
-    → IsSlot p g i → calls_of later s ≡ [] → IsLegal r after → (tables_at q h).key g i ≡ Claimed k → IsSettledBelow p (tables_at q h) g k
-    → IsUnprimed ((tables_at r after).value g i) → (tables_at r after).value g i ≢ (tables_at q h).value g i
+    (p : Plan) → IsPlan p → (later h after : List Event) → after ≡ later ++ h → (g i k s : ℕ) → IsSlot p g i
+    → calls_of later s ≡ [] → IsLegal p after → (tables_at p h).key g i ≡ Claimed k → IsSettledBelow p (tables_at p h) g k
+    → IsUnprimed ((tables_at p after).value g i) → (tables_at p after).value g i ≢ (tables_at p h).value g i
     → 1 ≤ passed_over after (length h) k s
-lost-at law p q r plan later h after q_is r_is after_is g i k s slot none =
-    subst₂ (λ q r. IsLost q r after) (sym q_is) (sym r_is)
-    (subst (λ a. IsLost p p a) (sym after_is)
-    (λ legal claimed settled unprimed differs. law p plan later h legal g i k s slot claimed settled unprimed differs none))
+lost-at p plan later h after is g i k s slot none =
+    subst IsLost (sym is)
+    (λ legal claimed settled unprimed differs. lost_exchange p plan later h legal g i k s slot claimed settled unprimed differs none)
   where
-    IsLost : Plan → Plan → List Event → Type 0
-    IsLost q r a =
-        IsLegal r a → (tables_at q h).key g i ≡ Claimed k → IsSettledBelow p (tables_at q h) g k → IsUnprimed ((tables_at r a).value g i)
-        → (tables_at r a).value g i ≢ (tables_at q h).value g i → 1 ≤ passed_over a (length h) k s
+    IsLost : List Event → Type 0
+    IsLost a =
+        IsLegal p a → (tables_at p h).key g i ≡ Claimed k → IsSettledBelow p (tables_at p h) g k → IsUnprimed ((tables_at p a).value g i)
+        → (tables_at p a).value g i ≢ (tables_at p h).value g i → 1 ≤ passed_over a (length h) k s
 
 -- ---- a key that was searched for
 
 -- a key that is passed in the tables below has no unfinished slot there
 pub reached-settled :
-    PassedSettled → (chain : ChainOf) (seat : SeenBy) → IsPlan chain.shape → IsOwn chain seat → IsLegal seat.shape seat.seen → (g k : ℕ)
-    → g < generations_of chain.shape → IsReached chain.shape (seen_by seat) g k → IsSettledBelow chain.shape (seen_by seat) g k
-reached-settled law chain seat plan own legal zero k table reached = tt
-reached-settled law chain seat plan own legal (suc g) k table reached =
-    subst (λ p. IsSettledBelow p (seen_by seat) (suc g) k) own.1
-    (law seat.shape (subst IsPlan (sym own.1) plan) seat.seen legal g k
-    (subst (λ p. g < generations_of p) (sym own.1) (omega (arith, table)))
-    (subst (λ p. IsPassed p (seen_by seat) g k) (sym own.1) (reached.below g (omega arith))))
+    (chain : ChainOf) (seat : SeenBy) → IsOwn chain seat → (g k : ℕ)
+    → g < generations_of chain.shape → IsReached chain.shape (seen_by chain.shape seat) g k → IsSettledBelow chain.shape (seen_by chain.shape seat) g k
+reached-settled chain seat own zero k table reached = tt
+reached-settled chain seat own (suc g) k table reached =
+    passed_settled chain.shape own.plan seat.seen own.legal g k
+    (omega (arith, table))
+    (reached.below g (omega arith))
 
 -- and what its slot here shows is what the map has
 pub shown-decided :
-    Decided → (chain : ChainOf) (seat : SeenBy) → IsPlan chain.shape → IsOwn chain seat → IsLegal seat.shape seat.seen → (g i k : ℕ)
-    → IsSlot chain.shape g i → IsReached chain.shape (seen_by seat) g k → (seen_by seat).key g i ≡ Claimed k
-    → (v : ValueState) (number : Option ℕ) → (seen_by seat).value g i ≡ v → shown_by_value v ≡ Some number
+    (chain : ChainOf) (seat : SeenBy) → IsOwn chain seat → (g i k : ℕ)
+    → IsSlot chain.shape g i → IsReached chain.shape (seen_by chain.shape seat) g k → (seen_by chain.shape seat).key g i ≡ Claimed k
+    → (v : ValueState) (number : Option ℕ) → (seen_by chain.shape seat).value g i ≡ v → shown_by_value v ≡ Some number
     → map.get (map_of seat.seen) k ≡ number
-shown-decided law chain seat plan own legal g i k slot reached claimed v number held shows =
+shown-decided chain seat own g i k slot reached claimed v number held shows =
     let value = shown-some v number shows in
-    let slot' = subst (λ p. IsSlot p g i) (sym own.1) slot in
-    law seat.shape (subst IsPlan (sym own.1) plan) seat.seen legal g k slot'.0 reached.installed
-    (λ f below. subst (λ p. IsPassed p (seen_by seat) f k) (sym own.1) (reached.below f below)) number
-    (Shows.AtValue i slot'.1 claimed (subst IsUnprimed (sym held) value.0) (sym value.1 ∙ ap number_in_value (sym held)))
+    decided chain.shape own.plan seat.seen own.legal g k slot.0 reached.installed reached.below number
+    (Shows.AtValue i slot.1 claimed (subst IsUnprimed (sym held) value.0) (sym value.1 ∙ ap number_in_value (sym held)))
 
-module _ (law : StepsAddUp) (chain : ChainOf) (plan : IsPlan chain.shape) where
+module _ (chain : ChainOf) where
   abbrev p : Plan
   p = chain.shape
 
   -- the key has the slot still, and is passed below still
-  pub stands :
+  pub still-stands :
       {call : Call} {start after : SeenBy} {made : List (Call × Reply)} {most : ℕ} → IsOwn chain start → HasMade p call start after made most
-      → (g i key : ℕ) → key_of_call call ≡ key → IsSlot p g i → (seen_by start).key g i ≡ Claimed key → IsReached p (seen_by start) g key
-      → ((seen_by after).key g i ≡ Claimed (key_of_call call)) × IsReached p (seen_by after) g (key_of_call call)
-  stands {call} {start} {after} own steps g i key is slot claimed reached =
-      let lasting = made-stays law chain plan own steps in (
+      → (g i key : ℕ) → key_of_call call ≡ key → IsSlot p g i → (seen_by p start).key g i ≡ Claimed key → IsReached p (seen_by p start) g key
+      → ((seen_by p after).key g i ≡ Claimed (key_of_call call)) × IsReached p (seen_by p after) g (key_of_call call)
+  still-stands {call} {start} {after} own steps g i key is slot claimed reached =
+      let lasting = made-stays chain own steps in (
         lasting.claimed g i key slot claimed ∙ ap Claimed (sym is),
-        subst (λ k. IsReached p (seen_by after) g k) (sym is)
-            (reached-lasts p (seen_by start) (seen_by after) lasting g key slot.0 reached),
+        subst (λ k. IsReached p (seen_by p after) g k) (sym is)
+            (reached-lasts p (seen_by p start) (seen_by p after) lasting g key slot.0 reached),
       )
 
   -- a load of the value
   pub looked :
       {call : Call} {start before after : SeenBy} {most : ℕ} (v : ValueState) → IsOwn chain start → HasMade p call start before [] most
-      → Extended before after (read before.number call (shown_by_value v)) 1
+      → Extended p before after (read before.number call (shown_by_value v)) 1
       → HasMade p call start after (read_shown call (shown_by_value v)) (most + 1)
   looked {call} {start} {before} {after} {most} v own so_far load =
       subst (λ made. HasMade p call start after made (most + 1)) (append-nil (read_shown call (shown_by_value v)))
-      (made-more law chain plan own so_far (made-read law p call (shown_by_value v) load))
+      (made-more chain own so_far (made-read p call (shown_by_value v) load))
 
   -- an exchange that was won
   pub made-won :
       {call : Call} {before after : SeenBy} {g i : ℕ} {from to : ValueState} (number : Option ℕ) → number_in_value from ≡ number
-      → Extended before after (Won before.number g i from to call (record { before = number_in_value from; matched = true }) ∷ []) 1
+      → Extended p before after (Won before.number g i from to call (record { before = number_in_value from; matched = true }) ∷ []) 1
       → HasMade p call before after ((call, record { before = number; matched = true }) ∷ []) 1
   made-won {call} {before} {after} {g} {i} {from} {to} number is step =
       let reply : Reply = record { before = number_in_value from; matched = true } in
-      made-step law p call step
+      made-step p call step
       (ap (λ b. cond b ((call, reply) ∷ []) []) (eq-eqb before.number before.number refl)
       ∙ ap (λ n. (call, record { before = n; matched = true }) ∷ []) is)
-      (All-cons (MayMake p (seen_by after) call) (Won before.number g i from to call reply) [] tt (All-nil (MayMake p (seen_by after) call)))
+      (All-cons (MayMake p (seen_by p after) call) (Won before.number g i from to call reply) [] tt (All-nil (MayMake p (seen_by p after) call)))
 
   -- one that was lost to another unprimed value, after others that were lost
   pub lost-more :
-      LostExchange → PassedOverAdds → {call : Call} {start loaded after : SeenBy} {made : List (Call × Reply)} {most : ℕ} (lost g i : ℕ)
-      (v : ValueState) → IsOwn chain start → HasMade p call start loaded made most → Extended loaded after [] 1 → IsSlot p g i
-      → (seen_by loaded).key g i ≡ Claimed (key_of_call call) → IsSettledBelow p (seen_by loaded) g (key_of_call call)
-      → (seen_by after).value g i ≡ v → IsUnprimed v → v ≢ (seen_by loaded).value g i
+      {call : Call} {start loaded after : SeenBy} {made : List (Call × Reply)} {most : ℕ} (lost g i : ℕ)
+      (v : ValueState) → IsOwn chain start → HasMade p call start loaded made most → Extended p loaded after [] 1 → IsSlot p g i
+      → (seen_by p loaded).key g i ≡ Claimed (key_of_call call) → IsSettledBelow p (seen_by p loaded) g (key_of_call call)
+      → (seen_by p after).value g i ≡ v → IsUnprimed v → v ≢ (seen_by p loaded).value g i
       → lost ≤ passed_since call start loaded → lost + 1 ≤ passed_since call start after
-  lost-more lost_exchange adds {call} {start} {loaded} {after} lost g i v own steps step slot claimed settled held unprimed differs below =
-      let own' = law.own own steps.grown in
+  lost-more {call} {start} {loaded} {after} lost g i v own steps step slot claimed settled held unprimed differs below =
       let number = steps.grown.number in
       let none = subst (λ s. calls_of step.others s ≡ []) number (calls-others loaded.number step.others step.not_own) in
-      passed-more adds call lost steps.grown (law.one step)
-      (lost-at lost_exchange p loaded.shape after.shape plan step.others loaded.seen after.seen own'.1 (step.shape ∙ own'.1) step.seen g i
+      passed-more call lost steps.grown (steps_add_up.one step)
+      (lost-at p own.plan step.others loaded.seen after.seen step.seen g i
       (key_of_call call) start.number slot none step.legal claimed settled (subst IsUnprimed (sym held) unprimed)
       (λ same. differs (sym held ∙ same)))
       below

@@ -18,6 +18,7 @@ use Rattle.nb_table.specs.Events.{only, read}
 use Rattle.nb_table.specs.Laws.{StepsAddUp}
 use Rattle.nb_copy.specs.Copying.{HasCopied, IsCopying}
 use Rattle.nb_map.specs.Calling.{HasMade, MayMake, read_of}
+use Rattle.nb_table.proofs.Theorems.{steps_add_up}
 
 -- ---- calls of lists of events
 
@@ -105,38 +106,38 @@ abbrev pub read_shown : Call → Option (Option ℕ) → List (Call × Reply)
 read_shown call None = []
 read_shown call (Some number) = read_of call number
 
-module _ (law : StepsAddUp) (p : Plan) (call : Call) where
-  -- no step
-  pub made-none : (seat : SeenBy) → IsLegal seat.shape seat.seen → HasMade p call seat seat [] 0
-  made-none seat legal = record {
-    own = [];
-    count = 0;
-    grown = law.none legal;
-    calls = refl;
-    may = All-nil (MayMake p (seen_by seat) call);
-    few = omega arith;
-  }
+-- no step
+pub made-none : (chain : ChainOf) (call : Call) (seat : SeenBy) → IsOwn chain seat → HasMade chain.shape call seat seat [] 0
+made-none chain call seat own = record {
+  own = [];
+  count = 0;
+  grown = steps_add_up.none own;
+  calls = refl;
+  may = All-nil (MayMake chain.shape (seen_by chain.shape seat) call);
+  few = omega arith;
+}
 
+module _ (p : Plan) (call : Call) where
   -- a step with these events
   pub made-step :
-      {before after : SeenBy} {own : List Event} {made : List (Call × Reply)} → Extended before after own 1 → calls_of own before.number ≡ made
-      → All (MayMake p (seen_by after) call) own → HasMade p call before after made 1
+      {before after : SeenBy} {own : List Event} {made : List (Call × Reply)} → Extended p before after own 1 → calls_of own before.number ≡ made
+      → All (MayMake p (seen_by p after) call) own → HasMade p call before after made 1
   made-step {own = own} step calls may = record {
     own = own;
     count = 1;
-    grown = law.one step;
+    grown = steps_add_up.one step;
     calls = calls;
     may = may;
     few = omega arith;
   }
 
   -- a step without an event
-  pub made-quiet : {before after : SeenBy} → Extended before after [] 1 → HasMade p call before after [] 1
-  made-quiet {before} {after} step = made-step step refl (All-nil (MayMake p (seen_by after) call))
+  pub made-quiet : {before after : SeenBy} → Extended p before after [] 1 → HasMade p call before after [] 1
+  made-quiet {before} {after} step = made-step step refl (All-nil (MayMake p (seen_by p after) call))
 
   -- a load that is told the call
   pub made-read :
-      {before after : SeenBy} (shown : Option (Option ℕ)) → Extended before after (read before.number call shown) 1
+      {before after : SeenBy} (shown : Option (Option ℕ)) → Extended p before after (read before.number call shown) 1
       → HasMade p call before after (read_shown call shown) 1
   made-read None step = made-quiet step
   made-read {before} {after} (Some number) step = made-step step (one (leaves_alone call number)) (may (leaves_alone call number))
@@ -149,9 +150,9 @@ module _ (law : StepsAddUp) (p : Plan) (call : Call) where
       one true = ap (λ x. cond x ((call, reply_at call number) ∷ []) []) same
       one false = refl
 
-      may : (b : Bool) → All (MayMake p (seen_by after) call) (only b (Read before.number call (reply_at call number)))
-      may true = All-cons (MayMake p (seen_by after) call) (Read before.number call (reply_at call number)) [] tt (All-nil (MayMake p (seen_by after) call))
-      may false = All-nil (MayMake p (seen_by after) call)
+      may : (b : Bool) → All (MayMake p (seen_by p after) call) (only b (Read before.number call (reply_at call number)))
+      may true = All-cons (MayMake p (seen_by p after) call) (Read before.number call (reply_at call number)) [] tt (All-nil (MayMake p (seen_by p after) call))
+      may false = All-nil (MayMake p (seen_by p after) call)
 
 -- ---- more steps
 
@@ -168,21 +169,21 @@ made-within most most' below steps = record {
   few = omega (arith, steps.few, below);
 }
 
-module _ (law : StepsAddUp) (chain : ChainOf) (plan : IsPlan chain.shape) where
+module _ (chain : ChainOf) where
   abbrev p : Plan
   p = chain.shape
 
   -- what the seat has seen is so still
   pub made-stays :
       {call : Call} {before after : SeenBy} {made : List (Call × Reply)} {most : ℕ} → IsOwn chain before → HasMade p call before after made most
-      → Lasts p (seen_by before) (seen_by after)
-  made-stays own steps = law.stays plan own steps.grown
+      → Lasts p (seen_by p before) (seen_by p after)
+  made-stays own steps = steps_add_up.stays own steps.grown
 
   -- and it is the chain's
   pub made-own :
       {call : Call} {before after : SeenBy} {made : List (Call × Reply)} {most : ℕ} → IsOwn chain before → HasMade p call before after made most
       → IsOwn chain after
-  made-own own steps = law.own own steps.grown
+  made-own own steps = steps_add_up.own own steps.grown
 
   -- some steps after others
   pub made-more :
@@ -190,18 +191,18 @@ module _ (law : StepsAddUp) (chain : ChainOf) (plan : IsPlan chain.shape) where
       → HasMade p call before then made most → HasMade p call then after made' most'
       → HasMade p call before after (made' ++ made) (most + most')
   made-more {call} {before} {then} {after} {made} {made'} own a b =
-      let lasting = law.stays plan (law.own own a.grown) b.grown in
+      let lasting = steps_add_up.stays (steps_add_up.own own a.grown) b.grown in
       record {
         own = b.own ++ a.own;
         count = a.count + b.count;
-        grown = law.more a.grown b.grown;
+        grown = steps_add_up.more a.grown b.grown;
         calls =
             calls-append b.own a.own before.number
             ∙ ap (λ n. calls_of b.own n ++ calls_of a.own before.number) (sym a.grown.number)
             ∙ ap (λ calls. calls ++ calls_of a.own before.number) b.calls
             ∙ ap (λ calls. made' ++ calls) a.calls;
-        may = All-append (MayMake p (seen_by after) call) b.own a.own b.may
-            (All-weaker (MayMake p (seen_by then) call) (MayMake p (seen_by after) call) (may-lasts p (seen_by then) (seen_by after) call lasting)
+        may = All-append (MayMake p (seen_by p after) call) b.own a.own b.may
+            (All-weaker (MayMake p (seen_by p then) call) (MayMake p (seen_by p after) call) (may-lasts p (seen_by p then) (seen_by p after) call lasting)
             a.own a.may);
         few = omega (arith, a.few, b.few);
       }
@@ -214,7 +215,7 @@ module _ (law : StepsAddUp) (chain : ChainOf) (plan : IsPlan chain.shape) where
     own = copied.own;
     count = copied.count;
     grown = copied.grown;
-    calls = calls-copying p (seen_by after) g before.number copied.own copied.copying;
-    may = All-weaker (IsCopying p (seen_by after) g) (MayMake p (seen_by after) call) (copying-may p (seen_by after) g call next) copied.own copied.copying;
+    calls = calls-copying p (seen_by p after) g before.number copied.own copied.copying;
+    may = All-weaker (IsCopying p (seen_by p after) g) (MayMake p (seen_by p after) call) (copying-may p (seen_by p after) g call next) copied.own copied.copying;
     few = copied.few;
   }

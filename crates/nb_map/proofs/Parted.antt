@@ -1,27 +1,25 @@
 -- Seats are parted, one after another.
 use Rattle.std.proofs.Common.{◌≡◌, ◌∙◌, ◌<◌, List, [], ◌∷◌, ◌++◌, length, length-append, map, All, ap, sym, subst, arith}
 use Rattle.std.proofs.lemmas.List.{append_assoc, length-map}
-use Rattle.std.proofs.lemmas.List.Elements.{All-cons, All-map, All-same}
-use Rattle.nb_core.specs.Meaning.{calls_of, net_of}
+use Rattle.std.proofs.lemmas.List.Elements.{All-map, All-same}
 use Rattle.nb_count.specs.Counts.{Counting}
-use Rattle.nb_table.specs.Chains.{SeenBy}
+use Rattle.nb_table.specs.Chains.{IsOwn, SeenBy}
 use Rattle.nb_map.specs.Ending.{IsParted}
 use Rattle.nb_count.specs.Counts as counted
-use Rattle.nb_table.specs.Gathered as chained
-use Rattle.nb_map.specs.Maps.{AreMine, HasCounted, MapOf, SeatOf}
+use Rattle.nb_table.specs.Chains as chained
+use Rattle.nb_map.specs.Maps.{AreMine, MapOf, SeatOf}
 
 -- the seats are parted but for those that are left
 pub record IsParting (seats left : List SeatOf) (chains : List SeenBy) (counts : List Counting) : Type 0 where
   pub of_chain : map (λ seat. seat.chain) seats ≡ chains ++ map (λ seat. seat.chain) left
   pub of_counter : map (λ seat. seat.count) seats ≡ counts ++ map (λ seat. seat.count) left
-  pub counted : All HasCounted left → All HasCounted seats
 
 -- one more is parted
 pub parting-more :
     (seats left left' : List SeatOf) (s : SeatOf) (chain : SeenBy) (count : Counting) (chains : List SeenBy) (counts : List Counting)
     → IsParting seats left' chains counts → left' ≡ s ∷ left → s ≡ record { chain = chain; count = count }
-    → count.added ≡ net_of (calls_of chain.seen chain.number) → IsParting seats left (chains ++ chain ∷ []) (counts ++ count ∷ [])
-parting-more seats left left' s chain count chains counts parting is parts counted = record {
+    → IsParting seats left (chains ++ chain ∷ []) (counts ++ count ∷ [])
+parting-more seats left left' s chain count chains counts parting is parts = record {
   of_chain =
       parting.of_chain ∙ ap (λ xs. chains ++ map (λ seat. seat.chain) xs) is
       ∙ ap (λ x. chains ++ x.chain ∷ map (λ seat. seat.chain) left) parts
@@ -30,8 +28,6 @@ parting-more seats left left' s chain count chains counts parting is parts count
       parting.of_counter ∙ ap (λ xs. counts ++ map (λ seat. seat.count) xs) is
       ∙ ap (λ x. counts ++ x.count ∷ map (λ seat. seat.count) left) parts
       ∙ sym (append_assoc counts (count ∷ []) (map (λ seat. seat.count) left));
-  counted =
-      λ rest. parting.counted (All-same HasCounted left' (s ∷ left) is (All-cons HasCounted s left (subst HasCounted (sym parts) counted) rest));
 }
 
 -- while a seat is left, fewer are parted than there are
@@ -61,14 +57,14 @@ some-left seats left left' s chains counts parting is = (
 
 pub own-chains :
     (m : MapOf) (seats : List SeatOf) (chains : List SeenBy) (counts : List Counting) → IsParted seats chains counts → AreMine m seats
-    → chained.AreOwn m.chain.id chains
+    → chained.AreOwn m.chain chains
 own-chains m seats chains counts parted mine =
-    All-same (λ seat. seat.chain ≡ m.chain.id) chains (map (λ seat. seat.chain) seats) parted.of_chain
-    (All-map (λ seat. seat.chain ≡ m.chain.id) (λ seat. seat.chain) seats (λ k d within. (mine k d within).0.0))
+    All-same (IsOwn m.chain) chains (map (λ seat. seat.chain) seats) parted.of_chain
+    (All-map (IsOwn m.chain) (λ seat. seat.chain) seats (λ k d within. (mine k d within).chain))
 
 pub own-counts :
     (m : MapOf) (seats : List SeatOf) (chains : List SeenBy) (counts : List Counting) → IsParted seats chains counts → AreMine m seats
     → counted.AreOwn m.counter.id counts
 own-counts m seats chains counts parted mine =
     All-same (λ seat. seat.counter ≡ m.counter.id) counts (map (λ seat. seat.count) seats) parted.of_counter
-    (All-map (λ seat. seat.counter ≡ m.counter.id) (λ seat. seat.count) seats (λ k d within. (mine k d within).1))
+    (All-map (λ seat. seat.counter ≡ m.counter.id) (λ seat. seat.count) seats (λ k d within. (mine k d within).counter))

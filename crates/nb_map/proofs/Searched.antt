@@ -23,28 +23,26 @@ use Rattle.nb_map.proofs.Made.{made-more, made-read, made-within, read_shown}
 use Rattle.nb_map.specs.Calling.{HasMade, read_of, replied}
 use Rattle.nb_map.specs.Looking.{IsAtHome, IsAway}
 use Rattle.nb_map.specs.Searching.{IsAbove}
+use Rattle.nb_core.proofs.Theorems.{complete_passed, linked, paths_are_distinct, top_complete}
 
 -- a table that is there is one of the plan's
 pub table-within :
-    TablesAreLinked → (chain : ChainOf) (seat : SeenBy) → IsPlan chain.shape → IsOwn chain seat → IsLegal seat.shape seat.seen
-    → (g : ℕ) → IsInstalled (seen_by seat) g → g < generations_of chain.shape
-table-within linked chain seat plan own legal g installed =
-    subst (λ p. g < generations_of p) own.1 ((linked seat.shape (subst IsPlan (sym own.1) plan) seat.seen legal).within g installed)
+    (chain : ChainOf) (seat : SeenBy) → IsOwn chain seat → (g : ℕ) → IsInstalled (seen_by chain.shape seat) g → g < generations_of chain.shape
+table-within chain seat own g installed =
+    (linked chain.shape own.plan seat.seen own.legal).within g installed
 
 -- a table with a closed slot has a next one
 pub dead-next :
-    TablesAreLinked → (chain : ChainOf) (seat : SeenBy) → IsPlan chain.shape → IsOwn chain seat → IsLegal seat.shape seat.seen
-    → (g i : ℕ) → IsSlot chain.shape g i → (seen_by seat).key g i ≡ Dead → IsInstalled (seen_by seat) (suc g)
-dead-next linked chain seat plan own legal g i slot dead =
-    (linked seat.shape (subst IsPlan (sym own.1) plan) seat.seen legal).dead g i (subst (λ p. IsSlot p g i) (sym own.1) slot) dead
+    (chain : ChainOf) (seat : SeenBy) → IsOwn chain seat → (g i : ℕ) → IsSlot chain.shape g i → (seen_by chain.shape seat).key g i ≡ Dead → IsInstalled (seen_by chain.shape seat) (suc g)
+dead-next chain seat own g i slot dead =
+    (linked chain.shape own.plan seat.seen own.legal).dead g i slot dead
 
 -- a table with a primed value has a next one
 pub primed-next :
-    TablesAreLinked → (chain : ChainOf) (seat : SeenBy) → IsPlan chain.shape → IsOwn chain seat → IsLegal seat.shape seat.seen
-    → (g i : ℕ) → IsSlot chain.shape g i → (value : ValueState) → (seen_by seat).value g i ≡ value → (IsUnprimed value → ⊥)
-    → IsInstalled (seen_by seat) (suc g)
-primed-next linked chain seat plan own legal g i slot value is primed =
-    elim ((linked seat.shape (subst IsPlan (sym own.1) plan) seat.seen legal).primed g i (subst (λ p. IsSlot p g i) (sym own.1) slot)) [
+    (chain : ChainOf) (seat : SeenBy) → IsOwn chain seat → (g i : ℕ) → IsSlot chain.shape g i → (value : ValueState) → (seen_by chain.shape seat).value g i ≡ value → (IsUnprimed value → ⊥)
+    → IsInstalled (seen_by chain.shape seat) (suc g)
+primed-next chain seat own g i slot value is primed =
+    elim ((linked chain.shape own.plan seat.seen own.legal).primed g i slot) [
       | inl unprimed ↦ absurd (primed (subst IsUnprimed is unprimed))
       | inr next ↦ next
     ]
@@ -87,32 +85,30 @@ reached-lasts p t u lasting g k table reached = record {
 
 -- a search may begin at the top
 pub reached-top :
-    TablesAreLinked → TopComplete → CompletePassed → (chain : ChainOf) (seat : SeenBy) → IsPlan chain.shape → IsOwn chain seat
-    → IsLegal seat.shape seat.seen → (k top : ℕ) → (seen_by seat).top ≡ top → IsReached chain.shape (seen_by seat) top k
-reached-top linked top_complete complete_passed chain seat plan own legal k top is =
-    let plan' = subst IsPlan (sym own.1) plan in
-    subst₂ (λ p g. IsReached p (seen_by seat) g k) own.1 is (record {
-      installed = (linked seat.shape plan' seat.seen legal).top;
+    (chain : ChainOf) (seat : SeenBy) → IsOwn chain seat
+    → (k top : ℕ) → (seen_by chain.shape seat).top ≡ top → IsReached chain.shape (seen_by chain.shape seat) top k
+reached-top chain seat own k top is =
+    subst (λ g. IsReached chain.shape (seen_by chain.shape seat) g k) is (record {
+      installed = (linked chain.shape own.plan seat.seen own.legal).top;
       below = λ f low.
-          let complete = top_complete seat.shape plan' seat.seen legal f low in
-          complete_passed seat.shape plan' seat.seen legal f k complete.0 complete.1;
+          let complete = top_complete chain.shape own.plan seat.seen own.legal f low in
+          complete_passed chain.shape own.plan seat.seen own.legal f k complete.0 complete.1;
     })
 
 -- all tables below the top are complete
 pub complete-below :
-    TopComplete → (chain : ChainOf) (seat : SeenBy) → IsPlan chain.shape → IsOwn chain seat → IsLegal seat.shape seat.seen → (top : ℕ)
-    → (seen_by seat).top ≡ top → (g : ℕ) → g < top → IsComplete chain.shape (seen_by seat) g
-complete-below top_complete chain seat plan own legal top is g below =
-    subst (λ p. IsComplete p (seen_by seat) g) own.1
-    (top_complete seat.shape (subst IsPlan (sym own.1) plan) seat.seen legal g (omega (arith, is, below))).1
+    (chain : ChainOf) (seat : SeenBy) → IsOwn chain seat → (top : ℕ)
+    → (seen_by chain.shape seat).top ≡ top → (g : ℕ) → g < top → IsComplete chain.shape (seen_by chain.shape seat) g
+complete-below chain seat own top is g below =
+    (top_complete chain.shape own.plan seat.seen own.legal g (omega (arith, is, below))).1
 
 -- also the one just below
 pub ready-top :
-    TopComplete → (chain : ChainOf) (seat : SeenBy) → IsPlan chain.shape → IsOwn chain seat → IsLegal seat.shape seat.seen → (top : ℕ)
-    → (seen_by seat).top ≡ top → IsReady chain.shape (seen_by seat) top
-ready-top top_complete chain seat plan own legal zero is = tt
-ready-top top_complete chain seat plan own legal (suc g) is =
-    complete-below top_complete chain seat plan own legal (suc g) is g (omega arith)
+    (chain : ChainOf) (seat : SeenBy) → IsOwn chain seat → (top : ℕ)
+    → (seen_by chain.shape seat).top ≡ top → IsReady chain.shape (seen_by chain.shape seat) top
+ready-top chain seat own zero is = tt
+ready-top chain seat own (suc g) is =
+    complete-below chain seat own (suc g) is g (omega arith)
 
 -- and go on in the next table
 pub reached-above : (p : Plan) (t : Tables) (g k : ℕ) → IsReached p t g k → IsAbove p t g k → IsReached p t (suc g) k
@@ -187,7 +183,7 @@ read-alone call number alone = ap (λ b. cond b (replied call number) []) alone
 
 -- ---- one slot more
 
-module _ (law : StepsAddUp) (distinct : PathsAreDistinct) (chain : ChainOf) (plan : IsPlan chain.shape) (g : ℕ) (table : g < generations_of chain.shape) where
+module _ (chain : ChainOf) (g : ℕ) (table : g < generations_of chain.shape) where
   abbrev p : Plan
   p = chain.shape
 
@@ -200,7 +196,7 @@ module _ (law : StepsAddUp) (distinct : PathsAreDistinct) (chain : ChainOf) (pla
     | inr more ↦
         ne_eqb (path_slot p g k (size_of p g - 1)) (path_slot p g k d)
         (λ same.
-        let at = distinct p g k (size_of p g - 1) d (omega (arith, near)) near same in
+        let at = paths_are_distinct p g k (size_of p g - 1) d (omega (arith, near)) near same in
         more (omega (arith, at, near)))
         ∙ sym (ne_eqb (d + 1) (size_of p g) more)
   ])
@@ -225,26 +221,26 @@ module _ (law : StepsAddUp) (distinct : PathsAreDistinct) (chain : ChainOf) (pla
   -- a look at the next slot of the path
   pub walked :
       {call : Call} {start before after : SeenBy} (d from : ℕ) (shown : Option (Option ℕ)) → d < size_of p g → from ≤ d → IsOwn chain start
-      → HasMade p call start before (read_up_to p g call d) (d - from) → Extended before after (read before.number call shown) 1
+      → HasMade p call start before (read_up_to p g call d) (d - from) → Extended p before after (read before.number call shown) 1
       → HasMade p call start after (read_shown call shown) (d + 1 - from)
   walked {call} {start} {before} {after} d from shown near ahead own so_far load =
       subst (λ made. HasMade p call start after made (d + 1 - from)) (append-nil (read_shown call shown))
       (made-within (d - from + 1) (d + 1 - from) (omega (arith, ahead))
-      (made-more law chain plan own (subst (λ made. HasMade p call start before made (d - from)) (read-before p g call d near) so_far)
-      (made-read law p call shown load)))
+      (made-more chain own (subst (λ made. HasMade p call start before made (d - from)) (read-before p g call d near) so_far)
+      (made-read p call shown load)))
 
   -- a look at a slot of another key
   pub walked-on :
       {call : Call} {start before after : SeenBy} (d from i k other : ℕ) → d < size_of p g → from ≤ d → IsOwn chain start
       → key_of_call call ≡ k → path_slot p g k d ≡ i → other ≢ k → HasMade p call start before (read_up_to p g call d) (d - from)
-      → Extended before after (read before.number call (shown_by_key p g i (Claimed other) (key_of_call call))) 1
+      → Extended p before after (read before.number call (shown_by_key p g i (Claimed other) (key_of_call call))) 1
       → HasMade p call start after (read_up_to p g call (d + 1)) (d + 1 - from)
   walked-on {call} {start} {before} {after} d from i k other near ahead own key at differs so_far load =
       let at' : path_slot p g (key_of_call call) d ≡ i = ap (λ k. path_slot p g k d) key ∙ at in
       let shown = shown-other call d other near (λ e. differs (e ∙ key)) in
       subst (λ made. HasMade p call start after made (d + 1 - from)) shown
       (walked d from _ near ahead own so_far
-      (subst (λ j. Extended before after (read before.number call (shown_by_key p g j (Claimed other) (key_of_call call))) 1) (sym at') load))
+      (subst (λ j. Extended p before after (read before.number call (shown_by_key p g j (Claimed other) (key_of_call call))) 1) (sym at') load))
 
 -- ---- what was seen
 

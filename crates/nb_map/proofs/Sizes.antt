@@ -25,6 +25,7 @@ use Rattle.nb_table.specs.Left.{ClosedOf, HoldsOfMap, IsLeftBy}
 use Rattle.nb_table.specs.Views.{HasSeen}
 use Rattle.nb_map.specs.Ending.{EndedWith, IsParted}
 use Rattle.nb_map.specs.Maps.{HasCounted, SeatOf}
+use Rattle.nb_core.proofs.Theorems.{few_keys, map_in_range, own_lasts, size_is_net, stands}
 
 -- ---- each number is one seat's, so a sum over the seats is one over the numbers
 
@@ -132,14 +133,14 @@ seen-chains P (s ∷ seats) all =
 wrapped-small : (n : ℕ) → n ≤ KEY_MAX + 1 → wrapped (pos n) ≡ n
 wrapped-small n small = mod-eq_of_lt (omega (arith, small))
 
-module _ (p : Plan) (is_plan : IsPlan p) (stands : TablesStand) (in_range : MapInRange) where
+module _ (p : Plan) (is_plan : IsPlan p) where
   -- a history's map has no key past the greatest
   none-past : (h : List Event) → IsLegal p h → (k : ℕ) → KEY_MAX < k → get (map_of h) k ≡ None
   none-past h legal k past = of (get (map_of h) k) refl
     where
       of : (number : Option ℕ) → get (map_of h) k ≡ number → get (map_of h) k ≡ None
       of None is = is
-      of (Some n) is = absurd (omega (arith, past, (in_range p is_plan h legal k n is).0))
+      of (Some n) is = absurd (omega (arith, past, (map_in_range p is_plan h legal k n is).0))
 
   -- the same words are those of the same map
   same-map :
@@ -167,6 +168,7 @@ pub record AreGathered (p : Plan) (seats : List SeatOf) (chains : List SeenBy) (
   pub shape : closed.shape ≡ p
   pub closed_with : ClosedWith chains closed
   pub all : length seats ≡ p.seats
+  pub counted : All HasCounted seats
 
 module _ (p : Plan) (seats : List SeatOf) (chains : List SeenBy) (counts : List Counting) (closed : ClosedOf) (gathered : AreGathered p seats chains counts closed) where
   abbrev history : List Event
@@ -177,11 +179,11 @@ module _ (p : Plan) (seats : List SeatOf) (chains : List SeenBy) (counts : List 
       let P : SeenBy → Type 0 = λ seat. HasSeen history seat.number seat.seen in
       seen-chains P seats (subst (All P) gathered.parted.of_chain gathered.closed_with.seen)
 
-  same-calls : OwnLasts → All (HasSameCalls history) seats
-  same-calls own k d within =
+  same-calls : All (HasSameCalls history) seats
+  same-calls k d within =
       let s = get_or seats k d in
       let is = seen k d within in
-      ap (λ h. calls_of h s.chain.number) is.is ∙ (own p is.later s.chain.seen s.chain.number is.others).calls
+      ap (λ h. calls_of h s.chain.number) is.is ∙ (own_lasts p is.later s.chain.seen s.chain.number is.others).calls
 
   -- each number is one seat's
   once : (n : ℕ) → n < p.seats → times n seats ≡ 1
@@ -190,38 +192,38 @@ module _ (p : Plan) (seats : List SeatOf) (chains : List SeenBy) (counts : List 
       ∙ gathered.closed_with.once n (omega (arith, less, ap (λ z. z.seats) gathered.shape))
 
   -- what the seats have counted is the net of all calls
-  total-net : OwnLasts → total_of (map (λ seat. seat.count) seats) ≡ net_of_seats history p.seats
-  total-net own =
-      counted-net history seats gathered.parted.counted (same-calls own) ∙ net-numbers history p.seats seats gathered.all once
+  total-net : total_of (map (λ seat. seat.count) seats) ≡ net_of_seats history p.seats
+  total-net =
+      counted-net history seats gathered.counted same-calls ∙ net-numbers history p.seats seats gathered.all once
 
   -- and that is the number of keys
-  net-keys : IsPlan p → SizeIsNet → net_of_seats history p.seats ≡ pos (length (entries (map_of history)))
-  net-keys is_plan net = net p is_plan history (subst (λ z. IsLegal z history) gathered.shape gathered.closed_with.left.legal)
+  net-keys : IsPlan p → net_of_seats history p.seats ≡ pos (length (entries (map_of history)))
+  net-keys is_plan = size_is_net p is_plan history (subst (λ z. IsLegal z history) gathered.shape gathered.closed_with.left.legal)
 
-  size-keys : IsPlan p → SizeIsNet → OwnLasts → FewKeys → wrapped (total_of counts) ≡ length (entries (map_of history))
-  size-keys is_plan net own few =
-      ap (λ xs. wrapped (total_of xs)) gathered.parted.of_counter ∙ ap wrapped (total-net own ∙ net-keys is_plan net)
-      ∙ wrapped-small _ (few p is_plan history (subst (λ z. IsLegal z history) gathered.shape gathered.closed_with.left.legal))
+  size-keys : IsPlan p → wrapped (total_of counts) ≡ length (entries (map_of history))
+  size-keys is_plan =
+      ap (λ xs. wrapped (total_of xs)) gathered.parted.of_counter ∙ ap wrapped (total-net ∙ net-keys is_plan)
+      ∙ wrapped-small _ (few_keys p is_plan history (subst (λ z. IsLegal z history) gathered.shape gathered.closed_with.left.legal))
 
   pub ended-with :
-      IsPlan p → SizeIsNet → OwnLasts → FewKeys → (size : ℕ) → size ≡ wrapped (total_of counts)
+      IsPlan p → (size : ℕ) → size ≡ wrapped (total_of counts)
       → EndedWith p seats (record { tables = closed; size = size })
-  ended-with is_plan net own few size sum =
-      let is_net = ap pos (sum ∙ size-keys is_plan net own few) ∙ sym (net-keys is_plan net) in
+  ended-with is_plan size sum =
+      let is_net = ap pos (sum ∙ size-keys is_plan) ∙ sym (net-keys is_plan) in
       record {
         shape = gathered.shape;
         history = history;
         left = gathered.closed_with.left;
         seen = seen;
-        calls = same-calls own;
+        calls = same-calls;
         once = once;
-        counted = is_net ∙ sym (total-net own);
+        counted = is_net ∙ sym total-net;
         size = is_net;
       }
 
   pub is-ended :
-      IsPlan p → TablesStand → MapInRange → SizeIsNet → OwnLasts → FewKeys → (size : ℕ) → size ≡ wrapped (total_of counts)
+      IsPlan p → (size : ℕ) → size ≡ wrapped (total_of counts)
       → HoldsOfMap closed (λ m. size ≡ length (entries m))
-  is-ended is_plan stands in_range net own few size counted h left =
-      counted ∙ size-keys is_plan net own few
-      ∙ ap (λ m. length (entries m)) (same-map p is_plan stands in_range closed gathered.shape history h gathered.closed_with.left left)
+  is-ended is_plan size counted h left =
+      counted ∙ size-keys is_plan
+      ∙ ap (λ m. length (entries m)) (same-map p is_plan closed gathered.shape history h gathered.closed_with.left left)

@@ -11,26 +11,24 @@ use Rattle.nb_count.specs.Counts.{Counting}
 use Rattle.nb_table.specs.Laws.{StepsAddUp}
 use Rattle.nb_map.specs.Calling.{HasMade}
 use Rattle.nb_map.specs.Maps.{HasWaited, IsMine, MapOf, SeatOf, accounted}
-use Rattle.nb_map.proofs.Made.{made-more, made-none, made-own}
+use Rattle.nb_map.proofs.Counted.{called-mine}
+use Rattle.nb_map.proofs.Made.{made-more, made-none}
 
 -- the same seat of the counter, where nothing is counted
 counted-none : (count : Counting) → count ≡ accounted (pos 0) count
 counted-none count = ap₂ (λ added steps. record count { added = added; steps = steps }) (omega (arith, ints)) (omega arith)
 
 -- no try
-pub waited-none :
-    StepsAddUp → (map : MapOf) (call : Call) (seat : SeatOf) → IsLegal seat.chain.shape seat.chain.seen → HasWaited map call seat seat []
-waited-none law map call seat legal = (
-  0,
-  record { count = counted-none seat.count; steps = made-none law map.chain.shape call seat.chain legal },
-)
+pub waited-none : (map : MapOf) (call : Call) (seat : SeatOf) → IsMine map seat → HasWaited map call seat seat []
+waited-none map call seat mine =
+    (0, record { count = counted-none seat.count; steps = made-none map.chain call seat.chain mine.chain })
 
-module _ (law : StepsAddUp) (map : MapOf) (plan : IsPlan map.chain.shape) where
+module _ (map : MapOf) where
   -- the seat is the map's after them
   pub waited-mine :
       {call : Call} {before after : SeatOf} {made : List (Call × Reply)} → IsMine map before → HasWaited map call before after made
       → IsMine map after
-  waited-mine mine (most, called) = (made-own law map.chain plan mine.0 called.steps, ap (λ c. c.counter) called.count ∙ mine.1)
+  waited-mine mine (most, called) = called-mine mine called
 
   -- some tries after others that made no call
   pub waited-more :
@@ -42,6 +40,6 @@ module _ (law : StepsAddUp) (map : MapOf) (plan : IsPlan map.chain.shape) where
       count = b.count ∙ ap (accounted (net_of made)) (a.count ∙ sym (counted-none before.count));
       steps =
           subst (λ calls. HasMade map.chain.shape call before.chain after.chain calls (most + most')) (append-nil made)
-          (made-more law map.chain plan mine.0 a.steps b.steps);
+          (made-more map.chain mine.chain a.steps b.steps);
     },
   )

@@ -21,39 +21,39 @@ use Rattle.nb_map.specs.declared.write.Written.TheVariants.{Replied, Refused, Ab
 
 -- what others won since a later moment, they won since an earlier one
 pub passed-longer :
-    PassedOverAdds → (call : Call) {start mid after : SeenBy} {own own' : List Event} {count count' : ℕ} → Grown start mid own count
-    → Grown mid after own' count' → passed_since call mid after ≤ passed_since call start after
-passed-longer adds call {start} {mid} {after} a b =
-    let sum = passed-at adds start.seen mid.seen after.seen a.later b.later a.seen b.seen (key_of_call call) start.number in
+    (call : Call) {p : Plan} {start mid after : SeenBy} {own own' : List Event} {count count' : ℕ} → Grown p start mid own count
+    → Grown p mid after own' count' → passed_since call mid after ≤ passed_since call start after
+passed-longer call {p} {start} {mid} {after} a b =
+    let sum = passed-at start.seen mid.seen after.seen a.later b.later a.seen b.seen (key_of_call call) start.number in
     subst (λ s. passed_over after.seen (length mid.seen) (key_of_call call) s ≤ passed_since call start after) (sym a.number) (omega (arith, sum))
 
 -- and what they won up to the later moment comes on top
 pub passed-both :
-    PassedOverAdds → (call : Call) {start mid after : SeenBy} {own own' : List Event} {count count' : ℕ} → Grown start mid own count
-    → Grown mid after own' count' → passed_since call start mid + passed_since call mid after ≤ passed_since call start after
-passed-both adds call {start} {mid} {after} a b =
-    let sum = passed-at adds start.seen mid.seen after.seen a.later b.later a.seen b.seen (key_of_call call) start.number in
+    (call : Call) {p : Plan} {start mid after : SeenBy} {own own' : List Event} {count count' : ℕ} → Grown p start mid own count
+    → Grown p mid after own' count' → passed_since call start mid + passed_since call mid after ≤ passed_since call start after
+passed-both call {p} {start} {mid} {after} a b =
+    let sum = passed-at start.seen mid.seen after.seen a.later b.later a.seen b.seen (key_of_call call) start.number in
     subst (λ s. passed_since call start mid + passed_over after.seen (length mid.seen) (key_of_call call) s ≤ passed_since call start after)
     (sym a.number) (omega (arith, sum))
 
 -- a refusal that is just for the tries that were left is so for all
 pub just-longer :
-    PassedOverAdds → (p : Plan) (call : Call) {start mid after : SeenBy} {own own' : List Event} {count count' : ℕ} (tries left : ℕ)
-    → Grown start mid own count → Grown mid after own' count' → tries ≤ left + passed_since call start mid → (fault : PutFault)
+    (p : Plan) (call : Call) {start mid after : SeenBy} {own own' : List Event} {count count' : ℕ} (tries left : ℕ)
+    → Grown p start mid own count → Grown p mid after own' count' → tries ≤ left + passed_since call start mid → (fault : PutFault)
     → IsJust p call mid after left fault → IsJust p call start after tries fault
-just-longer adds p call tries left a b spent Full just = just
-just-longer adds p call tries left a b spent Contended just = let both = passed-both adds call a b in omega (arith, spent, just, both)
-just-longer adds p call tries left a b spent ValueRange just = just
+just-longer p call tries left a b spent Full just = just
+just-longer p call tries left a b spent Contended just = let both = passed-both call a b in omega (arith, spent, just, both)
+just-longer p call tries left a b spent ValueRange just = just
 
 -- and what a write came to from the later moment on, it came to from the earlier one on
 pub written-longer :
-    PassedOverAdds → (p : Plan) (call : Call) {start mid after : SeenBy} {own own' : List Event} {count count' : ℕ} (g tries : ℕ)
-    → Grown start mid own count → Grown mid after own' count' → (written : Written) → IsWritten p call mid after g tries written
+    (p : Plan) (call : Call) {start mid after : SeenBy} {own own' : List Event} {count count' : ℕ} (g tries : ℕ)
+    → Grown p start mid own count → Grown p mid after own' count' → (written : Written) → IsWritten p call mid after g tries written
     → IsWritten p call start after g tries written
-written-longer adds p call g tries a b (Replied reply) is = tt
-written-longer adds p call g tries a b (Refused fault) is = just-longer adds p call tries tries a b (omega arith) fault is
-written-longer adds p call g tries a b (Above below left) is =
-    let longer = passed-longer adds call a b in let spent = is.4 in (is.0, is.1, is.2, is.3, omega (arith, spent, longer))
+written-longer p call g tries a b (Replied reply) is = tt
+written-longer p call g tries a b (Refused fault) is = just-longer p call tries tries a b (omega arith) fault is
+written-longer p call g tries a b (Above below left) is =
+    let longer = passed-longer call a b in let spent = is.4 in (is.0, is.1, is.2, is.3, omega (arith, spent, longer))
 
 -- ---- bounds of steps
 
@@ -74,12 +74,12 @@ completed_below p zero = 0
 completed_below p (suc g) = table_steps p g + completed_below p g
 
 completed-few :
-    (never_fall : SizesNeverFall) (p : Plan) → IsPlan p → (g : ℕ) → g ≤ generations_of p
+    (p : Plan) → IsPlan p → (g : ℕ) → g ≤ generations_of p
     → completed_below p g ≤ slots_below p g * (4 * size_of p (generations_of p - 1) + 15) + g
-completed-few never_fall p plan zero below = omega arith
-completed-few never_fall p plan (suc g) below =
-    let rest = completed-few never_fall p plan g (omega (arith, below)) in
-    let next = next-size never_fall p plan g below in
+completed-few p plan zero below = omega arith
+completed-few p plan (suc g) below =
+    let rest = completed-few p plan g (omega (arith, below)) in
+    let next = next-size p plan g below in
     let here = mul-le-mul_left (size_of p g) next in
     one (size_of p g) (size_of p (suc g)) (size_of p (generations_of p - 1)) (slots_below p g) g (completed_below p g) rest here
   where
@@ -89,13 +89,13 @@ completed-few never_fall p plan (suc g) below =
 
 -- the table below each table is completed once more at most
 written-few :
-    (never_fall : SizesNeverFall) (p : Plan) → IsPlan p → (g : ℕ) → g ≤ generations_of p
+    (p : Plan) → IsPlan p → (g : ℕ) → g ≤ generations_of p
     → written_below p g + steps_below p g
     ≤ 3 * slots_below p g + 2 * completed_below p g + g * (2 * size_of p (generations_of p - 1) + 14)
-written-few never_fall p plan zero below = omega arith
-written-few never_fall p plan (suc g) below =
-    let rest = written-few never_fall p plan g (omega (arith, below)) in
-    let next = next-size never_fall p plan g below in
+written-few p plan zero below = omega arith
+written-few p plan (suc g) below =
+    let rest = written-few p plan g (omega (arith, below)) in
+    let next = next-size p plan g below in
     one (size_of p g) (size_of p (suc g)) (size_of p (generations_of p - 1)) (slots_below p g) g (completed_below p g) (table_steps p g) (steps_below p g)
     (written_below p g) rest next
   where
@@ -106,12 +106,12 @@ written-few never_fall p plan (suc g) below =
 
 -- a write comes to each table once at most
 pub put-bound :
-    (never_fall : SizesNeverFall) (p : Plan) → IsPlan p → (g tries : ℕ) → g ≤ generations_of p
+    (p : Plan) → IsPlan p → (g tries : ℕ) → g ≤ generations_of p
     → 1 + written_below p g + 2 * tries ≤ put_steps p tries
-put-bound never_fall p plan g tries below =
+put-bound p plan g tries below =
     let n = size_of p (generations_of p - 1) in
-    let written = written-few never_fall p plan g below in
-    let completed = completed-few never_fall p plan g below in
+    let written = written-few p plan g below in
+    let completed = completed-few p plan g below in
     let slots = slots-more p (generations_of p) g below in
     let twice = mul-le-mul_right (4 * n + 15) slots in
     let all = mul-le-mul_right (2 * n + 14) below in

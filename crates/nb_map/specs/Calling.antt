@@ -24,9 +24,9 @@ MayMake p t call _ = Unit {0}
 pub record HasMade (p : Plan) (call : Call) (before after : SeenBy) (made : List (Call × Reply)) (most : ℕ) : Type 0 where
   pub own : List Event
   pub count : ℕ
-  pub grown : Grown before after own count
+  pub grown : Grown p before after own count
   pub calls : calls_of own before.number ≡ made
-  pub may : All (MayMake p (seen_by after) call) own
+  pub may : All (MayMake p (seen_by p after) call) own
   pub few : count ≤ most
 
 -- the call with its reply, where its key has this number, or none

@@ -38,8 +38,7 @@ pub record EndedWith (p : Plan) (seats : List SeatOf) (ended : EndedOf) : Type 0
   pub counted : pos ended.size ≡ total_of (map (λ seat. seat.count) seats)
   pub size : pos ended.size ≡ net_of_seats history p.seats
 
--- The seats are parted in those of the chain and those of the counter, and each had counted the net of its calls.
+-- the seats are parted in those of the chain and those of the counter
 pub record IsParted (seats : List SeatOf) (chains : List SeenBy) (counts : List Counting) : Type 0 where
   pub of_chain : chains ≡ map (λ seat. seat.chain) seats
   pub of_counter : counts ≡ map (λ seat. seat.count) seats
-  pub counted : All HasCounted seats

@@ -1,7 +1,7 @@
 -- What is in a map and its seats, and how it is seen.
 use Rattle.std.specs.Prelude.{◌≡◌}
 use Rattle.nb_core.specs.Plans.{IsPlan}
-use Rattle.nb_map.specs.Maps.{HasCounted, MapOf, SeatOf}
+use Rattle.nb_map.specs.Maps.{MapOf, SeatOf}
 use Rattle.nb_map.specs.declared.map.Map.TheInside as map
 use Rattle.nb_map.specs.declared.map.Seat.TheInside as seat
 
@@ -17,7 +17,3 @@ pub record IsMap (c : map.Inside) : Type 0 where
 -- the seat, as contracts see it
 abbrev pub seat_of : seat.Inside → SeatOf
 seat_of c = record { chain = c.chain; count = c.count }
-
--- what it has counted is the net of its calls
-pub record IsSeat (c : seat.Inside) : Type 0 where
-  pub counted : HasCounted (seat_of c)

@@ -38,7 +38,7 @@ IsAway p t g k =
 -- the seat has learned of no new top table, and has seen the key at home in the one that it knows
 abbrev pub IsSeenAtHome : Plan → (before after : SeenBy) → ℕ → Type 0
 IsSeenAtHome p before after k =
-    ((seen_by before).top ≡ (seen_by after).top) × IsAtHome p (seen_by after) (seen_by after).top k
+    ((seen_by p before).top ≡ (seen_by p after).top) × IsAtHome p (seen_by p after) (seen_by p after).top k
 
 -- where a glance shows nothing, the search goes on from a slot of the key's path, behind slots of other keys
 abbrev pub IsGlance : Plan → Tables → (g k : ℕ) → Glance → Type 0

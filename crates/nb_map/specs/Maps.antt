@@ -18,22 +18,24 @@ pub record SeatOf : Type 0 where
   pub chain : SeenBy
   pub count : Counting
 
--- the seat is one of this map's
-abbrev pub IsMine : MapOf → SeatOf → Type 0
-IsMine map seat = IsOwn map.chain seat.chain × (seat.count.counter ≡ map.counter.id)
+-- what the seat has counted is what its calls added, less what they took out
+abbrev pub HasCounted : SeatOf → Type 0
+HasCounted seat = seat.count.added ≡ net_of (calls_of seat.chain.seen seat.chain.number)
+
+-- The seat is one of this map's, on its chain and on its counter, and has counted its calls.
+pub record IsMine (map : MapOf) (seat : SeatOf) : Type 0 where
+  pub chain : IsOwn map.chain seat.chain
+  pub counter : seat.count.counter ≡ map.counter.id
+  pub counted : HasCounted seat
 
 -- all these seats are this map's
 abbrev pub AreMine : MapOf → List SeatOf → Type 0
 AreMine map seats = All (IsMine map) seats
 
--- what the seat has counted is what its calls added, less what they took out
-abbrev pub HasCounted : SeatOf → Type 0
-HasCounted seat = seat.count.added ≡ net_of (calls_of seat.chain.seen seat.chain.number)
-
 -- a map's seat that has seen and counted nothing
 abbrev pub new_seat : MapOf → ℕ → SeatOf
 new_seat map number = record {
-  chain = chains.new_seat map.chain.id map.chain.shape number;
+  chain = chains.new_seat map.chain.id number;
   count = record { counter = map.counter.id; number = number; added = pos 0; steps = 0 };
 }
 

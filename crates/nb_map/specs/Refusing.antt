@@ -41,9 +41,9 @@ HasRefused map call before after fault = HasWaited map call before after [] × I
 
 -- what the seat has seen where a write has to look there next
 abbrev pub IsTarget : Plan → Call → SeenBy → (g k : ℕ) → Target → Type 0
-IsTarget p call seat g k (target.Slot i) = IsSlotOf p (seen_by seat) g i k
+IsTarget p call seat g k (target.Slot i) = IsSlotOf p (seen_by p seat) g i k
 IsTarget p call seat g k (target.Absent reply) = Unit {0}
-IsTarget p call seat g k (target.Above below) = IsAbove p (seen_by seat) g k × HasBelow p (seen_by seat) (suc g) k below
+IsTarget p call seat g k (target.Above below) = IsAbove p (seen_by p seat) g k × HasBelow p (seen_by p seat) (suc g) k below
 IsTarget p call seat g k target.Full = Fills call × IsCrowded p seat.seen k
 
 -- the call, where the search was its read
@@ -59,7 +59,7 @@ abbrev pub IsWritten : Plan → Call → (before after : SeenBy) → (g tries : 
 IsWritten p call before after g tries (written.Replied reply) = Unit {0}
 IsWritten p call before after g tries (written.Refused fault) = IsJust p call before after tries fault
 IsWritten p call before after g tries (written.Above below left) =
-    IsAbove p (seen_by after) g (key_of_call call) × HasBelow p (seen_by after) (suc g) (key_of_call call) below × (1 ≤ left) × (left ≤ tries)
+    IsAbove p (seen_by p after) g (key_of_call call) × HasBelow p (seen_by p after) (suc g) (key_of_call call) below × (1 ≤ left) × (left ≤ tries)
     × (tries ≤ left + passed_since call before after)
 
 -- the call, where it was made

@@ -42,8 +42,8 @@ HasBelow p t g k below.Passed = Unit {0}
 -- what the seat has seen where a call that puts a number at an absent key came to this: the key has this slot; or the call
 -- goes on in the next table; or other keys have all slots of the last table
 abbrev pub IsFound : Plan → SeenBy → (g k : ℕ) → Found → Type 0
-IsFound p seat g k (found.Slot i) = IsSlotOf p (seen_by seat) g i k
-IsFound p seat g k (found.Above below) = IsAbove p (seen_by seat) g k × HasBelow p (seen_by seat) (suc g) k below
+IsFound p seat g k (found.Slot i) = IsSlotOf p (seen_by p seat) g i k
+IsFound p seat g k (found.Above below) = IsAbove p (seen_by p seat) g k × HasBelow p (seen_by p seat) (suc g) k below
 IsFound p seat g k found.Full = IsCrowded p seat.seen k
 
 -- the most steps to complete the table below one, if there is one

@@ -14,7 +14,7 @@ ghost use Rattle.nb_map.specs.declared.claim.Below.TheVariants as below_is;
 use crate::search::{Place, walk_path};
 use nb_copy::complete;
 use nb_core::{Call, Key, KeyState};
-use nb_table::{Chain, ChainSeat, laws};
+use nb_table::{Chain, ChainSeat};
 
 /// What a call knows of the table below the one that it has come to.
 #[derive(Clone, Copy)]
@@ -52,15 +52,11 @@ pub(crate) fn find_or_claim(
     requires own { IsOwn chain.now seat.old }
     requires key { key_of_call call.now ≡ key }
     requires acts { Fills call.now }
-    requires reached { IsReached chain.now.shape (seen_by seat.old) g key }
-    requires below { HasBelow chain.now.shape (seen_by seat.old) g key below }
+    requires reached { IsReached chain.now.shape (seen_by chain.now.shape seat.old) g key }
+    requires below { HasBelow chain.now.shape (seen_by chain.now.shape seat.old) g key below }
     ensures made { HasMade chain.now.shape call.now seat.old seat.new [] (find_steps chain.now.shape g) }
     ensures found { IsFound chain.now.shape seat.new g key result }
 {
-    laws::steps_add_up();
-    nb_core::laws::linked();
-    chain.shape().known();
-    seat.known();
     let mut below = below;
     let mut from = 0;
     loop {
@@ -81,6 +77,7 @@ pub(crate) fn find_or_claim(
 
 /// Claims the slot at a distance on the key's path in table `g` for it, which was seen empty, if that is within the limit and
 /// the table isn't being copied. `None` says that another key has got the slot.
+#[tactic(auto, using(nb_core::proofs::Theorems::linked))]
 fn claim_at(
     chain: &Chain,
     seat: &mut ChainSeat,
@@ -93,21 +90,16 @@ fn claim_at(
     requires own { IsOwn chain.now seat.old }
     requires key { key_of_call call.now ≡ key }
     requires acts { Fills call.now }
-    requires installed { IsInstalled (seen_by seat.old) g }
-    requires below { HasBelow chain.now.shape (seen_by seat.old) g key below }
+    requires installed { IsInstalled (seen_by chain.now.shape seat.old) g }
+    requires below { HasBelow chain.now.shape (seen_by chain.now.shape seat.old) g key below }
     requires known { below ≢ below_is.Passed }
     requires near { distance < size_of chain.now.shape g }
-    requires others { AreOthers chain.now.shape (seen_by seat.old) g key distance }
+    requires others { AreOthers chain.now.shape (seen_by chain.now.shape seat.old) g key distance }
     ensures found { IfSome result (λ found. HasMade chain.now.shape call.now seat.old seat.new [] (2 + grow_steps chain.now.shape g below)
         × IsFound chain.now.shape seat.new g key found) }
     ensures other { IfNone result (HasMade chain.now.shape call.now seat.old seat.new [] 2
-        × AreOthers chain.now.shape (seen_by seat.new) g key (distance + 1)) }
+        × AreOthers chain.now.shape (seen_by chain.now.shape seat.new) g key (distance + 1)) }
 {
-    laws::steps_add_up();
-    nb_core::laws::linked();
-    nb_core::laws::complete_passed();
-    chain.shape().known();
-    seat.known();
     if distance >= chain.shape().limit_of(g) {
         grow(chain, seat, g, key, call, below);
         return Some(Found::Above(Below::Complete));
@@ -132,6 +124,7 @@ fn claim_at(
 
 /// What a search comes to where other keys have the key's whole path in table `g`: in the last table there is no slot for the
 /// key; else it goes on in the next one.
+#[tactic(auto, using(nb_core::proofs::Theorems::linked))]
 fn leave_whole(
     chain: &Chain,
     seat: &mut ChainSeat,
@@ -143,19 +136,12 @@ fn leave_whole(
     requires own { IsOwn chain.now seat.old }
     requires key { key_of_call call.now ≡ key }
     requires acts { Fills call.now }
-    requires installed { IsInstalled (seen_by seat.old) g }
-    requires below { HasBelow chain.now.shape (seen_by seat.old) g key below }
-    requires others { AreOthers chain.now.shape (seen_by seat.old) g key (size_of chain.now.shape g) }
+    requires installed { IsInstalled (seen_by chain.now.shape seat.old) g }
+    requires below { HasBelow chain.now.shape (seen_by chain.now.shape seat.old) g key below }
+    requires others { AreOthers chain.now.shape (seen_by chain.now.shape seat.old) g key (size_of chain.now.shape g) }
     ensures made { HasMade chain.now.shape call.now seat.old seat.new [] (grow_steps chain.now.shape g below) }
     ensures found { IsFound chain.now.shape seat.new g key result }
 {
-    laws::steps_add_up();
-    nb_core::laws::linked();
-    nb_core::laws::limits_fit();
-    nb_core::laws::whole_crowded();
-    nb_core::laws::complete_passed();
-    chain.shape().known();
-    seat.known();
     if g + 1 == chain.shape().generations() {
         return Found::Full;
     }
@@ -169,16 +155,12 @@ fn grow(chain: &Chain, seat: &mut ChainSeat, g: u32, key: Key, call: &Call, belo
     requires key { key_of_call call.now ≡ key }
     requires acts { Fills call.now }
     requires room { suc g < generations_of chain.now.shape }
-    requires installed { IsInstalled (seen_by seat.old) g }
-    requires below { HasBelow chain.now.shape (seen_by seat.old) g key below }
-    requires crowded { AreOthers chain.now.shape (seen_by seat.old) g key (limit_of chain.now.shape g) }
+    requires installed { IsInstalled (seen_by chain.now.shape seat.old) g }
+    requires below { HasBelow chain.now.shape (seen_by chain.now.shape seat.old) g key below }
+    requires crowded { AreOthers chain.now.shape (seen_by chain.now.shape seat.old) g key (limit_of chain.now.shape g) }
     ensures made { HasMade chain.now.shape call.now seat.old seat.new [] (grow_steps chain.now.shape g below) }
-    ensures complete { IsComplete chain.now.shape (seen_by seat.new) g × IsInstalled (seen_by seat.new) (suc g) }
+    ensures complete { IsComplete chain.now.shape (seen_by chain.now.shape seat.new) g × IsInstalled (seen_by chain.now.shape seat.new) (suc g) }
 {
-    laws::steps_add_up();
-    nb_core::laws::linked();
-    chain.shape().known();
-    seat.known();
     if !chain.load_next(seat, g, None) {
         make_ready(chain, seat, g, below);
         chain.install(seat, g, key);
@@ -190,17 +172,15 @@ fn grow(chain: &Chain, seat: &mut ChainSeat, g: u32, key: Key, call: &Call, belo
 /// there, that table is completed.
 fn settle_below(chain: &Chain, seat: &mut ChainSeat, g: u32, below: Below) -> Below
     requires own { IsOwn chain.now seat.old }
-    requires installed { IsInstalled (seen_by seat.old) g }
+    requires installed { IsInstalled (seen_by chain.now.shape seat.old) g }
     ensures made { (call : Call) → HasMade chain.now.shape call seat.old seat.new []
         (owed_below chain.now.shape g below - owed_below chain.now.shape g result) }
     ensures own { IsOwn chain.now seat.new }
     ensures fewer { owed_below chain.now.shape g result ≤ owed_below chain.now.shape g below }
-    ensures below { (key : ℕ) → HasBelow chain.now.shape (seen_by seat.old) g key below
-        → HasBelow chain.now.shape (seen_by seat.new) g key result }
+    ensures below { (key : ℕ) → HasBelow chain.now.shape (seen_by chain.now.shape seat.old) g key below
+        → HasBelow chain.now.shape (seen_by chain.now.shape seat.new) g key result }
     ensures known { result ≢ below_is.Passed }
 {
-    laws::steps_add_up();
-    seat.known();
     if let Below::Passed = below {
         make_ready(chain, seat, g, below);
         return Below::Complete;
@@ -211,16 +191,12 @@ fn settle_below(chain: &Chain, seat: &mut ChainSeat, g: u32, below: Below) -> Be
 /// Completes the table below `g`, if there is one that isn't known to be complete.
 fn make_ready(chain: &Chain, seat: &mut ChainSeat, g: u32, below: Below)
     requires own { IsOwn chain.now seat.old }
-    requires installed { IsInstalled (seen_by seat.old) g }
-    requires below { (below ≡ below_is.Complete) → IsReady chain.now.shape (seen_by seat.old) g }
+    requires installed { IsInstalled (seen_by chain.now.shape seat.old) g }
+    requires below { (below ≡ below_is.Complete) → IsReady chain.now.shape (seen_by chain.now.shape seat.old) g }
     ensures made { (call : Call) → HasMade chain.now.shape call seat.old seat.new [] (owed_below chain.now.shape g below) }
     ensures own { IsOwn chain.now seat.new }
-    ensures ready { IsReady chain.now.shape (seen_by seat.new) g }
+    ensures ready { IsReady chain.now.shape (seen_by chain.now.shape seat.new) g }
 {
-    laws::steps_add_up();
-    nb_core::laws::linked();
-    chain.shape().known();
-    seat.known();
     if let Below::Complete = below {
         return;
     }

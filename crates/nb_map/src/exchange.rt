@@ -16,7 +16,7 @@ use crate::pause::Pause;
 use crate::search::pass_slot;
 use crate::write::{PutFault, Written};
 use nb_core::{Call, Key, Num, Reply, ValueState};
-use nb_table::{Chain, ChainSeat, laws};
+use nb_table::{Chain, ChainSeat};
 
 /// Makes a write at its key's slot `i` of table `g`: a load decides it, or an exchange of the value that was loaded, which is
 /// tried so many times. Where the slot is finished, it goes on in the next table.
@@ -33,8 +33,8 @@ pub(crate) fn exchange<P: Pause>(
     requires own { IsOwn chain.now seat.old }
     requires key { key_of_call call.now ≡ key }
     requires slot { IsSlot chain.now.shape g i }
-    requires claimed { (seen_by seat.old).key g i ≡ key_is.Claimed key }
-    requires reached { IsReached chain.now.shape (seen_by seat.old) g key }
+    requires claimed { (seen_by chain.now.shape seat.old).key g i ≡ key_is.Claimed key }
+    requires reached { IsReached chain.now.shape (seen_by chain.now.shape seat.old) g key }
     requires some { 1 ≤ tries }
     requires serves { P.serves pause.old chain.now }
     ensures made { HasMade chain.now.shape call.now seat.old seat.new (made_by call.now result)
@@ -42,13 +42,6 @@ pub(crate) fn exchange<P: Pause>(
     ensures written { IsWritten chain.now.shape call.now seat.old seat.new g tries result }
     ensures serves { P.serves pause.new chain.now }
 {
-    laws::steps_add_up();
-    nb_core::laws::passed_settled();
-    nb_core::laws::lost_exchange();
-    nb_core::laws::passed_over_adds();
-    nb_core::laws::decided();
-    chain.shape().known();
-    seat.known();
     for lost in 0..tries {
         let from = chain.load_value(seat, g, i, Some(*call));
         let Some(number) = shown(&from) else {

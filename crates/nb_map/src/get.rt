@@ -12,7 +12,7 @@ ghost use Rattle.nb_map.specs.Searching.{pass_steps};
 
 use crate::search::{Sought, pass_slot, seek};
 use nb_core::{Call, Key, KeyState, Num, ValueState};
-use nb_table::{Chain, ChainSeat, laws};
+use nb_table::{Chain, ChainSeat};
 
 /// What a look at a table, or at a value, shows of a key.
 #[derive(Clone, Copy)]
@@ -41,14 +41,7 @@ pub fn get_in(chain: &Chain, seat: &mut ChainSeat, key: Key) -> Option<Num>
         (get_steps chain.now.shape) }
     ensures three_steps { IsSeenAtHome chain.now.shape seat.old seat.new key → seat.new.steps ≤ seat.old.steps + 3 }
 {
-    laws::steps_add_up();
-    nb_core::laws::linked();
-    nb_core::laws::top_complete();
-    nb_core::laws::complete_passed();
-    nb_core::laws::sizes_never_fall();
-    chain.shape().known();
     let top = chain.load_top(seat);
-    seat.known();
     match glance_in(chain, seat, top, key) {
         Glance::Shows(number) => number,
         Glance::From(distance) => get_from(chain, seat, top, key, distance),
@@ -57,17 +50,13 @@ pub fn get_in(chain: &Chain, seat: &mut ChainSeat, key: Key) -> Option<Num>
 
 /// What the key's home slot in table `g` shows of it.
 #[inline]
+#[tactic(auto, using(nb_core::proofs::Theorems::linked))]
 fn glance_in(chain: &Chain, seat: &mut ChainSeat, g: u32, key: Key) -> Glance
     requires own { IsOwn chain.now seat.old }
-    requires reached { IsReached chain.now.shape (seen_by seat.old) g key }
+    requires reached { IsReached chain.now.shape (seen_by chain.now.shape seat.old) g key }
     ensures made { HasMade chain.now.shape (call.Get key) seat.old seat.new (glanced_by (call.Get key) result) 2 }
-    ensures glance { IsGlance chain.now.shape (seen_by seat.new) g key result }
+    ensures glance { IsGlance chain.now.shape (seen_by chain.now.shape seat.new) g key result }
 {
-    laws::steps_add_up();
-    nb_core::laws::linked();
-    nb_core::laws::paths_are_distinct();
-    chain.shape().known();
-    seat.known();
     let home = chain.shape().path_slot(g, key, 0);
     match chain.load_key(seat, g, home, Some(Call::Get { key })) {
         KeyState::Claimed(other) => {
@@ -88,13 +77,11 @@ fn glance_at(chain: &Chain, seat: &mut ChainSeat, g: u32, i: usize, key: Key) ->
     requires own { IsOwn chain.now seat.old }
     requires slot { IsSlot chain.now.shape g i }
     requires home { path_slot chain.now.shape g key 0 ≡ i }
-    requires claimed { (seen_by seat.old).key g i ≡ key_is.Claimed key }
-    requires reached { IsReached chain.now.shape (seen_by seat.old) g key }
+    requires claimed { (seen_by chain.now.shape seat.old).key g i ≡ key_is.Claimed key }
+    requires reached { IsReached chain.now.shape (seen_by chain.now.shape seat.old) g key }
     ensures made { HasMade chain.now.shape (call.Get key) seat.old seat.new (glanced_by (call.Get key) result) 1 }
-    ensures glance { IsGlance chain.now.shape (seen_by seat.new) g key result }
+    ensures glance { IsGlance chain.now.shape (seen_by chain.now.shape seat.new) g key result }
 {
-    laws::steps_add_up();
-    chain.shape().known();
     match chain.load_value(seat, g, i, Some(Call::Get { key })) {
         ValueState::Null | ValueState::Tombstone => Glance::Shows(None),
         ValueState::Live(number) => Glance::Shows(Some(number)),
@@ -113,16 +100,12 @@ fn get_from(
     distance: usize,
 ) -> Option<Num>
     requires own { IsOwn chain.now seat.old }
-    requires reached { IsReached chain.now.shape (seen_by seat.old) first key }
+    requires reached { IsReached chain.now.shape (seen_by chain.now.shape seat.old) first key }
     requires near { distance < size_of chain.now.shape first }
-    requires others { AreOthers chain.now.shape (seen_by seat.old) first key distance }
+    requires others { AreOthers chain.now.shape (seen_by chain.now.shape seat.old) first key distance }
     ensures made { HasMade chain.now.shape (call.Get key) seat.old seat.new (replied (call.Get key) result)
         (looked_below chain.now.shape (generations_of chain.now.shape)) }
 {
-    laws::steps_add_up();
-    nb_core::laws::linked();
-    chain.shape().known();
-    seat.known();
     let mut from = distance;
     for g in first..chain.shape().generations() {
         if let Look::Shows(number) = look_in(chain, seat, g, key, from) {
@@ -134,19 +117,16 @@ fn get_from(
 }
 
 /// What table `g` shows of a key, from a distance of its path on.
+#[tactic(auto, using(nb_core::proofs::Theorems::linked))]
 fn look_in(chain: &Chain, seat: &mut ChainSeat, g: u32, key: Key, from: usize) -> Look
     requires own { IsOwn chain.now seat.old }
-    requires reached { IsReached chain.now.shape (seen_by seat.old) g key }
+    requires reached { IsReached chain.now.shape (seen_by chain.now.shape seat.old) g key }
     requires near { from < size_of chain.now.shape g }
-    requires others { AreOthers chain.now.shape (seen_by seat.old) g key from }
+    requires others { AreOthers chain.now.shape (seen_by chain.now.shape seat.old) g key from }
     ensures made { HasMade chain.now.shape (call.Get key) seat.old seat.new (read_by (call.Get key) result)
         (look_steps chain.now.shape g) }
-    ensures look { IsLook chain.now.shape (seen_by seat.new) g key result }
+    ensures look { IsLook chain.now.shape (seen_by chain.now.shape seat.new) g key result }
 {
-    laws::steps_add_up();
-    nb_core::laws::linked();
-    chain.shape().known();
-    seat.known();
     match seek(chain, seat, g, key, &Call::Get { key }, from) {
         Sought::Slot(i) => look_at(chain, seat, g, i, key),
         Sought::Absent => Look::Shows(None),
@@ -158,14 +138,12 @@ fn look_in(chain: &Chain, seat: &mut ChainSeat, g: u32, key: Key, from: usize) -
 fn look_at(chain: &Chain, seat: &mut ChainSeat, g: u32, i: usize, key: Key) -> Look
     requires own { IsOwn chain.now seat.old }
     requires slot { IsSlot chain.now.shape g i }
-    requires claimed { (seen_by seat.old).key g i ≡ key_is.Claimed key }
-    requires reached { IsReached chain.now.shape (seen_by seat.old) g key }
+    requires claimed { (seen_by chain.now.shape seat.old).key g i ≡ key_is.Claimed key }
+    requires reached { IsReached chain.now.shape (seen_by chain.now.shape seat.old) g key }
     ensures made { HasMade chain.now.shape (call.Get key) seat.old seat.new (read_by (call.Get key) result)
         (pass_steps chain.now.shape g + 1) }
-    ensures look { IsLook chain.now.shape (seen_by seat.new) g key result }
+    ensures look { IsLook chain.now.shape (seen_by chain.now.shape seat.new) g key result }
 {
-    laws::steps_add_up();
-    chain.shape().known();
     match chain.load_value(seat, g, i, Some(Call::Get { key })) {
         ValueState::Null | ValueState::Tombstone => Look::Shows(None),
         ValueState::Live(number) => Look::Shows(Some(number)),

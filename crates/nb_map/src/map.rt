@@ -1,6 +1,5 @@
 //! The map and its seats.
 ghost use Rattle.std.specs.Prelude.{◌≡◌, ◌+◌, ◌<◌, ◌≤◌, ◌↔◌, ℕ, pos, IfOk, IfErr, is_ok, is_some, true, if◌then◌else◌, Option, [], ◌∷◌, length};
-ghost use Rattle.nb_core.specs.History.{IsLegal};
 ghost use Rattle.nb_core.specs.Meaning.{net_of_change};
 ghost use Rattle.nb_core.specs.Plans.{IsPlan};
 ghost use Rattle.nb_core.specs.Tables.{IsComplete};
@@ -11,7 +10,7 @@ ghost use Rattle.nb_table.specs.Views.{IsBeginning};
 ghost use Rattle.nb_map.specs.Calling.{replied};
 ghost use Rattle.nb_map.specs.Looking.{IsSeenAtHome, get_steps};
 ghost use Rattle.nb_map.specs.Ending.{EndedWith};
-ghost use Rattle.nb_map.specs.Maps.{AreMine, HasCalled, HasCounted, IsMine, accounted, seats_of};
+ghost use Rattle.nb_map.specs.Maps.{AreMine, HasCalled, IsMine, accounted, seats_of};
 ghost use Rattle.nb_map.specs.Refusing.{IsJust, put_steps};
 
 use crate::ended::{Ended, parted};
@@ -21,7 +20,7 @@ use crate::room::Room;
 use crate::write::{PutFault, put_if_match_in};
 use nb_core::{Change, Key, NotAll, Num, OutOfMemory, Reply, Shape, Want};
 use nb_count::{CountSeat, Counter};
-use nb_table::{Chain, ChainSeat, laws};
+use nb_table::{Chain, ChainSeat};
 use std::alloc::Global;
 use std::marker::Model;
 use std::sync::Mutex;
@@ -61,11 +60,9 @@ impl Model for Seat {
 
     ghost Value = { SeatOf };
 
-    ghost use Rattle.nb_map.specs.Inside.{IsSeat, seat_of};
+    ghost use Rattle.nb_map.specs.Inside.{seat_of};
 
     ghost view = { seat_of };
-
-    ghost invariant = { IsSeat };
 }
 
 impl Map {
@@ -73,10 +70,11 @@ impl Map {
     /// gather them: nothing that comes later but `Ended::entries` takes any.
     pub fn new(alloc: Global, shape: Shape) -> Result<(Map, Vec<Seat>), OutOfMemory>
         ensures map { IfOk result (λ made. made.0.chain.shape ≡ shape) }
+        ensures plan { IfOk result (λ made. IsPlan made.0.chain.shape) }
         ensures counter { IfOk result (λ made. (made.0.counter.stripes ≡ shape.stripes) × (made.0.counter.seats ≡ shape.seats)) }
         ensures seats { IfOk result (λ made. made.1.items ≡ seats_of made.0 0 shape.seats) }
+        ensures own { IfOk result (λ made. AreMine made.0 made.1.items) }
     {
-        shape.known();
         let mut seats = Vec::with_capacity(alloc, shape.seats())?;
         let (chain, mut chain_seats) = Chain::new(alloc, shape)?;
         let (counter, mut count_seats) = Counter::new(alloc, shape.stripes(), shape.seats())?;
@@ -103,6 +101,7 @@ impl Map {
             (get_steps self.now.chain.shape) }
         ensures three_steps { IsSeenAtHome self.now.chain.shape seat.old.chain seat.new.chain key
             → seat.new.chain.steps ≤ seat.old.chain.steps + 3 }
+        ensures own { IsMine self.now seat.new }
     {
         get_in(&self.chain, &mut seat.chain, key)
     }
@@ -112,6 +111,7 @@ impl Map {
         requires own { IsMine self.now seat.old }
         ensures called { (number : Option ℕ) × (is_some number ≡ result)
             × HasCalled self.now (call.Get key) seat.old seat.new (replied (call.Get key) number) (get_steps self.now.chain.shape) }
+        ensures own { IsMine self.now seat.new }
     {
         self.get(seat, key).is_some()
     }
@@ -136,6 +136,7 @@ impl Map {
         ensures refused { IfErr result (λ fault. HasCalled self.now (call.Write key want change) seat.old seat.new []
             (put_steps self.now.chain.shape tries)
             × IsJust self.now.chain.shape (call.Write key want change) seat.old.chain seat.new.chain tries fault) }
+        ensures own { IsMine self.now seat.new }
     {
         let reply = put_if_match_in(
             &self.chain,
@@ -148,17 +149,6 @@ impl Map {
         )?;
         self.count(&mut seat.count, &change, &reply);
         Ok(reply)
-    }
-
-    /// Reminds a proof of what the map's shape may be, that what the seat has seen is a legal history, and that it has counted
-    /// the net of its calls. It does nothing.
-    pub fn known(&self, seat: &Seat)
-        ensures plan { IsPlan self.now.chain.shape }
-        ensures legal { IsLegal seat.now.chain.shape seat.now.chain.seen }
-        ensures counted { HasCounted seat.now }
-    {
-        self.chain.shape().known();
-        seat.chain.known();
     }
 
     /// Counts what a write with this change and reply did to the number of keys.
@@ -186,17 +176,13 @@ impl Map {
     /// How many tables are known to be complete, from the first one on: the top word, by one load.
     pub fn generation(&self, seat: &mut Seat) -> u32
         requires own { IsMine self.now seat.old }
-        ensures grows { Extended seat.old.chain seat.new.chain [] 1 }
-        ensures found { (seen_by seat.new.chain).top ≡ result }
-        ensures complete { (g : ℕ) → g < result → IsComplete self.now.chain.shape (seen_by seat.new.chain) g }
+        ensures grows { Extended self.now.chain.shape seat.old.chain seat.new.chain [] 1 }
+        ensures found { (seen_by self.now.chain.shape seat.new.chain).top ≡ result }
+        ensures complete { (g : ℕ) → g < result → IsComplete self.now.chain.shape (seen_by self.now.chain.shape seat.new.chain) g }
         ensures count { seat.new.count ≡ seat.old.count }
+        ensures own { IsMine self.now seat.new }
     {
-        nb_core::laws::top_complete();
-        laws::steps_add_up();
-        self.chain.shape().known();
-        let top = self.chain.load_top(&mut seat.chain);
-        seat.chain.known();
-        top
+        self.chain.load_top(&mut seat.chain)
     }
 
     /// About how many keys the map has, modulo 2^64: the sum of the counter's stripes, by one load of each. While others write
@@ -205,6 +191,7 @@ impl Map {
         requires own { IsMine self.now seat.old }
         ensures chain { seat.new.chain ≡ seat.old.chain }
         ensures count { seat.new.count ≡ with_looks self.now.counter.stripes seat.old.count }
+        ensures own { IsMine self.now seat.new }
     {
         self.counter.estimate(&mut seat.count)
     }
@@ -214,10 +201,11 @@ impl Map {
     pub fn meet(&self, a: &mut Seat, b: &mut Seat)
         requires a_own { IsMine self.now a.old }
         requires b_own { IsMine self.now b.old }
-        ensures a { Extended a.old.chain a.new.chain [] 1 × IsBeginning b.old.chain.seen a.new.chain.seen × (a.new.count ≡ a.old.count) }
-        ensures b { Extended b.old.chain b.new.chain [] 1 × IsBeginning a.old.chain.seen b.new.chain.seen × (b.new.count ≡ b.old.count) }
+        ensures a { Extended self.now.chain.shape a.old.chain a.new.chain [] 1 × IsBeginning b.old.chain.seen a.new.chain.seen × (a.new.count ≡ a.old.count) }
+        ensures b { Extended self.now.chain.shape b.old.chain b.new.chain [] 1 × IsBeginning a.old.chain.seen b.new.chain.seen × (b.new.count ≡ b.old.count) }
+        ensures a_own { IsMine self.now a.new }
+        ensures b_own { IsMine self.now b.new }
     {
-        laws::steps_add_up();
         self.chain.meet(&mut a.chain, &mut b.chain);
     }
 
@@ -229,11 +217,6 @@ impl Map {
         ensures ended { IfOk result (λ ended. EndedWith self.chain.shape seats.items ended) }
         ensures back { IfErr result (λ given. (given.whole ≡ self) × (given.seats.items ≡ seats.items)) }
     {
-        nb_core::laws::size_is_net();
-        nb_core::laws::few_keys();
-        nb_core::laws::stands();
-        nb_core::laws::map_in_range();
-        nb_core::laws::own_lasts();
         if seats.len() != self.chain.shape().seats() {
             return Err(NotAll { whole: self, seats });
         }

@@ -13,7 +13,7 @@ ghost use Rattle.nb_map.specs.Searching.{EndsAt, IsAbove, IsSought, pass_steps, 
 
 use nb_copy::copy_and_count;
 use nb_core::{Call, Key, KeyState, ValueState};
-use nb_table::{Chain, ChainSeat, laws};
+use nb_table::{Chain, ChainSeat};
 
 /// Where a walk along a key's path in a table ends.
 #[derive(Clone, Copy)]
@@ -41,6 +41,7 @@ pub(crate) enum Sought {
 
 /// Walks along the path of a call's key in table `g`, from a distance on: one load for each slot. What the walk comes upon may
 /// be the call's read, so only a call that puts a number at an absent key may begin at the path's end.
+#[tactic(auto, using(nb_core::proofs::Theorems::linked))]
 pub(crate) fn walk_path(
     chain: &Chain,
     seat: &mut ChainSeat,
@@ -51,19 +52,14 @@ pub(crate) fn walk_path(
 ) -> Place
     requires own { IsOwn chain.now seat.old }
     requires key { key_of_call call.now ≡ key }
-    requires reached { IsReached chain.now.shape (seen_by seat.old) g key }
+    requires reached { IsReached chain.now.shape (seen_by chain.now.shape seat.old) g key }
     requires within { from ≤ size_of chain.now.shape g }
-    requires others { AreOthers chain.now.shape (seen_by seat.old) g key from }
+    requires others { AreOthers chain.now.shape (seen_by chain.now.shape seat.old) g key from }
     requires start { (from < size_of chain.now.shape g) ⊎ Fills call.now }
     ensures made { HasMade chain.now.shape call.now seat.old seat.new (read_at chain.now.shape g call.now result)
         (walk_steps chain.now.shape g from result) }
-    ensures ends { EndsAt chain.now.shape (seen_by seat.new) g key result }
+    ensures ends { EndsAt chain.now.shape (seen_by chain.now.shape seat.new) g key result }
 {
-    laws::steps_add_up();
-    nb_core::laws::linked();
-    nb_core::laws::paths_are_distinct();
-    chain.shape().known();
-    seat.known();
     for distance in from..chain.shape().size_of(g) {
         let i = chain.shape().path_slot(g, key, distance);
         match chain.load_key(seat, g, i, Some(*call)) {
@@ -80,6 +76,7 @@ pub(crate) fn walk_path(
 }
 
 /// Searches table `g` for the key of a call that leaves an absent key alone, from a distance of the key's path on.
+#[tactic(auto, using(nb_core::proofs::Theorems::linked))]
 pub(crate) fn seek(
     chain: &Chain,
     seat: &mut ChainSeat,
@@ -91,17 +88,13 @@ pub(crate) fn seek(
     requires own { IsOwn chain.now seat.old }
     requires key { key_of_call call.now ≡ key }
     requires alone { leaves_alone call.now None ≡ true }
-    requires reached { IsReached chain.now.shape (seen_by seat.old) g key }
+    requires reached { IsReached chain.now.shape (seen_by chain.now.shape seat.old) g key }
     requires near { from < size_of chain.now.shape g }
-    requires others { AreOthers chain.now.shape (seen_by seat.old) g key from }
+    requires others { AreOthers chain.now.shape (seen_by chain.now.shape seat.old) g key from }
     ensures made { HasMade chain.now.shape call.now seat.old seat.new (read_sought call.now result)
         (size_of chain.now.shape g - from + 1) }
-    ensures sought { IsSought chain.now.shape (seen_by seat.new) g key result }
+    ensures sought { IsSought chain.now.shape (seen_by chain.now.shape seat.new) g key result }
 {
-    laws::steps_add_up();
-    nb_core::laws::linked();
-    chain.shape().known();
-    seat.known();
     match walk_path(chain, seat, g, key, call, from) {
         Place::Slot(i) => Sought::Slot(i),
         Place::Empty(_) => Sought::Absent,
@@ -124,14 +117,10 @@ pub(crate) fn pass_slot(chain: &Chain, seat: &mut ChainSeat, g: u32, i: usize, v
     requires own { IsOwn chain.now seat.old }
     requires slot { IsSlot chain.now.shape g i }
     requires primed { IsUnprimed value → ⊥ }
-    requires held { (seen_by seat.old).value g i ≡ value }
+    requires held { (seen_by chain.now.shape seat.old).value g i ≡ value }
     ensures made { (call : Call) → HasMade chain.now.shape call seat.old seat.new [] (pass_steps chain.now.shape g) }
-    ensures passed { (key : ℕ) → (seen_by seat.old).key g i ≡ key_is.Claimed key → IsAbove chain.now.shape (seen_by seat.new) g key }
+    ensures passed { (key : ℕ) → (seen_by chain.now.shape seat.old).key g i ≡ key_is.Claimed key → IsAbove chain.now.shape (seen_by chain.now.shape seat.new) g key }
 {
-    laws::steps_add_up();
-    nb_core::laws::linked();
-    chain.shape().known();
-    seat.known();
     if !value.is_finished() {
         copy_and_count(chain, seat, g, i);
     }

@@ -11,7 +11,6 @@ ghost use Rattle.nb_map.specs.Refusing.{HasRefused};
 use crate::map::{Map, Seat};
 use crate::write::PutFault;
 use nb_core::{Change, Key, Num, Reply, Want};
-use nb_table::laws;
 use std::sync::Wait;
 use thiserror::Error;
 
@@ -44,6 +43,7 @@ impl Map {
         ensures found { IfOk result (HasFound self.now (call.Write key want.Any (change.Put number)) seat.old seat.new) }
         ensures full { IfErr result (λ fault. HasRefused self.now (call.Write key want.Any (change.Put number)) seat.old seat.new
             AddFault.Full) }
+        ensures own { IsMine self.now seat.new }
     {
         Ok(self.put_where(rt, seat, key, Want::Any, number)?.before)
     }
@@ -60,6 +60,7 @@ impl Map {
         ensures found { IfOk result (HasFound self.now (call.Write key want.Absent (change.Put number)) seat.old seat.new) }
         ensures full { IfErr result (λ fault. HasRefused self.now (call.Write key want.Absent (change.Put number)) seat.old seat.new
             AddFault.Full) }
+        ensures own { IsMine self.now seat.new }
     {
         Ok(self.put_where(rt, seat, key, Want::Absent, number)?.before)
     }
@@ -67,7 +68,8 @@ impl Map {
     /// Puts a number in place of another, and answers what was there. `ConcurrentMap.replace` of two arguments.
     pub fn replace<R: Wait>(&self, rt: &R, seat: &mut Seat, key: Key, number: Num) -> Option<Num>
         requires own { IsMine self.now seat.old }
-        ensures { HasFound self.now (call.Write key want.Present (change.Put number)) seat.old seat.new result }
+        ensures found { HasFound self.now (call.Write key want.Present (change.Put number)) seat.old seat.new result }
+        ensures own { IsMine self.now seat.new }
     {
         self.change_where(rt, seat, key, Want::Present, Change::Put(number))
             .before
@@ -76,7 +78,8 @@ impl Map {
     /// Puts a number in place of this one, and answers whether it did. `ConcurrentMap.replace` of three arguments.
     pub fn replace_if<R: Wait>(&self, rt: &R, seat: &mut Seat, key: Key, old: Num, new: Num) -> bool
         requires own { IsMine self.now seat.old }
-        ensures { HasMatched self.now (call.Write key (want.Equal old) (change.Put new)) seat.old seat.new result }
+        ensures matched { HasMatched self.now (call.Write key (want.Equal old) (change.Put new)) seat.old seat.new result }
+        ensures own { IsMine self.now seat.new }
     {
         self.change_where(rt, seat, key, Want::Equal(old), Change::Put(new))
             .matched
@@ -85,7 +88,8 @@ impl Map {
     /// Takes out a key, and answers what was there. `ConcurrentMap.remove` of one argument.
     pub fn remove<R: Wait>(&self, rt: &R, seat: &mut Seat, key: Key) -> Option<Num>
         requires own { IsMine self.now seat.old }
-        ensures { HasFound self.now (call.Write key want.Any change.Remove) seat.old seat.new result }
+        ensures found { HasFound self.now (call.Write key want.Any change.Remove) seat.old seat.new result }
+        ensures own { IsMine self.now seat.new }
     {
         self.change_where(rt, seat, key, Want::Any, Change::Remove)
             .before
@@ -94,7 +98,8 @@ impl Map {
     /// Takes out a key that has this number, and answers whether it did. `ConcurrentMap.remove` of two arguments.
     pub fn remove_if<R: Wait>(&self, rt: &R, seat: &mut Seat, key: Key, number: Num) -> bool
         requires own { IsMine self.now seat.old }
-        ensures { HasMatched self.now (call.Write key (want.Equal number) change.Remove) seat.old seat.new result }
+        ensures matched { HasMatched self.now (call.Write key (want.Equal number) change.Remove) seat.old seat.new result }
+        ensures own { IsMine self.now seat.new }
     {
         self.change_where(rt, seat, key, Want::Equal(number), Change::Remove)
             .matched
@@ -111,6 +116,7 @@ impl Map {
         requires own { IsMine self.now seat.old }
         ensures found { IfOk result (HasFound self.now (call.Write key want.Any (change.Add number)) seat.old seat.new) }
         ensures refused { IfErr result (HasRefused self.now (call.Write key want.Any (change.Add number)) seat.old seat.new) }
+        ensures own { IsMine self.now seat.new }
     {
         let reply = self.write(rt, seat, key, &Want::Any, &Change::Add(number))?;
         Ok(reply.before)
@@ -129,6 +135,7 @@ impl Map {
         ensures replied { IfOk result (HasReplied self.now (call.Write key want (change.Put number)) seat.old seat.new) }
         ensures full { IfErr result (λ fault. HasRefused self.now (call.Write key want (change.Put number)) seat.old seat.new
             AddFault.Full) }
+        ensures own { IsMine self.now seat.new }
     {
         match self.write(rt, seat, key, &want, &Change::Put(number)) {
             Ok(reply) => Ok(reply),
@@ -149,7 +156,8 @@ impl Map {
         requires own { IsMine self.now seat.old }
         requires no_put { leaves_alone (call.Write key want change) None ≡ true }
         requires in_range { (m : Numbers) → overflows (call.Write key want change) m ≡ false }
-        ensures { HasReplied self.now (call.Write key want change) seat.old seat.new result }
+        ensures replied { HasReplied self.now (call.Write key want change) seat.old seat.new result }
+        ensures own { IsMine self.now seat.new }
     {
         match self.write(rt, seat, key, &want, &change) {
             Ok(reply) => reply,
@@ -169,9 +177,8 @@ impl Map {
         requires own { IsMine self.now seat.old }
         ensures replied { IfOk result (HasReplied self.now (call.Write key want.now change.now) seat.old seat.new) }
         ensures refused { IfErr result (HasRefused self.now (call.Write key want.now change.now) seat.old seat.new) }
+        ensures own { IsMine self.now seat.new }
     {
-        laws::steps_add_up();
-        self.known(seat);
         for _ in rt.forever() {
             match self.put_if_match(seat, key, *want, *change, u32::MAX) {
                 Ok(reply) => return Ok(reply),

@@ -14,7 +14,7 @@ use crate::exchange::exchange;
 use crate::pause::Pause;
 use crate::search::{Sought, seek};
 use nb_core::{Call, Change, Key, Reply, Want};
-use nb_table::{Chain, ChainSeat, laws};
+use nb_table::{Chain, ChainSeat};
 use thiserror::Error;
 
 /// Why a write was refused. The map is unchanged by it then, and no call of its was made.
@@ -75,18 +75,10 @@ pub fn put_if_match_in<P: Pause>(
         (put_steps chain.now.shape tries) × IsJust chain.now.shape (call.Write key want change) seat.old seat.new tries fault) }
     ensures serves { P.serves pause.new chain.now }
 {
-    laws::steps_add_up();
-    nb_core::laws::linked();
-    nb_core::laws::top_complete();
-    nb_core::laws::complete_passed();
-    nb_core::laws::sizes_never_fall();
-    nb_core::laws::passed_over_adds();
-    chain.shape().known();
     let call = Call::Write { key, want, change };
     let mut below = Below::Complete;
     let mut left = tries;
     for g in chain.load_top(seat)..chain.shape().generations() {
-        seat.known();
         match write_in(chain, seat, g, key, &call, below, left, pause) {
             Written::Replied(reply) => return Ok(reply),
             Written::Refused(fault) => return Err(fault),
@@ -100,6 +92,7 @@ pub fn put_if_match_in<P: Pause>(
 }
 
 /// Makes a write in table `g`, or finds that it goes on in the next one.
+#[tactic(auto, using(nb_core::proofs::Theorems::linked))]
 fn write_in<P: Pause>(
     chain: &Chain,
     seat: &mut ChainSeat,
@@ -112,8 +105,8 @@ fn write_in<P: Pause>(
 ) -> Written
     requires own { IsOwn chain.now seat.old }
     requires key { key_of_call call.now ≡ key }
-    requires reached { IsReached chain.now.shape (seen_by seat.old) g key }
-    requires below { HasBelow chain.now.shape (seen_by seat.old) g key below }
+    requires reached { IsReached chain.now.shape (seen_by chain.now.shape seat.old) g key }
+    requires below { HasBelow chain.now.shape (seen_by chain.now.shape seat.old) g key below }
     requires some { 1 ≤ tries }
     requires serves { P.serves pause.old chain.now }
     ensures made { HasMade chain.now.shape call.now seat.old seat.new (made_by call.now result)
@@ -121,11 +114,6 @@ fn write_in<P: Pause>(
     ensures written { IsWritten chain.now.shape call.now seat.old seat.new g tries result }
     ensures serves { P.serves pause.new chain.now }
 {
-    laws::steps_add_up();
-    nb_core::laws::linked();
-    nb_core::laws::passed_over_adds();
-    chain.shape().known();
-    seat.known();
     match aim(chain, seat, g, key, call, below) {
         Target::Slot(i) => exchange(chain, seat, g, i, key, call, tries, pause),
         Target::Absent(reply) => Written::Replied(reply),
@@ -136,11 +124,12 @@ fn write_in<P: Pause>(
 
 /// Where a write that has come to table `g` has to look: it searches for the key's slot, and claims one for it if it puts a
 /// number there.
+#[tactic(auto, using(nb_core::proofs::Theorems::linked))]
 fn aim(chain: &Chain, seat: &mut ChainSeat, g: u32, key: Key, call: &Call, below: Below) -> Target
     requires own { IsOwn chain.now seat.old }
     requires key { key_of_call call.now ≡ key }
-    requires reached { IsReached chain.now.shape (seen_by seat.old) g key }
-    requires below { HasBelow chain.now.shape (seen_by seat.old) g key below }
+    requires reached { IsReached chain.now.shape (seen_by chain.now.shape seat.old) g key }
+    requires below { HasBelow chain.now.shape (seen_by chain.now.shape seat.old) g key below }
     ensures made { HasMade chain.now.shape call.now seat.old seat.new (made_at call.now result) (find_steps chain.now.shape g) }
     ensures target { IsTarget chain.now.shape call.now seat.new g key result }
 {

@@ -5,6 +5,7 @@ use Rattle.std.proofs.lemmas.Bool.{ne_eqb}
 use Rattle.std.specs.List.{All}
 use Rattle.std.proofs.lemmas.List.Elements.{All-cons, All-head, All-nil, All-tail, All-weaker, filter-append}
 use Rattle.nb_core.specs.History.{seat_of_event}
+use Rattle.nb_core.specs.Plans.{Plan}
 use Rattle.nb_core.specs.Meaning.{calls_of}
 use Rattle.nb_core.specs.declared.calls.Call.{Call}
 use Rattle.nb_core.specs.declared.calls.Reply.{Reply}
@@ -85,9 +86,9 @@ calls-own s (e ∷ es) = one e (calls-own s es)
 
 -- what a seat has called anew
 pub calls-grown :
-    {before after : SeenBy} {own : List Event} {count : ℕ} (s : ℕ) (grown : Grown before after own count) → before.number ≡ s
+    {p : Plan} {before after : SeenBy} {own : List Event} {count : ℕ} (s : ℕ) (grown : Grown p before after own count) → before.number ≡ s
     → calls_of grown.later s ≡ calls_of own s
-calls-grown {before} {own = own} s grown number =
+calls-grown {before = before} {own = own} s grown number =
     calls-own s grown.later ∙ ap (λ n. calls_of (own_events n grown.later) s) (sym number) ∙ ap (λ es. calls_of es s) grown.own_are
 
 -- ---- a seat's own events
@@ -125,7 +126,7 @@ beginning-more {x} a b = record {
   is = b.is ∙ ap (λ h. b.later ++ h) a.is ∙ sym (append_assoc b.later a.later x);
 }
 
-abbrev pub beginning-grown : {before after : SeenBy} {own : List Event} {count : ℕ} → Grown before after own count → IsBeginning before.seen after.seen
+abbrev pub beginning-grown : {p : Plan} {before after : SeenBy} {own : List Event} {count : ℕ} → Grown p before after own count → IsBeginning before.seen after.seen
 beginning-grown grown = record { later = grown.later; is = grown.seen }
 
 -- what comes after a beginning comes after another one, or between the two

@@ -20,6 +20,7 @@ use Rattle.nb_core.specs.declared.events.Event.{Event}
 use Rattle.nb_core.specs.declared.events.Event.TheVariants.{Claim, Kill, Won, CopyIn, Prime, Finish, Install, Take, Count, Promote, Read}
 use Rattle.nb_core.specs.declared.states.KeyState.{KeyState}
 use Rattle.nb_core.specs.declared.states.KeyState.TheVariants.{Empty, Dead, Claimed}
+use Rattle.nb_core.proofs.Theorems.{lawful_changes, one_slot}
 use Rattle.nb_table.specs.Chains.{own_events}
 use Rattle.nb_run.specs.Told.{key_of_command, may_put, others_put}
 use Rattle.nb_run.specs.declared.script.Command.{Command}
@@ -142,10 +143,10 @@ key_in (Claimed k) = k
 
 -- Where other keys have all slots of the last table, and the commands may have put each of these, they may have put so many.
 pub crowd-count :
-    HasOneSlot → (p : Plan) → IsPlan p → (h : List Event) → IsLegal p h → (k : ℕ) (cs : List Command)
+    (p : Plan) → IsPlan p → (h : List Event) → IsLegal p h → (k : ℕ) (cs : List Command)
     → ((j : ℕ) → j ≢ k → HasSlot p (tables_at p h) (generations_of p - 1) j → IsPut cs j) → IsCrowded p h k
     → size_of p (generations_of p - 1) ≤ others_put k cs
-crowd-count one p plan h legal k cs put crowded =
+crowd-count p plan h legal k cs put crowded =
     count-put (size_of p g) k f cs differs (λ i less. put (f i) (differs i less) (record { slot = i; in_table = less; is = is i less })) apart
   where
     g : ℕ
@@ -169,7 +170,7 @@ crowd-count one p plan h legal k cs put crowded =
     apart : (i j : ℕ) → i < j → j < size_of p g → f i ≢ f j
     apart i j less below e =
         let first : i < size_of p g = omega (arith, less, below) in
-        let at : i ≡ j = one p plan h legal g i j (f i) (within, first) (within, below) (is i first) (is j below ∙ ap Claimed (sym e)) in
+        let at : i ≡ j = one_slot p plan h legal g i j (f i) (within, first) (within, below) (is i first) (is j below ∙ ap Claimed (sym e)) in
         omega (arith, less, at)
 
 -- ---- claims of a history
@@ -222,14 +223,14 @@ claim-is Q (Count s f c) g i k from to holds change is = absurd change
 claim-is Q (Promote s f) g i k from to holds change is = absurd change
 claim-is Q (Read s c r) g i k from to holds change is = absurd change
 
-module _ (law : LawfulChanges) (p : Plan) (plan : IsPlan p) where
+module _ (p : Plan) (plan : IsPlan p) where
   -- a slot's key comes from a claim: whatever holds of all events holds of one
   claimed-from :
       (Q : Event → Type 0) (h : List Event) → IsLegal p h → All Q h → (g i k : ℕ) → IsSlot p g i
       → (tables_at p h).key g i ≡ Claimed k → (s : ℕ) × Q (Claim s g i k)
   claimed-from Q [] legal all g i k slot claimed = absurd (none-claimed p g i k claimed)
   claimed-from Q (e ∷ h) legal all g i k slot claimed =
-      elim ((law p plan e h legal).keys g i slot) [
+      elim ((lawful_changes p plan e h legal).keys g i slot) [
         | inl same ↦ claimed-from Q h legal.0 (All-tail Q e h all) g i k slot (sym same ∙ claimed)
         | inr change ↦ claim-is Q e g i k _ _ (All-head Q e h all) change claimed
       ]

@@ -10,6 +10,7 @@ use Rattle.nb_core.specs.declared.calls.Call.{Call}
 use Rattle.nb_core.specs.declared.calls.Reply.{Reply}
 use Rattle.nb_core.specs.declared.events.Event.{Event}
 use Rattle.nb_core.specs.declared.events.Event.TheVariants.{Claim, Kill, Won, CopyIn, Prime, Finish, Install, Take, Count, Promote, Read}
+use Rattle.nb_core.proofs.Theorems.{seen_lasts}
 use Rattle.nb_table.specs.Chains.{Grown, SeenBy, own_events}
 use Rattle.nb_table.specs.Views.{HasSeen}
 use Rattle.nb_map.specs.Calling.{HasMade, MayMake}
@@ -28,7 +29,6 @@ use Rattle.nb_run.proofs.Crowding.{IsClaimOf, IsPut}
 
 -- The seat's own claims are of keys that these commands may put, or that have a slot in the table below.
 pub record HasClaimed (p : Plan) (cs : List Command) (seat : SeenBy) : Type 0 where
-  pub shape : seat.shape ≡ p
   pub own : All (IsClaimOf p cs (tables_at p seat.seen)) (own_events seat.number seat.seen)
 
 -- a claim is so still, and of more commands
@@ -85,27 +85,23 @@ answered-stepped m c (answer.Matched b) before after is = (_, is.2.0, is.2.1.ste
 answered-stepped m c answer.Full before after is = (_, is.0.0, is.0.1.steps)
 answered-stepped m c answer.Range before after is = (_, is.0.0, is.0.1.steps)
 
-module _ (lasts : SeenLasts) (p : Plan) (plan : IsPlan p) where
+module _ (p : Plan) (plan : IsPlan p) where
   -- what is claimed stays so in later histories
   pub later-lasts : (before after later : List Event) → after ≡ later ++ before → IsLegal p after → Lasts p (tables_at p before) (tables_at p after)
   later-lasts before after later is legal =
-      subst (λ h. Lasts p (tables_at p before) (tables_at p h)) (sym is) (lasts p plan later before (subst (IsLegal p) is legal))
+      subst (λ h. Lasts p (tables_at p before) (tables_at p h)) (sym is) (seen_lasts p plan later before (subst (IsLegal p) is legal))
 
   -- a seat that has seen more, with claims of its own that are so
   claimed-grown :
       (cs cs' : List Command) → ((k : ℕ) → IsPut cs k → IsPut cs' k) → (before after : SeenBy) (own : List Event) (count : ℕ)
-      → HasClaimed p cs before → Grown before after own count → All (IsClaimOf p cs' (tables_at p after.seen)) own → HasClaimed p cs' after
+      → HasClaimed p cs before → Grown p before after own count → All (IsClaimOf p cs' (tables_at p after.seen)) own → HasClaimed p cs' after
   claimed-grown cs cs' more before after own count claimed grown new =
       record {
-        shape = shape;
         own = All-same (IsClaimOf p cs' (tables_at p after.seen)) _ _ parts (All-append (IsClaimOf p cs' (tables_at p after.seen)) own _ new old);
       }
     where
-      shape : after.shape ≡ p
-      shape = grown.shape ∙ claimed.shape
-
       lasting : Lasts p (tables_at p before.seen) (tables_at p after.seen)
-      lasting = later-lasts before.seen after.seen grown.later grown.seen (subst (λ q. IsLegal q after.seen) shape grown.legal)
+      lasting = later-lasts before.seen after.seen grown.later grown.seen grown.legal
 
       old : All (IsClaimOf p cs' (tables_at p after.seen)) (own_events before.number before.seen)
       old =
@@ -120,7 +116,7 @@ module _ (lasts : SeenLasts) (p : Plan) (plan : IsPlan p) where
 
   -- a seat that made no event of its own
   claimed-quiet :
-      (cs : List Command) (before after : SeenBy) (count : ℕ) → HasClaimed p cs before → Grown before after [] count → HasClaimed p cs after
+      (cs : List Command) (before after : SeenBy) (count : ℕ) → HasClaimed p cs before → Grown p before after [] count → HasClaimed p cs after
   claimed-quiet cs before after count claimed grown =
       claimed-grown cs cs (λ k put. put) before after [] count claimed grown (All-nil (IsClaimOf p cs (tables_at p after.seen)))
 
@@ -174,7 +170,7 @@ all-of-worker P w (task ∷ phase) all =
     of true rest = All-cons P task.1 (commands_of w phase) (All-head P task.1 (map (λ task. task.1) phase) all) rest
     of false rest = rest
 
-module _ (lasts : SeenLasts) (m : MapOf) (plan : IsPlan m.chain.shape) where
+module _ (m : MapOf) (plan : IsPlan m.chain.shape) where
   abbrev p : Plan
   p = m.chain.shape
 
@@ -184,16 +180,15 @@ module _ (lasts : SeenLasts) (m : MapOf) (plan : IsPlan m.chain.shape) where
       → (a : Answer) (before after : SeatOf) → IsAnswered m c a before after → HasClaimed p cs before.chain → HasClaimed p cs' after.chain
   claimed-answered cs cs' more c adds a before after is claimed =
       let steps = (answered-stepped m c a before after is).2 in
-      claimed-grown lasts p plan cs cs' more before.chain after.chain steps.own steps.count claimed steps.grown
+      claimed-grown p plan cs cs' more before.chain after.chain steps.own steps.count claimed steps.grown
       (All-weaker (MayMake p (tables_at p after.chain.seen) (call_of c)) (IsClaimOf p cs' (tables_at p after.chain.seen))
-      (claim-made p (tables_at p after.chain.seen) c cs' adds) steps.own
-      (subst (λ q. All (MayMake p (tables_at q after.chain.seen) (call_of c)) steps.own) (steps.grown.shape ∙ claimed.shape) steps.may))
+      (claim-made p (tables_at p after.chain.seen) c cs' adds) steps.own steps.may)
 
   -- the seats met
   pub claimed-met :
-      (cs : List Command) (seats : List SeatOf) (before after : SeatOf) → HasMet seats before after → HasClaimed p cs before.chain
+      (cs : List Command) (seats : List SeatOf) (before after : SeatOf) → HasMet m seats before after → HasClaimed p cs before.chain
       → HasClaimed p cs after.chain
-  claimed-met cs seats before after met claimed = claimed-quiet lasts p plan cs before.chain after.chain met.steps claimed met.grown
+  claimed-met cs seats before after met claimed = claimed-quiet p plan cs before.chain after.chain met.steps claimed met.grown
 
   module _ (cs : List Command) where
     abbrev Claimed : SeatOf → Type 0
@@ -224,7 +219,7 @@ module _ (lasts : SeenLasts) (m : MapOf) (plan : IsPlan m.chain.shape) where
     claimed-phase phase w _ _ _ among ran all = absurd ran
 
     -- every two seats met
-    claimed-meeting : (seats before after : List SeatOf) → AllZip (HasMet seats) before after → All Claimed before → All Claimed after
+    claimed-meeting : (seats before after : List SeatOf) → AllZip (HasMet m seats) before after → All Claimed before → All Claimed after
     claimed-meeting seats [] [] met all = All-nil Claimed
     claimed-meeting seats [] (t ∷ after) met all = absurd met
     claimed-meeting seats (s ∷ before) [] met all = absurd met
@@ -252,4 +247,4 @@ module _ (lasts : SeenLasts) (m : MapOf) (plan : IsPlan m.chain.shape) where
     claimed-new number zero = All-nil Claimed
     claimed-new number (suc count) =
         All-cons Claimed (new_seat m number) (seats_of m (suc number) count)
-        (record { shape = refl; own = All-nil (IsClaimOf p cs (tables_at p [])) }) (claimed-new (suc number) count)
+        (record { own = All-nil (IsClaimOf p cs (tables_at p [])) }) (claimed-new (suc number) count)

@@ -97,158 +97,157 @@ seat-numbered P n (seat ∷ seats) once all =
           seat-numbered P n seats (omega (arith, once, first, none)) (All-tail P seat seats all)
     ]
 
-module _ (lasts : SeenLasts) (changes : LawfulChanges) (one : HasOneSlot) where
-  -- In a legal history in which each seat's own claims are of keys that the commands may put, these may put each key with a
-  -- slot of the last table.
-  history-put :
-      (p : Plan) → IsPlan p → (cs : List Command) (h : List Event) → IsLegal p h
-      → ((s : ℕ) → s < p.seats → All (IsClaimOf p cs (tables_at p h)) (own_events s h)) → (j : ℕ)
-      → HasSlot p (tables_at p h) (generations_of p - 1) j → IsPut cs j
-  history-put p plan cs h legal own j has =
-      all-put changes p plan cs h legal (each-own (IsClaimOf p cs (tables_at p h)) p.seats h (seats-below p h legal) own) (generations_of p - 1)
-      (omega (arith, plan.some_tables)) j has
+-- In a legal history in which each seat's own claims are of keys that the commands may put, these may put each key with a
+-- slot of the last table.
+history-put :
+    (p : Plan) → IsPlan p → (cs : List Command) (h : List Event) → IsLegal p h
+    → ((s : ℕ) → s < p.seats → All (IsClaimOf p cs (tables_at p h)) (own_events s h)) → (j : ℕ)
+    → HasSlot p (tables_at p h) (generations_of p - 1) j → IsPut cs j
+history-put p plan cs h legal own j has =
+    all-put p plan cs h legal (each-own (IsClaimOf p cs (tables_at p h)) p.seats h (seats-below p h legal) own) (generations_of p - 1)
+    (omega (arith, plan.some_tables)) j has
 
-  -- A key is crowded at a moment of an ended map's history only by as many others as the commands may put.
-  pub crowd-ended :
-      (m : MapOf) → IsPlan m.chain.shape → (phases : List Phase) (answers : List (List (List Answer))) (after : List SeatOf) (ended : EndedOf)
-      → HaveRun m phases answers (seats_of m 0 m.chain.shape.seats) after → (end : EndedWith m.chain.shape after ended) → (k : ℕ) (h : List Event)
-      → IsBeginning h end.history → IsCrowded m.chain.shape h k
-      → size_of m.chain.shape (generations_of m.chain.shape - 1) ≤ others_put k (all_commands phases)
-  crowd-ended m plan phases answers after ended ran end k h beginning crowded =
-      crowd-count one p plan history legal k cs (λ j differs has. history-put p plan cs history legal own j has) still
-    where
-      p : Plan
-      p = m.chain.shape
-
-      cs : List Command
-      cs = all_commands phases
-
-      history : List Event
-      history = end.history
-
-      legal : IsLegal p history
-      legal = subst (λ q. IsLegal q history) end.shape end.left.legal
-
-      still : IsCrowded p history k
-      still i less =
-          let lasting = later-lasts lasts p plan h history beginning.later beginning.is legal in
-          let is = crowded i less in
-          record {
-            other = is.other;
-            is = lasting.claimed (generations_of p - 1) i is.other (omega (arith, plan.some_tables), less) is.is;
-            differs = is.differs;
-          }
-
-      claimed : All (λ seat. HasClaimed p cs seat.chain) after
-      claimed = claimed-run lasts m plan cs phases answers (seats_of m 0 p.seats) after (among-all cs) ran (claimed-new lasts m plan cs 0 p.seats)
-
-      own : (s : ℕ) → s < p.seats → All (IsClaimOf p cs (tables_at p history)) (own_events s history)
-      own s less =
-          let found = seat-numbered (λ seat. HasSeen history seat.chain.number seat.chain.seen × HasClaimed p cs seat.chain) s after (end.once s less)
-          (λ i d within. (end.seen i d within, claimed i d within)) in
-          subst (λ n. All (IsClaimOf p cs (tables_at p history)) (own_events n history)) found.1
-          (claimed-history lasts p plan cs found.0.chain history found.2.1 found.2.0 legal)
-
-  -- ---- one worker
-
-  module _ (m : MapOf) (plan : IsPlan m.chain.shape) where
-    abbrev p : Plan
+-- A key is crowded at a moment of an ended map's history only by as many others as the commands may put.
+pub crowd-ended :
+    (m : MapOf) → IsPlan m.chain.shape → (phases : List Phase) (answers : List (List (List Answer))) (after : List SeatOf) (ended : EndedOf)
+    → HaveRun m phases answers (seats_of m 0 m.chain.shape.seats) after → (end : EndedWith m.chain.shape after ended) → (k : ℕ) (h : List Event)
+    → IsBeginning h end.history → IsCrowded m.chain.shape h k
+    → size_of m.chain.shape (generations_of m.chain.shape - 1) ≤ others_put k (all_commands phases)
+crowd-ended m plan phases answers after ended ran end k h beginning crowded =
+    crowd-count p plan history legal k cs (λ j differs has. history-put p plan cs history legal own j has) still
+  where
+    p : Plan
     p = m.chain.shape
 
-    -- a new seat, with no commands so far
-    pub lone-new : IsLone p [] (new_seat m 0).chain
-    lone-new = record { claimed = claimed-new lasts m plan [] 0 1 0 (new_seat m 0) (omega arith); number = refl }
+    cs : List Command
+    cs = all_commands phases
 
-    -- after one command more
-    pub lone-answered :
-        (done : List Command) (c : Command) (a : Answer) (before after : SeatOf) → IsAnswered m c a before after → IsLone p done before.chain
-        → IsLone p (done ++ c ∷ []) after.chain
-    lone-answered done c a before after is lone = record {
-      claimed =
-          claimed-answered lasts m plan done (done ++ c ∷ []) (λ k put. put-left done (c ∷ []) k put) c
-          (λ may. put-right done (c ∷ []) (key_of_command c) (inl (may, refl))) a before after is lone.claimed;
-      number = (answered-stepped m c a before after is).2.grown.number ∙ lone.number;
-    }
+    history : List Event
+    history = end.history
 
-    -- and after a meeting
-    pub lone-met :
-        (done : List Command) (seats : List SeatOf) (before after : SeatOf) → HasMet seats before after → IsLone p done before.chain
-        → IsLone p done after.chain
-    lone-met done seats before after met lone = record {
-      claimed = claimed-met lasts m plan done seats before after met lone.claimed;
-      number = met.grown.number ∙ lone.number;
-    }
+    legal : IsLegal p history
+    legal = subst (λ q. IsLegal q history) end.shape end.left.legal
 
-    module _ (single : p.seats ≡ 1) where
-      -- Where the seat finds the map full, the commands before may have filled it.
-      pub lone-full :
-          (done : List Command) (c : Command) (before after : SeatOf) → IsAnswered m c answer.Full before after → IsLone p done before.chain
-          → MayCrowd p done c
-      lone-full done c before after is lone =
-          (ap not is.1.0, crowd-count one p plan h legal k done (λ j differs has. earlier j differs (put j has)) is.1.1)
-        where
-          h : List Event
-          h = after.chain.seen
+    still : IsCrowded p history k
+    still i less =
+        let lasting = later-lasts p plan h history beginning.later beginning.is legal in
+        let is = crowded i less in
+        record {
+          other = is.other;
+          is = lasting.claimed (generations_of p - 1) i is.other (omega (arith, plan.some_tables), less) is.is;
+          differs = is.differs;
+        }
 
-          k : ℕ
-          k = key_of_command c
+    claimed : All (λ seat. HasClaimed p cs seat.chain) after
+    claimed = claimed-run m plan cs phases answers (seats_of m 0 p.seats) after (among-all cs) ran (claimed-new m plan cs 0 p.seats)
 
-          next : IsLone p (done ++ c ∷ []) after.chain
-          next = lone-answered done c answer.Full before after is lone
+    own : (s : ℕ) → s < p.seats → All (IsClaimOf p cs (tables_at p history)) (own_events s history)
+    own s less =
+        let found = seat-numbered (λ seat. HasSeen history seat.chain.number seat.chain.seen × HasClaimed p cs seat.chain) s after (end.once s less)
+        (λ i d within. (end.seen i d within, claimed i d within)) in
+        subst (λ n. All (IsClaimOf p cs (tables_at p history)) (own_events n history)) found.1
+        (claimed-history p plan cs found.0.chain history found.2.1 found.2.0 legal)
 
-          legal : IsLegal p h
-          legal = subst (λ q. IsLegal q h) next.claimed.shape is.0.1.steps.grown.legal
+-- ---- one worker
 
-          put : (j : ℕ) → HasSlot p (tables_at p h) (generations_of p - 1) j → IsPut (done ++ c ∷ []) j
-          put =
-              history-put p plan (done ++ c ∷ []) h legal
-              (λ s less. let zero : after.chain.number ≡ s = omega (arith, next.number, less, single) in
-              subst (λ n. All (IsClaimOf p (done ++ c ∷ []) (tables_at p h)) (own_events n h)) zero next.claimed.own)
+module _ (m : MapOf) (plan : IsPlan m.chain.shape) where
+  abbrev p : Plan
+  p = m.chain.shape
 
-          earlier : (j : ℕ) → j ≢ k → IsPut (done ++ c ∷ []) j → IsPut done j
-          earlier j differs put = elim (put-cases done c j put) [ inl before ↦ before | inr same ↦ absurd (differs (sym same)) ]
+  -- a new seat, with no commands so far
+  pub lone-new : IsLone p [] (new_seat m 0).chain
+  lone-new = record { claimed = claimed-new m plan [] 0 1 0 (new_seat m 0) (omega arith); number = refl }
 
-      -- So at each of its commands.
-      pub crowd-lone :
-          (done cs : List Command) (answers : List Answer) (before after : SeatOf) → IsLone p done before.chain
-          → AreAnswered m cs answers before after → IsLone p (done ++ cs) after.chain × AreJust p done cs answers
-      crowd-lone done [] [] before after lone is =
-          (subst (λ xs. IsLone p xs after.chain) (sym (append-nil done)) (subst (λ seat. IsLone p done seat.chain) (sym is) lone), tt)
-      crowd-lone done [] (a ∷ answers) before after lone is = absurd is
-      crowd-lone done (c ∷ cs) [] before after lone is = absurd is
-      crowd-lone done (c ∷ cs) (a ∷ answers) before after lone is =
-          let rest = crowd-lone (done ++ c ∷ []) cs answers is.0 after (lone-answered done c a before is.0 is.1 lone) is.2 in (
-            subst (λ xs. IsLone p xs after.chain) (append_assoc done (c ∷ []) cs) rest.0,
-            (λ full. lone-full done c before is.0 (subst (λ b. IsAnswered m c b before is.0) full is.1) lone, rest.1),
-          )
+  -- after one command more
+  pub lone-answered :
+      (done : List Command) (c : Command) (a : Answer) (before after : SeatOf) → IsAnswered m c a before after → IsLone p done before.chain
+      → IsLone p (done ++ c ∷ []) after.chain
+  lone-answered done c a before after is lone = record {
+    claimed =
+        claimed-answered m plan done (done ++ c ∷ []) (λ k put. put-left done (c ∷ []) k put) c
+        (λ may. put-right done (c ∷ []) (key_of_command c) (inl (may, refl))) a before after is lone.claimed;
+    number = (answered-stepped m c a before after is).2.grown.number ∙ lone.number;
+  }
 
-      -- And of a run: one worker has the commands that are its own, phase after phase.
-      pub crowd-lone-run :
-          (done : List Command) (phases : List Phase) (answers : List (List (List Answer))) (before : SeatOf) (after : List SeatOf)
-          → IsLone p done before.chain → HaveRun m phases answers (before ∷ []) after
-          → AreJust p done (flat_map (commands_of 0) phases) (flat_map (flat_map (λ mine. mine)) answers)
-      crowd-lone-run done [] [] before after lone ran = tt
-      crowd-lone-run done [] (first ∷ answers) before after lone ran = absurd ran
-      crowd-lone-run done (phase ∷ phases) [] before after lone ran = absurd ran
-      crowd-lone-run done (phase ∷ phases) (first ∷ answers) before after lone ran =
-          of first ran.0 ran.1 ran.2 ran.3 (λ u. crowd-lone-run (done ++ commands_of 0 phase) phases answers u after) ran.4
-        where
-          -- the answers of the one worker alone
-          of :
-              (first : List (List Answer)) (apart joined : List SeatOf) → PhaseRan m phase 0 first (before ∷ []) apart → HaveMet apart joined
-              → ((u : SeatOf) → IsLone p (done ++ commands_of 0 phase) u.chain → HaveRun m phases answers (u ∷ []) after
-              → AreJust p (done ++ commands_of 0 phase) (flat_map (commands_of 0) phases) (flat_map (flat_map (λ mine. mine)) answers))
-              → HaveRun m phases answers joined after
-              → AreJust p done (commands_of 0 phase ++ flat_map (commands_of 0) phases)
-              (flat_map (λ mine. mine) first ++ flat_map (flat_map (λ mine. mine)) answers)
-          of (mine ∷ []) (t ∷ []) (u ∷ []) phase_ran met rest later =
-              let own = crowd-lone done (commands_of 0 phase) mine before t lone phase_ran.0 in
-              just-append p done (commands_of 0 phase) (flat_map (commands_of 0) phases) (mine ++ []) (flat_map (flat_map (λ mine. mine)) answers)
-              (subst (AreJust p done (commands_of 0 phase)) (sym (append-nil mine)) own.1)
-              (rest u (lone-met (done ++ commands_of 0 phase) (t ∷ []) t u met.0 own.0) later)
-          of (mine ∷ []) (t ∷ []) [] phase_ran met rest later = absurd met
-          of (mine ∷ []) (t ∷ []) (u ∷ v ∷ joined) phase_ran met rest later = absurd met.1
-          of [] apart joined phase_ran met rest later = absurd phase_ran
-          of (mine ∷ others) [] joined phase_ran met rest later = absurd phase_ran
-          of (mine ∷ []) (t ∷ v ∷ apart) joined phase_ran met rest later = absurd phase_ran.1
-          of (mine ∷ other ∷ others) (t ∷ apart) joined phase_ran met rest later = absurd phase_ran.1
+  -- and after a meeting
+  pub lone-met :
+      (done : List Command) (seats : List SeatOf) (before after : SeatOf) → HasMet m seats before after → IsLone p done before.chain
+      → IsLone p done after.chain
+  lone-met done seats before after met lone = record {
+    claimed = claimed-met m plan done seats before after met lone.claimed;
+    number = met.grown.number ∙ lone.number;
+  }
+
+  module _ (single : p.seats ≡ 1) where
+    -- Where the seat finds the map full, the commands before may have filled it.
+    pub lone-full :
+        (done : List Command) (c : Command) (before after : SeatOf) → IsAnswered m c answer.Full before after → IsLone p done before.chain
+        → MayCrowd p done c
+    lone-full done c before after is lone =
+        (ap not is.1.0, crowd-count p plan h legal k done (λ j differs has. earlier j differs (put j has)) is.1.1)
+      where
+        h : List Event
+        h = after.chain.seen
+
+        k : ℕ
+        k = key_of_command c
+
+        next : IsLone p (done ++ c ∷ []) after.chain
+        next = lone-answered done c answer.Full before after is lone
+
+        legal : IsLegal p h
+        legal = is.0.1.steps.grown.legal
+
+        put : (j : ℕ) → HasSlot p (tables_at p h) (generations_of p - 1) j → IsPut (done ++ c ∷ []) j
+        put =
+            history-put p plan (done ++ c ∷ []) h legal
+            (λ s less. let zero : after.chain.number ≡ s = omega (arith, next.number, less, single) in
+            subst (λ n. All (IsClaimOf p (done ++ c ∷ []) (tables_at p h)) (own_events n h)) zero next.claimed.own)
+
+        earlier : (j : ℕ) → j ≢ k → IsPut (done ++ c ∷ []) j → IsPut done j
+        earlier j differs put = elim (put-cases done c j put) [ inl before ↦ before | inr same ↦ absurd (differs (sym same)) ]
+
+    -- So at each of its commands.
+    pub crowd-lone :
+        (done cs : List Command) (answers : List Answer) (before after : SeatOf) → IsLone p done before.chain
+        → AreAnswered m cs answers before after → IsLone p (done ++ cs) after.chain × AreJust p done cs answers
+    crowd-lone done [] [] before after lone is =
+        (subst (λ xs. IsLone p xs after.chain) (sym (append-nil done)) (subst (λ seat. IsLone p done seat.chain) (sym is) lone), tt)
+    crowd-lone done [] (a ∷ answers) before after lone is = absurd is
+    crowd-lone done (c ∷ cs) [] before after lone is = absurd is
+    crowd-lone done (c ∷ cs) (a ∷ answers) before after lone is =
+        let rest = crowd-lone (done ++ c ∷ []) cs answers is.0 after (lone-answered done c a before is.0 is.1 lone) is.2 in (
+          subst (λ xs. IsLone p xs after.chain) (append_assoc done (c ∷ []) cs) rest.0,
+          (λ full. lone-full done c before is.0 (subst (λ b. IsAnswered m c b before is.0) full is.1) lone, rest.1),
+        )
+
+    -- And of a run: one worker has the commands that are its own, phase after phase.
+    pub crowd-lone-run :
+        (done : List Command) (phases : List Phase) (answers : List (List (List Answer))) (before : SeatOf) (after : List SeatOf)
+        → IsLone p done before.chain → HaveRun m phases answers (before ∷ []) after
+        → AreJust p done (flat_map (commands_of 0) phases) (flat_map (flat_map (λ mine. mine)) answers)
+    crowd-lone-run done [] [] before after lone ran = tt
+    crowd-lone-run done [] (first ∷ answers) before after lone ran = absurd ran
+    crowd-lone-run done (phase ∷ phases) [] before after lone ran = absurd ran
+    crowd-lone-run done (phase ∷ phases) (first ∷ answers) before after lone ran =
+        of first ran.0 ran.1 ran.2 ran.3 (λ u. crowd-lone-run (done ++ commands_of 0 phase) phases answers u after) ran.4
+      where
+        -- the answers of the one worker alone
+        of :
+            (first : List (List Answer)) (apart joined : List SeatOf) → PhaseRan m phase 0 first (before ∷ []) apart → HaveMet m apart joined
+            → ((u : SeatOf) → IsLone p (done ++ commands_of 0 phase) u.chain → HaveRun m phases answers (u ∷ []) after
+            → AreJust p (done ++ commands_of 0 phase) (flat_map (commands_of 0) phases) (flat_map (flat_map (λ mine. mine)) answers))
+            → HaveRun m phases answers joined after
+            → AreJust p done (commands_of 0 phase ++ flat_map (commands_of 0) phases)
+            (flat_map (λ mine. mine) first ++ flat_map (flat_map (λ mine. mine)) answers)
+        of (mine ∷ []) (t ∷ []) (u ∷ []) phase_ran met rest later =
+            let own = crowd-lone done (commands_of 0 phase) mine before t lone phase_ran.0 in
+            just-append p done (commands_of 0 phase) (flat_map (commands_of 0) phases) (mine ++ []) (flat_map (flat_map (λ mine. mine)) answers)
+            (subst (AreJust p done (commands_of 0 phase)) (sym (append-nil mine)) own.1)
+            (rest u (lone-met (done ++ commands_of 0 phase) (t ∷ []) t u met.0 own.0) later)
+        of (mine ∷ []) (t ∷ []) [] phase_ran met rest later = absurd met
+        of (mine ∷ []) (t ∷ []) (u ∷ v ∷ joined) phase_ran met rest later = absurd met.1
+        of [] apart joined phase_ran met rest later = absurd phase_ran
+        of (mine ∷ others) [] joined phase_ran met rest later = absurd phase_ran
+        of (mine ∷ []) (t ∷ v ∷ apart) joined phase_ran met rest later = absurd phase_ran.1
+        of (mine ∷ other ∷ others) (t ∷ apart) joined phase_ran met rest later = absurd phase_ran.1

@@ -18,6 +18,7 @@ use Rattle.nb_core.specs.declared.calls.Call.{Call}
 use Rattle.nb_core.specs.declared.calls.Call.TheVariants as call
 use Rattle.nb_core.specs.declared.calls.Reply.{Reply}
 use Rattle.nb_core.specs.declared.events.Event.{Event}
+use Rattle.nb_core.proofs.Theorems.{calls_replayed, crowded_absent, lone_seat, map_in_range}
 use Rattle.nb_table.specs.Chains.{Grown}
 use Rattle.nb_map.specs.Ending.{EndedOf, EndedWith}
 use Rattle.nb_map.specs.Maps.{HasWaited, MapOf, SeatOf, new_seat, seats_of}
@@ -190,7 +191,7 @@ fits (call.Write k want change) m within =
 -- ---- one seat
 
 module _
-    (replayed : CallsReplayed) (lone : LoneSeat) (in_range : MapInRange) (absent : CrowdedAbsent) (m : MapOf) (plan : IsPlan m.chain.shape)
+    (m : MapOf) (plan : IsPlan m.chain.shape)
     (single : m.chain.shape.seats ≡ 1)
   where
     abbrev p : Plan
@@ -201,14 +202,13 @@ module _
     held seat = map_of_calls (calls_of seat.chain.seen 0)
 
     lone-map : (h : List Event) → IsLegal p h → map_of h ≡ map_of_calls (calls_of h 0)
-    lone-map h legal = (replayed p plan h legal).map ∙ ap map_of_calls (lone p single h legal)
+    lone-map h legal = (calls_replayed p plan h legal).map ∙ ap map_of_calls (lone_seat p single h legal)
 
     lone-replies : (h : List Event) → IsLegal p h → AreReplies (calls_of h 0)
-    lone-replies h legal = subst AreReplies (lone p single h legal) (replayed p plan h legal).replies
+    lone-replies h legal = subst AreReplies (lone_seat p single h legal) (calls_replayed p plan h legal).replies
 
     -- the seat is the map's first
     record IsFirst (seat : SeatOf) : Type 0 where
-      shape : seat.chain.shape ≡ p
       number : seat.chain.number ≡ 0
 
     -- what the seat has called more
@@ -218,11 +218,11 @@ module _
       calls : calls_of after.chain.seen 0 ≡ made ++ calls_of before.chain.seen 0
 
     grown-more :
-        (before after : SeatOf) (own : List Event) (count : ℕ) (made : Calls) → IsFirst before → Grown before.chain after.chain own count
+        (before after : SeatOf) (own : List Event) (count : ℕ) (made : Calls) → IsFirst before → Grown p before.chain after.chain own count
         → calls_of own before.chain.number ≡ made → HasCalledMore made before after
     grown-more before after own count made first grown calls = record {
-      first = record { shape = grown.shape ∙ first.shape; number = grown.number ∙ first.number };
-      legal = subst (λ q. IsLegal q after.chain.seen) (grown.shape ∙ first.shape) grown.legal;
+      first = record { number = grown.number ∙ first.number };
+      legal = grown.legal;
       calls =
           ap (λ h. calls_of h 0) grown.seen ∙ calls-append grown.later before.chain.seen 0
           ∙ ap (λ calls. calls ++ calls_of before.chain.seen 0)
@@ -253,7 +253,7 @@ module _
 
         acts : overflows (call_of c) (held before) ≡ false
         acts = fits (call_of c) (held before)
-            (λ k n there. (in_range p plan after.chain.seen more.legal k n
+            (λ k n there. (map_in_range p plan after.chain.seen more.legal k n
             (ap (λ x. get x k) (lone-map after.chain.seen more.legal ∙ then) ∙ there)).1)
 
         answered : a ≡ answer_of c (held before)
@@ -274,7 +274,7 @@ module _
         → get (held before) (key_of_command c) ≡ None
     refused-absent c before after more crowded =
         ap (λ x. get x (key_of_command c)) (sym (lone-map after.chain.seen more.legal ∙ refused-left c before after more))
-        ∙ absent p plan after.chain.seen more.legal (key_of_command c) crowded
+        ∙ crowded_absent p plan after.chain.seen more.legal (key_of_command c) crowded
 
     -- an add that is refused for its sum answers so on the plain map
     past-plain :
@@ -316,7 +316,7 @@ module _
         (rest.0, (held is.0, one.1, rest.1))
 
     -- a meeting leaves the map
-    met-plain : (seats : List SeatOf) (before after : SeatOf) → IsFirst before → HasMet seats before after → IsFirst after × (held after ≡ held before)
+    met-plain : (seats : List SeatOf) (before after : SeatOf) → IsFirst before → HasMet m seats before after → IsFirst after × (held after ≡ held before)
     met-plain seats before after first met =
         let more = grown-more before after [] met.steps [] first met.grown refl in
         (more.first, ap map_of_calls more.calls)
@@ -354,7 +354,7 @@ module _
         of now ran.0 ran.1 ran.2 ran.3 (λ u. run-plain phases answers u after) ran.4
       where
         of :
-            (now : List (List Answer)) (apart joined : List SeatOf) → PhaseRan m phase 0 now (before ∷ []) apart → HaveMet apart joined
+            (now : List (List Answer)) (apart joined : List SeatOf) → PhaseRan m phase 0 now (before ∷ []) apart → HaveMet m apart joined
             → ((u : SeatOf) → IsFirst u → HaveRun m phases answers (u ∷ []) after → HasRunPlain phases answers u after)
             → HaveRun m phases answers joined after → HasRunPlain (phase ∷ phases) (now ∷ answers) before after
         of (mine ∷ []) (t ∷ []) (u ∷ []) phase_ran met rest later =
@@ -395,12 +395,12 @@ module _
 -- What one worker was answered is the plain map's text, but for commands that were refused for want of room, each where earlier
 -- commands may have filled the map.
 pub lone-text :
-    CallsReplayed → LoneSeat → MapInRange → CrowdedAbsent → SeenLasts → LawfulChanges → HasOneSlot → (m : MapOf) → IsPlan m.chain.shape
+    (m : MapOf) → IsPlan m.chain.shape
     → m.chain.shape.seats ≡ 1 → (phases : List Phase) (answers : List (List (List Answer))) (after : List SeatOf) (ended : EndedOf)
     → All (λ phase. All (λ task. task.0 < 1) phase) phases → HaveRun m phases answers (seats_of m 0 m.chain.shape.seats) after
     → (end : EndedWith m.chain.shape after ended)
     → IsLoneText m.chain.shape phases (flat_map (phase_text 0) answers ++ ending (map_of end.history))
-lone-text replayed lone in_range absent lasts changes one m plan single phases answers after ended below ran end = record {
+lone-text m plan single phases answers after ended below ran end = record {
   full = full_at all;
   is =
       ap (λ bytes. bytes ++ ending (map_of end.history)) done.lines ∙ ap (λ x. flat_map (answer_line 0) all ++ ending x) ends
@@ -424,8 +424,8 @@ lone-text replayed lone in_range absent lasts changes one m plan single phases a
     from_new : HaveRun m phases answers (new_seat m 0 ∷ []) after
     from_new = subst (λ n. HaveRun m phases answers (seats_of m 0 n) after) single ran
 
-    done : HasRunPlain replayed lone in_range absent m plan single phases answers (new_seat m 0) after
-    done = run-plain replayed lone in_range absent m plan single phases answers (new_seat m 0) after (record { shape = refl; number = refl }) from_new
+    done : HasRunPlain m plan single phases answers (new_seat m 0) after
+    done = run-plain m plan single phases answers (new_seat m 0) after (record { number = refl }) from_new
 
     map_none : Numbers
     map_none = map_of_calls []
@@ -434,7 +434,7 @@ lone-text replayed lone in_range absent lasts changes one m plan single phases a
     left = map_of_calls (calls_of done.seat.chain.seen 0)
 
     ends : map_of end.history ≡ left
-    ends = ended-plain replayed lone in_range absent m plan single after ended end done.seat done.is done.first
+    ends = ended-plain m plan single after ended end done.seat done.is done.first
 
     just : AreJust m.chain.shape [] (flat_map (commands_of 0) phases) all
-    just = crowd-lone-run lasts changes one m plan single [] phases answers (new_seat m 0) after (lone-new lasts changes one m plan) from_new
+    just = crowd-lone-run m plan single [] phases answers (new_seat m 0) after (lone-new m plan) from_new

@@ -9,7 +9,7 @@ use Rattle.std.specs.declared.vec.Vec.{Vec}
 use Rattle.nb_core.specs.declared.events.Event.{Event}
 use Rattle.nb_map.specs.Maps.{IsMine, MapOf, SeatOf}
 use Rattle.nb_table.specs.Chains.{Extended}
-use Rattle.nb_table.specs.Laws.{StepsAddUp}
+use Rattle.nb_table.proofs.Theorems.{steps_add_up}
 use Rattle.nb_table.specs.Views.{IsBeginning}
 use Rattle.nb_run.specs.Working.{HasMet, HasMetAs, seats_of}
 use Rattle.nb_run.specs.declared.workers.Worker.{Worker}
@@ -17,9 +17,9 @@ use Rattle.nb_run.proofs.CallLemmas.{HasSeenOf, beginning-grown, beginning-more}
 use Rattle.nb_run.proofs.Together.{all-zip-push, all-zip-then}
 
 -- what a seat has of a meeting with another one
-abbrev pub Meets : (other before after : SeatOf) → Type 0
-Meets other before after =
-    Extended before.chain after.chain [] 1 × IsBeginning other.chain.seen after.chain.seen × (after.count ≡ before.count)
+abbrev pub Meets : MapOf → (other before after : SeatOf) → Type 0
+Meets m other before after =
+    Extended m.chain.shape before.chain after.chain [] 1 × IsBeginning other.chain.seen after.chain.seen × (after.count ≡ before.count)
 
 -- who has seen more has heard of the same seats
 later-heard : (h h' : List Event) → IsBeginning h h' → (seats : List SeatOf) → All (HasSeenOf h) seats → All (HasSeenOf h') seats
@@ -41,54 +41,51 @@ same-after xs ys i y below below' same =
 abbrev pub seated : Worker → SeatOf → Worker
 seated worker seat = record { number = worker.number; seat = seat; answers = worker.answers }
 
-module _ (adds : StepsAddUp) where
+module _ (m : MapOf) where
   -- ---- one seat
 
   -- a seat that has met one
-  pub met-one : (other before after : SeatOf) → Meets other before after → HasMet (other ∷ []) before after
+  pub met-one : (other before after : SeatOf) → Meets m other before after → HasMet m (other ∷ []) before after
   met-one other before after meets = record {
     steps = 1;
-    grown = adds.one meets.0;
+    grown = steps_add_up.one meets.0;
     counter = meets.2;
     heard = All-cons (HasSeenOf after.chain.seen) other [] meets.1 (All-nil (HasSeenOf after.chain.seen));
   }
 
   -- one meeting after another
   pub met-then :
-      (seats more : List SeatOf) (before now after : SeatOf) → HasMet seats before now → HasMet more now after
-      → HasMet (seats ++ more) before after
+      (seats more : List SeatOf) (before now after : SeatOf) → HasMet m seats before now → HasMet m more now after
+      → HasMet m (seats ++ more) before after
   met-then seats more before now after a b = record {
     steps = a.steps + b.steps;
-    grown = adds.more a.grown b.grown;
+    grown = steps_add_up.more a.grown b.grown;
     counter = b.counter ∙ a.counter;
     heard =
         All-append (HasSeenOf after.chain.seen) seats more (later-heard now.chain.seen after.chain.seen (beginning-grown b.grown) seats a.heard)
         b.heard;
   }
 
-  pub met-own : (m : MapOf) (seats : List SeatOf) (before after : SeatOf) → IsMine m before → HasMet seats before after → IsMine m after
-  met-own m seats before after mine met = (adds.own mine.0 met.grown, ap (λ c. c.counter) met.counter ∙ mine.1)
-
   -- of a seat that has heard more
   pub met-less :
-      (seats others : List SeatOf) (before after : SeatOf) → HasMet others before after → All (HasSeenOf after.chain.seen) seats
-      → HasMet seats before after
+      (seats others : List SeatOf) (before after : SeatOf) → HasMet m others before after → All (HasSeenOf after.chain.seen) seats
+      → HasMet m seats before after
   met-less seats others before after met heard = record { steps = met.steps; grown = met.grown; counter = met.counter; heard = heard }
 
   -- a seat has met itself
-  pub met-itself : (seats : List SeatOf) (before after : SeatOf) → HasMet seats before after → HasMet (seats ++ before ∷ []) before after
+  pub met-itself : (seats : List SeatOf) (before after : SeatOf) → HasMet m seats before after → HasMet m (seats ++ before ∷ []) before after
   met-itself seats before after met = met-less (seats ++ before ∷ []) seats before after met
       (All-push (HasSeenOf after.chain.seen) seats before met.heard (beginning-grown met.grown))
 
   -- ---- one worker
 
   pub met-as :
-      (m : MapOf) (seats : List SeatOf) (worker : Worker) (after : SeatOf) → IsMine m worker.seat → HasMet seats worker.seat after
+      (seats : List SeatOf) (worker : Worker) (after : SeatOf) → IsMine m after → HasMet m seats worker.seat after
       → HasMetAs m seats worker (seated worker after)
-  met-as m seats worker after mine met = record {
+  met-as seats worker after mine met = record {
     number = refl;
     answers = refl;
-    own = met-own m seats worker.seat after mine met;
+    own = mine;
     met = met;
   }
 
@@ -96,22 +93,22 @@ module _ (adds : StepsAddUp) where
 
   -- the others so far, and one more
   pub each-more :
-      (m : MapOf) (workers now : List Worker) (i : ℕ) (worker : Worker) (s t t' u : SeatOf) → i < length workers → i < length now
-      → worker ≡ get_or workers i worker → drop i now ≡ drop i workers → IsMine m s → IsMine m worker.seat
-      → HasMet (seats_of (take i workers)) s t → AllZip (HasMetAs m (s ∷ [])) (take i workers) (take i now) → Meets worker.seat t t'
-      → Meets t worker.seat u
-      → IsMine m t' × HasMet (seats_of (take (i + 1) workers)) s t'
+      (workers now : List Worker) (i : ℕ) (worker : Worker) (s t t' u : SeatOf) → i < length workers → i < length now
+      → worker ≡ get_or workers i worker → drop i now ≡ drop i workers → IsMine m t' → IsMine m u
+      → HasMet m (seats_of (take i workers)) s t → AllZip (HasMetAs m (s ∷ [])) (take i workers) (take i now) → Meets m worker.seat t t'
+      → Meets m t worker.seat u
+      → IsMine m t' × HasMet m (seats_of (take (i + 1) workers)) s t'
       × AllZip (HasMetAs m (s ∷ [])) (take (i + 1) workers) (take (i + 1) (set now i (seated worker u)))
       × (drop (i + 1) (set now i (seated worker u)) ≡ drop (i + 1) workers)
-  each-more m workers now i worker s t t' u below below' at rest own mine met all a b =
+  each-more workers now i worker s t t' u below below' at rest own mine met all a b =
       let met' = met-then (seats_of (take i workers)) (worker.seat ∷ []) s t t' met (met-one worker.seat t t' a) in (
-        met-own m (seats_of (take i workers) ++ worker.seat ∷ []) s t' own met',
-        subst (λ seats. HasMet seats s t')
+        own,
+        subst (λ seats. HasMet m seats s t')
             (sym (map_more (λ w. w.seat) workers i worker below ∙ ap (λ w. seats_of (take i workers) ++ w.seat ∷ []) (sym at)))
             met',
         subst (AllZip (HasMetAs m (s ∷ [])) (take (i + 1) workers)) (sym (take_more_set now i (seated worker u) below'))
             (all_zip_more (HasMetAs m (s ∷ [])) workers (take i now) i worker (seated worker u) below at all
-            (met-as m (s ∷ []) worker u mine
+            (met-as (s ∷ []) worker u mine
             (met-less (s ∷ []) (t ∷ []) worker.seat u (met-one t worker.seat u b)
             (All-cons (HasSeenOf u.chain.seen) s [] (beginning-more (beginning-grown met.grown) b.1) (All-nil (HasSeenOf u.chain.seen)))))),
         same-after workers now i (seated worker u) below below' rest,
@@ -121,29 +118,29 @@ module _ (adds : StepsAddUp) where
 
   -- who has heard of them later has heard of them as they were
   heard-earlier :
-      (m : MapOf) (seats : List SeatOf) (h : List Event) (before after : List Worker) → AllZip (HasMetAs m seats) before after
+      (seats : List SeatOf) (h : List Event) (before after : List Worker) → AllZip (HasMetAs m seats) before after
       → All (HasSeenOf h) (seats_of after) → All (HasSeenOf h) (seats_of before)
-  heard-earlier m seats h [] [] all heard = All-nil (HasSeenOf h)
-  heard-earlier m seats h [] (v ∷ after) all heard = absurd all
-  heard-earlier m seats h (w ∷ before) [] all heard = absurd all
-  heard-earlier m seats h (w ∷ before) (v ∷ after) all heard =
+  heard-earlier seats h [] [] all heard = All-nil (HasSeenOf h)
+  heard-earlier seats h [] (v ∷ after) all heard = absurd all
+  heard-earlier seats h (w ∷ before) [] all heard = absurd all
+  heard-earlier seats h (w ∷ before) (v ∷ after) all heard =
       All-cons (HasSeenOf h) w.seat (seats_of before)
       (beginning-more (beginning-grown all.0.met.grown) (All-head (HasSeenOf h) v.seat (seats_of after) heard))
-      (heard-earlier m seats h before after all.1 (All-tail (HasSeenOf h) v.seat (seats_of after) heard))
+      (heard-earlier seats h before after all.1 (All-tail (HasSeenOf h) v.seat (seats_of after) heard))
 
   -- the last one has met the others, which meet then
   pub all-met :
-      (m : MapOf) (before between after : List Worker) (last : Worker) (t : SeatOf) → IsMine m last.seat
-      → HasMet (seats_of before) last.seat t → AllZip (HasMetAs m (last.seat ∷ [])) before between
+      (before between after : List Worker) (last : Worker) (t : SeatOf) → IsMine m t
+      → HasMet m (seats_of before) last.seat t → AllZip (HasMetAs m (last.seat ∷ [])) before between
       → AllZip (HasMetAs m (seats_of between)) between after
       → AllZip (HasMetAs m (seats_of (before ++ last ∷ []))) (before ++ last ∷ []) (after ++ seated last t ∷ [])
-  all-met m before between after last t mine met each others =
+  all-met before between after last t mine met each others =
       let seats = seats_of before ++ last.seat ∷ [] in
       subst (λ all. AllZip (HasMetAs m all) (before ++ last ∷ []) (after ++ seated last t ∷ []))
       (sym (map-append (λ w. w.seat) before (last ∷ [])))
       (all-zip-push (HasMetAs m seats) before after last (seated last t)
       (all-zip-then (HasMetAs m (last.seat ∷ [])) (HasMetAs m (seats_of between)) (HasMetAs m seats) one before between after each others)
-      (met-as m seats last t mine (met-itself (seats_of before) last.seat t met)))
+      (met-as seats last t mine (met-itself (seats_of before) last.seat t met)))
     where
       one : (w v u : Worker) → HasMetAs m (last.seat ∷ []) w v → HasMetAs m (seats_of between) v u
           → HasMetAs m (seats_of before ++ last.seat ∷ []) w u
@@ -155,7 +152,7 @@ module _ (adds : StepsAddUp) where
             let then = met-then (last.seat ∷ []) (seats_of between) w.seat v.seat u.seat a.met b.met in
             let h = u.seat.chain.seen in
             met-less (seats_of before ++ last.seat ∷ []) (last.seat ∷ seats_of between) w.seat u.seat then
-            (All-push (HasSeenOf h) (seats_of before) last.seat (heard-earlier m (last.seat ∷ []) h before between each b.met.heard)
+            (All-push (HasSeenOf h) (seats_of before) last.seat (heard-earlier (last.seat ∷ []) h before between each b.met.heard)
             (All-head (HasSeenOf h) last.seat (seats_of between) then.heard));
       }
 

@@ -201,12 +201,6 @@ run-count m phases before after ran =
 
 -- ---- the map's seats
 
--- the seats that a map is made with are its own
-all-mine : (m : MapOf) (first count : ℕ) → All (IsMine m) (maps.seats_of m first count)
-all-mine m first zero = All-nil (IsMine m)
-all-mine m first (suc count) =
-    All-cons (IsMine m) (new_seat m first) (maps.seats_of m (suc first) count) ((refl, refl), refl) (all-mine m (suc first) count)
-
 count-seats : (m : MapOf) (first count : ℕ) → length (maps.seats_of m first count) ≡ count
 count-seats m first zero = refl
 count-seats m first (suc count) = ap suc (count-seats m (suc first) count)
@@ -218,11 +212,10 @@ seats-each P (w ∷ workers) all =
     All-cons (λ worker. P worker.seat) w workers (All-head P w.seat (seats_of workers) all)
     (seats-each P workers (All-tail P w.seat (seats_of workers) all))
 
--- So they are the workers'.
+-- the seats that a map is made with are its own, and so the workers'
 pub workers-mine :
-    (m : MapOf) (count : ℕ) (workers : List Worker) → seats_of workers ≡ maps.seats_of m 0 count → All (λ worker. IsMine m worker.seat) workers
-workers-mine m count workers are =
-    seats-each (IsMine m) workers (All-same (IsMine m) (seats_of workers) (maps.seats_of m 0 count) are (all-mine m 0 count))
+    (m : MapOf) (seats : List SeatOf) (workers : List Worker) → seats_of workers ≡ seats → AreMine m seats → All (λ worker. IsMine m worker.seat) workers
+workers-mine m seats workers are mine = seats-each (IsMine m) workers (All-same (IsMine m) (seats_of workers) seats are mine)
 
 -- and all of them, after the run
 pub run-mine : (m : MapOf) (phases : List Phase) (before after : List Worker) → HaveRunAll m phases before after → AreMine m (seats_of after)
@@ -242,12 +235,12 @@ ending-same m size es count are = ap₂ ending_of (count ∙ sym (len-entries m)
 
 -- What the workers did on a new map, and what was left of it, are what a text may tell.
 pub is-outcome :
-    CallsReplayed → LoneSeat → MapInRange → CrowdedAbsent → SeenLasts → LawfulChanges → HasOneSlot → (m : MapOf) → IsPlan m.chain.shape → (phases : List Phase)
+    (m : MapOf) → IsPlan m.chain.shape → (phases : List Phase)
     (before after : List Worker) (ended : EndedOf) (o : Outcome) → seats_of before ≡ maps.seats_of m 0 m.chain.shape.seats → All IsFresh before
     → HaveRunAll m phases before after → EndedWith m.chain.shape (seats_of after) ended → lists_in o.answers.items ≡ answers_of after
     → HoldsOfMap ended.tables (λ numbers. o.size ≡ length (entries numbers))
     → HoldsOfMap ended.tables (λ numbers. o.entries.items ≡ entries numbers) → IsOutcome m.chain.shape phases o
-is-outcome replayed lone in_range absent lasts changes one m plan phases before after ended o are fresh ran end answers size kept = record {
+is-outcome m plan phases before after ended o are fresh ran end answers size kept = record {
   few =
       omega (
         arith,
@@ -269,7 +262,7 @@ is-outcome replayed lone in_range absent lasts changes one m plan phases before 
   };
   lone = λ single below.
       subst (IsLoneText p phases) (sym text)
-      (lone-text replayed lone in_range absent lasts changes one m plan single phases ran.answers (seats_of after) ended
+      (lone-text m plan single phases ran.answers (seats_of after) ended
       (subst (λ n. HaveWorkers n phases) single below) from_new end);
 }
   where
@@ -283,7 +276,7 @@ is-outcome replayed lone in_range absent lasts changes one m plan phases before 
     in_lists = subst (AreJoined phases ran.answers) (sym answers) (run-joined m phases before after fresh ran)
 
     crowded : MayFill p (all_commands phases) end.history
-    crowded = crowd-ended lasts changes one m plan phases ran.answers (seats_of after) ended from_new end
+    crowded = crowd-ended m plan phases ran.answers (seats_of after) ended from_new end
 
     told : ArePhasesTold p (all_commands phases) phases ran.answers [] end.history × All (IsEach p.seats) ran.answers
     told = told-phases m phases ran.answers (seats_of after) ended (all_commands phases) from_new end crowded

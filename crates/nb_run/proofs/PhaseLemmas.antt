@@ -75,7 +75,7 @@ answers-workers m [] (first ∷ answers) before after ran = absurd ran
 answers-workers m (phase ∷ phases) [] before after ran = absurd ran
 answers-workers m (phase ∷ phases) (first ∷ answers) before after (apart, next, now, met, later) =
     let many = phase-workers m phase 0 first before apart now in
-    let same = sym (length_all_zip (HasMet apart) apart next met) ∙ many.1 in
+    let same = sym (length_all_zip (HasMet m apart) apart next met) ∙ many.1 in
     All-cons (λ first. length first ≡ length before) first answers many.0
     (subst (λ n. All (λ first. length first ≡ n) answers) same (answers-workers m phases answers next after later))
 
@@ -196,7 +196,7 @@ met-kept m seats (w ∷ before) (v ∷ after) all =
 
 met-seats :
     (m : MapOf) (seats : List SeatOf) (before after : List Worker) → AllZip (HasMetAs m seats) before after
-    → AllZip (HasMet seats) (seats_of before) (seats_of after)
+    → AllZip (HasMet m seats) (seats_of before) (seats_of after)
 met-seats m seats [] [] all = tt
 met-seats m seats [] (v ∷ after) all = absurd all
 met-seats m seats (w ∷ before) [] all = absurd all

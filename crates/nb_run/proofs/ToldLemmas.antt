@@ -88,29 +88,26 @@ all-ended n base history begun below rested = of begun.later begun.is (λ w less
 -- the map's seat with this number
 record IsNumbered (m : MapOf) (w : ℕ) (seat : SeatOf) : Type 0 where
   number : seat.chain.number ≡ w
-  shape : seat.chain.shape ≡ m.chain.shape
 
 module _ (m : MapOf) (script : List Command) (history : List Event) (crowded : MayFill m.chain.shape script history) where
   abbrev p : Plan
   p = m.chain.shape
 
   numbered-grown :
-      (w : ℕ) (before after : SeatOf) (own : List Event) (count : ℕ) → IsNumbered m w before → Grown before.chain after.chain own count
+      (w : ℕ) (before after : SeatOf) (own : List Event) (count : ℕ) → IsNumbered m w before → Grown p before.chain after.chain own count
       → IsNumbered m w after
-  numbered-grown w before after own count is grown = record { number = grown.number ∙ is.number; shape = grown.shape ∙ is.shape }
+  numbered-grown w before after own count is grown = record { number = grown.number ∙ is.number }
 
   done-of :
       (w : ℕ) (c : Command) (calls : Calls) (before after : SeatOf) → IsNumbered m w before → HasWaited m (call_of c) before after calls
       → HasDone p w c calls before.chain.seen after.chain.seen
   done-of w c calls before after is waited =
       let steps = waited.1.steps in
-      let May : Plan → Event → Type 0 = λ q. MayMake p (tables_at q after.chain.seen) (call_of c) in
       record {
         begun = beginning-grown steps.grown;
         made = calls-grown w steps.grown is.number ∙ ap (calls_of steps.own) (sym is.number) ∙ steps.calls;
         may =
-            All-same (May p) _ _ (ap (λ n. own_events n steps.grown.later) (sym is.number) ∙ steps.grown.own_are)
-            (subst (λ q. All (May q) steps.own) (steps.grown.shape ∙ is.shape) steps.may);
+            All-same (MayMake p (tables_at p after.chain.seen) (call_of c)) _ _ (ap (λ n. own_events n steps.grown.later) (sym is.number) ∙ steps.grown.own_are) steps.may;
       }
 
   -- what is told of an answered command
@@ -208,7 +205,7 @@ module _ (m : MapOf) (script : List Command) (history : List Event) (crowded : M
       -- One seat's commands of the phase come before the seats have met. Then it has seen all that they had, and made no event since.
       one-told :
           (w : ℕ) (mine : List Answer) (before apart joined : SeatOf) → IsQuietSince base w before
-          → AreAnswered m (commands_of w phase) mine before apart → HasSeenOf long.whole apart → HasMet seats apart joined
+          → AreAnswered m (commands_of w phase) mine before apart → HasSeenOf long.whole apart → HasMet m seats apart joined
           → AreTold p script w (commands_of w phase) mine base long.whole × IsQuietSince long.whole w joined
       one-told w mine before apart joined quiet answered up met = (
         all-later w (commands_of w phase) mine base before.chain.seen long.whole quiet.rested
@@ -240,7 +237,7 @@ module _ (m : MapOf) (script : List Command) (history : List Event) (crowded : M
 
       phase-told :
           (w : ℕ) (first : List (List Answer)) (before apart joined : List SeatOf) → AreQuietSince base w before
-          → PhaseRan m phase w first before apart → All (HasSeenOf long.whole) apart → AllZip (HasMet seats) apart joined
+          → PhaseRan m phase w first before apart → All (HasSeenOf long.whole) apart → AllZip (HasMet m seats) apart joined
           → PhaseOver w first before joined
       phase-told w [] [] [] [] quiet ran up met = record { told = tt; quiet = tt; each = refl; count = refl }
       phase-told w (mine ∷ others) (s ∷ before) (t ∷ apart) (u ∷ joined) quiet ran up met =
@@ -275,7 +272,7 @@ module _ (m : MapOf) (script : List Command) (history : List Event) (crowded : M
   phase-begins phase w (mine ∷ others) (s ∷ before) [] ran seen = absurd ran
 
   met-begins :
-      (seats apart joined : List SeatOf) → AllZip (HasMet seats) apart joined → All (HasSeenOf history) joined → All (HasSeenOf history) apart
+      (seats apart joined : List SeatOf) → AllZip (HasMet m seats) apart joined → All (HasSeenOf history) joined → All (HasSeenOf history) apart
   met-begins seats [] [] met seen = All-nil (HasSeenOf history)
   met-begins seats (t ∷ apart) (u ∷ joined) met seen =
       All-cons (HasSeenOf history) t apart (beginning-more (beginning-grown met.0.grown) (All-head (HasSeenOf history) u joined seen))
@@ -330,7 +327,7 @@ module _ (m : MapOf) (script : List Command) (history : List Event) (crowded : M
 
   one-phase :
       (base : List Event) → IsBeginning base history → (phase : Phase) (first : List (List Answer)) (before apart joined : List SeatOf)
-      → AreQuietSince base 0 before → length before ≡ p.seats → PhaseRan m phase 0 first before apart → HaveMet apart joined
+      → AreQuietSince base 0 before → length before ≡ p.seats → PhaseRan m phase 0 first before apart → HaveMet m apart joined
       → All (HasSeenOf history) joined → OnePhase base phase first joined
   one-phase base begun phase first before apart joined quiet all ran met seen = record {
     whole = long.whole;
@@ -379,7 +376,7 @@ module _ (m : MapOf) (script : List Command) (history : List Event) (crowded : M
 
   new-quiet : (w n : ℕ) → AreQuietSince [] w (seats_of m w n)
   new-quiet w zero = tt
-  new-quiet w (suc n) = (record { is = record { number = refl; shape = refl }; rested = rested-none w [] }, new-quiet (suc w) n)
+  new-quiet w (suc n) = (record { is = record { number = refl }; rested = rested-none w [] }, new-quiet (suc w) n)
 
   new-count : (w n : ℕ) → length (seats_of m w n) ≡ n
   new-count w zero = refl

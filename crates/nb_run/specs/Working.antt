@@ -46,15 +46,15 @@ PhaseRan m phase w (mine ∷ others) (s ∷ before) (t ∷ after) = AreAnswered 
 PhaseRan m phase w _ _ _ = ⊥
 
 -- The seat has made no event since, and has seen what all these seats had.
-pub record HasMet (seats : List SeatOf) (before after : SeatOf) : Type 0 where
+pub record HasMet (m : MapOf) (seats : List SeatOf) (before after : SeatOf) : Type 0 where
   pub steps : ℕ
-  pub grown : Grown before.chain after.chain [] steps
+  pub grown : Grown m.chain.shape before.chain after.chain [] steps
   pub counter : after.count ≡ before.count
   pub heard : All (λ seat. IsBeginning seat.chain.seen after.chain.seen) seats
 
 -- every two of the seats have met
-abbrev pub HaveMet : (before after : List SeatOf) → Type 0
-HaveMet before after = AllZip (HasMet before) before after
+abbrev pub HaveMet : MapOf → (before after : List SeatOf) → Type 0
+HaveMet m before after = AllZip (HasMet m before) before after
 
 -- The phases were run one after another, each with its answers, and all seats met after each.
 abbrev pub HaveRun : MapOf → List Phase → List (List (List Answer)) → (before after : List SeatOf) → Type 0
@@ -62,7 +62,7 @@ HaveRun m [] [] before after = after ≡ before
 HaveRun m [] (first ∷ answers) before after = ⊥
 HaveRun m (phase ∷ phases) [] before after = ⊥
 HaveRun m (phase ∷ phases) (first ∷ answers) before after =
-    (apart joined : List SeatOf) × PhaseRan m phase 0 first before apart × HaveMet apart joined × HaveRun m phases answers joined after
+    (apart joined : List SeatOf) × PhaseRan m phase 0 first before apart × HaveMet m apart joined × HaveRun m phases answers joined after
 
 -- ---- workers
 
@@ -95,7 +95,7 @@ pub record HasMetAs (m : MapOf) (seats : List SeatOf) (before after : Worker) : 
   pub number : after.number ≡ before.number
   pub answers : after.answers ≡ before.answers
   pub own : IsMine m after.seat
-  pub met : HasMet seats before.seat after.seat
+  pub met : HasMet m seats before.seat after.seat
 
 -- a worker has room for its answers of the phases
 abbrev pub HasRoom : List Phase → Worker → Type 0

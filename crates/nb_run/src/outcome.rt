@@ -9,7 +9,7 @@ use crate::gate::Gate;
 use crate::output::count_of;
 use crate::reader::Phase;
 use crate::workers::{Worker, run_phases};
-use nb_core::{Key, Num, OutOfMemory, Shape, laws};
+use nb_core::{Key, Num, OutOfMemory, Shape};
 use nb_map::{Map, Seat};
 use std::alloc::Global;
 use std::sync::Wait;
@@ -86,14 +86,6 @@ pub(crate) fn perform<R: Threads + Wait + Sync, G: Gate + Sync>(
 ) -> Result<Outcome, OutOfMemory>
     ensures { IfOk result (IsOutcome shape (phases_in phases.now)) }
 {
-    laws::calls_replayed();
-    laws::lone_seat();
-    laws::map_in_range();
-    laws::crowded_absent();
-    laws::seen_lasts();
-    laws::lawful_changes();
-    laws::one_slot();
-    shape.known();
     let (map, seats) = Map::new(alloc, shape)?;
     let workers = ready(alloc, phases, seats)?;
     let ran = run_phases(rt, gate, &map, phases, workers)?;

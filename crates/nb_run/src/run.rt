@@ -57,7 +57,6 @@ pub fn run_gated<H: Threads + Wait + AllocGlobal + Sync, G: Gate + Sync, R: Sour
     ensures write { IsErrOf result RunFault.Write ↔ IsTrue (W.failed writer.new) }
     ensures silent { IfErr result (λ fault. fault ≢ RunFault.Write → writer.new ≡ writer.old) }
 {
-    options.shape.known();
     let phases = read_script(rt.alloc(), options.shape.seats(), reader)?;
     let phases = phases.as_slice();
     let outcome = perform(rt, rt.alloc(), gate, options.shape, phases).map_err(

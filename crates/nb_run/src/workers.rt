@@ -11,7 +11,6 @@ use crate::reader::Phase;
 use crate::script::Command;
 use nb_core::OutOfMemory;
 use nb_map::{Map, Seat};
-use nb_table::laws;
 use std::snapshot::Snapshot;
 use std::sync::Wait;
 use std::thread;
@@ -174,11 +173,9 @@ fn meet_each(map: &Map, seat: &mut Seat, others: &mut [Worker])
     requires own { IsMine map.now seat.old }
     requires others { All (λ worker. IsMine map.now worker.seat) others.old }
     ensures own { IsMine map.now seat.new }
-    ensures met { HasMet (seats_of others.old) seat.old seat.new }
+    ensures met { HasMet map.now (seats_of others.old) seat.old seat.new }
     ensures others { AllZip (HasMetAs map.now (seat.old ∷ [])) others.old others.new }
 {
-    laws::steps_add_up();
-    map.known(seat);
     for other in others.iter_mut() {
         map.meet(seat, &mut other.seat);
     }
@@ -190,7 +187,6 @@ fn meet_all(map: &Map, workers: Vec<Worker>) -> Vec<Worker>
     ensures room { vec_capacity result ≡ vec_capacity workers }
     ensures met { AllZip (HasMetAs map.now (seats_of workers.items)) workers.items result.items }
 {
-    laws::steps_add_up();
     let mut workers = workers;
     let Some(mut last) = workers.pop() else {
         return workers;

@@ -11,6 +11,7 @@ use Rattle.nb_core.specs.declared.events.Event.TheVariants.{Finish}
 use Rattle.nb_core.specs.declared.states.KeyState.TheVariants.{Claimed}
 use Rattle.nb_core.specs.declared.states.ValueState.{ValueState}
 use Rattle.nb_core.specs.declared.states.ValueState.TheVariants.{Null, Tombstone, Live, PrimedNull, PrimedTombstone, Primed, Finished}
+use Rattle.nb_core.proofs.Theorems.{counted}
 use Rattle.nb_table.specs.Chains.{Extended, SeenBy}
 
 -- one more slot of a path that is another key's
@@ -44,9 +45,9 @@ way_up p t i j k d in_table at passed below claimed = record {
   reason = inl (record { slot = i; in_table = below; is = claimed });
 }
 
-module _ {before after : SeenBy} (x : ValueState) where
+module _ {p : Plan} {before after : SeenBy} (x : ValueState) where
   -- after a slot was primed, whether or not it was already
-  pub primed_is : (v : ValueState) {own : List Event} → (IsUnprimed v → Extended before after own 1 × (x ≡ primed v)) → ((IsUnprimed v → ⊥) → Extended before after [] 1 × (x ≡ v)) → x ≡ primed v
+  pub primed_is : (v : ValueState) {own : List Event} → (IsUnprimed v → Extended p before after own 1 × (x ≡ primed v)) → ((IsUnprimed v → ⊥) → Extended p before after [] 1 × (x ≡ v)) → x ≡ primed v
   primed_is Null won lost = (won tt).1
   primed_is Tombstone won lost = (won tt).1
   primed_is (Live n) won lost = (won tt).1
@@ -56,7 +57,7 @@ module _ {before after : SeenBy} (x : ValueState) where
   primed_is (Finished n) won lost = (lost (λ e. e)).1
 
   -- and that was a step
-  pub primed_step : (v : ValueState) {own : List Event} → (IsUnprimed v → Extended before after own 1 × (x ≡ primed v)) → ((IsUnprimed v → ⊥) → Extended before after [] 1 × (x ≡ v)) → (es : List Event) × Extended before after es 1
+  pub primed_step : (v : ValueState) {own : List Event} → (IsUnprimed v → Extended p before after own 1 × (x ≡ primed v)) → ((IsUnprimed v → ⊥) → Extended p before after [] 1 × (x ≡ v)) → (es : List Event) × Extended p before after es 1
   primed_step Null won lost = (_, (won tt).0)
   primed_step Tombstone won lost = (_, (won tt).0)
   primed_step (Live n) won lost = (_, (won tt).0)
@@ -66,7 +67,7 @@ module _ {before after : SeenBy} (x : ValueState) where
   primed_step (Finished n) won lost = (_, (lost (λ e. e)).0)
 
   -- after a number was copied, or another value found, the slot has a value
-  pub copied_step : (v : ValueState) {n : ℕ} {own : List Event} → (v ≡ Null → Extended before after own 1 × (x ≡ Live n)) → (v ≢ Null → Extended before after [] 1 × (x ≡ v)) → ((es : List Event) × Extended before after es 1) × (x ≢ Null)
+  pub copied_step : (v : ValueState) {n : ℕ} {own : List Event} → (v ≡ Null → Extended p before after own 1 × (x ≡ Live n)) → (v ≢ Null → Extended p before after [] 1 × (x ≡ v)) → ((es : List Event) × Extended p before after es 1) × (x ≢ Null)
   copied_step Null won lost = let it = won refl in ((_, it.0), λ null. cc)
   copied_step Tombstone won lost = let it = lost (λ e. cc) in ((_, it.0), λ null. cc)
   copied_step (Live m) won lost = let it = lost (λ e. cc) in ((_, it.0), λ null. cc)
@@ -76,7 +77,7 @@ module _ {before after : SeenBy} (x : ValueState) where
   copied_step (Finished m) won lost = let it = lost (λ e. cc) in ((_, it.0), λ null. cc)
 
   -- after a slot was finished, whether or not it was already
-  pub finished_step : (v : ValueState) (n : ℕ) {own : List Event} → (v ≡ Primed n → Extended before after own 1 × (x ≡ Finished n)) → (v ≢ Primed n → Extended before after [] 1 × (x ≡ v) × (v ≡ Finished n)) → (es : List Event) × Extended before after es 1
+  pub finished_step : (v : ValueState) (n : ℕ) {own : List Event} → (v ≡ Primed n → Extended p before after own 1 × (x ≡ Finished n)) → (v ≢ Primed n → Extended p before after [] 1 × (x ≡ v) × (v ≡ Finished n)) → (es : List Event) × Extended p before after es 1
   finished_step (Primed m) n won lost = elim (eqb_tells m n) [
     | inl same ↦ (_, (won (ap Primed same.1)).0)
     | inr other ↦ (_, (lost (λ e. other.1 (cc))).0)
@@ -89,15 +90,15 @@ module _ {before after : SeenBy} (x : ValueState) where
   finished_step (Finished m) n won lost = (_, (lost (λ e. cc)).0)
 
 -- a seat that finishes a slot of table 0 has turned one more than it has counted
-turned_one : (p : Plan) → IsPlan p → CountedOnce → (s i : ℕ) (h : List Event) → 0 < generations_of p → IsLegal p (Finish s 0 i ∷ h) → counted_by (Finish s 0 i ∷ h) s 0 + 1 ≤ turned_by p (Finish s 0 i ∷ h) s 0
-turned_one p plan law s i h table legal =
-    let so_far = (law p plan h legal.0 0 table).own s in
+turned_one : (p : Plan) → IsPlan p → (s i : ℕ) (h : List Event) → 0 < generations_of p → IsLegal p (Finish s 0 i ∷ h) → counted_by (Finish s 0 i ∷ h) s 0 + 1 ≤ turned_by p (Finish s 0 i ∷ h) s 0
+turned_one p plan s i h table legal =
+    let so_far = (counted p plan h legal.0 0 table).own s in
     rw (eq-eqb s s refl) (omega (arith, so_far))
 
-pub one_to_count : (p : Plan) → IsPlan p → CountedOnce → {before after : SeenBy} (i : ℕ) → 0 < generations_of p → after.shape ≡ p → Extended before after (Finish before.number 0 i ∷ []) 1 → counted_by after.seen after.number 0 + 1 ≤ turned_by p after.seen after.number 0
-one_to_count p plan law {before} {after} i table shape step =
+pub one_to_count : (p : Plan) → IsPlan p → {before after : SeenBy} (i : ℕ) → 0 < generations_of p → Extended p before after (Finish before.number 0 i ∷ []) 1 → counted_by after.seen after.number 0 + 1 ≤ turned_by p after.seen after.number 0
+one_to_count p plan {before} {after} i table step =
     subst₂ (λ h s. counted_by h s 0 + 1 ≤ turned_by p h s 0) (sym step.seen) (sym step.number)
-    (turned_one p plan law before.number i (step.others ++ before.seen) table (subst₂ IsLegal shape step.seen step.legal))
+    (turned_one p plan before.number i (step.others ++ before.seen) table (subst (IsLegal p) step.seen step.legal))
 
 -- what is so of table 0 is so of all tables below table 1
 pub below_one : (P : ℕ → Type 0) → P 0 → (f : ℕ) → f < 1 → P f

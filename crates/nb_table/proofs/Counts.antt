@@ -16,34 +16,35 @@ use Rattle.nb_table.proofs.Following.{if-follows, later, none-follows, one-follo
 use Rattle.nb_table.specs.Chains.{Extended, SeenBy, seen_before, seen_by}
 use Rattle.nb_table.specs.Events.{counts, only, promotes, takes}
 use Rattle.nb_table.specs.Steps.{Can, Stepped}
+use Rattle.nb_core.proofs.Theorems.{beginnings_are_legal, counted, linked, lawful_words, own_lasts, places_are_distinct}
 
 -- ---- what may be done
 
 -- the place of a header word is one of the chain's
-pub header-within : (p : Plan) → PlacesAreDistinct → IsPlan p → (g n place : ℕ) → g < generations_of p → n < 3
+pub header-within : (p : Plan) → IsPlan p → (g n place : ℕ) → g < generations_of p → n < 3
     → place ≡ header_place p g n → place < word_count p
-header-within p distinct plan g n place table header at =
-    subst (λ i. i < word_count p) (sym at) ((distinct p plan).below (Header g n) (table, header))
+header-within p plan g n place table header at =
+    subst (λ i. i < word_count p) (sym at) ((places_are_distinct p plan).below (Header g n) (table, header))
 
 -- a chunk may be taken of a table that has a next one
-pub can-take : (p : Plan) (lasts : SeenLasts) (number g : ℕ) (seen : List Event) → g < generations_of p
+pub can-take : (p : Plan) (number g : ℕ) (seen : List Event) → g < generations_of p
     → IsInstalled (tables_at p seen) (suc g) → (place chunk : ℕ) → place ≡ header_place p g 1 → chunk ≡ chunk_of p g
     → Can p (takes number g) number seen place (λ found. (found + chunk) % 2 ^ 64)
-can-take p lasts number g seen table growing place chunk at is =
+can-take p number g seen table growing place chunk at is =
     subst (λ i. Can p (takes number g) number seen i (λ found. (found + chunk) % 2 ^ 64)) (sym at)
     (subst (λ n. Can p (takes number g) number seen (header_place p g 1) (λ found. (found + n) % 2 ^ 64)) (sym is)
     (λ plan seat others not_own legal.
     one-follows p (Take number g) number (header_place p g 1) _ (others ++ seen)
-    (legal, (seat, table), (later p lasts number seen plan others legal).installed (suc g) growing, tt) refl refl))
+    (legal, (seat, table), (later p number seen plan others legal).installed (suc g) growing, tt) refl refl))
 
 -- slots may be counted that the seat's own events turned, and that it hasn't counted
-pub can-count : (p : Plan) (own : OwnLasts) (number g c : ℕ) (seen : List Event) → g < generations_of p → 1 ≤ c
+pub can-count : (p : Plan) (number g c : ℕ) (seen : List Event) → g < generations_of p → 1 ≤ c
     → counted_by seen number g + c ≤ turned_by p seen number g → (place : ℕ) → place ≡ header_place p g 2
     → Can p (counts number g c) number seen place (λ found. (found + c) % 2 ^ 64)
-can-count p own number g c seen table some turned place at =
+can-count p number g c seen table some turned place at =
     subst (λ i. Can p (counts number g c) number seen i (λ found. (found + c) % 2 ^ 64)) (sym at)
     (λ plan seat others not_own legal.
-    let still = own p others seen number not_own in
+    let still = own_lasts p others seen number not_own in
     let turned' : counted_by (others ++ seen) number g + c ≤ turned_by p (others ++ seen) number g
     = subst (λ n. counted_by (others ++ seen) number g + c ≤ n) (sym (still.turned g))
     (subst (λ n. n + c ≤ turned_by p seen number g) (sym (still.counted g)) turned) in
@@ -51,10 +52,10 @@ can-count p own number g c seen table some turned place at =
     (legal, (seat, table), record { some = some; own = turned' }, tt) refl refl)
 
 -- the top word may be raised past a complete table
-pub can-promote : (p : Plan) (lasts : SeenLasts) (number g : ℕ) (seen : List Event) → g < generations_of p
+pub can-promote : (p : Plan) (number g : ℕ) (seen : List Event) → g < generations_of p
     → IsComplete p (tables_at p seen) g → (least : ℕ) → least ≡ g + 1
     → Can p (promotes number g) number seen 0 (λ found. max found least)
-can-promote p lasts number g seen table complete least is plan seat others not_own legal =
+can-promote p number g seen table complete least is plan seat others not_own legal =
     let h = others ++ seen in
     let found = slice_index (words_of p h) 0 in
     let next : suc g ≡ least = omega (arith, is) in
@@ -63,7 +64,7 @@ can-promote p lasts number g seen table complete least is plan seat others not_o
       legal,
       (seat, table),
       record {
-        complete = (later p lasts number seen plan others legal).complete g table complete;
+        complete = (later p number seen plan others legal).complete g table complete;
         higher = leb-true found g low;
       },
       tt,
@@ -72,6 +73,16 @@ can-promote p lasts number g seen table complete least is plan seat others not_o
   where
     stays : (found g least : ℕ) → least ≡ g + 1 → leb found g ≡ false → max found least ≡ found
     stays found g least is high = grind (arith, nat_tests)
+
+-- the word that a step finds at the top is the number of a table
+pub top-found :
+    (p : Plan) → IsPlan p → (events : ℕ → List Event) (before : SeenBy) (found : ℕ) (after : SeenBy)
+    → Stepped p events 0 before found after → found ≤ 16
+top-found p plan events before found after step =
+    let h = step.grows.others ++ before.seen in
+    let legal = beginnings_are_legal p (events found) h (subst (IsLegal p) step.grows.seen step.grows.legal) in
+    let links = linked p plan h legal in
+    omega (arith, links.within (tables_at p h).top links.top, plan.few_tables, step.word)
 
 -- ---- the done word doesn't wrap
 
@@ -98,45 +109,40 @@ one-sum found c size a b most = mod-eq_of_lt (omega arith)
 -- ---- what a step told
 
 module _ (p : Plan) (events : ℕ → List Event) (place found : ℕ) (before after : SeenBy)
-    (shape : before.shape ≡ p) (step : Stepped p events place before found after) where
+    (step : Stepped p events place before found after) where
   -- the history that the step found
   abbrev met : List Event
   met = step.grows.others ++ before.seen
 
-  -- the chain's shape is still the seat's
-  plan_is : after.shape ≡ p
-  plan_is = step.grows.shape ∙ shape
-
   -- it is legal with the step's events
   legal_now : IsLegal p (events found ++ met)
-  legal_now =
-      subst (λ q. IsLegal q (events found ++ met)) plan_is (subst (λ h. IsLegal after.shape h) step.grows.seen step.grows.legal)
+  legal_now = subst (IsLegal p) step.grows.seen step.grows.legal
 
   -- and is all that the seat has seen
-  seen_now : seen_by after ≡ tables_at p (events found ++ met)
-  seen_now = ap (λ q. tables_at q after.seen) plan_is ∙ ap (tables_at p) step.grows.seen
+  seen_now : seen_by p after ≡ tables_at p (events found ++ met)
+  seen_now = ap (tables_at p) step.grows.seen
 
-module _ (p : Plan) (lawful : LawfulWords) (distinct : PlacesAreDistinct) (plan : IsPlan p) where
+module _ (p : Plan) (plan : IsPlan p) where
   -- a header word that was just written
   written : (h : List Event) → IsLegal p h → (g n new : ℕ) → g < generations_of p → n < 3
       → slice_index (slice_set (words_of p h) (header_place p g n) new) (header_place p g n) ≡ new
   written h legal g n new table header =
       get_or-set_same (words_of p h) (header_place p g n) new 0
-      (subst (λ m. header_place p g n < m) (sym (lawful p plan h legal).length)
-      (header-within p distinct plan g n _ table header refl))
+      (subst (λ m. header_place p g n < m) (sym (lawful_words p plan h legal).length)
+      (header-within p plan g n _ table header refl))
 
-  module _ (g place found : ℕ) (before after : SeenBy) (table : g < generations_of p) (shape : before.shape ≡ p) where
+  module _ (g place found : ℕ) (before after : SeenBy) (table : g < generations_of p) where
     -- the done word after a count
-    pub counted : (once : CountedOnce) (c : ℕ) → place ≡ header_place p g 2
+    pub counts-sees : (c : ℕ) → place ≡ header_place p g 2
         → Stepped p (counts before.number g c) place before found after
-        → (seen_by after).counted g ≡ found + c
-    counted once c at step =
-        let h = met p (counts before.number g c) place found before after shape step in
-        let legal = legal_now p (counts before.number g c) place found before after shape step in
-        let now = ap (λ t. t.counted g) (seen_now p (counts before.number g c) place found before after shape step) in
+        → (seen_by p after).counted g ≡ found + c
+    counts-sees c at step =
+        let h = met p (counts before.number g c) place found before after step in
+        let legal = legal_now p (counts before.number g c) place found before after step in
+        let now = ap (λ t. t.counted g) (seen_now p (counts before.number g c) place found before after step) in
         let is_found : slice_index (words_of p h) (header_place p g 2) ≡ found
         = ap (slice_index (words_of p h)) (sym at) ∙ step.word in
-        let new = once p plan (Count before.number g c ∷ h) legal g table in
+        let new = counted p plan (Count before.number g c ∷ h) legal g table in
         let share : c ≤ (tables_at p (Count before.number g c ∷ h)).counted g
         = subst (λ n. c ≤ n) (sym new.done)
         (le_trans (own-counted before.number g c h)
@@ -144,34 +150,30 @@ module _ (p : Plan) (lawful : LawfulWords) (distinct : PlacesAreDistinct) (plan 
         now
         ∙ written h legal.0 g 2 ((slice_index (words_of p h) (header_place p g 2) + c) % 2 ^ 64) table (omega arith)
         ∙ ap (λ n. (n + c) % 2 ^ 64) is_found
-        ∙ one-sum found c (size_of p g) (subst (λ n. n ≤ size_of p g) is_found (once p plan h legal.0 g table).fits)
+        ∙ one-sum found c (size_of p g) (subst (λ n. n ≤ size_of p g) is_found (counted p plan h legal.0 g table).fits)
         (le_trans share new.fits) (size-fits p plan g table)
 
 -- what a take tells of the take word before it
-pub taken : (p : Plan) (g place found : ℕ) (before after : SeenBy) → before.shape ≡ p → place ≡ header_place p g 1
-    → Stepped p (takes before.number g) place before found after → (seen_before after).taken g ≡ found
-taken p g place found before after shape at step =
-    ap (λ q. (tables_at q (drop 1 after.seen)).taken g) (step.grows.shape ∙ shape)
-    ∙ ap (λ h. (tables_at p (drop 1 h)).taken g) step.grows.seen
+pub taken : (p : Plan) (g place found : ℕ) (before after : SeenBy) → place ≡ header_place p g 1
+    → Stepped p (takes before.number g) place before found after → (seen_before p after).taken g ≡ found
+taken p g place found before after at step =
+    ap (λ h. (tables_at p (drop 1 h)).taken g) step.grows.seen
     ∙ ap (slice_index (words_of p (step.grows.others ++ before.seen))) (sym at) ∙ step.word
 
 -- what a promotion tells that raised the top word
-pub raised : (p : Plan) → LawfulWords → PlacesAreDistinct → IsPlan p → (g found : ℕ) (before after : SeenBy) → before.shape ≡ p
-    → Stepped p (promotes before.number g) 0 before found after → found ≤ g
-    → Extended before after (Promote before.number g ∷ []) 1 × ((seen_before after).top ≡ found) × ((seen_by after).top ≡ suc g)
-raised p lawful distinct plan g found before after shape step low =
+pub raised : (p : Plan) → IsPlan p → (g found : ℕ) (before after : SeenBy) → Stepped p (promotes before.number g) 0 before found after → found ≤ g
+    → Extended p before after (Promote before.number g ∷ []) 1 × ((seen_before p after).top ≡ found) × ((seen_by p after).top ≡ suc g)
+raised p plan g found before after step low =
     let h = step.grows.others ++ before.seen in
     let own : promotes before.number g found ≡ Promote before.number g ∷ []
     = ap (λ b. only b (Promote before.number g)) (le-leb found g low) in
-    let grows = subst (λ own. Extended before after own 1) own step.grows in
+    let grows = subst (λ own. Extended p before after own 1) own step.grows in
     let legal : IsLegal p (Promote before.number g ∷ h)
-    = subst₂ IsLegal (step.grows.shape ∙ shape) (step.grows.seen ∙ ap (λ own. own ++ h) own) step.grows.legal in
-    let top = ap (λ q. tables_at q after.seen) (step.grows.shape ∙ shape)
-    ∙ ap (tables_at p) (step.grows.seen ∙ ap (λ own. own ++ h) own) in
-    let below = ap (λ q. tables_at q (drop 1 after.seen)) (step.grows.shape ∙ shape)
-    ∙ ap (λ s. tables_at p (drop 1 s)) (step.grows.seen ∙ ap (λ own. own ++ h) own) in
-    let some : 0 < length (words_of p h) = subst (λ n. 0 < n) (sym (lawful p plan h legal.0).length)
-    ((distinct p plan).below Top tt) in
+    = subst (IsLegal p) (step.grows.seen ∙ ap (λ own. own ++ h) own) step.grows.legal in
+    let top = ap (tables_at p) (step.grows.seen ∙ ap (λ own. own ++ h) own) in
+    let below = ap (λ s. tables_at p (drop 1 s)) (step.grows.seen ∙ ap (λ own. own ++ h) own) in
+    let some : 0 < length (words_of p h) = subst (λ n. 0 < n) (sym (lawful_words p plan h legal.0).length)
+    ((places_are_distinct p plan).below Top tt) in
     let most : max found (suc g) ≡ suc g = max-eq_right (omega (arith, low)) in (
       grows,
       ap (λ t. t.top) below ∙ step.word,

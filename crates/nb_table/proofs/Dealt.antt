@@ -1,10 +1,12 @@
 -- The seats of a chain are dealt one after another.
 use Rattle.std.proofs.Common.{◌≡◌, ◌∙◌, ℕ, zero, suc, ◌+◌, ◌-◌, ◌<◌, ◌≤◌, ap, sym, subst, refl, List, [], ◌∷◌, ◌++◌, length, take, drop, arith}
+use Rattle.std.specs.List.{All}
+use Rattle.std.proofs.lemmas.List.Elements.{All-cons, All-nil, All-same}
 use Rattle.atomic_table.specs.Seated.{TableId}
 use Rattle.atomic_table.specs.declared.shared.Seat.{Seat}
-use Rattle.nb_core.specs.Plans.{Plan}
+use Rattle.nb_core.specs.Plans.{IsPlan, Plan}
 use Rattle.nb_core.specs.History.{IsLegal}
-use Rattle.nb_table.specs.Chains.{SeenBy, new_seat, seats_of}
+use Rattle.nb_table.specs.Chains.{ChainOf, IsOwn, SeenBy, new_seat, seats_of}
 use Rattle.nb_table.specs.Inside.{IsSeat, part_of, seat_of}
 use Rattle.nb_table.specs.Views.{first_part, first_view, fresh, other_parts}
 use Rattle.nb_table.specs.declared.chain.ChainSeat.TheInside as seat
@@ -17,7 +19,7 @@ pub record IsDealing
     (chain : TableId) (p : Plan) (rest : Seat (Unit {0}) View) (dealt : List SeenBy) (number : ℕ) : Type 0 where
   pub own : rest.table_id ≡ chain
   pub left : rest.me.0.parts ≡ fresh number (p.seats - number)
-  pub so_far : dealt ≡ seats_of chain p 0 number
+  pub so_far : dealt ≡ seats_of chain 0 number
 
 fresh-first :
     (number seats : ℕ) → number < seats
@@ -33,14 +35,14 @@ left-token parts number seats below left =
     ap (drop 1) (left ∙ fresh-first number seats below) ∙ ap (λ n. fresh n (seats - n)) more
 
 seats_of-more :
-    (chain : TableId) (p : Plan) (first count number : ℕ) → first + count ≡ number
-    → seats_of chain p first count ++ new_seat chain p number ∷ [] ≡ seats_of chain p first (count + 1)
-seats_of-more chain p first zero number is =
-    let same : number ≡ first = omega arith in ap (λ n. new_seat chain p n ∷ []) same
-seats_of-more chain p first (suc count) number is =
+    (chain : TableId) (first count number : ℕ) → first + count ≡ number
+    → seats_of chain first count ++ new_seat chain number ∷ [] ≡ seats_of chain first (count + 1)
+seats_of-more chain first zero number is =
+    let same : number ≡ first = omega arith in ap (λ n. new_seat chain n ∷ []) same
+seats_of-more chain first (suc count) number is =
     let more : suc (count + 1) ≡ suc count + 1 = omega arith in
-    ap (λ seats. new_seat chain p first ∷ seats) (seats_of-more chain p (suc first) count number (omega arith))
-    ∙ ap (seats_of chain p first) more
+    ap (λ seats. new_seat chain first ∷ seats) (seats_of-more chain (suc first) count number (omega arith))
+    ∙ ap (seats_of chain first) more
 
 -- the one part of the token that is dealt next
 dealt-parts :
@@ -54,29 +56,24 @@ pub dealt-is_seat :
     → s.seat.me ≡ (first_part rest, []) → IsSeat s
 dealt-is_seat rest number seats s below left me =
     let one = dealt-parts rest number seats s below left me in
-    let part : new_part number ≡ part_of s.seat.me.0.parts = ap part_of (sym one) in
-    record {
-      one = one ∙ ap (λ t. t ∷ []) part;
-      free = ap (λ m. m.1) me;
-      legal = subst (λ (t : Part). IsLegal s.shape t.seen) part tt;
-    }
+    record { one = one ∙ ap (λ parts. part_of parts ∷ []) (sym one); free = ap (λ m. m.1) me }
 
 dealt-seat_of :
     (rest : View) (number seats : ℕ) (s : seat.Inside) → number < seats → rest.parts ≡ fresh number (seats - number)
-    → s.seat.me ≡ (first_part rest, []) → seat_of s ≡ new_seat s.seat.table_id s.shape number
+    → s.seat.me ≡ (first_part rest, []) → seat_of s ≡ new_seat s.seat.table_id number
 dealt-seat_of rest number seats s below left me =
-    ap (λ (t : Part). record { chain = s.seat.table_id; shape = s.shape; number = t.number; seen = t.seen; steps = t.steps })
+    ap (λ (t : Part). record { chain = s.seat.table_id; number = t.number; seen = t.seen; steps = t.steps })
     (ap part_of (dealt-parts rest number seats s below left me))
 
-many-seats : (chain : TableId) (p : Plan) (first count : ℕ) → length (seats_of chain p first count) ≡ count
-many-seats chain p first zero = refl
-many-seats chain p first (suc count) = ap (λ n. suc n) (many-seats chain p (suc first) count)
+many-seats : (chain : TableId) (first count : ℕ) → length (seats_of chain first count) ≡ count
+many-seats chain first zero = refl
+many-seats chain first (suc count) = ap (λ n. suc n) (many-seats chain (suc first) count)
 
 -- so many seats are dealt
 pub dealing-count :
     {chain : TableId} {p : Plan} {rest : Seat (Unit {0}) View} {dealt : List SeenBy} {number : ℕ}
     → IsDealing chain p rest dealt number → length dealt ≡ number
-dealing-count {chain} {p} {rest} {dealt} {number} d = ap length d.so_far ∙ many-seats chain p 0 number
+dealing-count {chain} {p} {rest} {dealt} {number} d = ap length d.so_far ∙ many-seats chain 0 number
 
 pub dealing-first :
     (chain : TableId) (p : Plan) (rest : Seat (Unit {0}) View) (dealt : List SeenBy) → rest.table_id ≡ chain
@@ -90,21 +87,33 @@ dealing-first chain p rest dealt own me none = record {
 pub dealing-more :
     (chain : TableId) (p : Plan) (rest rest' : Seat (Unit {0}) View) (dealt dealt' : List SeenBy) (s : seat.Inside) (number : ℕ)
     → number < p.seats → IsDealing chain p rest dealt number → rest'.table_id ≡ rest.table_id
-    → rest'.me ≡ (other_parts rest.me.0, rest.me.1) → s.shape ≡ p → s.seat.table_id ≡ rest.table_id
+    → rest'.me ≡ (other_parts rest.me.0, rest.me.1) → s.seat.table_id ≡ rest.table_id
     → s.seat.me ≡ (first_part rest.me.0, []) → dealt' ≡ dealt ++ seat_of s ∷ [] → IsDealing chain p rest' dealt' (number + 1)
-dealing-more chain p rest rest' dealt dealt' s number below d own me shape seat_own seat_me pushed = record {
+dealing-more chain p rest rest' dealt dealt' s number below d own me seat_own seat_me pushed = record {
   own = own ∙ d.own;
   left = ap (λ m. m.0.parts) me ∙ left-token rest.me.0.parts number p.seats below d.left;
   so_far =
       let same : s.seat.table_id ≡ chain = seat_own ∙ d.own in
-      let view = dealt-seat_of rest.me.0 number p.seats s below d.left seat_me
-      ∙ (λ j. new_seat (same j) (shape j) number) in
-      pushed ∙ (λ i. d.so_far i ++ view i ∷ []) ∙ seats_of-more chain p 0 number number (omega arith);
+      let view = dealt-seat_of rest.me.0 number p.seats s below d.left seat_me ∙ ap (λ id. new_seat id number) same in
+      pushed ∙ (λ i. d.so_far i ++ view i ∷ []) ∙ seats_of-more chain 0 number number (omega arith);
 }
 
 pub dealing-done :
     (chain : TableId) (p : Plan) (rest : Seat (Unit {0}) View) (dealt : List SeenBy) (number : ℕ) → p.seats ≤ number
-    → number ≤ p.seats → IsDealing chain p rest dealt number → dealt ≡ seats_of chain p 0 p.seats
+    → number ≤ p.seats → IsDealing chain p rest dealt number → dealt ≡ seats_of chain 0 p.seats
 dealing-done chain p rest dealt number low high d =
     let all : number ≡ p.seats = omega arith in
-    d.so_far ∙ ap (seats_of chain p 0) all
+    d.so_far ∙ ap (seats_of chain 0) all
+
+-- the new seats of a chain are its own
+new-own : (chain : ChainOf) → IsPlan chain.shape → (first count : ℕ) → All (IsOwn chain) (seats_of chain.id first count)
+new-own chain plan first zero = All-nil (IsOwn chain)
+new-own chain plan first (suc count) =
+    All-cons (IsOwn chain) (new_seat chain.id first) (seats_of chain.id (suc first) count)
+    (record { at = refl; plan = plan; legal = tt }) (new-own chain plan (suc first) count)
+
+pub dealt-own :
+    (chain : ChainOf) → IsPlan chain.shape → (dealt : List SeenBy) (count : ℕ) → dealt ≡ seats_of chain.id 0 count
+    → All (IsOwn chain) dealt
+dealt-own chain plan dealt count are =
+    All-same (IsOwn chain) dealt (seats_of chain.id 0 count) are (new-own chain plan 0 count)

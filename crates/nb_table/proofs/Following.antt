@@ -9,6 +9,7 @@ use Rattle.nb_core.specs.Laws.{Lasts, SeenLasts}
 use Rattle.nb_core.specs.declared.events.Event.{Event}
 use Rattle.nb_table.specs.Events.{only}
 use Rattle.nb_table.specs.Steps.{MayStep}
+use Rattle.nb_core.proofs.Theorems.{seen_lasts}
 
 -- a step without an event leaves its word
 pub none-follows :
@@ -38,8 +39,8 @@ pub if-follows :
 if-follows p true e number place new h yes_it no_it = yes_it refl
 if-follows p false e number place new h yes_it no_it = no_it refl
 
-module _ (p : Plan) (lasts : SeenLasts) (number : ℕ) (seen : List Event) where
+module _ (p : Plan) (number : ℕ) (seen : List Event) where
   -- what is so still
   pub later :
       IsPlan p → (others : List Event) → IsLegal p (others ++ seen) → Lasts p (tables_at p seen) (tables_at p (others ++ seen))
-  later plan others legal = lasts p plan others seen legal
+  later plan others legal = seen_lasts p plan others seen legal

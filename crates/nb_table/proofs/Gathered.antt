@@ -11,8 +11,8 @@ use Rattle.atomic_table.specs.Table.{Final, Seen, State}
 use Rattle.atomic_table.specs.declared.shared.Seat.{Seat}
 use Rattle.nb_core.specs.Plans.{Plan}
 use Rattle.nb_core.specs.declared.events.Event.{Event}
-use Rattle.nb_table.specs.Chains.{SeenBy}
-use Rattle.nb_table.specs.Gathered.{AreOwn, ClosedWith, HasGathered}
+use Rattle.nb_table.specs.Chains.{AreOwn, ChainOf, IsOwn, SeenBy}
+use Rattle.nb_table.specs.Gathered.{ClosedWith, HasGathered}
 use Rattle.nb_table.specs.Inside.{IsSeat, part_of, seat_of}
 use Rattle.nb_table.specs.Left.{ClosedOf}
 use Rattle.nb_table.specs.Views.{HasSeen, IsChained, all_parts, joined, spent_view}
@@ -23,15 +23,15 @@ use Rattle.nb_table.proofs.Parted.{All-left, All-right, Fits, parts-at, sum-set,
 -- ---- lists whose last was taken
 
 pub own-left :
-    (chain : TableId) (seats left : List SeenBy) (s : SeenBy) → seats ≡ left ++ s ∷ [] → AreOwn chain seats → AreOwn chain left
+    (chain : ChainOf) (seats left : List SeenBy) (s : SeenBy) → seats ≡ left ++ s ∷ [] → AreOwn chain seats → AreOwn chain left
 own-left chain seats left s is own =
-    All-left (λ x. x.chain ≡ chain) left (s ∷ []) (All-same (λ x. x.chain ≡ chain) (left ++ s ∷ []) seats (sym is) own)
+    All-left (IsOwn chain) left (s ∷ []) (All-same (IsOwn chain) (left ++ s ∷ []) seats (sym is) own)
 
 pub own-last :
-    (chain : TableId) (seats left : List SeenBy) (s : SeenBy) → seats ≡ left ++ s ∷ [] → AreOwn chain seats → s.chain ≡ chain
+    (chain : ChainOf) (seats left : List SeenBy) (s : SeenBy) → seats ≡ left ++ s ∷ [] → AreOwn chain seats → IsOwn chain s
 own-last chain seats left s is own =
-    All-head (λ x. x.chain ≡ chain) s [] (All-right (λ x. x.chain ≡ chain) left (s ∷ [])
-    (All-same (λ x. x.chain ≡ chain) (left ++ s ∷ []) seats (sym is) own))
+    All-head (IsOwn chain) s [] (All-right (IsOwn chain) left (s ∷ [])
+    (All-same (IsOwn chain) (left ++ s ∷ []) seats (sym is) own))
 
 -- how many of these seats have this number
 abbrev times_numbered : ℕ → List SeenBy → ℕ

@@ -6,7 +6,8 @@ use Rattle.std.proofs.lemmas.List.{append-nil, append_assoc}
 use Rattle.std.proofs.lemmas.List.Elements.{All-head, All-tail, filter-append}
 use Rattle.nb_core.specs.History.{IsLegal, seat_of_event}
 use Rattle.nb_core.specs.Tables.{tables_at}
-use Rattle.nb_core.specs.Laws.{Lasts, SeenLasts}
+use Rattle.nb_core.specs.Laws.{Lasts}
+use Rattle.nb_core.proofs.Theorems.{seen_lasts}
 use Rattle.nb_core.specs.declared.events.Event.{Event}
 use Rattle.nb_table.specs.Chains.{own_events}
 use Rattle.nb_table.specs.Laws.{StepsAddUp}
@@ -25,21 +26,19 @@ own-none number (e ∷ es) none =
     let P : Event → Type 0 = λ e. seat_of_event e ≢ number in
     rw (ne_eqb (seat_of_event e) number (All-head P e es none)) (own-none number es (All-tail P e es none))
 
-pub steps_add_up : SeenLasts → StepsAddUp
-steps_add_up lasts = record {
-  none = λ {seat} legal. record {
+pub steps_add_up : StepsAddUp
+steps_add_up = record {
+  none = λ {chain} {seat} is. record {
     chain = refl;
-    shape = refl;
     number = refl;
     later = [];
     seen = refl;
     own_are = refl;
-    legal = legal;
+    legal = is.legal;
     steps = omega arith;
   };
-  one = λ {before} {after} {own} {count} step. record {
+  one = λ {p} {before} {after} {own} {count} step. record {
     chain = step.chain;
-    shape = step.shape;
     number = step.number;
     later = own ++ step.others;
     seen = step.seen ∙ sym (append_assoc own step.others before.seen);
@@ -49,9 +48,8 @@ steps_add_up lasts = record {
     legal = step.legal;
     steps = step.steps;
   };
-  more = λ {before} {then} {after} {own} {own'} {count} {count'} a b. record {
+  more = λ {p} {before} {then} {after} {own} {own'} {count} {count'} a b. record {
     chain = b.chain ∙ a.chain;
-    shape = b.shape ∙ a.shape;
     number = b.number ∙ a.number;
     later = b.later ++ a.later;
     seen = b.seen ∙ ap (λ h. b.later ++ h) a.seen ∙ sym (append_assoc b.later a.later before.seen);
@@ -60,10 +58,13 @@ steps_add_up lasts = record {
     legal = b.legal;
     steps = omega (arith, a.steps, b.steps);
   };
-  own = λ {chain} {before} {after} is grown. (grown.chain ∙ is.0, grown.shape ∙ is.1);
-  stays = λ {chain} {before} {after} plan is grown.
+  own = λ {chain} {before} {after} is grown. record {
+    at = grown.chain ∙ is.at;
+    plan = is.plan;
+    legal = grown.legal;
+  };
+  stays = λ {chain} {before} {after} is grown.
       let p = chain.shape in
-      subst₂ (λ q r. Lasts p (tables_at q before.seen) (tables_at r after.seen)) (sym is.1) (sym (grown.shape ∙ is.1))
-      (subst (λ h. Lasts p (tables_at p before.seen) (tables_at p h)) (sym grown.seen)
-      (lasts p plan grown.later before.seen (subst₂ IsLegal (grown.shape ∙ is.1) grown.seen grown.legal)));
+      subst (λ h. Lasts p (tables_at p before.seen) (tables_at p h)) (sym grown.seen)
+      (seen_lasts p is.plan grown.later before.seen (subst (IsLegal p) grown.seen grown.legal));
 }

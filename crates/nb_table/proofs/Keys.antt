@@ -17,6 +17,7 @@ use Rattle.nb_table.proofs.Following.{if-follows, later, none-follows, one-follo
 use Rattle.nb_table.specs.Chains.{Extended, SeenBy, seen_by}
 use Rattle.nb_table.specs.Events.{claims, installs, kills, only}
 use Rattle.nb_table.specs.Steps.{Can, MayStep, Stepped}
+use Rattle.nb_core.proofs.Theorems.{lawful_words, linked, places_are_distinct}
 
 -- ---- what may be exchanged
 
@@ -41,7 +42,7 @@ reason-lasts p zero k distance t u within lasting (inl has) = absurd has
 reason-lasts p (suc g) k distance t u within lasting (inl has) = inl (lasting.has_slot g k (omega arith) has)
 reason-lasts p g k distance t u within lasting (inr ready) = inr (lasting.ready g within ready.0, ready.1)
 
-module _ (p : Plan) (lasts : SeenLasts) (number g : ℕ) (seen : List Event) where
+module _ (p : Plan) (number g : ℕ) (seen : List Event) where
   -- an empty slot may be closed to keys once there is a next table
   pub can-kill :
       (i : ℕ) → IsSlot p g i → IsInstalled (tables_at p seen) (suc g)
@@ -51,7 +52,7 @@ module _ (p : Plan) (lasts : SeenLasts) (number g : ℕ) (seen : List Event) whe
         legal,
         (numbered, slot),
         record {
-          growing = (later p lasts number seen plan others legal).installed (suc g) growing;
+          growing = (later p number seen plan others legal).installed (suc g) growing;
           empty = ap key_state zero_found;
         },
         tt,
@@ -63,7 +64,7 @@ module _ (p : Plan) (lasts : SeenLasts) (number g : ℕ) (seen : List Event) whe
       → word ≡ k + 2
       → Can p (claims number g i k) number seen (key_place p g i) (λ found. cond (eqb found 0) word found)
   can-claim i k word slot installed way in_range word_is plan numbered others not_own legal =
-      let lasting = later p lasts number seen plan others legal in
+      let lasting = later p number seen plan others legal in
       let words = ap (slice_set (words_of p (others ++ seen)) (key_place p g i)) (sym word_is) in
       exchange-follows p (Claim number g i k) number (key_place p g i) word (others ++ seen) legal refl words (λ zero_found. (
         legal,
@@ -90,7 +91,7 @@ module _ (p : Plan) (lasts : SeenLasts) (number g : ℕ) (seen : List Event) whe
       → k ≤ KEY_MAX
       → Can p (installs number g k) number seen (header_place p g 0) (λ found. cond (eqb found 0) 1 found)
   can-install k room ready crowded in_range plan numbered others not_own legal =
-      let lasting = later p lasts number seen plan others legal in
+      let lasting = later p number seen plan others legal in
       exchange-follows p (Install number g k) number (header_place p g 0) 1 (others ++ seen) legal refl refl (λ zero_found. (
         legal,
         (numbered, omega arith, in_range),
@@ -106,22 +107,17 @@ module _ (p : Plan) (lasts : SeenLasts) (number g : ℕ) (seen : List Event) whe
 -- ---- what an exchange tells
 
 module _
-    (p : Plan) (e : Event) (place : Plan → ℕ) (at found : ℕ) (before after : SeenBy) (own : before.shape ≡ p)
-    (at_place : at ≡ place p)
+    (p : Plan) (e : Event) (place at found : ℕ) (before after : SeenBy) (at_place : at ≡ place)
     (told : Stepped p (λ word. only (eqb word 0) e) at before found after) where
   -- it made its event where it found 0
-  exchange-won : found ≡ 0 → Extended before after (e ∷ []) 1
+  exchange-won : found ≡ 0 → Extended p before after (e ∷ []) 1
   exchange-won zero_found =
-      subst (λ test. Extended before after (cond test (e ∷ []) []) 1) (eq-eqb found 0 zero_found) told.grows
+      subst (λ test. Extended p before after (cond test (e ∷ []) []) 1) (eq-eqb found 0 zero_found) told.grows
 
   -- and none where it found another word
-  exchange-lost : found ≢ 0 → Extended before after [] 1
+  exchange-lost : found ≢ 0 → Extended p before after [] 1
   exchange-lost some_found =
-      subst (λ test. Extended before after (cond test (e ∷ []) []) 1) (ne_eqb found 0 some_found) told.grows
-
-  -- the seat's shape is the plan
-  after-shape : after.shape ≡ p
-  after-shape = told.grows.shape ∙ own
+      subst (λ test. Extended p before after (cond test (e ∷ []) []) 1) (ne_eqb found 0 some_found) told.grows
 
   -- what it has seen afterwards, where it made its event
   won-seen : found ≡ 0 → after.seen ≡ e ∷ (told.grows.others ++ before.seen)
@@ -133,73 +129,72 @@ module _
   lost-seen some_found =
       told.grows.seen ∙ ap (λ test. cond test (e ∷ []) [] ++ (told.grows.others ++ before.seen)) (ne_eqb found 0 some_found)
 
-  -- a word of what the seat has seen, by the plan and the history
+  -- a word of what the seat has seen, by the history
   word-seen :
-      (h : List Event) (word : ℕ) → after.seen ≡ h → slice_index (words_of p h) (place p) ≡ word
-      → slice_index (words_of after.shape after.seen) (place after.shape) ≡ word
+      (h : List Event) (word : ℕ) → after.seen ≡ h → slice_index (words_of p h) place ≡ word
+      → slice_index (words_of p after.seen) place ≡ word
   word-seen h word is here =
-      subst₂ (λ q h. slice_index (words_of q h) (place q) ≡ word) (sym after-shape) (sym is) here
+      subst (λ h. slice_index (words_of p h) place ≡ word) (sym is) here
 
   -- the word that it found is still there, where that isn't 0
-  word-lost : found ≢ 0 → slice_index (words_of after.shape after.seen) (place after.shape) ≡ found
+  word-lost : found ≢ 0 → slice_index (words_of p after.seen) place ≡ found
   word-lost some_found =
       word-seen (told.grows.others ++ before.seen) found (lost-seen some_found)
       (ap (slice_index (words_of p (told.grows.others ++ before.seen))) (sym at_place) ∙ told.word)
 
   -- else the new word is there
   word-won :
-      (new : ℕ) → LawfulWords → IsPlan p → place p < word_count p
-      → ((h : List Event) → words_of p (e ∷ h) ≡ slice_set (words_of p h) (place p) new) → found ≡ 0
-      → slice_index (words_of after.shape after.seen) (place after.shape) ≡ new
-  word-won new lawful plan within words zero_found =
+      (new : ℕ) → IsPlan p → place < word_count p
+      → ((h : List Event) → words_of p (e ∷ h) ≡ slice_set (words_of p h) place new) → found ≡ 0
+      → slice_index (words_of p after.seen) place ≡ new
+  word-won new plan within words zero_found =
       let h = told.grows.others ++ before.seen in
-      let legal : IsLegal p (e ∷ h) = subst₂ IsLegal after-shape (won-seen zero_found) told.grows.legal in
+      let legal : IsLegal p (e ∷ h) = subst (IsLegal p) (won-seen zero_found) told.grows.legal in
       word-seen (e ∷ h) new (won-seen zero_found)
-      (ap (λ w. slice_index w (place p)) (words h)
-      ∙ get_or-set_same (words_of p h) (place p) new 0 (omega (arith, within, (lawful p plan h legal.0).length)))
+      (ap (λ w. slice_index w place) (words h)
+      ∙ get_or-set_same (words_of p h) place new 0 (omega (arith, within, (lawful_words p plan h legal.0).length)))
 
 -- the same of a key word, by the state that it stood for
 module _
-    (p : Plan) (e : Event) (g i at found : ℕ) (before after : SeenBy) (own : before.shape ≡ p) (at_place : at ≡ key_place p g i)
+    (p : Plan) (e : Event) (g i at found : ℕ) (before after : SeenBy) (at_place : at ≡ key_place p g i)
     (told : Stepped p (λ word. only (eqb word 0) e) at before found after) (state : KeyState) where
   -- an empty slot has the new word's state
   pub key-won :
-      (new : ℕ) → LawfulWords → PlacesAreDistinct → IsPlan p → IsSlot p g i
+      (new : ℕ) → IsPlan p → IsSlot p g i
       → ((h : List Event) → words_of p (e ∷ h) ≡ slice_set (words_of p h) (key_place p g i) new)
       → key_word state ≡ found → state ≡ Empty
-      → Extended before after (e ∷ []) 1 × ((seen_by after).key g i ≡ key_state new)
-  key-won new lawful places plan slot words back empty =
+      → Extended p before after (e ∷ []) 1 × ((seen_by p after).key g i ≡ key_state new)
+  key-won new plan slot words back empty =
       let zero_found = sym back ∙ ap key_word empty in
-      let within = (places p plan).below (Key g i) slot in (
-        exchange-won p e (λ q. key_place q g i) at found before after own at_place told zero_found,
+      let within = (places_are_distinct p plan).below (Key g i) slot in (
+        exchange-won p e (key_place p g i) at found before after at_place told zero_found,
         ap key_state
-            (word-won p e (λ q. key_place q g i) at found before after own at_place told new lawful plan within words
+            (word-won p e (key_place p g i) at found before after at_place told new plan within words
             zero_found),
       )
 
   -- another slot stays as it was found
-  pub key-lost : state ≡ key_state found → state ≢ Empty → Extended before after [] 1 × ((seen_by after).key g i ≡ state)
+  pub key-lost : state ≡ key_state found → state ≢ Empty → Extended p before after [] 1 × ((seen_by p after).key g i ≡ state)
   key-lost decoded differs =
       let some_found : found ≢ 0 = λ zero_found. differs (decoded ∙ ap key_state zero_found) in (
-        exchange-lost p e (λ q. key_place q g i) at found before after own at_place told some_found,
-        ap key_state (word-lost p e (λ q. key_place q g i) at found before after own at_place told some_found) ∙ sym decoded,
+        exchange-lost p e (key_place p g i) at found before after at_place told some_found,
+        ap key_state (word-lost p e (key_place p g i) at found before after at_place told some_found) ∙ sym decoded,
       )
 
 -- after the exchange of a next word the next table is there, whoever installed it
 pub exchange-installs :
-    (p : Plan) (number g k at found : ℕ) (before after : SeenBy) → before.shape ≡ p → at ≡ header_place p g 0
-    → Stepped p (installs number g k) at before found after → LawfulWords → TablesAreLinked → PlacesAreDistinct → IsPlan p
-    → g < generations_of p → IsInstalled (seen_by after) (suc g)
-exchange-installs p number g k at found before after own at_place told lawful linked places plan within =
+    (p : Plan) (number g k at found : ℕ) (before after : SeenBy) → at ≡ header_place p g 0
+    → Stepped p (installs number g k) at before found after → IsPlan p
+    → g < generations_of p → IsInstalled (seen_by p after) (suc g)
+exchange-installs p number g k at found before after at_place told plan within =
     let e = Install number g k in
-    let place : Plan → ℕ = λ q. header_place q g 0 in
-    let shape : after.shape ≡ p = told.grows.shape ∙ own in
-    let below = (places p plan).below (Header g 0) (within, omega arith) in
+    let place = header_place p g 0 in
+    let below = (places_are_distinct p plan).below (Header g 0) (within, omega arith) in
     elim (eqb_tells found 0) [
-      | inl zero_found ↦ word-won p e place at found before after own at_place told 1 lawful plan below (λ h. refl) zero_found.1
-      | inr some_found ↦ elim ((linked after.shape (subst IsPlan (sym shape) plan) after.seen told.grows.legal).next g) [
+      | inl zero_found ↦ word-won p e place at found before after at_place told 1 plan below (λ h. refl) zero_found.1
+      | inr some_found ↦ elim ((linked p plan after.seen told.grows.legal).next g) [
         | inl zero_after ↦
-            let still = word-lost p e place at found before after own at_place told some_found.1 in
+            let still = word-lost p e place at found before after at_place told some_found.1 in
             absurd (some_found.1 (sym still ∙ zero_after))
         | inr is ↦ is
       ]

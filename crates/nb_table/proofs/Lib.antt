@@ -13,6 +13,7 @@ mod Meeting
 mod Newest
 mod Opening
 mod Parted
+pub mod Theorems
 mod Values
 mod Views
 mod Winning

@@ -14,6 +14,7 @@ use Rattle.nb_core.specs.declared.states.KeyState.TheVariants.{Claimed}
 use Rattle.nb_table.specs.Left.{ClosedOf, HoldsOfMap, tables_left}
 use Rattle.nb_table.specs.Listing.{HasRight, IsListing}
 use Rattle.nb_table.proofs.Looking.{of-left}
+use Rattle.nb_core.proofs.Theorems.{held_has_place, linked, place_is, top_complete}
 
 -- what holds where a call succeeds
 pub on_ok : {A E : Type 0} (P : Type 0) (r : Result A E) → is_ok r ≡ true → OnOk r P → P
@@ -133,9 +134,9 @@ module _ (closed : ClosedOf) where
 
   -- Each key that the map has was found at its place from the top word on, so once all tables are done the two are the same.
   pub listing-all :
-      IsPlan closed.shape → TablesAreLinked → TopComplete → HeldHasPlace → PlaceIs → (found : Numbers) (g : ℕ)
+      IsPlan closed.shape → (found : Numbers) (g : ℕ)
       → generations_of closed.shape ≤ g → IsListing closed found g 0 → HoldsOfMap closed (λ m. found ≡ m)
-  listing-all plan linked complete held place found g whole listing history from =
+  listing-all plan found g whole listing history from =
       same_map nat_cmp_total nat_cmp-IsAntisymmetric found (map_of history) (λ k.
       elim (listing.so_far k) [
         | inl none ↦ same-none k none (get (map_of history) k) refl
@@ -151,11 +152,11 @@ module _ (closed : ClosedOf) where
           let legal = from.legal in
           let top = (tables_at p history).top in
           let links = linked p plan history legal in
-          let found_at = held p plan history legal top k n (links.within top links.top)
-          (λ f below. (complete p plan history legal f below).1) is in
+          let found_at = held_has_place p plan history legal top k n (links.within top links.top)
+          (λ f below. (top_complete p plan history legal f below).1) is in
           let f = found_at.0.0 in
           let i = found_at.0.1 in
-          let first = (place p plan history legal top k f i).0 found_at.1 in
+          let first = (place_is p plan history legal top k f i).0 found_at.1 in
           let claimed = of-left closed history from (λ t. t.key f i ≡ Claimed k) first.is in
           let above = of-left closed history from (λ t. t.top ≤ f) first.from in
           listing.tables f i k above (omega (arith, first.slot.0)) first.slot claimed history from

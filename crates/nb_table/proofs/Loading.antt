@@ -25,6 +25,7 @@ use Rattle.nb_table.specs.Chains.{SeenBy, seen_by}
 use Rattle.nb_table.specs.Conditions.{IsReached}
 use Rattle.nb_table.specs.Events.{is_last_slot, only, read, reads, shown_by_key, shown_by_next, shown_by_value}
 use Rattle.nb_table.specs.Steps.{Can, MayStep, Stepped}
+use Rattle.nb_core.proofs.Theorems.{decided, linked, read_replies}
 
 -- ---- the last slot of a path
 
@@ -136,15 +137,15 @@ value-shows p t g i k state n slot claimed is shown =
 
 -- the read of a call may follow where what is shown of its key is what the map has
 read-follows :
-    (p : Plan) → IsPlan p → ReadReplies → (number place : ℕ) (call : Call) (shown : Option (Option ℕ)) (h : List Event)
+    (p : Plan) → IsPlan p → (number place : ℕ) (call : Call) (shown : Option (Option ℕ)) (h : List Event)
     → number < p.seats → IsLegal p h → IsCallInRange call
     → ((n : Option ℕ) → shown ≡ Some n → map.get (map_of h) (key_of_call call) ≡ n)
     → MayStep p (read number call shown) number place (slice_index (words_of p h) place) h
-read-follows p plan replies number place call None h seated legal ranges is = none-follows p number place _ h legal refl
-read-follows p plan replies number place call (Some n) h seated legal ranges is =
+read-follows p plan number place call None h seated legal ranges is = none-follows p number place _ h legal refl
+read-follows p plan number place call (Some n) h seated legal ranges is =
     if-follows p (leaves_alone call n) (Read number call (reply_at call n)) number place (slice_index (words_of p h) place) h
     (λ alone. one-follows p (Read number call (reply_at call n)) number place (slice_index (words_of p h) place) h
-    (legal, (seated, ranges), tt, replies p plan h legal number call n (is n refl) alone)
+    (legal, (seated, ranges), tt, read_replies p plan h legal number call n (is n refl) alone)
     (sym (set-get_or (words_of p h) place 0)) refl)
     (λ other. none-follows p number place (slice_index (words_of p h) place) h legal refl)
 
@@ -159,7 +160,7 @@ reached-lasts p t u g k within lasting reached = record {
 -- A load may be the read of its call where the search for the call's key has come to its table, and what the word shows
 -- to the search is what the tables show.
 module _
-    (p : Plan) (lasts : SeenLasts) (decided : Decided) (replies : ReadReplies) (number : ℕ) (seen : List Event) (g : ℕ)
+    (p : Plan) (number : ℕ) (seen : List Event) (g : ℕ)
     (within : g < generations_of p) where
   can-read :
       (call : Option Call) (place : ℕ) (shown : ℕ → ℕ → Option (Option ℕ)) → IfSome call IsCallInRange
@@ -174,9 +175,9 @@ module _
   can-read (Some call) place shown ranges reached shows plan seated others not_own legal =
       let h = others ++ seen in
       let k = key_of_call call in
-      let lasting = later p lasts number seen plan others legal in
+      let lasting = later p number seen plan others legal in
       let come = reached-lasts p (tables_at p seen) (tables_at p h) g k within lasting reached in
-      read-follows p plan replies number place call (shown (slice_index (words_of p h) place) k) h seated legal ranges
+      read-follows p plan number place call (shown (slice_index (words_of p h) place) k) h seated legal ranges
       (λ n is. decided p plan h legal g k within come.installed come.below n (shows others legal lasting n is))
 
   -- of a key, to a search whose path leads to the slot
@@ -211,11 +212,11 @@ module _
 
   -- of a next word, to a search whose key's whole path is other keys'
   pub can-load_next :
-      (call : Option Call) → TablesAreLinked → IsPlan p → IfSome call IsCallInRange
+      (call : Option Call) → IsPlan p → IfSome call IsCallInRange
       → IfSome call (λ c. IsReached p (tables_at p seen) g (key_of_call c))
       → IfSome call (λ c. AreOthers p (tables_at p seen) g (key_of_call c) (size_of p g))
       → Can p (λ found. reads number call (λ k. shown_by_next (eqb found 1))) number seen (header_place p g 0) (λ found. found)
-  can-load_next call linked plan ranges reached crowded =
+  can-load_next call plan ranges reached crowded =
       can-read call (header_place p g 0) (λ found k. shown_by_next (eqb found 1)) ranges reached
       (IfSome_then call crowded (λ c others_there others legal lasting n is.
       NoNext (lasting.others g (key_of_call c) (size_of p g) within others_there)
@@ -252,8 +253,8 @@ reads-words p number (Some call) shown h = read-words (shown (key_of_call call))
 -- what the words say after a load is what they said when it was made
 pub load-sees :
     (p : Plan) (number : ℕ) (call : Option Call) (shown : ℕ → ℕ → Option (Option ℕ)) (place found : ℕ) (before after : SeenBy)
-    → before.shape ≡ p → (step : Stepped p (λ word. reads number call (shown word)) place before found after)
-    → seen_by after ≡ tables_at p (step.grows.others ++ before.seen)
-load-sees p number call shown place found before after own step =
-    ap (λ q. tables_at q after.seen) (step.grows.shape ∙ own) ∙ ap (tables_at p) step.grows.seen
+    → (step : Stepped p (λ word. reads number call (shown word)) place before found after)
+    → seen_by p after ≡ tables_at p (step.grows.others ++ before.seen)
+load-sees p number call shown place found before after step =
+    ap (tables_at p) step.grows.seen
     ∙ ap (tables_of p) (reads-words p number call (shown found) (step.grows.others ++ before.seen))

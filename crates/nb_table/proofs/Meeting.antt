@@ -152,9 +152,9 @@ allows-hears p key same slots id place me one =
 -- ---- after the meeting
 
 -- the seat has seen more, and all that the other had seen
-pub record HasMet (before other after : seat.Inside) : Type 0 where
+pub record HasMet (p : Plan) (before other after : seat.Inside) : Type 0 where
   pub seat : IsSeat after
-  pub grows : Extended (seat_of before) (seat_of after) [] 1
+  pub grows : Extended p (seat_of before) (seat_of after) [] 1
   pub sees : IsBeginning (seat_of other).seen (seat_of after).seen
 
 -- what the token knows that took in the other's note
@@ -165,24 +165,22 @@ joined-me before other own note me own_is note_is me_is = me_is ∙ (λ i. (join
 
 pub met :
     (p : Plan) (before other after : seat.Inside) (me : Me (Unit {0}) View) (found : ℕ) → IsSeat before → IsSeat other
-    → before.shape ≡ p → after.shape ≡ before.shape → after.seat.table_id ≡ before.seat.table_id
+    → after.seat.table_id ≡ before.seat.table_id
     → me ≡ (joined before.seat.me.0 (noted other.seat.me.0), before.seat.me.1) → HasHeard p 0 me found after.seat.me
-    → HasMet before other after
-met p before other after me found is_seat other_seat plan shape table me_is heard = record {
+    → HasMet p before other after
+met p before other after me found is_seat other_seat table me_is heard = record {
   seat = record {
     one = alone_after ∙ ap (λ x. x ∷ []) (sym (ap part_of alone_after));
     free = ap (λ m. m.1) heard.is ∙ ap (λ m. m.1) me_is ∙ is_seat.free;
-    legal = legal;
   };
   grows = record {
     chain = table;
-    shape = shape;
     number = ap (λ x. x.number) after_is;
     others = moves.others;
     seen = ap (λ x. x.seen) after_is;
     not_own = moves.not_own;
     mine = moves.mine;
-    legal = legal;
+    legal = subst (λ (x : Part). IsLegal p x.seen) (sym after_is) moves.legal;
     steps = ap (λ x. x.steps) after_is;
   };
   sees = subst (λ (x : Part). IsBeginning (part_of other.seat.me.0.parts).seen x.seen) (sym (ap part_of alone_after)) told;
@@ -200,11 +198,6 @@ met p before other after me found is_seat other_seat plan shape table me_is hear
     after_is : part_of after.seat.me.0.parts ≡ moved part moves.others []
     after_is = ap part_of alone_after ∙ moves.is
 
-    legal : IsLegal after.shape (part_of after.seat.me.0.parts).seen
-    legal =
-        subst (λ q. IsLegal q (part_of after.seat.me.0.parts).seen) (sym (shape ∙ plan))
-        (subst (λ (x : Part). IsLegal p x.seen) (sym after_is) moves.legal)
-
     told : IsBeginning (part_of other.seat.me.0.parts).seen heard.after.seen
     told =
         let P : List Event → Type 0 = λ seen. IsBeginning seen heard.after.seen in
@@ -217,9 +210,9 @@ met p before other after me found is_seat other_seat plan shape table me_is hear
 
 -- as contracts see it
 pub met-told :
-    (before other after : seat.Inside) (a b : SeenBy) → seat_of before ≡ a → seat_of other ≡ b → HasMet before other after
-    → Extended a (seat_of after) [] 1 × IsBeginning b.seen (seat_of after).seen
-met-told before other after a b a_is b_is m = (
-  subst (λ x. Extended x (seat_of after) [] 1) a_is m.grows,
+    (p : Plan) (before other after : seat.Inside) (a b : SeenBy) → seat_of before ≡ a → seat_of other ≡ b
+    → HasMet p before other after → Extended p a (seat_of after) [] 1 × IsBeginning b.seen (seat_of after).seen
+met-told p before other after a b a_is b_is m = (
+  subst (λ x. Extended p x (seat_of after) [] 1) a_is m.grows,
   subst (λ (x : SeenBy). IsBeginning x.seen (seat_of after).seen) b_is m.sees,
 )

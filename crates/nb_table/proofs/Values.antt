@@ -18,6 +18,7 @@ use Rattle.nb_table.specs.Conditions.{HasSource, IsCopied}
 use Rattle.nb_table.specs.Events.{copies, finishes, only, primes}
 use Rattle.nb_table.specs.Steps.{Can, Stepped}
 use Rattle.nb_table.proofs.Following.{if-follows, none-follows, one-follows}
+use Rattle.nb_core.proofs.Theorems.{beginnings_are_legal, codings, lawful_words, linked, moved, one_slot, places_are_distinct, seen_lasts}
 
 -- ---- words
 
@@ -39,7 +40,7 @@ primed-again _ other = refl
 abbrev Holds : ℕ → ℕ → Type 0
 Holds x n = (unwrap_or (value_state x) Null ≡ Primed n) ⊎ (unwrap_or (value_state x) Null ≡ Finished n)
 
-module _ (codings : Codings) where
+module _ where
   -- the words of unprimed values are even, and no others
   evens : (x : ℕ) (v : ValueState) → value_state x ≡ Some v → (IsUnprimed v → x % 2 ≡ 0) × (x % 2 ≡ 0 → IsUnprimed v)
   evens x v says =
@@ -129,7 +130,7 @@ still-primed p t (suc g) i k n slot claimed null moved one (j, within, below, he
           absurd (value.some (subst (λ s. t.value (suc g) s ≡ Null) (sym same) null))
     ]
 
-module _ (codings : Codings) where
+module _ where
   -- a value whose word is even may be primed
   may-prime :
       (t : Tables) (g i x : ℕ) → t.next g ≡ 1 → (k : ℕ) × (t.key g i ≡ Claimed k) → t.value g i ≡ unwrap_or (value_state x) Null
@@ -140,20 +141,20 @@ module _ (codings : Codings) where
         growing = growing;
         key = claimed.0;
         claimed = claimed.1;
-        unprimed = subst IsUnprimed (sym at) ((evens codings x word.state word.decodes).1 even);
+        unprimed = subst IsUnprimed (sym at) ((evens x word.state word.decodes).1 even);
       }
 
   -- A claimed slot's value may be primed, once there is a next table.
   pub can-prime :
-      (p : Plan) → SeenLasts → LawfulWords → (number : ℕ) (seen : List Event) (g i : ℕ) → IsSlot p g i
+      (p : Plan) → (number : ℕ) (seen : List Event) (g i : ℕ) → IsSlot p g i
       → IsInstalled (tables_at p seen) (suc g) → (k : ℕ) × ((tables_at p seen).key g i ≡ Claimed k)
       → Can p (primes number g i) number seen (value_place p g i) (λ found. bit_or found 1)
-  can-prime p lasts lawful number seen g i slot growing claimed plan seated others not_own legal =
+  can-prime p number seen g i slot growing claimed plan seated others not_own legal =
       let h = others ++ seen in
       let place = value_place p g i in
       let found = slice_index (words_of p h) place in
-      let still = lasts p plan others seen legal in
-      let word = (lawful p plan h legal).values g i slot in
+      let still = seen_lasts p plan others seen legal in
+      let word = (lawful_words p plan h legal).values g i slot in
       if-follows p (eqb (found % 2) 0) (Prime number g i) number place (bit_or found 1) h
       (λ even. one-follows p (Prime number g i) number place (bit_or found 1) h (
         legal,
@@ -163,21 +164,21 @@ module _ (codings : Codings) where
         tt,
       ) refl refl)
       (λ odd. none-follows p number place (bit_or found 1) h legal
-      (primed-kept codings found word (eqb-false (found % 2) 0 odd)))
+      (primed-kept found word (eqb-false (found % 2) 0 odd)))
 
   -- A number that is seen primed or finished may be finished, once its key has a value in the next table.
   pub can-finish :
-      (p : Plan) → SeenLasts → LawfulWords → TablesAreLinked → (number : ℕ) (seen : List Event) (g i n : ℕ) → IsSlot p g i
+      (p : Plan) → (number : ℕ) (seen : List Event) (g i n : ℕ) → IsSlot p g i
       → IsCopied p (tables_at p seen) g i n
       → Can p (finishes number g i n) number seen (value_place p g i) (λ found. bit_or found 2)
-  can-finish p lasts lawful linked number seen g i n slot copied plan seated others not_own legal =
+  can-finish p number seen g i n slot copied plan seated others not_own legal =
       let h = others ++ seen in
       let t = tables_at p h in
       let place = value_place p g i in
       let found = slice_index (words_of p h) place in
-      let still = lasts p plan others seen legal in
+      let still = seen_lasts p plan others seen legal in
       let link = linked p plan h legal in
-      let word = (lawful p plan h legal).values g i slot in
+      let word = (lawful_words p plan h legal).values g i slot in
       let held = still.primed_or_finished g i n slot copied.held in
       let above = link.within (suc g) (held-below p t g i n slot held (link.primed g i slot)) in
       if-follows p (eqb found (value_word (Primed n))) (Finish number g i) number place (bit_or found 2) h
@@ -188,40 +189,40 @@ module _ (codings : Codings) where
           key = copied.key;
           number = n;
           claimed = still.claimed g i copied.key slot copied.claimed;
-          primed = held-primed codings found n held word (eqb-true found (value_word (Primed n)) same);
+          primed = held-primed found n held word (eqb-true found (value_word (Primed n)) same);
           copied = still.has_value (suc g) copied.key above copied.copied;
         },
         tt,
       ) refl refl)
       (λ other. none-follows p number place (bit_or found 2) h legal
-      (finished-kept codings found n held word (eqb-false found (value_word (Primed n)) other)))
+      (finished-kept found n held word (eqb-false found (value_word (Primed n)) other)))
 
   -- A number that is seen primed or finished below may be copied to its key's slot, where the value is null.
   pub can-copy :
-      (p : Plan) → SeenLasts → LawfulWords → Moved → HasOneSlot → (number : ℕ) (seen : List Event) (g i k n word : ℕ)
+      (p : Plan) → (number : ℕ) (seen : List Event) (g i k n word : ℕ)
       → IsSlot p g i → value_state word ≡ Some (Live n) → (tables_at p seen).key g i ≡ Claimed k
       → HasSource p (tables_at p seen) g k n
       → Can p (copies number g i k n) number seen (value_place p g i) (λ found. cond (eqb found 0) word found)
-  can-copy p lasts lawful moved one number seen g i k n word slot says claimed source plan seated others not_own legal =
+  can-copy p number seen g i k n word slot says claimed source plan seated others not_own legal =
       let h = others ++ seen in
       let t = tables_at p h in
       let place = value_place p g i in
       let found = slice_index (words_of p h) place in
       let new = cond (eqb found 0) word found in
       let word_is = codings.word_of_state word (Live n) says in
-      let still = lasts p plan others seen legal in
+      let still = seen_lasts p plan others seen legal in
       let claimed' = still.claimed g i k slot claimed in
       if-follows p (eqb found 0) (CopyIn number g i k n) number place new h
       (λ same.
       let null = ap (λ x. unwrap_or (value_state x) Null) (eqb-true found 0 same) in
       one-follows p (CopyIn number g i k n) number place new h (
         legal,
-        (seated, slot, subst IsKeyState claimed' ((lawful p plan h legal).keys g i slot), word_is.1),
+        (seated, slot, subst IsKeyState claimed' ((lawful_words p plan h legal).keys g i slot), word_is.1),
         record {
           claimed = claimed';
           null = null;
           primed = still-primed p t g i k n slot claimed' null (λ f j. moved p plan h legal f j k n)
-              (λ j j_slot j_claimed. one p plan h legal g j i k j_slot slot j_claimed claimed')
+              (λ j j_slot j_claimed. one_slot p plan h legal g j i k j_slot slot j_claimed claimed')
               (source-lasts p (tables_at p seen) t still g k n slot.0 source);
         },
         tt,
@@ -231,36 +232,36 @@ module _ (codings : Codings) where
 -- ---- what was found
 
 -- the word of a slot's value is among the chain's
-pub value-within : (p : Plan) → PlacesAreDistinct → IsPlan p → (g i : ℕ) → IsSlot p g i → value_place p g i < word_count p
-value-within p places plan g i slot = (places p plan).below (Value g i) slot
+pub value-within : (p : Plan) → IsPlan p → (g i : ℕ) → IsSlot p g i → value_place p g i < word_count p
+value-within p plan g i slot = (places_are_distinct p plan).below (Value g i) slot
 
 -- A step on a slot's value word that found this word.
 module _
-    (p : Plan) (plan : IsPlan p) (lawful : LawfulWords) (begins : BeginningsAreLegal) (events : ℕ → List Event)
-    (before : SeenBy) (found : ℕ) (after : SeenBy) (g i : ℕ) (slot : IsSlot p g i) (shape : before.shape ≡ p)
+    (p : Plan) (plan : IsPlan p) (events : ℕ → List Event)
+    (before : SeenBy) (found : ℕ) (after : SeenBy) (g i : ℕ) (slot : IsSlot p g i)
     (step : Stepped p events (value_place p g i) before found after) where
   -- the history that it found is legal
   met-legal : IsLegal p (step.grows.others ++ before.seen)
-  met-legal = begins p (events found) (step.grows.others ++ before.seen)
-      (subst (IsLegal p) step.grows.seen (subst (λ q. IsLegal q after.seen) (step.grows.shape ∙ shape) step.grows.legal))
+  met-legal = beginnings_are_legal p (events found) (step.grows.others ++ before.seen)
+      (subst (IsLegal p) step.grows.seen step.grows.legal)
 
   -- the word stands for a state
   pub found-is : IsValueWord found
-  found-is = subst IsValueWord step.word ((lawful p plan (step.grows.others ++ before.seen) met-legal).values g i slot)
+  found-is = subst IsValueWord step.word ((lawful_words p plan (step.grows.others ++ before.seen) met-legal).values g i slot)
 
 -- A step on a slot's value word that is an event by a test of the word.
 module _
-    (p : Plan) (plan : IsPlan p) (lawful : LawfulWords) (begins : BeginningsAreLegal) (test : ℕ → Bool) (e : Event)
-    (before : SeenBy) (found : ℕ) (after : SeenBy) (g i : ℕ) (slot : IsSlot p g i) (shape : before.shape ≡ p)
+    (p : Plan) (plan : IsPlan p) (test : ℕ → Bool) (e : Event)
+    (before : SeenBy) (found : ℕ) (after : SeenBy) (g i : ℕ) (slot : IsSlot p g i)
     (step : Stepped p (λ x. only (test x) e) (value_place p g i) before found after) where
   -- what is seen of the value after the events that make this word
   then-value :
       (changed : Bool) → test found ≡ changed → (new : ℕ) (v : ValueState)
       → slice_index (words_of p (only changed e ++ (step.grows.others ++ before.seen))) (value_place p g i) ≡ new
-      → value_state new ≡ Some v → Extended before after (only changed e) 1 × ((seen_by after).value g i ≡ v)
+      → value_state new ≡ Some v → Extended p before after (only changed e) 1 × ((seen_by p after).value g i ≡ v)
   then-value changed is new v word says = (
-    subst (λ b. Extended before after (only b e) 1) is step.grows,
-    ap (λ q. (tables_at q after.seen).value g i) (step.grows.shape ∙ shape) ∙ ap (λ s. (tables_at p s).value g i)
+    subst (λ b. Extended p before after (only b e) 1) is step.grows,
+    ap (λ s. (tables_at p s).value g i)
         (step.grows.seen ∙ ap (λ b. only b e ++ (step.grows.others ++ before.seen)) is)
         ∙ ap (λ x. unwrap_or (value_state x) Null) word ∙ ap (λ o. unwrap_or o Null) says,
   )
@@ -268,56 +269,55 @@ module _
   -- where the test fails there is no event, and the value is as it was
   pub value-kept :
       test found ≡ false → (v : ValueState) → value_state found ≡ Some v
-      → Extended before after [] 1 × ((seen_by after).value g i ≡ v)
+      → Extended p before after [] 1 × ((seen_by p after).value g i ≡ v)
   value-kept fails v says = then-value false fails found v step.word says
 
   -- where it holds the value was what the word found says, before the event
   pub value-before :
-      test found ≡ true → (v : ValueState) → value_state found ≡ Some v → (seen_before after).value g i ≡ v
+      test found ≡ true → (v : ValueState) → value_state found ≡ Some v → (seen_before p after).value g i ≡ v
   value-before holds v says =
-      ap (λ q. (tables_at q (drop 1 after.seen)).value g i) (step.grows.shape ∙ shape)
-      ∙ ap (λ s. (tables_at p (drop 1 s)).value g i)
+      ap (λ s. (tables_at p (drop 1 s)).value g i)
       (step.grows.seen ∙ ap (λ b. only b e ++ (step.grows.others ++ before.seen)) holds)
       ∙ ap (λ x. unwrap_or (value_state x) Null) step.word ∙ ap (λ o. unwrap_or o Null) says
 
   -- and the event made a word of the one found
   pub value-made :
-      test found ≡ true → PlacesAreDistinct → (f : ℕ → ℕ) (v : ValueState)
+      test found ≡ true → (f : ℕ → ℕ) (v : ValueState)
       → let h = step.grows.others ++ before.seen in let place = value_place p g i in
       words_of p (e ∷ h) ≡ slice_set (words_of p h) place (f (slice_index (words_of p h) place))
-      → value_state (f found) ≡ Some v → Extended before after (e ∷ []) 1 × ((seen_by after).value g i ≡ v)
-  value-made holds places f v words says =
+      → value_state (f found) ≡ Some v → Extended p before after (e ∷ []) 1 × ((seen_by p after).value g i ≡ v)
+  value-made holds f v words says =
       let h = step.grows.others ++ before.seen in
       let place = value_place p g i in
       let new = f (slice_index (words_of p h) place) in
-      let legal = met-legal p plan lawful begins (λ x. only (test x) e) before found after g i slot shape step in
-      let within : place < length (words_of p h) = subst (λ n. place < n) (sym (lawful p plan h legal).length)
-      (value-within p places plan g i slot) in
+      let legal = met-legal p plan (λ x. only (test x) e) before found after g i slot step in
+      let within : place < length (words_of p h) = subst (λ n. place < n) (sym (lawful_words p plan h legal).length)
+      (value-within p plan g i slot) in
       then-value true holds (f found) v
       (ap (λ w. slice_index w place) words ∙ get_or-set_same (words_of p h) place new 0 within ∙ ap f step.word) says
 
 -- What priming a value tells.
 module _
-    (p : Plan) (plan : IsPlan p) (lawful : LawfulWords) (begins : BeginningsAreLegal) (codings : Codings) (before : SeenBy)
-    (found : ℕ) (after : SeenBy) (g i : ℕ) (slot : IsSlot p g i) (shape : before.shape ≡ p)
+    (p : Plan) (plan : IsPlan p) (before : SeenBy)
+    (found : ℕ) (after : SeenBy) (g i : ℕ) (slot : IsSlot p g i)
     (step : Stepped p (primes before.number g i) (value_place p g i) before found after) (v : ValueState)
     (says : value_state found ≡ Some v) where
   pub prime-won :
-      PlacesAreDistinct → IsUnprimed v
-      → Extended before after (Prime before.number g i ∷ []) 1 × ((seen_before after).value g i ≡ v)
-      × ((seen_by after).value g i ≡ primed v)
-  prime-won places unprimed =
+      IsUnprimed v
+      → Extended p before after (Prime before.number g i ∷ []) 1 × ((seen_before p after).value g i ≡ v)
+      × ((seen_by p after).value g i ≡ primed v)
+  prime-won unprimed =
       let e = Prime before.number g i in
       let test : ℕ → Bool = λ x. eqb (x % 2) 0 in
-      let holds = eq-eqb (found % 2) 0 ((evens codings found v says).0 unprimed) in
-      let made = value-made p plan lawful begins test e before found after g i slot shape step holds places (λ x. bit_or x 1)
-      (primed v) refl (primed-says codings found v says) in
-      (made.0, value-before p plan lawful begins test e before found after g i slot shape step holds v says, made.1)
+      let holds = eq-eqb (found % 2) 0 ((evens found v says).0 unprimed) in
+      let made = value-made p plan test e before found after g i slot step holds (λ x. bit_or x 1)
+      (primed v) refl (primed-says found v says) in
+      (made.0, value-before p plan test e before found after g i slot step holds v says, made.1)
 
-  pub prime-lost : (IsUnprimed v → ⊥) → Extended before after [] 1 × ((seen_by after).value g i ≡ v)
+  pub prime-lost : (IsUnprimed v → ⊥) → Extended p before after [] 1 × ((seen_by p after).value g i ≡ v)
   prime-lost is_primed =
-      value-kept p plan lawful begins (λ x. eqb (x % 2) 0) (Prime before.number g i) before found after g i slot shape step
-      (ne_eqb (found % 2) 0 (λ even. is_primed ((evens codings found v says).1 even))) v says
+      value-kept p plan (λ x. eqb (x % 2) 0) (Prime before.number g i) before found after g i slot step
+      (ne_eqb (found % 2) 0 (λ even. is_primed ((evens found v says).1 even))) v says
 
 -- a finished or primed number that isn't primed is finished
 then-finished : (v : ValueState) (n : ℕ) → (v ≡ Primed n) ⊎ (v ≡ Finished n) → (v ≡ Primed n → ⊥) → v ≡ Finished n
@@ -329,55 +329,55 @@ then-finished v n held other =
 
 -- What finishing a number tells.
 module _
-    (p : Plan) (plan : IsPlan p) (lawful : LawfulWords) (begins : BeginningsAreLegal) (codings : Codings) (before : SeenBy)
-    (found : ℕ) (after : SeenBy) (g i n : ℕ) (slot : IsSlot p g i) (shape : before.shape ≡ p)
+    (p : Plan) (plan : IsPlan p) (before : SeenBy)
+    (found : ℕ) (after : SeenBy) (g i n : ℕ) (slot : IsSlot p g i)
     (step : Stepped p (finishes before.number g i n) (value_place p g i) before found after) (v : ValueState)
     (says : value_state found ≡ Some v) where
   pub finish-won :
-      PlacesAreDistinct → v ≡ Primed n
-      → Extended before after (Finish before.number g i ∷ []) 1 × ((seen_by after).value g i ≡ Finished n)
-  finish-won places is =
+      v ≡ Primed n
+      → Extended p before after (Finish before.number g i ∷ []) 1 × ((seen_by p after).value g i ≡ Finished n)
+  finish-won is =
       let says_primed = says ∙ ap Some is in
       let word = (codings.word_of_state found (Primed n) says_primed).0 in
-      value-made p plan lawful begins (λ x. eqb x (value_word (Primed n))) (Finish before.number g i) before found after g i
-      slot shape step (eq-eqb found (value_word (Primed n)) word) places (λ x. bit_or x 2) (Finished n) refl
-      (finished-says codings found n says_primed)
+      value-made p plan (λ x. eqb x (value_word (Primed n))) (Finish before.number g i) before found after g i
+      slot step (eq-eqb found (value_word (Primed n)) word) (λ x. bit_or x 2) (Finished n) refl
+      (finished-says found n says_primed)
 
   -- the number is still primed or finished
-  still-held : SeenLasts → IsPrimedOrFinished (tables_at p before.seen) g i n → (v ≡ Primed n) ⊎ (v ≡ Finished n)
-  still-held lasts held =
+  still-held : IsPrimedOrFinished (tables_at p before.seen) g i n → (v ≡ Primed n) ⊎ (v ≡ Finished n)
+  still-held held =
       let h = step.grows.others ++ before.seen in
-      let legal = met-legal p plan lawful begins (finishes before.number g i n) before found after g i slot shape step in
+      let legal = met-legal p plan (finishes before.number g i n) before found after g i slot step in
       let value : (tables_at p h).value g i ≡ v = ap (λ x. unwrap_or (value_state x) Null) step.word
       ∙ ap (λ o. unwrap_or o Null) says in
       subst (λ x. (x ≡ Primed n) ⊎ (x ≡ Finished n)) value
-      ((lasts p plan step.grows.others before.seen legal).primed_or_finished g i n slot held)
+      ((seen_lasts p plan step.grows.others before.seen legal).primed_or_finished g i n slot held)
 
   pub finish-lost :
-      SeenLasts → IsPrimedOrFinished (tables_at p before.seen) g i n → (v ≡ Primed n → ⊥)
-      → Extended before after [] 1 × ((seen_by after).value g i ≡ v) × (v ≡ Finished n)
-  finish-lost lasts held other =
-      let is = then-finished v n (still-held lasts held) other in
+      IsPrimedOrFinished (tables_at p before.seen) g i n → (v ≡ Primed n → ⊥)
+      → Extended p before after [] 1 × ((seen_by p after).value g i ≡ v) × (v ≡ Finished n)
+  finish-lost held other =
+      let is = then-finished v n (still-held held) other in
       let word = (codings.word_of_state found v says).0 ∙ ap value_word is in
-      let kept = value-kept p plan lawful begins (λ x. eqb x (value_word (Primed n))) (Finish before.number g i) before found
-      after g i slot shape step (ne_eqb found (value_word (Primed n)) (λ same. omega (arith, same, word))) v says in
+      let kept = value-kept p plan (λ x. eqb x (value_word (Primed n))) (Finish before.number g i) before found
+      after g i slot step (ne_eqb found (value_word (Primed n)) (λ same. omega (arith, same, word))) v says in
       (kept.0, kept.1, is)
 
 -- What copying a number tells.
 module _
-    (p : Plan) (plan : IsPlan p) (lawful : LawfulWords) (begins : BeginningsAreLegal) (before : SeenBy) (found : ℕ)
-    (after : SeenBy) (g i k n : ℕ) (slot : IsSlot p g i) (shape : before.shape ≡ p)
+    (p : Plan) (plan : IsPlan p) (before : SeenBy) (found : ℕ)
+    (after : SeenBy) (g i k n : ℕ) (slot : IsSlot p g i)
     (step : Stepped p (copies before.number g i k n) (value_place p g i) before found after) (v : ValueState)
     (says : value_state found ≡ Some v) where
   pub copy-won :
-      PlacesAreDistinct → Codings → (word : ℕ) → value_state word ≡ Some (Live n) → v ≡ Null
-      → Extended before after (CopyIn before.number g i k n ∷ []) 1 × ((seen_by after).value g i ≡ Live n)
-  copy-won places codings word back is =
-      value-made p plan lawful begins (λ x. eqb x 0) (CopyIn before.number g i k n) before found after g i slot shape step
-      (eq-eqb found 0 ((codings.word_of_state found v says).0 ∙ ap value_word is)) places (λ x. value_word (Live n)) (Live n)
+      (word : ℕ) → value_state word ≡ Some (Live n) → v ≡ Null
+      → Extended p before after (CopyIn before.number g i k n ∷ []) 1 × ((seen_by p after).value g i ≡ Live n)
+  copy-won word back is =
+      value-made p plan (λ x. eqb x 0) (CopyIn before.number g i k n) before found after g i slot step
+      (eq-eqb found 0 ((codings.word_of_state found v says).0 ∙ ap value_word is)) (λ x. value_word (Live n)) (Live n)
       refl (codings.state_of_word (Live n) (codings.word_of_state word (Live n) back).1)
 
-  pub copy-lost : (v ≡ Null → ⊥) → Extended before after [] 1 × ((seen_by after).value g i ≡ v)
+  pub copy-lost : (v ≡ Null → ⊥) → Extended p before after [] 1 × ((seen_by p after).value g i ≡ v)
   copy-lost other =
-      value-kept p plan lawful begins (λ x. eqb x 0) (CopyIn before.number g i k n) before found after g i slot shape step
+      value-kept p plan (λ x. eqb x 0) (CopyIn before.number g i k n) before found after g i slot step
       (ne_eqb found 0 (λ same. other (ap (λ o. unwrap_or o Null) (sym says ∙ ap value_state same)))) v says

@@ -63,13 +63,8 @@ can-exchange p events number seen place old new can =
 
 module _
     (p : Plan) (events : ℕ → List Event) (slots place a b found : ℕ) (s : seat.Inside) (after : Seat (Unit {0}) View)
-    (before : SeenBy) (shape : Plan) (is_seat : IsSeat s) (s_is : seat_of s ≡ before)
-    (shapes : (before.shape ≡ shape) × (p ≡ shape))
+    (before : SeenBy) (is_seat : IsSeat s) (s_is : seat_of s ≡ before)
     (moves : Moves p events (step slots place a b none) s.seat.me found after.me) where
-  -- the events are made by the seat's own plan
-  plan : s.shape ≡ p
-  plan = ap (λ v. v.shape) s_is ∙ shapes.0 ∙ sym shapes.1
-
   -- what it tells
   told : HasMoved p events place found (part_of s.seat.me.0.parts) (part_of after.me.0.parts)
   told =
@@ -77,30 +72,26 @@ module _
       (sym (ap (λ me. part_of me.0.parts) moves.is)) (moves.moves (part_of s.seat.me.0.parts) is_seat.one)
 
   -- it is a seat as before
-  pub stepped-is_seat : IsSeat (record { shape = s.shape; seat = after })
+  pub stepped-is_seat : IsSeat (record { seat = after })
   stepped-is_seat = record {
     one = ap (λ me. me.0.parts) moves.is ∙ ap (λ me. part_of me.0.parts ∷ []) (sym moves.is);
     free = ap (λ me. me.1) moves.is ∙ is_seat.free;
-    legal =
-        subst (λ q. IsLegal q (part_of after.me.0.parts).seen) (sym plan)
-        (subst (λ part. IsLegal p part.seen) (sym told.is) told.legal);
   }
 
   -- and has seen more
   pub stepped-seat :
       after.table_id ≡ s.seat.table_id
-      → Stepped p events place before found (seat_of (record { shape = s.shape; seat = after }))
+      → Stepped p events place before found (seat_of (record { seat = after }))
   stepped-seat table =
-      subst (λ v. Stepped p events place v found (seat_of (record { shape = s.shape; seat = after }))) s_is (record {
+      subst (λ v. Stepped p events place v found (seat_of (record { seat = after }))) s_is (record {
         grows = record {
           chain = table;
-          shape = refl;
           number = ap (λ part. part.number) told.is;
           others = told.others;
           seen = ap (λ part. part.seen) told.is;
           not_own = told.not_own;
           mine = told.mine;
-          legal = stepped-is_seat.legal;
+          legal = subst (λ part. IsLegal p part.seen) (sym told.is) told.legal;
           steps = ap (λ part. part.steps) told.is;
         };
         word = told.word;

@@ -1,7 +1,7 @@
 -- How contracts see a chain and its seats.
 use Rattle.std.specs.Prelude.{◌≡◌, ◌≢◌, ℕ, zero, suc, ◌+◌, ◌==◌, List, [], ◌∷◌, ◌++◌, drop, filter, All}
 use Rattle.atomic_table.specs.Seated.{TableId}
-use Rattle.nb_core.specs.Plans.{Plan}
+use Rattle.nb_core.specs.Plans.{IsPlan, Plan}
 use Rattle.nb_core.specs.Tables.{Tables, tables_at}
 use Rattle.nb_core.specs.History.{IsLegal, seat_of_event}
 use Rattle.nb_core.specs.declared.events.Event.{Event}
@@ -11,47 +11,50 @@ pub record ChainOf : Type 0 where
   pub id : TableId
   pub shape : Plan
 
--- a chain's seat: which chain's, the chain's shape, its number, what it has seen, the newest event first, and how many
--- steps it has made
+-- a chain's seat: which chain's, its number, what it has seen, the newest event first, and how many steps it has made
 pub record SeenBy : Type 0 where
   pub chain : TableId
-  pub shape : Plan
   pub number : ℕ
   pub seen : List Event
   pub steps : ℕ
 
--- the seat is one of this chain's
-abbrev pub IsOwn : ChainOf → SeenBy → Type 0
-IsOwn chain seat = (seat.chain ≡ chain.id) × (seat.shape ≡ chain.shape)
+-- The seat is one of this chain's, whose shape is a plan, and what it has seen is a legal history.
+pub record IsOwn (chain : ChainOf) (seat : SeenBy) : Type 0 where
+  pub at : seat.chain ≡ chain.id
+  pub plan : IsPlan chain.shape
+  pub legal : IsLegal chain.shape seat.seen
+
+-- all these seats are this chain's
+abbrev pub AreOwn : ChainOf → List SeenBy → Type 0
+AreOwn chain seats = All (IsOwn chain) seats
 
 -- what the words said when the seat saw them last
-abbrev pub seen_by : SeenBy → Tables
-seen_by seat = tables_at seat.shape seat.seen
+abbrev pub seen_by : Plan → SeenBy → Tables
+seen_by p seat = tables_at p seat.seen
 
 -- what they said just before the newest event that it has seen
-abbrev pub seen_before : SeenBy → Tables
-seen_before seat = tables_at seat.shape (drop 1 seat.seen)
+abbrev pub seen_before : Plan → SeenBy → Tables
+seen_before p seat = tables_at p (drop 1 seat.seen)
 
 -- a chain's seat that has seen nothing
-abbrev pub new_seat : TableId → Plan → ℕ → SeenBy
-new_seat id shape number = record { chain = id; shape = shape; number = number; seen = []; steps = 0 }
+abbrev pub new_seat : TableId → ℕ → SeenBy
+new_seat id number = record { chain = id; number = number; seen = []; steps = 0 }
 
 -- so many seats of a chain from a number on, which have seen nothing
-abbrev pub seats_of : TableId → Plan → ℕ → ℕ → List SeenBy
-seats_of id shape number zero = []
-seats_of id shape number (suc count) = new_seat id shape number ∷ seats_of id shape (suc number) count
+abbrev pub seats_of : TableId → ℕ → ℕ → List SeenBy
+seats_of id number zero = []
+seats_of id number (suc count) = new_seat id number ∷ seats_of id (suc number) count
 
 -- After a step the seat has seen more: events of other seats, and then these of its own, in this order. All that it has
 -- seen is a legal history, and it made so many steps.
-pub record Extended (before after : SeenBy) (own : List Event) (count : ℕ) : Type 0 where
+pub record Extended (p : Plan) (before after : SeenBy) (own : List Event) (count : ℕ) : Type 0 where
   pub chain : after.chain ≡ before.chain
-  pub shape : after.shape ≡ before.shape
   pub number : after.number ≡ before.number
   pub others : List Event
   pub seen : after.seen ≡ own ++ (others ++ before.seen)
   pub not_own : All (λ e. seat_of_event e ≢ before.number) others
   pub mine : All (λ e. seat_of_event e ≡ before.number) own
-  pub legal : IsLegal after.shape after.seen
+  pub legal : IsLegal p after.seen
   pub steps : after.steps ≡ before.steps + count
 
 -- a seat's events among these
@@ -60,12 +63,11 @@ own_events number = filter (λ e. seat_of_event e == number)
 
 -- After any number of steps the seat has seen more, all of it a legal history, in which just these events are new and its
 -- own. It made so many steps.
-pub record Grown (before after : SeenBy) (own : List Event) (count : ℕ) : Type 0 where
+pub record Grown (p : Plan) (before after : SeenBy) (own : List Event) (count : ℕ) : Type 0 where
   pub chain : after.chain ≡ before.chain
-  pub shape : after.shape ≡ before.shape
   pub number : after.number ≡ before.number
   pub later : List Event
   pub seen : after.seen ≡ later ++ before.seen
   pub own_are : own_events before.number later ≡ own
-  pub legal : IsLegal after.shape after.seen
+  pub legal : IsLegal p after.seen
   pub steps : after.steps ≡ before.steps + count

@@ -8,10 +8,6 @@ use Rattle.nb_table.specs.Left.{ClosedOf, IsLeftBy}
 use Rattle.nb_table.specs.Views.{HasSeen}
 use Rattle.nb_table.specs.declared.view.View.{View}
 
--- all these seats are this chain's
-abbrev pub AreOwn : TableId → List SeenBy → Type 0
-AreOwn chain seats = All (λ seat. seat.chain ≡ chain) seats
-
 -- a chain's token has the parts of all these seats but those that are left
 pub record HasGathered (chain : TableId) (token : Seat (Unit {0}) View) (left seats : List SeenBy) : Type 0 where
   pub own : token.table_id ≡ chain

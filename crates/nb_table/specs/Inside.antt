@@ -27,10 +27,9 @@ part_of (part ∷ parts) = part
 abbrev pub seat_of : seat.Inside → SeenBy
 seat_of c =
     let part = part_of c.seat.me.0.parts in
-    record { chain = c.seat.table_id; shape = c.shape; number = part.number; seen = part.seen; steps = part.steps }
+    record { chain = c.seat.table_id; number = part.number; seen = part.seen; steps = part.steps }
 
--- the token knows one seat, which has seen a legal history
+-- the token knows one seat
 pub record IsSeat (c : seat.Inside) : Type 0 where
   pub one : c.seat.me.0.parts ≡ part_of c.seat.me.0.parts ∷ []
   pub free : c.seat.me.1 ≡ []
-  pub legal : IsLegal c.shape (part_of c.seat.me.0.parts).seen

@@ -26,5 +26,5 @@ Can p events number seen place f =
 -- that go with this word.
 pub record Stepped
     (p : Plan) (events : ℕ → List Event) (place : ℕ) (before : SeenBy) (found : ℕ) (after : SeenBy) : Type 0 where
-  pub grows : Extended before after (events found) 1
+  pub grows : Extended p before after (events found) 1
   pub word : slice_index (words_of p (grows.others ++ before.seen)) place ≡ found

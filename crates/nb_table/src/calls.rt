@@ -7,7 +7,7 @@ ghost use Rattle.nb_core.specs.declared.states.KeyState.TheVariants as key_is;
 ghost use Rattle.nb_table.specs.Chains.{Extended, IsOwn, seen_by};
 
 use crate::chain::{Chain, ChainSeat, Spot};
-use nb_core::{Call, Change, ValueState, Want, decode_lawful_value, encode_value, laws};
+use nb_core::{Call, Change, ValueState, Want, decode_lawful_value, encode_value};
 use std::marker::Brand;
 
 /// Reminds a proof of the ranges of a call's key and numbers. It does nothing.
@@ -43,22 +43,16 @@ impl Chain {
     ) -> ValueState
         requires own { IsOwn self.now seat.old }
         requires slot { IsSlot self.now.shape g i }
-        requires claimed { (seen_by seat.old).key g i ≡ key_is.Claimed (key_of_call call) }
+        requires claimed { (seen_by self.now.shape seat.old).key g i ≡ key_is.Claimed (key_of_call call) }
         requires unprimed { IsUnprimed from }
-        requires settled { IsSettledBelow self.now.shape (seen_by seat.old) g (key_of_call call) }
+        requires settled { IsSettledBelow self.now.shape (seen_by self.now.shape seat.old) g (key_of_call call) }
         requires exchange { IsExchange call (key_of_call call) from to }
         ensures won { result ≡ from
-            → Extended seat.old seat.new
+            → Extended self.now.shape seat.old seat.new
             (event.Won seat.old.number g i from to call (record { before = number_in_value from; matched = true }) ∷ []) 1
-            × ((seen_by seat.new).value g i ≡ to) }
-        ensures lost { result ≢ from → Extended seat.old seat.new [] 1 × ((seen_by seat.new).value g i ≡ result) }
+            × ((seen_by self.now.shape seat.new).value g i ≡ to) }
+        ensures lost { result ≢ from → Extended self.now.shape seat.old seat.new [] 1 × ((seen_by self.now.shape seat.new).value g i ≡ result) }
     {
-        laws::seen_lasts();
-        laws::beginnings_are_legal();
-        laws::lawful_words();
-        laws::codings();
-        laws::places_are_distinct();
-        laws::win_replies();
         known(&call);
         let place = self.shape.value_place(g, i);
         let old = encode_value(from);

@@ -1,9 +1,8 @@
 //! The chain and its seats.
 ghost use Rattle.std.specs.Prelude.{◌≡◌, ◌+◌, ◌%◌, ◌^◌, ◌<◌, ◌==◌, ◌↔◌, if◌then◌else◌, [], ◌∷◌, bit_or, max, length, IfOk, IfErr, true, is_ok};
 ghost use Rattle.nb_core.specs.Plans.{word_count};
-ghost use Rattle.nb_core.specs.History.{IsLegal};
-ghost use Rattle.nb_table.specs.Chains.{Extended, IsOwn, seats_of};
-ghost use Rattle.nb_table.specs.Gathered.{AreOwn, ClosedWith, HasGathered};
+ghost use Rattle.nb_table.specs.Chains.{AreOwn, Extended, IsOwn, seats_of};
+ghost use Rattle.nb_table.specs.Gathered.{ClosedWith, HasGathered};
 ghost use Rattle.nb_table.specs.Inside.{part_of};
 ghost use Rattle.nb_table.specs.Steps.{Can, Stepped};
 ghost use Rattle.nb_table.specs.Views.{HasHeard, IsBeginning};
@@ -34,11 +33,10 @@ impl Model for Chain {
     ghost invariant = { IsChain };
 }
 
-/// The right of one holder to make steps. Contracts see its chain and shape, its number, the history that it has seen, the
+/// The right of one holder to make steps. Contracts see which chain's it is, its number, the history that it has seen, the
 /// newest event first, and how many steps it has made.
 #[derive(Drop)]
 pub struct ChainSeat {
-    shape: Shape,
     seat: Seat<(), View>,
 }
 
@@ -54,15 +52,6 @@ impl Model for ChainSeat {
     ghost invariant = { IsSeat };
 }
 
-impl ChainSeat {
-    /// Reminds a proof that what the seat has seen is a legal history. It does nothing.
-    pub fn known(&self)
-        ensures { IsLegal self.now.shape self.now.seen }
-    {
-        let _ = &self.shape;
-    }
-}
-
 /// What a step is about: a slot, and the key and the number that it puts there. Only the step's proof asks for it.
 #[derive(Clone, Copy)]
 pub(crate) struct Spot {
@@ -76,16 +65,16 @@ impl Chain {
     /// A chain with all words 0, and its seats. It takes memory for the words and for the vector of seats.
     pub fn new(alloc: Global, shape: Shape) -> Result<(Chain, Vec<ChainSeat>), OutOfMemory>
         ensures chain { IfOk result (λ made. made.0.shape ≡ shape) }
-        ensures seats { IfOk result (λ made. made.1.items ≡ seats_of made.0.id shape 0 shape.seats) }
+        ensures seats { IfOk result (λ made. made.1.items ≡ seats_of made.0.id 0 shape.seats) }
+        ensures own { IfOk result (λ made. AreOwn made.0 made.1.items) }
     {
-        shape.known();
         let mut dealt = Vec::with_capacity(alloc, shape.seats())?;
         let words = vec![in alloc; 0; shape.words()]?;
         let (table, mut rest) = Table::of_words(alloc, words.as_slice(), &shape)?;
         let chain = Chain { table, shape };
         for _number in 0..shape.seats() {
             let seat = chain.table.shared.split_seat::<Deal>(&mut rest);
-            dealt.push_reserved(ChainSeat { shape, seat });
+            dealt.push_reserved(ChainSeat { seat });
         }
         Ok((chain, dealt))
     }
@@ -106,7 +95,7 @@ impl Chain {
         _call: Option<Call>,
     ) -> u64
         requires own { seat.old.chain ≡ self.now.id }
-        requires shapes { (seat.old.shape ≡ self.now.shape) × (B.shape ≡ self.now.shape) }
+        requires shape { B.shape ≡ self.now.shape }
         requires within { place < word_count self.now.shape }
         requires can { Can B.shape B.events seat.old.number seat.old.seen place (λ found. found) }
         ensures { Stepped B.shape B.events place seat.old result seat.new }
@@ -125,7 +114,7 @@ impl Chain {
         _call: Option<Call>,
     ) -> u64
         requires own { seat.old.chain ≡ self.now.id }
-        requires shapes { (seat.old.shape ≡ self.now.shape) × (B.shape ≡ self.now.shape) }
+        requires shape { B.shape ≡ self.now.shape }
         requires within { place < word_count self.now.shape }
         requires can { Can B.shape B.events seat.old.number seat.old.seen place (λ found. if found == old then new else found) }
         ensures { Stepped B.shape B.events place seat.old result seat.new }
@@ -144,7 +133,7 @@ impl Chain {
         _spot: Spot,
     ) -> u64
         requires own { seat.old.chain ≡ self.now.id }
-        requires shapes { (seat.old.shape ≡ self.now.shape) × (B.shape ≡ self.now.shape) }
+        requires shape { B.shape ≡ self.now.shape }
         requires within { place < word_count self.now.shape }
         requires can { Can B.shape B.events seat.old.number seat.old.seen place (λ found. bit_or found bits) }
         ensures { Stepped B.shape B.events place seat.old result seat.new }
@@ -163,7 +152,7 @@ impl Chain {
         _g: u32,
     ) -> u64
         requires own { seat.old.chain ≡ self.now.id }
-        requires shapes { (seat.old.shape ≡ self.now.shape) × (B.shape ≡ self.now.shape) }
+        requires shape { B.shape ≡ self.now.shape }
         requires within { place < word_count self.now.shape }
         requires can { Can B.shape B.events seat.old.number seat.old.seen place (λ found. (found + amount) % 2 ^ 64) }
         ensures { Stepped B.shape B.events place seat.old result seat.new }
@@ -182,7 +171,7 @@ impl Chain {
         _g: u32,
     ) -> u64
         requires own { seat.old.chain ≡ self.now.id }
-        requires shapes { (seat.old.shape ≡ self.now.shape) × (B.shape ≡ self.now.shape) }
+        requires shape { B.shape ≡ self.now.shape }
         requires within { place < word_count self.now.shape }
         requires can { Can B.shape B.events seat.old.number seat.old.seen place (λ found. max found least) }
         ensures { Stepped B.shape B.events place seat.old result seat.new }
@@ -197,8 +186,8 @@ impl Chain {
     pub fn meet(&self, a: &mut ChainSeat, b: &mut ChainSeat)
         requires a_own { IsOwn self.now a.old }
         requires b_own { IsOwn self.now b.old }
-        ensures a { Extended a.old a.new [] 1 × IsBeginning b.old.seen a.new.seen }
-        ensures b { Extended b.old b.new [] 1 × IsBeginning a.old.seen b.new.seen }
+        ensures a { Extended self.now.shape a.old a.new [] 1 × IsBeginning b.old.seen a.new.seen }
+        ensures b { Extended self.now.shape b.old b.new [] 1 × IsBeginning a.old.seen b.new.seen }
     {
         let words = &self.table.shared;
         let of_a = words.split_seat::<Note>(&mut a.seat);
@@ -222,7 +211,7 @@ impl Chain {
 
     /// With all seats: what is left of the chain. With another number of seats everything comes back.
     pub fn close(self, seats: Vec<ChainSeat>) -> Result<Closed, NotAll<Chain, ChainSeat>>
-        requires own { AreOwn self.id seats.items }
+        requires own { AreOwn self seats.items }
         ensures all { (is_ok result ≡ true) ↔ (length seats.items ≡ self.shape.seats) }
         ensures shape { IfOk result (λ closed. closed.shape ≡ self.shape) }
         ensures closed { IfOk result (λ closed. ClosedWith seats.items closed) }
@@ -239,18 +228,15 @@ impl Chain {
 
     /// One token that knows what all these seats know.
     fn gather(&self, seats: Vec<ChainSeat>) -> Seat<(), View>
-        requires own { AreOwn self.now.id seats.items }
+        requires own { AreOwn self.now seats.items }
         requires some { 0 < length seats.items }
         ensures { HasGathered self.now.id result [] seats.items }
     {
         let mut seats = seats;
         let last = seats.pop().unwrap();
-        let ChainSeat { shape: _, mut seat } = last;
+        let ChainSeat { mut seat } = last;
         while let Some(other) = seats.pop() {
-            let ChainSeat {
-                shape: _,
-                seat: other,
-            } = other;
+            let ChainSeat { seat: other } = other;
             self.table.shared.join_seat::<Learn>(&mut seat, other);
         }
         seat

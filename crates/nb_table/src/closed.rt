@@ -2,14 +2,14 @@
 ghost use Rattle.std.specs.Prelude.{◌≡◌, ◌+◌, ◌<◌, IfOk, OnOk, slice_index};
 ghost use Rattle.std.specs.FinMap as map;
 ghost use Rattle.nb_core.specs.Meaning.{is_blank, is_installed, shown_from, value_in};
-ghost use Rattle.nb_core.specs.Plans.{generations_of, word_count};
+ghost use Rattle.nb_core.specs.Plans.{IsPlan, generations_of, word_count};
 ghost use Rattle.nb_core.specs.Tables.{IsSlot};
 ghost use Rattle.nb_table.specs.Left.{HoldsOfMap, tables_left};
 ghost use Rattle.nb_table.specs.Listing.{IsListing};
 
 use nb_core::{
     Change, Key, KeyState, Num, OutOfMemory, PlainMap, Shape, ValueState, Want, decode_key,
-    decode_lawful_value, laws,
+    decode_lawful_value,
 };
 use std::alloc::Global;
 use std::marker::Model;
@@ -37,9 +37,7 @@ impl Closed {
     pub fn get(&self, key: Key) -> Option<Num>
         ensures { HoldsOfMap self.now (λ m. result ≡ map.get m key) }
     {
-        laws::stands();
         key.known();
-        self.shape.known();
         self.shown(key)
     }
 
@@ -47,10 +45,6 @@ impl Closed {
     pub fn entries(&self, alloc: Global) -> Result<Vec<(Key, Num)>, OutOfMemory>
         ensures { IfOk result (λ entries. HoldsOfMap self.now (λ m. entries.items ≡ map.entries m)) }
     {
-        laws::linked();
-        laws::top_complete();
-        laws::held_has_place();
-        laws::place_is();
         let mut found = PlainMap::new(alloc);
         for g in self.top()..self.shape.generations() {
             if self.is_installed(g) {
@@ -79,10 +73,9 @@ impl Closed {
 
     /// The number that the tables show at the key. Those below the top word are complete, and pass every key on.
     fn shown(&self, key: Key) -> Option<Num>
-        ensures { result ≡ shown_from self.now.shape (tables_left self.now) key 0 (generations_of self.now.shape) }
+        ensures number { result ≡ shown_from self.now.shape (tables_left self.now) key 0 (generations_of self.now.shape) }
+        ensures plan { IsPlan self.now.shape }
     {
-        laws::linked();
-        laws::top_complete();
         for g in self.top()..self.shape.generations() {
             if !self.is_installed(g) {
                 return None;
@@ -118,8 +111,6 @@ impl Closed {
         requires { g < generations_of self.now.shape }
         ensures { result ≡ value_in self.now.shape (tables_left self.now) g key }
     {
-        laws::on_path();
-        laws::one_slot();
         for distance in 0..self.shape.size_of(g) {
             let i = self.shape.path_slot(g, key, distance);
             match self.key_at(g, i) {
@@ -138,9 +129,7 @@ impl Closed {
     fn top(&self) -> u32
         ensures { result ≡ (tables_left self.now).top }
     {
-        laws::linked();
-        self.shape.known();
-        self.word(0) as u32
+        self.table.word(0) as u32
     }
 
     /// Whether table `g` is there: the first is from the start.
@@ -148,7 +137,6 @@ impl Closed {
         requires { g < generations_of self.now.shape }
         ensures { result ≡ is_installed (tables_left self.now) g }
     {
-        laws::places_are_distinct();
         g == 0 || self.word(self.shape.header_place(g - 1, 0)) == 1
     }
 
@@ -163,7 +151,6 @@ impl Closed {
         requires { IsSlot self.now.shape g i }
         ensures { result ≡ (tables_left self.now).value g i }
     {
-        laws::lawful_words();
         decode_lawful_value(self.word(self.shape.value_place(g, i)))
     }
 

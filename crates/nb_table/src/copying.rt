@@ -9,7 +9,7 @@ ghost use Rattle.nb_table.specs.Conditions.{HasSource, IsCopied};
 ghost use Rattle.nb_table.specs.Chains.{Extended, IsOwn, seen_before, seen_by};
 
 use crate::chain::{Chain, ChainSeat, Spot};
-use nb_core::{Key, Num, ValueState, decode_lawful_value, encode_value, laws};
+use nb_core::{Key, Num, ValueState, decode_lawful_value, encode_value};
 use std::marker::Brand;
 
 impl Chain {
@@ -18,18 +18,13 @@ impl Chain {
     pub fn prime(&self, seat: &mut ChainSeat, g: u32, i: usize) -> ValueState
         requires own { IsOwn self.now seat.old }
         requires slot { IsSlot self.now.shape g i }
-        requires growing { IsInstalled (seen_by seat.old) (suc g) }
-        requires claimed { (k : ℕ) × ((seen_by seat.old).key g i ≡ key_is.Claimed k) }
+        requires growing { IsInstalled (seen_by self.now.shape seat.old) (suc g) }
+        requires claimed { (k : ℕ) × ((seen_by self.now.shape seat.old).key g i ≡ key_is.Claimed k) }
         ensures won { IsUnprimed result
-            → Extended seat.old seat.new (event.Prime seat.old.number g i ∷ []) 1
-            × ((seen_before seat.new).value g i ≡ result) × ((seen_by seat.new).value g i ≡ primed result) }
-        ensures lost { (IsUnprimed result → ⊥) → Extended seat.old seat.new [] 1 × ((seen_by seat.new).value g i ≡ result) }
+            → Extended self.now.shape seat.old seat.new (event.Prime seat.old.number g i ∷ []) 1
+            × ((seen_before self.now.shape seat.new).value g i ≡ result) × ((seen_by self.now.shape seat.new).value g i ≡ primed result) }
+        ensures lost { (IsUnprimed result → ⊥) → Extended self.now.shape seat.old seat.new [] 1 × ((seen_by self.now.shape seat.new).value g i ≡ result) }
     {
-        laws::seen_lasts();
-        laws::beginnings_are_legal();
-        laws::lawful_words();
-        laws::codings();
-        laws::places_are_distinct();
         let place = self.shape.value_place(g, i);
         let spot = Spot {
             g,
@@ -52,20 +47,13 @@ impl Chain {
     ) -> ValueState
         requires own { IsOwn self.now seat.old }
         requires slot { IsSlot self.now.shape g i }
-        requires claimed { (seen_by seat.old).key g i ≡ key_is.Claimed key }
-        requires source { HasSource self.now.shape (seen_by seat.old) g key number }
+        requires claimed { (seen_by self.now.shape seat.old).key g i ≡ key_is.Claimed key }
+        requires source { HasSource self.now.shape (seen_by self.now.shape seat.old) g key number }
         ensures won { result ≡ value_is.Null
-            → Extended seat.old seat.new (event.CopyIn seat.old.number g i key number ∷ []) 1
-            × ((seen_by seat.new).value g i ≡ value_is.Live number) }
-        ensures lost { result ≢ value_is.Null → Extended seat.old seat.new [] 1 × ((seen_by seat.new).value g i ≡ result) }
+            → Extended self.now.shape seat.old seat.new (event.CopyIn seat.old.number g i key number ∷ []) 1
+            × ((seen_by self.now.shape seat.new).value g i ≡ value_is.Live number) }
+        ensures lost { result ≢ value_is.Null → Extended self.now.shape seat.old seat.new [] 1 × ((seen_by self.now.shape seat.new).value g i ≡ result) }
     {
-        laws::seen_lasts();
-        laws::beginnings_are_legal();
-        laws::lawful_words();
-        laws::codings();
-        laws::places_are_distinct();
-        laws::moved();
-        laws::one_slot();
         let place = self.shape.value_place(g, i);
         let word = encode_value(ValueState::Live(number));
         let spot = Spot {
@@ -82,19 +70,13 @@ impl Chain {
     pub fn finish_slot(&self, seat: &mut ChainSeat, g: u32, i: usize, number: Num) -> ValueState
         requires own { IsOwn self.now seat.old }
         requires slot { IsSlot self.now.shape g i }
-        requires copied { IsCopied self.now.shape (seen_by seat.old) g i number }
+        requires copied { IsCopied self.now.shape (seen_by self.now.shape seat.old) g i number }
         ensures won { result ≡ value_is.Primed number
-            → Extended seat.old seat.new (event.Finish seat.old.number g i ∷ []) 1
-            × ((seen_by seat.new).value g i ≡ value_is.Finished number) }
+            → Extended self.now.shape seat.old seat.new (event.Finish seat.old.number g i ∷ []) 1
+            × ((seen_by self.now.shape seat.new).value g i ≡ value_is.Finished number) }
         ensures lost { result ≢ value_is.Primed number
-            → Extended seat.old seat.new [] 1 × ((seen_by seat.new).value g i ≡ result) × (result ≡ value_is.Finished number) }
+            → Extended self.now.shape seat.old seat.new [] 1 × ((seen_by self.now.shape seat.new).value g i ≡ result) × (result ≡ value_is.Finished number) }
     {
-        laws::seen_lasts();
-        laws::beginnings_are_legal();
-        laws::lawful_words();
-        laws::codings();
-        laws::places_are_distinct();
-        laws::linked();
         let place = self.shape.value_place(g, i);
         let spot = Spot {
             g,

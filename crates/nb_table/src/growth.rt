@@ -8,7 +8,7 @@ ghost use Rattle.nb_core.specs.declared.states.KeyState.TheVariants as key_is;
 ghost use Rattle.nb_table.specs.Chains.{Extended, IsOwn, seen_before, seen_by};
 
 use crate::chain::{Chain, ChainSeat, Spot};
-use nb_core::{Key, KeyState, decode_key, encode_key, laws};
+use nb_core::{Key, KeyState, decode_key, encode_key};
 use std::marker::Brand;
 
 impl Chain {
@@ -17,13 +17,10 @@ impl Chain {
     pub fn take_work(&self, seat: &mut ChainSeat, g: u32) -> u64
         requires own { IsOwn self.now seat.old }
         requires table { g < generations_of self.now.shape }
-        requires growing { IsInstalled (seen_by seat.old) (suc g) }
-        ensures grows { Extended seat.old seat.new (event.Take seat.old.number g ∷ []) 1 }
-        ensures found { (seen_before seat.new).taken g ≡ result }
+        requires growing { IsInstalled (seen_by self.now.shape seat.old) (suc g) }
+        ensures grows { Extended self.now.shape seat.old seat.new (event.Take seat.old.number g ∷ []) 1 }
+        ensures found { (seen_before self.now.shape seat.new).taken g ≡ result }
     {
-        laws::seen_lasts();
-        laws::lawful_words();
-        laws::places_are_distinct();
         let place = self.shape.header_place(g, 1);
         let chunk = self.shape.chunk_of(g) as u64;
         self.adds::<Brand>(seat, place, chunk, g)
@@ -37,13 +34,9 @@ impl Chain {
         requires some { 1 ≤ slots }
         requires turned { counted_by seat.old.seen seat.old.number g + slots
             ≤ turned_by self.now.shape seat.old.seen seat.old.number g }
-        ensures grows { Extended seat.old seat.new (event.Count seat.old.number g slots ∷ []) 1 }
-        ensures found { (seen_by seat.new).counted g ≡ result + slots }
+        ensures grows { Extended self.now.shape seat.old seat.new (event.Count seat.old.number g slots ∷ []) 1 }
+        ensures found { (seen_by self.now.shape seat.new).counted g ≡ result + slots }
     {
-        laws::own_lasts();
-        laws::counted();
-        laws::lawful_words();
-        laws::places_are_distinct();
         let place = self.shape.header_place(g, 2);
         self.adds::<Brand>(seat, place, slots, g)
     }
@@ -52,18 +45,12 @@ impl Chain {
     pub fn promote(&self, seat: &mut ChainSeat, g: u32) -> u32
         requires own { IsOwn self.now seat.old }
         requires table { g < generations_of self.now.shape }
-        requires complete { IsComplete self.now.shape (seen_by seat.old) g }
+        requires complete { IsComplete self.now.shape (seen_by self.now.shape seat.old) g }
         ensures raised { result ≤ g
-            → Extended seat.old seat.new (event.Promote seat.old.number g ∷ []) 1
-            × ((seen_before seat.new).top ≡ result) × ((seen_by seat.new).top ≡ suc g) }
-        ensures was_higher { g < result → Extended seat.old seat.new [] 1 × ((seen_by seat.new).top ≡ result) }
+            → Extended self.now.shape seat.old seat.new (event.Promote seat.old.number g ∷ []) 1
+            × ((seen_before self.now.shape seat.new).top ≡ result) × ((seen_by self.now.shape seat.new).top ≡ suc g) }
+        ensures was_higher { g < result → Extended self.now.shape seat.old seat.new [] 1 × ((seen_by self.now.shape seat.new).top ≡ result) }
     {
-        laws::seen_lasts();
-        laws::beginnings_are_legal();
-        laws::lawful_words();
-        laws::places_are_distinct();
-        laws::linked();
-        self.shape.known();
         self.raises::<Brand>(seat, 0, u64::from(g) + 1, g) as u32
     }
 
@@ -72,17 +59,12 @@ impl Chain {
     pub fn install(&self, seat: &mut ChainSeat, g: u32, key: Key) -> bool
         requires own { IsOwn self.now seat.old }
         requires room { suc g < generations_of self.now.shape }
-        requires ready { IsReady self.now.shape (seen_by seat.old) g }
-        requires crowded { AreOthers self.now.shape (seen_by seat.old) g key (limit_of self.now.shape g) }
-        ensures won { IsTrue result → Extended seat.old seat.new (event.Install seat.old.number g key ∷ []) 1 }
-        ensures lost { result ≡ false → Extended seat.old seat.new [] 1 }
-        ensures installed { IsInstalled (seen_by seat.new) (suc g) }
+        requires ready { IsReady self.now.shape (seen_by self.now.shape seat.old) g }
+        requires crowded { AreOthers self.now.shape (seen_by self.now.shape seat.old) g key (limit_of self.now.shape g) }
+        ensures won { IsTrue result → Extended self.now.shape seat.old seat.new (event.Install seat.old.number g key ∷ []) 1 }
+        ensures lost { result ≡ false → Extended self.now.shape seat.old seat.new [] 1 }
+        ensures installed { IsInstalled (seen_by self.now.shape seat.new) (suc g) }
     {
-        laws::seen_lasts();
-        laws::linked();
-        laws::lawful_words();
-        laws::places_are_distinct();
-        self.shape.known();
         key.known();
         let place = self.shape.header_place(g, 0);
         let spot = Spot {
@@ -98,16 +80,12 @@ impl Chain {
     pub fn kill_key(&self, seat: &mut ChainSeat, g: u32, i: usize) -> KeyState
         requires own { IsOwn self.now seat.old }
         requires slot { IsSlot self.now.shape g i }
-        requires growing { IsInstalled (seen_by seat.old) (suc g) }
+        requires growing { IsInstalled (seen_by self.now.shape seat.old) (suc g) }
         ensures won { result ≡ key_is.Empty
-            → Extended seat.old seat.new (event.Kill seat.old.number g i ∷ []) 1
-            × ((seen_by seat.new).key g i ≡ key_is.Dead) }
-        ensures lost { result ≢ key_is.Empty → Extended seat.old seat.new [] 1 × ((seen_by seat.new).key g i ≡ result) }
+            → Extended self.now.shape seat.old seat.new (event.Kill seat.old.number g i ∷ []) 1
+            × ((seen_by self.now.shape seat.new).key g i ≡ key_is.Dead) }
+        ensures lost { result ≢ key_is.Empty → Extended self.now.shape seat.old seat.new [] 1 × ((seen_by self.now.shape seat.new).key g i ≡ result) }
     {
-        laws::seen_lasts();
-        laws::lawful_words();
-        laws::places_are_distinct();
-        self.shape.known();
         let place = self.shape.key_place(g, i);
         let spot = Spot {
             g,
@@ -122,18 +100,13 @@ impl Chain {
     pub fn claim_key(&self, seat: &mut ChainSeat, g: u32, i: usize, key: Key) -> KeyState
         requires own { IsOwn self.now seat.old }
         requires slot { IsSlot self.now.shape g i }
-        requires installed { IsInstalled (seen_by seat.old) g }
-        requires way { HasWay self.now.shape (seen_by seat.old) g i key }
+        requires installed { IsInstalled (seen_by self.now.shape seat.old) g }
+        requires way { HasWay self.now.shape (seen_by self.now.shape seat.old) g i key }
         ensures won { result ≡ key_is.Empty
-            → Extended seat.old seat.new (event.Claim seat.old.number g i key ∷ []) 1
-            × ((seen_by seat.new).key g i ≡ key_is.Claimed key) }
-        ensures lost { result ≢ key_is.Empty → Extended seat.old seat.new [] 1 × ((seen_by seat.new).key g i ≡ result) }
+            → Extended self.now.shape seat.old seat.new (event.Claim seat.old.number g i key ∷ []) 1
+            × ((seen_by self.now.shape seat.new).key g i ≡ key_is.Claimed key) }
+        ensures lost { result ≢ key_is.Empty → Extended self.now.shape seat.old seat.new [] 1 × ((seen_by self.now.shape seat.new).key g i ≡ result) }
     {
-        laws::seen_lasts();
-        laws::lawful_words();
-        laws::places_are_distinct();
-        self.shape.known();
-        key.known();
         let place = self.shape.key_place(g, i);
         let word = encode_key(KeyState::Claimed(key));
         let spot = Spot {

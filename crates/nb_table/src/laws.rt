@@ -1,5 +1,5 @@
-//! What a crate above may rest on while it makes one step after another. A law is the contract of a function that does
-//! nothing when it runs: a call of it hands the law to the proof of its caller.
+//! What a crate above may rest on while it makes one step after another. Each function carries a law as its contract, so that
+//! the gate guards it; nobody calls it. The crates above take the laws as theorems, from `proofs/Theorems.antt`.
 ghost use Rattle.nb_table.specs.Laws.{StepsAddUp};
 ghost use Rattle.nb_table.specs.Views.{NewestIsSeen};
 
@@ -7,9 +7,7 @@ ghost use Rattle.nb_table.specs.Views.{NewestIsSeen};
 /// key, a finished slot, a complete table and the like stays so.
 pub fn steps_add_up()
     ensures { StepsAddUp }
-{
-    nb_core::laws::seen_lasts();
-}
+{}
 
 /// Who made the newest event of a chain's history has seen all of it.
 pub fn newest_is_seen()

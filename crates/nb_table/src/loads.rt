@@ -10,7 +10,7 @@ ghost use Rattle.nb_table.specs.Events.{reads, shown_by_key, shown_by_next, show
 
 use crate::calls::known;
 use crate::chain::{Chain, ChainSeat, Spot};
-use nb_core::{Call, KeyState, ValueState, decode_key, decode_lawful_value, laws};
+use nb_core::{Call, KeyState, ValueState, decode_key, decode_lawful_value};
 use std::marker::Brand;
 
 /// Reminds a proof of the ranges of a load's call, if it has one. It does nothing.
@@ -29,16 +29,11 @@ impl Chain {
     pub fn load_key(&self, seat: &mut ChainSeat, g: u32, i: usize, call: Option<Call>) -> KeyState
         requires own { IsOwn self.now seat.old }
         requires slot { IsSlot self.now.shape g i }
-        requires reached { IfSome call (λ c. IsReached self.now.shape (seen_by seat.old) g (key_of_call c)) }
-        requires on_path { IfSome call (λ c. IsOnPath self.now.shape (seen_by seat.old) g i (key_of_call c)) }
-        ensures grows { Extended seat.old seat.new (reads seat.old.number call (shown_by_key self.now.shape g i result)) 1 }
-        ensures found { (seen_by seat.new).key g i ≡ result }
+        requires reached { IfSome call (λ c. IsReached self.now.shape (seen_by self.now.shape seat.old) g (key_of_call c)) }
+        requires on_path { IfSome call (λ c. IsOnPath self.now.shape (seen_by self.now.shape seat.old) g i (key_of_call c)) }
+        ensures grows { Extended self.now.shape seat.old seat.new (reads seat.old.number call (shown_by_key self.now.shape g i result)) 1 }
+        ensures found { (seen_by self.now.shape seat.new).key g i ≡ result }
     {
-        laws::seen_lasts();
-        laws::places_are_distinct();
-        laws::decided();
-        laws::read_replies();
-        self.shape.known();
         known_if_some(&call);
         let place = self.shape.key_place(g, i);
         let spot = Spot {
@@ -61,18 +56,11 @@ impl Chain {
     ) -> ValueState
         requires own { IsOwn self.now seat.old }
         requires slot { IsSlot self.now.shape g i }
-        requires reached { IfSome call (λ c. IsReached self.now.shape (seen_by seat.old) g (key_of_call c)) }
-        requires claimed { IfSome call (λ c. (seen_by seat.old).key g i ≡ key_is.Claimed (key_of_call c)) }
-        ensures grows { Extended seat.old seat.new (reads seat.old.number call (λ k. shown_by_value result)) 1 }
-        ensures found { (seen_by seat.new).value g i ≡ result }
+        requires reached { IfSome call (λ c. IsReached self.now.shape (seen_by self.now.shape seat.old) g (key_of_call c)) }
+        requires claimed { IfSome call (λ c. (seen_by self.now.shape seat.old).key g i ≡ key_is.Claimed (key_of_call c)) }
+        ensures grows { Extended self.now.shape seat.old seat.new (reads seat.old.number call (λ k. shown_by_value result)) 1 }
+        ensures found { (seen_by self.now.shape seat.new).value g i ≡ result }
     {
-        laws::seen_lasts();
-        laws::beginnings_are_legal();
-        laws::lawful_words();
-        laws::places_are_distinct();
-        laws::decided();
-        laws::read_replies();
-        self.shape.known();
         known_if_some(&call);
         let place = self.shape.value_place(g, i);
         let spot = Spot {
@@ -89,17 +77,11 @@ impl Chain {
     pub fn load_next(&self, seat: &mut ChainSeat, g: u32, call: Option<Call>) -> bool
         requires own { IsOwn self.now seat.old }
         requires table { g < generations_of self.now.shape }
-        requires reached { IfSome call (λ c. IsReached self.now.shape (seen_by seat.old) g (key_of_call c)) }
-        requires crowded { IfSome call (λ c. AreOthers self.now.shape (seen_by seat.old) g (key_of_call c) (size_of self.now.shape g)) }
-        ensures grows { Extended seat.old seat.new (reads seat.old.number call (λ k. shown_by_next result)) 1 }
-        ensures installed { (result ≡ true) ↔ IsInstalled (seen_by seat.new) (suc g) }
+        requires reached { IfSome call (λ c. IsReached self.now.shape (seen_by self.now.shape seat.old) g (key_of_call c)) }
+        requires crowded { IfSome call (λ c. AreOthers self.now.shape (seen_by self.now.shape seat.old) g (key_of_call c) (size_of self.now.shape g)) }
+        ensures grows { Extended self.now.shape seat.old seat.new (reads seat.old.number call (λ k. shown_by_next result)) 1 }
+        ensures installed { (result ≡ true) ↔ IsInstalled (seen_by self.now.shape seat.new) (suc g) }
     {
-        laws::seen_lasts();
-        laws::places_are_distinct();
-        laws::linked();
-        laws::decided();
-        laws::read_replies();
-        self.shape.known();
         known_if_some(&call);
         let place = self.shape.header_place(g, 0);
         let spot = Spot {
@@ -114,12 +96,9 @@ impl Chain {
     /// The number of tables, from the first on, that are known to be complete, by one load of the top word.
     pub fn load_top(&self, seat: &mut ChainSeat) -> u32
         requires own { IsOwn self.now seat.old }
-        ensures grows { Extended seat.old seat.new [] 1 }
-        ensures found { (seen_by seat.new).top ≡ result }
+        ensures grows { Extended self.now.shape seat.old seat.new [] 1 }
+        ensures found { (seen_by self.now.shape seat.new).top ≡ result }
     {
-        laws::beginnings_are_legal();
-        laws::linked();
-        self.shape.known();
         let spot = Spot {
             g: 0,
             i: 0,

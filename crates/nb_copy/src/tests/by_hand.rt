@@ -9,7 +9,7 @@ ghost use Rattle.nb_table.specs.Chains.{Grown, IsOwn, seen_by};
 
 use crate::{complete, copy_slot, help};
 use nb_core::{Call, Change, Key, KeyState, Num, ValueState, Want};
-use nb_table::{Chain, ChainSeat, laws};
+use nb_table::{Chain, ChainSeat};
 use std::process::Abort;
 
 /// The key, which is a small one.
@@ -113,6 +113,7 @@ pub(super) fn is_complete<R: Abort>(rt: &R, chain: &Chain, seat: &mut ChainSeat,
 }
 
 /// Looks at a slot of the key's path, which is another key's.
+#[tactic(auto, using(nb_table::proofs::Theorems::steps_add_up))]
 fn sees_other<R: Abort>(
     rt: &R,
     chain: &Chain,
@@ -122,11 +123,10 @@ fn sees_other<R: Abort>(
     distance: usize,
 )
     requires own { IsOwn chain.now seat.old }
-    ensures grows { Grown seat.old seat.new [] 1 }
+    ensures grows { Grown chain.now.shape seat.old seat.new [] 1 }
     ensures table { g < generations_of chain.now.shape }
-    ensures other { IsOther ((seen_by seat.new).key g (path_slot chain.now.shape g key distance)) key }
+    ensures other { IsOther ((seen_by chain.now.shape seat.new).key g (path_slot chain.now.shape g key distance)) key }
 {
-    laws::steps_add_up();
     let i = slot_on_path(rt, chain, g, key, distance);
     let KeyState::Claimed(other) = chain.load_key(seat, g, i, None) else {
         panic!(rt; "the slot has no key")
@@ -145,55 +145,49 @@ fn sees_others<R: Abort>(
 )
     requires own { IsOwn chain.now seat.old }
     ensures own { IsOwn chain.now seat.new }
-    ensures others { AreOthers chain.now.shape (seen_by seat.new) g key count }
+    ensures others { AreOthers chain.now.shape (seen_by chain.now.shape seat.new) g key count }
 {
-    laws::steps_add_up();
-    chain.shape().known();
     for distance in 0..count {
         sees_other(rt, chain, seat, g, key, distance);
     }
 }
 
 /// Sees that there is a table after table `g`.
+#[tactic(auto, using(nb_table::proofs::Theorems::steps_add_up))]
 fn sees_next<R: Abort>(rt: &R, chain: &Chain, seat: &mut ChainSeat, g: u32)
     requires own { IsOwn chain.now seat.old }
     ensures own { IsOwn chain.now seat.new }
-    ensures grows { Grown seat.old seat.new [] 1 }
-    ensures installed { IsInstalled (seen_by seat.new) (suc g) }
+    ensures grows { Grown chain.now.shape seat.old seat.new [] 1 }
+    ensures installed { IsInstalled (seen_by chain.now.shape seat.new) (suc g) }
 {
-    laws::steps_add_up();
     assert!(rt; g < chain.shape().generations());
     assert!(rt; chain.load_next(seat, g, None));
 }
 
 /// Sees that all tables below table `g` are complete.
+#[tactic(auto, using(nb_table::proofs::Theorems::steps_add_up))]
 fn is_ready<R: Abort>(rt: &R, chain: &Chain, seat: &mut ChainSeat, g: u32)
     requires own { IsOwn chain.now seat.old }
     ensures own { IsOwn chain.now seat.new }
-    ensures grows { Grown seat.old seat.new [] 1 }
+    ensures grows { Grown chain.now.shape seat.old seat.new [] 1 }
     ensures table { g < generations_of chain.now.shape }
-    ensures below { (f : ℕ) → f < g → IsComplete chain.now.shape (seen_by seat.new) f }
-    ensures ready { IsReady chain.now.shape (seen_by seat.new) g }
-    ensures installed { IsInstalled (seen_by seat.new) g }
+    ensures below { (f : ℕ) → f < g → IsComplete chain.now.shape (seen_by chain.now.shape seat.new) f }
+    ensures ready { IsReady chain.now.shape (seen_by chain.now.shape seat.new) g }
+    ensures installed { IsInstalled (seen_by chain.now.shape seat.new) g }
 {
-    laws::steps_add_up();
-    nb_core::laws::linked();
-    nb_core::laws::top_complete();
-    chain.shape().known();
     assert!(rt; g < chain.shape().generations());
     assert!(rt; g <= chain.load_top(seat));
-    seat.known();
 }
 
 /// Sees that the key has the slot.
+#[tactic(auto, using(nb_table::proofs::Theorems::steps_add_up))]
 fn sees_key<R: Abort>(rt: &R, chain: &Chain, seat: &mut ChainSeat, g: u32, i: usize, key: Key)
     requires own { IsOwn chain.now seat.old }
     ensures own { IsOwn chain.now seat.new }
-    ensures grows { Grown seat.old seat.new [] 1 }
+    ensures grows { Grown chain.now.shape seat.old seat.new [] 1 }
     ensures slot { IsSlot chain.now.shape g i }
-    ensures claimed { (seen_by seat.new).key g i ≡ key_is.Claimed key }
+    ensures claimed { (seen_by chain.now.shape seat.new).key g i ≡ key_is.Claimed key }
 {
-    laws::steps_add_up();
     is_slot(rt, chain, g, i);
     assert_eq!(rt; chain.load_key(seat, g, i, None), KeyState::Claimed(key));
 }
@@ -215,8 +209,6 @@ fn writes<R: Abort>(
     requires exchange { Exchanges change from to }
     ensures own { IsOwn chain.now seat.new }
 {
-    laws::steps_add_up();
-    chain.shape().known();
     sees_key(rt, chain, seat, g, i, key);
     is_ready(rt, chain, seat, g);
     let call = Call::Write {
@@ -240,8 +232,6 @@ pub(super) fn puts<R: Abort>(
     requires own { IsOwn chain.now seat.old }
     ensures own { IsOwn chain.now seat.new }
 {
-    laws::steps_add_up();
-    chain.shape().known();
     let i = slot_on_path(rt, chain, g, key, distance);
     assert!(rt; distance < chain.shape().limit_of(g));
     sees_others(rt, chain, seat, g, key, distance);
@@ -325,13 +315,9 @@ pub(super) fn gets<R: Abort>(
     requires own { IsOwn chain.now seat.old }
     ensures own { IsOwn chain.now seat.new }
 {
-    laws::steps_add_up();
-    nb_core::laws::complete_passed();
-    chain.shape().known();
     let i = slot_on_path(rt, chain, g, key, distance);
     sees_key(rt, chain, seat, g, i, key);
     is_ready(rt, chain, seat, g);
-    seat.known();
     chain.load_value(seat, g, i, Some(Call::Get { key }))
 }
 
@@ -347,8 +333,6 @@ pub(super) fn installs<R: Abort>(
     requires own { IsOwn chain.now seat.old }
     ensures own { IsOwn chain.now seat.new }
 {
-    laws::steps_add_up();
-    chain.shape().known();
     assert!(rt; g < 16);
     assert!(rt; g + 1 < chain.shape().generations());
     sees_others(rt, chain, seat, g, key, chain.shape().limit_of(g));
@@ -367,7 +351,6 @@ pub(super) fn copies<R: Abort>(
     requires own { IsOwn chain.now seat.old }
     ensures own { IsOwn chain.now seat.new }
 {
-    laws::steps_add_up();
     is_slot(rt, chain, g, i);
     sees_next(rt, chain, seat, g);
     copy_slot(chain, seat, g, i)
@@ -378,7 +361,6 @@ pub(super) fn helps<R: Abort>(rt: &R, chain: &Chain, seat: &mut ChainSeat, g: u3
     requires own { IsOwn chain.now seat.old }
     ensures own { IsOwn chain.now seat.new }
 {
-    laws::steps_add_up();
     sees_next(rt, chain, seat, g);
     help(chain, seat, g)
 }
@@ -388,7 +370,6 @@ pub(super) fn completes<R: Abort>(rt: &R, chain: &Chain, seat: &mut ChainSeat, g
     requires own { IsOwn chain.now seat.old }
     ensures own { IsOwn chain.now seat.new }
 {
-    laws::steps_add_up();
     sees_next(rt, chain, seat, g);
     complete(chain, seat, g);
 }
@@ -416,11 +397,9 @@ pub(super) fn primes<R: Abort>(
     requires own { IsOwn chain.now seat.old }
     ensures own { IsOwn chain.now seat.new }
     ensures slot { IsSlot chain.now.shape g i }
-    ensures claimed { (seen_by seat.new).key g i ≡ key_is.Claimed key }
-    ensures held { (seen_by seat.new).value g i ≡ primed value }
+    ensures claimed { (seen_by chain.now.shape seat.new).key g i ≡ key_is.Claimed key }
+    ensures held { (seen_by chain.now.shape seat.new).value g i ≡ primed value }
 {
-    laws::steps_add_up();
-    chain.shape().known();
     sees_next(rt, chain, seat, g);
     sees_key(rt, chain, seat, g, i, key);
     assert_eq!(rt; chain.prime(seat, g, i), value);
@@ -438,11 +417,9 @@ pub(super) fn sees_source<R: Abort>(
     requires own { IsOwn chain.now seat.old }
     ensures own { IsOwn chain.now seat.new }
     ensures slot { IsSlot chain.now.shape 0 i }
-    ensures claimed { (seen_by seat.new).key 0 i ≡ key_is.Claimed key }
-    ensures held { IsPrimedOrFinished (seen_by seat.new) 0 i number }
+    ensures claimed { (seen_by chain.now.shape seat.new).key 0 i ≡ key_is.Claimed key }
+    ensures held { IsPrimedOrFinished (seen_by chain.now.shape seat.new) 0 i number }
 {
-    laws::steps_add_up();
-    chain.shape().known();
     sees_key(rt, chain, seat, 0, i, key);
     let value = chain.load_value(seat, 0, i, None);
     assert!(rt; value == ValueState::Primed(number) || value == ValueState::Finished(number));
@@ -460,8 +437,6 @@ pub(super) fn claims<R: Abort>(
     requires own { IsOwn chain.now seat.old }
     ensures own { IsOwn chain.now seat.new }
 {
-    laws::steps_add_up();
-    chain.shape().known();
     let j = slot_on_path(rt, chain, 1, key, distance);
     sees_others(rt, chain, seat, 1, key, distance);
     sees_next(rt, chain, seat, 0);
@@ -481,16 +456,13 @@ pub(super) fn copies_in<R: Abort>(
 ) -> ValueState
     requires own { IsOwn chain.now seat.old }
     requires slot { IsSlot chain.now.shape 0 i }
-    requires claimed { (seen_by seat.old).key 0 i ≡ key_is.Claimed key }
-    requires held { IsPrimedOrFinished (seen_by seat.old) 0 i number }
+    requires claimed { (seen_by chain.now.shape seat.old).key 0 i ≡ key_is.Claimed key }
+    requires held { IsPrimedOrFinished (seen_by chain.now.shape seat.old) 0 i number }
     ensures own { IsOwn chain.now seat.new }
-    ensures claimed { (seen_by seat.new).key 0 i ≡ key_is.Claimed key }
-    ensures held { IsPrimedOrFinished (seen_by seat.new) 0 i number }
-    ensures above { HasValue chain.now.shape (seen_by seat.new) 1 key }
+    ensures claimed { (seen_by chain.now.shape seat.new).key 0 i ≡ key_is.Claimed key }
+    ensures held { IsPrimedOrFinished (seen_by chain.now.shape seat.new) 0 i number }
+    ensures above { HasValue chain.now.shape (seen_by chain.now.shape seat.new) 1 key }
 {
-    laws::steps_add_up();
-    nb_core::laws::own_lasts();
-    chain.shape().known();
     sees_key(rt, chain, seat, 1, j, key);
     chain.copy_in(seat, 1, j, key, number)
 }
@@ -505,12 +477,11 @@ pub(super) fn finishes(
 ) -> ValueState
     requires own { IsOwn chain.now seat.old }
     requires slot { IsSlot chain.now.shape 0 i }
-    requires claimed { (seen_by seat.old).key 0 i ≡ key_is.Claimed key }
-    requires held { IsPrimedOrFinished (seen_by seat.old) 0 i number }
-    requires above { HasValue chain.now.shape (seen_by seat.old) 1 key }
+    requires claimed { (seen_by chain.now.shape seat.old).key 0 i ≡ key_is.Claimed key }
+    requires held { IsPrimedOrFinished (seen_by chain.now.shape seat.old) 0 i number }
+    requires above { HasValue chain.now.shape (seen_by chain.now.shape seat.old) 1 key }
     ensures own { IsOwn chain.now seat.new }
 {
-    laws::steps_add_up();
     chain.finish_slot(seat, 0, i, number)
 }
 
@@ -527,12 +498,10 @@ pub(super) fn sees_copied<R: Abort>(
     requires own { IsOwn chain.now seat.old }
     ensures own { IsOwn chain.now seat.new }
     ensures slot { IsSlot chain.now.shape 0 i }
-    ensures claimed { (seen_by seat.new).key 0 i ≡ key_is.Claimed key }
-    ensures held { IsPrimedOrFinished (seen_by seat.new) 0 i number }
-    ensures above { HasValue chain.now.shape (seen_by seat.new) 1 key }
+    ensures claimed { (seen_by chain.now.shape seat.new).key 0 i ≡ key_is.Claimed key }
+    ensures held { IsPrimedOrFinished (seen_by chain.now.shape seat.new) 0 i number }
+    ensures above { HasValue chain.now.shape (seen_by chain.now.shape seat.new) 1 key }
 {
-    laws::steps_add_up();
-    chain.shape().known();
     sees_source(rt, chain, seat, i, key, number);
     sees_key(rt, chain, seat, 1, j, key);
     assert!(rt; chain.load_value(seat, 1, j, None) != ValueState::Null);

@@ -3,8 +3,7 @@ ghost use Rattle.std.specs.Prelude.{◌≡◌};
 ghost use Rattle.nb_core.specs.Laws.{IsPrimedOrFinished};
 ghost use Rattle.nb_core.specs.Tables.{IsSlot};
 ghost use Rattle.nb_core.specs.declared.states.KeyState.TheVariants as key_is;
-ghost use Rattle.nb_table.specs.Chains.{IsOwn, seen_by};
-ghost use Rattle.nb_table.specs.Gathered.{AreOwn};
+ghost use Rattle.nb_table.specs.Chains.{AreOwn, IsOwn, seen_by};
 
 use super::by_hand::*;
 use nb_core::{Key, KeyState, Num, OutOfMemory, Shape, ValueState};
@@ -21,7 +20,7 @@ pub(super) fn leaves<R: Abort>(
     seats: Vec<ChainSeat>,
     keys: &[u64],
 ) -> Result<(), OutOfMemory>
-    requires { AreOwn chain.id seats.items }
+    requires { AreOwn chain seats.items }
 {
     let Ok(closed) = chain.close(seats) else {
         panic!(rt; "all seats are there")
@@ -125,8 +124,8 @@ fn goes_on<R: Abort>(rt: &R, chain: &Chain, b: &mut ChainSeat)
 fn comes_late<R: Abort>(rt: &R, chain: &Chain, a: &mut ChainSeat, first: Key, number: Num)
     requires own { IsOwn chain.now a.old }
     requires slot { IsSlot chain.now.shape 0 0 }
-    requires claimed { (seen_by a.old).key 0 0 ≡ key_is.Claimed first }
-    requires held { IsPrimedOrFinished (seen_by a.old) 0 0 number }
+    requires claimed { (seen_by chain.now.shape a.old).key 0 0 ≡ key_is.Claimed first }
+    requires held { IsPrimedOrFinished (seen_by chain.now.shape a.old) 0 0 number }
     ensures own { IsOwn chain.now a.new }
 {
     let above = copies_in(rt, chain, a, 0, first, number, 0);

@@ -1,13 +1,13 @@
 //! Copies by several threads at once.
-ghost use Rattle.std.specs.Prelude.{All, IfOk};
+ghost use Rattle.std.specs.Prelude.{IfOk};
 ghost use Rattle.nb_core.specs.Tables.{IsInstalled, IsSlot};
-ghost use Rattle.nb_table.specs.Chains.{IsOwn, seen_by};
+ghost use Rattle.nb_table.specs.Chains.{AreOwn, IsOwn, seen_by};
 
 use super::by_hand::*;
 use super::copies::{fills_two_chunks, leaves};
 use crate::{copy_and_count, copy_slot};
 use nb_core::{OutOfMemory, Shape, ValueState};
-use nb_table::{Chain, ChainSeat, laws};
+use nb_table::{Chain, ChainSeat};
 use std::alloc::Global;
 use std::process::Abort;
 use std::test::Fail;
@@ -20,7 +20,7 @@ fn filled<R: Abort>(
     alloc: Global,
     seats: usize,
 ) -> Result<(Chain, Vec<ChainSeat>), OutOfMemory>
-    ensures own { IfOk result (λ made. All (IsOwn made.0) made.1.items) }
+    ensures own { IfOk result (λ made. AreOwn made.0 made.1.items) }
 {
     let shape = Shape::new(4, 2, seats, 1).expect(rt, "a shape");
     let (chain, mut seats) = Chain::new(alloc, shape)?;
@@ -32,9 +32,9 @@ fn filled<R: Abort>(
 
 /// One of the seats.
 fn taken<R: Abort>(rt: &R, chain: &Chain, seats: &mut Vec<ChainSeat>) -> ChainSeat
-    requires own { All (IsOwn chain.now) seats.old.items }
+    requires own { AreOwn chain.now seats.old.items }
     ensures taken { IsOwn chain.now result }
-    ensures left { All (IsOwn chain.now) seats.new.items }
+    ensures left { AreOwn chain.now seats.new.items }
 {
     let Some(seat) = seats.pop() else {
         panic!(rt; "there is a seat")
@@ -66,7 +66,7 @@ fn ends<R: Abort>(
     chain: Chain,
     seats: Vec<ChainSeat>,
 ) -> Result<(), OutOfMemory>
-    requires own { All (IsOwn chain) seats.items }
+    requires own { AreOwn chain seats.items }
 {
     let mut seats = seats;
     let mut seat = taken(rt, &chain, &mut seats);
@@ -77,8 +77,8 @@ fn ends<R: Abort>(
 
 /// Each seat copies the whole of table 0 in a thread of its own.
 fn all_complete<R: Threads + Sync + Abort>(rt: &R, chain: &Chain, seats: &mut [ChainSeat])
-    requires own { All (IsOwn chain.now) seats.old }
-    ensures own { All (IsOwn chain.now) seats.new }
+    requires own { AreOwn chain.now seats.old }
+    ensures own { AreOwn chain.now seats.new }
 {
     thread::for_each_mut(
         rt,
@@ -120,12 +120,10 @@ fn many_complete_one_table(rt: HostRuntime) -> Result<(), Fail> {
 fn turns_slot(chain: &Chain, seat: &mut ChainSeat, i: usize, counted: bool) -> bool
     requires own { IsOwn chain.now seat.old }
     requires slot { IsSlot chain.now.shape 0 i }
-    requires growing { IsInstalled (seen_by seat.old) 1 }
+    requires growing { IsInstalled (seen_by chain.now.shape seat.old) 1 }
     ensures own { IsOwn chain.now seat.new }
-    ensures growing { IsInstalled (seen_by seat.new) 1 }
+    ensures growing { IsInstalled (seen_by chain.now.shape seat.new) 1 }
 {
-    laws::steps_add_up();
-    chain.shape().known();
     if counted {
         return copy_and_count(chain, seat, 0, i);
     }
@@ -137,7 +135,6 @@ fn turns_alone(chain: &Chain, seat: ChainSeat, counted: bool) -> (usize, ChainSe
     requires { IsOwn chain.now seat }
     ensures { IsOwn chain.now result.1 }
 {
-    chain.shape().known();
     let mut seat = seat;
     let mut turned = 0;
     if chain.load_next(&mut seat, 0, None) {
@@ -157,8 +154,8 @@ fn all_turn<R: Threads + Sync>(
     seats: Vec<ChainSeat>,
     counted: bool,
 ) -> Result<(usize, Vec<ChainSeat>), OutOfMemory>
-    requires own { All (IsOwn chain.now) seats.items }
-    ensures own { IfOk result (λ all. All (IsOwn chain.now) all.1.items) }
+    requires own { AreOwn chain.now seats.items }
+    ensures own { IfOk result (λ all. AreOwn chain.now all.1.items) }
 {
     let mut done = thread::map_vec(
         rt,

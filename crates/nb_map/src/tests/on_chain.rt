@@ -2,14 +2,14 @@
 ghost use Rattle.std.specs.Prelude.{All, IfOk, ◌≤◌};
 ghost use Rattle.nb_core.specs.Tables.{IsSlot};
 ghost use Rattle.nb_table.specs.Chains.{IsOwn};
-ghost use Rattle.nb_table.specs.Gathered.{AreOwn};
+ghost use Rattle.nb_table.specs.Chains.{AreOwn};
 
 use crate::PutFault;
 use crate::steps::{NoPause, get_in, put_if_match_in};
 use nb_core::{
     Change, Key, KeyState, Num, OutOfMemory, Reply, Shape, ShapeFault, ValueState, Want,
 };
-use nb_table::{Chain, ChainSeat, Closed, laws};
+use nb_table::{Chain, ChainSeat, Closed};
 use std::alloc::Global;
 use std::process::Abort;
 
@@ -88,7 +88,6 @@ pub(super) fn makes_write(
     requires some { 1 ≤ tries }
     ensures own { IsOwn chain.now seat.new }
 {
-    laws::steps_add_up();
     let mut pause = NoPause;
     let answer = put_if_match_in(chain, seat, key, want, change, tries, &mut pause);
     let NoPause = pause;
@@ -156,7 +155,6 @@ pub(super) fn get<R: Abort>(rt: &R, chain: &Chain, seat: &mut ChainSeat, k: u64)
     requires own { IsOwn chain.now seat.old }
     ensures own { IsOwn chain.now seat.new }
 {
-    laws::steps_add_up();
     let number = get_in(chain, seat, key(rt, k));
     number.map(Num::get)
 }
@@ -272,7 +270,7 @@ pub(super) fn has_no_keys<R: Abort>(
 
 /// Closes the chain with all its seats.
 pub(super) fn closes<R: Abort>(rt: &R, chain: Chain, seats: Vec<ChainSeat>) -> Closed
-    requires { AreOwn chain.id seats.items }
+    requires { AreOwn chain seats.items }
 {
     let Ok(closed) = chain.close(seats) else {
         panic!(rt; "all seats are there")
@@ -303,7 +301,7 @@ pub(super) fn leaves<R: Abort>(
     seats: Vec<ChainSeat>,
     pairs: &[(u64, u64)],
 ) -> Result<(), OutOfMemory>
-    requires { AreOwn chain.id seats.items }
+    requires { AreOwn chain seats.items }
 {
     let closed = closes(rt, chain, seats);
     lists(rt, alloc, &closed, pairs)

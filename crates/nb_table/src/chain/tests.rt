@@ -1,6 +1,5 @@
 ghost use Rattle.std.specs.Prelude.{◌≡◌, All, IfOk};
-ghost use Rattle.nb_table.specs.Chains.{IsOwn};
-ghost use Rattle.nb_table.specs.Gathered.{AreOwn};
+ghost use Rattle.nb_table.specs.Chains.{AreOwn, IsOwn};
 
 use super::*;
 use nb_core::KEY_MAX;
@@ -50,8 +49,8 @@ fn without_last<R: Abort>(
     chain: Chain,
     seats: Vec<ChainSeat>,
 ) -> Result<(Chain, Vec<ChainSeat>), OutOfMemory>
-    requires { AreOwn chain.id seats.items }
-    ensures { IfOk result (λ back. (back.0 ≡ chain) × AreOwn chain.id back.1.items) }
+    requires { AreOwn chain seats.items }
+    ensures { IfOk result (λ back. (back.0 ≡ chain) × AreOwn chain back.1.items) }
 {
     let mut seats = seats;
     let Some(last) = seats.pop() else {

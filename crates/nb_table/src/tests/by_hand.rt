@@ -9,7 +9,7 @@ ghost use Rattle.nb_core.specs.declared.states.ValueState.TheVariants as value_i
 ghost use Rattle.nb_table.specs.Chains.{Grown, IsOwn, seen_by};
 
 use super::looks_complete;
-use crate::{Chain, ChainSeat, laws};
+use crate::{Chain, ChainSeat};
 use nb_core::{Call, Change, Key, KeyState, Num, ValueState, Want};
 use std::process::Abort;
 
@@ -61,11 +61,10 @@ fn sees_other<R: Abort>(
     distance: usize,
 )
     requires own { IsOwn chain.now seat.old }
-    ensures grows { Grown seat.old seat.new [] 1 }
+    ensures grows { Grown chain.now.shape seat.old seat.new [] 1 }
     ensures table { g < generations_of chain.now.shape }
-    ensures other { IsOther ((seen_by seat.new).key g (path_slot chain.now.shape g key distance)) key }
+    ensures other { IsOther ((seen_by chain.now.shape seat.new).key g (path_slot chain.now.shape g key distance)) key }
 {
-    laws::steps_add_up();
     let i = slot_on_path(rt, chain, g, key, distance);
     let KeyState::Claimed(other) = chain.load_key(seat, g, i, None) else {
         panic!(rt; "the slot has no key")
@@ -84,10 +83,8 @@ fn sees_others<R: Abort>(
 )
     requires own { IsOwn chain.now seat.old }
     ensures own { IsOwn chain.now seat.new }
-    ensures others { AreOthers chain.now.shape (seen_by seat.new) g key count }
+    ensures others { AreOthers chain.now.shape (seen_by chain.now.shape seat.new) g key count }
 {
-    laws::steps_add_up();
-    chain.shape().known();
     for distance in 0..count {
         sees_other(rt, chain, seat, g, key, distance);
     }
@@ -97,11 +94,10 @@ fn sees_others<R: Abort>(
 pub(super) fn sees_next<R: Abort>(rt: &R, chain: &Chain, seat: &mut ChainSeat)
     requires own { IsOwn chain.now seat.old }
     ensures own { IsOwn chain.now seat.new }
-    ensures grows { Grown seat.old seat.new [] 1 }
+    ensures grows { Grown chain.now.shape seat.old seat.new [] 1 }
     ensures table { 1 < generations_of chain.now.shape }
-    ensures installed { IsInstalled (seen_by seat.new) 1 }
+    ensures installed { IsInstalled (seen_by chain.now.shape seat.new) 1 }
 {
-    laws::steps_add_up();
     assert!(rt; 1 < chain.shape().generations());
     assert!(rt; chain.load_next(seat, 0, None));
 }
@@ -110,11 +106,10 @@ pub(super) fn sees_next<R: Abort>(rt: &R, chain: &Chain, seat: &mut ChainSeat)
 fn sees_key<R: Abort>(rt: &R, chain: &Chain, seat: &mut ChainSeat, g: u32, i: usize, key: Key)
     requires own { IsOwn chain.now seat.old }
     ensures own { IsOwn chain.now seat.new }
-    ensures grows { Grown seat.old seat.new [] 1 }
+    ensures grows { Grown chain.now.shape seat.old seat.new [] 1 }
     ensures slot { IsSlot chain.now.shape g i }
-    ensures claimed { (seen_by seat.new).key g i ≡ key_is.Claimed key }
+    ensures claimed { (seen_by chain.now.shape seat.new).key g i ≡ key_is.Claimed key }
 {
-    laws::steps_add_up();
     is_slot(rt, chain, g, i);
     assert_eq!(rt; chain.load_key(seat, g, i, None), KeyState::Claimed(key));
 }
@@ -188,11 +183,9 @@ pub(super) fn primes<R: Abort>(
 )
     requires own { IsOwn chain.now seat.old }
     ensures own { IsOwn chain.now seat.new }
-    ensures claimed { (seen_by seat.new).key 0 i ≡ key_is.Claimed key }
-    ensures held { (seen_by seat.new).value 0 i ≡ primed value }
+    ensures claimed { (seen_by chain.now.shape seat.new).key 0 i ≡ key_is.Claimed key }
+    ensures held { (seen_by chain.now.shape seat.new).value 0 i ≡ primed value }
 {
-    laws::steps_add_up();
-    chain.shape().known();
     sees_next(rt, chain, seat);
     sees_key(rt, chain, seat, 0, i, key);
     assert_eq!(rt; chain.prime(seat, 0, i), value);
@@ -210,8 +203,6 @@ pub(super) fn claims<R: Abort>(
     requires own { IsOwn chain.now seat.old }
     ensures own { IsOwn chain.now seat.new }
 {
-    laws::steps_add_up();
-    chain.shape().known();
     let j = slot_on_path(rt, chain, 1, key, distance);
     sees_others(rt, chain, seat, 1, key, distance);
     sees_next(rt, chain, seat);
@@ -230,11 +221,9 @@ pub(super) fn sees_source<R: Abort>(
 )
     requires own { IsOwn chain.now seat.old }
     ensures own { IsOwn chain.now seat.new }
-    ensures claimed { (seen_by seat.new).key 0 i ≡ key_is.Claimed key }
-    ensures held { IsPrimedOrFinished (seen_by seat.new) 0 i number }
+    ensures claimed { (seen_by chain.now.shape seat.new).key 0 i ≡ key_is.Claimed key }
+    ensures held { IsPrimedOrFinished (seen_by chain.now.shape seat.new) 0 i number }
 {
-    laws::steps_add_up();
-    chain.shape().known();
     sees_key(rt, chain, seat, 0, i, key);
     let value = chain.load_value(seat, 0, i, None);
     assert!(rt; value == ValueState::Primed(number) || value == ValueState::Finished(number));
@@ -252,15 +241,12 @@ pub(super) fn copies<R: Abort>(
     j: usize,
 ) -> (ValueState, ValueState)
     requires own { IsOwn chain.now seat.old }
-    requires claimed { (seen_by seat.old).key 0 i ≡ key_is.Claimed key }
-    requires held { IsPrimedOrFinished (seen_by seat.old) 0 i number }
+    requires claimed { (seen_by chain.now.shape seat.old).key 0 i ≡ key_is.Claimed key }
+    requires held { IsPrimedOrFinished (seen_by chain.now.shape seat.old) 0 i number }
     ensures own { IsOwn chain.now seat.new }
     ensures table { 0 < generations_of chain.now.shape }
     ensures turned { result.1 ≡ value_is.Primed number → counted_by seat.new.seen seat.new.number 0 + 1 ≤ turned_by chain.now.shape seat.new.seen seat.new.number 0 }
 {
-    laws::steps_add_up();
-    nb_core::laws::counted();
-    chain.shape().known();
     is_slot(rt, chain, 0, i);
     sees_key(rt, chain, seat, 1, j, key);
     let above = chain.copy_in(seat, 1, j, key, number);
@@ -295,7 +281,6 @@ pub(super) fn promotes<R: Abort>(rt: &R, chain: &Chain, seat: &mut ChainSeat)
     requires own { IsOwn chain.now seat.old }
     ensures own { IsOwn chain.now seat.new }
 {
-    laws::steps_add_up();
     assert!(rt; 0 < chain.shape().generations());
     assert!(rt; looks_complete(chain, seat, 0));
     assert_eq!(rt; chain.promote(seat, 0), 0);
@@ -313,8 +298,6 @@ pub(super) fn removes<R: Abort>(
     requires own { IsOwn chain.now seat.old }
     ensures own { IsOwn chain.now seat.new }
 {
-    laws::steps_add_up();
-    chain.shape().known();
     assert!(rt; 0 < chain.shape().generations());
     sees_key(rt, chain, seat, 1, j, key);
     assert!(rt; looks_complete(chain, seat, 0));
@@ -335,10 +318,8 @@ fn sees_finished<R: Abort>(rt: &R, chain: &Chain, seat: &mut ChainSeat, i: usize
     requires own { IsOwn chain.now seat.old }
     ensures own { IsOwn chain.now seat.new }
     ensures table { 0 < generations_of chain.now.shape }
-    ensures passed { IsPassed chain.now.shape (seen_by seat.new) 0 key }
+    ensures passed { IsPassed chain.now.shape (seen_by chain.now.shape seat.new) 0 key }
 {
-    laws::steps_add_up();
-    chain.shape().known();
     sees_key(rt, chain, seat, 0, i, key);
     let value = chain.load_value(seat, 0, i, None);
     assert!(rt; value.is_finished());
@@ -356,8 +337,6 @@ pub(super) fn reads<R: Abort>(
     requires own { IsOwn chain.now seat.old }
     ensures own { IsOwn chain.now seat.new }
 {
-    laws::steps_add_up();
-    chain.shape().known();
     sees_finished(rt, chain, seat, i, key);
     sees_next(rt, chain, seat);
     sees_key(rt, chain, seat, 1, j, key);

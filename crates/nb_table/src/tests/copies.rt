@@ -2,8 +2,7 @@
 ghost use Rattle.std.specs.Prelude.{◌≡◌};
 ghost use Rattle.nb_core.specs.Laws.{IsPrimedOrFinished};
 ghost use Rattle.nb_core.specs.declared.states.KeyState.TheVariants as key_is;
-ghost use Rattle.nb_table.specs.Chains.{IsOwn, seen_by};
-ghost use Rattle.nb_table.specs.Gathered.{AreOwn};
+ghost use Rattle.nb_table.specs.Chains.{AreOwn, IsOwn, seen_by};
 
 use super::by_hand::*;
 use crate::{Chain, ChainSeat};
@@ -20,7 +19,7 @@ fn leaves<R: Abort>(
     seats: Vec<ChainSeat>,
     keys: &[u64],
 ) -> Result<(), OutOfMemory>
-    requires { AreOwn chain.id seats.items }
+    requires { AreOwn chain seats.items }
 {
     let Ok(closed) = chain.close(seats) else {
         panic!(rt; "all seats are there")
@@ -43,8 +42,8 @@ fn leaves<R: Abort>(
 fn begins<R: Abort>(rt: &R, chain: &Chain, seat: &mut ChainSeat, first: Key, held: Num)
     requires own { IsOwn chain.now seat.old }
     ensures own { IsOwn chain.now seat.new }
-    ensures claimed { (seen_by seat.new).key 0 0 ≡ key_is.Claimed first }
-    ensures held { IsPrimedOrFinished (seen_by seat.new) 0 0 held }
+    ensures claimed { (seen_by chain.now.shape seat.new).key 0 0 ≡ key_is.Claimed first }
+    ensures held { IsPrimedOrFinished (seen_by chain.now.shape seat.new) 0 0 held }
 {
     fills(rt, chain, seat, 4, 3);
     assert!(rt; installs(rt, chain, seat, key(rt, 12)));

@@ -1,5 +1,5 @@
-use Rattle.std.proofs.Common.{◌≡◌, ◌+◌, ◌*◌, ◌++◌, ◌<◌, length, suc, refl, subst, arith}
-use Rattle.nb_core.specs.Plans.{IsPlan, generations_of, size_of}
+use Rattle.std.proofs.Common.{◌≡◌, ◌+◌, ◌*◌, ◌++◌, ◌<◌, length, suc, refl, arith}
+use Rattle.nb_core.specs.Plans.{generations_of, size_of}
 use Rattle.nb_copy.specs.Handing.{slot_steps, table_steps}
 use Rattle.nb_copy.proofs.Copied.{copied-own, copied-stays, copied-within}
 use Rattle.nb_copy.proofs.Counted.{copied-counting, copied-last, copied-promote}
@@ -8,42 +8,38 @@ use Rattle.nb_copy.proofs.tables.complete.Goals as goal
 
 pub copy_all-requires-clause-growing : goal.copy_all-requires-clause-growing
 copy_all-requires-clause-growing c =
-    let plan = subst IsPlan c.shape.ensures c.known.ensures in
-    let next = next-in-plan c.linked.ensures c.args.chain.now c.args.seat.now plan c.requires.own c.known-2.ensures c.args.g c.requires.growing in
-    (copied-stays c.steps_add_up.ensures c.args.chain.now plan c.args.g (omega (arith, next)) c.requires.own c.copy_chunks.ensures.copied.3).installed
+    let next = next-in-plan c.args.chain.now c.args.seat.now c.requires.own c.args.g c.requires.growing in
+    (copied-stays c.args.chain.now c.args.g (omega (arith, next)) c.requires.own c.copy_chunks.ensures.copied.3).installed
     (suc c.args.g) c.requires.growing
 
 pub promote-requires-clause-table : goal.promote-requires-clause-table
 promote-requires-clause-table c =
-    let plan = subst IsPlan c.shape.ensures c.known.ensures in
     omega (
       arith,
-      next-in-plan c.linked.ensures c.args.chain.now c.args.seat.now plan c.requires.own c.known-2.ensures c.args.g c.requires.growing,
+      next-in-plan c.args.chain.now c.args.seat.now c.requires.own c.args.g c.requires.growing,
     )
 
 pub returns : goal.returns
 returns c =
-    let law = c.steps_add_up.ensures in
     let chain = c.args.chain.now in
     let p = chain.shape in
     let g = c.args.g in
-    let plan = subst IsPlan c.shape.ensures c.known.ensures in
-    let next = next-in-plan c.linked.ensures chain c.args.seat.now plan c.requires.own c.known-2.ensures g c.requires.growing in
+    let next = next-in-plan chain c.args.seat.now c.requires.own g c.requires.growing in
     let table : g < generations_of p = omega (arith, next) in
     let chunks = c.copy_chunks.ensures.copied in
     let slots = c.copy_all.ensures.copied in
     let same : length slots.0 ≡ length slots.0 = refl in
-    let both = copied-counting law chain plan g table c.requires.own chunks.3 same slots.1 in
-    let promoted = copied-promote law c.own_lasts.ensures p g _ _ c.promote.result
+    let both = copied-counting chain g table c.requires.own chunks.3 same slots.1 in
+    let promoted = copied-promote p g _ _ c.promote.result
     (λ low. let step = c.promote.ensures.raised low in (step.0, step.2)) c.promote.ensures.was_higher in
-    let lasting = copied-stays law chain plan g table (copied-own law chain plan g table c.requires.own both) promoted.0 in
+    let lasting = copied-stays chain g table (copied-own chain g table c.requires.own both) promoted.0 in
     record {
       completed = record {
         slots = slots.0 ++ chunks.0;
         chunks = chunks.1 + 0;
         few = omega (arith, chunks.2);
         copied = copied-within (size_of p g * (slot_steps p g + 1) + size_of p g * (slot_steps p g + 2) + 1) (table_steps p g) (omega arith)
-            (copied-last law chain plan g table c.requires.own both promoted.0);
+            (copied-last chain g table c.requires.own both promoted.0);
         complete = lasting.complete g table c.copy_all.ensures.complete;
         raised = promoted.1;
       };

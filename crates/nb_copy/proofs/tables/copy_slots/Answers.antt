@@ -1,7 +1,6 @@
 use Rattle.std.proofs.Common.{◌≡◌, ◌-◌, ◌*◌, ◌<◌, ◌≤◌, suc, ℕ, List, [], length, refl, subst, sym, arith, rules}
 use Rattle.std.specs.List.{All}
 use Rattle.std.proofs.lemmas.List.Elements.{All-nil}
-use Rattle.nb_core.specs.Plans.{IsPlan}
 use Rattle.nb_copy.specs.Copying.{HasCopied}
 use Rattle.nb_copy.specs.Handing.{slot_steps}
 use Rattle.nb_copy.proofs.Copied.{copied-none, copied-own, copied-stays, copied-within}
@@ -10,7 +9,7 @@ use Rattle.nb_copy.proofs.tables.copy_slots.Goals as goal
 
 pub loop-i-init : goal.loop-i-init
 loop-i-init c =
-    let none = copied-none c.steps_add_up.ensures c.own_lasts.ensures c.args.chain.now.shape c.args.g c.args.seat.now c.known-2.ensures in (
+    let none = copied-none c.args.chain.now c.args.g c.args.seat.now c.requires.own in (
       omega arith,
       ([], refl, All-nil (λ j. (c.args.from ≤ j) × (j < c.args.from)), copied-within 0 _ (omega arith) none),
       λ j after below. absurd (omega (arith, after, below)),
@@ -18,13 +17,12 @@ loop-i-init c =
 
 pub copy_slot-requires-clause-own : goal.copy_slot-requires-clause-own
 copy_slot-requires-clause-own c =
-    copied-own c.steps_add_up.ensures c.args.chain.now (subst IsPlan c.shape.ensures c.known.ensures) c.args.g c.requires.table c.requires.own
+    copied-own c.args.chain.now c.args.g c.requires.table c.requires.own
     c.loop-i.invariant.1.3
 
 pub copy_slot-requires-clause-growing : goal.copy_slot-requires-clause-growing
 copy_slot-requires-clause-growing c =
-    let plan = subst IsPlan c.shape.ensures c.known.ensures in
-    (copied-stays c.steps_add_up.ensures c.args.chain.now plan c.args.g c.requires.table c.requires.own c.loop-i.invariant.1.3).installed (suc c.args.g)
+    (copied-stays c.args.chain.now c.args.g c.requires.table c.requires.own c.loop-i.invariant.1.3).installed (suc c.args.g)
     c.requires.growing
 
 pub overflow_add-turned : goal.overflow_add-turned
@@ -33,16 +31,14 @@ overflow_add-turned c =
 
 pub loop-i-preserved : goal.loop-i-preserved
 loop-i-preserved c =
-    let law = c.steps_add_up.ensures in
     let chain = c.args.chain.now in
-    let plan = subst IsPlan c.shape.ensures c.known.ensures in
     let so_far = c.loop-i.invariant in
-    let own = copied-own law chain plan c.args.g c.requires.table c.requires.own so_far.1.3 in
+    let own = copied-own chain c.args.g c.requires.table c.requires.own so_far.1.3 in
     let first : c.args.from ≤ c.loop-i.i = omega (arith, c.loop-i.auto.i) in (
       omega (arith, so_far.0, c.from-turned.ensures, byte-small c.copy_slot.result),
-      copied-slot law chain plan c.args.g c.requires.table c.args.from c.loop-i.i (slot_steps chain.shape c.args.g) _ _
+      copied-slot chain c.args.g c.requires.table c.args.from c.loop-i.i (slot_steps chain.shape c.args.g) _ _
           c.copy_slot.result first c.requires.own c.from-turned.ensures so_far.1 c.copy_slot.ensures.copied,
-      finished-slot law chain plan c.args.g c.requires.table c.args.from c.loop-i.i own (omega (arith, c.loop-i-test.true, c.requires.within.1)) so_far.2
+      finished-slot chain c.args.g c.requires.table c.args.from c.loop-i.i own (omega (arith, c.loop-i-test.true, c.requires.within.1)) so_far.2
           c.copy_slot.ensures.copied c.copy_slot.ensures.finished,
     )
 

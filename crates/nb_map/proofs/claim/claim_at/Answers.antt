@@ -16,51 +16,46 @@ use Rattle.nb_map.proofs.claim.claim_at.Goals.{After-path_slot-i, else-g-generat
 
 pub returns-then-distance-limit_of-clause-found : goal.returns-then-distance-limit_of-clause-found
 returns-then-distance-limit_of-clause-found c =
-    let plan = subst IsPlan c.shape.ensures c.known.ensures in
-    let table = table-within c.linked.ensures c.args.chain.now c.args.seat.now plan c.requires.own c.known-2.ensures c.args.g c.requires.installed in
+    let table = table-within c.args.chain.now c.args.seat.now c.requires.own c.args.g c.requires.installed in
     let made = c.grow.ensures.made in
-    let own = made-own c.steps_add_up.ensures c.args.chain.now plan c.requires.own made in (
+    let own = made-own c.args.chain.now c.requires.own made in (
       made-within (grow_steps c.args.chain.now.shape c.args.g c.args.below) _ (omega arith) made,
-      above-complete c.complete_passed.ensures c.args.chain.now c.grow.new.seat plan own made.grown.legal c.args.g c.args.key table
+      above-complete c.args.chain.now c.grow.new.seat own c.args.g c.args.key table
           c.grow.ensures.complete.0 c.grow.ensures.complete.1,
     )
 
 pub returns-then-load_next-clause-found : goal.returns-then-load_next-clause-found
 returns-then-load_next-clause-found c =
-    let law = c.steps_add_up.ensures in
     let chain = c.args.chain.now in
     let p = chain.shape in
     let g = c.args.g in
-    let plan = subst IsPlan c.shape.ensures c.known.ensures in
     let next : suc g < generations_of p = search rules in
     let table : g < generations_of p = omega (arith, next) in
-    let looked = made-quiet law p c.args.call.now c.load_next.ensures.grows in
-    let made = made-complete law chain plan next c.requires.own looked c.complete.ensures.completed in
-    let own = made-own law chain plan c.requires.own made in
+    let looked = made-quiet p c.args.call.now c.load_next.ensures.grows in
+    let made = made-complete chain next c.requires.own looked c.complete.ensures.completed in
+    let own = made-own chain c.requires.own made in
     let complete = c.complete.ensures.completed.complete in (
       made-within (1 + table_steps p g) (2 + grow_steps p g c.args.below) (omega arith) made,
-      above-complete c.complete_passed.ensures chain c.complete.new.seat plan own made.grown.legal g c.args.key table complete
-          (complete-next c.linked.ensures chain c.complete.new.seat plan own made.grown.legal g table complete),
+      above-complete chain c.complete.new.seat own g c.args.key table complete
+          (complete-next chain c.complete.new.seat own g table complete),
     )
 
 -- before the claim there was at most a look at the next word
 looked : (c : After-path_slot-i) → HasMade c.args.chain.now.shape c.args.call.now c.args.seat.now c.else-g-generations.seat [] 1
 looked c =
-    let law = c.steps_add_up.ensures in
     let p = c.args.chain.now.shape in
     elim c.else-g-generations.branch [
       | else-g-generations-via-then-g-generations+else-load_next w ↦
           subst (λ (s : SeenBy). HasMade p c.args.call.now c.args.seat.now s [] 1) (sym w.seat-is)
-          (made-quiet law p c.args.call.now w.load_next.ensures.grows)
+          (made-quiet p c.args.call.now w.load_next.ensures.grows)
       | else-g-generations-via-else-g-generations w ↦
           subst (λ (s : SeenBy). HasMade p c.args.call.now c.args.seat.now s [] 1) (sym w.seat-is)
-          (made-within 0 1 (omega arith) (made-none law p c.args.call.now c.args.seat.now c.known-2.ensures))
+          (made-within 0 1 (omega arith) (made-none c.args.chain.now c.args.call.now c.args.seat.now c.requires.own))
     ]
 
 pub claim_key-requires-clause-installed : goal.claim_key-requires-clause-installed
 claim_key-requires-clause-installed c =
-    let plan = subst IsPlan c.shape.ensures c.known.ensures in
-    (made-stays c.steps_add_up.ensures c.args.chain.now plan c.requires.own
+    (made-stays c.args.chain.now c.requires.own
     (looked (goal.at.claim_key-requires-clause-installed c).After-path_slot-i)).installed
     c.args.g c.requires.installed
 
@@ -69,52 +64,47 @@ claim_key-requires-clause-way c =
     let chain = c.args.chain.now in
     let p = chain.shape in
     let g = c.args.g in
-    let plan = subst IsPlan c.shape.ensures c.known.ensures in
-    let table = table-within c.linked.ensures chain c.args.seat.now plan c.requires.own c.known-2.ensures g c.requires.installed in
-    let lasting = made-stays c.steps_add_up.ensures chain plan c.requires.own (looked (goal.at.claim_key-requires-clause-way c).After-path_slot-i) in
+    let table = table-within chain c.args.seat.now c.requires.own g c.requires.installed in
+    let lasting = made-stays chain c.requires.own (looked (goal.at.claim_key-requires-clause-way c).After-path_slot-i) in
     let within : c.args.distance < limit_of p g = search rules in
     let at : path_slot p g c.args.key c.args.distance ≡ c.path_slot-i.result = search rules in
-    way-to p (seen_by c.else-g-generations.seat) g c.path_slot-i.result c.args.key c.args.distance c.args.below c.requires.known
+    way-to p (seen_by c.args.chain.now.shape c.else-g-generations.seat) g c.path_slot-i.result c.args.key c.args.distance c.args.below c.requires.known
     (below-lasts p _ _ lasting g c.args.key table c.args.below c.requires.below) c.requires.near within at
     (lasting.others g c.args.key c.args.distance table c.requires.others)
 
 pub returns-in-Empty-clause-found : goal.returns-in-Empty-clause-found
 returns-in-Empty-clause-found c =
-    let law = c.steps_add_up.ensures in
     let chain = c.args.chain.now in
-    let plan = subst IsPlan c.shape.ensures c.known.ensures in
-    let table = table-within c.linked.ensures chain c.args.seat.now plan c.requires.own c.known-2.ensures c.args.g c.requires.installed in
+    let table = table-within chain c.args.seat.now c.requires.own c.args.g c.requires.installed in
     let claimed = c.claim_key.ensures.won c.in-Empty.is in
     let in_table : c.path_slot-i.result < size_of chain.shape c.args.g = search rules in (
       made-within 2 _ (omega arith)
-          (made-more law chain plan c.requires.own (looked (goal.at.returns-in-Empty-clause-found c).After-path_slot-i)
-          (made-claim law chain plan c.args.call.now c.args.key c.args.g c.path_slot-i.result c.requires.key c.requires.acts table claimed.0)),
+          (made-more chain c.requires.own (looked (goal.at.returns-in-Empty-clause-found c).After-path_slot-i)
+          (made-claim chain c.args.call.now c.args.key c.args.g c.path_slot-i.result c.requires.key c.requires.acts table claimed.0)),
       (in_table, claimed.1),
     )
 
 pub returns-in-Dead-clause-found : goal.returns-in-Dead-clause-found
 returns-in-Dead-clause-found c =
-    let law = c.steps_add_up.ensures in
     let chain = c.args.chain.now in
     let p = chain.shape in
     let g = c.args.g in
     let i = c.path_slot-i.result in
-    let plan = subst IsPlan c.shape.ensures c.known.ensures in
-    let table = table-within c.linked.ensures chain c.args.seat.now plan c.requires.own c.known-2.ensures g c.requires.installed in
+    let table = table-within chain c.args.seat.now c.requires.own g c.requires.installed in
     let lost = c.claim_key.ensures.lost (dead-empty c.claim_key.result c.in-Dead.is) in
-    let made = made-more law chain plan c.requires.own (looked (goal.at.returns-in-Dead-clause-found c).After-path_slot-i)
-    (made-quiet law p c.args.call.now lost.0) in
-    let lasting = made-stays law chain plan c.requires.own made in
+    let made = made-more chain c.requires.own (looked (goal.at.returns-in-Dead-clause-found c).After-path_slot-i)
+    (made-quiet p c.args.call.now lost.0) in
+    let lasting = made-stays chain c.requires.own made in
     let at : path_slot p g c.args.key c.args.distance ≡ i = search rules in
     let in_table : i < size_of p g = search rules in
-    let own = made-own law chain plan c.requires.own made in
-    let dead : (seen_by c.claim_key.new.seat).key g i ≡ Dead = lost.1 ∙ c.in-Dead.is in (
+    let own = made-own chain c.requires.own made in
+    let dead : (seen_by c.args.chain.now.shape c.claim_key.new.seat).key g i ≡ Dead = lost.1 ∙ c.in-Dead.is in (
       made-within 2 _ (omega arith) made,
       (
         (
           UpToDead c.args.distance c.requires.near (lasting.others g c.args.key c.args.distance table c.requires.others)
-              (ap ((seen_by c.claim_key.new.seat).key g) at ∙ dead),
-          dead-next c.linked.ensures chain c.claim_key.new.seat plan own made.grown.legal g i (table, in_table) dead,
+              (ap ((seen_by c.args.chain.now.shape c.claim_key.new.seat).key g) at ∙ dead),
+          dead-next chain c.claim_key.new.seat own g i (table, in_table) dead,
         ),
         tt,
       ),
@@ -122,32 +112,28 @@ returns-in-Dead-clause-found c =
 
 pub returns-then-eq-clause-found : goal.returns-then-eq-clause-found
 returns-then-eq-clause-found c =
-    let law = c.steps_add_up.ensures in
     let chain = c.args.chain.now in
-    let plan = subst IsPlan c.shape.ensures c.known.ensures in
     let lost = c.claim_key.ensures.lost (claimed-empty c.claim_key.result c.in-Claimed.other c.in-Claimed.is) in
     let same : c.in-Claimed.other ≡ c.args.key = search rules in
     let in_table : c.path_slot-i.result < size_of chain.shape c.args.g = search rules in (
       made-within 2 _ (omega arith)
-          (made-more law chain plan c.requires.own (looked (goal.at.returns-then-eq-clause-found c).After-path_slot-i)
-          (made-quiet law chain.shape c.args.call.now lost.0)),
+          (made-more chain c.requires.own (looked (goal.at.returns-then-eq-clause-found c).After-path_slot-i)
+          (made-quiet chain.shape c.args.call.now lost.0)),
       (in_table, lost.1 ∙ c.in-Claimed.is ∙ ap Claimed same),
     )
 
 pub returns-else-eq-clause-other : goal.returns-else-eq-clause-other
 returns-else-eq-clause-other c =
-    let law = c.steps_add_up.ensures in
     let chain = c.args.chain.now in
     let p = chain.shape in
     let g = c.args.g in
-    let plan = subst IsPlan c.shape.ensures c.known.ensures in
-    let table = table-within c.linked.ensures chain c.args.seat.now plan c.requires.own c.known-2.ensures g c.requires.installed in
+    let table = table-within chain c.args.seat.now c.requires.own g c.requires.installed in
     let lost = c.claim_key.ensures.lost (claimed-empty c.claim_key.result c.in-Claimed.other c.in-Claimed.is) in
-    let made = made-more law chain plan c.requires.own (looked (goal.at.returns-else-eq-clause-other c).After-path_slot-i)
-    (made-quiet law p c.args.call.now lost.0) in
+    let made = made-more chain c.requires.own (looked (goal.at.returns-else-eq-clause-other c).After-path_slot-i)
+    (made-quiet p c.args.call.now lost.0) in
     let at : path_slot p g c.args.key c.args.distance ≡ c.path_slot-i.result = search rules in
     let differs : c.in-Claimed.other ≢ c.args.key = eqb-false c.in-Claimed.other c.args.key (sym c.eq.ensures ∙ c.if-eq.false) in (
       made,
-      others-more p _ _ (made-stays law chain plan c.requires.own made) g c.args.key c.args.distance _ c.in-Claimed.other table c.requires.others at
+      others-more p _ _ (made-stays chain c.requires.own made) g c.args.key c.args.distance _ c.in-Claimed.other table c.requires.others at
           (lost.1 ∙ c.in-Claimed.is) differs,
     )

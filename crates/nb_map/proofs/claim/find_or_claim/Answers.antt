@@ -13,7 +13,7 @@ use Rattle.nb_map.proofs.claim.find_or_claim.Goals.{After-settle_below-below, Af
 
 pub loop-i-init : goal.loop-i-init
 loop-i-init c = record {
-  walked = walked-none c.steps_add_up.ensures c.args.chain.now.shape c.args.call.now c.args.seat.now c.known-2.ensures c.args.g c.args.below;
+  walked = walked-none c.args.chain.now c.args.call.now c.args.seat.now c.requires.own c.args.g c.args.below;
   within = omega arith;
   others = λ e near. absurd (omega (arith, near));
   below = c.requires.below;
@@ -21,44 +21,37 @@ loop-i-init c = record {
 
 pub walk_path-requires-clause-reached : goal.walk_path-requires-clause-reached
 walk_path-requires-clause-reached c =
-    let plan = subst IsPlan c.shape.ensures c.known.ensures in
     let chain = c.args.chain.now in
-    let table = table-within c.linked.ensures chain c.args.seat.now plan c.requires.own c.known-2.ensures c.args.g c.requires.reached.installed in
-    reached-lasts chain.shape _ _ (made-stays c.steps_add_up.ensures chain plan c.requires.own c.loop-i.invariant.walked.made)
+    let table = table-within chain c.args.seat.now c.requires.own c.args.g c.requires.reached.installed in
+    reached-lasts chain.shape _ _ (made-stays chain c.requires.own c.loop-i.invariant.walked.made)
     c.args.g c.args.key table c.requires.reached
 
 pub returns-in-Slot-clause-made : goal.returns-in-Slot-clause-made
 returns-in-Slot-clause-made c =
-    let plan = subst IsPlan c.shape.ensures c.known.ensures in
     let walked = c.loop-i.invariant.walked in
-    walked-here c.steps_add_up.ensures c.args.chain.now plan c.loop-i.invariant.within walked
-    (walked-to c.steps_add_up.ensures c.args.chain.now plan c.requires.own c.requires.acts walked (Slot c.in-Slot.i) c.in-Slot.ensures.made)
+    walked-here c.args.chain.now c.loop-i.invariant.within walked
+    (walked-to c.args.chain.now c.requires.own c.requires.acts walked (Slot c.in-Slot.i) c.in-Slot.ensures.made)
 
 pub returns-in-Closed-clause-made : goal.returns-in-Closed-clause-made
 returns-in-Closed-clause-made c =
-    let plan = subst IsPlan c.shape.ensures c.known.ensures in
     let walked = c.loop-i.invariant.walked in
-    walked-here c.steps_add_up.ensures c.args.chain.now plan c.loop-i.invariant.within walked
-    (walked-to c.steps_add_up.ensures c.args.chain.now plan c.requires.own c.requires.acts walked Closed c.in-Closed.ensures.made)
+    walked-here c.args.chain.now c.loop-i.invariant.within walked
+    (walked-to c.args.chain.now c.requires.own c.requires.acts walked Closed c.in-Closed.ensures.made)
 
 -- the table is there still after the walk, and what is known of the one below is so still
-installed-still : (c : After-walk_path) → IsInstalled (seen_by c.walk_path.new.seat) c.args.g
+installed-still : (c : After-walk_path) → IsInstalled (seen_by c.args.chain.now.shape c.walk_path.new.seat) c.args.g
 installed-still c =
-    let law = c.steps_add_up.ensures in
     let chain = c.args.chain.now in
-    let plan = subst IsPlan c.shape.ensures c.known.ensures in
-    (made-stays law chain plan c.requires.own
-    (walked-to law chain plan c.requires.own c.requires.acts c.loop-i.invariant.walked c.walk_path.result c.walk_path.ensures.made)).installed
+    (made-stays chain c.requires.own
+    (walked-to chain c.requires.own c.requires.acts c.loop-i.invariant.walked c.walk_path.result c.walk_path.ensures.made)).installed
     c.args.g c.requires.reached.installed
 
-below-still : (c : After-walk_path) → HasBelow c.args.chain.now.shape (seen_by c.walk_path.new.seat) c.args.g c.args.key c.loop-i.below
+below-still : (c : After-walk_path) → HasBelow c.args.chain.now.shape (seen_by c.args.chain.now.shape c.walk_path.new.seat) c.args.g c.args.key c.loop-i.below
 below-still c =
-    let law = c.steps_add_up.ensures in
     let chain = c.args.chain.now in
-    let plan = subst IsPlan c.shape.ensures c.known.ensures in
-    let table = table-within c.linked.ensures chain c.args.seat.now plan c.requires.own c.known-2.ensures c.args.g c.requires.reached.installed in
-    let own = made-own law chain plan c.requires.own c.loop-i.invariant.walked.made in
-    below-lasts chain.shape _ _ (made-stays law chain plan own c.walk_path.ensures.made) c.args.g c.args.key table c.loop-i.below
+    let table = table-within chain c.args.seat.now c.requires.own c.args.g c.requires.reached.installed in
+    let own = made-own chain c.requires.own c.loop-i.invariant.walked.made in
+    below-lasts chain.shape _ _ (made-stays chain own c.walk_path.ensures.made) c.args.g c.args.key table c.loop-i.below
     c.loop-i.invariant.below
 
 pub leave_whole-requires-clause-installed : goal.leave_whole-requires-clause-installed
@@ -69,11 +62,10 @@ leave_whole-requires-clause-below c = below-still (goal.at.leave_whole-requires-
 
 pub returns-in-Whole-clause-made : goal.returns-in-Whole-clause-made
 returns-in-Whole-clause-made c =
-    let law = c.steps_add_up.ensures in
-    let plan = subst IsPlan c.shape.ensures c.known.ensures in
     let walked = c.loop-i.invariant.walked in
-    walked-whole law c.args.chain.now plan c.requires.own c.loop-i.invariant.within walked
-    (walked-to law c.args.chain.now plan c.requires.own c.requires.acts walked Whole c.in-Whole.ensures.made) c.leave_whole.ensures.made
+    walked-whole c.args.chain.now c.requires.own c.loop-i.invariant.within walked
+    (walked-to c.args.chain.now c.requires.own c.requires.acts walked Whole c.in-Whole.ensures.made) c.leave_whole.ensures.made
+
 
 pub settle_below-below-requires-clause-installed : goal.settle_below-below-requires-clause-installed
 settle_below-below-requires-clause-installed c = installed-still (goal.at.settle_below-below-requires-clause-installed c).After-walk_path
@@ -81,13 +73,11 @@ settle_below-below-requires-clause-installed c = installed-still (goal.at.settle
 -- the empty slot lies no nearer than the walk had come
 ahead : (c : In-Empty) → c.loop-i.from ≤ c.in-Empty.distance
 ahead c =
-    let law = c.steps_add_up.ensures in
     let chain = c.args.chain.now in
-    let plan = subst IsPlan c.shape.ensures c.known.ensures in
-    let table = table-within c.linked.ensures chain c.args.seat.now plan c.requires.own c.known-2.ensures c.args.g c.requires.reached.installed in
-    let own = made-own law chain plan c.requires.own c.loop-i.invariant.walked.made in
-    let lasting = made-stays law chain plan own c.walk_path.ensures.made in
-    empty-behind chain.shape (seen_by c.walk_path.new.seat) c.args.g c.args.key c.loop-i.from c.in-Empty.distance
+    let table = table-within chain c.args.seat.now c.requires.own c.args.g c.requires.reached.installed in
+    let own = made-own chain c.requires.own c.loop-i.invariant.walked.made in
+    let lasting = made-stays chain own c.walk_path.ensures.made in
+    empty-behind chain.shape (seen_by c.args.chain.now.shape c.walk_path.new.seat) c.args.g c.args.key c.loop-i.from c.in-Empty.distance
     (lasting.others c.args.g c.args.key c.loop-i.from table c.loop-i.invariant.others) c.in-Empty.ensures.ends.2
 
 -- what was done until a slot may be claimed
@@ -95,16 +85,13 @@ settled : (c : After-settle_below-below) → HasMade c.args.chain.now.shape c.ar
     (c.loop-i.invariant.walked.most + (c.in-Empty.distance + 1 - c.loop-i.from)
     + (owed_below c.args.chain.now.shape c.args.g c.loop-i.below - owed_below c.args.chain.now.shape c.args.g c.settle_below-below.result))
 settled c =
-    let law = c.steps_add_up.ensures in
-    let plan = subst IsPlan c.shape.ensures c.known.ensures in
-    made-more law c.args.chain.now plan c.requires.own
-    (walked-to law c.args.chain.now plan c.requires.own c.requires.acts c.loop-i.invariant.walked (Empty c.in-Empty.distance) c.in-Empty.ensures.made)
+    made-more c.args.chain.now c.requires.own
+    (walked-to c.args.chain.now c.requires.own c.requires.acts c.loop-i.invariant.walked (Empty c.in-Empty.distance) c.in-Empty.ensures.made)
     (c.settle_below-below.ensures.made c.args.call.now)
 
 pub claim_at-requires-clause-installed : goal.claim_at-requires-clause-installed
 claim_at-requires-clause-installed c =
-    let plan = subst IsPlan c.shape.ensures c.known.ensures in
-    (made-stays c.steps_add_up.ensures c.args.chain.now plan c.requires.own
+    (made-stays c.args.chain.now c.requires.own
     (settled (goal.at.claim_at-requires-clause-installed c).After-settle_below-below)).installed c.args.g c.requires.reached.installed
 
 pub claim_at-requires-clause-below : goal.claim_at-requires-clause-below
@@ -113,45 +100,39 @@ claim_at-requires-clause-below c =
 
 pub claim_at-requires-clause-others : goal.claim_at-requires-clause-others
 claim_at-requires-clause-others c =
-    let law = c.steps_add_up.ensures in
     let chain = c.args.chain.now in
-    let plan = subst IsPlan c.shape.ensures c.known.ensures in
-    let table = table-within c.linked.ensures chain c.args.seat.now plan c.requires.own c.known-2.ensures c.args.g c.requires.reached.installed in
-    let own = made-own law chain plan (made-own law chain plan c.requires.own c.loop-i.invariant.walked.made) c.walk_path.ensures.made in
-    (made-stays law chain plan own (c.settle_below-below.ensures.made c.args.call.now)).others c.args.g c.args.key c.in-Empty.distance table
+    let table = table-within chain c.args.seat.now c.requires.own c.args.g c.requires.reached.installed in
+    let own = made-own chain (made-own chain c.requires.own c.loop-i.invariant.walked.made) c.walk_path.ensures.made in
+    (made-stays chain own (c.settle_below-below.ensures.made c.args.call.now)).others c.args.g c.args.key c.in-Empty.distance table
     c.in-Empty.ensures.ends.1
 
 pub returns-in-Some-clause-made : goal.returns-in-Some-clause-made
 returns-in-Some-clause-made c =
-    let plan = subst IsPlan c.shape.ensures c.known.ensures in
-    walked-claimed c.steps_add_up.ensures c.args.chain.now plan c.settle_below-below.result c.in-Empty.distance c.requires.own
+    walked-claimed c.args.chain.now c.settle_below-below.result c.in-Empty.distance c.requires.own
     c.loop-i.invariant.within c.in-Empty.ensures.ends.0 c.settle_below-below.ensures.fewer c.loop-i.invariant.walked
     (settled (goal.at.returns-in-Some-clause-made c).After-settle_below-below) c.in-Some.ensures.found.0
 
 pub overflow_add-from : goal.overflow_add-from
 overflow_add-from c =
-    let plan = subst IsPlan c.shape.ensures c.known.ensures in
     let chain = c.args.chain.now in
-    let table = table-within c.linked.ensures chain c.args.seat.now plan c.requires.own c.known-2.ensures c.args.g c.requires.reached.installed in
-    omega (arith, behind-fits chain.shape plan c.args.g c.in-Empty.distance table c.in-Empty.ensures.ends.0)
+    let table = table-within chain c.args.seat.now c.requires.own c.args.g c.requires.reached.installed in
+    omega (arith, behind-fits chain.shape c.requires.own.plan c.args.g c.in-Empty.distance table c.in-Empty.ensures.ends.0)
 
 pub loop-i-smaller : goal.loop-i-smaller
 loop-i-smaller c = omega (arith, ahead (goal.at.loop-i-smaller c).In-Empty, c.in-Empty.ensures.ends.0)
 
 pub loop-i-preserved : goal.loop-i-preserved
 loop-i-preserved c =
-    let law = c.steps_add_up.ensures in
     let chain = c.args.chain.now in
-    let plan = subst IsPlan c.shape.ensures c.known.ensures in
-    let table = table-within c.linked.ensures chain c.args.seat.now plan c.requires.own c.known-2.ensures c.args.g c.requires.reached.installed in
+    let table = table-within chain c.args.seat.now c.requires.own c.args.g c.requires.reached.installed in
     let near : c.in-Empty.distance < size_of chain.shape c.args.g = c.in-Empty.ensures.ends.0 in
     let lost = c.in-None.ensures.other in
     let has = c.settle_below-below.ensures.below c.args.key (below-still (goal.at.loop-i-preserved c).After-walk_path) in
     record {
-      walked = walked-behind law chain plan c.settle_below-below.result c.in-Empty.distance c.requires.own (ahead (goal.at.loop-i-preserved c).In-Empty)
+      walked = walked-behind chain c.settle_below-below.result c.in-Empty.distance c.requires.own (ahead (goal.at.loop-i-preserved c).In-Empty)
           c.settle_below-below.ensures.fewer c.loop-i.invariant.walked (settled (goal.at.loop-i-preserved c).After-settle_below-below) lost.0;
       within = omega (arith, near);
       others = lost.1;
-      below = below-lasts chain.shape _ _ (made-stays law chain plan c.settle_below-below.ensures.own lost.0) c.args.g c.args.key table
+      below = below-lasts chain.shape _ _ (made-stays chain c.settle_below-below.ensures.own lost.0) c.args.g c.args.key table
           c.settle_below-below.result has;
     }

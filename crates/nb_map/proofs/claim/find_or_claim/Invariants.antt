@@ -10,8 +10,8 @@ abbrev pub invariant-loop-i : goal.invariant-loop-i
 invariant-loop-i l = record {
   walked : HasWalked l.chain.shape l.call l.fn.seat l.seat l.g l.from l.below;
   within : l.from ≤ size_of l.chain.shape l.g;
-  others : AreOthers l.chain.shape (seen_by l.seat) l.g l.key l.from;
-  below : HasBelow l.chain.shape (seen_by l.seat) l.g l.key l.below;
+  others : AreOthers l.chain.shape (seen_by l.chain.shape l.seat) l.g l.key l.from;
+  below : HasBelow l.chain.shape (seen_by l.chain.shape l.seat) l.g l.key l.below;
 }
 
 abbrev pub decreases-loop-i : goal.decreases-loop-i

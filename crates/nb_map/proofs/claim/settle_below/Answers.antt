@@ -4,7 +4,7 @@ use Rattle.nb_map.proofs.claim.settle_below.Goals as goal
 
 pub returns : goal.returns
 returns c = record {
-  made = λ call. made-within 0 _ (omega arith) (made-none c.steps_add_up.ensures c.args.chain.now.shape call c.args.seat.now c.known.ensures);
+  made = λ call. made-within 0 _ (omega arith) (made-none c.args.chain.now call c.args.seat.now c.requires.own);
   own = c.requires.own;
   fewer = omega arith;
   below = λ key known. known;

@@ -12,7 +12,7 @@ loop-seat-preserved c = (
   tt,
   tt,
   subst₂ (IsParting _ _) (sym c.push_reserved.ensures.items) (sym c.push_reserved-in-loop-seat.ensures.items)
-      (parting-more _ _ _ _ _ _ _ _ c.loop-seat.invariant.2 c.in-Some.ensures.steps.0 (sym c.seat.view_is) c.seat.invariant.counted),
+      (parting-more _ _ _ _ _ _ _ _ c.loop-seat.invariant.2 c.in-Some.ensures.steps.0 (sym c.seat.view_is)),
   omega (arith, c.loop-seat.invariant.3, c.push_reserved.ensures.capacity),
   omega (arith, c.loop-seat.invariant.4, c.push_reserved-in-loop-seat.ensures.capacity),
 )

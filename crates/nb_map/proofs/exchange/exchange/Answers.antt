@@ -6,40 +6,39 @@ use Rattle.nb_table.specs.Chains.{seen_by}
 use Rattle.nb_map.specs.Calling.{HasMade}
 use Rattle.nb_map.specs.Searching.{IsAbove, pass_steps}
 use Rattle.nb_map.specs.Writing.{IsDecided, exchange_steps}
-use Rattle.nb_map.proofs.Exchanged.{enough-above, enough-here, looked, lost-more, made-won, none-is, none-of, not-same, passed-still, reached-settled, read-acting, read-left, read-primed, shown-decided, shown-none, shown-some, some-shown, stands}
+use Rattle.nb_map.proofs.Exchanged.{enough-above, enough-here, looked, lost-more, made-won, none-is, none-of, not-same, passed-still, reached-settled, read-acting, read-left, read-primed, shown-decided, shown-none, shown-some, some-shown, still-stands}
 use Rattle.nb_map.proofs.Made.{made-more, made-none, made-own, made-quiet, made-within}
 use Rattle.nb_map.proofs.exchange.exchange.Goals as goal
+use Rattle.nb_table.proofs.Theorems.{steps_add_up}
 
 pub loop-lost-init : goal.loop-lost-init
 loop-lost-init g c = (
-  made-within 0 (2 * 0) (omega arith) (made-none c.steps_add_up.ensures c.args.chain.now.shape c.args.call.now c.args.seat.now c.known-2.ensures),
+  made-within 0 (2 * 0) (omega arith) (made-none c.args.chain.now c.args.call.now c.args.seat.now c.requires.own),
   omega arith,
   c.requires.serves,
 )
 
 pub load_value-from-requires-clause-own : goal.load_value-from-requires-clause-own
 load_value-from-requires-clause-own g c =
-    made-own c.steps_add_up.ensures c.args.chain.now (subst IsPlan c.shape.ensures c.known.ensures) c.requires.own c.loop-lost.invariant.0
+    made-own c.args.chain.now c.requires.own c.loop-lost.invariant.0
 
 pub load_value-from-requires-clause-reached : goal.load_value-from-requires-clause-reached
 load_value-from-requires-clause-reached g c =
-    (stands c.steps_add_up.ensures c.args.chain.now (subst IsPlan c.shape.ensures c.known.ensures) c.requires.own c.loop-lost.invariant.0
+    (still-stands c.args.chain.now c.requires.own c.loop-lost.invariant.0
     c.args.g c.args.i c.args.key c.requires.key c.requires.slot c.requires.claimed c.requires.reached).1
 
 pub load_value-from-requires-clause-claimed : goal.load_value-from-requires-clause-claimed
 load_value-from-requires-clause-claimed g c =
-    (stands c.steps_add_up.ensures c.args.chain.now (subst IsPlan c.shape.ensures c.known.ensures) c.requires.own c.loop-lost.invariant.0
+    (still-stands c.args.chain.now c.requires.own c.loop-lost.invariant.0
     c.args.g c.args.i c.args.key c.requires.key c.requires.slot c.requires.claimed c.requires.reached).0
 
 -- ---- a value that is primed already
 
 pub pass_slot-requires-clause-own : goal.pass_slot-requires-clause-own
 pass_slot-requires-clause-own g c =
-    let law = c.steps_add_up.ensures in
     let chain = c.args.chain.now in
-    let plan = subst IsPlan c.shape.ensures c.known.ensures in
-    made-own law chain plan c.requires.own
-    (looked law chain plan c.load_value-from.result c.requires.own c.loop-lost.invariant.0 c.load_value-from.ensures.grows)
+    made-own chain c.requires.own
+    (looked chain c.load_value-from.result c.requires.own c.loop-lost.invariant.0 c.load_value-from.ensures.grows)
 
 pub pass_slot-requires-clause-primed : goal.pass_slot-requires-clause-primed
 pass_slot-requires-clause-primed g c =
@@ -47,36 +46,32 @@ pass_slot-requires-clause-primed g c =
 
 pub returns-in_default-clause-made : goal.returns-in_default-clause-made
 returns-in_default-clause-made g c =
-    let law = c.steps_add_up.ensures in
     let chain = c.args.chain.now in
     let p = chain.shape in
     let lost = c.loop-lost.lost in
     let pass = pass_steps p c.args.g in
-    let plan = subst IsPlan c.shape.ensures c.known.ensures in
     let none = sym c.shown.ensures ∙ none-of c.shown.result c.in_default.not-Some in
-    let look = looked law chain plan c.load_value-from.result c.requires.own c.loop-lost.invariant.0 c.load_value-from.ensures.grows in
+    let look = looked chain c.load_value-from.result c.requires.own c.loop-lost.invariant.0 c.load_value-from.ensures.grows in
     let quiet = subst (λ made. HasMade p c.args.call.now c.args.seat.now c.load_value-from.new.seat made (2 * lost + 1))
     (read-primed c.args.call.now c.load_value-from.result none) look in
     let enough = enough-above lost c.args.tries pass c.loop-lost-test.true in
     made-within (2 * lost + 1 + pass) (exchange_steps p c.args.g (c.args.tries - (c.args.tries - lost))) (omega (arith, enough))
-    (made-more law chain plan c.requires.own quiet (c.pass_slot.ensures.made c.args.call.now))
+    (made-more chain c.requires.own quiet (c.pass_slot.ensures.made c.args.call.now))
 
 pub returns-in_default-clause-written : goal.returns-in_default-clause-written
 returns-in_default-clause-written g c =
-    let law = c.steps_add_up.ensures in
     let chain = c.args.chain.now in
-    let plan = subst IsPlan c.shape.ensures c.known.ensures in
     let so_far = c.loop-lost.invariant in
     let below = c.loop-lost-test.true in
-    let look = looked law chain plan c.load_value-from.result c.requires.own so_far.0 c.load_value-from.ensures.grows in
-    let found = stands law chain plan c.requires.own look c.args.g c.args.i c.args.key c.requires.key
+    let look = looked chain c.load_value-from.result c.requires.own so_far.0 c.load_value-from.ensures.grows in
+    let found = still-stands chain c.requires.own look c.args.g c.args.i c.args.key c.requires.key
     c.requires.slot c.requires.claimed c.requires.reached in
     let pass = c.pass_slot.ensures.made c.args.call.now in
-    let steps = made-more law chain plan c.requires.own look pass in
-    let here = stands law chain plan c.requires.own steps c.args.g c.args.i c.args.key c.requires.key
+    let steps = made-more chain c.requires.own look pass in
+    let here = still-stands chain c.requires.own steps c.args.g c.args.i c.args.key c.requires.key
     c.requires.slot c.requires.claimed c.requires.reached in
-    let passed = passed-still c.passed_over_adds.ensures c.args.call.now c.loop-lost.lost so_far.0.grown
-    (law.more (law.one c.load_value-from.ensures.grows) pass.grown) so_far.1 in (
+    let passed = passed-still c.args.call.now c.loop-lost.lost so_far.0.grown
+    (steps_add_up.more (steps_add_up.one c.load_value-from.ensures.grows) pass.grown) so_far.1 in (
       c.pass_slot.ensures.passed (key_of_call c.args.call.now) found.0,
       record { slot = c.args.i; in_table = c.requires.slot.1; is = here.0 },
       omega (arith, below),
@@ -91,13 +86,11 @@ returns-in_default-clause-serves g c = c.loop-lost.invariant.2
 
 pub returns-in-Leave-clause-made : goal.returns-in-Leave-clause-made
 returns-in-Leave-clause-made g c =
-    let law = c.steps_add_up.ensures in
     let chain = c.args.chain.now in
     let p = chain.shape in
     let lost = c.loop-lost.lost in
-    let plan = subst IsPlan c.shape.ensures c.known.ensures in
     let left = subst (IsDecided c.args.call.now c.in-Some.number) c.in-Leave.is c.decide.ensures in
-    let look = looked law chain plan c.load_value-from.result c.requires.own c.loop-lost.invariant.0 c.load_value-from.ensures.grows in
+    let look = looked chain c.load_value-from.result c.requires.own c.loop-lost.invariant.0 c.load_value-from.ensures.grows in
     let enough = enough-here lost c.args.tries (pass_steps p c.args.g) c.loop-lost.auto.lost-end in
     made-within (2 * lost + 1) (exchange_steps p c.args.g c.args.tries) (omega (arith, enough))
     (subst (λ made. HasMade p c.args.call.now c.args.seat.now c.load_value-from.new.seat made (2 * lost + 1))
@@ -108,13 +101,11 @@ returns-in-Leave-clause-serves g c = c.loop-lost.invariant.2
 
 pub returns-in-Overflow-clause-made : goal.returns-in-Overflow-clause-made
 returns-in-Overflow-clause-made g c =
-    let law = c.steps_add_up.ensures in
     let chain = c.args.chain.now in
     let p = chain.shape in
     let lost = c.loop-lost.lost in
-    let plan = subst IsPlan c.shape.ensures c.known.ensures in
     let refused = subst (IsDecided c.args.call.now c.in-Some.number) c.in-Overflow.is c.decide.ensures in
-    let look = looked law chain plan c.load_value-from.result c.requires.own c.loop-lost.invariant.0 c.load_value-from.ensures.grows in
+    let look = looked chain c.load_value-from.result c.requires.own c.loop-lost.invariant.0 c.load_value-from.ensures.grows in
     let enough = enough-here lost c.args.tries (pass_steps p c.args.g) c.loop-lost.auto.lost-end in
     made-within (2 * lost + 1) (exchange_steps p c.args.g c.args.tries) (omega (arith, enough))
     (subst (λ made. HasMade p c.args.call.now c.args.seat.now c.load_value-from.new.seat made (2 * lost + 1))
@@ -122,17 +113,15 @@ returns-in-Overflow-clause-made g c =
 
 pub returns-in-Overflow-clause-written : goal.returns-in-Overflow-clause-written
 returns-in-Overflow-clause-written g c =
-    let law = c.steps_add_up.ensures in
     let chain = c.args.chain.now in
-    let plan = subst IsPlan c.shape.ensures c.known.ensures in
     let seat = c.load_value-from.new.seat in
     let refused = subst (IsDecided c.args.call.now c.in-Some.number) c.in-Overflow.is c.decide.ensures in
-    let look = looked law chain plan c.load_value-from.result c.requires.own c.loop-lost.invariant.0 c.load_value-from.ensures.grows in
-    let here = stands law chain plan c.requires.own look c.args.g c.args.i c.args.key c.requires.key
+    let look = looked chain c.load_value-from.result c.requires.own c.loop-lost.invariant.0 c.load_value-from.ensures.grows in
+    let here = still-stands chain c.requires.own look c.args.g c.args.i c.args.key c.requires.key
     c.requires.slot c.requires.claimed c.requires.reached in
     refused.1 _
-    (shown-decided c.decided.ensures chain seat plan (made-own law chain plan c.requires.own look)
-    c.load_value-from.ensures.grows.legal c.args.g c.args.i
+    (shown-decided chain seat (made-own chain c.requires.own look)
+    c.args.g c.args.i
     (key_of_call c.args.call.now) c.requires.slot here.1 here.0 c.load_value-from.result c.in-Some.number c.load_value-from.ensures.found
     (sym c.shown.ensures ∙ c.in-Some.is))
 
@@ -146,19 +135,15 @@ before_exchange-requires g c = record { serves = c.loop-lost.invariant.2 }
 
 pub win_value-found-requires-clause-own : goal.win_value-found-requires-clause-own
 win_value-found-requires-clause-own g c =
-    let law = c.steps_add_up.ensures in
     let chain = c.args.chain.now in
-    let plan = subst IsPlan c.shape.ensures c.known.ensures in
-    made-own law chain plan c.requires.own
-    (looked law chain plan c.load_value-from.result c.requires.own c.loop-lost.invariant.0 c.load_value-from.ensures.grows)
+    made-own chain c.requires.own
+    (looked chain c.load_value-from.result c.requires.own c.loop-lost.invariant.0 c.load_value-from.ensures.grows)
 
 pub win_value-found-requires-clause-claimed : goal.win_value-found-requires-clause-claimed
 win_value-found-requires-clause-claimed g c =
-    let law = c.steps_add_up.ensures in
     let chain = c.args.chain.now in
-    let plan = subst IsPlan c.shape.ensures c.known.ensures in
-    let look = looked law chain plan c.load_value-from.result c.requires.own c.loop-lost.invariant.0 c.load_value-from.ensures.grows in
-    (stands law chain plan c.requires.own look c.args.g c.args.i c.args.key c.requires.key c.requires.slot c.requires.claimed c.requires.reached).0
+    let look = looked chain c.load_value-from.result c.requires.own c.loop-lost.invariant.0 c.load_value-from.ensures.grows in
+    (still-stands chain c.requires.own look c.args.g c.args.i c.args.key c.requires.key c.requires.slot c.requires.claimed c.requires.reached).0
 
 pub win_value-found-requires-clause-unprimed : goal.win_value-found-requires-clause-unprimed
 win_value-found-requires-clause-unprimed g c =
@@ -166,14 +151,12 @@ win_value-found-requires-clause-unprimed g c =
 
 pub win_value-found-requires-clause-settled : goal.win_value-found-requires-clause-settled
 win_value-found-requires-clause-settled g c =
-    let law = c.steps_add_up.ensures in
     let chain = c.args.chain.now in
-    let plan = subst IsPlan c.shape.ensures c.known.ensures in
-    let look = looked law chain plan c.load_value-from.result c.requires.own c.loop-lost.invariant.0 c.load_value-from.ensures.grows in
-    let here = stands law chain plan c.requires.own look c.args.g c.args.i c.args.key c.requires.key
+    let look = looked chain c.load_value-from.result c.requires.own c.loop-lost.invariant.0 c.load_value-from.ensures.grows in
+    let here = still-stands chain c.requires.own look c.args.g c.args.i c.args.key c.requires.key
     c.requires.slot c.requires.claimed c.requires.reached in
-    reached-settled c.passed_settled.ensures chain c.load_value-from.new.seat plan (made-own law chain plan c.requires.own look)
-    c.load_value-from.ensures.grows.legal c.args.g (key_of_call c.args.call.now) c.requires.slot.0 here.1
+    reached-settled chain c.load_value-from.new.seat (made-own chain c.requires.own look)
+    c.args.g (key_of_call c.args.call.now) c.requires.slot.0 here.1
 
 pub win_value-found-requires-clause-exchange : goal.win_value-found-requires-clause-exchange
 win_value-found-requires-clause-exchange g c =
@@ -182,22 +165,20 @@ win_value-found-requires-clause-exchange g c =
 
 pub returns-then-eq-clause-made : goal.returns-then-eq-clause-made
 returns-then-eq-clause-made g c =
-    let law = c.steps_add_up.ensures in
     let chain = c.args.chain.now in
     let p = chain.shape in
     let lost = c.loop-lost.lost in
-    let plan = subst IsPlan c.shape.ensures c.known.ensures in
     let shows = sym c.shown.ensures ∙ c.in-Some.is in
     let acts = (subst (IsDecided c.args.call.now c.in-Some.number) c.in-Exchange.is c.decide.ensures).0 in
     let same : c.win_value-found.result ≡ c.load_value-from.result = search rules in
     let won = c.win_value-found.ensures.won same in
-    let look = looked law chain plan c.load_value-from.result c.requires.own c.loop-lost.invariant.0 c.load_value-from.ensures.grows in
+    let look = looked chain c.load_value-from.result c.requires.own c.loop-lost.invariant.0 c.load_value-from.ensures.grows in
     let quiet = subst (λ made. HasMade p c.args.call.now c.args.seat.now c.load_value-from.new.seat made (2 * lost + 1))
     (read-acting c.args.call.now c.load_value-from.result c.in-Some.number shows acts) look in
     let enough = enough-here lost c.args.tries (pass_steps p c.args.g) c.loop-lost.auto.lost-end in
     made-within (2 * lost + 1 + 1) (exchange_steps p c.args.g c.args.tries) (omega (arith, enough))
-    (made-more law chain plan c.requires.own quiet
-    (made-won law chain plan c.in-Some.number (shown-some c.load_value-from.result c.in-Some.number shows).1 won.0))
+    (made-more chain c.requires.own quiet
+    (made-won chain c.in-Some.number (shown-some c.load_value-from.result c.in-Some.number shows).1 won.0))
 
 pub returns-then-eq-clause-serves : goal.returns-then-eq-clause-serves
 returns-then-eq-clause-serves g c = c.before_exchange.ensures.serves
@@ -206,12 +187,10 @@ returns-then-eq-clause-serves g c = c.before_exchange.ensures.serves
 
 pub pass_slot-requires-then-is_none-clause-own : goal.pass_slot-requires-then-is_none-clause-own
 pass_slot-requires-then-is_none-clause-own g c =
-    let law = c.steps_add_up.ensures in
     let chain = c.args.chain.now in
-    let plan = subst IsPlan c.shape.ensures c.known.ensures in
     let differs = not-same c.win_value-found.result c.load_value-from.result (sym c.eq.ensures ∙ c.if-eq.false) in
-    let look = looked law chain plan c.load_value-from.result c.requires.own c.loop-lost.invariant.0 c.load_value-from.ensures.grows in
-    law.own (made-own law chain plan c.requires.own look) (law.one (c.win_value-found.ensures.lost differs).0)
+    let look = looked chain c.load_value-from.result c.requires.own c.loop-lost.invariant.0 c.load_value-from.ensures.grows in
+    steps_add_up.own (made-own chain c.requires.own look) (steps_add_up.one (c.win_value-found.ensures.lost differs).0)
 
 pub pass_slot-requires-then-is_none-clause-primed : goal.pass_slot-requires-then-is_none-clause-primed
 pass_slot-requires-then-is_none-clause-primed g c =
@@ -224,36 +203,32 @@ pass_slot-requires-then-is_none-clause-held g c =
 
 pub returns-then-is_none-clause-made : goal.returns-then-is_none-clause-made
 returns-then-is_none-clause-made g c =
-    let law = c.steps_add_up.ensures in
     let chain = c.args.chain.now in
     let p = chain.shape in
     let lost = c.loop-lost.lost in
     let pass = pass_steps p c.args.g in
-    let plan = subst IsPlan c.shape.ensures c.known.ensures in
     let acts = (subst (IsDecided c.args.call.now c.in-Some.number) c.in-Exchange.is c.decide.ensures).0 in
     let differs = not-same c.win_value-found.result c.load_value-from.result (sym c.eq.ensures ∙ c.if-eq.false) in
-    let look = looked law chain plan c.load_value-from.result c.requires.own c.loop-lost.invariant.0 c.load_value-from.ensures.grows in
+    let look = looked chain c.load_value-from.result c.requires.own c.loop-lost.invariant.0 c.load_value-from.ensures.grows in
     let quiet = subst (λ made. HasMade p c.args.call.now c.args.seat.now c.load_value-from.new.seat made (2 * lost + 1))
     (read-acting c.args.call.now c.load_value-from.result c.in-Some.number (sym c.shown.ensures ∙ c.in-Some.is) acts) look in
-    let steps = made-more law chain plan c.requires.own quiet (made-quiet law p c.args.call.now (c.win_value-found.ensures.lost differs).0) in
+    let steps = made-more chain c.requires.own quiet (made-quiet p c.args.call.now (c.win_value-found.ensures.lost differs).0) in
     let enough = enough-above lost c.args.tries pass c.loop-lost-test.true in
     made-within (2 * lost + 1 + 1 + pass) (exchange_steps p c.args.g (c.args.tries - (c.args.tries - lost))) (omega (arith, enough))
-    (made-more law chain plan c.requires.own steps (c.pass_slot-then-is_none.ensures.made c.args.call.now))
+    (made-more chain c.requires.own steps (c.pass_slot-then-is_none.ensures.made c.args.call.now))
 
 pub returns-then-is_none-clause-written : goal.returns-then-is_none-clause-written
 returns-then-is_none-clause-written g c =
-    let law = c.steps_add_up.ensures in
     let chain = c.args.chain.now in
-    let plan = subst IsPlan c.shape.ensures c.known.ensures in
     let so_far = c.loop-lost.invariant in
     let below = c.loop-lost-test.true in
     let differs = not-same c.win_value-found.result c.load_value-from.result (sym c.eq.ensures ∙ c.if-eq.false) in
-    let lost = law.one (c.win_value-found.ensures.lost differs).0 in
-    let then = law.more (law.one c.load_value-from.ensures.grows) (law.more lost (c.pass_slot-then-is_none.ensures.made c.args.call.now).grown) in
-    let lasting = law.stays plan c.requires.own (law.more so_far.0.grown then) in
-    let found = law.stays plan c.requires.own (law.more so_far.0.grown (law.more (law.one c.load_value-from.ensures.grows) lost)) in
-    let passed = passed-still c.passed_over_adds.ensures c.args.call.now c.loop-lost.lost so_far.0.grown then so_far.1 in (
-      subst (λ k. IsAbove chain.shape (seen_by c.pass_slot-then-is_none.new.seat) c.args.g k) (sym c.requires.key)
+    let lost = steps_add_up.one (c.win_value-found.ensures.lost differs).0 in
+    let then = steps_add_up.more (steps_add_up.one c.load_value-from.ensures.grows) (steps_add_up.more lost (c.pass_slot-then-is_none.ensures.made c.args.call.now).grown) in
+    let lasting = steps_add_up.stays c.requires.own (steps_add_up.more so_far.0.grown then) in
+    let found = steps_add_up.stays c.requires.own (steps_add_up.more so_far.0.grown (steps_add_up.more (steps_add_up.one c.load_value-from.ensures.grows) lost)) in
+    let passed = passed-still c.args.call.now c.loop-lost.lost so_far.0.grown then so_far.1 in (
+      subst (λ k. IsAbove chain.shape (seen_by c.args.chain.now.shape c.pass_slot-then-is_none.new.seat) c.args.g k) (sym c.requires.key)
           (c.pass_slot-then-is_none.ensures.passed c.args.key (found.claimed c.args.g c.args.i c.args.key c.requires.slot c.requires.claimed)),
       record {
         slot = c.args.i;
@@ -272,28 +247,26 @@ returns-then-is_none-clause-serves g c = c.before_exchange.ensures.serves
 
 pub loop-lost-preserved : goal.loop-lost-preserved
 loop-lost-preserved g c =
-    let law = c.steps_add_up.ensures in
     let chain = c.args.chain.now in
     let p = chain.shape in
     let lost = c.loop-lost.lost in
     let so_far = c.loop-lost.invariant in
-    let plan = subst IsPlan c.shape.ensures c.known.ensures in
     let acts = (subst (IsDecided c.args.call.now c.in-Some.number) c.in-Exchange.is c.decide.ensures).0 in
     let differs = not-same c.win_value-found.result c.load_value-from.result (sym c.eq.ensures ∙ c.if-eq.false) in
     let other = c.win_value-found.ensures.lost differs in
-    let look = looked law chain plan c.load_value-from.result c.requires.own so_far.0 c.load_value-from.ensures.grows in
+    let look = looked chain c.load_value-from.result c.requires.own so_far.0 c.load_value-from.ensures.grows in
     let quiet = subst (λ made. HasMade p c.args.call.now c.args.seat.now c.load_value-from.new.seat made (2 * lost + 1))
     (read-acting c.args.call.now c.load_value-from.result c.in-Some.number (sym c.shown.ensures ∙ c.in-Some.is) acts) look in
-    let here = stands law chain plan c.requires.own look c.args.g c.args.i c.args.key c.requires.key
+    let here = still-stands chain c.requires.own look c.args.g c.args.i c.args.key c.requires.key
     c.requires.slot c.requires.claimed c.requires.reached in
-    let settled = reached-settled c.passed_settled.ensures chain c.load_value-from.new.seat plan (made-own law chain plan c.requires.own look)
-    c.load_value-from.ensures.grows.legal c.args.g (key_of_call c.args.call.now) c.requires.slot.0 here.1 in
+    let settled = reached-settled chain c.load_value-from.new.seat (made-own chain c.requires.own look)
+    c.args.g (key_of_call c.args.call.now) c.requires.slot.0 here.1 in
     let unprimed = some-shown c.win_value-found.result (sym (ap is_some c.shown-in-Exchange.ensures) ∙ c.if-is_none.ensures) in (
       made-within (2 * lost + 1 + 1) (2 * (lost + 1)) (omega arith)
-          (made-more law chain plan c.requires.own quiet (made-quiet law p c.args.call.now other.0)),
-      lost-more law chain plan c.lost_exchange.ensures c.passed_over_adds.ensures lost c.args.g c.args.i c.win_value-found.result c.requires.own look
+          (made-more chain c.requires.own quiet (made-quiet p c.args.call.now other.0)),
+      lost-more chain lost c.args.g c.args.i c.win_value-found.result c.requires.own look
           other.0 c.requires.slot here.0 settled other.1 unprimed (λ same. differs (same ∙ c.load_value-from.ensures.found))
-          (passed-still c.passed_over_adds.ensures c.args.call.now lost so_far.0.grown (law.one c.load_value-from.ensures.grows) so_far.1),
+          (passed-still c.args.call.now lost so_far.0.grown (steps_add_up.one c.load_value-from.ensures.grows) so_far.1),
       c.before_exchange.ensures.serves,
     )
 

@@ -11,6 +11,6 @@ use Rattle.nb_map.proofs.get.get_from.Given as goal
 abbrev pub invariant-loop-g : goal.invariant-loop-g
 invariant-loop-g l =
     HasMade l.chain.shape (call.Get l.key) l.fn.seat l.seat [] (looked_below l.chain.shape l.g)
-    × IsReached l.chain.shape (seen_by l.seat) l.g l.key
+    × IsReached l.chain.shape (seen_by l.chain.shape l.seat) l.g l.key
     × (l.from < size_of l.chain.shape l.g)
-    × AreOthers l.chain.shape (seen_by l.seat) l.g l.key l.from
+    × AreOthers l.chain.shape (seen_by l.chain.shape l.seat) l.g l.key l.from

@@ -8,27 +8,24 @@ use Rattle.nb_map.proofs.Bounds.{get-bound}
 use Rattle.nb_map.proofs.Made.{made-more, made-own, made-quiet, made-stays, made-within}
 use Rattle.nb_map.proofs.Searched.{away-lasts, not-both, reached-lasts, reached-top, table-within}
 use Rattle.nb_map.proofs.get.get_in.Goals as goal
+use Rattle.nb_table.proofs.Theorems.{steps_add_up}
 
 pub glance_in-requires : goal.glance_in-requires
 glance_in-requires c =
-    let law = c.steps_add_up.ensures in
     let chain = c.args.chain.now in
-    let plan = subst IsPlan c.shape.ensures c.known.ensures in
-    let own = law.own c.requires.own (law.one c.load_top-top.ensures.grows) in
+    let own = steps_add_up.own c.requires.own (steps_add_up.one c.load_top-top.ensures.grows) in
     record {
       own = own;
-      reached = reached-top c.linked.ensures c.top_complete.ensures c.complete_passed.ensures chain c.load_top-top.new.seat plan own
-          c.load_top-top.ensures.grows.legal c.args.key c.load_top-top.result c.load_top-top.ensures.found;
+      reached = reached-top chain c.load_top-top.new.seat own
+          c.args.key c.load_top-top.result c.load_top-top.ensures.found;
     }
 
 pub returns-in-Shows : goal.returns-in-Shows
 returns-in-Shows c =
-    let law = c.steps_add_up.ensures in
     let chain = c.args.chain.now in
     let p = chain.shape in
-    let plan = subst IsPlan c.shape.ensures c.known.ensures in
-    let bound = get-bound c.sizes_never_fall.ensures p plan (generations_of p) (le_refl (generations_of p)) in
-    let glanced = made-more law chain plan c.requires.own (made-quiet law p (call.Get c.args.key) c.load_top-top.ensures.grows)
+    let bound = get-bound p c.requires.own.plan (generations_of p) (le_refl (generations_of p)) in
+    let glanced = made-more chain c.requires.own (made-quiet p (call.Get c.args.key) c.load_top-top.ensures.grows)
     c.in-Shows.ensures.made in
     record {
       made = made-within 3 (get_steps p) (omega (arith, bound)) glanced;
@@ -37,45 +34,40 @@ returns-in-Shows c =
 
 pub get_from-requires : goal.get_from-requires
 get_from-requires c =
-    let law = c.steps_add_up.ensures in
     let chain = c.args.chain.now in
     let p = chain.shape in
-    let plan = subst IsPlan c.shape.ensures c.known.ensures in
-    let own = law.own c.requires.own (law.one c.load_top-top.ensures.grows) in
-    let reached = reached-top c.linked.ensures c.top_complete.ensures c.complete_passed.ensures chain c.load_top-top.new.seat plan own
-    c.load_top-top.ensures.grows.legal c.args.key c.load_top-top.result c.load_top-top.ensures.found in
-    let table = table-within c.linked.ensures chain c.load_top-top.new.seat plan own c.load_top-top.ensures.grows.legal c.load_top-top.result reached.installed in
+    let own = steps_add_up.own c.requires.own (steps_add_up.one c.load_top-top.ensures.grows) in
+    let reached = reached-top chain c.load_top-top.new.seat own
+    c.args.key c.load_top-top.result c.load_top-top.ensures.found in
+    let table = table-within chain c.load_top-top.new.seat own c.load_top-top.result reached.installed in
     record {
-      own = made-own law chain plan own c.in-From.ensures.made;
-      reached = reached-lasts p _ _ (made-stays law chain plan own c.in-From.ensures.made) c.load_top-top.result c.args.key table reached;
+      own = made-own chain own c.in-From.ensures.made;
+      reached = reached-lasts p _ _ (made-stays chain own c.in-From.ensures.made) c.load_top-top.result c.args.key table reached;
       near = c.in-From.ensures.glance.0;
       others = c.in-From.ensures.glance.1;
     }
 
 pub returns-in-From : goal.returns-in-From
 returns-in-From c =
-    let law = c.steps_add_up.ensures in
     let chain = c.args.chain.now in
     let p = chain.shape in
-    let plan = subst IsPlan c.shape.ensures c.known.ensures in
     let get = call.Get c.args.key in
-    let bound = get-bound c.sizes_never_fall.ensures p plan (generations_of p) (le_refl (generations_of p)) in
-    let glanced = made-more law chain plan c.requires.own (made-quiet law p get c.load_top-top.ensures.grows) c.in-From.ensures.made in
-    let then = law.own c.requires.own (law.one c.load_top-top.ensures.grows) in
-    let reached = reached-top c.linked.ensures c.top_complete.ensures c.complete_passed.ensures chain c.load_top-top.new.seat plan then
-    c.load_top-top.ensures.grows.legal c.args.key c.load_top-top.result c.load_top-top.ensures.found in
-    let table = table-within c.linked.ensures chain c.load_top-top.new.seat plan then c.load_top-top.ensures.grows.legal c.load_top-top.result reached.installed in
-    let first = law.stays plan c.requires.own (law.one c.load_top-top.ensures.grows) in
-    let second = made-stays law chain plan then c.in-From.ensures.made in
-    let third = made-stays law chain plan (made-own law chain plan then c.in-From.ensures.made) c.get_from.ensures.made in
+    let bound = get-bound p c.requires.own.plan (generations_of p) (le_refl (generations_of p)) in
+    let glanced = made-more chain c.requires.own (made-quiet p get c.load_top-top.ensures.grows) c.in-From.ensures.made in
+    let then = steps_add_up.own c.requires.own (steps_add_up.one c.load_top-top.ensures.grows) in
+    let reached = reached-top chain c.load_top-top.new.seat then c.args.key c.load_top-top.result c.load_top-top.ensures.found in
+    let table = table-within chain c.load_top-top.new.seat then c.load_top-top.result reached.installed in
+    let first = steps_add_up.stays c.requires.own (steps_add_up.one c.load_top-top.ensures.grows) in
+    let second = made-stays chain then c.in-From.ensures.made in
+    let third = made-stays chain (made-own chain then c.in-From.ensures.made) c.get_from.ensures.made in
     record {
       made = made-within (1 + 2 + looked_below p (generations_of p)) (get_steps p) (omega (arith, bound))
-          (made-more law chain plan c.requires.own glanced c.get_from.ensures.made);
+          (made-more chain c.requires.own glanced c.get_from.ensures.made);
       three_steps = λ home.
-          let same : (seen_by c.get_from.new.seat).top ≡ c.load_top-top.result =
+          let same : (seen_by c.args.chain.now.shape c.get_from.new.seat).top ≡ c.load_top-top.result =
           omega (arith, home.0, first.top, second.top, third.top, c.load_top-top.ensures.found) in
           absurd
-          (not-both p (seen_by c.get_from.new.seat) c.load_top-top.result c.args.key
+          (not-both p (seen_by c.args.chain.now.shape c.get_from.new.seat) c.load_top-top.result c.args.key
           (away-lasts p _ _ third c.load_top-top.result c.args.key table c.in-From.ensures.glance.2)
-          (subst (λ g. IsAtHome p (seen_by c.get_from.new.seat) g c.args.key) same home.1));
+          (subst (λ g. IsAtHome p (seen_by c.args.chain.now.shape c.get_from.new.seat) g c.args.key) same home.1));
     }

@@ -9,14 +9,22 @@ use Rattle.nb_table.specs.Events.{read, shown_by_value}
 use Rattle.nb_map.proofs.Made.{made-quiet, made-read}
 use Rattle.nb_map.proofs.Searched.{is-primed, others-none, shown-primed}
 use Rattle.nb_map.proofs.get.glance_at.Goals as goal
+use Rattle.nb_table.proofs.Theorems.{steps_add_up}
 
 pub returns-in-Null-clause-made : goal.returns-in-Null-clause-made
 returns-in-Null-clause-made c =
     let get = call.Get c.args.key in
     let none : shown_by_value c.load_value.result ≡ Some None
     = elim c.in-Null.is [ inl e ↦ ap shown_by_value e | inr e ↦ ap shown_by_value e ] in
-    made-read c.steps_add_up.ensures c.args.chain.now.shape get (Some None)
-    (subst (λ shown. Extended c.args.seat.now c.load_value.new.seat (read c.args.seat.now.number get shown) 1) none c.load_value.ensures.grows)
+    made-read c.args.chain.now.shape get (Some None)
+    (subst (λ shown. Extended c.args.chain.now.shape c.args.seat.now c.load_value.new.seat (read c.args.seat.now.number get shown) 1) none c.load_value.ensures.grows)
+
+pub returns-in-Live-clause-made : goal.returns-in-Live-clause-made
+returns-in-Live-clause-made c =
+    let get = call.Get c.args.key in
+    let some : shown_by_value c.load_value.result ≡ Some (Some c.in-Live.number) = ap shown_by_value c.in-Live.is in
+    made-read c.args.chain.now.shape get (Some (Some c.in-Live.number))
+    (subst (λ shown. Extended c.args.chain.now.shape c.args.seat.now c.load_value.new.seat (read c.args.seat.now.number get shown) 1) some c.load_value.ensures.grows)
 
 pub returns-in_default : goal.returns-in_default
 returns-in_default c =
@@ -24,12 +32,12 @@ returns-in_default c =
     let get = call.Get c.args.key in
     let primed = is-primed c.load_value.result c.in_default.not-Null c.in_default.not-Tombstone c.in_default.not-Live in
     let none = shown-primed c.load_value.result primed in
-    let seen = seen_by c.load_value.new.seat in
-    let claimed = (c.steps_add_up.ensures.stays (subst IsPlan c.shape.ensures c.known.ensures) c.requires.own
-    (c.steps_add_up.ensures.one c.load_value.ensures.grows)).claimed c.args.g c.args.i c.args.key c.requires.slot c.requires.claimed in
+    let seen = seen_by c.args.chain.now.shape c.load_value.new.seat in
+    let claimed = (steps_add_up.stays c.requires.own
+    (steps_add_up.one c.load_value.ensures.grows)).claimed c.args.g c.args.i c.args.key c.requires.slot c.requires.claimed in
     record {
-      made = made-quiet c.steps_add_up.ensures p get
-          (subst (λ shown. Extended c.args.seat.now c.load_value.new.seat (read c.args.seat.now.number get shown) 1) none c.load_value.ensures.grows);
+      made = made-quiet p get
+          (subst (λ shown. Extended c.args.chain.now.shape c.args.seat.now c.load_value.new.seat (read c.args.seat.now.number get shown) 1) none c.load_value.ensures.grows);
       glance = (
         pow_pos _,
         others-none p seen c.args.g c.args.key,

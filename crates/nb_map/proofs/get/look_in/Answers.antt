@@ -12,19 +12,17 @@ use Rattle.nb_map.proofs.get.look_in.Goals as goal
 pub look_at-requires-clause-reached : goal.look_at-requires-clause-reached
 look_at-requires-clause-reached c =
     let chain = c.args.chain.now in
-    let plan = subst IsPlan c.shape.ensures c.known.ensures in
-    let table = table-within c.linked.ensures chain c.args.seat.now plan c.requires.own c.known-2.ensures c.args.g c.requires.reached.installed in
-    reached-lasts chain.shape _ _ (made-stays c.steps_add_up.ensures chain plan c.requires.own c.seek.ensures.made) c.args.g c.args.key table
+    let table = table-within chain c.args.seat.now c.requires.own c.args.g c.requires.reached.installed in
+    reached-lasts chain.shape _ _ (made-stays chain c.requires.own c.seek.ensures.made) c.args.g c.args.key table
     c.requires.reached
 
 pub returns-in-Slot-clause-made : goal.returns-in-Slot-clause-made
 returns-in-Slot-clause-made c =
     let chain = c.args.chain.now in
     let p = chain.shape in
-    let plan = subst IsPlan c.shape.ensures c.known.ensures in
     let get = call.Get c.args.key in
     let most = size_of p c.args.g - c.args.from + 1 + (pass_steps p c.args.g + 1) in
     made-within most (look_steps p c.args.g) (omega arith)
     (subst (λ made. HasMade p get c.args.seat.now c.look_at.new.seat made most)
     (append-nil (read_by get c.look_at.result))
-    (made-more c.steps_add_up.ensures chain plan c.requires.own c.in-Slot.ensures.made c.look_at.ensures.made))
+    (made-more chain c.requires.own c.in-Slot.ensures.made c.look_at.ensures.made))

@@ -5,28 +5,27 @@ use Rattle.nb_map.proofs.Made.{made-copied, made-none, made-within}
 use Rattle.nb_map.proofs.Searched.{finished-passed, primed-next, table-within}
 use Rattle.nb_map.specs.Searching.{pass_steps}
 use Rattle.nb_map.proofs.search.pass_slot.Goals as goal
+use Rattle.nb_table.proofs.Theorems.{steps_add_up}
 
 pub copy_and_count-requires-clause-growing : goal.copy_and_count-requires-clause-growing
 copy_and_count-requires-clause-growing c =
-    primed-next c.linked.ensures c.args.chain.now c.args.seat.now (subst IsPlan c.shape.ensures c.known.ensures) c.requires.own c.known-2.ensures
+    primed-next c.args.chain.now c.args.seat.now c.requires.own
     c.args.g c.args.i c.requires.slot c.args.value c.requires.held c.requires.primed
 
 pub returns-then-not-is_finished-clause-made : goal.returns-then-not-is_finished-clause-made
 returns-then-not-is_finished-clause-made c call =
     let chain = c.args.chain.now in
-    let plan = subst IsPlan c.shape.ensures c.known.ensures in
-    let next = primed-next c.linked.ensures chain c.args.seat.now plan c.requires.own c.known-2.ensures c.args.g c.args.i c.requires.slot c.args.value
+    let next = primed-next chain c.args.seat.now c.requires.own c.args.g c.args.i c.requires.slot c.args.value
     c.requires.held c.requires.primed in
-    made-copied c.steps_add_up.ensures chain plan call
-    (table-within c.linked.ensures chain c.args.seat.now plan c.requires.own c.known-2.ensures (suc c.args.g) next) c.copy_and_count.ensures.copied
+    made-copied chain call
+    (table-within chain c.args.seat.now c.requires.own (suc c.args.g) next) c.copy_and_count.ensures.copied
 
 pub returns-then-not-is_finished-clause-passed : goal.returns-then-not-is_finished-clause-passed
 returns-then-not-is_finished-clause-passed c key claimed =
     let chain = c.args.chain.now in
-    let plan = subst IsPlan c.shape.ensures c.known.ensures in
-    let next = primed-next c.linked.ensures chain c.args.seat.now plan c.requires.own c.known-2.ensures c.args.g c.args.i c.requires.slot c.args.value
+    let next = primed-next chain c.args.seat.now c.requires.own c.args.g c.args.i c.requires.slot c.args.value
     c.requires.held c.requires.primed in
-    let lasting = c.steps_add_up.ensures.stays plan c.requires.own c.copy_and_count.ensures.copied.grown in (
+    let lasting = steps_add_up.stays c.requires.own c.copy_and_count.ensures.copied.grown in (
       finished-passed chain.shape _ c.args.g c.args.i key c.requires.slot.1
           (lasting.claimed c.args.g c.args.i key c.requires.slot claimed) c.copy_and_count.ensures.finished,
       lasting.installed (suc c.args.g) next,
@@ -35,15 +34,14 @@ returns-then-not-is_finished-clause-passed c key claimed =
 pub returns-else-not-is_finished-clause-made : goal.returns-else-not-is_finished-clause-made
 returns-else-not-is_finished-clause-made c call =
     made-within 0 (pass_steps c.args.chain.now.shape c.args.g) (omega arith)
-    (made-none c.steps_add_up.ensures c.args.chain.now.shape call c.args.seat.now c.known-2.ensures)
+    (made-none c.args.chain.now call c.args.seat.now c.requires.own)
 
 pub returns-else-not-is_finished-clause-passed : goal.returns-else-not-is_finished-clause-passed
 returns-else-not-is_finished-clause-passed c key claimed =
     let chain = c.args.chain.now in
-    let plan = subst IsPlan c.shape.ensures c.known.ensures in
     let final : IsFinishedValue c.args.value = sym c.if-not-is_finished.ensures in (
       finished-passed chain.shape _ c.args.g c.args.i key c.requires.slot.1 claimed
           (inr (subst IsFinishedValue (sym c.requires.held) final)),
-      primed-next c.linked.ensures chain c.args.seat.now plan c.requires.own c.known-2.ensures c.args.g c.args.i c.requires.slot c.args.value
+      primed-next chain c.args.seat.now c.requires.own c.args.g c.args.i c.requires.slot c.args.value
           c.requires.held c.requires.primed,
     )

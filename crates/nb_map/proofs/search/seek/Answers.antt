@@ -8,44 +8,37 @@ use Rattle.nb_map.specs.Calling.{HasMade, read_of}
 use Rattle.nb_map.proofs.Made.{made-more, made-own, made-quiet, made-read, made-stays}
 use Rattle.nb_map.proofs.Searched.{made-unless, not-last, reached-lasts, read-alone, table-within}
 use Rattle.nb_map.proofs.search.seek.Goals as goal
+use Rattle.nb_table.proofs.Theorems.{steps_add_up}
 
 pub load_next-requires-clause-reached : goal.load_next-requires-clause-reached
 load_next-requires-clause-reached c =
-    let law = c.steps_add_up.ensures in
     let chain = c.args.chain.now in
-    let plan = subst IsPlan c.shape.ensures c.known.ensures in
-    let table = table-within c.linked.ensures chain c.args.seat.now plan c.requires.own c.known-2.ensures c.args.g c.requires.reached.installed in
-    subst (λ k. IsReached chain.shape (seen_by c.walk_path.new.seat) c.args.g k) (sym c.requires.key)
-    (reached-lasts chain.shape _ _ (made-stays law chain plan c.requires.own c.walk_path.ensures.made) c.args.g c.args.key table c.requires.reached)
+    let table = table-within chain c.args.seat.now c.requires.own c.args.g c.requires.reached.installed in
+    subst (λ k. IsReached chain.shape (seen_by c.args.chain.now.shape c.walk_path.new.seat) c.args.g k) (sym c.requires.key)
+    (reached-lasts chain.shape _ _ (made-stays chain c.requires.own c.walk_path.ensures.made) c.args.g c.args.key table c.requires.reached)
 
 pub returns-then-load_next-clause-made : goal.returns-then-load_next-clause-made
 returns-then-load_next-clause-made c =
-    let law = c.steps_add_up.ensures in
     let chain = c.args.chain.now in
-    let plan = subst IsPlan c.shape.ensures c.known.ensures in
     let tables : c.generations.result ≡ generations_of chain.shape = search rules in
     let walk = made-unless _ (suc c.args.g == generations_of chain.shape) _ (size_of chain.shape c.args.g - c.args.from)
     (not-last chain.shape c.args.g tables c.if-g-generations.false) (omega arith) c.in-Whole.ensures.made in
-    made-more law chain plan c.requires.own walk (made-quiet law chain.shape c.args.call.now c.if-load_next.ensures.grows)
+    made-more chain c.requires.own walk (made-quiet chain.shape c.args.call.now c.if-load_next.ensures.grows)
 
 pub returns-then-load_next-clause-sought : goal.returns-then-load_next-clause-sought
 returns-then-load_next-clause-sought c =
-    let law = c.steps_add_up.ensures in
     let chain = c.args.chain.now in
-    let plan = subst IsPlan c.shape.ensures c.known.ensures in
-    let table = table-within c.linked.ensures chain c.args.seat.now plan c.requires.own c.known-2.ensures c.args.g c.requires.reached.installed in
-    let own = made-own law chain plan c.requires.own c.walk_path.ensures.made in
-    let lasting = law.stays plan own (law.one c.load_next.ensures.grows) in
+    let table = table-within chain c.args.seat.now c.requires.own c.args.g c.requires.reached.installed in
+    let own = made-own chain c.requires.own c.walk_path.ensures.made in
+    let lasting = steps_add_up.stays own (steps_add_up.one c.load_next.ensures.grows) in
     (Whole (lasting.others c.args.g c.args.key (size_of chain.shape c.args.g) table c.in-Whole.ensures.ends), c.if-load_next.ensures.installed.0 refl)
 
 pub returns-else-load_next-clause-made : goal.returns-else-load_next-clause-made
 returns-else-load_next-clause-made c =
-    let law = c.steps_add_up.ensures in
     let chain = c.args.chain.now in
-    let plan = subst IsPlan c.shape.ensures c.known.ensures in
     let tables : c.generations.result ≡ generations_of chain.shape = search rules in
     let walk = made-unless _ (suc c.args.g == generations_of chain.shape) _ (size_of chain.shape c.args.g - c.args.from)
     (not-last chain.shape c.args.g tables c.if-g-generations.false) (omega arith) c.in-Whole.ensures.made in
     subst (λ made. HasMade chain.shape c.args.call.now c.args.seat.now c.load_next.new.seat made (size_of chain.shape c.args.g - c.args.from + 1))
     (append-nil (read_of c.args.call.now None) ∙ read-alone c.args.call.now None c.requires.alone)
-    (made-more law chain plan c.requires.own walk (made-read law chain.shape c.args.call.now (Some None) c.if-load_next.ensures.grows))
+    (made-more chain c.requires.own walk (made-read chain.shape c.args.call.now (Some None) c.if-load_next.ensures.grows))

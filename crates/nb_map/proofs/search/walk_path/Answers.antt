@@ -12,6 +12,7 @@ use Rattle.nb_map.specs.Calling.{HasMade}
 use Rattle.nb_map.proofs.Made.{made-none, made-own, made-stays, made-within}
 use Rattle.nb_map.proofs.Searched.{dead-next, on-path, others-more, reached-lasts, read-end, read-start, shown-own, table-within, walked, walked-on}
 use Rattle.nb_map.proofs.search.walk_path.Goals as goal
+use Rattle.nb_table.proofs.Theorems.{steps_add_up}
 
 pub loop-distance-init : goal.loop-distance-init
 loop-distance-init c =
@@ -19,124 +20,108 @@ loop-distance-init c =
     let none = read-start p c.args.g c.args.call.now c.args.from c.requires.start in (
       subst (λ made. HasMade p c.args.call.now c.args.seat.now c.args.seat.now made (c.args.from - c.args.from)) (sym none)
           (made-within 0 (c.args.from - c.args.from) (omega arith)
-          (made-none c.steps_add_up.ensures p c.args.call.now c.args.seat.now c.known-2.ensures)),
+          (made-none c.args.chain.now c.args.call.now c.args.seat.now c.requires.own)),
       c.requires.others,
     )
 
 pub load_key-requires-clause-own : goal.load_key-requires-clause-own
 load_key-requires-clause-own c =
-    made-own c.steps_add_up.ensures c.args.chain.now (subst IsPlan c.shape.ensures c.known.ensures) c.requires.own c.loop-distance.invariant.0
+    made-own c.args.chain.now c.requires.own c.loop-distance.invariant.0
 
 pub load_key-requires-clause-reached : goal.load_key-requires-clause-reached
 load_key-requires-clause-reached c =
-    let law = c.steps_add_up.ensures in
     let chain = c.args.chain.now in
-    let plan = subst IsPlan c.shape.ensures c.known.ensures in
     let so_far = c.loop-distance.invariant in
-    let table = table-within c.linked.ensures chain c.args.seat.now plan c.requires.own c.known-2.ensures c.args.g c.requires.reached.installed in
-    subst (λ k. IsReached chain.shape (seen_by c.loop-distance.seat) c.args.g k) (sym c.requires.key)
-    (reached-lasts chain.shape _ _ (made-stays law chain plan c.requires.own so_far.0) c.args.g c.args.key table c.requires.reached)
+    let table = table-within chain c.args.seat.now c.requires.own c.args.g c.requires.reached.installed in
+    subst (λ k. IsReached chain.shape (seen_by c.args.chain.now.shape c.loop-distance.seat) c.args.g k) (sym c.requires.key)
+    (reached-lasts chain.shape _ _ (made-stays chain c.requires.own so_far.0) c.args.g c.args.key table c.requires.reached)
 
 pub load_key-requires-clause-on_path : goal.load_key-requires-clause-on_path
 load_key-requires-clause-on_path c =
-    let law = c.steps_add_up.ensures in
     let chain = c.args.chain.now in
-    let plan = subst IsPlan c.shape.ensures c.known.ensures in
     let so_far = c.loop-distance.invariant in
     let near : c.loop-distance.distance < size_of chain.shape c.args.g = search rules in
     let at : path_slot chain.shape c.args.g c.args.key c.loop-distance.distance ≡ c.path_slot-i.result = search rules in
-    on-path chain.shape (seen_by c.loop-distance.seat) c.args.g _ _ c.loop-distance.distance c.args.key c.requires.key near at so_far.1
+    on-path chain.shape (seen_by c.args.chain.now.shape c.loop-distance.seat) c.args.g _ _ c.loop-distance.distance c.args.key c.requires.key near at so_far.1
 
 pub returns-then-eq-clause-made : goal.returns-then-eq-clause-made
 returns-then-eq-clause-made c =
-    let law = c.steps_add_up.ensures in
     let chain = c.args.chain.now in
-    let plan = subst IsPlan c.shape.ensures c.known.ensures in
     let so_far = c.loop-distance.invariant in
-    let table = table-within c.linked.ensures chain c.args.seat.now plan c.requires.own c.known-2.ensures c.args.g c.requires.reached.installed in
+    let table = table-within chain c.args.seat.now c.requires.own c.args.g c.requires.reached.installed in
     let near : c.loop-distance.distance < size_of chain.shape c.args.g = search rules in
-    let load : Extended c.loop-distance.seat c.load_key.new.seat (read c.loop-distance.seat.number c.args.call.now (shown_by_key chain.shape c.args.g c.path_slot-i.result (Claimed c.in-Claimed.other) (key_of_call c.args.call.now))) 1
-    = subst (λ s. Extended c.loop-distance.seat c.load_key.new.seat (read c.loop-distance.seat.number c.args.call.now (shown_by_key chain.shape c.args.g c.path_slot-i.result s (key_of_call c.args.call.now))) 1) c.in-Claimed.is c.load_key.ensures.grows in
+    let load : Extended c.args.chain.now.shape c.loop-distance.seat c.load_key.new.seat (read c.loop-distance.seat.number c.args.call.now (shown_by_key chain.shape c.args.g c.path_slot-i.result (Claimed c.in-Claimed.other) (key_of_call c.args.call.now))) 1
+    = subst (λ s. Extended c.args.chain.now.shape c.loop-distance.seat c.load_key.new.seat (read c.loop-distance.seat.number c.args.call.now (shown_by_key chain.shape c.args.g c.path_slot-i.result s (key_of_call c.args.call.now))) 1) c.in-Claimed.is c.load_key.ensures.grows in
     let none = shown-own chain.shape c.args.g c.path_slot-i.result (key_of_call c.args.call.now) c.args.key c.in-Claimed.other c.requires.key c.if-eq.ensures in
     made-within (c.loop-distance.distance + 1 - c.args.from) (size_of chain.shape c.args.g - c.args.from) (omega (arith, near))
-    (walked law c.paths_are_distinct.ensures chain plan c.args.g table c.loop-distance.distance c.args.from None near c.loop-distance.auto.distance
+    (walked chain c.args.g table c.loop-distance.distance c.args.from None near c.loop-distance.auto.distance
     c.requires.own so_far.0
-    (subst (λ shown. Extended c.loop-distance.seat c.load_key.new.seat (read c.loop-distance.seat.number c.args.call.now shown) 1) none load))
+    (subst (λ shown. Extended c.args.chain.now.shape c.loop-distance.seat c.load_key.new.seat (read c.loop-distance.seat.number c.args.call.now shown) 1) none load))
 
 pub returns-in-Empty-clause-made : goal.returns-in-Empty-clause-made
 returns-in-Empty-clause-made c =
-    let law = c.steps_add_up.ensures in
     let chain = c.args.chain.now in
-    let plan = subst IsPlan c.shape.ensures c.known.ensures in
     let so_far = c.loop-distance.invariant in
-    let table = table-within c.linked.ensures chain c.args.seat.now plan c.requires.own c.known-2.ensures c.args.g c.requires.reached.installed in
+    let table = table-within chain c.args.seat.now c.requires.own c.args.g c.requires.reached.installed in
     let near : c.loop-distance.distance < size_of chain.shape c.args.g = search rules in
-    let load : Extended c.loop-distance.seat c.load_key.new.seat (read c.loop-distance.seat.number c.args.call.now (shown_by_key chain.shape c.args.g c.path_slot-i.result Empty (key_of_call c.args.call.now))) 1
-    = subst (λ s. Extended c.loop-distance.seat c.load_key.new.seat (read c.loop-distance.seat.number c.args.call.now (shown_by_key chain.shape c.args.g c.path_slot-i.result s (key_of_call c.args.call.now))) 1) c.in-Empty.is c.load_key.ensures.grows in
-    walked law c.paths_are_distinct.ensures chain plan c.args.g table c.loop-distance.distance c.args.from (Some None) near c.loop-distance.auto.distance
+    let load : Extended c.args.chain.now.shape c.loop-distance.seat c.load_key.new.seat (read c.loop-distance.seat.number c.args.call.now (shown_by_key chain.shape c.args.g c.path_slot-i.result Empty (key_of_call c.args.call.now))) 1
+    = subst (λ s. Extended c.args.chain.now.shape c.loop-distance.seat c.load_key.new.seat (read c.loop-distance.seat.number c.args.call.now (shown_by_key chain.shape c.args.g c.path_slot-i.result s (key_of_call c.args.call.now))) 1) c.in-Empty.is c.load_key.ensures.grows in
+    walked chain c.args.g table c.loop-distance.distance c.args.from (Some None) near c.loop-distance.auto.distance
     c.requires.own so_far.0 load
 
 pub returns-in-Empty-clause-ends : goal.returns-in-Empty-clause-ends
 returns-in-Empty-clause-ends c =
-    let law = c.steps_add_up.ensures in
     let chain = c.args.chain.now in
-    let plan = subst IsPlan c.shape.ensures c.known.ensures in
     let so_far = c.loop-distance.invariant in
-    let table = table-within c.linked.ensures chain c.args.seat.now plan c.requires.own c.known-2.ensures c.args.g c.requires.reached.installed in
+    let table = table-within chain c.args.seat.now c.requires.own c.args.g c.requires.reached.installed in
     let near : c.loop-distance.distance < size_of chain.shape c.args.g = search rules in
     let at : path_slot chain.shape c.args.g c.args.key c.loop-distance.distance ≡ c.path_slot-i.result = search rules in
-    let own = made-own law chain plan c.requires.own so_far.0 in
-    let lasting = law.stays plan own (law.one c.load_key.ensures.grows) in
-    (near, lasting.others c.args.g c.args.key c.loop-distance.distance table so_far.1, ap ((seen_by c.load_key.new.seat).key c.args.g) at ∙ c.load_key.ensures.found ∙ c.in-Empty.is)
+    let own = made-own chain c.requires.own so_far.0 in
+    let lasting = steps_add_up.stays own (steps_add_up.one c.load_key.ensures.grows) in
+    (near, lasting.others c.args.g c.args.key c.loop-distance.distance table so_far.1, ap ((seen_by c.args.chain.now.shape c.load_key.new.seat).key c.args.g) at ∙ c.load_key.ensures.found ∙ c.in-Empty.is)
 
 pub returns-in-Dead-clause-made : goal.returns-in-Dead-clause-made
 returns-in-Dead-clause-made c =
-    let law = c.steps_add_up.ensures in
     let chain = c.args.chain.now in
-    let plan = subst IsPlan c.shape.ensures c.known.ensures in
     let so_far = c.loop-distance.invariant in
-    let table = table-within c.linked.ensures chain c.args.seat.now plan c.requires.own c.known-2.ensures c.args.g c.requires.reached.installed in
+    let table = table-within chain c.args.seat.now c.requires.own c.args.g c.requires.reached.installed in
     let near : c.loop-distance.distance < size_of chain.shape c.args.g = search rules in
-    let load : Extended c.loop-distance.seat c.load_key.new.seat (read c.loop-distance.seat.number c.args.call.now (shown_by_key chain.shape c.args.g c.path_slot-i.result Dead (key_of_call c.args.call.now))) 1
-    = subst (λ s. Extended c.loop-distance.seat c.load_key.new.seat (read c.loop-distance.seat.number c.args.call.now (shown_by_key chain.shape c.args.g c.path_slot-i.result s (key_of_call c.args.call.now))) 1) c.in-Dead.is c.load_key.ensures.grows in
+    let load : Extended c.args.chain.now.shape c.loop-distance.seat c.load_key.new.seat (read c.loop-distance.seat.number c.args.call.now (shown_by_key chain.shape c.args.g c.path_slot-i.result Dead (key_of_call c.args.call.now))) 1
+    = subst (λ s. Extended c.args.chain.now.shape c.loop-distance.seat c.load_key.new.seat (read c.loop-distance.seat.number c.args.call.now (shown_by_key chain.shape c.args.g c.path_slot-i.result s (key_of_call c.args.call.now))) 1) c.in-Dead.is c.load_key.ensures.grows in
     made-within (c.loop-distance.distance + 1 - c.args.from) (size_of chain.shape c.args.g - c.args.from) (omega (arith, near))
-    (walked law c.paths_are_distinct.ensures chain plan c.args.g table c.loop-distance.distance c.args.from None near c.loop-distance.auto.distance
+    (walked chain c.args.g table c.loop-distance.distance c.args.from None near c.loop-distance.auto.distance
     c.requires.own so_far.0 load)
 
 pub returns-in-Dead-clause-ends : goal.returns-in-Dead-clause-ends
 returns-in-Dead-clause-ends c =
-    let law = c.steps_add_up.ensures in
     let chain = c.args.chain.now in
-    let plan = subst IsPlan c.shape.ensures c.known.ensures in
     let so_far = c.loop-distance.invariant in
-    let table = table-within c.linked.ensures chain c.args.seat.now plan c.requires.own c.known-2.ensures c.args.g c.requires.reached.installed in
+    let table = table-within chain c.args.seat.now c.requires.own c.args.g c.requires.reached.installed in
     let near : c.loop-distance.distance < size_of chain.shape c.args.g = search rules in
     let at : path_slot chain.shape c.args.g c.args.key c.loop-distance.distance ≡ c.path_slot-i.result = search rules in
-    let own = made-own law chain plan c.requires.own so_far.0 in
-    let lasting = law.stays plan own (law.one c.load_key.ensures.grows) in
-    let is : (seen_by c.load_key.new.seat).key c.args.g (path_slot chain.shape c.args.g c.args.key c.loop-distance.distance) ≡ Dead
-    = ap ((seen_by c.load_key.new.seat).key c.args.g) at ∙ c.load_key.ensures.found ∙ c.in-Dead.is in
+    let own = made-own chain c.requires.own so_far.0 in
+    let lasting = steps_add_up.stays own (steps_add_up.one c.load_key.ensures.grows) in
+    let is : (seen_by c.args.chain.now.shape c.load_key.new.seat).key c.args.g (path_slot chain.shape c.args.g c.args.key c.loop-distance.distance) ≡ Dead
+    = ap ((seen_by c.args.chain.now.shape c.load_key.new.seat).key c.args.g) at ∙ c.load_key.ensures.found ∙ c.in-Dead.is in
     let in_table : c.path_slot-i.result < size_of chain.shape c.args.g = search rules in (
       UpToDead c.loop-distance.distance near (lasting.others c.args.g c.args.key c.loop-distance.distance table so_far.1) is,
-      dead-next c.linked.ensures chain c.load_key.new.seat plan (law.own own (law.one c.load_key.ensures.grows)) c.load_key.ensures.grows.legal
+      dead-next chain c.load_key.new.seat (steps_add_up.own own (steps_add_up.one c.load_key.ensures.grows))
           c.args.g c.path_slot-i.result (table, in_table) (c.load_key.ensures.found ∙ c.in-Dead.is),
     )
 
 pub loop-distance-preserved : goal.loop-distance-preserved
 loop-distance-preserved c =
-    let law = c.steps_add_up.ensures in
     let chain = c.args.chain.now in
-    let plan = subst IsPlan c.shape.ensures c.known.ensures in
     let so_far = c.loop-distance.invariant in
-    let table = table-within c.linked.ensures chain c.args.seat.now plan c.requires.own c.known-2.ensures c.args.g c.requires.reached.installed in
+    let table = table-within chain c.args.seat.now c.requires.own c.args.g c.requires.reached.installed in
     let near : c.loop-distance.distance < size_of chain.shape c.args.g = search rules in
     let at : path_slot chain.shape c.args.g c.args.key c.loop-distance.distance ≡ c.path_slot-i.result = search rules in
-    let own = made-own law chain plan c.requires.own so_far.0 in
-    let load : Extended c.loop-distance.seat c.load_key.new.seat (read c.loop-distance.seat.number c.args.call.now (shown_by_key chain.shape c.args.g c.path_slot-i.result (Claimed c.in-Claimed.other) (key_of_call c.args.call.now))) 1
-    = subst (λ s. Extended c.loop-distance.seat c.load_key.new.seat (read c.loop-distance.seat.number c.args.call.now (shown_by_key chain.shape c.args.g c.path_slot-i.result s (key_of_call c.args.call.now))) 1) c.in-Claimed.is c.load_key.ensures.grows in
+    let own = made-own chain c.requires.own so_far.0 in
+    let load : Extended c.args.chain.now.shape c.loop-distance.seat c.load_key.new.seat (read c.loop-distance.seat.number c.args.call.now (shown_by_key chain.shape c.args.g c.path_slot-i.result (Claimed c.in-Claimed.other) (key_of_call c.args.call.now))) 1
+    = subst (λ s. Extended c.args.chain.now.shape c.loop-distance.seat c.load_key.new.seat (read c.loop-distance.seat.number c.args.call.now (shown_by_key chain.shape c.args.g c.path_slot-i.result s (key_of_call c.args.call.now))) 1) c.in-Claimed.is c.load_key.ensures.grows in
     let differs : c.in-Claimed.other ≢ c.args.key = eqb-false c.in-Claimed.other c.args.key (sym c.eq.ensures ∙ c.if-eq.false) in
-    let lasting = law.stays plan own (law.one c.load_key.ensures.grows) in (
-      walked-on law c.paths_are_distinct.ensures chain plan c.args.g table c.loop-distance.distance c.args.from c.path_slot-i.result c.args.key
+    let lasting = steps_add_up.stays own (steps_add_up.one c.load_key.ensures.grows) in (
+      walked-on chain c.args.g table c.loop-distance.distance c.args.from c.path_slot-i.result c.args.key
           c.in-Claimed.other near c.loop-distance.auto.distance c.requires.own c.requires.key at differs so_far.0 load,
       others-more chain.shape _ _ lasting c.args.g c.args.key c.loop-distance.distance _ c.in-Claimed.other table so_far.1 at
           (c.load_key.ensures.found ∙ c.in-Claimed.is) differs,
@@ -144,9 +129,7 @@ loop-distance-preserved c =
 
 pub returns-clause-made : goal.returns-clause-made
 returns-clause-made c =
-    let law = c.steps_add_up.ensures in
     let chain = c.args.chain.now in
-    let plan = subst IsPlan c.shape.ensures c.known.ensures in
     let so_far = c.loop-distance.invariant in
     let end : c.loop-distance.distance ≡ size_of chain.shape c.args.g = search rules in
     made-within (c.loop-distance.distance - c.args.from) (size_of chain.shape c.args.g - c.args.from) (omega (arith, end))
@@ -155,9 +138,7 @@ returns-clause-made c =
 
 pub returns-clause-ends : goal.returns-clause-ends
 returns-clause-ends c =
-    let law = c.steps_add_up.ensures in
     let chain = c.args.chain.now in
-    let plan = subst IsPlan c.shape.ensures c.known.ensures in
     let so_far = c.loop-distance.invariant in
     let end : c.loop-distance.distance ≡ size_of chain.shape c.args.g = search rules in
-    subst (λ d. AreOthers chain.shape (seen_by c.loop-distance.seat) c.args.g c.args.key d) end so_far.1
+    subst (λ d. AreOthers chain.shape (seen_by c.args.chain.now.shape c.loop-distance.seat) c.args.g c.args.key d) end so_far.1

@@ -11,8 +11,8 @@ abbrev pub invariant-loop-g : goal.invariant-loop-g
 invariant-loop-g g l =
     HasMade l.chain.shape (call.Write l.fn.key l.fn.want l.fn.change) l.fn.seat l.seat []
     (1 + written_below l.chain.shape l.g + 2 * (l.fn.tries - l.left))
-    × IsReached l.chain.shape (seen_by l.seat) l.g l.fn.key
-    × HasBelow l.chain.shape (seen_by l.seat) l.g l.fn.key l.below
+    × IsReached l.chain.shape (seen_by l.chain.shape l.seat) l.g l.fn.key
+    × HasBelow l.chain.shape (seen_by l.chain.shape l.seat) l.g l.fn.key l.below
     × (1 ≤ l.left) × (l.left ≤ l.fn.tries)
     × (l.fn.tries ≤ l.left + passed_since (call.Write l.fn.key l.fn.want l.fn.change) l.fn.seat l.seat)
     × g.P.Pause.serves l.pause l.chain

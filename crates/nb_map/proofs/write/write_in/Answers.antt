@@ -10,14 +10,13 @@ use Rattle.nb_map.proofs.write.write_in.Goals as goal
 
 pub exchange-requires-clause-own : goal.exchange-requires-clause-own
 exchange-requires-clause-own g c =
-    made-own c.steps_add_up.ensures c.args.chain.now (subst IsPlan c.shape.ensures c.known.ensures) c.requires.own c.aim.ensures.made
+    made-own c.args.chain.now c.requires.own c.aim.ensures.made
 
 pub exchange-requires-clause-reached : goal.exchange-requires-clause-reached
 exchange-requires-clause-reached g c =
     let chain = c.args.chain.now in
-    let plan = subst IsPlan c.shape.ensures c.known.ensures in
-    let table = table-within c.linked.ensures chain c.args.seat.now plan c.requires.own c.known-2.ensures c.args.g c.requires.reached.installed in
-    reached-lasts chain.shape _ _ (made-stays c.steps_add_up.ensures chain plan c.requires.own c.aim.ensures.made) c.args.g c.args.key table
+    let table = table-within chain c.args.seat.now c.requires.own c.args.g c.requires.reached.installed in
+    reached-lasts chain.shape _ _ (made-stays chain c.requires.own c.aim.ensures.made) c.args.g c.args.key table
     c.requires.reached
 
 pub returns-in-Slot-clause-made : goal.returns-in-Slot-clause-made
@@ -26,10 +25,10 @@ returns-in-Slot-clause-made g c =
     let call = c.args.call.now in
     subst (λ made. HasMade p call c.args.seat.now c.exchange.new.seat made (write_steps p c.args.g c.args.tries c.exchange.result))
     (append-nil (made_by call c.exchange.result))
-    (made-more c.steps_add_up.ensures c.args.chain.now (subst IsPlan c.shape.ensures c.known.ensures) c.requires.own c.in-Slot.ensures.made
+    (made-more c.args.chain.now c.requires.own c.in-Slot.ensures.made
     c.exchange.ensures.made)
 
 pub returns-in-Slot-clause-written : goal.returns-in-Slot-clause-written
 returns-in-Slot-clause-written g c =
-    written-longer c.passed_over_adds.ensures c.args.chain.now.shape c.args.call.now c.args.g c.args.tries c.in-Slot.ensures.made.grown
+    written-longer c.args.chain.now.shape c.args.call.now c.args.g c.args.tries c.in-Slot.ensures.made.grown
     c.exchange.ensures.made.grown c.exchange.result c.exchange.ensures.written

@@ -12,7 +12,7 @@ use Rattle.nb_run.proofs.outcome.perform.Goals as goal
 
 pub run_phases-requires-clause-own : goal.run_phases-requires-clause-own
 run_phases-requires-clause-own g c κs within =
-    workers-mine c.in_ok-map.map c.args.shape.seats c.in_ok-workers.workers.items (c.in_ok-workers.ensures.seats ∙ c.in_ok-map.ensures.seats)
+    workers-mine c.in_ok-map.map c.in_ok-map.seats.items c.in_ok-workers.workers.items c.in_ok-workers.ensures.seats c.in_ok-map.ensures.own
 
 pub finish-requires : goal.finish-requires
 finish-requires g c = record {
@@ -38,6 +38,5 @@ returns g c =
     let seats = c.in_ok-workers.ensures.seats ∙ c.in_ok-map.ensures.seats ∙ ap (λ p. maps.seats_of m 0 p.seats) (sym shape) in
     let ended = subst (λ seats. EndedWith m.chain.shape seats c.in-Ok.ended) c.in_ok-seats.ensures.seats c.in-Ok.ensures.ended in
     subst (λ p. IsOutcome p phases o) shape
-    (is-outcome c.calls_replayed.ensures c.lone_seat.ensures c.map_in_range.ensures c.crowded_absent.ensures c.seen_lasts.ensures c.lawful_changes.ensures c.one_slot.ensures m
-    (subst IsPlan (sym shape) c.known.ensures) phases c.in_ok-workers.workers.items c.in_ok-ran.ran.items c.in-Ok.ended o seats
+    (is-outcome m c.in_ok-map.ensures.plan phases c.in_ok-workers.workers.items c.in_ok-ran.ran.items c.in-Ok.ended o seats
     c.in_ok-workers.ensures.fresh c.in_ok-ran.ensures.ran ended c.in_ok-seats.ensures.answers c.size-size.ensures.keys c.in_ok-entries.ensures)

@@ -63,9 +63,7 @@ returns-clause-met t c =
     let each = c.meet_each.ensures.others in
     let items = c.in-Some.ensures.items ∙ ap (λ ws. ws ++ last ∷ []) (sym c.as_mut_slice.ensures.value) in
     subst₂ (λ ws us. AllZip (HasMetAs m (seats_of ws)) ws us) (sym items) (sym c.push_reserved.ensures.items)
-    (all-met c.steps_add_up.ensures m before between after last c.meet_each.new.seat
-    (All-contains (λ w. IsMine m w.seat) (c.pop.new.self.items ++ last ∷ []) last
-    (subst (All (λ w. IsMine m w.seat)) c.in-Some.ensures.items c.requires.own) (Contains-push c.pop.new.self.items last))
-    c.meet_each.ensures.met each
+    (all-met m before between after last c.meet_each.new.seat
+    c.meet_each.ensures.own c.meet_each.ensures.met each
     (subst (λ vs. AllZip (HasMetAs m (seats_of vs)) vs after)
     (kept-back m (last.seat ∷ []) c.pop.new.self before between c.as_mut_slice.ensures.len each) c.meet_all-workers.ensures.met))

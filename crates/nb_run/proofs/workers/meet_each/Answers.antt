@@ -26,6 +26,5 @@ loop-other-preserved c =
     let below : i < length now = omega (arith, c.loop-other-test.true, c.loop-other.auto.others) in
     let at : worker ≡ get_or workers i worker =
     same-at workers now i d c.loop-other-test.true below inv.3 ∙ get_or_default workers i d worker c.loop-other-test.true in
-    let mine : IsMine m worker.seat = subst (λ w. IsMine m w.seat) (sym at) (c.requires.others i worker c.loop-other-test.true) in
-    each-more c.steps_add_up.ensures m workers now i worker c.args.seat.now c.loop-other.seat c.meet.new.a c.meet.new.b
-    c.loop-other-test.true below at inv.3 c.requires.own mine inv.1 inv.2 c.meet.ensures.a c.meet.ensures.b
+    each-more m workers now i worker c.args.seat.now c.loop-other.seat c.meet.new.a c.meet.new.b
+    c.loop-other-test.true below at inv.3 c.meet.ensures.a_own c.meet.ensures.b_own inv.1 inv.2 c.meet.ensures.a c.meet.ensures.b

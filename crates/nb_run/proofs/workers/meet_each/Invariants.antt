@@ -8,6 +8,6 @@ use Rattle.nb_run.proofs.workers.meet_each.Given as goal
 abbrev pub invariant-loop-other : goal.invariant-loop-other
 invariant-loop-other l =
     IsMine l.map l.seat
-    × HasMet (seats_of (take l.other-index l.fn.others)) l.fn.seat l.seat
+    × HasMet l.map (seats_of (take l.other-index l.fn.others)) l.fn.seat l.seat
     × AllZip (HasMetAs l.map (l.fn.seat ∷ [])) (take l.other-index l.fn.others) (take l.other-index l.others)
     × (drop l.other-index l.others ≡ drop l.other-index l.fn.others)

@@ -1,25 +1,25 @@
 use Rattle.std.proofs.Common.{◌≡◌, ◌<◌, ◌⊎◌, ◌∙◌, ℕ, ◌+◌, ◌*◌, [], ap, inl, inr, subst, sym, arith}
-use Rattle.nb_core.specs.Plans.{IsPlan, size_of}
+use Rattle.nb_core.specs.Plans.{size_of}
 use Rattle.nb_core.specs.Tables.{IsFinished}
 use Rattle.nb_table.specs.Chains.{Grown, seen_by}
 use Rattle.nb_table.proofs.tests.looks_complete.Goals as goal
+use Rattle.nb_table.proofs.Theorems.{steps_add_up}
 
 pub returns-then-not-looks_finished-clause-grows : goal.returns-then-not-looks_finished-clause-grows
 returns-then-not-looks_finished-clause-grows c =
-    let size = c.size_of-i-end.ensures ∙ ap (λ p. size_of p c.args.g) c.shape-2.ensures in
-    (_, omega (arith, c.loop-i-test.true, size), c.steps_add_up.ensures.more c.loop-i.invariant.0 c.looks_finished.ensures.grows)
+    let size = c.size_of-i-end.ensures.size ∙ ap (λ p. size_of p c.args.g) c.shape.ensures in
+    (_, omega (arith, c.loop-i-test.true, size), steps_add_up.more c.loop-i.invariant.0 c.looks_finished.ensures.grows)
 
 pub loop-i-preserved : goal.loop-i-preserved
 loop-i-preserved c =
-    let law = c.steps_add_up.ensures in
-    let size = c.size_of-i-end.ensures ∙ ap (λ p. size_of p c.args.g) c.shape-2.ensures in
-    let own = law.own c.requires.own c.loop-i.invariant.0 in
-    let lasting = law.stays (subst IsPlan c.shape.ensures c.known.ensures) own c.looks_finished.ensures.grows in
+    let size = c.size_of-i-end.ensures.size ∙ ap (λ p. size_of p c.args.g) c.shape.ensures in
+    let own = steps_add_up.own c.requires.own c.loop-i.invariant.0 in
+    let lasting = steps_add_up.stays own c.looks_finished.ensures.grows in
     let count : 2 * c.loop-i.i + 2 ≡ 2 * (c.loop-i.i + 1) = omega arith in
     let here = c.looks_finished.ensures.finished c.if-not-looks_finished.false in (
-      subst (Grown c.args.seat.now c.looks_finished.new.seat []) count (law.more c.loop-i.invariant.0 c.looks_finished.ensures.grows),
+      subst (Grown c.args.chain.now.shape c.args.seat.now c.looks_finished.new.seat []) count (steps_add_up.more c.loop-i.invariant.0 c.looks_finished.ensures.grows),
       λ j below. elim (last-or-before j c.loop-i.i below) [
-        | inl last ↦ subst (IsFinished (seen_by c.looks_finished.new.seat) c.args.g) (sym last) here
+        | inl last ↦ subst (IsFinished (seen_by c.args.chain.now.shape c.looks_finished.new.seat) c.args.g) (sym last) here
         | inr before ↦ lasting.finished c.args.g j (c.requires.table, omega (arith, before, c.loop-i-test.true, size)) (c.loop-i.invariant.1 j before)
       ],
     )

@@ -1,16 +1,16 @@
 use Rattle.std.proofs.Common.{subst}
 use Rattle.nb_core.specs.Plans.{IsPlan}
 use Rattle.nb_table.specs.Chains.{seen_by}
+use Rattle.nb_table.proofs.Theorems.{steps_add_up}
 use Rattle.nb_copy.proofs.ByHand.{one-more}
 use Rattle.nb_copy.proofs.tests.by_hand.sees_others.Goals as goal
 
 pub loop-distance-preserved : goal.loop-distance-preserved
 loop-distance-preserved g c =
-    let law = c.steps_add_up.ensures in
     let look = c.sees_other.ensures in
     let so_far = c.loop-distance.invariant in
-    let lasting = law.stays (subst IsPlan c.shape.ensures c.known.ensures) so_far.0 look.grows in
+    let lasting = steps_add_up.stays so_far.0 look.grows in
     let before = lasting.others c.args.g c.args.key c.loop-distance.distance look.table so_far.1 in (
-      law.own so_far.0 look.grows,
-      one-more c.args.chain.now.shape (seen_by c.sees_other.new.seat) c.args.g c.args.key _ before look.other,
+      steps_add_up.own so_far.0 look.grows,
+      one-more c.args.chain.now.shape (seen_by c.args.chain.now.shape c.sees_other.new.seat) c.args.g c.args.key _ before look.other,
     )

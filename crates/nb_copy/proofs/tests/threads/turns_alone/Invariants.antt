@@ -4,4 +4,4 @@ use Rattle.nb_table.specs.Chains.{IsOwn, seen_by}
 use Rattle.nb_copy.proofs.tests.threads.turns_alone.Given as goal
 
 abbrev pub invariant-loop-i : goal.invariant-loop-i
-invariant-loop-i l = (l.turned ≤ l.i) × IsOwn l.chain l.seat × IsInstalled (seen_by l.seat) 1
+invariant-loop-i l = (l.turned ≤ l.i) × IsOwn l.chain l.seat × IsInstalled (seen_by l.chain.shape l.seat) 1

@@ -1,17 +1,16 @@
 use Rattle.std.proofs.Common.{subst}
 use Rattle.nb_core.specs.Plans.{IsPlan}
+use Rattle.nb_table.proofs.Theorems.{steps_add_up}
 use Rattle.nb_copy.proofs.tests.threads.turns_slot.Goals as goal
 
 pub returns-then-counted : goal.returns-then-counted
 returns-then-counted c =
-    let law = c.steps_add_up.ensures in
     let copied = c.copy_and_count.ensures.copied.grown in
-    let lasting = law.stays (subst IsPlan c.shape.ensures c.known.ensures) c.requires.own copied in
-    record { own = law.own c.requires.own copied; growing = lasting.installed 1 c.requires.growing }
+    let lasting = steps_add_up.stays c.requires.own copied in
+    record { own = steps_add_up.own c.requires.own copied; growing = lasting.installed 1 c.requires.growing }
 
 pub returns : goal.returns
 returns c =
-    let law = c.steps_add_up.ensures in
     let copied = c.copy_slot.ensures.copied.grown in
-    let lasting = law.stays (subst IsPlan c.shape.ensures c.known.ensures) c.requires.own copied in
-    record { own = law.own c.requires.own copied; growing = lasting.installed 1 c.requires.growing }
+    let lasting = steps_add_up.stays c.requires.own copied in
+    record { own = steps_add_up.own c.requires.own copied; growing = lasting.installed 1 c.requires.growing }

@@ -1,10 +1,11 @@
 use Rattle.std.proofs.Common.{◌∙◌, ap, length, refl, subst, sym}
 use Rattle.std.proofs.lemmas.List.{length-map}
+use Rattle.std.proofs.lemmas.List.Elements.{All-weaker}
 use Rattle.nb_core.specs.Plans.{IsPlan}
 use Rattle.nb_map.proofs.Parted.{own-chains, own-counts}
 use Rattle.nb_map.proofs.Sizes.{AreGathered, ended-with, is-ended}
 use Rattle.nb_map.specs.Inside.{map_of}
-use Rattle.nb_map.specs.Maps.{AreMine}
+use Rattle.nb_map.specs.Maps.{AreMine, HasCounted, IsMine}
 use Rattle.nb_map.proofs.map.Map.finish.Goals as goal
 
 pub close-requires : goal.close-requires
@@ -27,16 +28,17 @@ gathered c = record {
   all =
       sym (length-map c.args.seats.items (λ seat. seat.chain)) ∙ ap length (sym c.parted-chain_seats.ensures.of_chain)
       ∙ c.in-Ok-Ok.ensures.all.0 refl ∙ ap (λ m. m.chain.shape.seats) c.self.view_is;
+  counted = All-weaker (IsMine c.args.self) HasCounted (λ seat mine. mine.counted) c.args.seats.items c.requires.own;
 }
 
 pub invariant_of-result : goal.invariant_of-result
 invariant_of-result c =
     let plan = subst IsPlan (ap (λ m. m.chain.shape) c.self.view_is) c.self.invariant.plan in
-    is-ended _ _ _ _ _ (gathered c) plan c.stands.ensures c.map_in_range.ensures c.size_is_net.ensures c.own_lasts.ensures
-    c.few_keys.ensures c.in-Ok-Ok.size c.in-Ok-Ok.ensures'.sum
+    is-ended _ _ _ _ _ (gathered c) plan
+    c.in-Ok-Ok.size c.in-Ok-Ok.ensures'.sum
 
 pub returns-clause-ended : goal.returns-clause-ended
 returns-clause-ended c =
     let plan = subst IsPlan (ap (λ m. m.chain.shape) c.self.view_is) c.self.invariant.plan in
-    ended-with _ _ _ _ _ (gathered c) plan c.size_is_net.ensures c.own_lasts.ensures c.few_keys.ensures c.in-Ok-Ok.size
+    ended-with _ _ _ _ _ (gathered c) plan c.in-Ok-Ok.size
     c.in-Ok-Ok.ensures'.sum

@@ -1,13 +1,16 @@
-use Rattle.std.proofs.Common.{◌∙◌, sym}
-use Rattle.nb_map.proofs.Counted.{net-quiet}
+use Rattle.std.proofs.Common.{refl, subst, subst₂, sym}
+use Rattle.nb_map.proofs.Counted.{quiet-mine}
+use Rattle.nb_map.specs.Maps.{IsMine, SeatOf}
 use Rattle.nb_map.proofs.map.Map.meet.Goals as goal
 
-pub invariant_of-a : goal.invariant_of-a
-invariant_of-a c = record {
-  counted = c.a.invariant.counted ∙ sym (net-quiet c.steps_add_up.ensures c.args.self.now.chain.shape c.meet.ensures.a.0);
-}
+pub returns-clause-a_own : goal.returns-clause-a_own
+returns-clause-a_own c =
+    let mine = subst₂ IsMine (sym c.self.view_is) (sym c.a.view_is) c.requires.a_own in
+    let after : SeatOf = record { chain = c.meet.new.a; count = c.a.inside.count } in
+    subst (λ map. IsMine map after) c.self.view_is (quiet-mine {after = after} mine c.meet.ensures.a.0 refl)
 
-pub invariant_of-b : goal.invariant_of-b
-invariant_of-b c = record {
-  counted = c.b.invariant.counted ∙ sym (net-quiet c.steps_add_up.ensures c.args.self.now.chain.shape c.meet.ensures.b.0);
-}
+pub returns-clause-b_own : goal.returns-clause-b_own
+returns-clause-b_own c =
+    let mine = subst₂ IsMine (sym c.self.view_is) (sym c.b.view_is) c.requires.b_own in
+    let after : SeatOf = record { chain = c.meet.new.b; count = c.b.inside.count } in
+    subst (λ map. IsMine map after) c.self.view_is (quiet-mine {after = after} mine c.meet.ensures.b.0 refl)

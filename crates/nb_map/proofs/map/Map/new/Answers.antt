@@ -4,14 +4,14 @@ use Rattle.nb_core.specs.Plans.{IsPlan}
 use Rattle.nb_count.specs.Counts as counts
 use Rattle.nb_table.specs.Chains as chains
 use Rattle.nb_map.specs.Maps.{seats_of}
-use Rattle.nb_map.proofs.Dealt.{dealing-as_many, dealing-counted, dealing-done, dealing-first, dealing-more}
+use Rattle.nb_map.proofs.Dealt.{dealing-as_many, dealing-done, dealing-first, dealing-more, dealt-mine}
 use Rattle.nb_map.proofs.map.Map.new.Goals as goal
 
 pub loop-chain-init : goal.loop-chain-init
 loop-chain-init c =
     let p = c.args.shape in
-    let chains = c.in_ok-chain.ensures.seats ∙ ap (λ v. chains.seats_of v.id p 0 p.seats) (sym c.chain.view_is) in
-    let counts = c.in_ok-counter.ensures.seats ∙ ap (λ n. counts.seats_of c.in_ok-counter.counter.id 0 n) c.seats-2.ensures in
+    let chains = c.in_ok-chain.ensures.seats ∙ ap (λ v. chains.seats_of v.id 0 p.seats) (sym c.chain.view_is) in
+    let counts = c.in_ok-counter.ensures.seats ∙ ap (λ n. counts.seats_of c.in_ok-counter.counter.id 0 n) c.seats-2.ensures.number in
     let shape = ap (λ v. v.shape) c.chain.view_is ∙ c.in_ok-chain.ensures.chain in
     let d = dealing-first _ _ _ _ p shape chains counts c.in_ok-seats.ensures.items in
     let many = dealing-as_many d in
@@ -19,13 +19,8 @@ loop-chain-init c =
       d,
       omega (arith, many, seats, c.in_ok-seats.ensures.len, c.in_ok-chain.chain_seats.ok),
       omega (arith, many, seats, c.in_ok-seats.ensures.len, c.in_ok-counter.count_seats.ok),
-      omega (arith, c.in_ok-seats.ensures.capacity, c.seats.ensures),
+      omega (arith, c.in_ok-seats.ensures.capacity, c.seats.ensures.number),
     )
-
-pub invariant_of-push_reserved : goal.invariant_of-push_reserved
-invariant_of-push_reserved c = record {
-  counted = dealing-counted _ _ _ _ _ _ _ _ c.loop-chain.invariant.0 c.in-Some.ensures.items c.in-Some-pop.ensures.items;
-}
 
 pub push_reserved-requires : goal.push_reserved-requires
 push_reserved-requires c =
@@ -54,8 +49,8 @@ loop-chain-preserved c =
 
 pub invariant_of-map : goal.invariant_of-map
 invariant_of-map c = record {
-  plan = subst IsPlan (sym c.in_ok-chain.ensures.chain) c.known.ensures;
-  seats = c.in_ok-counter.ensures.counter.1 ∙ c.seats-2.ensures ∙ ap (λ q. q.seats) (sym c.in_ok-chain.ensures.chain);
+  plan = subst IsPlan (sym c.in_ok-chain.ensures.chain) c.seats.ensures.plan;
+  seats = c.in_ok-counter.ensures.counter.1 ∙ c.seats-2.ensures.number ∙ ap (λ q. q.seats) (sym c.in_ok-chain.ensures.chain);
 }
 
 pub returns-clause-seats : goal.returns-clause-seats
@@ -65,3 +60,11 @@ returns-clause-seats c =
     c.reverse.ensures.items ∙ (dealing-done c.loop-chain.invariant.0 none).1
     ∙ ap (λ chain. seats_of (record { chain = chain; counter = counter }) 0 chain.shape.seats) c.chain.view_is
     ∙ ap (λ q. seats_of (record { chain = c.in_ok-chain.chain; counter = counter }) 0 q.seats) c.in_ok-chain.ensures.chain
+
+pub returns-clause-own : goal.returns-clause-own
+returns-clause-own c =
+    dealt-mine (record { chain = c.in_ok-chain.chain; counter = c.in_ok-counter.counter })
+    (subst IsPlan (sym c.in_ok-chain.ensures.chain) c.seats.ensures.plan) _ _ (returns-clause-seats c)
+
+pub returns-clause-plan : goal.returns-clause-plan
+returns-clause-plan c = subst IsPlan (sym c.in_ok-chain.ensures.chain) c.seats.ensures.plan

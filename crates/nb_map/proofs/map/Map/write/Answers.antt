@@ -7,29 +7,26 @@ loop-init g c = (
   tt,
   tt,
   c.requires.own,
-  waited-none c.steps_add_up.ensures c.args.self.now (call.Write c.args.key c.args.want.now c.args.change.now) c.args.seat.now
-      c.known.ensures.legal,
+  waited-none c.args.self.now (call.Write c.args.key c.args.want.now c.args.change.now) c.args.seat.now c.requires.own,
 )
 
 pub returns-in-Ok-clause-replied : goal.returns-in-Ok-clause-replied
 returns-in-Ok-clause-replied g c =
-    waited-more c.steps_add_up.ensures c.args.self.now c.known.ensures.plan c.requires.own c.loop.invariant.3 (_, c.in-Ok.ensures.called)
+    waited-more c.args.self.now c.requires.own c.loop.invariant.3 (_, c.in-Ok.ensures.called)
 
 pub loop-preserved : goal.loop-preserved
 loop-preserved g c =
-    let law = c.steps_add_up.ensures in
-    let plan = c.known.ensures.plan in
-    let tried = waited-more law c.args.self.now plan c.requires.own c.loop.invariant.3 (_, c.in-Err-Contended.ensures.refused.0) in
-    (tt, tt, waited-mine law c.args.self.now plan c.requires.own tried, tried)
+    let tried = waited-more c.args.self.now c.requires.own c.loop.invariant.3 (_, c.in-Err-Contended.ensures.refused.0) in
+    (tt, tt, waited-mine c.args.self.now c.requires.own tried, tried)
 
 pub returns-in-Err-Full-clause-refused : goal.returns-in-Err-Full-clause-refused
 returns-in-Err-Full-clause-refused g c = (
-  waited-more c.steps_add_up.ensures c.args.self.now c.known.ensures.plan c.requires.own c.loop.invariant.3 (_, c.in-Err-Full.ensures.refused.0),
+  waited-more c.args.self.now c.requires.own c.loop.invariant.3 (_, c.in-Err-Full.ensures.refused.0),
   rw c.in-Err-Full.field-0-is at c.in-Err-Full.ensures.refused.1,
 )
 
 pub returns-in-Err-ValueRange-clause-refused : goal.returns-in-Err-ValueRange-clause-refused
 returns-in-Err-ValueRange-clause-refused g c = (
-  waited-more c.steps_add_up.ensures c.args.self.now c.known.ensures.plan c.requires.own c.loop.invariant.3 (_, c.in-Err-ValueRange.ensures.refused.0),
+  waited-more c.args.self.now c.requires.own c.loop.invariant.3 (_, c.in-Err-ValueRange.ensures.refused.0),
   rw c.in-Err-ValueRange.field-0-is at c.in-Err-ValueRange.ensures.refused.1,
 )

@@ -23,22 +23,22 @@ returns-in-PutIfAbsent-clause-answered g c =
 pub returns-in-Replace-clause-answered : goal.returns-in-Replace-clause-answered
 returns-in-Replace-clause-answered g c =
     subst₂ (λ made a. IsAnswered c.args.map.now made a c.args.seat.now c.replace.new.seat) (sym c.in-Replace.is) (sym c.before-in-Replace.ensures)
-    (by-found c.args.map.now c.args.seat.now c.replace.new.seat (command.Replace c.in-Replace.key c.in-Replace.number) (λ reply. refl) c.replace.result c.replace.ensures)
+    (by-found c.args.map.now c.args.seat.now c.replace.new.seat (command.Replace c.in-Replace.key c.in-Replace.number) (λ reply. refl) c.replace.result c.replace.ensures.found)
 
 pub returns-in-ReplaceIf-clause-answered : goal.returns-in-ReplaceIf-clause-answered
 returns-in-ReplaceIf-clause-answered g c =
     subst (λ made. IsAnswered c.args.map.now made (Matched c.replace_if.result) c.args.seat.now c.replace_if.new.seat) (sym c.in-ReplaceIf.is)
-    (by-matched c.args.map.now c.args.seat.now c.replace_if.new.seat (command.ReplaceIf c.in-ReplaceIf.key c.in-ReplaceIf.old c.in-ReplaceIf.new) (λ reply. refl) c.replace_if.result c.replace_if.ensures)
+    (by-matched c.args.map.now c.args.seat.now c.replace_if.new.seat (command.ReplaceIf c.in-ReplaceIf.key c.in-ReplaceIf.old c.in-ReplaceIf.new) (λ reply. refl) c.replace_if.result c.replace_if.ensures.matched)
 
 pub returns-in-Remove-clause-answered : goal.returns-in-Remove-clause-answered
 returns-in-Remove-clause-answered g c =
     subst₂ (λ made a. IsAnswered c.args.map.now made a c.args.seat.now c.remove.new.seat) (sym c.in-Remove.is) (sym c.before-in-Remove.ensures)
-    (by-found c.args.map.now c.args.seat.now c.remove.new.seat (command.Remove c.in-Remove.key) (λ reply. refl) c.remove.result c.remove.ensures)
+    (by-found c.args.map.now c.args.seat.now c.remove.new.seat (command.Remove c.in-Remove.key) (λ reply. refl) c.remove.result c.remove.ensures.found)
 
 pub returns-in-RemoveIf-clause-answered : goal.returns-in-RemoveIf-clause-answered
 returns-in-RemoveIf-clause-answered g c =
     subst (λ made. IsAnswered c.args.map.now made (Matched c.remove_if.result) c.args.seat.now c.remove_if.new.seat) (sym c.in-RemoveIf.is)
-    (by-matched c.args.map.now c.args.seat.now c.remove_if.new.seat (command.RemoveIf c.in-RemoveIf.key c.in-RemoveIf.number) (λ reply. refl) c.remove_if.result c.remove_if.ensures)
+    (by-matched c.args.map.now c.args.seat.now c.remove_if.new.seat (command.RemoveIf c.in-RemoveIf.key c.in-RemoveIf.number) (λ reply. refl) c.remove_if.result c.remove_if.ensures.matched)
 
 pub returns-in-Add-clause-answered : goal.returns-in-Add-clause-answered
 returns-in-Add-clause-answered g c =

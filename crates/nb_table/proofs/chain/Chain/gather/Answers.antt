@@ -10,7 +10,7 @@ pub loop-other-init : goal.loop-other-init
 loop-other-init c =
     let items = c.pop.ensures.items ∙ ap (λ o. c.pop.new.self.items ++ option_to_list o) c.unwrap-last.ensures in (
       gathered-first c.args.self.now.id c.last.inside _ _ _ c.last.invariant c.last.view_is items
-          (own-last _ _ _ _ items c.requires.own),
+          (own-last _ _ _ _ items c.requires.own).at,
       own-left _ _ _ _ items c.requires.own,
     )
 
@@ -18,7 +18,7 @@ pub join_seat-requires : goal.join_seat-requires
 join_seat-requires c =
     let table = ap (λ v. v.id) c.self.view_is in
     let is = c.in-Some.ensures.items in
-    let other = ap (λ v. v.chain) c.other.view_is ∙ own-last _ _ _ _ is c.loop-other.invariant.1 in (
+    let other = ap (λ v. v.chain) c.other.view_is ∙ (own-last _ _ _ _ is c.loop-other.invariant.1).at in (
       c.loop-other.invariant.0.own ∙ sym table,
       other ∙ sym table,
       c.other.invariant.free,

@@ -1,8 +1,9 @@
-use Rattle.nb_table.specs.Gathered.{AreOwn, HasGathered}
+use Rattle.nb_table.specs.Chains.{AreOwn}
+use Rattle.nb_table.specs.Gathered.{HasGathered}
 use Rattle.nb_table.proofs.chain.Chain.gather.Given as goal
 
 abbrev pub invariant-loop-other : goal.invariant-loop-other
-invariant-loop-other l = HasGathered l.fn.self.id l.seat l.seats.items l.fn.seats.items × AreOwn l.fn.self.id l.seats.items
+invariant-loop-other l = HasGathered l.fn.self.id l.seat l.seats.items l.fn.seats.items × AreOwn l.fn.self l.seats.items
 
 abbrev pub decreases-loop-other : goal.decreases-loop-other
 decreases-loop-other l = goal.left-loop-other l

@@ -12,24 +12,22 @@ exchanges-requires-clause-can c =
     let p = c.args.self.now.shape in
     let seat = c.args.seat.now in
     let at_place = c.key_place-place.ensures ∙ ap (λ v. key_place v.shape c.args.g c.args.i) c.self.view_is in
-    let growing = subst (λ q. IsInstalled (tables_at q seat.seen) (suc c.args.g)) c.requires.own.1 c.requires.growing in
     let events = kills seat.number c.args.g c.args.i in
     subst (λ place. Can p events seat.number seat.seen place (λ found. cond (eqb found 0) 1 found)) (sym at_place)
-    (can-kill p c.seen_lasts.ensures seat.number c.args.g seat.seen c.args.i c.requires.slot growing)
+    (can-kill p seat.number c.args.g seat.seen c.args.i c.requires.slot c.requires.growing)
 
 pub returns-clause-won : goal.returns-clause-won
 returns-clause-won c =
     let p = c.args.self.now.shape in
     let e = Kill c.args.seat.now.number c.args.g c.args.i in
     let at_place = c.key_place-place.ensures ∙ ap (λ v. key_place v.shape c.args.g c.args.i) c.self.view_is in
-    let plan = subst IsPlan (ap (λ v. v.shape) c.self.view_is) c.known.ensures in
-    key-won p e c.args.g c.args.i _ _ _ _ c.requires.own.1 at_place c.exchanges.ensures c.decode_key.result 1
-    c.lawful_words.ensures c.places_are_distinct.ensures plan c.requires.slot (λ h. refl) c.decode_key.ensures.back
+    key-won p e c.args.g c.args.i _ _ _ _ at_place c.exchanges.ensures c.decode_key.result 1
+     c.requires.own.plan c.requires.slot (λ h. refl) c.decode_key.ensures.back
 
 pub returns-clause-lost : goal.returns-clause-lost
 returns-clause-lost c =
     let p = c.args.self.now.shape in
     let e = Kill c.args.seat.now.number c.args.g c.args.i in
     let at_place = c.key_place-place.ensures ∙ ap (λ v. key_place v.shape c.args.g c.args.i) c.self.view_is in
-    key-lost p e c.args.g c.args.i _ _ _ _ c.requires.own.1 at_place c.exchanges.ensures c.decode_key.result
+    key-lost p e c.args.g c.args.i _ _ _ _ at_place c.exchanges.ensures c.decode_key.result
     c.decode_key.ensures.state

@@ -1,4 +1,4 @@
-use Rattle.std.proofs.Common.{◌∙◌, ◌==◌, ℕ, ap, subst, sym}
+use Rattle.std.proofs.Common.{arith, ◌∙◌, ◌==◌, ℕ, ap, subst, sym}
 use Rattle.std.specs.Option.{IfSome}
 use Rattle.nb_core.specs.Plans.{IsPlan, header_place, size_of}
 use Rattle.nb_core.specs.Tables.{AreOthers, tables_at}
@@ -7,6 +7,7 @@ use Rattle.nb_table.specs.Conditions.{IsReached}
 use Rattle.nb_table.specs.Events.{reads, shown_by_next}
 use Rattle.nb_table.specs.Steps.{Can}
 use Rattle.nb_table.proofs.Loading.{can-load_next}
+use Rattle.nb_table.proofs.Counts.{header-within}
 use Rattle.nb_table.proofs.chain.Chain.load_next.Goals as goal
 
 pub loads-requires-clause-can : goal.loads-requires-clause-can
@@ -17,9 +18,12 @@ loads-requires-clause-can c =
     let events = λ (found : ℕ). reads seat.number c.args.call (λ k. shown_by_next (found == 1)) in
     let at_place = c.header_place-place.ensures ∙ ap (λ v. header_place v.shape g 0) c.self.view_is in
     subst (λ place. Can p events seat.number seat.seen place (λ found. found)) (sym at_place)
-    (can-load_next p c.seen_lasts.ensures c.decided.ensures c.read_replies.ensures seat.number seat.seen g c.requires.table
-    c.args.call c.linked.ensures (subst IsPlan (ap (λ v. v.shape) c.self.view_is) c.known.ensures) c.known_if_some.ensures
-    (subst (λ q. IfSome c.args.call (λ call. IsReached p (tables_at q seat.seen) g (key_of_call call))) c.requires.own.1
-    c.requires.reached)
-    (subst (λ q. IfSome c.args.call (λ call. AreOthers p (tables_at q seat.seen) g (key_of_call call) (size_of p g)))
-    c.requires.own.1 c.requires.crowded))
+    (can-load_next p seat.number seat.seen g c.requires.table
+    c.args.call c.requires.own.plan c.known_if_some.ensures
+    c.requires.reached
+    c.requires.crowded)
+
+pub loads-requires-clause-within : goal.loads-requires-clause-within
+loads-requires-clause-within c =
+    header-within c.args.self.now.shape c.requires.own.plan c.args.g 0 _ c.requires.table (omega arith)
+    (c.header_place-place.ensures ∙ ap (λ v. header_place v.shape c.args.g 0) c.self.view_is)

@@ -22,23 +22,20 @@ loads-requires-clause-can c =
     let events = λ (found : ℕ). reads seat.number c.args.call (λ k. shown_by_value (unwrap_or (value_state found) Null)) in
     let at_place = c.value_place-place.ensures ∙ ap (λ v. value_place v.shape g i) c.self.view_is in
     subst (λ place. Can p events seat.number seat.seen place (λ found. found)) (sym at_place)
-    (can-load_value p c.seen_lasts.ensures c.decided.ensures c.read_replies.ensures seat.number seat.seen g c.requires.slot.0
+    (can-load_value p seat.number seat.seen g c.requires.slot.0
     i c.args.call c.requires.slot c.known_if_some.ensures
-    (subst (λ q. IfSome c.args.call (λ call. IsReached p (tables_at q seat.seen) g (key_of_call call))) c.requires.own.1
-    c.requires.reached)
-    (subst (λ q. IfSome c.args.call (λ call. (tables_at q seat.seen).key g i ≡ Claimed (key_of_call call))) c.requires.own.1
-    c.requires.claimed))
+    c.requires.reached
+    c.requires.claimed)
 
 pub decode_lawful_value-requires : goal.decode_lawful_value-requires
 decode_lawful_value-requires c =
     let p = c.args.self.now.shape in
-    let plan = subst IsPlan (ap (λ v. v.shape) c.self.view_is) c.known.ensures in
     let seat = c.args.seat.now in
     let events = λ (found : ℕ). reads seat.number c.args.call (λ k. shown_by_value (unwrap_or (value_state found) Null)) in
     let place = c.value_place-place.ensures ∙ ap (λ v. value_place v.shape c.args.g c.args.i) c.self.view_is in
     let step = subst (λ x. Stepped p events x seat c.loads.result c.loads.new.seat) place c.loads.ensures in
-    found-is p plan c.lawful_words.ensures c.beginnings_are_legal.ensures events seat c.loads.result c.loads.new.seat
-    c.args.g c.args.i c.requires.slot c.requires.own.1 step
+    found-is p c.requires.own.plan events seat c.loads.result c.loads.new.seat
+    c.args.g c.args.i c.requires.slot step
 
 pub returns-clause-found : goal.returns-clause-found
 returns-clause-found c =
@@ -47,6 +44,6 @@ returns-clause-found c =
     let place = c.value_place-place.ensures ∙ ap (λ v. value_place v.shape c.args.g c.args.i) c.self.view_is in
     let shown = λ (found : ℕ) (k : ℕ). shown_by_value (unwrap_or (value_state found) Null) in
     let step = c.loads.ensures in
-    ap (λ t. t.value c.args.g c.args.i) (load-sees p seat.number c.args.call shown _ _ seat c.loads.new.seat c.requires.own.1
+    ap (λ t. t.value c.args.g c.args.i) (load-sees p seat.number c.args.call shown _ _ seat c.loads.new.seat
     step) ∙ ap (λ x. unwrap_or (value_state x) Null) (ap (slice_index _) (sym place) ∙ step.word)
     ∙ ap (λ o. unwrap_or o Null) (c.decode_lawful_value.ensures)

@@ -5,14 +5,14 @@ use Rattle.nb_table.proofs.chain.Chain.meet.Goals as goal
 
 pub split_seat-of_a-requires : goal.split_seat-of_a-requires
 split_seat-of_a-requires c = (
-  ap (λ v. v.chain) c.a.view_is ∙ c.requires.a_own.0 ∙ sym (ap (λ v. v.id) c.self.view_is),
+  ap (λ v. v.chain) c.a.view_is ∙ c.requires.a_own.at ∙ sym (ap (λ v. v.id) c.self.view_is),
   omega (arith, c.self.invariant.words, some-words c.self.inside.shape),
   notes _ _ _,
 )
 
 pub split_seat-of_b-requires : goal.split_seat-of_b-requires
 split_seat-of_b-requires c = (
-  ap (λ v. v.chain) c.b.view_is ∙ c.requires.b_own.0 ∙ sym (ap (λ v. v.id) c.self.view_is),
+  ap (λ v. v.chain) c.b.view_is ∙ c.requires.b_own.at ∙ sym (ap (λ v. v.id) c.self.view_is),
   omega (arith, c.self.invariant.words, some-words c.self.inside.shape),
   notes _ _ _,
 )
@@ -20,8 +20,8 @@ split_seat-of_b-requires c = (
 pub join_seat-requires : goal.join_seat-requires
 join_seat-requires c =
     let table = sym (ap (λ v. v.id) c.self.view_is) in (
-      c.split_seat-of_a.ensures.0 ∙ ap (λ v. v.chain) c.a.view_is ∙ c.requires.a_own.0 ∙ table,
-      c.split_seat-of_b.ensures.3 ∙ ap (λ v. v.chain) c.b.view_is ∙ c.requires.b_own.0 ∙ table,
+      c.split_seat-of_a.ensures.0 ∙ ap (λ v. v.chain) c.a.view_is ∙ c.requires.a_own.at ∙ table,
+      c.split_seat-of_b.ensures.3 ∙ ap (λ v. v.chain) c.b.view_is ∙ c.requires.b_own.at ∙ table,
       ap (λ m. m.1) c.split_seat-of_b.ensures.4,
       omega (arith, c.self.invariant.words, some-words c.self.inside.shape),
       joins _ _ _ _ _,
@@ -30,25 +30,25 @@ join_seat-requires c =
 pub join_seat-requires-2 : goal.join_seat-requires-2
 join_seat-requires-2 c =
     let table = sym (ap (λ v. v.id) c.self.view_is) in (
-      c.split_seat-of_b.ensures.0 ∙ ap (λ v. v.chain) c.b.view_is ∙ c.requires.b_own.0 ∙ table,
-      c.split_seat-of_a.ensures.3 ∙ ap (λ v. v.chain) c.a.view_is ∙ c.requires.a_own.0 ∙ table,
+      c.split_seat-of_b.ensures.0 ∙ ap (λ v. v.chain) c.b.view_is ∙ c.requires.b_own.at ∙ table,
+      c.split_seat-of_a.ensures.3 ∙ ap (λ v. v.chain) c.a.view_is ∙ c.requires.a_own.at ∙ table,
       ap (λ m. m.1) c.split_seat-of_a.ensures.4,
       omega (arith, c.self.invariant.words, some-words c.self.inside.shape),
       joins _ _ _ _ _,
     )
 
-met-a : (c : goal.After-hears-2) → HasMet c.a.inside c.b.inside (record { shape = c.a.inside.shape; seat = c.hears.new.seat })
+met-a : (c : goal.After-hears-2) → HasMet c.args.self.now.shape c.a.inside c.b.inside (record { seat = c.hears.new.seat })
 met-a c =
     let me = joined-me c.a.inside.seat.me c.b.inside.seat.me _ _ _ c.split_seat-of_a.ensures.2 c.split_seat-of_b.ensures.4
     c.join_seat.ensures.2 in
-    met _ c.a.inside c.b.inside _ _ _ c.a.invariant c.b.invariant (ap (λ v. v.shape) c.a.view_is ∙ c.requires.a_own.1) refl
+    met _ c.a.inside c.b.inside _ _ _ c.a.invariant c.b.invariant
     (c.hears.ensures.own ∙ c.join_seat.ensures.0 ∙ c.split_seat-of_a.ensures.0) me c.hears.ensures.heard
 
-met-b : (c : goal.After-hears-2) → HasMet c.b.inside c.a.inside (record { shape = c.b.inside.shape; seat = c.hears-2.new.seat })
+met-b : (c : goal.After-hears-2) → HasMet c.args.self.now.shape c.b.inside c.a.inside (record { seat = c.hears-2.new.seat })
 met-b c =
     let me = joined-me c.b.inside.seat.me c.a.inside.seat.me _ _ _ c.split_seat-of_b.ensures.2 c.split_seat-of_a.ensures.4
     c.join_seat-2.ensures.2 in
-    met _ c.b.inside c.a.inside _ _ _ c.b.invariant c.a.invariant (ap (λ v. v.shape) c.b.view_is ∙ c.requires.b_own.1) refl
+    met _ c.b.inside c.a.inside _ _ _ c.b.invariant c.a.invariant
     (c.hears-2.ensures.own ∙ c.join_seat-2.ensures.0 ∙ c.split_seat-of_b.ensures.0) me c.hears-2.ensures.heard
 
 pub invariant_of-a : goal.invariant_of-a
@@ -58,7 +58,7 @@ pub invariant_of-b : goal.invariant_of-b
 invariant_of-b c = (met-b c).seat
 
 pub returns-clause-a : goal.returns-clause-a
-returns-clause-a c = met-told _ _ _ _ _ c.a.view_is c.b.view_is (met-a c)
+returns-clause-a c = met-told _ _ _ _ _ _ c.a.view_is c.b.view_is (met-a c)
 
 pub returns-clause-b : goal.returns-clause-b
-returns-clause-b c = met-told _ _ _ _ _ c.b.view_is c.a.view_is (met-b c)
+returns-clause-b c = met-told _ _ _ _ _ _ c.b.view_is c.a.view_is (met-b c)

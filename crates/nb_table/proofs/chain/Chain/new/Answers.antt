@@ -1,7 +1,7 @@
 use Rattle.std.proofs.Common.{◌∙◌, ap, arith, refl, replicate}
 use Rattle.nb_table.specs.declared.chain.ChainSeat.TheInside.{Inside}
 use Rattle.nb_table.proofs.Opening.{count-words, deals, opens, some-words}
-use Rattle.nb_table.proofs.Dealt.{dealing-count, dealing-done, dealing-first, dealing-more, dealt-is_seat}
+use Rattle.nb_table.proofs.Dealt.{dealt-own, dealing-count, dealing-done, dealing-first, dealing-more, dealt-is_seat}
 use Rattle.nb_table.proofs.chain.Chain.new.Goals as goal
 
 pub of_words-requires : goal.of_words-requires
@@ -18,13 +18,13 @@ invariant_of-chain c =
       key = c.in_ok-table.ensures.5;
       words = c.in_ok-table.ensures.0 ∙ count-words c.args.shape _ zeros;
       slots = c.in_ok-table.ensures.1;
-      plan = c.known.ensures;
+      plan = c.seats.ensures.plan;
     }
 
 pub loop-number-init : goal.loop-number-init
 loop-number-init c = (
   dealing-first _ _ _ _ c.in_ok-table.ensures.2 c.in_ok-table.ensures.4 c.in_ok-dealt.ensures.items,
-  omega (arith, c.in_ok-dealt.ensures.capacity, c.seats.ensures),
+  omega (arith, c.in_ok-dealt.ensures.capacity, c.seats.ensures.number),
 )
 
 pub split_seat-seat-requires : goal.split_seat-seat-requires
@@ -44,8 +44,8 @@ split_seat-seat-requires c =
 pub invariant_of-push_reserved : goal.invariant_of-push_reserved
 invariant_of-push_reserved c =
     dealt-is_seat c.loop-number.rest.me.0 c.loop-number._number c.args.shape.seats
-    (record { shape = c.args.shape; seat = c.split_seat-seat.result })
-    (omega (arith, c.loop-number-test.true, c.seats-number-end.ensures)) c.loop-number.invariant.0.left
+    (record { seat = c.split_seat-seat.result })
+    (omega (arith, c.loop-number-test.true, c.seats-number-end.ensures.number)) c.loop-number.invariant.0.left
     c.split_seat-seat.ensures.4
 
 pub push_reserved-requires : goal.push_reserved-requires
@@ -55,20 +55,27 @@ push_reserved-requires c =
       dealing-count c.loop-number.invariant.0,
       c.loop-number.invariant.1,
       c.loop-number-test.true,
-      c.seats-number-end.ensures,
+      c.seats-number-end.ensures.number,
     )
 
 pub loop-number-preserved : goal.loop-number-preserved
 loop-number-preserved c =
-    let s : Inside = record { shape = c.args.shape; seat = c.split_seat-seat.result } in (
+    let s : Inside = record { seat = c.split_seat-seat.result } in (
       dealing-more _ c.args.shape c.loop-number.rest _ c.loop-number.dealt.items _ s c.loop-number._number
-          (omega (arith, c.loop-number-test.true, c.seats-number-end.ensures)) c.loop-number.invariant.0
-          c.split_seat-seat.ensures.0 c.split_seat-seat.ensures.2 refl c.split_seat-seat.ensures.3 c.split_seat-seat.ensures.4
+          (omega (arith, c.loop-number-test.true, c.seats-number-end.ensures.number)) c.loop-number.invariant.0
+          c.split_seat-seat.ensures.0 c.split_seat-seat.ensures.2 c.split_seat-seat.ensures.3 c.split_seat-seat.ensures.4
           c.push_reserved.ensures.items,
       omega (arith, c.loop-number.invariant.1, c.push_reserved.ensures.capacity),
     )
 
 pub returns-clause-seats : goal.returns-clause-seats
 returns-clause-seats c =
-    dealing-done _ c.args.shape _ _ c.loop-number._number (omega (arith, c.loop-number-test.false, c.seats-number-end.ensures))
-    (omega (arith, c.loop-number.auto._number-end, c.seats-number-end.ensures)) c.loop-number.invariant.0
+    dealing-done _ c.args.shape _ _ c.loop-number._number (omega (arith, c.loop-number-test.false, c.seats-number-end.ensures.number))
+    (omega (arith, c.loop-number.auto._number-end, c.seats-number-end.ensures.number)) c.loop-number.invariant.0
+
+pub returns-clause-own : goal.returns-clause-own
+returns-clause-own c =
+    let p = c.args.shape in
+    let are = dealing-done _ p _ _ c.loop-number._number (omega (arith, c.loop-number-test.false, c.seats-number-end.ensures.number))
+    (omega (arith, c.loop-number.auto._number-end, c.seats-number-end.ensures.number)) c.loop-number.invariant.0 in
+    dealt-own (record { id = c.in_ok-table.table.shared.table_id; shape = p }) c.seats.ensures.plan _ p.seats are

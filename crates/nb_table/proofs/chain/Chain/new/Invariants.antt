@@ -4,5 +4,5 @@ use Rattle.nb_table.proofs.chain.Chain.new.Given as goal
 
 abbrev pub invariant-loop-number : goal.invariant-loop-number
 invariant-loop-number l =
-    IsDealing l.chain-inside.table.shared.table_id l.shape l.rest l.dealt.items l._number
-    × (l.shape.seats ≤ vec_capacity l.dealt)
+    IsDealing l.chain-inside.table.shared.table_id l.chain-inside.shape l.rest l.dealt.items l._number
+    × (l.chain-inside.shape.seats ≤ vec_capacity l.dealt)

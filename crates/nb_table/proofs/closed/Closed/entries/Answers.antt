@@ -10,6 +10,7 @@ use Rattle.nb_table.proofs.Looking.{is-left, law-left}
 use Rattle.nb_table.proofs.Listing.{listing-all, listing-first, listing-skip}
 use Rattle.nb_table.proofs.closed.Closed.entries.Goals as goal
 use Rattle.nb_table.proofs.closed.Closed.entries.Goals.{then-is_installed+in_ok-list_table, else-is_installed}
+use Rattle.nb_core.proofs.Theorems.{linked}
 
 pub loop-g-init : goal.loop-g-init
 loop-g-init c =
@@ -27,7 +28,7 @@ loop-g-preserved c =
           let left = is-left c.self.inside closed c.self.invariant c.self.view_is in
           let absent = sym w.if-is_installed.false ∙ c.is_installed.ensures in
           subst next (sym w.found-is)
-          (listing-skip closed (law-left closed left AreLinked c.linked.ensures) c.loop-g.found c.loop-g.g absent
+          (listing-skip closed (law-left closed left AreLinked linked) c.loop-g.found c.loop-g.g absent
           c.loop-g.invariant)
     ]
 
@@ -38,7 +39,7 @@ returns c =
     let whole : generations_of closed.shape ≤ c.loop-g.g
     = omega (arith, c.generations-g-end.ensures, ap (λ v. generations_of v.shape) c.self.view_is) in
     let all =
-    listing-all closed left.plan c.linked.ensures c.top_complete.ensures c.held_has_place.ensures c.place_is.ensures c.loop-g.found
+    listing-all closed left.plan c.loop-g.found
     c.loop-g.g whole c.loop-g.invariant in
     IfOk-weaker c.entries.result (λ entries. entries.items ≡ map.entries c.loop-g.found)
     (λ entries. HoldsOfMap closed (λ m. entries.items ≡ map.entries m))

@@ -3,14 +3,14 @@ use Rattle.std.specs.FinMap.{get}
 use Rattle.nb_core.specs.History.{map_of}
 use Rattle.nb_core.specs.Meaning.{shown_from}
 use Rattle.nb_core.specs.Plans.{generations_of}
-use Rattle.nb_table.proofs.Looking.{is-left, of-left}
+use Rattle.nb_core.proofs.Theorems.{stands}
+use Rattle.nb_table.proofs.Looking.{of-left}
 use Rattle.nb_table.proofs.closed.Closed.get.Goals as goal
 
 pub returns : goal.returns
 returns c = λ history from.
     let closed = c.args.self.now in
-    let left = is-left c.self.inside closed c.self.invariant c.self.view_is in
-    c.shown.ensures
+    c.shown.ensures.number
     ∙ of-left closed history from
     (λ t. shown_from closed.shape t c.args.key 0 (generations_of closed.shape) ≡ get (map_of history) c.args.key)
-    (c.stands.ensures closed.shape left.plan history from.legal c.args.key c.known.ensures)
+    (stands closed.shape c.shown.ensures.plan history from.legal c.args.key c.known.ensures)

@@ -30,6 +30,6 @@ loop-i-preserved c =
 
 pub returns : goal.returns
 returns c =
-    let size = c.size_of-i-end.ensures ∙ ap (λ v. size_of v.shape c.args.g) c.self.view_is in
+    let size = c.size_of-i-end.ensures.size ∙ ap (λ v. size_of v.shape c.args.g) c.self.view_is in
     let whole : size_of c.args.self.now.shape c.args.g ≤ c.loop-i.i = omega arith in
     listing-table c.args.self.now c.loop-i.found c.args.g c.loop-i.i whole c.loop-i.invariant

@@ -8,25 +8,26 @@ use Rattle.nb_table.specs.Left.{tables_left}
 use Rattle.nb_table.proofs.Looking.{is-left, law-left, passes-final, passes-primed, primed-next, shown-absent, shown-from-top, shown-value, shows-none, shows-primed}
 use Rattle.nb_table.proofs.closed.Closed.shown.Goals as goal
 use Rattle.nb_table.proofs.closed.Closed.shown.Goals.{in-Some+in-Primed+else-is_blank_in, in-Some+in-PrimedNull, in_default}
+use Rattle.nb_core.proofs.Theorems.{linked, top_complete}
 
 pub loop-g-init : goal.loop-g-init
 loop-g-init c =
     let closed = c.args.self.now in
     let left = is-left c.self.inside closed c.self.invariant c.self.view_is in
-    let complete = law-left closed left (λ p t. (g : ℕ) → g < t.top → (g < generations_of p) × IsComplete p t g) c.top_complete.ensures in
-    shown-from-top closed.shape (tables_left closed) c.args.key (law-left closed left AreLinked c.linked.ensures) complete c.top-g.result
+    let complete = law-left closed left (λ p t. (g : ℕ) → g < t.top → (g < generations_of p) × IsComplete p t g) top_complete in
+    shown-from-top closed.shape (tables_left closed) c.args.key (law-left closed left AreLinked linked) complete c.top-g.result
     (omega (arith, c.top-g.ensures))
 
-pub returns-then-not-is_installed : goal.returns-then-not-is_installed
-returns-then-not-is_installed c =
+pub returns-then-not-is_installed-clause-number : goal.returns-then-not-is_installed-clause-number
+returns-then-not-is_installed-clause-number c =
     let closed = c.args.self.now in
     let within : c.loop-g.g < generations_of closed.shape
     = omega (arith, c.generations-g-end.ensures, ap (λ v. generations_of v.shape) c.self.view_is) in
     let absent = sym c.if-not-is_installed.true ∙ c.is_installed.ensures in
     sym (c.loop-g.invariant ∙ shown-absent closed.shape (tables_left closed) c.args.key c.loop-g.g within absent)
 
-pub returns-in-Null : goal.returns-in-Null
-returns-in-Null c =
+pub returns-in-Null-clause-number : goal.returns-in-Null-clause-number
+returns-in-Null-clause-number c =
     let closed = c.args.self.now in
     let within : c.loop-g.g < generations_of closed.shape
     = omega (arith, c.generations-g-end.ensures, ap (λ v. generations_of v.shape) c.self.view_is) in
@@ -35,8 +36,8 @@ returns-in-Null c =
     sym (c.loop-g.invariant ∙ here (Some c.in-Some.value) installed c.in-Some.ensures
     ∙ shows-none _ _ c.in-Some.value c.in-Null.is)
 
-pub returns-in-Live : goal.returns-in-Live
-returns-in-Live c =
+pub returns-in-Live-clause-number : goal.returns-in-Live-clause-number
+returns-in-Live-clause-number c =
     let closed = c.args.self.now in
     let within : c.loop-g.g < generations_of closed.shape
     = omega (arith, c.generations-g-end.ensures, ap (λ v. generations_of v.shape) c.self.view_is) in
@@ -50,11 +51,11 @@ is_blank_in-requires c =
     let within : c.loop-g.g < generations_of closed.shape
     = omega (arith, c.generations-g-end.ensures, ap (λ v. generations_of v.shape) c.self.view_is) in
     let left = is-left c.self.inside closed c.self.invariant c.self.view_is in
-    primed-next closed.shape (tables_left closed) c.loop-g.g c.args.key within (law-left closed left AreLinked c.linked.ensures)
+    primed-next closed.shape (tables_left closed) c.loop-g.g c.args.key within (law-left closed left AreLinked linked)
     c.in-Primed.number (ap Some (sym c.in-Primed.is) ∙ c.in-Some.ensures)
 
-pub returns-then-is_blank_in : goal.returns-then-is_blank_in
-returns-then-is_blank_in c =
+pub returns-then-is_blank_in-clause-number : goal.returns-then-is_blank_in-clause-number
+returns-then-is_blank_in-clause-number c =
     let closed = c.args.self.now in
     let within : c.loop-g.g < generations_of closed.shape
     = omega (arith, c.generations-g-end.ensures, ap (λ v. generations_of v.shape) c.self.view_is) in
@@ -80,8 +81,8 @@ loop-g-preserved c =
       | in_default w ↦ here None installed w.in_default.ensures
     ]
 
-pub returns : goal.returns
-returns c =
+pub returns-clause-number : goal.returns-clause-number
+returns-clause-number c =
     let closed = c.args.self.now in
     let none : generations_of closed.shape - c.loop-g.g ≡ 0
     = omega (arith, c.generations-g-end.ensures, ap (λ v. generations_of v.shape) c.self.view_is) in

@@ -6,6 +6,7 @@ use Rattle.nb_core.specs.declared.states.KeyState.TheVariants.{Claimed, Dead, Em
 use Rattle.nb_table.specs.Left.{tables_left}
 use Rattle.nb_table.proofs.Looking.{AreOnPath, HaveOneSlot, found-end, found-none, found-slot, is-left, law-left, others-more}
 use Rattle.nb_table.proofs.closed.Closed.value_in.Goals as goal
+use Rattle.nb_core.proofs.Theorems.{on_path, one_slot}
 
 pub loop-distance-init : goal.loop-distance-init
 loop-distance-init c = λ e below. absurd (omega arith)
@@ -25,7 +26,7 @@ returns-then-eq c =
     let same : c.in-Claimed.other ≡ c.args.key = eqb-true _ _ (sym c.eq.ensures ∙ c.if-eq.true) in
     ap Some c.value_at.ensures
     ∙ found-slot closed.shape (tables_left closed) c.args.g c.args.key c.requires
-    (law-left closed left HaveOneSlot c.one_slot.ensures) c.path_slot-i.result in_table
+    (law-left closed left HaveOneSlot one_slot) c.path_slot-i.result in_table
     (sym c.key_at.ensures ∙ c.in-Claimed.is ∙ ap Claimed same)
 
 pub returns-in-Empty : goal.returns-in-Empty
@@ -34,7 +35,7 @@ returns-in-Empty c =
     let left = is-left c.self.inside closed c.self.invariant c.self.view_is in
     let at = c.path_slot-i.ensures.slot ∙ ap (λ v. path_slot v.shape c.args.g c.args.key c.loop-distance.distance) c.self.view_is in
     found-end closed.shape (tables_left closed) c.args.g c.args.key c.requires
-    (law-left closed left AreOnPath c.on_path.ensures) c.loop-distance.distance c.path_slot-i.result at c.loop-distance.invariant
+    (law-left closed left AreOnPath on_path) c.loop-distance.distance c.path_slot-i.result at c.loop-distance.invariant
     (subst (λ s. (s ≡ Empty) ⊎ (s ≡ Dead)) c.key_at.ensures c.in-Empty.is)
 
 pub loop-distance-preserved : goal.loop-distance-preserved
@@ -49,8 +50,8 @@ pub returns : goal.returns
 returns c =
     let closed = c.args.self.now in
     let left = is-left c.self.inside closed c.self.invariant c.self.view_is in
-    let size = c.size_of-distance-end.ensures ∙ ap (λ v. size_of v.shape c.args.g) c.self.view_is in
+    let size = c.size_of-distance-end.ensures.size ∙ ap (λ v. size_of v.shape c.args.g) c.self.view_is in
     let whole : c.loop-distance.distance ≡ size_of closed.shape c.args.g = omega (arith, c.loop-distance.auto.distance-end) in
     found-none closed.shape (tables_left closed) c.args.g c.args.key c.requires
-    (law-left closed left AreOnPath c.on_path.ensures)
+    (law-left closed left AreOnPath on_path)
     (subst (AreOthers closed.shape (tables_left closed) c.args.g c.args.key) whole c.loop-distance.invariant)

@@ -9,5 +9,5 @@ claim_key-requires-clause-way g c =
     let within : c.args.distance < c.limit_of.result = search rules in
     let limit = c.limit_of.ensures ∙ ap (λ p. limit_of p 0) c.shape.ensures in
     let slot = c.slot_on_path-i in
-    way_in c.args.chain.now.shape (seen_by c.sees_others.new.seat) slot.result c.args.key c.args.distance slot.ensures.distance
+    way_in c.args.chain.now.shape (seen_by c.args.chain.now.shape c.sees_others.new.seat) slot.result c.args.key c.args.distance slot.ensures.distance
     slot.ensures.path c.sees_others.ensures.others (subst (λ limit. c.args.distance < limit) limit within)
