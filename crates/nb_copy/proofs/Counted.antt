@@ -7,7 +7,7 @@ use Rattle.std.specs.List.{All}
 use Rattle.std.proofs.lemmas.List.{length-append}
 use Rattle.std.proofs.lemmas.List.Elements.{All-append, All-cons, All-nil, All-weaker}
 use Rattle.nb_core.specs.Plans.{Plan, generations_of, size_of}
-use Rattle.nb_core.specs.Tables.{IsComplete, IsFinished, tables_at}
+use Rattle.nb_core.specs.Tables.{IsComplete, IsFinished}
 use Rattle.nb_core.specs.History.{counted_by, seat_of_event, turned_by, turned_slot}
 use Rattle.nb_core.specs.declared.events.Event.{Event}
 use Rattle.nb_core.specs.declared.events.Event.TheVariants.{Count, Promote, Take}

@@ -1,8 +1,8 @@
 -- How a slot is finished.
-use Rattle.std.proofs.Common.{◌≡◌, ◌≢◌, ◌∙◌, ◌⊎◌, ℕ, suc, ◌+◌, ◌≤◌, ◌<◌, Bool, true, false, cond, List, [], ◌∷◌, drop, Some, None, ap, sym, subst, refl, inl, inr, arith}
+use Rattle.std.proofs.Common.{◌≡◌, ◌≢◌, ◌∙◌, ◌⊎◌, ℕ, suc, ◌+◌, ◌≤◌, ◌<◌, Bool, true, false, cond, List, [], ◌∷◌, Some, None, ap, sym, subst, refl, inl, inr, arith}
 use Rattle.std.proofs.lemmas.Bool.{eq-eqb}
 use Rattle.nb_core.specs.Plans.{Plan, generations_of, size_of}
-use Rattle.nb_core.specs.Tables.{HasSlot, IsComplete, IsFinished, IsFinishedValue, IsInstalled, IsSlot, IsUnprimed, Tables, tables_at}
+use Rattle.nb_core.specs.Tables.{HasSlot, IsFinished, IsFinishedValue, IsInstalled, IsSlot, IsUnprimed, Tables}
 use Rattle.nb_core.specs.History.{is_finished_by_priming}
 use Rattle.nb_core.specs.Laws.{IsPassed, IsPrimedOrFinished, Lasts, primed}
 use Rattle.nb_core.specs.declared.states.KeyState.TheVariants.{Claimed}
@@ -12,7 +12,6 @@ use Rattle.nb_core.specs.declared.events.Event.TheVariants.{CopyIn, Finish, Kill
 use Rattle.nb_table.specs.Chains.{ChainOf, Extended, IsOwn, SeenBy, seen_before, seen_by}
 use Rattle.nb_table.specs.Conditions.{HasSource, IsCopied}
 use Rattle.nb_core.proofs.Theorems.{linked, passed_above}
-use Rattle.nb_table.proofs.Theorems.{steps_add_up}
 use Rattle.nb_copy.proofs.Copied.{copied-one, copied-quiet, copied-then, copied-within}
 use Rattle.nb_copy.specs.Copying.{HasCopied, slot_in}
 

@@ -1,15 +1,11 @@
 -- What is so of the seats that the tests call with.
-use Rattle.std.proofs.Common.{◌≡◌, ℕ, zero, suc, List, [], ◌∷◌, ◌++◌, Some, Result, Ok, Err, IfOk, IfErr, Vec, Global, sym, refl}
+use Rattle.std.proofs.Common.{◌≡◌, ℕ, List, [], ◌∷◌, ◌++◌, Some, Result, Ok, Err, IfOk, IfErr}
 use Rattle.std.specs.List.{All}
-use Rattle.std.proofs.lemmas.List.Elements.{All-cons, All-nil, All-pop, All-push, All-same}
-use Rattle.nb_core.specs.Plans.{Plan}
+use Rattle.std.proofs.lemmas.List.Elements.{All-pop, All-push, All-same}
 use Rattle.nb_core.specs.declared.calls.Call.{Call}
 use Rattle.nb_core.specs.declared.calls.Reply.{Reply}
-use Rattle.nb_table.specs.Chains.{ChainOf, IsOwn, SeenBy, new_seat, seats_of}
-use Rattle.nb_table.specs.Laws.{StepsAddUp}
+use Rattle.nb_table.specs.Chains.{ChainOf, IsOwn, SeenBy}
 use Rattle.nb_map.specs.Calling.{HasMade}
-use Rattle.nb_map.specs.Maps.{AreMine, IsMine, MapOf, SeatOf}
-use Rattle.nb_map.specs.Maps as maps
 use Rattle.nb_map.specs.declared.write.PutFault.{PutFault}
 use Rattle.nb_table.proofs.Theorems.{steps_add_up}
 

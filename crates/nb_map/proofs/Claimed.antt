@@ -3,8 +3,8 @@ use Rattle.std.proofs.Common.{◌≡◌, ◌≢◌, ◌∙◌, ℕ, ◌==◌, ze
 use Rattle.std.proofs.Math.Pow.{pow_mono}
 use Rattle.std.proofs.lemmas.List.Elements.{All-cons, All-get_or, All-nil}
 use Rattle.nb_core.specs.Calls.{leaves_alone}
-use Rattle.nb_core.specs.History.{HasWay, IsLegal, key_of_call}
-use Rattle.nb_core.specs.Laws.{CompletePassed, IsPassed, Lasts, TablesAreLinked, WholeCrowded}
+use Rattle.nb_core.specs.History.{HasWay, key_of_call}
+use Rattle.nb_core.specs.Laws.{IsPassed, Lasts}
 use Rattle.nb_core.specs.Plans.{IsPlan, Plan, generations_of, limit_of, size_of}
 use Rattle.nb_core.specs.Tables.{AreOthers, HasSlotBelow, IsComplete, IsInstalled, IsReady, Tables, path_slot, tables_at}
 use Rattle.nb_core.specs.declared.calls.Call.{Call}
@@ -13,7 +13,6 @@ use Rattle.nb_core.specs.declared.events.Event.TheVariants.{Claim, Install}
 use Rattle.nb_core.specs.declared.states.KeyState.{KeyState}
 use Rattle.nb_core.specs.declared.states.KeyState.TheVariants.{Claimed, Dead, Empty}
 use Rattle.nb_table.specs.Chains.{ChainOf, Extended, IsOwn, SeenBy, seen_by}
-use Rattle.nb_table.specs.Laws.{StepsAddUp}
 use Rattle.nb_copy.specs.Handing.{HasCompleted, table_steps}
 use Rattle.nb_map.proofs.Made.{made-copied, made-more, made-none, made-quiet, made-step, made-within, slot-below-lasts}
 use Rattle.nb_map.specs.Calling.{HasMade, MayMake, replied}

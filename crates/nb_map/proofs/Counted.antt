@@ -11,7 +11,6 @@ use Rattle.nb_core.specs.declared.calls.Reply.{Reply}
 use Rattle.nb_core.specs.declared.events.Event.{Event}
 use Rattle.nb_core.specs.declared.events.Event.TheVariants.{Claim, Kill, Won, CopyIn, Prime, Finish, Install, Take, Count, Promote, Read}
 use Rattle.nb_table.specs.Chains.{Extended, SeenBy, own_events}
-use Rattle.nb_table.specs.Laws.{StepsAddUp}
 use Rattle.nb_map.proofs.Made.{calls-append, made-own, made-quiet}
 use Rattle.nb_map.specs.Calling.{HasMade}
 use Rattle.nb_map.specs.Maps.{HasCalled, IsMine, MapOf, SeatOf}

@@ -7,7 +7,7 @@ use Rattle.std.proofs.lemmas.List.{append-nil}
 use Rattle.std.proofs.lemmas.List.Elements.{All-cons, All-head, All-nil, All-tail}
 use Rattle.nb_core.specs.Calls.{leaves_alone, reply_at}
 use Rattle.nb_core.specs.History.{IsLegal, number_in_value, key_of_call, map_of, seat_of_event}
-use Rattle.nb_core.specs.Laws.{Decided, IsPassed, LostExchange, PassedOverAdds, PassedSettled, Shows}
+use Rattle.nb_core.specs.Laws.{Shows}
 use Rattle.nb_core.specs.Meaning.{calls_of, passed_over}
 use Rattle.nb_core.specs.Plans.{IsPlan, Plan, generations_of}
 use Rattle.nb_core.specs.Tables.{IsSettledBelow, IsSlot, IsUnprimed, tables_at}
@@ -22,7 +22,6 @@ use Rattle.nb_core.specs.declared.states.ValueState.TheVariants.{Null, Tombstone
 use Rattle.nb_table.specs.Chains.{ChainOf, Extended, Grown, IsOwn, SeenBy, seen_by}
 use Rattle.nb_table.specs.Conditions.{IsReached}
 use Rattle.nb_table.specs.Events.{read, shown_by_value}
-use Rattle.nb_table.specs.Laws.{StepsAddUp}
 use Rattle.nb_map.proofs.Made.{made-more, made-read, made-stays, made-step, read_shown}
 use Rattle.nb_map.proofs.Searched.{reached-lasts}
 use Rattle.nb_map.specs.Calling.{HasMade, MayMake, replied}

@@ -4,10 +4,10 @@ use Rattle.std.specs.List.{All}
 use Rattle.std.proofs.lemmas.Bool.{eq-eqb}
 use Rattle.std.proofs.lemmas.List.Elements.{All-append, All-cons, All-head, All-nil, All-tail, All-weaker}
 use Rattle.nb_core.specs.Calls.{leaves_alone, reply_at}
-use Rattle.nb_core.specs.History.{IsLegal, key_of_call}
+use Rattle.nb_core.specs.History.{key_of_call}
 use Rattle.nb_core.specs.Laws.{Lasts}
 use Rattle.nb_core.specs.Meaning.{calls_of}
-use Rattle.nb_core.specs.Plans.{IsPlan, Plan, generations_of}
+use Rattle.nb_core.specs.Plans.{Plan, generations_of}
 use Rattle.nb_core.specs.Tables.{HasSlotBelow, Tables}
 use Rattle.nb_core.specs.declared.calls.Call.{Call}
 use Rattle.nb_core.specs.declared.calls.Reply.{Reply}
@@ -15,7 +15,6 @@ use Rattle.nb_core.specs.declared.events.Event.{Event}
 use Rattle.nb_core.specs.declared.events.Event.TheVariants.{Claim, Kill, Won, CopyIn, Prime, Finish, Install, Take, Count, Promote, Read}
 use Rattle.nb_table.specs.Chains.{ChainOf, Extended, IsOwn, SeenBy, seen_by}
 use Rattle.nb_table.specs.Events.{only, read}
-use Rattle.nb_table.specs.Laws.{StepsAddUp}
 use Rattle.nb_copy.specs.Copying.{HasCopied, IsCopying}
 use Rattle.nb_map.specs.Calling.{HasMade, MayMake, read_of}
 use Rattle.nb_table.proofs.Theorems.{steps_add_up}

@@ -1,13 +1,13 @@
 -- How a key is searched for in a table.
-use Rattle.std.proofs.Common.{◌≡◌, ◌≢◌, ◌∙◌, ℕ, suc, zero, ◌+◌, ◌-◌, ◌^◌, ◌==◌, ◌&&◌, ◌≤◌, ◌<◌, ◌⊎◌, Bool, true, false, not, cond, List, [], Option, Some, None, ap, sym, subst, subst₂, refl, inl, inr, below_more, arith}
+use Rattle.std.proofs.Common.{◌≡◌, ◌≢◌, ◌∙◌, ℕ, suc, zero, ◌+◌, ◌-◌, ◌^◌, ◌==◌, ◌&&◌, ◌≤◌, ◌<◌, ◌⊎◌, Bool, true, false, not, cond, List, [], Option, Some, None, ap, sym, subst, refl, inl, inr, below_more, arith}
 use Rattle.std.proofs.lemmas.Bool.{eq-eqb, ne_eqb}
 use Rattle.std.proofs.Math.Pow.{pow_mono}
 use Rattle.std.proofs.lemmas.List.Elements.{All-get_or}
 use Rattle.std.proofs.lemmas.Nat.{mod_below, pow_pos}
 use Rattle.std.proofs.lemmas.List.{append-nil}
 use Rattle.nb_core.specs.Calls.{leaves_alone}
-use Rattle.nb_core.specs.History.{IsLegal, key_of_call}
-use Rattle.nb_core.specs.Laws.{AtSlot, CompletePassed, IsPassed, Lasts, PathsAreDistinct, TablesAreLinked, TopComplete}
+use Rattle.nb_core.specs.History.{key_of_call}
+use Rattle.nb_core.specs.Laws.{AtSlot, IsPassed, Lasts}
 use Rattle.nb_core.specs.Plans.{IsPlan, Plan, generations_of, size_of}
 use Rattle.nb_core.specs.Tables.{AreOthers, IsComplete, IsFinished, IsFinishedValue, IsInstalled, IsOnPath, IsOther, IsReady, IsSlot, IsUnprimed, Tables, path_slot}
 use Rattle.nb_core.specs.declared.calls.Call.{Call}
@@ -18,7 +18,6 @@ use Rattle.nb_core.specs.declared.states.ValueState.TheVariants.{Null, Tombstone
 use Rattle.nb_table.specs.Chains.{ChainOf, Extended, IsOwn, SeenBy, seen_by}
 use Rattle.nb_table.specs.Conditions.{IsReached}
 use Rattle.nb_table.specs.Events.{is_last_slot, read, shown_by_key, shown_by_value}
-use Rattle.nb_table.specs.Laws.{StepsAddUp}
 use Rattle.nb_map.proofs.Made.{made-more, made-read, made-within, read_shown}
 use Rattle.nb_map.specs.Calling.{HasMade, read_of, replied}
 use Rattle.nb_map.specs.Looking.{IsAtHome, IsAway}

@@ -11,7 +11,7 @@ use Rattle.std.proofs.lemmas.Int.{ints}
 use Rattle.std.proofs.lemmas.List.Elements.{All-cons, All-head, All-nil, All-tail}
 use Rattle.std.proofs.lemmas.List.Sums.{sum_by-append, sum_by-cons}
 use Rattle.nb_core.specs.History.{IsLegal, map_of}
-use Rattle.nb_core.specs.Laws.{FewKeys, MapInRange, OwnLasts, SizeIsNet, TablesStand, net_of_seats}
+use Rattle.nb_core.specs.Laws.{net_of_seats}
 use Rattle.nb_core.specs.Meaning.{calls_of, net_of, shown_from}
 use Rattle.nb_core.specs.Plans.{IsPlan, Plan, generations_of}
 use Rattle.nb_core.specs.Tables.{tables_of, words_of}

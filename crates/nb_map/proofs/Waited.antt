@@ -2,13 +2,10 @@
 use Rattle.std.proofs.Common.{◌≡◌, ◌∙◌, ◌+◌, List, [], pos, ap, ap₂, subst, sym, arith}
 use Rattle.std.proofs.lemmas.Int.{ints}
 use Rattle.std.proofs.lemmas.List.{append-nil}
-use Rattle.nb_core.specs.History.{IsLegal}
 use Rattle.nb_core.specs.Meaning.{net_of}
-use Rattle.nb_core.specs.Plans.{IsPlan}
 use Rattle.nb_core.specs.declared.calls.Call.{Call}
 use Rattle.nb_core.specs.declared.calls.Reply.{Reply}
 use Rattle.nb_count.specs.Counts.{Counting}
-use Rattle.nb_table.specs.Laws.{StepsAddUp}
 use Rattle.nb_map.specs.Calling.{HasMade}
 use Rattle.nb_map.specs.Maps.{HasWaited, IsMine, MapOf, SeatOf, accounted}
 use Rattle.nb_map.proofs.Counted.{called-mine}

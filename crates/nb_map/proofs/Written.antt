@@ -1,10 +1,9 @@
 -- What a write comes to, table after table.
 use Rattle.std.proofs.Common.{◌≡◌, ℕ, zero, suc, ◌+◌, ◌-◌, ◌*◌, ◌≤◌, List, length, ap, sym, subst, add-one, arith}
 use Rattle.std.proofs.Math.Nat.{mul-le-mul_left, mul-le-mul_right}
-use Rattle.nb_core.specs.Laws.{PassedOverAdds}
 use Rattle.nb_core.specs.Meaning.{passed_over}
 use Rattle.nb_core.specs.History.{key_of_call}
-use Rattle.nb_core.specs.Plans.{IsPlan, Plan, SizesNeverFall, generations_of, size_of}
+use Rattle.nb_core.specs.Plans.{IsPlan, Plan, generations_of, size_of}
 use Rattle.nb_core.specs.declared.calls.Call.{Call}
 use Rattle.nb_core.specs.declared.events.Event.{Event}
 use Rattle.nb_copy.specs.Handing.{table_steps}

@@ -9,7 +9,7 @@ use Rattle.nb_count.specs.Counts.{Counting, total_of}
 use Rattle.nb_table.specs.Chains.{SeenBy}
 use Rattle.nb_table.specs.Left.{ClosedOf, HoldsOfMap, IsLeftBy}
 use Rattle.nb_table.specs.Views.{HasSeen}
-use Rattle.nb_map.specs.Maps.{HasCounted, SeatOf}
+use Rattle.nb_map.specs.Maps.{SeatOf}
 use Rattle.nb_map.specs.declared.ended.Ended.TheInside as ended
 
 -- an ended map: what is left of its chain of tables, and what its seats counted

@@ -11,7 +11,7 @@ use Rattle.std.proofs.lemmas.Map.Keys.{IsDistinct-from_apart}
 use Rattle.std.proofs.lemmas.Map.Made.{length-le_from_is_member}
 use Rattle.std.proofs.lemmas.Map.Views.{Contains-from_any}
 use Rattle.nb_core.specs.History.{IsInRange, IsLegal, seat_of_event}
-use Rattle.nb_core.specs.Laws.{HasOneSlot, IsKeyChange, LawfulChanges}
+use Rattle.nb_core.specs.Laws.{IsKeyChange}
 use Rattle.nb_core.specs.Meaning.{IsCrowded}
 use Rattle.nb_core.specs.Plans.{IsPlan, Plan, generations_of, key_place, size_of, word_count}
 use Rattle.nb_core.specs.States.{key_state}

@@ -3,7 +3,7 @@ use Rattle.std.proofs.Common.{◌≡◌, ◌∙◌, ◌==◌, ◌<◌, not, Bool
 use Rattle.std.specs.List.{All, AllZip}
 use Rattle.std.proofs.lemmas.List.Elements.{All-append, All-cons, All-head, All-nil, All-same, All-tail, All-weaker, filter-append}
 use Rattle.nb_core.specs.History.{IsLegal}
-use Rattle.nb_core.specs.Laws.{Lasts, SeenLasts}
+use Rattle.nb_core.specs.Laws.{Lasts}
 use Rattle.nb_core.specs.Plans.{IsPlan, Plan, generations_of}
 use Rattle.nb_core.specs.Tables.{HasSlotBelow, Tables, tables_at}
 use Rattle.nb_core.specs.declared.calls.Call.{Call}

@@ -10,7 +10,6 @@ use Rattle.std.proofs.lemmas.List.{map-append}
 use Rattle.std.proofs.lemmas.List.Elements.{All-append, All-head, All-nil, All-tail}
 use Rattle.nb_core.specs.Calls.{Numbers, changed, holds_of, is_past_max, map_after, overflows, reply_of, with_at}
 use Rattle.nb_core.specs.History.{IsLegal, map_of}
-use Rattle.nb_core.specs.Laws.{CallsReplayed, CrowdedAbsent, HasOneSlot, LawfulChanges, LoneSeat, MapInRange, SeenLasts}
 use Rattle.nb_core.specs.Meaning.{AreReplies, IsCrowded, calls_of, map_of_calls}
 use Rattle.nb_core.specs.Plans.{IsPlan, Plan}
 use Rattle.nb_core.specs.declared.numbers.TheConstants.{VALUE_MAX}

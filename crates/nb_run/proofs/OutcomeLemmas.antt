@@ -8,7 +8,6 @@ use Rattle.std.specs.declared.alloc.Global.{Global}
 use Rattle.std.specs.declared.vec.Vec.{Vec}
 use Rattle.nb_core.specs.Calls.{Numbers}
 use Rattle.nb_core.specs.History.{IsLegal, map_of}
-use Rattle.nb_core.specs.Laws.{CallsReplayed, CrowdedAbsent, HasOneSlot, LawfulChanges, LoneSeat, MapInRange, SeenLasts}
 use Rattle.nb_core.specs.Plans.{IsPlan, Plan}
 use Rattle.nb_table.specs.Left.{HoldsOfMap}
 use Rattle.nb_map.specs.Ending.{EndedOf, EndedWith}

@@ -1,15 +1,15 @@
 -- What the steps may do that hand out chunks, count and promote, and what they tell.
-use Rattle.std.proofs.Common.{◌≡◌, ◌∙◌, ℕ, zero, suc, ◌+◌, ◌%◌, ◌^◌, ◌<◌, ◌≤◌, false, leb, max, List, [], ◌∷◌, ◌++◌, drop, length, slice_index, slice_set, ap, sym, subst, subst₂, refl, inl, inr, arith}
+use Rattle.std.proofs.Common.{◌≡◌, ◌∙◌, ℕ, zero, suc, ◌+◌, ◌%◌, ◌^◌, ◌<◌, ◌≤◌, false, leb, max, List, [], ◌∷◌, ◌++◌, drop, length, slice_index, slice_set, ap, sym, subst, refl, inl, inr, arith}
 use Rattle.std.proofs.Math.Nat.{eq-or-lt_of_le, le_trans, max-eq_right, mod-eq_of_lt}
 use Rattle.std.proofs.lemmas.Bool.{eq-eqb, le-leb, leb-true}
 use Rattle.std.proofs.lemmas.Bool.Decides.{nat_tests}
 use Rattle.std.proofs.lemmas.List.{get_or-set_same}
 use Rattle.std.proofs.lemmas.List.Elements.{All-get_or}
 use Rattle.std.proofs.Math.Pow.{pow_mono}
-use Rattle.nb_core.specs.Plans.{IsPlan, Plan, PlacesAreDistinct, Header, Top, generations_of, header_place, size_of, word_count}
+use Rattle.nb_core.specs.Plans.{IsPlan, Plan, Header, Top, generations_of, header_place, size_of, word_count}
 use Rattle.nb_core.specs.Tables.{IsComplete, IsInstalled, chunk_of, tables_at, words_of}
 use Rattle.nb_core.specs.History.{IsLegal, counted_by, turned_by}
-use Rattle.nb_core.specs.Laws.{CountedOnce, LawfulWords, OwnLasts, SeenLasts, over_seats}
+use Rattle.nb_core.specs.Laws.{over_seats}
 use Rattle.nb_core.specs.declared.events.Event.{Event}
 use Rattle.nb_core.specs.declared.events.Event.TheVariants.{Take, Count, Promote}
 use Rattle.nb_table.proofs.Following.{if-follows, later, none-follows, one-follows}

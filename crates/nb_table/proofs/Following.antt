@@ -5,7 +5,7 @@ use Rattle.std.proofs.lemmas.List.Elements.{All-cons, All-nil}
 use Rattle.nb_core.specs.Plans.{Plan, IsPlan}
 use Rattle.nb_core.specs.Tables.{tables_at, words_of}
 use Rattle.nb_core.specs.History.{IsLegal, seat_of_event}
-use Rattle.nb_core.specs.Laws.{Lasts, SeenLasts}
+use Rattle.nb_core.specs.Laws.{Lasts}
 use Rattle.nb_core.specs.declared.events.Event.{Event}
 use Rattle.nb_table.specs.Events.{only}
 use Rattle.nb_table.specs.Steps.{MayStep}

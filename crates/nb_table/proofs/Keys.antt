@@ -1,13 +1,13 @@
 -- The exchanges of an empty key word, and of a next word.
-use Rattle.std.proofs.Common.{◌≡◌, ◌≢◌, ◌∙◌, ℕ, ◌+◌, ◌<◌, ◌≤◌, ◌⊎◌, zero, suc, cond, eqb, List, [], ◌∷◌, ◌++◌, slice_index, slice_set, ap, sym, subst, subst₂, refl, inl, inr, arith}
+use Rattle.std.proofs.Common.{◌≡◌, ◌≢◌, ◌∙◌, ℕ, ◌+◌, ◌<◌, ◌≤◌, ◌⊎◌, zero, suc, cond, eqb, List, [], ◌∷◌, ◌++◌, slice_index, slice_set, ap, sym, subst, refl, inl, inr, arith}
 use Rattle.std.proofs.lemmas.Bool.{eq-eqb, eqb-true, ne_eqb}
 use Rattle.std.proofs.lemmas.Bool.Decides.{eqb_tells}
 use Rattle.std.proofs.lemmas.List.{get_or-set_same}
-use Rattle.nb_core.specs.Plans.{Plan, IsPlan, PlacesAreDistinct, Header, Key, generations_of, header_place, key_place, limit_of, word_count}
+use Rattle.nb_core.specs.Plans.{Plan, IsPlan, Header, Key, generations_of, header_place, key_place, limit_of, word_count}
 use Rattle.nb_core.specs.States.{key_state, key_word}
 use Rattle.nb_core.specs.Tables.{AreOthers, HasSlotBelow, IsInstalled, IsReady, IsSlot, Tables, tables_at, words_of}
 use Rattle.nb_core.specs.History.{HasWay, IsLegal, seat_of_event}
-use Rattle.nb_core.specs.Laws.{Lasts, LawfulWords, SeenLasts, TablesAreLinked}
+use Rattle.nb_core.specs.Laws.{Lasts}
 use Rattle.nb_core.specs.declared.numbers.TheConstants.{KEY_MAX}
 use Rattle.nb_core.specs.declared.events.Event.{Event}
 use Rattle.nb_core.specs.declared.events.Event.TheVariants.{Claim, Kill, Install}

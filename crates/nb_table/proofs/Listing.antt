@@ -9,7 +9,7 @@ use Rattle.nb_core.specs.Plans.{IsPlan, generations_of, size_of}
 use Rattle.nb_core.specs.Tables.{IsInstalled, tables_at}
 use Rattle.nb_core.specs.History.{map_of}
 use Rattle.nb_core.specs.Meaning.{is_installed}
-use Rattle.nb_core.specs.Laws.{AreLinked, HeldHasPlace, PlaceIs, TablesAreLinked, TopComplete}
+use Rattle.nb_core.specs.Laws.{AreLinked}
 use Rattle.nb_core.specs.declared.states.KeyState.TheVariants.{Claimed}
 use Rattle.nb_table.specs.Left.{ClosedOf, HoldsOfMap, tables_left}
 use Rattle.nb_table.specs.Listing.{HasRight, IsListing}

@@ -11,7 +11,7 @@ use Rattle.nb_core.specs.Plans.{Plan, IsPlan, generations_of, header_place, key_
 use Rattle.nb_core.specs.States.{key_state, value_state}
 use Rattle.nb_core.specs.Tables.{AreOthers, IsOnPath, IsSlot, IsUnprimed, Tables, path_slot, tables_at, tables_of, words_of}
 use Rattle.nb_core.specs.History.{IsCallInRange, IsLegal, number_in_value, key_of_call, map_of}
-use Rattle.nb_core.specs.Laws.{Decided, Lasts, ReadReplies, SeenLasts, Shows, AtEmpty, AtValue, NoNext, InLast, TablesAreLinked}
+use Rattle.nb_core.specs.Laws.{Lasts, Shows, AtEmpty, AtValue, NoNext, InLast}
 use Rattle.nb_core.specs.declared.calls.Call.{Call}
 use Rattle.nb_core.specs.declared.calls.Reply.{Reply}
 use Rattle.nb_core.specs.declared.events.Event.{Event}

@@ -2,11 +2,10 @@
 use Rattle.std.proofs.Common.{◌≡◌, ◌∙◌, ℕ, true, cond, eqb, List, [], ◌∷◌, ◌++◌, slice_index, slice_set, Some, ap, sym, refl}
 use Rattle.std.proofs.lemmas.Bool.{eq-eqb, eqb-true, ne_eqb}
 use Rattle.std.specs.Option.{unwrap_or}
-use Rattle.nb_core.specs.Plans.{Plan, IsPlan, PlacesAreDistinct, value_place}
+use Rattle.nb_core.specs.Plans.{Plan, IsPlan, value_place}
 use Rattle.nb_core.specs.States.{value_state, value_word}
 use Rattle.nb_core.specs.Tables.{IsSettledBelow, IsSlot, IsUnprimed, tables_at, words_of}
 use Rattle.nb_core.specs.History.{IsCallInRange, IsExchange, MayWin, number_in_value, key_of_call}
-use Rattle.nb_core.specs.Laws.{BeginningsAreLegal, Codings, LawfulWords, SeenLasts, WinReplies}
 use Rattle.nb_core.specs.declared.calls.Call.{Call}
 use Rattle.nb_core.specs.declared.events.Event.{Event}
 use Rattle.nb_core.specs.declared.events.Event.TheVariants.{Won}

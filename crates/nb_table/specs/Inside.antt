@@ -1,7 +1,6 @@
 -- What is in a chain and its seats, and how it is seen.
 use Rattle.std.specs.Prelude.{◌≡◌, List, [], ◌∷◌}
 use Rattle.nb_core.specs.Plans.{IsPlan, word_count}
-use Rattle.nb_core.specs.History.{IsLegal}
 use Rattle.nb_table.specs.Chains.{ChainOf, SeenBy}
 use Rattle.nb_table.specs.declared.chain.Chain.TheInside as chain
 use Rattle.nb_table.specs.declared.chain.ChainSeat.TheInside as seat

@@ -1,5 +1,5 @@
-use Rattle.std.proofs.Common.{◌+◌, ◌-◌, ◌<◌, ◌≤◌, [], subst, arith}
-use Rattle.nb_core.specs.Plans.{IsPlan, size_of}
+use Rattle.std.proofs.Common.{◌+◌, ◌-◌, ◌<◌, ◌≤◌, [], arith}
+use Rattle.nb_core.specs.Plans.{size_of}
 use Rattle.nb_core.specs.Tables.{IsInstalled}
 use Rattle.nb_table.specs.Chains.{seen_by}
 use Rattle.nb_map.proofs.Claimed.{behind-fits, below-lasts, empty-behind, walked-claimed, walked-here, walked-none, walked-behind, walked-to, walked-whole}
@@ -65,7 +65,6 @@ returns-in-Whole-clause-made c =
     let walked = c.loop-i.invariant.walked in
     walked-whole c.args.chain.now c.requires.own c.loop-i.invariant.within walked
     (walked-to c.args.chain.now c.requires.own c.requires.acts walked Whole c.in-Whole.ensures.made) c.leave_whole.ensures.made
-
 
 pub settle_below-below-requires-clause-installed : goal.settle_below-below-requires-clause-installed
 settle_below-below-requires-clause-installed c = installed-still (goal.at.settle_below-below-requires-clause-installed c).After-walk_path

@@ -1,5 +1,5 @@
 use Rattle.std.proofs.Common.{◌+◌, ◌<◌, [], sym, subst, arith, rules}
-use Rattle.nb_core.specs.Plans.{IsPlan, generations_of, limit_of}
+use Rattle.nb_core.specs.Plans.{generations_of, limit_of}
 use Rattle.nb_table.specs.Chains.{SeenBy, seen_by}
 use Rattle.nb_table.proofs.Theorems.{steps_add_up}
 use Rattle.nb_map.proofs.Claimed.{complete-next, made-complete, made-install}

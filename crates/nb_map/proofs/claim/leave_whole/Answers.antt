@@ -1,5 +1,5 @@
-use Rattle.std.proofs.Common.{◌≡◌, ◌+◌, subst, arith, rules}
-use Rattle.nb_core.specs.Plans.{IsPlan, generations_of, limit_of, size_of}
+use Rattle.std.proofs.Common.{◌≡◌, ◌+◌, arith, rules}
+use Rattle.nb_core.specs.Plans.{generations_of, limit_of, size_of}
 use Rattle.nb_table.specs.Chains.{seen_by}
 use Rattle.nb_map.proofs.Claimed.{above-complete, others-nearer, whole-full}
 use Rattle.nb_map.proofs.Made.{made-none, made-own, made-within}

@@ -1,5 +1,4 @@
 use Rattle.std.proofs.Common.{[], sym, subst, arith}
-use Rattle.nb_core.specs.Plans.{IsPlan}
 use Rattle.nb_core.specs.declared.calls.Call.{Call}
 use Rattle.nb_core.specs.declared.calls.Call.TheVariants.{Get}
 use Rattle.nb_table.specs.Chains.{seen_by}

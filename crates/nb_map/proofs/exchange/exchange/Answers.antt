@@ -1,6 +1,5 @@
 use Rattle.std.proofs.Common.{◌≡◌, ◌∙◌, ◌+◌, ◌-◌, ◌*◌, is_some, ap, sym, subst, arith, rules}
 use Rattle.nb_core.specs.History.{key_of_call}
-use Rattle.nb_core.specs.Plans.{IsPlan}
 use Rattle.nb_core.specs.declared.states.KeyState.TheVariants.{Claimed}
 use Rattle.nb_table.specs.Chains.{seen_by}
 use Rattle.nb_map.specs.Calling.{HasMade}

@@ -1,6 +1,6 @@
 use Rattle.std.proofs.Common.{◌≡◌, ◌+◌, subst, arith}
 use Rattle.std.proofs.Math.Nat.{le_refl}
-use Rattle.nb_core.specs.Plans.{IsPlan, generations_of}
+use Rattle.nb_core.specs.Plans.{generations_of}
 use Rattle.nb_core.specs.declared.calls.Call.TheVariants as call
 use Rattle.nb_table.specs.Chains.{seen_by}
 use Rattle.nb_map.specs.Looking.{IsAtHome, get_steps, looked_below}

@@ -1,6 +1,5 @@
 use Rattle.std.proofs.Common.{◌≡◌, None, Some, ap, inl, inr, subst, sym}
 use Rattle.std.proofs.lemmas.Nat.{pow_pos}
-use Rattle.nb_core.specs.Plans.{IsPlan}
 use Rattle.nb_core.specs.Tables.{IsUnprimed}
 use Rattle.nb_core.specs.declared.calls.Call.TheVariants as call
 use Rattle.nb_core.specs.declared.states.KeyState.TheVariants.{Claimed}

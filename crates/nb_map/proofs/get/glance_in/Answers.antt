@@ -2,7 +2,6 @@ use Rattle.std.proofs.Common.{◌≡◌, ◌∙◌, ◌≢◌, None, Some, ap, i
 use Rattle.std.proofs.lemmas.Bool.{eqb-false}
 use Rattle.std.proofs.lemmas.List.{append-nil}
 use Rattle.std.proofs.lemmas.Nat.{pow_pos}
-use Rattle.nb_core.specs.Plans.{IsPlan}
 use Rattle.nb_core.specs.Tables.{path_slot}
 use Rattle.nb_core.specs.declared.calls.Call.TheVariants as call
 use Rattle.nb_core.specs.declared.states.KeyState.{KeyState}

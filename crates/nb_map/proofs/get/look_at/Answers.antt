@@ -1,5 +1,4 @@
 use Rattle.std.proofs.Common.{◌≡◌, ◌+◌, None, Some, [], ap, inl, inr, subst, arith}
-use Rattle.nb_core.specs.Plans.{IsPlan}
 use Rattle.nb_core.specs.declared.calls.Call.TheVariants as call
 use Rattle.nb_table.specs.Chains.{Extended}
 use Rattle.nb_table.specs.Events.{read, shown_by_value}

@@ -1,6 +1,6 @@
 use Rattle.std.proofs.Common.{◌+◌, ◌-◌, subst, arith}
 use Rattle.std.proofs.lemmas.List.{append-nil}
-use Rattle.nb_core.specs.Plans.{IsPlan, size_of}
+use Rattle.nb_core.specs.Plans.{size_of}
 use Rattle.nb_core.specs.declared.calls.Call.TheVariants as call
 use Rattle.nb_map.specs.Calling.{HasMade}
 use Rattle.nb_map.specs.Looking.{look_steps, read_by}

@@ -1,5 +1,4 @@
 use Rattle.std.proofs.Common.{suc, inr, subst, sym, arith}
-use Rattle.nb_core.specs.Plans.{IsPlan}
 use Rattle.nb_core.specs.Tables.{IsFinishedValue}
 use Rattle.nb_map.proofs.Made.{made-copied, made-none, made-within}
 use Rattle.nb_map.proofs.Searched.{finished-passed, primed-next, table-within}

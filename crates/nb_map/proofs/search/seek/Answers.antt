@@ -1,7 +1,7 @@
 use Rattle.std.proofs.Common.{◌≡◌, ◌∙◌, ◌+◌, ◌-◌, ◌==◌, None, Some, suc, sym, subst, refl, arith, rules}
 use Rattle.std.proofs.lemmas.List.{append-nil}
 use Rattle.nb_core.specs.Laws.{Whole}
-use Rattle.nb_core.specs.Plans.{IsPlan, generations_of, size_of}
+use Rattle.nb_core.specs.Plans.{generations_of, size_of}
 use Rattle.nb_table.specs.Chains.{seen_by}
 use Rattle.nb_table.specs.Conditions.{IsReached}
 use Rattle.nb_map.specs.Calling.{HasMade, read_of}

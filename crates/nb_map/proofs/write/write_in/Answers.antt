@@ -1,6 +1,5 @@
 use Rattle.std.proofs.Common.{subst}
 use Rattle.std.proofs.lemmas.List.{append-nil}
-use Rattle.nb_core.specs.Plans.{IsPlan}
 use Rattle.nb_map.specs.Calling.{HasMade}
 use Rattle.nb_map.specs.Refusing.{made_by, write_steps}
 use Rattle.nb_map.proofs.Made.{made-more, made-own, made-stays}

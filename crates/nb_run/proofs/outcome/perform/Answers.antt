@@ -1,6 +1,5 @@
 use Rattle.std.proofs.Common.{◌≡◌, ◌∙◌, ap, false, length, sym, subst, true}
 use Rattle.std.proofs.lemmas.List.Elements.{All-same}
-use Rattle.nb_core.specs.Plans.{IsPlan}
 use Rattle.nb_map.specs.Ending.{EndedWith}
 use Rattle.nb_map.specs.Maps.{IsMine}
 use Rattle.nb_map.specs.Maps as maps

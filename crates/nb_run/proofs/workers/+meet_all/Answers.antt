@@ -2,7 +2,7 @@ use Rattle.std.proofs.Common.{◌∙◌, ◌∷◌, ◌++◌, [], All, ap, arith
 use Rattle.std.specs.List.{AllZip}
 use Rattle.std.specs.Vec.{with_items}
 use Rattle.std.proofs.lemmas.List.{length-append}
-use Rattle.std.proofs.lemmas.List.Elements.{All-contains, Contains-push, length_all_zip}
+use Rattle.std.proofs.lemmas.List.Elements.{length_all_zip}
 use Rattle.nb_map.specs.Maps.{IsMine}
 use Rattle.nb_run.specs.Working.{HasMetAs, seats_of}
 use Rattle.nb_run.proofs.Meeting.{all-met, kept-back}

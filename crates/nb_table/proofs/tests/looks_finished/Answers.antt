@@ -1,4 +1,4 @@
-use Rattle.std.proofs.Common.{◌∙◌, inl, subst}
+use Rattle.std.proofs.Common.{◌∙◌, inl}
 use Rattle.nb_table.proofs.tests.looks_finished.Goals as goal
 use Rattle.nb_table.proofs.Theorems.{steps_add_up}
 

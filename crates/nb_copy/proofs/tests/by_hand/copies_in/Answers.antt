@@ -1,5 +1,4 @@
-use Rattle.std.proofs.Common.{refl, subst}
-use Rattle.nb_core.specs.Plans.{IsPlan}
+use Rattle.std.proofs.Common.{refl}
 use Rattle.nb_table.proofs.Theorems.{steps_add_up}
 use Rattle.nb_copy.proofs.SlotsFinished.{copied-in, number-source}
 use Rattle.nb_copy.proofs.tests.by_hand.copies_in.Goals as goal

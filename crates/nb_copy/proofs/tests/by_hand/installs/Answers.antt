@@ -1,5 +1,5 @@
 use Rattle.std.proofs.Common.{◌∙◌, ap, subst}
-use Rattle.nb_core.specs.Plans.{IsPlan, limit_of}
+use Rattle.nb_core.specs.Plans.{limit_of}
 use Rattle.nb_core.specs.Tables.{AreOthers}
 use Rattle.nb_table.specs.Chains.{seen_by}
 use Rattle.nb_table.proofs.Theorems.{steps_add_up}

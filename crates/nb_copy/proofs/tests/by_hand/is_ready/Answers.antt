@@ -1,7 +1,5 @@
 use Rattle.std.proofs.Common.{◌≤◌, sym, subst, rules}
-use Rattle.nb_core.specs.Plans.{IsPlan}
 use Rattle.nb_table.specs.Chains.{seen_by}
-use Rattle.nb_core.proofs.Theorems.{linked, top_complete}
 use Rattle.nb_table.proofs.Theorems.{steps_add_up}
 use Rattle.nb_copy.proofs.ByHand.{below-top, ready, there}
 use Rattle.nb_copy.proofs.tests.by_hand.is_ready.Goals as goal

@@ -1,5 +1,5 @@
 use Rattle.std.proofs.Common.{◌<◌, ◌∙◌, ap, subst, rules}
-use Rattle.nb_core.specs.Plans.{IsPlan, limit_of}
+use Rattle.nb_core.specs.Plans.{limit_of}
 use Rattle.nb_table.specs.Chains.{seen_by}
 use Rattle.nb_table.proofs.Theorems.{steps_add_up}
 use Rattle.nb_copy.proofs.ByHand.{way-in}

@@ -1,5 +1,4 @@
-use Rattle.std.proofs.Common.{◌≢◌, ◌∙◌, subst, sym, rules}
-use Rattle.nb_core.specs.Plans.{IsPlan}
+use Rattle.std.proofs.Common.{◌≢◌, ◌∙◌, sym, rules}
 use Rattle.nb_core.specs.declared.states.ValueState.TheVariants as value_is
 use Rattle.nb_table.proofs.Theorems.{steps_add_up}
 use Rattle.nb_copy.proofs.tests.by_hand.sees_copied.Goals as goal

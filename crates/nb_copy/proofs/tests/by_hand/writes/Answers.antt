@@ -1,5 +1,3 @@
-use Rattle.std.proofs.Common.{subst}
-use Rattle.nb_core.specs.Plans.{IsPlan}
 use Rattle.nb_table.specs.Chains.{seen_by}
 use Rattle.nb_table.proofs.Theorems.{steps_add_up}
 use Rattle.nb_copy.proofs.ByHand.{settled}

@@ -1,8 +1,7 @@
 use Rattle.std.proofs.Common.{◌∙◌, ◌<◌, ap, cond, eqb, subst, sym, slice_set}
-use Rattle.nb_core.specs.Plans.{IsPlan, Key, key_place, word_count}
-use Rattle.nb_core.specs.Tables.{IsInstalled, tables_at, words_of}
+use Rattle.nb_core.specs.Plans.{Key, key_place, word_count}
+use Rattle.nb_core.specs.Tables.{words_of}
 use Rattle.nb_core.specs.declared.events.Event.TheVariants.{Claim}
-use Rattle.nb_core.specs.History.{HasWay}
 use Rattle.nb_table.specs.Events.{claims}
 use Rattle.nb_table.specs.Steps.{Can}
 use Rattle.nb_table.proofs.Keys.{can-claim, key-won}
@@ -35,7 +34,7 @@ returns-clause-won c = λ empty.
     let word = c.encode_key-word.result in
     let won =
     key-won p e c.args.g c.args.i _ _ _ _ at_place c.exchanges.ensures c.decode_key.result word
-     c.requires.own.plan c.requires.slot
+    c.requires.own.plan c.requires.slot
     (λ h. ap (slice_set (words_of p h) (key_place p c.args.g c.args.i)) (sym c.encode_key-word.ensures.word))
     c.decode_key.ensures.back empty in
     (won.0, won.1 ∙ c.encode_key-word.ensures.back)

@@ -1,8 +1,5 @@
-use Rattle.std.proofs.Common.{◌≡◌, ◌∙◌, ◌<◌, cond, eqb, ap, sym, subst, refl}
-use Rattle.nb_core.specs.Plans.{IsPlan, value_place, word_count}
-use Rattle.nb_core.specs.Tables.{tables_at}
-use Rattle.nb_core.specs.declared.states.KeyState.TheVariants.{Claimed}
-use Rattle.nb_table.specs.Conditions.{HasSource}
+use Rattle.std.proofs.Common.{◌∙◌, ◌<◌, cond, eqb, ap, sym, subst}
+use Rattle.nb_core.specs.Plans.{value_place, word_count}
 use Rattle.nb_table.specs.Events.{copies}
 use Rattle.nb_table.specs.Steps.{Can, Stepped}
 use Rattle.nb_table.proofs.Values.{can-copy, copy-lost, copy-won, found-is, value-within}

@@ -1,5 +1,5 @@
-use Rattle.std.proofs.Common.{◌∙◌, ap, subst, arith}
-use Rattle.nb_core.specs.Plans.{IsPlan, header_place}
+use Rattle.std.proofs.Common.{◌∙◌, ap, arith}
+use Rattle.nb_core.specs.Plans.{header_place}
 use Rattle.nb_table.proofs.Counts.{can-count, counts-sees, header-within}
 use Rattle.nb_table.proofs.chain.Chain.count_done.Goals as goal
 

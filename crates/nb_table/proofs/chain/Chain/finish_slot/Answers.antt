@@ -1,8 +1,5 @@
-use Rattle.std.proofs.Common.{◌∙◌, ◌<◌, ap, sym, subst, refl, bit_or}
-use Rattle.nb_core.specs.Plans.{IsPlan, value_place, word_count}
-use Rattle.nb_core.specs.Tables.{tables_at}
-use Rattle.nb_core.specs.Laws.{IsPrimedOrFinished}
-use Rattle.nb_table.specs.Conditions.{IsCopied}
+use Rattle.std.proofs.Common.{◌∙◌, ◌<◌, ap, sym, subst, bit_or}
+use Rattle.nb_core.specs.Plans.{value_place, word_count}
 use Rattle.nb_table.specs.Events.{finishes}
 use Rattle.nb_table.specs.Steps.{Can, Stepped}
 use Rattle.nb_table.proofs.Values.{can-finish, finish-lost, finish-won, found-is, value-within}

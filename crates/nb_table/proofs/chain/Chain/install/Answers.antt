@@ -1,6 +1,5 @@
 use Rattle.std.proofs.Common.{◌∙◌, ◌<◌, ap, arith, cond, eqb, subst, sym}
-use Rattle.nb_core.specs.Plans.{IsPlan, Header, header_place, limit_of, word_count}
-use Rattle.nb_core.specs.Tables.{AreOthers, IsReady, tables_at}
+use Rattle.nb_core.specs.Plans.{Header, header_place, limit_of, word_count}
 use Rattle.nb_table.specs.Events.{installs}
 use Rattle.nb_table.specs.Steps.{Can}
 use Rattle.nb_table.proofs.Keys.{can-install, exchange-installs}
@@ -30,4 +29,4 @@ returns-clause-installed c =
     let p = c.args.self.now.shape in
     let at_place = c.header_place-place.ensures ∙ ap (λ v. header_place v.shape c.args.g 0) c.self.view_is in
     exchange-installs p c.args.seat.now.number c.args.g c.args.key _ _ _ _ at_place c.exchanges.ensures
-     c.requires.own.plan (omega (arith, c.requires.room))
+    c.requires.own.plan (omega (arith, c.requires.room))

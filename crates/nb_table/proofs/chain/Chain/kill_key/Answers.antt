@@ -1,6 +1,5 @@
-use Rattle.std.proofs.Common.{◌∙◌, ap, cond, eqb, refl, subst, suc, sym}
-use Rattle.nb_core.specs.Plans.{IsPlan, key_place}
-use Rattle.nb_core.specs.Tables.{IsInstalled, tables_at}
+use Rattle.std.proofs.Common.{◌∙◌, ap, cond, eqb, refl, subst, sym}
+use Rattle.nb_core.specs.Plans.{key_place}
 use Rattle.nb_core.specs.declared.events.Event.TheVariants.{Kill}
 use Rattle.nb_table.specs.Events.{kills}
 use Rattle.nb_table.specs.Steps.{Can}
@@ -22,7 +21,7 @@ returns-clause-won c =
     let e = Kill c.args.seat.now.number c.args.g c.args.i in
     let at_place = c.key_place-place.ensures ∙ ap (λ v. key_place v.shape c.args.g c.args.i) c.self.view_is in
     key-won p e c.args.g c.args.i _ _ _ _ at_place c.exchanges.ensures c.decode_key.result 1
-     c.requires.own.plan c.requires.slot (λ h. refl) c.decode_key.ensures.back
+    c.requires.own.plan c.requires.slot (λ h. refl) c.decode_key.ensures.back
 
 pub returns-clause-lost : goal.returns-clause-lost
 returns-clause-lost c =

@@ -1,11 +1,7 @@
 use Rattle.std.proofs.Common.{◌∙◌, ℕ, ap, slice_index, subst, sym}
-use Rattle.std.specs.Option.{IfSome}
 use Rattle.nb_core.specs.Plans.{key_place}
 use Rattle.nb_core.specs.States.{key_state}
-use Rattle.nb_core.specs.Tables.{IsOnPath, tables_at}
-use Rattle.nb_core.specs.History.{key_of_call}
 use Rattle.nb_table.specs.Chains.{Extended}
-use Rattle.nb_table.specs.Conditions.{IsReached}
 use Rattle.nb_table.specs.Events.{reads, shown_by_key}
 use Rattle.nb_table.specs.Steps.{Can}
 use Rattle.nb_table.proofs.Loading.{can-load_key, load-sees}

@@ -1,9 +1,5 @@
 use Rattle.std.proofs.Common.{arith, ◌∙◌, ◌==◌, ℕ, ap, subst, sym}
-use Rattle.std.specs.Option.{IfSome}
-use Rattle.nb_core.specs.Plans.{IsPlan, header_place, size_of}
-use Rattle.nb_core.specs.Tables.{AreOthers, tables_at}
-use Rattle.nb_core.specs.History.{key_of_call}
-use Rattle.nb_table.specs.Conditions.{IsReached}
+use Rattle.nb_core.specs.Plans.{header_place}
 use Rattle.nb_table.specs.Events.{reads, shown_by_next}
 use Rattle.nb_table.specs.Steps.{Can}
 use Rattle.nb_table.proofs.Loading.{can-load_next}

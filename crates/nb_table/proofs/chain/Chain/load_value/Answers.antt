@@ -1,12 +1,8 @@
-use Rattle.std.proofs.Common.{◌≡◌, ◌∙◌, ℕ, ap, slice_index, subst, sym}
-use Rattle.std.specs.Option.{IfSome, unwrap_or}
-use Rattle.nb_core.specs.Plans.{IsPlan, value_place}
+use Rattle.std.proofs.Common.{◌∙◌, ℕ, ap, slice_index, subst, sym}
+use Rattle.std.specs.Option.{unwrap_or}
+use Rattle.nb_core.specs.Plans.{value_place}
 use Rattle.nb_core.specs.States.{value_state}
-use Rattle.nb_core.specs.Tables.{tables_at}
-use Rattle.nb_core.specs.History.{key_of_call}
-use Rattle.nb_core.specs.declared.states.KeyState.TheVariants.{Claimed}
 use Rattle.nb_core.specs.declared.states.ValueState.TheVariants.{Null}
-use Rattle.nb_table.specs.Conditions.{IsReached}
 use Rattle.nb_table.specs.Events.{reads, shown_by_value}
 use Rattle.nb_table.specs.Steps.{Can, Stepped}
 use Rattle.nb_table.proofs.Loading.{can-load_value, load-sees}

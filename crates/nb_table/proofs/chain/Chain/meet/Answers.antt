@@ -1,4 +1,4 @@
-use Rattle.std.proofs.Common.{◌∙◌, ap, sym, refl, arith}
+use Rattle.std.proofs.Common.{◌∙◌, ap, sym, arith}
 use Rattle.nb_table.proofs.Meeting.{HasMet, joined-me, joins, met, met-told, notes}
 use Rattle.nb_table.proofs.Opening.{some-words}
 use Rattle.nb_table.proofs.chain.Chain.meet.Goals as goal

@@ -1,4 +1,4 @@
-use Rattle.std.proofs.Common.{◌∙◌, ap, arith, refl, replicate}
+use Rattle.std.proofs.Common.{◌∙◌, ap, arith, replicate}
 use Rattle.nb_table.specs.declared.chain.ChainSeat.TheInside.{Inside}
 use Rattle.nb_table.proofs.Opening.{count-words, deals, opens, some-words}
 use Rattle.nb_table.proofs.Dealt.{dealt-own, dealing-count, dealing-done, dealing-first, dealing-more, dealt-is_seat}

@@ -1,7 +1,5 @@
-use Rattle.std.proofs.Common.{◌≡◌, ◌∙◌, ℕ, ◌<◌, ap, sym, subst, refl, bit_or}
-use Rattle.nb_core.specs.Plans.{IsPlan, value_place, word_count}
-use Rattle.nb_core.specs.Tables.{tables_at}
-use Rattle.nb_core.specs.declared.states.KeyState.TheVariants.{Claimed}
+use Rattle.std.proofs.Common.{◌∙◌, ◌<◌, ap, sym, subst, bit_or}
+use Rattle.nb_core.specs.Plans.{value_place, word_count}
 use Rattle.nb_table.specs.Events.{primes}
 use Rattle.nb_table.specs.Steps.{Can, Stepped}
 use Rattle.nb_table.proofs.Values.{can-prime, found-is, prime-lost, prime-won, value-within}

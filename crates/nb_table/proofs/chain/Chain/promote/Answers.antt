@@ -1,6 +1,4 @@
 use Rattle.std.proofs.Common.{◌+◌, ap, arith}
-use Rattle.nb_core.specs.Plans.{IsPlan}
-use Rattle.nb_core.specs.Tables.{IsComplete, tables_at}
 use Rattle.nb_table.proofs.Counts.{can-promote, raised, top-found}
 use Rattle.nb_table.proofs.chain.Chain.promote.Goals as goal
 

@@ -1,6 +1,6 @@
-use Rattle.std.proofs.Common.{◌∙◌, suc, ap, subst}
+use Rattle.std.proofs.Common.{◌∙◌, ap}
 use Rattle.nb_core.specs.Plans.{header_place}
-use Rattle.nb_core.specs.Tables.{IsInstalled, chunk_of, tables_at}
+use Rattle.nb_core.specs.Tables.{chunk_of}
 use Rattle.nb_table.proofs.Counts.{can-take, taken}
 use Rattle.nb_table.proofs.chain.Chain.take_work.Goals as goal
 

@@ -1,8 +1,5 @@
-use Rattle.std.proofs.Common.{◌≡◌, ◌∙◌, ◌<◌, cond, eqb, ap, sym, subst, subst₂, refl}
-use Rattle.nb_core.specs.Plans.{IsPlan, value_place, word_count}
-use Rattle.nb_core.specs.Tables.{IsSettledBelow, tables_at}
-use Rattle.nb_core.specs.History.{key_of_call}
-use Rattle.nb_core.specs.declared.states.KeyState.TheVariants.{Claimed}
+use Rattle.std.proofs.Common.{◌∙◌, ◌<◌, cond, eqb, ap, sym, subst, subst₂}
+use Rattle.nb_core.specs.Plans.{value_place, word_count}
 use Rattle.nb_table.specs.Events.{wins}
 use Rattle.nb_table.specs.Steps.{Can, Stepped}
 use Rattle.nb_table.proofs.Values.{found-is, value-within}

@@ -1,4 +1,3 @@
-use Rattle.std.proofs.Common.{subst}
 use Rattle.nb_table.specs.Chains.{seen_by}
 use Rattle.nb_table.proofs.ByHand.{way_up}
 use Rattle.nb_table.proofs.tests.by_hand.claims.Goals as goal

@@ -1,4 +1,3 @@
-use Rattle.std.proofs.Common.{subst}
 use Rattle.nb_table.specs.Chains.{seen_by}
 use Rattle.nb_table.proofs.ByHand.{copied_step, finished_step, one_to_count}
 use Rattle.nb_table.proofs.tests.by_hand.copies.Goals as goal

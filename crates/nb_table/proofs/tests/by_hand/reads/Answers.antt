@@ -1,4 +1,3 @@
-use Rattle.std.proofs.Common.{subst}
 use Rattle.nb_core.specs.Laws.{IsPassed}
 use Rattle.nb_table.specs.Chains.{seen_by}
 use Rattle.nb_table.proofs.ByHand.{below_one}

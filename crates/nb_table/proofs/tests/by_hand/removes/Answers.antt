@@ -1,4 +1,4 @@
-use Rattle.std.proofs.Common.{subst, rules}
+use Rattle.std.proofs.Common.{rules}
 use Rattle.nb_table.specs.Chains.{seen_by}
 use Rattle.nb_table.proofs.ByHand.{settled}
 use Rattle.nb_table.proofs.tests.by_hand.removes.Goals as goal

@@ -1,4 +1,3 @@
-use Rattle.std.proofs.Common.{subst}
 use Rattle.nb_table.proofs.tests.by_hand.sees_source.Goals as goal
 use Rattle.nb_table.proofs.Theorems.{steps_add_up}
 
