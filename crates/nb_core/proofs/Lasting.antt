@@ -1,6 +1,6 @@
 -- What a step leaves as it is, and what it can't take away.
 use Rattle.std.proofs.Common.{◌≡◌, ◌≢◌, ◌∙◌, ℕ, ◌<◌, ◌≤◌, ◌⊎◌, zero, suc, Option, Some, None, MatchOption, sym, subst, refl, inl, inr}
-use Rattle.nb_core.specs.Calls.{changed}
+use Rattle.nb_core.specs.Log.{changed}
 use Rattle.nb_core.specs.Plans.{Plan, IsPlan, generations_of}
 use Rattle.nb_core.specs.Tables.{AreOthers, HasSlot, IsComplete, IsFinished, IsFinishedValue, IsInstalled, IsSlot, IsUnprimed, Tables, path_slot}
 use Rattle.nb_core.specs.History.{IsExchange, MayClaim, MayWin, number_in_value, key_of_call}

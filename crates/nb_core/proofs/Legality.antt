@@ -1,6 +1,7 @@
 -- A test of histories that computes: what passes it is legal (`passes_legal` in proofs/). It is there for examples.
 use Rattle.std.specs.Prelude.{ℕ, suc, zero, ◌+◌, ◌-◌, ◌%◌, ◌==◌, ◌&&◌, ◌||◌, not, nat_lt, nat_le, Bool, true, false, if◌then◌else◌, List, [], ◌∷◌, Option, Some, None, is_some}
-use Rattle.nb_core.specs.Calls.{changed, holds_of, is_past_max, leaves_alone, same_number}
+use Rattle.nb_core.specs.Calls.{is_past_max, leaves_alone, same_number}
+use Rattle.nb_core.specs.Log.{changed, holds_of}
 use Rattle.nb_core.specs.Plans.{Plan, generations_of, limit_of, size_of}
 use Rattle.nb_core.specs.Tables.{Tables, is_finished_value, path_slot, tables_at}
 use Rattle.nb_core.specs.Histories.{is_empty}

@@ -7,11 +7,11 @@ use Rattle.std.specs.Cmp.{nat_cmp_total}
 use Rattle.std.specs.FinMap.{empty_of_len, get, get-empty, insert, len, len-empty, len-entries, len-insert, len-remove, remove}
 use Rattle.std.specs.Option.{is_some}
 use Rattle.std.specs.Ordering.{nat_cmp}
-use Rattle.nb_core.specs.Calls.{Numbers, changed, holds_of, map_after, reply_of, with_at}
+use Rattle.nb_core.specs.Log.{Numbers, calls_of, changed, holds_of, log_of, map_after, reply_of, with_at}
 use Rattle.nb_core.specs.Plans.{Plan, IsPlan}
 use Rattle.nb_core.specs.History.{Exchanges, IsExchange, IsLegal, after_win, number_in_value, key_of_call, map_of}
-use Rattle.nb_core.specs.Meaning.{calls_of, net_of, net_of_call, net_of_change}
-use Rattle.nb_core.specs.Laws.{SizeIsNet, net_of_seats}
+use Rattle.nb_core.specs.Meaning.{net_of, net_of_call, net_of_change, net_of_seats}
+use Rattle.nb_core.specs.Laws.{SizeIsNet}
 use Rattle.nb_core.specs.declared.calls.Call.{Call}
 use Rattle.nb_core.proofs.Shown.{win_number}
 use Rattle.nb_core.specs.declared.calls.Call.TheVariants as call
@@ -86,8 +86,8 @@ after_win-call m (call.Write key want change) k a b at e =
 
 -- where the calls of each of the first n seats are the same, so is the sum
 net_of_seats-same :
-    (h later : List Event) (n : ℕ) → ((s : ℕ) → s < n → calls_of later s ≡ calls_of h s)
-    → net_of_seats later n ≡ net_of_seats h n
+    (h later : List Event) (n : ℕ) → ((s : ℕ) → s < n → calls_of s (log_of later) ≡ calls_of s (log_of h))
+    → net_of_seats (log_of later) n ≡ net_of_seats (log_of h) n
 net_of_seats-same h later zero same = refl
 net_of_seats-same h later (suc n) same =
     let here = ap net_of (same n (omega arith)) in
@@ -95,18 +95,18 @@ net_of_seats-same h later (suc n) same =
 
 -- the later history has one call more, which is the seat's
 record HasCall (h later : List Event) (s : ℕ) (c : Call) (r : Reply) : Type 0 where
-  calls : (n : ℕ) → calls_of later n ≡ cond (eqb s n) ((c, r) ∷ calls_of h n) (calls_of h n)
+  calls : (n : ℕ) → calls_of n (log_of later) ≡ cond (eqb s n) ((c, r) ∷ calls_of n (log_of h)) (calls_of n (log_of h))
 
 -- the calls of another seat are the same
 calls_of-other :
     (h later : List Event) (s : ℕ) (c : Call) (r : Reply) → HasCall h later s c r → (n : ℕ) → (s ≡ n → ⊥)
-    → calls_of later n ≡ calls_of h n
+    → calls_of n (log_of later) ≡ calls_of n (log_of h)
 calls_of-other h later s c r has n other = has.calls n ∙ cond-false (eqb s n) _ _ (ne_eqb s n other)
 
 -- one call more adds its net to the sum
 net_of_seats-more :
     (h later : List Event) (s : ℕ) (c : Call) (r : Reply) → HasCall h later s c r → (n : ℕ) → s < n
-    → net_of_seats later n ≡ net_of_call c r +ℤ net_of_seats h n
+    → net_of_seats (log_of later) n ≡ net_of_call c r +ℤ net_of_seats (log_of h) n
 net_of_seats-more h later s c r has zero within = absurd (omega arith)
 net_of_seats-more h later s c r has (suc n) within =
     elim (cases_order s n) [
@@ -126,7 +126,7 @@ net_of_seats-more h later s c r has (suc n) within =
 record AddsAlike (p : Plan) (e : Event) (h : List Event) : Type 0 where
   net : ℤ
   keys : pos (len (map_of (e ∷ h))) ≡ net +ℤ pos (len (map_of h))
-  seats : net_of_seats (e ∷ h) p.seats ≡ net +ℤ net_of_seats h p.seats
+  seats : net_of_seats (log_of (e ∷ h)) p.seats ≡ net +ℤ net_of_seats (log_of h) p.seats
 
 -- an event with a call adds the call's net to both
 adds_alike-call :

@@ -8,7 +8,8 @@ use Rattle.std.proofs.lemmas.List.Sums.{sum_by-append, sum_by-cons}
 use Rattle.nb_core.specs.Plans.{Plan, IsPlan}
 use Rattle.nb_core.specs.Tables.{HasSlot, IsFinishedValue, IsSettledBelow, IsSlot, IsUnprimed, Tables, tables_at}
 use Rattle.nb_core.specs.History.{IsLegal, IsPrimedBelow, counts, key_of_call, seat_of_event, turned_by, turns}
-use Rattle.nb_core.specs.Meaning.{calls_of, is_win_of_another, passed_over}
+use Rattle.nb_core.specs.Log.{calls_of, log_of}
+use Rattle.nb_core.specs.Meaning.{is_win_of_another, passed_over}
 use Rattle.nb_core.specs.Laws.{HasOwnStill, IsValueChange, LostExchange, OwnLasts, PassedOverAdds, primed}
 use Rattle.nb_core.proofs.Lasting.{win-key}
 use Rattle.nb_core.proofs.Later.{seen_lasts}
@@ -53,9 +54,9 @@ not_added true x xs none = absurd cc
 not_added false x xs none = (refl, none)
 
 -- a seat that made no call with one event more made none before
-no_calls-before : (e : Event) (later : List Event) (s : ℕ) → calls_of (e ∷ later) s ≡ [] → calls_of later s ≡ []
-no_calls-before (Won r g i a b c reply) later s none = (not_added (eqb r s) (c, reply) (calls_of later s) none).1
-no_calls-before (Read r c reply) later s none = (not_added (eqb r s) (c, reply) (calls_of later s) none).1
+no_calls-before : (e : Event) (later : List Event) (s : ℕ) → calls_of s (log_of (e ∷ later)) ≡ [] → calls_of s (log_of later) ≡ []
+no_calls-before (Won r g i a b c reply) later s none = (not_added (eqb r s) (c, reply) (calls_of s (log_of later)) none).1
+no_calls-before (Read r c reply) later s none = (not_added (eqb r s) (c, reply) (calls_of s (log_of later)) none).1
 no_calls-before e later s none = none
 
 -- what is primed isn't unprimed
@@ -76,10 +77,10 @@ won-another r s k key own same = ap (λ t. t && not (eqb r s)) (eq-eqb key k sam
 changed-won :
     (p : Plan) (e : Event) (h : List Event) → IsLegal p (e ∷ h) → (later : List Event) (g i k s : ℕ) (to : ValueState)
     → (tables_at p h).key g i ≡ Claimed k → IsSettledBelow p (tables_at p h) g k → IsUnprimed to
-    → IsValueChange e g i ((tables_at p h).value g i) to → calls_of (e ∷ later) s ≡ [] → is_win_of_another k s e ≡ true
+    → IsValueChange e g i ((tables_at p h).value g i) to → calls_of s (log_of (e ∷ later)) ≡ [] → is_win_of_another k s e ≡ true
 changed-won p (Won r f j a b c reply) h legal later g i k s to is settled unprimed change none =
     let may = legal.2 in
-    won-another r s k (key_of_call c) (not_added (eqb r s) (c, reply) (calls_of later s) none).0
+    won-another r s k (key_of_call c) (not_added (eqb r s) (c, reply) (calls_of s (log_of later)) none).0
     (win-key may ∙ one_key (tables_at p h) f g j i may.key k change.0 change.1 may.claimed is)
 changed-won p (CopyIn r f j l n) h legal later g i k s to is settled unprimed change none =
     let t = tables_at p h in
@@ -95,7 +96,7 @@ changed-won p _ h legal later g i k s to is settled unprimed change none = absur
 others-won :
     (p : Plan) → IsPlan p → (later h : List Event) → IsLegal p (later ++ h) → (g i k s : ℕ) → IsSlot p g i
     → (tables_at p h).key g i ≡ Claimed k → IsSettledBelow p (tables_at p h) g k → IsUnprimed ((tables_at p (later ++ h)).value g i)
-    → (tables_at p (later ++ h)).value g i ≢ (tables_at p h).value g i → calls_of later s ≡ [] → 1 ≤ wins_of_others k s later
+    → (tables_at p (later ++ h)).value g i ≢ (tables_at p h).value g i → calls_of s (log_of later) ≡ [] → 1 ≤ wins_of_others k s later
 others-won p plan [] h legal g i k s slot is settled unprimed differs none = absurd (differs refl)
 others-won p plan (e ∷ later) h legal g i k s slot is settled unprimed differs none =
     let one_more = sum_by-cons (λ e. cond (is_win_of_another k s e) 1 0) e later in
@@ -127,7 +128,7 @@ other_seat : (r s : ℕ) (b : Bool) → r ≢ s → (eqb r s && b) ≡ false
 other_seat r s b other = ap (λ t. t && b) (ne_eqb r s other)
 
 -- an event of another seat is no call of this one,
-calls_of-other : (e : Event) (h : List Event) (s : ℕ) → seat_of_event e ≢ s → calls_of (e ∷ h) s ≡ calls_of h s
+calls_of-other : (e : Event) (h : List Event) (s : ℕ) → seat_of_event e ≢ s → calls_of s (log_of (e ∷ h)) ≡ calls_of s (log_of h)
 calls_of-other (Won r g i a b c reply) h s other = cond-false (eqb r s) _ _ (ne_eqb r s other)
 calls_of-other (Read r c reply) h s other = cond-false (eqb r s) _ _ (ne_eqb r s other)
 calls_of-other e h s other = refl

@@ -1,7 +1,7 @@
 -- What passes the test of legality is legal.
 use Rattle.std.proofs.Common.{◌≡◌, ◌≢◌, ℕ, zero, suc, ◌+◌, ◌<◌, ◌≤◌, ◌⊎◌, inl, inr, sym, ap, refl, subst, Bool, true, false, not, cond, ◌&&◌, ◌||◌, eqb, ltb, leb, List, Option, Some, None, MatchOption, is_some, ⊎_elim, arith}
 use Rattle.std.proofs.lemmas.Bool.{both_ways, eq-eqb, eqb-false, eqb-true, leb-true, ltb-true}
-use Rattle.nb_core.specs.Calls.{changed, holds_of}
+use Rattle.nb_core.specs.Log.{changed, holds_of}
 use Rattle.nb_core.specs.Plans.{Plan, generations_of, limit_of, size_of}
 use Rattle.nb_core.specs.States.{IsValueState}
 use Rattle.nb_core.specs.Tables.{AreOthers, HasSlotBelow, IsComplete, IsFinished, IsFinishedValue, IsInstalled, IsOther, IsReady, IsSettledBelow, IsSlot, IsUnprimed, Tables, is_finished_value, path_slot, tables_at}

@@ -1,7 +1,8 @@
 -- What the examples of wrong events break.
 use Rattle.std.proofs.Common.{◌≡◌, ◌∙◌, ℕ, zero, suc, ◌<◌, ⊎_elim, sym, ap, refl, Bool, true, false, not, ◌&&◌, ◌||◌, arith, cond}
 use Rattle.std.proofs.lemmas.Bool.{both_ways, eq-eqb}
-use Rattle.nb_core.specs.Calls.{changed, holds_of, is_past_max}
+use Rattle.nb_core.specs.Calls.{is_past_max}
+use Rattle.nb_core.specs.Log.{changed, holds_of}
 use Rattle.nb_core.specs.Plans.{size_of}
 use Rattle.nb_core.specs.Tables.{Tables, tables_at}
 use Rattle.nb_core.specs.History.{IsLegal}

@@ -1,10 +1,11 @@
--- The calls of a history, one after another, are calls of a plain map; and where there is one seat, all are its own.
-use Rattle.std.proofs.Common.{◌≡◌, ◌∙◌, ℕ, ◌<◌, List, [], ◌∷◌, ap, sym, subst, refl, eqb, cond, arith}
-use Rattle.std.proofs.lemmas.Bool.{cond-true, eq-eqb}
-use Rattle.nb_core.specs.Calls.{map_after, reply_of}
+-- The log of a legal history is replayed, and leaves the history's map; and the calls of a log that goes on.
+use Rattle.std.proofs.Common.{◌≡◌, ◌∙◌, ℕ, ◌<◌, ◌==◌, Bool, true, false, cond, List, [], ◌∷◌, ◌++◌, ap, sym, subst, refl}
+use Rattle.std.specs.List.{All}
+use Rattle.std.proofs.lemmas.List.Elements.{All-cons, All-nil}
 use Rattle.nb_core.specs.History.{map_of}
-use Rattle.nb_core.specs.Meaning.{AreReplies, all_calls, calls_of, map_of_calls}
-use Rattle.nb_core.specs.Laws.{AreReplayed, CallsReplayed, LoneSeat}
+use Rattle.nb_core.specs.Laws.{CallsAppend, HasLog, LogIsReplayed}
+use Rattle.nb_core.specs.Log.{Entry, IsReplayed, calls_of, log_of, map_after, map_of_log, reply_of}
+use Rattle.nb_core.specs.Plans.{Plan}
 use Rattle.nb_core.proofs.Net.{after_win-call}
 use Rattle.nb_core.proofs.Shown.{win_number}
 use Rattle.nb_core.specs.declared.calls.Call.{Call}
@@ -12,41 +13,35 @@ use Rattle.nb_core.specs.declared.calls.Reply.{Reply}
 use Rattle.nb_core.specs.declared.events.Event.{Event}
 use Rattle.nb_core.specs.declared.events.Event.TheVariants.{Won, Read}
 
--- ---- calls of a plain map
+-- where the event is a call's, which left the map and replied as the plain one does
+more :
+    (p : Plan) (e : Event) (h : List Event) (entry : Entry) → log_of (e ∷ h) ≡ entry ∷ log_of h → entry.seat < p.seats
+    → map_of (e ∷ h) ≡ map_after entry.call (map_of h) → entry.reply ≡ reply_of entry.call (map_of h) → HasLog p h → HasLog p (e ∷ h)
+more p e h entry log within map reply before =
+    record {
+      replayed = subst IsReplayed (sym log) (reply ∙ ap (reply_of entry.call) (sym before.map), before.replayed);
+      map = ap map_of_log log ∙ ap (map_after entry.call) before.map ∙ sym map;
+      seats = subst (All (λ entry. entry.seat < p.seats)) (sym log) (All-cons (λ entry. entry.seat < p.seats) entry (log_of h) within before.seats);
+    }
 
--- where the event made one call more, which left the map and replied as the plain one does, the calls still do
-replayed-call :
-    (e : Event) (h : List Event) (c : Call) (r : Reply) → all_calls (e ∷ h) ≡ (c, r) ∷ all_calls h
-    → map_of (e ∷ h) ≡ map_after c (map_of h) → r ≡ reply_of c (map_of h) → AreReplayed h → AreReplayed (e ∷ h)
-replayed-call e h c r calls map reply before = record {
-  map = map ∙ ap (map_after c) before.map ∙ ap map_of_calls (sym calls);
-  replies = subst AreReplies (sym calls) (reply ∙ ap (reply_of c) before.map, before.replies);
-}
-
-pub calls_replayed : CallsReplayed
-calls_replayed p plan [] legal = record { map = refl; replies = tt }
-calls_replayed p plan (Won s g i a b c r ∷ h) legal =
+pub log_is_replayed : LogIsReplayed
+log_is_replayed p plan [] legal = record { replayed = tt; map = refl; seats = All-nil (λ entry. entry.seat < p.seats) }
+log_is_replayed p plan (Won s g i a b c r ∷ h) legal =
     let number = win_number p plan h legal.0 g i a b c legal.1.1 legal.2 in
     let map = after_win-call (map_of h) c legal.2.key a b number legal.2.exchange in
-    replayed-call (Won s g i a b c r) h c r refl map legal.3.0 (calls_replayed p plan h legal.0)
-calls_replayed p plan (Read s c r ∷ h) legal =
-    replayed-call (Read s c r) h c r refl (sym legal.3.2) legal.3.0 (calls_replayed p plan h legal.0)
-calls_replayed p plan (e ∷ h) legal =
-    let before = calls_replayed p plan h legal.0 in record { map = before.map; replies = before.replies }
+    more p (Won s g i a b c r) h (record { seat = s; call = c; reply = r }) refl legal.1.0 map legal.3.0 (log_is_replayed p plan h legal.0)
+log_is_replayed p plan (Read s c r ∷ h) legal =
+    more p (Read s c r) h (record { seat = s; call = c; reply = r }) refl legal.1.0 (sym legal.3.2) legal.3.0 (log_is_replayed p plan h legal.0)
+log_is_replayed p plan (e ∷ h) legal =
+    let before = log_is_replayed p plan h legal.0 in
+    record { replayed = before.replayed; map = before.map; seats = before.seats }
 
--- ---- one seat
-
--- a call of the only seat is that seat's, as all before it are
-lone-call :
-    (seats s : ℕ) (call : Call × Reply) (all own : List (Call × Reply)) → seats ≡ 1 → s < seats → all ≡ own
-    → call ∷ all ≡ cond (eqb s 0) (call ∷ own) own
-lone-call seats s call all own lone within same =
-    ap (λ calls. call ∷ calls) same ∙ sym (cond-true (eqb s 0) _ _ (eq-eqb s 0 (omega arith)))
-
-pub lone_seat : LoneSeat
-lone_seat p lone [] legal = refl
-lone_seat p lone (Won s g i a b c r ∷ h) legal =
-    lone-call p.seats s (c, r) (all_calls h) (calls_of h 0) lone legal.1.0 (lone_seat p lone h legal.0)
-lone_seat p lone (Read s c r ∷ h) legal =
-    lone-call p.seats s (c, r) (all_calls h) (calls_of h 0) lone legal.1.0 (lone_seat p lone h legal.0)
-lone_seat p lone (e ∷ h) legal = lone_seat p lone h legal.0
+pub calls_append : CallsAppend
+calls_append s [] log = refl
+calls_append s (entry ∷ later) log =
+    ap (λ calls. cond (entry.seat == s) ((entry.call, entry.reply) ∷ calls) calls) (calls_append s later log)
+    ∙ one (entry.seat == s) (entry.call, entry.reply) (calls_of s later) (calls_of s log)
+  where
+    one : (b : Bool) (c : Call × Reply) (made more : List (Call × Reply)) → cond b (c ∷ made ++ more) (made ++ more) ≡ cond b (c ∷ made) made ++ more
+    one true c made more = refl
+    one false c made more = refl

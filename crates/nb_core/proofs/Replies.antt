@@ -5,7 +5,8 @@ use Rattle.std.specs.FinMap.{get, get-insert, get-remove, get-empty, same_map, n
 use Rattle.std.specs.Ordering.{nat_cmp, eq_by_cmp, is_eq}
 use Rattle.std.specs.declared.cmp.Ordering.TheVariants.{Less, Equal, Greater}
 use Rattle.std.specs.Cmp.{nat_cmp_total}
-use Rattle.nb_core.specs.Calls.{Numbers, changed, holds_of, is_past_max, leaves_alone, map_after, overflows, reply_of, same_number, with_at}
+use Rattle.nb_core.specs.Calls.{is_past_max, leaves_alone, overflows, same_number}
+use Rattle.nb_core.specs.Log.{Numbers, changed, holds_of, map_after, reply_of, with_at}
 use Rattle.nb_core.specs.Plans.{Plan}
 use Rattle.nb_core.specs.Tables.{tables_at}
 use Rattle.nb_core.specs.History.{IsLegal, Replies, after_win, key_of_call, map_of}

@@ -2,7 +2,8 @@
 use Rattle.std.proofs.Common.{◌≡◌, ◌≢◌, ◌∙◌, ℕ, ◌≤◌, ap, sym, subst, refl, inl, inr, Bool, true, false, cond, Option, Some, None, MatchOption}
 use Rattle.std.proofs.lemmas.Bool.{cond-false, le-ltb}
 use Rattle.std.specs.FinMap.{get}
-use Rattle.nb_core.specs.Calls.{Numbers, changed, holds_of, is_past_max, leaves_alone, map_after, overflows, reply_at, reply_of}
+use Rattle.nb_core.specs.Calls.{is_past_max, leaves_alone, overflows}
+use Rattle.nb_core.specs.Log.{Numbers, changed, holds_of, map_after, reply_at, reply_of}
 use Rattle.nb_core.specs.History.{IsExchange, number_in_value, key_of_call, map_of}
 use Rattle.nb_core.specs.Laws.{ReadReplies, WinReplies}
 use Rattle.nb_core.proofs.Keys.{map_in_range}

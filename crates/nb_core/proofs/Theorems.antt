@@ -9,7 +9,7 @@ pub use Rattle.nb_core.proofs.Linked.{linked, on_path, passed_above, whole_crowd
 pub use Rattle.nb_core.proofs.Net.{size_is_net}
 pub use Rattle.nb_core.proofs.Others.{lost_exchange, own_lasts, passed_over_adds}
 pub use Rattle.nb_core.proofs.Paths.{paths_are_distinct}
-pub use Rattle.nb_core.proofs.Replayed.{calls_replayed, lone_seat}
+pub use Rattle.nb_core.proofs.Replayed.{calls_append, log_is_replayed}
 pub use Rattle.nb_core.proofs.Replying.{read_replies, win_replies}
 pub use Rattle.nb_core.proofs.Searches.{held_has_place, place_is}
 pub use Rattle.nb_core.proofs.Shown.{crowded_absent, decided, stands, win_number}

@@ -2,7 +2,8 @@
 use Rattle.std.specs.Prelude.{◌≡◌, ◌≢◌, ℕ, suc, zero, ◌+◌, ◌<◌, ◌≤◌, ◌⊎◌, ◌==◌, ◌&&◌, Bool, true, false, if◌then◌else◌, List, [], ◌∷◌, Option, Some, None, MatchOption}
 use Rattle.std.specs.FinMap as map
 use Rattle.std.specs.Option.{option_map_or}
-use Rattle.nb_core.specs.Calls.{Numbers, changed, holds_of, map_after, overflows, reply_of}
+use Rattle.nb_core.specs.Calls.{overflows}
+use Rattle.nb_core.specs.Log.{Numbers, changed, holds_of, map_after, reply_of}
 use Rattle.nb_core.specs.Plans.{Plan, generations_of, limit_of, size_of}
 use Rattle.nb_core.specs.States.{IsValueState}
 use Rattle.nb_core.specs.Tables.{AreOthers, HasSlotBelow, IsComplete, IsInstalled, IsOnPath, IsReady, IsSettledBelow, IsSlot, IsUnprimed, Tables, tables_at}

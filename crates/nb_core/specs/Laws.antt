@@ -1,12 +1,13 @@
 -- The laws of legal histories: what holds at every moment, whatever atomic steps were made, by whom, in which order.
-use Rattle.std.specs.Prelude.{◌≡◌, ◌≢◌, ℕ, suc, zero, ◌+◌, ◌-◌, ◌%◌, ◌<◌, ◌≤◌, ◌⊎◌, ◌||◌, ℤ, pos, ◌+ℤ◌, Bool, true, false, if◌then◌else◌, List, [], ◌∷◌, ◌++◌, length, slice_index, bit_or, Option, Some, None, All}
+use Rattle.std.specs.Prelude.{◌≡◌, ◌≢◌, ℕ, suc, zero, ◌+◌, ◌-◌, ◌%◌, ◌<◌, ◌≤◌, ◌⊎◌, ◌||◌, pos, Bool, true, false, if◌then◌else◌, List, [], ◌∷◌, ◌++◌, length, slice_index, bit_or, Option, Some, None, All}
 use Rattle.std.specs.FinMap as map
-use Rattle.nb_core.specs.Calls.{leaves_alone, reply_at}
+use Rattle.nb_core.specs.Calls.{leaves_alone}
 use Rattle.nb_core.specs.Plans.{Plan, IsPlan, generations_of, header_place, size_of, value_place, word_count}
 use Rattle.nb_core.specs.States.{IsKeyState, IsValueState, value_state, value_word}
 use Rattle.nb_core.specs.Tables.{AreOthers, HasSlot, IsComplete, IsFinished, IsFinishedValue, IsInstalled, IsOnPath, IsReady, IsSettledBelow, IsSlot, IsUnprimed, Tables, is_finished_value, path_slot, tables_at, words_of}
 use Rattle.nb_core.specs.History.{HasValue, IsLegal, MayWin, Replies, number_in_value, counted_by, key_of_call, map_of, seat_of_event, turned_by, turns_slot}
-use Rattle.nb_core.specs.Meaning.{AreReplies, IsCrowded, Stands, all_calls, calls_of, map_of_calls, net_of, passed_over, place_of}
+use Rattle.nb_core.specs.Log.{Entry, IsReplayed, calls_of, log_of, map_of_log, reply_at}
+use Rattle.nb_core.specs.Meaning.{IsCrowded, Stands, net_of_seats, passed_over, place_of}
 use Rattle.nb_core.specs.declared.numbers.TheConstants.{KEY_MAX, VALUE_MAX}
 use Rattle.nb_core.specs.declared.calls.Call.{Call}
 use Rattle.nb_core.specs.declared.events.Event.{Event}
@@ -235,28 +236,24 @@ OnePlace =
 
 -- ---- the size
 
--- how many keys the calls of the first n seats added, less how many they took out
-abbrev pub net_of_seats : List Event → ℕ → ℤ
-net_of_seats h zero = pos 0
-net_of_seats h (suc n) = net_of (calls_of h n) +ℤ net_of_seats h n
-
 -- What all seats' calls added, less what they took out, is the number of keys.
 abbrev pub SizeIsNet : Type 0
-SizeIsNet = (p : Plan) → IsPlan p → (h : List Event) → IsLegal p h → net_of_seats h p.seats ≡ pos (length (map.entries (map_of h)))
+SizeIsNet = (p : Plan) → IsPlan p → (h : List Event) → IsLegal p h → net_of_seats (log_of h) p.seats ≡ pos (length (map.entries (map_of h)))
 
--- ---- the calls, one after another
+-- ---- the log
 
--- A history's calls, one after another, reply as the plain map does, and leave the history's map.
-pub record AreReplayed (h : List Event) : Type 0 where
-  pub map : map_of h ≡ map_of_calls (all_calls h)
-  pub replies : AreReplies (all_calls h)
+-- The log of a history is replayed and leaves the history's map, and each of its entries is of one of the seats.
+pub record HasLog (p : Plan) (h : List Event) : Type 0 where
+  pub replayed : IsReplayed (log_of h)
+  pub map : map_of_log (log_of h) ≡ map_of h
+  pub seats : All (λ entry. entry.seat < p.seats) (log_of h)
 
-abbrev pub CallsReplayed : Type 0
-CallsReplayed = (p : Plan) → IsPlan p → (h : List Event) → IsLegal p h → AreReplayed h
+abbrev pub LogIsReplayed : Type 0
+LogIsReplayed = (p : Plan) → IsPlan p → (h : List Event) → IsLegal p h → HasLog p h
 
--- Where there is one seat, all calls are its own.
-abbrev pub LoneSeat : Type 0
-LoneSeat = (p : Plan) → p.seats ≡ 1 → (h : List Event) → IsLegal p h → all_calls h ≡ calls_of h 0
+-- The calls of a log that goes on from another are those that are new, and those of the other.
+abbrev pub CallsAppend : Type 0
+CallsAppend = (s : ℕ) (later log : List Entry) → calls_of s (later ++ log) ≡ calls_of s later ++ calls_of s log
 
 -- ---- what a seat may rely on
 
@@ -393,7 +390,7 @@ abbrev pub LostExchange : Type 0
 LostExchange =
     (p : Plan) → IsPlan p → (later h : List Event) → IsLegal p (later ++ h) → (g i k s : ℕ) → IsSlot p g i
     → (tables_at p h).key g i ≡ Claimed k → IsSettledBelow p (tables_at p h) g k → IsUnprimed ((tables_at p (later ++ h)).value g i)
-    → (tables_at p (later ++ h)).value g i ≢ (tables_at p h).value g i → calls_of later s ≡ [] → 1 ≤ passed_over (later ++ h) (length h) k s
+    → (tables_at p (later ++ h)).value g i ≢ (tables_at p h).value g i → calls_of s (log_of later) ≡ [] → 1 ≤ passed_over (later ++ h) (length h) k s
 
 -- The exchanges that others won since a moment are those up to a later moment, and those since then.
 abbrev pub PassedOverAdds : Type 0
@@ -404,7 +401,7 @@ PassedOverAdds =
 
 -- what is a seat's own, and the same after more events: its calls, and what it counted and turned finished in each table
 pub record HasOwnStill (p : Plan) (later h : List Event) (s : ℕ) : Type 0 where
-  pub calls : calls_of (later ++ h) s ≡ calls_of h s
+  pub calls : calls_of s (log_of (later ++ h)) ≡ calls_of s (log_of h)
   pub counted : (g : ℕ) → counted_by (later ++ h) s g ≡ counted_by h s g
   pub turned : (g : ℕ) → turned_by p (later ++ h) s g ≡ turned_by p h s g
 

@@ -2,6 +2,7 @@ pub mod Calls
 pub mod Histories
 pub mod History
 pub mod Laws
+pub mod Log
 pub mod Meaning
 pub mod Places
 pub mod Plans

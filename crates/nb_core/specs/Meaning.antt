@@ -1,7 +1,7 @@
 -- What the tables of a moment stand for, and what a history says of calls and keys.
 use Rattle.std.specs.Prelude.{◌≡◌, ℕ, ℤ, pos, suc, zero, ◌-◌, ◌+ℤ◌, ◌-ℤ◌, ◌<◌, ◌≤◌, ◌⊎◌, ◌==◌, ◌&&◌, not, Bool, true, false, if◌then◌else◌, IsTrue, List, [], ◌∷◌, length, take, drop, count_by, Option, Some, None, option_map}
 use Rattle.std.specs.FinMap as map
-use Rattle.nb_core.specs.Calls.{Numbers, map_after, reply_of}
+use Rattle.nb_core.specs.Log.{Entry, Numbers, calls_of}
 use Rattle.nb_core.specs.Plans.{Plan, generations_of, size_of}
 use Rattle.nb_core.specs.Tables.{IsOther, Tables, tables_at, tables_of}
 use Rattle.nb_core.specs.History.{key_of_call, map_of}
@@ -12,7 +12,7 @@ use Rattle.nb_core.specs.declared.calls.Change.{Change}
 use Rattle.nb_core.specs.declared.calls.Change.TheVariants as change
 use Rattle.nb_core.specs.declared.calls.Reply.{Reply}
 use Rattle.nb_core.specs.declared.events.Event.{Event}
-use Rattle.nb_core.specs.declared.events.Event.TheVariants.{Won, Read}
+use Rattle.nb_core.specs.declared.events.Event.TheVariants.{Won}
 use Rattle.nb_core.specs.declared.states.KeyState.{KeyState}
 use Rattle.nb_core.specs.declared.states.KeyState.TheVariants.{Empty, Dead, Claimed}
 use Rattle.nb_core.specs.declared.states.ValueState.{ValueState}
@@ -70,31 +70,7 @@ shown_from p t k g (suc tables) =
 abbrev pub Stands : Plan → List ℕ → Numbers → Type 0
 Stands p w m = (k : ℕ) → k ≤ KEY_MAX → shown_from p (tables_of p w) k 0 (generations_of p) ≡ map.get m k
 
--- ---- calls
-
--- the calls of a seat with their replies, the newest first
-abbrev pub calls_of : List Event → ℕ → List (Call × Reply)
-calls_of [] s = []
-calls_of (Won s' g i a b c r ∷ h) s = if s' == s then (c, r) ∷ calls_of h s else calls_of h s
-calls_of (Read s' c r ∷ h) s = if s' == s then (c, r) ∷ calls_of h s else calls_of h s
-calls_of (_ ∷ h) s = calls_of h s
-
--- all calls of a history with their replies, the newest first
-abbrev pub all_calls : List Event → List (Call × Reply)
-all_calls [] = []
-all_calls (Won s g i a b c r ∷ h) = (c, r) ∷ all_calls h
-all_calls (Read s c r ∷ h) = (c, r) ∷ all_calls h
-all_calls (_ ∷ h) = all_calls h
-
--- the map that calls leave of the empty one
-abbrev pub map_of_calls : List (Call × Reply) → Numbers
-map_of_calls [] = map.empty
-map_of_calls (c ∷ calls) = map_after c.0 (map_of_calls calls)
-
--- each call replied as the map does that the calls before it left
-abbrev pub AreReplies : List (Call × Reply) → Type 0
-AreReplies [] = Unit {0}
-AreReplies (c ∷ calls) = (c.1 ≡ reply_of c.0 (map_of_calls calls)) × AreReplies calls
+-- ---- what calls do to the number of keys
 
 -- what a call did to the number of keys
 abbrev pub net_of_change : Change → Option ℕ → ℤ
@@ -114,6 +90,11 @@ net_of_call (call.Write k want change) r = if r.matched then net_of_change chang
 abbrev pub net_of : List (Call × Reply) → ℤ
 net_of [] = pos 0
 net_of (c ∷ calls) = net_of_call c.0 c.1 +ℤ net_of calls
+
+-- the same of the calls of the first n seats in a log
+abbrev pub net_of_seats : List Entry → ℕ → ℤ
+net_of_seats log zero = pos 0
+net_of_seats log (suc n) = net_of (calls_of n log) +ℤ net_of_seats log n
 
 -- ---- keys
 

@@ -1,6 +1,7 @@
 //! The calls of a map, and their replies.
 ghost use Rattle.std.specs.Prelude.{◌≡◌, if◌then◌else◌};
-ghost use Rattle.nb_core.specs.Calls.{changed, holds_of, is_past_max};
+ghost use Rattle.nb_core.specs.Calls.{is_past_max};
+ghost use Rattle.nb_core.specs.Log.{changed, holds_of};
 
 use crate::numbers::{Key, Num, RangeFault};
 

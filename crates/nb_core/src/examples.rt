@@ -8,8 +8,9 @@ ghost use Rattle.nb_core.specs.States.{key_word, value_state, value_word};
 ghost use Rattle.nb_core.specs.Tables.{chunk_of, tables_at};
 ghost use Rattle.nb_core.specs.Histories.{HasNumbers, headers_at, plan, slots_at, top_at, grows_when_a_path_is_crowded, a_removal_is_not_copied, copy_of_one_slot, stopped_copier, three_helpers, contended_once, contended_once_with_two_tries, filled_removed_refilled, plan_of_three, same_size_successor, add_contended_once, adds, full_in_the_middle, half_copied};
 ghost use Rattle.nb_core.specs.History.{IsLegal};
-ghost use Rattle.nb_core.specs.Laws.{finished_among, net_of_seats};
-ghost use Rattle.nb_core.specs.Meaning.{IsCrowded, place_of};
+ghost use Rattle.nb_core.specs.Log.{log_of};
+ghost use Rattle.nb_core.specs.Laws.{finished_among};
+ghost use Rattle.nb_core.specs.Meaning.{IsCrowded, net_of_seats, place_of};
 ghost use Rattle.nb_core.specs.declared.numbers.TheConstants.{KEY_MAX, VALUE_MAX};
 ghost use Rattle.nb_core.specs.declared.states.KeyState.TheVariants.{Claimed, Dead, Empty};
 ghost use Rattle.nb_core.specs.declared.states.ValueState.TheVariants.{Null, Tombstone, Live, PrimedNull, PrimedTombstone, Primed, Finished};
@@ -196,7 +197,7 @@ pub fn places_of_keys()
     ensures first { place_of stopped_copier.plan stopped_copier.events 0 16 ≡ Some (1, 2) }
     ensures later { place_of stopped_copier.plan stopped_copier.events 2 16 ≡ Some (2, 0) }
     ensures none { place_of stopped_copier.plan stopped_copier.events 0 5 ≡ None }
-    ensures net { net_of_seats stopped_copier.events 2 ≡ pos 5 }
+    ensures net { net_of_seats (log_of stopped_copier.events) 2 ≡ pos 5 }
 {}
 
 /// A shape may be of each plan of these histories.

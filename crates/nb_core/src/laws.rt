@@ -1,7 +1,7 @@
 //! The laws of every shape and of every legal history, which say what holds at each moment, whatever atomic steps were made
 //! by whom. Each function carries a law as its contract, so that the gate guards it; nobody calls it. The crates above take
 //! the laws as theorems, from `proofs/Theorems.antt`, under the same names.
-ghost use Rattle.nb_core.specs.Laws.{BeginningsAreLegal, CallsReplayed, ClaimedOnPath, Codings, CompletePassed, ContentOnce, CountedOnce, CrowdedAbsent, Decided, FewKeys, HasOneSlot, HeldHasPlace, InstalledAfter, LawfulChanges, LawfulWords, LoneSeat, LostExchange, MapInRange, Moved, OnePlace, OwnLasts, PassedAbove, PassedOverAdds, PassedSettled, PathsAreDistinct, PlaceIs, ReadReplies, Room, SeenLasts, SizeIsNet, SlotsStay, TablesAreLinked, TablesStand, TopComplete, WholeCrowded, WinNumber, WinReplies};
+ghost use Rattle.nb_core.specs.Laws.{BeginningsAreLegal, CallsAppend, ClaimedOnPath, Codings, CompletePassed, ContentOnce, CountedOnce, CrowdedAbsent, Decided, FewKeys, HasOneSlot, HeldHasPlace, InstalledAfter, LawfulChanges, LawfulWords, LogIsReplayed, LostExchange, MapInRange, Moved, OnePlace, OwnLasts, PassedAbove, PassedOverAdds, PassedSettled, PathsAreDistinct, PlaceIs, ReadReplies, Room, SeenLasts, SizeIsNet, SlotsStay, TablesAreLinked, TablesStand, TopComplete, WholeCrowded, WinNumber, WinReplies};
 ghost use Rattle.nb_core.specs.Plans.{LimitsFit, PlacesAreDistinct, SizesNeverFall};
 
 /// No two words of a chain lie in one place, and each lies in the chain.
@@ -93,15 +93,15 @@ pub fn size_is_net()
     ensures { SizeIsNet }
 {}
 
-/// The calls of all seats, one after another in the order of their steps, reply as a plain map does that is empty at first,
-/// and leave the history's map.
-pub fn calls_replayed()
-    ensures { CallsReplayed }
+/// The log of a history is replayed: each call replies as the map does that the calls before it leave. It leaves the history's
+/// map, and each of its entries is of one of the seats.
+pub fn log_is_replayed()
+    ensures { LogIsReplayed }
 {}
 
-/// Where there is one seat, all calls are its own.
-pub fn lone_seat()
-    ensures { LoneSeat }
+/// The calls of a log that goes on from another are those that are new, and those of the other.
+pub fn calls_append()
+    ensures { CallsAppend }
 {}
 
 /// Each beginning of a legal history is legal.

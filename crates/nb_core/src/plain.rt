@@ -3,7 +3,8 @@ ghost use Rattle.std.specs.Prelude.{◌≡◌, ◌↔◌, ℕ, IsTrue, IfOk, IfE
 ghost use Rattle.std.specs.Ordering.{nat_cmp};
 ghost use Rattle.std.specs.FinMap as map;
 ghost use Rattle.std.specs.Coded.{coded_ℕ};
-ghost use Rattle.nb_core.specs.Calls.{map_after, overflows, puts, reply_of};
+ghost use Rattle.nb_core.specs.Calls.{Fills, overflows};
+ghost use Rattle.nb_core.specs.Log.{map_after, reply_of};
 
 use crate::calls::{Call, Change, Reply, Want};
 use crate::numbers::{Key, Num};
@@ -63,7 +64,7 @@ impl PlainMap {
         ensures map { OnOk result (self.new ≡ map_after (Call.Write key want change) self.old) }
         ensures too_great { (result ≡ Err PlainFault.ValueRange) ↔ IsTrue (overflows (Call.Write key want change) self.old) }
         ensures out_of_memory { result ≡ Err PlainFault.OutOfMemory → map.get self.old key ≡ None }
-        ensures only_to_put { result ≡ Err PlainFault.OutOfMemory → IsTrue (puts (Call.Write key want change) self.old) }
+        ensures only_to_fill { result ≡ Err PlainFault.OutOfMemory → Fills (Call.Write key want change) }
         ensures refused { OnErr result (self.new ≡ self.old) }
     {
         let before = &self.get(key);

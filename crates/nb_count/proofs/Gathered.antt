@@ -1,5 +1,5 @@
 -- One token gathers the tallies of all seats, and the words that are left stand for their sum.
-use Rattle.std.proofs.Common.{◌≡◌, ◌∙◌, ℕ, zero, suc, ◌+◌, ◌*◌, ◌%◌, ◌^◌, ◌<◌, ◌≤◌, ap, sym, List, [], ◌∷◌, ◌++◌, length, length-append, get_or, true, false, slice_index, ℤ, ◌+ℤ◌, pos, All, add-one, refl, arith}
+use Rattle.std.proofs.Common.{◌≡◌, ◌∙◌, ℕ, zero, suc, ◌+◌, ◌*◌, ◌%◌, ◌^◌, ◌<◌, ◌≤◌, ap, sym, List, [], ◌∷◌, ◌++◌, length, length-append, get_or, true, false, slice_index, ℤ, ◌+ℤ◌, pos, add-one, refl, arith}
 use lib.ListN.{get_elem?}
 use mathlib.Core.Option.{some, some-injective, some-ne-none}
 use Rattle.std.proofs.Math.ListN.{get_or-append}
@@ -9,7 +9,7 @@ use Rattle.std.proofs.lemmas.Int.{ints}
 use Rattle.atomic_table.specs.Seated.{TableId}
 use Rattle.atomic_table.specs.Table.{Final, Seen, State}
 use Rattle.atomic_table.specs.declared.shared.Seat.{Seat}
-use Rattle.nb_count.specs.Counts.{Counting, total_of}
+use Rattle.nb_count.specs.Counts.{AreOwn, CountSeatOf, CounterOf, IsOwn, total_of}
 use Rattle.nb_count.specs.Gathered.{HasGathered}
 use Rattle.nb_count.specs.Inside.{IsSeat, seat_of}
 use Rattle.nb_count.specs.Tallies.{AreSums, StripesAreFree, StripesAreTheSum, added_by, all_of, served, sum_of_stripes, total, wrapped}
@@ -21,29 +21,29 @@ use Rattle.nb_count.proofs.Sums.{all_served, over_stripes, total-append, total-w
 
 -- ---- lists whose last was taken
 
-pub own-left : (counter : TableId) (seats left : List Counting) (s : Counting) → seats ≡ left ++ s ∷ [] → All (λ x. x.counter ≡ counter) seats → All (λ x. x.counter ≡ counter) left
+pub own-left : (counter : CounterOf) (seats left : List CountSeatOf) (s : CountSeatOf) → seats ≡ left ++ s ∷ [] → AreOwn counter seats → AreOwn counter left
 own-left counter seats left s is own k d below =
     ap (λ x. x.counter) (sym (get_or-append left (s ∷ []) d k below) ∙ ap (λ xs. get_or xs k d) (sym is))
     ∙ own k d (omega (arith, ap length is, length-append left (s ∷ [])))
 
-pub own-last : (counter : TableId) (seats left : List Counting) (s : Counting) → seats ≡ left ++ s ∷ [] → All (λ x. x.counter ≡ counter) seats → s.counter ≡ counter
+pub own-last : (counter : CounterOf) (seats left : List CountSeatOf) (s : CountSeatOf) → seats ≡ left ++ s ∷ [] → AreOwn counter seats → IsOwn counter s
 own-last counter seats left s is own =
     ap (λ x. x.counter) (sym (get_or-append_seam left s [] s) ∙ ap (λ xs. get_or xs (length left) s) (sym is))
     ∙ own (length left) s (omega (arith, ap length is, length-append left (s ∷ [])))
 
-total_of-append : (left : List Counting) (s : Counting) → total_of (left ++ s ∷ []) ≡ total_of left +ℤ s.added
+total_of-append : (left : List CountSeatOf) (s : CountSeatOf) → total_of (left ++ s ∷ []) ≡ total_of left +ℤ s.added
 total_of-append [] s = omega (arith, ints)
 total_of-append (x ∷ left) s = omega (arith, ints, total_of-append left s)
 
 -- a list from which nothing can be taken is empty
-pub none-left : (left : List Counting) → (0 < length left → false ≡ true) → left ≡ []
+pub none-left : (left : List CountSeatOf) → (0 < length left → false ≡ true) → left ≡ []
 none-left [] none = refl
 none-left (x ∷ left) none = absurd (let e : false ≡ true = none (omega arith) in cc)
 
 -- ---- gathering
 
 -- one seat's token, where the others are left
-pub gathered-first : (counter : TableId) (s : seat.Inside) (last : Counting) (left seats : List Counting) → IsSeat s → seat_of s ≡ last → seats ≡ left ++ last ∷ [] → last.counter ≡ counter → HasGathered counter s.seat left seats
+pub gathered-first : (counter : TableId) (s : seat.Inside) (last : CountSeatOf) (left seats : List CountSeatOf) → IsSeat s → seat_of s ≡ last → seats ≡ left ++ last ∷ [] → last.counter ≡ counter → HasGathered counter s.seat left seats
 gathered-first counter s last left seats is_seat view is own = record {
   own = ap (λ v. v.counter) view ∙ own;
   free = ap (λ m. m.1) is_seat.one;
@@ -54,7 +54,7 @@ gathered-first counter s last left seats is_seat view is own = record {
 }
 
 -- one seat's token more
-pub gathered-more : (counter : TableId) (token token' : Seat (Unit {0}) (List Tally)) (s : seat.Inside) (next : Counting) (left left' seats : List Counting) → HasGathered counter token left' seats → IsSeat s → seat_of s ≡ next → left' ≡ left ++ next ∷ [] → token'.table_id ≡ token.table_id → token'.me ≡ (token.me.0 ++ s.seat.me.0, token.me.1) → HasGathered counter token' left seats
+pub gathered-more : (counter : TableId) (token token' : Seat (Unit {0}) (List Tally)) (s : seat.Inside) (next : CountSeatOf) (left left' seats : List CountSeatOf) → HasGathered counter token left' seats → IsSeat s → seat_of s ≡ next → left' ≡ left ++ next ∷ [] → token'.table_id ≡ token.table_id → token'.me ≡ (token.me.0 ++ s.seat.me.0, token.me.1) → HasGathered counter token' left seats
 gathered-more counter token token' s next left left' seats g is_seat view is table me = record {
   own = table ∙ g.own;
   free = ap (λ m. m.1) me ∙ g.free;
@@ -88,11 +88,11 @@ sum-wrapped m n a b m_is n_is =
     ∙ wrapped-sum a b
 
 -- the first stripes' sum is what they serve
-sum-served : (words : List ℕ) (stripes : ℕ) (ts : List Tally) → ((i : ℕ) → i < stripes → slice_index words (SPREAD * i) ≡ wrapped (total (served stripes i) ts)) → (n : ℕ) → n ≤ stripes → sum_of_stripes words n % 2 ^ 64 ≡ wrapped (over_stripes stripes n ts)
+sum-served : (words : List ℕ) (stripes : ℕ) (ts : List Tally) → ((i : ℕ) → i < SPREAD * stripes → slice_index words i ≡ wrapped (total (served stripes i) ts)) → (n : ℕ) → n ≤ stripes → sum_of_stripes words n % 2 ^ 64 ≡ wrapped (over_stripes stripes n ts)
 sum-served words stripes ts stands zero below = refl
 sum-served words stripes ts stands (suc n) below =
-    sum-wrapped (sum_of_stripes words n) (slice_index words (SPREAD * n)) (over_stripes stripes n ts) (total (served stripes n) ts)
-    (sum-served words stripes ts stands n (omega arith)) (stands n (omega arith))
+    sum-wrapped (sum_of_stripes words n) (slice_index words (SPREAD * n)) (over_stripes stripes n ts) (total (served stripes (SPREAD * n)) ts)
+    (sum-served words stripes ts stands n (omega arith)) (stands (SPREAD * n) (omega arith))
 
 -- the stripes' sum is what all seats have added
 pub stripes_are_the_sum : StripesAreTheSum

@@ -1,5 +1,5 @@
 -- Sums over tallies, and sums modulo 2^64.
-use Rattle.std.proofs.Common.{◌≡◌, ◌∙◌, ℕ, zero, suc, ◌+◌, ◌%◌, ◌^◌, ◌<◌, ◌≤◌, ap, sym, refl, inl, inr, cond, List, [], ◌∷◌, ◌++◌, length, ℤ, ◌+ℤ◌, pos, negsuc, length-append, slice_set, arith}
+use Rattle.std.proofs.Common.{◌≡◌, ◌∙◌, ℕ, zero, suc, ◌+◌, ◌*◌, ◌%◌, ◌^◌, ◌<◌, ◌≤◌, ap, sym, refl, inl, inr, cond, List, [], ◌∷◌, ◌++◌, length, ℤ, ◌+ℤ◌, pos, negsuc, length-append, slice_set, arith}
 use mathlib.Core.Option.{some, some-injective, some-ne-none}
 use Rattle.std.proofs.Math.Nat.{mod-lt}
 use Rattle.std.proofs.lemmas.List.{nil_from_length}
@@ -7,7 +7,8 @@ use Rattle.std.proofs.lemmas.Bool.{cases_lt, eq-eqb, ne_eqb}
 use lib.ListN.{get_elem?}
 use Rattle.std.proofs.lemmas.Int.{ints, int_wrap-add_left, int_wrap-add_right, of_z-to_z, wrapping_add-bits}
 use Rattle.std.specs.Int.{cast_signed, cast_unsigned, int_wrap, w64}
-use Rattle.nb_count.specs.Tallies.{all_of, served, total, wrapped}
+use Rattle.nb_count.specs.Tallies.{all_of, served, stripe_of, total, wrapped}
+use Rattle.nb_count.specs.declared.tally.TheConstants.{SPREAD}
 use Rattle.nb_count.specs.declared.tally.Tally.{Tally}
 
 -- ---- sums over tallies
@@ -81,13 +82,13 @@ wrapped-sum a b =
 -- the sum over the first n stripes of what they serve
 abbrev pub over_stripes : ℕ → ℕ → List Tally → ℤ
 over_stripes stripes zero ts = pos 0
-over_stripes stripes (suc n) ts = over_stripes stripes n ts +ℤ total (served stripes n) ts
+over_stripes stripes (suc n) ts = over_stripes stripes n ts +ℤ total (served stripes (SPREAD * n)) ts
 
 -- of a seat that the first n stripes don't serve, they have nothing
 not_served : (stripes n : ℕ) (t : Tally) (ts : List Tally) → n ≤ t.number % stripes → over_stripes stripes n (t ∷ ts) ≡ over_stripes stripes n ts
 not_served stripes zero t ts past = refl
 not_served stripes (suc n) t ts past =
-    let other : served stripes n t ≡ pos 0 = ap (λ b. cond b t.added (pos 0)) (ne_eqb (t.number % stripes) n (λ same. absurd (omega arith))) in
+    let other : served stripes (SPREAD * n) t ≡ pos 0 = ap (λ b. cond b t.added (pos 0)) (ne_eqb (stripe_of stripes t.number) (SPREAD * n) (λ same. absurd (omega arith))) in
     omega (arith, ints, not_served stripes n t ts (omega arith))
 
 -- one of the first n stripes serves the seat
@@ -96,10 +97,10 @@ is_served stripes zero t ts below = absurd (omega arith)
 is_served stripes (suc n) t ts below =
     elim (cases_lt (t.number % stripes) n) [
       | inl lower ↦
-          let other : served stripes n t ≡ pos 0 = ap (λ b. cond b t.added (pos 0)) (ne_eqb (t.number % stripes) n (λ same. absurd (omega arith))) in
+          let other : served stripes (SPREAD * n) t ≡ pos 0 = ap (λ b. cond b t.added (pos 0)) (ne_eqb (stripe_of stripes t.number) (SPREAD * n) (λ same. absurd (omega arith))) in
           omega (arith, ints, is_served stripes n t ts lower)
       | inr here ↦
-          let own : served stripes n t ≡ t.added = ap (λ b. cond b t.added (pos 0)) (eq-eqb (t.number % stripes) n (omega arith)) in
+          let own : served stripes (SPREAD * n) t ≡ t.added = ap (λ b. cond b t.added (pos 0)) (eq-eqb (stripe_of stripes t.number) (SPREAD * n) (omega arith)) in
           omega (arith, ints, not_served stripes n t ts here)
     ]
 

@@ -3,36 +3,46 @@ use Rattle.std.specs.Prelude.{◌≡◌, ℕ, zero, suc, ◌+◌, ℤ, pos, ◌+
 use Rattle.atomic_table.specs.Seated.{TableId}
 
 -- a counter: which one it is, and how many stripes and seats it was made with
-pub record Counted : Type 0 where
+pub record CounterOf : Type 0 where
   pub id : TableId
   pub stripes : ℕ
   pub seats : ℕ
 
--- a counter's seat: which counter's, its number, what it has added in all, and how many steps it has made
-pub record Counting : Type 0 where
+-- a counter's seat: which counter's, its number, what it has added in all, and how many adding steps and how many steps it has
+-- made
+pub record CountSeatOf : Type 0 where
   pub counter : TableId
   pub number : ℕ
   pub added : ℤ
+  pub adds : ℕ
   pub steps : ℕ
 
+-- the seat is this counter's
+abbrev pub IsOwn : CounterOf → CountSeatOf → Type 0
+IsOwn counter seat = seat.counter ≡ counter.id
+
 -- all these seats are this counter's
-abbrev pub AreOwn : TableId → List Counting → Type 0
-AreOwn counter seats = All (λ seat. seat.counter ≡ counter) seats
+abbrev pub AreOwn : CounterOf → List CountSeatOf → Type 0
+AreOwn counter seats = All (IsOwn counter) seats
 
--- so many seats of a counter from a number on, which have added nothing
-abbrev pub seats_of : TableId → ℕ → ℕ → List Counting
+-- a counter's seat that has made no step
+abbrev pub new_seat : TableId → ℕ → CountSeatOf
+new_seat id number = record { counter = id; number = number; added = pos 0; adds = 0; steps = 0 }
+
+-- so many seats of a counter from a number on, which have made no step
+abbrev pub seats_of : TableId → ℕ → ℕ → List CountSeatOf
 seats_of id number zero = []
-seats_of id number (suc count) = record { counter = id; number = number; added = pos 0; steps = 0 } ∷ seats_of id (suc number) count
+seats_of id number (suc count) = new_seat id number ∷ seats_of id (suc number) count
 
--- the seat after one step that added
-abbrev pub with_added : ℤ → Counting → Counting
-with_added amount seat = record seat { added = seat.added +ℤ amount; steps = seat.steps + 1 }
+-- the seat after one adding step
+abbrev pub with_added : ℤ → CountSeatOf → CountSeatOf
+with_added amount seat = record seat { added = seat.added +ℤ amount; adds = seat.adds + 1; steps = seat.steps + 1 }
 
--- the seat after so many steps that added nothing
-abbrev pub with_looks : ℕ → Counting → Counting
+-- the seat after so many looks, which change no word: it has made no adding step
+abbrev pub with_looks : ℕ → CountSeatOf → CountSeatOf
 with_looks count seat = record seat { steps = seat.steps + count }
 
 -- what the seats have added in all
-abbrev pub total_of : List Counting → ℤ
+abbrev pub total_of : List CountSeatOf → ℤ
 total_of [] = pos 0
 total_of (seat ∷ seats) = seat.added +ℤ total_of seats

@@ -1,12 +1,13 @@
 -- What is in a counter and its seats, and how it is seen.
-use Rattle.std.specs.Prelude.{◌≡◌, ◌*◌, ◌/◌, ◌%◌, ◌≤◌, pos, List, [], ◌∷◌}
-use Rattle.nb_count.specs.Counts.{Counted, Counting}
+use Rattle.std.specs.Prelude.{◌≡◌, ◌*◌, ◌/◌, ◌≤◌, List, [], ◌∷◌}
+use Rattle.nb_count.specs.Counts.{CountSeatOf, CounterOf}
+use Rattle.nb_count.specs.Tallies.{new_tally, stripe_of}
 use Rattle.nb_count.specs.declared.counter.Counter.TheInside as counter
 use Rattle.nb_count.specs.declared.counter.CountSeat.TheInside as seat
 use Rattle.nb_count.specs.declared.tally.TheConstants.{SPREAD}
 use Rattle.nb_count.specs.declared.tally.Tally.{Tally}
 
-abbrev pub counter_of : counter.Inside → Counted
+abbrev pub counter_of : counter.Inside → CounterOf
 counter_of c = record { id = c.table.shared.table_id; stripes = c.size.stripes; seats = c.size.seats }
 
 -- the table is the counter's, with room for its stripes
@@ -20,13 +21,15 @@ pub record IsCounter (c : counter.Inside) : Type 0 where
 
 -- the one tally of a seat
 abbrev pub tally_of : List Tally → Tally
-tally_of [] = record { number = 0; added = pos 0; steps = 0 }
+tally_of [] = new_tally 0
 tally_of (t ∷ ts) = t
 
-abbrev pub seat_of : seat.Inside → Counting
-seat_of c = let t = tally_of c.seat.me.0 in record { counter = c.seat.table_id; number = t.number; added = t.added; steps = t.steps }
+abbrev pub seat_of : seat.Inside → CountSeatOf
+seat_of c =
+    let t = tally_of c.seat.me.0 in
+    record { counter = c.seat.table_id; number = t.number; added = t.added; adds = t.adds; steps = t.steps }
 
 -- the seat knows one tally, and the place of its stripe
 pub record IsSeat (c : seat.Inside) : Type 0 where
   pub one : c.seat.me ≡ (tally_of c.seat.me.0 ∷ [], [])
-  pub place : c.place ≡ SPREAD * ((tally_of c.seat.me.0).number % (c.seat.table_id.words / SPREAD))
+  pub place : c.place ≡ stripe_of (c.seat.table_id.words / SPREAD) (tally_of c.seat.me.0).number

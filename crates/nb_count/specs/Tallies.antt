@@ -1,5 +1,7 @@
 -- What the stripes of a counter stand for.
-use Rattle.std.specs.Prelude.{◌≡◌, ℕ, zero, suc, ◌+◌, ◌*◌, ◌%◌, ◌^◌, ◌<◌, ◌≤◌, ◌==◌, if◌then◌else◌, ℤ, pos, ◌+ℤ◌, List, [], ◌∷◌, ◌++◌, map, length, slice_index}
+use Rattle.std.specs.Prelude.{◌≡◌, ℕ, zero, suc, ◌+◌, ◌*◌, ◌%◌, ◌^◌, ◌<◌, ◌≤◌, ◌==◌, if◌then◌else◌, ℤ, pos, ◌+ℤ◌, List, [], ◌∷◌, ◌++◌, map, length, slice_index, slice_set}
+use mathlib.Core.Option.{some}
+use lib.ListN.{get_elem?}
 use Rattle.std.specs.Int.{cast_signed, int_rem_euclid, w64}
 use Rattle.std.specs.Int.RustNames.{unsigned_abs}
 use Rattle.atomic_table.specs.Table.{State, Me, Step}
@@ -16,25 +18,33 @@ abbrev pub total : (Tally → ℤ) → List Tally → ℤ
 total f [] = pos 0
 total f (t ∷ ts) = f t +ℤ total f ts
 
--- what a seat has added, if the stripe serves it, of so many stripes
-abbrev pub served : ℕ → ℕ → Tally → ℤ
-served stripes i t = if t.number % stripes == i then t.added else pos 0
+-- the place of the stripe of a seat with this number, of so many stripes
+abbrev pub stripe_of : ℕ → ℕ → ℕ
+stripe_of stripes number = SPREAD * (number % stripes)
 
--- seats that have added nothing, from a number on
+-- what a seat has added, if this is its stripe's place, of so many stripes
+abbrev pub served : ℕ → ℕ → Tally → ℤ
+served stripes place t = if stripe_of stripes t.number == place then t.added else pos 0
+
+-- the tally of a seat that has made no step
+abbrev pub new_tally : ℕ → Tally
+new_tally number = record { number = number; added = pos 0; adds = 0; steps = 0 }
+
+-- so many seats that have made no step, from a number on
 abbrev pub fresh : ℕ → ℕ → List Tally
 fresh number zero = []
-fresh number (suc count) = record { number = number; added = pos 0; steps = 0 } ∷ fresh (suc number) count
+fresh number (suc count) = new_tally number ∷ fresh (suc number) count
 
 -- the tallies of all tokens
 abbrev pub all_of : List (List Tally) → List Tally
 all_of [] = []
 all_of (v ∷ views) = v ++ all_of views
 
--- Each stripe is the sum, modulo 2^64, of what its seats have added; the words between two stripes mean nothing; and no
--- seat's tally is lost.
+-- Each word is the sum, modulo 2^64, of what the seats whose stripe it is have added: so a word between two stripes is 0. And
+-- no seat's tally is lost.
 pub record AreSums (z : Size) (s : State (Unit {0}) (List Tally)) : Type 0 where
   pub words : length s.words ≡ SPREAD * z.stripes
-  pub sums : (i : ℕ) → i < z.stripes → slice_index s.words (SPREAD * i) ≡ wrapped (total (served z.stripes i) (all_of s.views))
+  pub sums : (i : ℕ) → i < SPREAD * z.stripes → slice_index s.words i ≡ wrapped (total (served z.stripes i) (all_of s.views))
   pub seats : length (all_of s.views) ≡ z.seats
 
 -- the sum of the first n stripes
@@ -59,18 +69,24 @@ StripesAreFree =
     → added_by (all_of s.views) ≡ added_by (all_of t.views)
     → sum_of_stripes s.words y.stripes % 2 ^ 64 ≡ sum_of_stripes t.words z.stripes % 2 ^ 64
 
--- a seat's tally after it has added
+-- a seat's tally after an adding step
 abbrev pub after_add : ℤ → Tally → Tally
-after_add amount t = record { number = t.number; added = t.added +ℤ amount; steps = t.steps + 1 }
+after_add amount t = record t { added = t.added +ℤ amount; adds = t.adds + 1; steps = t.steps + 1 }
 
--- a seat's tally after a look at a stripe
+-- a seat's tally after a look at a word
 abbrev pub after_look : Tally → Tally
-after_look t = record { number = t.number; added = t.added; steps = t.steps + 1 }
+after_look t = record t { steps = t.steps + 1 }
 
 -- one step added the number that the word's operand stands for
-abbrev pub adds : Step (Unit {0}) → Me (Unit {0}) (List Tally) → ℕ → Me (Unit {0}) (List Tally) → Type 0
-adds step me found me' = me' ≡ (map (after_add (cast_signed w64 step.first)) me.0, me.1)
+abbrev pub HasAdded : Step (Unit {0}) → Me (Unit {0}) (List Tally) → ℕ → Me (Unit {0}) (List Tally) → Type 0
+HasAdded step me found me' = me' ≡ (map (after_add (cast_signed w64 step.first)) me.0, me.1)
 
--- one step looked at a stripe
-abbrev pub looks : Step (Unit {0}) → Me (Unit {0}) (List Tally) → ℕ → Me (Unit {0}) (List Tally) → Type 0
-looks step me found me' = me' ≡ (map after_look me.0, me.1)
+-- one step looked at a word
+abbrev pub HasLooked : Step (Unit {0}) → Me (Unit {0}) (List Tally) → ℕ → Me (Unit {0}) (List Tally) → Type 0
+HasLooked step me found me' = me' ≡ (map after_look me.0, me.1)
+
+-- A step leaves each word as it is where its seat takes it for a look, whatever step it is.
+abbrev pub LooksChangeNoWord : Type 0
+LooksChangeNoWord =
+    (z : Size) (s t : State (Unit {0}) (List Tally)) (seat : ℕ) (known : List Tally) → AreSums z s → AreSums z t
+    → get_elem? s.views seat ≡ some known → t.views ≡ slice_set s.views seat (map after_look known) → t.words ≡ s.words

@@ -1,6 +1,6 @@
 //! The counter and its seats.
 ghost use Rattle.std.specs.Prelude.{◌≡◌, ◌*◌, ◌%◌, ◌^◌, ◌<◌, ◌≤◌, ◌↔◌, [], length, IfOk, IfErr, true, is_ok};
-ghost use Rattle.nb_count.specs.Counts.{AreOwn, seats_of, total_of, with_added, with_looks};
+ghost use Rattle.nb_count.specs.Counts.{AreOwn, IsOwn, seats_of, total_of, with_added, with_looks};
 ghost use Rattle.nb_count.specs.Gathered.{HasGathered};
 ghost use Rattle.nb_count.specs.Tallies.{sum_of_stripes, wrapped};
 ghost use Rattle.std.specs.Mem.Slots.{IsFull, slots_items, slots_len};
@@ -19,9 +19,9 @@ pub struct Counter {
 }
 
 impl Model for Counter {
-    ghost use Rattle.nb_count.specs.Counts.{Counted};
+    ghost use Rattle.nb_count.specs.Counts.{CounterOf};
 
-    ghost Value = { Counted };
+    ghost Value = { CounterOf };
 
     ghost use Rattle.nb_count.specs.Inside.{IsCounter, counter_of};
 
@@ -30,7 +30,8 @@ impl Model for Counter {
     ghost invariant = { IsCounter };
 }
 
-/// The right of one holder to add. Contracts see its counter, its number, what it has added in all, and its steps.
+/// The right of one holder to add. Contracts see its counter, its number, what it has added in all, and how many steps it has
+/// made: adding steps, which may change its stripe, and looks, which change no word.
 #[derive(Drop)]
 pub struct CountSeat {
     place: usize,
@@ -38,9 +39,9 @@ pub struct CountSeat {
 }
 
 impl Model for CountSeat {
-    ghost use Rattle.nb_count.specs.Counts.{Counting};
+    ghost use Rattle.nb_count.specs.Counts.{CountSeatOf};
 
-    ghost Value = { Counting };
+    ghost Value = { CountSeatOf };
 
     ghost use Rattle.nb_count.specs.Inside.{IsSeat, seat_of};
 
@@ -60,6 +61,7 @@ impl Counter {
         requires seats { (1 ≤ seats) × (seats ≤ 8) }
         ensures counter { IfOk result (λ made. (made.0.stripes ≡ stripes) × (made.0.seats ≡ seats)) }
         ensures seats { IfOk result (λ made. made.1.items ≡ seats_of made.0.id 0 seats) }
+        ensures own { IfOk result (λ made. AreOwn made.0 made.1.items) }
     {
         let size = Size { stripes, seats };
         let mut dealt = Vec::with_capacity(alloc, seats)?;
@@ -76,31 +78,42 @@ impl Counter {
 
     /// Adds to the seat's stripe, modulo 2^64, by one step.
     pub fn add(&self, seat: &mut CountSeat, amount: i64)
-        requires own { seat.old.counter ≡ self.now.id }
-        ensures { seat.new ≡ with_added amount seat.old }
+        requires own { IsOwn self.now seat.old }
+        ensures own { IsOwn self.now seat.new }
+        ensures added { seat.new ≡ with_added amount seat.old }
     {
         let words = &self.table.shared;
         words.fetch_add::<Adds>(&mut seat.seat, seat.place, amount.cast_unsigned());
     }
 
-    /// The sum of the stripes, modulo 2^64, looked at one after another, by one step each. While others add it is no more
-    /// than a guess.
+    /// The sum of the stripes, modulo 2^64, looked at one after another. It changes no word: each of its steps is a look. While
+    /// others add it is no more than a guess.
     pub fn estimate(&self, seat: &mut CountSeat) -> u64
-        requires own { seat.old.counter ≡ self.now.id }
-        ensures { seat.new ≡ with_looks self.now.stripes seat.old }
+        requires own { IsOwn self.now seat.old }
+        ensures own { IsOwn self.now seat.new }
+        ensures looked { seat.new ≡ with_looks self.now.stripes seat.old }
     {
-        let words = &self.table.shared;
         let mut sum = 0u64;
         for stripe in 0..self.size.stripes {
-            let found = words.load::<Looks>(&mut seat.seat, SPREAD * stripe);
-            sum = sum.wrapping_add(found);
+            sum = sum.wrapping_add(self.look(seat, stripe));
         }
         sum
     }
 
+    /// What the stripe holds, by one step, which changes no word.
+    fn look(&self, seat: &mut CountSeat, stripe: usize) -> u64
+        requires own { IsOwn self.now seat.old }
+        requires stripe { stripe < self.now.stripes }
+        ensures own { IsOwn self.now seat.new }
+        ensures looked { seat.new ≡ with_looks 1 seat.old }
+    {
+        let words = &self.table.shared;
+        words.load::<Looks>(&mut seat.seat, SPREAD * stripe)
+    }
+
     /// With all seats: the sum of all that they added, modulo 2^64. With another number of seats everything comes back.
     pub fn close(self, seats: Vec<CountSeat>) -> Result<u64, NotAll<Counter, CountSeat>>
-        requires own { AreOwn self.id seats.items }
+        requires own { AreOwn self seats.items }
         ensures all { (is_ok result ≡ true) ↔ (length seats.items ≡ self.seats) }
         ensures sum { IfOk result (λ sum. sum ≡ wrapped (total_of seats.items)) }
         ensures back { IfErr result (λ given. (given.whole ≡ self) × (given.seats.items ≡ seats.items)) }
@@ -118,7 +131,7 @@ impl Counter {
 
     /// One token that knows what all these seats know.
     fn gather(&self, seats: Vec<CountSeat>) -> Seat<(), Tallies>
-        requires own { AreOwn self.now.id seats.items }
+        requires own { AreOwn self.now seats.items }
         requires some { 0 < length seats.items }
         ensures { HasGathered self.now.id result [] seats.items }
     {

@@ -7,10 +7,12 @@ use std::collections::LinkedList;
 /// How far apart two stripes lie, in words: 64 bytes, so that no two of them share a line of a processor's cache.
 pub const SPREAD: usize = 8;
 
-/// What a seat has added and how many steps it has made. Contracts alone speak of it: no value of it is made.
+/// What a seat has added, and how many adding steps and how many steps it has made. Contracts alone speak of it: no value of
+/// it is made.
 pub struct Tally {
     pub number: usize,
     pub added: i64,
+    pub adds: u64,
     pub steps: u64,
 }
 
@@ -24,7 +26,8 @@ pub struct Size {
     pub seats: usize,
 }
 
-/// The rule between any two steps: each stripe is the sum of what the seats that it serves have added.
+/// The rule between any two steps: each stripe is the sum of what the seats that it serves have added, and the words between
+/// two stripes are 0.
 pub(crate) struct Stripes;
 
 impl TableRule<(), Tallies, Size> for Stripes {
@@ -35,20 +38,22 @@ impl TableRule<(), Tallies, Size> for Stripes {
     ghost first = { λ size. fresh 0 size.seats };
 }
 
+/// A step that adds to a stripe.
 pub(crate) struct Adds;
 
 impl Play<(), Tallies> for Adds {
-    ghost use Rattle.nb_count.specs.Tallies.{adds};
+    ghost use Rattle.nb_count.specs.Tallies.{HasAdded};
 
-    ghost then = { adds };
+    ghost then = { HasAdded };
 }
 
+/// A step that changes no word.
 pub(crate) struct Looks;
 
 impl Play<(), Tallies> for Looks {
-    ghost use Rattle.nb_count.specs.Tallies.{looks};
+    ghost use Rattle.nb_count.specs.Tallies.{HasLooked};
 
-    ghost then = { looks };
+    ghost then = { HasLooked };
 }
 
 /// The first tally goes to a new token.

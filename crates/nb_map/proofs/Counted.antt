@@ -3,7 +3,8 @@ use Rattle.std.proofs.Common.{◌≡◌, ◌∙◌, ◌==◌, Bool, true, false,
 use Rattle.std.proofs.Math.IntN.{◌+ℤ◌}
 use Rattle.std.proofs.lemmas.Int.{ints}
 use Rattle.nb_core.specs.History.{seat_of_event}
-use Rattle.nb_core.specs.Meaning.{calls_of, net_of}
+use Rattle.nb_core.specs.Log.{calls_of, log_of}
+use Rattle.nb_core.specs.Meaning.{net_of}
 use Rattle.nb_core.specs.Plans.{Plan}
 use Rattle.nb_core.specs.declared.calls.Call.{Call}
 use Rattle.nb_core.specs.declared.calls.Call.TheVariants.{Get}
@@ -13,33 +14,33 @@ use Rattle.nb_core.specs.declared.events.Event.TheVariants.{Claim, Kill, Won, Co
 use Rattle.nb_table.specs.Chains.{Extended, SeenBy, own_events}
 use Rattle.nb_map.proofs.Made.{calls-append, made-own, made-quiet}
 use Rattle.nb_map.specs.Calling.{HasMade}
-use Rattle.nb_map.specs.Maps.{HasCalled, IsMine, MapOf, SeatOf}
+use Rattle.nb_map.specs.Maps.{IsMine, MapOf, SeatOf}
 
 -- a seat's calls are those of its own events
-calls-own : (s : ℕ) (es : List Event) → calls_of es s ≡ calls_of (own_events s es) s
+calls-own : (s : ℕ) (es : List Event) → calls_of s (log_of es) ≡ calls_of s (log_of (own_events s es))
 calls-own s [] = refl
 calls-own s (e ∷ es) = one e (calls-own s es)
   where
     calls : List (Call × Reply)
-    calls = calls_of es s
+    calls = calls_of s (log_of es)
 
     own : List Event
     own = own_events s es
 
-    kept : (e : Event) (c : Call × Reply) (b : Bool) → (seat_of_event e == s) ≡ b → calls ≡ calls_of own s
-        → ((x : List Event) → calls_of (e ∷ x) s ≡ cond (seat_of_event e == s) (c ∷ calls_of x s) (calls_of x s))
-        → calls_of (e ∷ es) s ≡ calls_of (cond b (e ∷ own) own) s
+    kept : (e : Event) (c : Call × Reply) (b : Bool) → (seat_of_event e == s) ≡ b → calls ≡ calls_of s (log_of own)
+        → ((x : List Event) → calls_of s (log_of (e ∷ x)) ≡ cond (seat_of_event e == s) (c ∷ calls_of s (log_of x)) (calls_of s (log_of x)))
+        → calls_of s (log_of (e ∷ es)) ≡ calls_of s (log_of (cond b (e ∷ own) own))
     kept e c true mine same is =
         is es ∙ ap (λ b. cond b (c ∷ calls) calls) mine ∙ ap (λ x. c ∷ x) same
-        ∙ sym (is own ∙ ap (λ b. cond b (c ∷ calls_of own s) (calls_of own s)) mine)
+        ∙ sym (is own ∙ ap (λ b. cond b (c ∷ calls_of s (log_of own)) (calls_of s (log_of own))) mine)
     kept e c false mine same is = is es ∙ ap (λ b. cond b (c ∷ calls) calls) mine ∙ same
 
-    none : (e : Event) (b : Bool) → calls ≡ calls_of own s → ((x : List Event) → calls_of (e ∷ x) s ≡ calls_of x s)
-        → calls_of (e ∷ es) s ≡ calls_of (cond b (e ∷ own) own) s
+    none : (e : Event) (b : Bool) → calls ≡ calls_of s (log_of own) → ((x : List Event) → calls_of s (log_of (e ∷ x)) ≡ calls_of s (log_of x))
+        → calls_of s (log_of (e ∷ es)) ≡ calls_of s (log_of (cond b (e ∷ own) own))
     none e true same is = is es ∙ same ∙ sym (is own)
     none e false same is = is es ∙ same
 
-    one : (e : Event) → calls ≡ calls_of own s → calls_of (e ∷ es) s ≡ calls_of (own_events s (e ∷ es)) s
+    one : (e : Event) → calls ≡ calls_of s (log_of own) → calls_of s (log_of (e ∷ es)) ≡ calls_of s (log_of (own_events s (e ∷ es)))
     one (Claim r g i k) same = none (Claim r g i k) (r == s) same (λ x. refl)
     one (Kill r g i) same = none (Kill r g i) (r == s) same (λ x. refl)
     one (Won r g i a b c reply) same = kept (Won r g i a b c reply) (c, reply) (r == s) refl same (λ x. refl)
@@ -52,32 +53,33 @@ calls-own s (e ∷ es) = one e (calls-own s es)
     one (Promote r g) same = none (Promote r g) (r == s) same (λ x. refl)
     one (Read r c reply) same = kept (Read r c reply) (c, reply) (r == s) refl same (λ x. refl)
 
+-- the calls that were made are the seat's among what is new
+pub calls-later :
+    {p : Plan} {call : Call} {before after : SeenBy} {made : List (Call × Reply)} {most : ℕ} (steps : HasMade p call before after made most)
+    → calls_of before.number (log_of steps.grown.later) ≡ made
+calls-later {before = before} made =
+    calls-own before.number made.grown.later ∙ ap (λ own. calls_of before.number (log_of own)) made.grown.own_are ∙ made.calls
+
 -- what a seat has called after more calls
-pub calls-made :
+calls-made :
     {p : Plan} {call : Call} {before after : SeenBy} {made : List (Call × Reply)} {most : ℕ} → HasMade p call before after made most
-    → calls_of after.seen after.number ≡ made ++ calls_of before.seen before.number
+    → calls_of after.number (log_of after.seen) ≡ made ++ calls_of before.number (log_of before.seen)
 calls-made {before = before} {after} {made} steps =
-    ap (calls_of after.seen) steps.grown.number ∙ ap (λ h. calls_of h before.number) steps.grown.seen
-    ∙ calls-append steps.grown.later before.seen before.number
-    ∙ ap (λ calls. calls ++ calls_of before.seen before.number)
-    (calls-own before.number steps.grown.later ∙ ap (λ own. calls_of own before.number) steps.grown.own_are ∙ steps.calls)
+    let grown = steps.grown in
+    ap (λ n. calls_of n (log_of after.seen)) grown.number ∙ ap (λ h. calls_of before.number (log_of h)) grown.seen
+    ∙ calls-append grown.later before.seen before.number
+    ∙ ap (λ calls. calls ++ calls_of before.number (log_of before.seen)) (calls-later steps)
 
 -- the net of more calls
 net-append : (a b : List (Call × Reply)) → net_of (a ++ b) ≡ net_of a +ℤ net_of b
 net-append [] b = omega (arith, ints)
 net-append (c ∷ a) b = let rest = net-append a b in omega (arith, ints, rest)
 
-pub net-made :
+net-made :
     {p : Plan} {call : Call} {before after : SeenBy} {made : List (Call × Reply)} {most : ℕ} → HasMade p call before after made most
-    → net_of (calls_of after.seen after.number) ≡ net_of made +ℤ net_of (calls_of before.seen before.number)
+    → net_of (calls_of after.number (log_of after.seen)) ≡ net_of made +ℤ net_of (calls_of before.number (log_of before.seen))
 net-made {before = before} {made = made} steps =
-    ap net_of (calls-made steps) ∙ net-append made (calls_of before.seen before.number)
-
--- a step without an event is no call
-pub net-quiet :
-    (p : Plan) {before after : SeenBy} → Extended p before after [] 1
-    → net_of (calls_of after.seen after.number) ≡ net_of (calls_of before.seen before.number)
-net-quiet p step = let net = net-made (made-quiet p (Get 0) step) in omega (arith, ints, net)
+    ap net_of (calls-made steps) ∙ net-append made (calls_of before.number (log_of before.seen))
 
 -- ---- the seat stays the map's
 
@@ -94,13 +96,6 @@ kept-mine {map} mine steps counter added =
       counter = counter ∙ mine.counter;
       counted = omega (arith, ints, net, added, was);
     }
-
--- after a call, whether it was made or refused
-pub called-mine :
-    {map : MapOf} {call : Call} {before after : SeatOf} {made : List (Call × Reply)} {most : ℕ} → IsMine map before
-    → HasCalled map call before after made most → IsMine map after
-called-mine mine called =
-    kept-mine mine called.steps (ap (λ count. count.counter) called.count) (ap (λ count. count.added) called.count)
 
 -- after steps of a call that counted nothing, and made none that would count
 pub uncounted-mine :

@@ -3,7 +3,7 @@ use Rattle.std.proofs.Common.{◌≡◌, ◌∙◌, ℕ, zero, suc, ◌+◌, pos
 use Rattle.std.proofs.lemmas.List.{length-reverse, reverse-append}
 use Rattle.std.proofs.lemmas.List.Elements.{All-cons, All-nil, All-same}
 use Rattle.nb_core.specs.Plans.{IsPlan, Plan}
-use Rattle.nb_count.specs.Counts.{Counting}
+use Rattle.nb_count.specs.Counts.{CountSeatOf}
 use Rattle.nb_count.specs.Counts as counts
 use Rattle.nb_table.specs.Chains.{SeenBy}
 use Rattle.nb_table.specs.Chains as chains
@@ -58,8 +58,8 @@ numbered-taken value (suc fewer) xs left x are is =
 abbrev chain_seat : MapOf → ℕ → SeenBy
 chain_seat map = chains.new_seat map.chain.id
 
-abbrev count_seat : MapOf → ℕ → Counting
-count_seat map number = record { counter = map.counter.id; number = number; added = pos 0; steps = 0 }
+abbrev count_seat : MapOf → ℕ → CountSeatOf
+count_seat map = counts.new_seat map.counter.id
 
 chains-numbered :
     (map : MapOf) (first count : ℕ)
@@ -77,7 +77,7 @@ length-seats map first zero = refl
 length-seats map first (suc count) = ap suc (length-seats map (suc first) count)
 
 -- So many seats are dealt. Of the chain's and of the counter's as many are left as aren't dealt yet.
-pub record IsDealing (map : MapOf) (of_chain : List SeenBy) (of_counter : List Counting) (seats : List SeatOf) : Type 0 where
+pub record IsDealing (map : MapOf) (of_chain : List SeenBy) (of_counter : List CountSeatOf) (seats : List SeatOf) : Type 0 where
   pub left : ℕ
   pub dealt : ℕ
   pub all : left + dealt ≡ map.chain.shape.seats
@@ -86,7 +86,7 @@ pub record IsDealing (map : MapOf) (of_chain : List SeenBy) (of_counter : List C
   pub so_far : reverse seats ≡ seats_of map left dealt
 
 pub dealing-first :
-    (map : MapOf) (of_chain : List SeenBy) (of_counter : List Counting) (seats : List SeatOf) (p : Plan) → map.chain.shape ≡ p
+    (map : MapOf) (of_chain : List SeenBy) (of_counter : List CountSeatOf) (seats : List SeatOf) (p : Plan) → map.chain.shape ≡ p
     → of_chain ≡ chains.seats_of map.chain.id 0 p.seats → of_counter ≡ counts.seats_of map.counter.id 0 p.seats → seats ≡ []
     → IsDealing map of_chain of_counter seats
 dealing-first map of_chain of_counter seats p shape of_chain_are of_counter_are none = record {
@@ -100,8 +100,8 @@ dealing-first map of_chain of_counter seats p shape of_chain_are of_counter_are 
 
 -- one seat more
 pub dealing-more :
-    (map : MapOf) (of_chain chain_left : List SeenBy) (of_counter counter_left : List Counting) (seats more : List SeatOf)
-    (chain : SeenBy) (count : Counting) → IsDealing map of_chain of_counter seats → of_chain ≡ chain_left ++ chain ∷ []
+    (map : MapOf) (of_chain chain_left : List SeenBy) (of_counter counter_left : List CountSeatOf) (seats more : List SeatOf)
+    (chain : SeenBy) (count : CountSeatOf) → IsDealing map of_chain of_counter seats → of_chain ≡ chain_left ++ chain ∷ []
     → of_counter ≡ counter_left ++ count ∷ [] → more ≡ seats ++ record { chain = chain; count = count } ∷ []
     → IsDealing map chain_left counter_left more
 dealing-more map of_chain chain_left of_counter counter_left seats more chain count d chain_is count_is is =
@@ -110,7 +110,7 @@ dealing-more map of_chain chain_left of_counter counter_left seats more chain co
     let fewer : ℕ = of_chain_last.0 in
     let same : of_counter_last.0 ≡ fewer = omega (arith, of_chain_last.1, of_counter_last.1) in
     let is_next : record { chain = chain; count = count } ≡ new_seat map fewer
-    = ap₂ (λ (c : SeenBy) (k : Counting). record { chain = c; count = k }) of_chain_last.3
+    = ap₂ (λ (c : SeenBy) (k : CountSeatOf). record { chain = c; count = k }) of_chain_last.3
     (of_counter_last.3 ∙ ap (count_seat map) same) in
     record {
       left = fewer;
@@ -125,7 +125,7 @@ dealing-more map of_chain chain_left of_counter counter_left seats more chain co
 
 -- as many of the counter's seats are left as of the chain's, and the dealt ones are the others
 pub dealing-as_many :
-    {map : MapOf} {of_chain : List SeenBy} {of_counter : List Counting} {seats : List SeatOf}
+    {map : MapOf} {of_chain : List SeenBy} {of_counter : List CountSeatOf} {seats : List SeatOf}
     → IsDealing map of_chain of_counter seats
     → (length of_counter ≡ length of_chain) × (length of_chain + length seats ≡ map.chain.shape.seats)
 dealing-as_many {map} {of_chain} {of_counter} {seats} d =
@@ -136,7 +136,7 @@ dealing-as_many {map} {of_chain} {of_counter} {seats} d =
 
 -- where none is left, all are dealt
 pub dealing-done :
-    {map : MapOf} {of_chain : List SeenBy} {of_counter : List Counting} {seats : List SeatOf}
+    {map : MapOf} {of_chain : List SeenBy} {of_counter : List CountSeatOf} {seats : List SeatOf}
     → IsDealing map of_chain of_counter seats → of_chain ≡ []
     → (of_counter ≡ []) × (reverse seats ≡ seats_of map 0 map.chain.shape.seats)
 dealing-done {map} {of_chain} {of_counter} {seats} d none =

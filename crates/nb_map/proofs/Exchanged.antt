@@ -5,10 +5,11 @@ use Rattle.std.specs.List.{All}
 use Rattle.std.proofs.lemmas.Bool.{eq-eqb, ne_eqb}
 use Rattle.std.proofs.lemmas.List.{append-nil}
 use Rattle.std.proofs.lemmas.List.Elements.{All-cons, All-head, All-nil, All-tail}
-use Rattle.nb_core.specs.Calls.{leaves_alone, reply_at}
-use Rattle.nb_core.specs.History.{IsLegal, number_in_value, key_of_call, map_of, seat_of_event}
+use Rattle.nb_core.specs.Calls.{leaves_alone}
+use Rattle.nb_core.specs.Log.{calls_of, log_of, map_of_log, reply_at}
+use Rattle.nb_core.specs.History.{IsLegal, number_in_value, key_of_call, seat_of_event}
 use Rattle.nb_core.specs.Laws.{Shows}
-use Rattle.nb_core.specs.Meaning.{calls_of, passed_over}
+use Rattle.nb_core.specs.Meaning.{passed_over}
 use Rattle.nb_core.specs.Plans.{IsPlan, Plan, generations_of}
 use Rattle.nb_core.specs.Tables.{IsSettledBelow, IsSlot, IsUnprimed, tables_at}
 use Rattle.nb_core.specs.contracts.states.ValueStatePartialEq.TheImpl as value_eq
@@ -26,7 +27,7 @@ use Rattle.nb_map.proofs.Made.{made-more, made-read, made-stays, made-step, read
 use Rattle.nb_map.proofs.Searched.{reached-lasts}
 use Rattle.nb_map.specs.Calling.{HasMade, MayMake, replied}
 use Rattle.nb_map.specs.Writing.{passed_since}
-use Rattle.nb_core.proofs.Theorems.{decided, lost_exchange, passed_over_adds, passed_settled}
+use Rattle.nb_core.proofs.Theorems.{decided, log_is_replayed, lost_exchange, passed_over_adds, passed_settled}
 use Rattle.nb_table.proofs.Theorems.{steps_add_up}
 
 -- ---- what a value shows
@@ -139,20 +140,20 @@ passed-more call {p} {start} {mid} {after} n a b one below =
     omega (arith, sum, below, one)
 
 -- events of others are no calls of the seat
-calls-others : (s : ℕ) (es : List Event) → All (λ e. seat_of_event e ≢ s) es → calls_of es s ≡ []
+pub calls-others : (s : ℕ) (es : List Event) → All (λ e. seat_of_event e ≢ s) es → calls_of s (log_of es) ≡ []
 calls-others s [] others = refl
 calls-others s (e ∷ es) others =
     one e (All-head (λ e. seat_of_event e ≢ s) e es others) (calls-others s es (All-tail (λ e. seat_of_event e ≢ s) e es others))
   where
-    one : (e : Event) → seat_of_event e ≢ s → calls_of es s ≡ [] → calls_of (e ∷ es) s ≡ []
-    one (Won r g i a b c reply) differs none = ap (λ b. cond b ((c, reply) ∷ calls_of es s) (calls_of es s)) (ne_eqb r s differs) ∙ none
-    one (Read r c reply) differs none = ap (λ b. cond b ((c, reply) ∷ calls_of es s) (calls_of es s)) (ne_eqb r s differs) ∙ none
+    one : (e : Event) → seat_of_event e ≢ s → calls_of s (log_of es) ≡ [] → calls_of s (log_of (e ∷ es)) ≡ []
+    one (Won r g i a b c reply) differs none = ap (λ b. cond b ((c, reply) ∷ calls_of s (log_of es)) (calls_of s (log_of es))) (ne_eqb r s differs) ∙ none
+    one (Read r c reply) differs none = ap (λ b. cond b ((c, reply) ∷ calls_of s (log_of es)) (calls_of s (log_of es))) (ne_eqb r s differs) ∙ none
     one e differs none = none
 
 -- another seat won an exchange between a load and an exchange that found another value
 lost-at :
     (p : Plan) → IsPlan p → (later h after : List Event) → after ≡ later ++ h → (g i k s : ℕ) → IsSlot p g i
-    → calls_of later s ≡ [] → IsLegal p after → (tables_at p h).key g i ≡ Claimed k → IsSettledBelow p (tables_at p h) g k
+    → calls_of s (log_of later) ≡ [] → IsLegal p after → (tables_at p h).key g i ≡ Claimed k → IsSettledBelow p (tables_at p h) g k
     → IsUnprimed ((tables_at p after).value g i) → (tables_at p after).value g i ≢ (tables_at p h).value g i
     → 1 ≤ passed_over after (length h) k s
 lost-at p plan later h after is g i k s slot none =
@@ -181,10 +182,11 @@ pub shown-decided :
     (chain : ChainOf) (seat : SeenBy) → IsOwn chain seat → (g i k : ℕ)
     → IsSlot chain.shape g i → IsReached chain.shape (seen_by chain.shape seat) g k → (seen_by chain.shape seat).key g i ≡ Claimed k
     → (v : ValueState) (number : Option ℕ) → (seen_by chain.shape seat).value g i ≡ v → shown_by_value v ≡ Some number
-    → map.get (map_of seat.seen) k ≡ number
+    → map.get (map_of_log (log_of seat.seen)) k ≡ number
 shown-decided chain seat own g i k slot reached claimed v number held shows =
     let value = shown-some v number shows in
-    decided chain.shape own.plan seat.seen own.legal g k slot.0 reached.installed reached.below number
+    ap (λ m. map.get m k) (log_is_replayed chain.shape own.plan seat.seen own.legal).map
+    ∙ decided chain.shape own.plan seat.seen own.legal g k slot.0 reached.installed reached.below number
     (Shows.AtValue i slot.1 claimed (subst IsUnprimed (sym held) value.0) (sym value.1 ∙ ap number_in_value (sym held)))
 
 module _ (chain : ChainOf) where
@@ -231,10 +233,10 @@ module _ (chain : ChainOf) where
       → (seen_by p loaded).key g i ≡ Claimed (key_of_call call) → IsSettledBelow p (seen_by p loaded) g (key_of_call call)
       → (seen_by p after).value g i ≡ v → IsUnprimed v → v ≢ (seen_by p loaded).value g i
       → lost ≤ passed_since call start loaded → lost + 1 ≤ passed_since call start after
-  lost-more {call} {start} {loaded} {after} lost g i v own steps step slot claimed settled held unprimed differs below =
-      let number = steps.grown.number in
-      let none = subst (λ s. calls_of step.others s ≡ []) number (calls-others loaded.number step.others step.not_own) in
-      passed-more call lost steps.grown (steps_add_up.one step)
+  lost-more {call} {start} {loaded} {after} lost g i v own made step slot claimed settled held unprimed differs below =
+      let number = made.grown.number in
+      let none = subst (λ s. calls_of s (log_of step.others) ≡ []) number (calls-others loaded.number step.others step.not_own) in
+      passed-more call lost made.grown (steps_add_up.one step)
       (lost-at p own.plan step.others loaded.seen after.seen step.seen g i
       (key_of_call call) start.number slot none step.legal claimed settled (subst IsUnprimed (sym held) unprimed)
       (λ same. differs (sym held ∙ same)))

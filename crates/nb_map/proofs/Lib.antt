@@ -4,9 +4,10 @@ mod Claimed
 mod Counted
 mod Dealt
 mod Exchanged
+mod Logged
 mod Made
 mod Parted
 mod Searched
 mod Sizes
+pub mod Theorems
 mod Written
-mod Waited

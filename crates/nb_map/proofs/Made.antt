@@ -2,11 +2,11 @@
 use Rattle.std.proofs.Common.{◌≡◌, ◌∙◌, ℕ, suc, zero, ◌+◌, ◌==◌, ◌≤◌, ◌<◌, ◌⊎◌, Bool, true, false, cond, List, [], ◌∷◌, ◌++◌, Option, Some, None, ap, sym, subst, refl, inl, inr, arith}
 use Rattle.std.specs.List.{All}
 use Rattle.std.proofs.lemmas.Bool.{eq-eqb}
-use Rattle.std.proofs.lemmas.List.Elements.{All-append, All-cons, All-head, All-nil, All-tail, All-weaker}
-use Rattle.nb_core.specs.Calls.{leaves_alone, reply_at}
+use Rattle.std.proofs.lemmas.List.Elements.{All-append, All-cons, All-head, All-nil, All-tail, All-weaker, filter_map-append}
+use Rattle.nb_core.specs.Calls.{leaves_alone}
+use Rattle.nb_core.specs.Log.{calls_of, entry_of, log_of, reply_at}
 use Rattle.nb_core.specs.History.{key_of_call}
 use Rattle.nb_core.specs.Laws.{Lasts}
-use Rattle.nb_core.specs.Meaning.{calls_of}
 use Rattle.nb_core.specs.Plans.{Plan, generations_of}
 use Rattle.nb_core.specs.Tables.{HasSlotBelow, Tables}
 use Rattle.nb_core.specs.declared.calls.Call.{Call}
@@ -17,38 +17,21 @@ use Rattle.nb_table.specs.Chains.{ChainOf, Extended, IsOwn, SeenBy, seen_by}
 use Rattle.nb_table.specs.Events.{only, read}
 use Rattle.nb_copy.specs.Copying.{HasCopied, IsCopying}
 use Rattle.nb_map.specs.Calling.{HasMade, MayMake, read_of}
+use Rattle.nb_core.proofs.Theorems.{calls_append}
 use Rattle.nb_table.proofs.Theorems.{steps_add_up}
 
--- ---- calls of lists of events
-
-cons-if : (b : Bool) (c : Call × Reply) (made more : List (Call × Reply))
-    → cond b (c ∷ made ++ more) (made ++ more) ≡ cond b (c ∷ made) made ++ more
-cons-if true c made more = refl
-cons-if false c made more = refl
+-- ---- calls of logs
 
 -- the calls among some events and others
-pub calls-append : (later h : List Event) (s : ℕ) → calls_of (later ++ h) s ≡ calls_of later s ++ calls_of h s
-calls-append [] h s = refl
-calls-append (Claim s' g i k ∷ later) h s = calls-append later h s
-calls-append (Kill s' g i ∷ later) h s = calls-append later h s
-calls-append (Won s' g i a b c r ∷ later) h s =
-    ap (λ calls. cond (s' == s) ((c, r) ∷ calls) calls) (calls-append later h s) ∙ cons-if (s' == s) (c, r) (calls_of later s) (calls_of h s)
-calls-append (CopyIn s' g i k n ∷ later) h s = calls-append later h s
-calls-append (Prime s' g i ∷ later) h s = calls-append later h s
-calls-append (Finish s' g i ∷ later) h s = calls-append later h s
-calls-append (Install s' g k ∷ later) h s = calls-append later h s
-calls-append (Take s' g ∷ later) h s = calls-append later h s
-calls-append (Count s' g c ∷ later) h s = calls-append later h s
-calls-append (Promote s' g ∷ later) h s = calls-append later h s
-calls-append (Read s' c r ∷ later) h s =
-    ap (λ calls. cond (s' == s) ((c, r) ∷ calls) calls) (calls-append later h s) ∙ cons-if (s' == s) (c, r) (calls_of later s) (calls_of h s)
+pub calls-append : (later h : List Event) (s : ℕ) → calls_of s (log_of (later ++ h)) ≡ calls_of s (log_of later) ++ calls_of s (log_of h)
+calls-append later h s = ap (calls_of s) (filter_map-append entry_of later h) ∙ calls_append s (log_of later) (log_of h)
 
 -- copying is no call
-calls-copying : (p : Plan) (t : Tables) (g s : ℕ) (own : List Event) → All (IsCopying p t g) own → calls_of own s ≡ []
+calls-copying : (p : Plan) (t : Tables) (g s : ℕ) (own : List Event) → All (IsCopying p t g) own → calls_of s (log_of own) ≡ []
 calls-copying p t g s [] copying = refl
 calls-copying p t g s (e ∷ own) copying = one e (All-head (IsCopying p t g) e own copying) (calls-copying p t g s own (All-tail (IsCopying p t g) e own copying))
   where
-    one : (e : Event) → IsCopying p t g e → calls_of own s ≡ [] → calls_of (e ∷ own) s ≡ []
+    one : (e : Event) → IsCopying p t g e → calls_of s (log_of own) ≡ [] → calls_of s (log_of (e ∷ own)) ≡ []
     one (Claim s' f i k) may none = none
     one (Kill s' f i) may none = none
     one (CopyIn s' f i k n) may none = none
@@ -119,7 +102,7 @@ made-none chain call seat own = record {
 module _ (p : Plan) (call : Call) where
   -- a step with these events
   pub made-step :
-      {before after : SeenBy} {own : List Event} {made : List (Call × Reply)} → Extended p before after own 1 → calls_of own before.number ≡ made
+      {before after : SeenBy} {own : List Event} {made : List (Call × Reply)} → Extended p before after own 1 → calls_of before.number (log_of own) ≡ made
       → All (MayMake p (seen_by p after) call) own → HasMade p call before after made 1
   made-step {own = own} step calls may = record {
     own = own;
@@ -144,7 +127,7 @@ module _ (p : Plan) (call : Call) where
       same : (before.number == before.number) ≡ true
       same = eq-eqb before.number before.number refl
 
-      one : (b : Bool) → calls_of (only b (Read before.number call (reply_at call number))) before.number
+      one : (b : Bool) → calls_of before.number (log_of (only b (Read before.number call (reply_at call number))))
           ≡ cond b ((call, reply_at call number) ∷ []) []
       one true = ap (λ x. cond x ((call, reply_at call number) ∷ []) []) same
       one false = refl
@@ -159,13 +142,13 @@ module _ (p : Plan) (call : Call) where
 pub made-within :
     {p : Plan} {call : Call} {before after : SeenBy} {made : List (Call × Reply)} (most most' : ℕ) → most ≤ most'
     → HasMade p call before after made most → HasMade p call before after made most'
-made-within most most' below steps = record {
-  own = steps.own;
-  count = steps.count;
-  grown = steps.grown;
-  calls = steps.calls;
-  may = steps.may;
-  few = omega (arith, steps.few, below);
+made-within most most' below made = record {
+  own = made.own;
+  count = made.count;
+  grown = made.grown;
+  calls = made.calls;
+  may = made.may;
+  few = omega (arith, made.few, below);
 }
 
 module _ (chain : ChainOf) where
@@ -176,13 +159,13 @@ module _ (chain : ChainOf) where
   pub made-stays :
       {call : Call} {before after : SeenBy} {made : List (Call × Reply)} {most : ℕ} → IsOwn chain before → HasMade p call before after made most
       → Lasts p (seen_by p before) (seen_by p after)
-  made-stays own steps = steps_add_up.stays own steps.grown
+  made-stays own made = steps_add_up.stays own made.grown
 
   -- and it is the chain's
   pub made-own :
       {call : Call} {before after : SeenBy} {made : List (Call × Reply)} {most : ℕ} → IsOwn chain before → HasMade p call before after made most
       → IsOwn chain after
-  made-own own steps = steps_add_up.own own steps.grown
+  made-own own made = steps_add_up.own own made.grown
 
   -- some steps after others
   pub made-more :
@@ -197,8 +180,8 @@ module _ (chain : ChainOf) where
         grown = steps_add_up.more a.grown b.grown;
         calls =
             calls-append b.own a.own before.number
-            ∙ ap (λ n. calls_of b.own n ++ calls_of a.own before.number) (sym a.grown.number)
-            ∙ ap (λ calls. calls ++ calls_of a.own before.number) b.calls
+            ∙ ap (λ n. calls_of n (log_of b.own) ++ calls_of before.number (log_of a.own)) (sym a.grown.number)
+            ∙ ap (λ calls. calls ++ calls_of before.number (log_of a.own)) b.calls
             ∙ ap (λ calls. made' ++ calls) a.calls;
         may = All-append (MayMake p (seen_by p after) call) b.own a.own b.may
             (All-weaker (MayMake p (seen_by p then) call) (MayMake p (seen_by p after) call) (may-lasts p (seen_by p then) (seen_by p after) call lasting)

@@ -2,7 +2,7 @@
 use Rattle.std.proofs.Common.{◌≡◌, ◌∙◌, ◌<◌, List, [], ◌∷◌, ◌++◌, length, length-append, map, ap, sym, arith}
 use Rattle.std.proofs.lemmas.List.{append_assoc, length-map}
 use Rattle.std.proofs.lemmas.List.Elements.{All-map, All-same}
-use Rattle.nb_count.specs.Counts.{Counting}
+use Rattle.nb_count.specs.Counts.{CountSeatOf}
 use Rattle.nb_table.specs.Chains.{IsOwn, SeenBy}
 use Rattle.nb_map.specs.Ending.{IsParted}
 use Rattle.nb_count.specs.Counts as counted
@@ -10,13 +10,13 @@ use Rattle.nb_table.specs.Chains as chained
 use Rattle.nb_map.specs.Maps.{AreMine, MapOf, SeatOf}
 
 -- the seats are parted but for those that are left
-pub record IsParting (seats left : List SeatOf) (chains : List SeenBy) (counts : List Counting) : Type 0 where
+pub record IsParting (seats left : List SeatOf) (chains : List SeenBy) (counts : List CountSeatOf) : Type 0 where
   pub of_chain : map (λ seat. seat.chain) seats ≡ chains ++ map (λ seat. seat.chain) left
   pub of_counter : map (λ seat. seat.count) seats ≡ counts ++ map (λ seat. seat.count) left
 
 -- one more is parted
 pub parting-more :
-    (seats left left' : List SeatOf) (s : SeatOf) (chain : SeenBy) (count : Counting) (chains : List SeenBy) (counts : List Counting)
+    (seats left left' : List SeatOf) (s : SeatOf) (chain : SeenBy) (count : CountSeatOf) (chains : List SeenBy) (counts : List CountSeatOf)
     → IsParting seats left' chains counts → left' ≡ s ∷ left → s ≡ record { chain = chain; count = count }
     → IsParting seats left (chains ++ chain ∷ []) (counts ++ count ∷ [])
 parting-more seats left left' s chain count chains counts parting is parts = record {
@@ -32,7 +32,7 @@ parting-more seats left left' s chain count chains counts parting is parts = rec
 
 -- while a seat is left, fewer are parted than there are
 pub some-left :
-    (seats left left' : List SeatOf) (s : SeatOf) (chains : List SeenBy) (counts : List Counting) → IsParting seats left' chains counts
+    (seats left left' : List SeatOf) (s : SeatOf) (chains : List SeenBy) (counts : List CountSeatOf) → IsParting seats left' chains counts
     → left' ≡ s ∷ left → (length chains < length seats) × (length counts < length seats)
 some-left seats left left' s chains counts parting is = (
   omega (
@@ -56,15 +56,15 @@ some-left seats left left' s chains counts parting is = (
 -- ---- whose they are
 
 pub own-chains :
-    (m : MapOf) (seats : List SeatOf) (chains : List SeenBy) (counts : List Counting) → IsParted seats chains counts → AreMine m seats
+    (m : MapOf) (seats : List SeatOf) (chains : List SeenBy) (counts : List CountSeatOf) → IsParted seats chains counts → AreMine m seats
     → chained.AreOwn m.chain chains
 own-chains m seats chains counts parted mine =
     All-same (IsOwn m.chain) chains (map (λ seat. seat.chain) seats) parted.of_chain
     (All-map (IsOwn m.chain) (λ seat. seat.chain) seats (λ k d within. (mine k d within).chain))
 
 pub own-counts :
-    (m : MapOf) (seats : List SeatOf) (chains : List SeenBy) (counts : List Counting) → IsParted seats chains counts → AreMine m seats
-    → counted.AreOwn m.counter.id counts
+    (m : MapOf) (seats : List SeatOf) (chains : List SeenBy) (counts : List CountSeatOf) → IsParted seats chains counts → AreMine m seats
+    → counted.AreOwn m.counter counts
 own-counts m seats chains counts parted mine =
-    All-same (λ seat. seat.counter ≡ m.counter.id) counts (map (λ seat. seat.count) seats) parted.of_counter
-    (All-map (λ seat. seat.counter ≡ m.counter.id) (λ seat. seat.count) seats (λ k d within. (mine k d within).counter))
+    All-same (counted.IsOwn m.counter) counts (map (λ seat. seat.count) seats) parted.of_counter
+    (All-map (counted.IsOwn m.counter) (λ seat. seat.count) seats (λ k d within. (mine k d within).counter))

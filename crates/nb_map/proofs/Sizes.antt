@@ -1,31 +1,31 @@
 -- The size of a map whose seats are gathered is what they have counted.
-use Rattle.std.proofs.Common.{◌≡◌, ◌∙◌, ℕ, zero, suc, ◌+◌, ◌<◌, ◌≤◌, ◌==◌, ◌⊎◌, Bool, true, false, cond, List, [], ◌∷◌, ◌++◌, length, length-append, map, All, get_or, Option, Some, None, ap, ap₂, sym, subst, refl, inl, inr, arith}
-use Rattle.std.specs.Cmp.{nat_cmp_total}
-use Rattle.std.specs.FinMap.{entries, get, nat_cmp-IsAntisymmetric, same_map}
+use Rattle.std.proofs.Common.{◌≡◌, ◌∙◌, ℕ, zero, suc, ◌+◌, ◌<◌, ◌≤◌, ◌==◌, Bool, true, false, cond, List, [], ◌∷◌, ◌++◌, length, length-append, map, All, get_or, ap, ap₂, sym, subst, refl, inl, inr, arith}
+use Rattle.std.specs.FinMap.{entries}
 use Rattle.std.specs.List.{count_by}
 use Rattle.std.specs.Prelude.{ℤ, pos}
 use Rattle.std.proofs.Math.IntN.{◌+ℤ◌}
 use Rattle.std.proofs.Math.Nat.{mod-eq_of_lt}
-use Rattle.std.proofs.lemmas.Bool.{cases_lt, eqb-true, ne_eqb}
+use Rattle.std.proofs.lemmas.Bool.{eqb-true, ne_eqb}
 use Rattle.std.proofs.lemmas.Int.{ints}
-use Rattle.std.proofs.lemmas.List.Elements.{All-cons, All-head, All-nil, All-tail}
+use Rattle.std.proofs.lemmas.List.Elements.{All-cons, All-head, All-nil, All-tail, filter_map-append}
 use Rattle.std.proofs.lemmas.List.Sums.{sum_by-append, sum_by-cons}
-use Rattle.nb_core.specs.History.{IsLegal, map_of}
-use Rattle.nb_core.specs.Laws.{net_of_seats}
-use Rattle.nb_core.specs.Meaning.{calls_of, net_of, shown_from}
-use Rattle.nb_core.specs.Plans.{IsPlan, Plan, generations_of}
-use Rattle.nb_core.specs.Tables.{tables_of, words_of}
-use Rattle.nb_core.specs.declared.events.Event.{Event}
+use Rattle.nb_core.proofs.Theorems.{calls_append, few_keys, log_is_replayed, size_is_net}
+use Rattle.nb_core.specs.History.{map_of}
+use Rattle.nb_core.specs.Laws.{HasLog}
+use Rattle.nb_core.specs.Log.{Entry, calls_of, entry_of, log_of, map_of_log}
+use Rattle.nb_core.specs.Meaning.{net_of, net_of_seats}
+use Rattle.nb_core.specs.Plans.{Plan}
 use Rattle.nb_core.specs.declared.numbers.TheConstants.{KEY_MAX}
-use Rattle.nb_count.specs.Counts.{Counting, total_of}
+use Rattle.nb_count.specs.Counts.{CountSeatOf, total_of}
 use Rattle.nb_count.specs.Tallies.{wrapped}
 use Rattle.nb_table.specs.Chains.{SeenBy}
 use Rattle.nb_table.specs.Gathered.{ClosedWith}
-use Rattle.nb_table.specs.Left.{ClosedOf, HoldsOfMap, IsLeftBy}
+use Rattle.nb_table.specs.Left.{ClosedOf, IsLeft}
 use Rattle.nb_table.specs.Views.{HasSeen}
-use Rattle.nb_map.specs.Ending.{EndedWith, IsParted}
+use Rattle.nb_map.specs.Ending.{EndedWith, HasAll, IsParted}
+use Rattle.nb_map.specs.Logs.{log}
 use Rattle.nb_map.specs.Maps.{HasCounted, SeatOf}
-use Rattle.nb_core.proofs.Theorems.{few_keys, map_in_range, own_lasts, size_is_net, stands}
+use Rattle.nb_map.proofs.Exchanged.{calls-others}
 
 -- ---- each number is one seat's, so a sum over the seats is one over the numbers
 
@@ -68,24 +68,24 @@ among n (s ∷ seats) some = of (s.chain.number == n) refl (among n seats)
         let there = rest (omega (arith, some, times-cons n s seats, ap {B = ℕ} (λ b. cond b 1 0) away)) in
         record { front = s ∷ there.front; seat = there.seat; back = there.back; is = ap (λ xs. s ∷ xs) there.is; number = there.number }
 
--- what the calls of these seats did to the number of keys, in a history
-abbrev net_in : List Event → List SeatOf → ℤ
-net_in h [] = pos 0
-net_in h (s ∷ seats) = net_of (calls_of h s.chain.number) +ℤ net_in h seats
+-- what the calls of these seats in a log did to the number of keys
+abbrev net_in : List Entry → List SeatOf → ℤ
+net_in whole [] = pos 0
+net_in whole (s ∷ seats) = net_of (calls_of s.chain.number whole) +ℤ net_in whole seats
 
 net-middle :
-    (h : List Event) (front : List SeatOf) (s : SeatOf) (back : List SeatOf)
-    → net_in h (front ++ s ∷ back) ≡ net_of (calls_of h s.chain.number) +ℤ net_in h (front ++ back)
-net-middle h [] s back = refl
-net-middle h (x ∷ front) s back = let rest = net-middle h front s back in omega (arith, ints, rest)
+    (whole : List Entry) (front : List SeatOf) (s : SeatOf) (back : List SeatOf)
+    → net_in whole (front ++ s ∷ back) ≡ net_of (calls_of s.chain.number whole) +ℤ net_in whole (front ++ back)
+net-middle whole [] s back = refl
+net-middle whole (x ∷ front) s back = let rest = net-middle whole front s back in omega (arith, ints, rest)
 
 -- the law takes the sum over the numbers
 net-numbers :
-    (h : List Event) (n : ℕ) (seats : List SeatOf) → length seats ≡ n → ((i : ℕ) → i < n → times i seats ≡ 1)
-    → net_in h seats ≡ net_of_seats h n
-net-numbers h zero [] all once = refl
-net-numbers h zero (s ∷ seats) all once = absurd (omega (arith, all))
-net-numbers h (suc n) seats all once =
+    (whole : List Entry) (n : ℕ) (seats : List SeatOf) → length seats ≡ n → ((i : ℕ) → i < n → times i seats ≡ 1)
+    → net_in whole seats ≡ net_of_seats whole n
+net-numbers whole zero [] all once = refl
+net-numbers whole zero (s ∷ seats) all once = absurd (omega (arith, all))
+net-numbers whole (suc n) seats all once =
     let last = among n seats (omega (arith, once n (omega arith))) in
     let others = last.front ++ last.back in
     let fewer : length others ≡ n = omega (
@@ -95,28 +95,30 @@ net-numbers h (suc n) seats all once =
       length-append last.front (last.seat ∷ last.back),
       length-append last.front last.back,
     ) in
-    let rest = net-numbers h n others fewer (λ i less.
+    let rest = net-numbers whole n others fewer (λ i less.
     let differs = ap {B = ℕ} (λ b. cond b 1 0)
     (ne_eqb last.seat.chain.number i (λ same. absurd (let number = last.number in omega (arith, less, same, number)))) in
     omega (arith, once i (omega (arith, less)), ap (times i) last.is, times-middle i last.front last.seat last.back, differs)) in
-    ap (net_in h) last.is ∙ net-middle h last.front last.seat last.back
-    ∙ ap₂ (λ m z. net_of (calls_of h m) +ℤ z) last.number rest
+    ap (net_in whole) last.is ∙ net-middle whole last.front last.seat last.back
+    ∙ ap₂ (λ m z. net_of (calls_of m whole) +ℤ z) last.number rest
 
 -- ---- what the seats have counted
 
--- the same calls, in the history and in what the seat has seen
-abbrev HasSameCalls : List Event → SeatOf → Type 0
-HasSameCalls h seat = calls_of h seat.chain.number ≡ calls_of seat.chain.seen seat.chain.number
+-- all calls of a seat are in its own log
+same-calls : (whole : List Entry) (s : SeatOf) → HasAll whole s → calls_of s.chain.number whole ≡ calls_of s.chain.number (log s)
+same-calls whole s has =
+    ap (calls_of s.chain.number) has.is ∙ calls_append s.chain.number has.later (log s)
+    ∙ ap (λ calls. calls ++ calls_of s.chain.number (log s)) has.others
 
 -- what each seat has counted is the net of its calls, so all have counted the net of all calls
 counted-net :
-    (h : List Event) (seats : List SeatOf) → All HasCounted seats → All (HasSameCalls h) seats
-    → total_of (map (λ seat. seat.count) seats) ≡ net_in h seats
-counted-net h [] counted same = refl
-counted-net h (s ∷ seats) counted same =
+    (whole : List Entry) (seats : List SeatOf) → All HasCounted seats → All (HasAll whole) seats
+    → total_of (map (λ seat. seat.count) seats) ≡ net_in whole seats
+counted-net whole [] counted all = refl
+counted-net whole (s ∷ seats) counted all =
     let one = All-head HasCounted s seats counted in
-    let calls = ap net_of (All-head (HasSameCalls h) s seats same) in
-    let rest = counted-net h seats (All-tail HasCounted s seats counted) (All-tail (HasSameCalls h) s seats same) in
+    let calls = ap net_of (same-calls whole s (All-head (HasAll whole) s seats all)) in
+    let rest = counted-net whole seats (All-tail HasCounted s seats counted) (All-tail (HasAll whole) s seats all) in
     omega (arith, ints, one, calls, rest)
 
 -- ---- the end
@@ -133,97 +135,80 @@ seen-chains P (s ∷ seats) all =
 wrapped-small : (n : ℕ) → n ≤ KEY_MAX + 1 → wrapped (pos n) ≡ n
 wrapped-small n small = mod-eq_of_lt (omega (arith, small))
 
-module _ (p : Plan) (is_plan : IsPlan p) where
-  -- a history's map has no key past the greatest
-  none-past : (h : List Event) → IsLegal p h → (k : ℕ) → KEY_MAX < k → get (map_of h) k ≡ None
-  none-past h legal k past = of (get (map_of h) k) refl
-    where
-      of : (number : Option ℕ) → get (map_of h) k ≡ number → get (map_of h) k ≡ None
-      of None is = is
-      of (Some n) is = absurd (omega (arith, past, (map_in_range p is_plan h legal k n is).0))
-
-  -- the same words are those of the same map
-  same-map :
-      (closed : ClosedOf) → closed.shape ≡ p → (h h' : List Event) → IsLeftBy closed h → IsLeftBy closed h' → map_of h ≡ map_of h'
-  same-map closed shape h h' left left' =
-      same_map nat_cmp_total nat_cmp-IsAntisymmetric (map_of h) (map_of h') (λ k. of k (cases_lt KEY_MAX k))
-    where
-      legal : (h : List Event) → IsLeftBy closed h → IsLegal p h
-      legal h left = subst (λ z. IsLegal z h) shape left.legal
-
-      words : (h : List Event) → IsLeftBy closed h → words_of p h ≡ closed.words
-      words h left = sym (left.is ∙ ap (λ z. words_of z h) shape)
-
-      shows : (h : List Event) → IsLeftBy closed h → (k : ℕ) → k ≤ KEY_MAX → shown_from p (tables_of p closed.words) k 0 (generations_of p) ≡ get (map_of h) k
-      shows h left k within =
-          ap (λ w. shown_from p (tables_of p w) k 0 (generations_of p)) (sym (words h left)) ∙ stands p is_plan h (legal h left) k within
-
-      of : (k : ℕ) → (KEY_MAX < k) ⊎ (k ≤ KEY_MAX) → get (map_of h) k ≡ get (map_of h') k
-      of k (inl past) = none-past h (legal h left) k past ∙ sym (none-past h' (legal h' left') k past)
-      of k (inr within) = sym (shows h left k within) ∙ shows h' left' k within
+-- the log of what is left leaves the map of its history
+pub left-map : (closed : ClosedOf) → IsLeft closed → map_of closed.history ≡ map_of_log (log_of closed.history)
+left-map closed left = sym (log_is_replayed closed.shape left.plan closed.history left.legal).map
 
 -- What is known of the seats of a map when all of them are gathered.
-pub record AreGathered (p : Plan) (seats : List SeatOf) (chains : List SeenBy) (counts : List Counting) (closed : ClosedOf) : Type 0 where
+pub record AreGathered (p : Plan) (seats : List SeatOf) (chains : List SeenBy) (counts : List CountSeatOf) (closed : ClosedOf) : Type 0 where
   pub parted : IsParted seats chains counts
   pub shape : closed.shape ≡ p
   pub closed_with : ClosedWith chains closed
   pub all : length seats ≡ p.seats
   pub counted : All HasCounted seats
 
-module _ (p : Plan) (seats : List SeatOf) (chains : List SeenBy) (counts : List Counting) (closed : ClosedOf) (gathered : AreGathered p seats chains counts closed) where
-  abbrev history : List Event
-  history = gathered.closed_with.history
+module _ (p : Plan) (seats : List SeatOf) (chains : List SeenBy) (counts : List CountSeatOf) (closed : ClosedOf) (gathered : AreGathered p seats chains counts closed) where
+  abbrev whole : List Entry
+  whole = log_of closed.history
 
-  seen : All (λ seat. HasSeen history seat.chain.number seat.chain.seen) seats
+  left : IsLeft closed
+  left = gathered.closed_with.left
+
+  replayed : HasLog closed.shape closed.history
+  replayed = log_is_replayed closed.shape left.plan closed.history left.legal
+
+  number : closed.shape.seats ≡ length seats
+  number = ap (λ p. p.seats) gathered.shape ∙ sym gathered.all
+
+  pub seen : All (λ seat. HasSeen closed.history seat.chain.number seat.chain.seen) seats
   seen =
-      let P : SeenBy → Type 0 = λ seat. HasSeen history seat.number seat.seen in
+      let P : SeenBy → Type 0 = λ seat. HasSeen closed.history seat.number seat.seen in
       seen-chains P seats (subst (All P) gathered.parted.of_chain gathered.closed_with.seen)
 
-  same-calls : All (HasSameCalls history) seats
-  same-calls k d within =
+  logs : All (HasAll whole) seats
+  logs k d within =
       let s = get_or seats k d in
       let is = seen k d within in
-      ap (λ h. calls_of h s.chain.number) is.is ∙ (own_lasts p is.later s.chain.seen s.chain.number is.others).calls
+      record {
+        later = log_of is.later;
+        is = ap log_of is.is ∙ filter_map-append entry_of is.later s.chain.seen;
+        others = calls-others s.chain.number is.later is.others;
+      }
 
   -- each number is one seat's
-  once : (n : ℕ) → n < p.seats → times n seats ≡ 1
+  once : (n : ℕ) → n < length seats → times n seats ≡ 1
   once n less =
       sym (times-chains n seats) ∙ ap (count_by (λ seat. seat.number == n)) (sym gathered.parted.of_chain)
-      ∙ gathered.closed_with.once n (omega (arith, less, ap (λ z. z.seats) gathered.shape))
+      ∙ gathered.closed_with.once n (omega (arith, less, number))
 
   -- what the seats have counted is the net of all calls
-  total-net : total_of (map (λ seat. seat.count) seats) ≡ net_of_seats history p.seats
-  total-net =
-      counted-net history seats gathered.counted same-calls ∙ net-numbers history p.seats seats gathered.all once
+  total-net : total_of (map (λ seat. seat.count) seats) ≡ net_of_seats whole (length seats)
+  total-net = counted-net whole seats gathered.counted logs ∙ net-numbers whole (length seats) seats refl once
 
   -- and that is the number of keys
-  net-keys : IsPlan p → net_of_seats history p.seats ≡ pos (length (entries (map_of history)))
-  net-keys is_plan = size_is_net p is_plan history (subst (λ z. IsLegal z history) gathered.shape gathered.closed_with.left.legal)
+  net-keys : net_of_seats whole (length seats) ≡ pos (length (entries (map_of_log whole)))
+  net-keys =
+      ap (net_of_seats whole) (sym number) ∙ size_is_net closed.shape left.plan closed.history left.legal
+      ∙ ap (λ m. pos (length (entries m))) (sym replayed.map)
 
-  size-keys : IsPlan p → wrapped (total_of counts) ≡ length (entries (map_of history))
-  size-keys is_plan =
-      ap (λ xs. wrapped (total_of xs)) gathered.parted.of_counter ∙ ap wrapped (total-net ∙ net-keys is_plan)
-      ∙ wrapped-small _ (few_keys p is_plan history (subst (λ z. IsLegal z history) gathered.shape gathered.closed_with.left.legal))
+  few : length (entries (map_of_log whole)) ≤ KEY_MAX + 1
+  few = subst (λ m. length (entries m) ≤ KEY_MAX + 1) (sym replayed.map) (few_keys closed.shape left.plan closed.history left.legal)
 
-  pub ended-with :
-      IsPlan p → (size : ℕ) → size ≡ wrapped (total_of counts)
-      → EndedWith p seats (record { tables = closed; size = size })
-  ended-with is_plan size sum =
-      let is_net = ap pos (sum ∙ size-keys is_plan) ∙ sym (net-keys is_plan) in
+  size-keys : wrapped (total_of counts) ≡ length (entries (map_of_log whole))
+  size-keys =
+      ap (λ xs. wrapped (total_of xs)) gathered.parted.of_counter ∙ ap wrapped (total-net ∙ net-keys) ∙ wrapped-small _ few
+
+  pub ended-with : (size : ℕ) → size ≡ wrapped (total_of counts) → EndedWith seats (record { tables = closed; size = size })
+  ended-with size sum =
+      let is_net = ap pos (sum ∙ size-keys) ∙ sym net-keys in
       record {
-        shape = gathered.shape;
-        history = history;
-        left = gathered.closed_with.left;
-        seen = seen;
-        calls = same-calls;
+        replayed = replayed.replayed;
+        logs = logs;
         once = once;
+        made = subst (λ n. All (λ entry. entry.seat < n) whole) number replayed.seats;
         counted = is_net ∙ sym total-net;
         size = is_net;
       }
 
-  pub is-ended :
-      IsPlan p → (size : ℕ) → size ≡ wrapped (total_of counts)
-      → HoldsOfMap closed (λ m. size ≡ length (entries m))
-  is-ended is_plan size counted h left =
-      counted ∙ size-keys is_plan
-      ∙ ap (λ m. length (entries m)) (same-map p is_plan closed gathered.shape history h gathered.closed_with.left left)
+  pub is-ended : (size : ℕ) → size ≡ wrapped (total_of counts) → size ≡ length (entries (map_of_log whole))
+  is-ended size sum = sum ∙ size-keys

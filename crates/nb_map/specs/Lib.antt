@@ -3,6 +3,8 @@ pub mod Searching
 pub mod Looking
 pub mod Writing
 pub mod Refusing
+pub mod Laws
+pub mod Logs
 pub mod Maps
 pub mod Inside
 pub mod Ending

@@ -1,13 +1,15 @@
 -- What a write comes to, and when it is refused.
 use Rattle.std.specs.Prelude.{◌≡◌, ℕ, suc, ◌+◌, ◌-◌, ◌*◌, ◌≤◌, true, List, [], ◌∷◌}
 use Rattle.nb_core.specs.Calls.{Fills, overflows}
-use Rattle.nb_core.specs.History.{key_of_call, map_of}
+use Rattle.nb_core.specs.History.{key_of_call}
+use Rattle.nb_core.specs.Log.{log_of, map_of_log}
 use Rattle.nb_core.specs.Meaning.{IsCrowded}
 use Rattle.nb_core.specs.Plans.{Plan, generations_of, size_of}
 use Rattle.nb_core.specs.declared.calls.Call.{Call}
 use Rattle.nb_core.specs.declared.calls.Reply.{Reply}
 use Rattle.nb_table.specs.Chains.{SeenBy, seen_by}
-use Rattle.nb_map.specs.Maps.{HasWaited, MapOf, SeatOf}
+use Rattle.nb_map.specs.Logs.{HasLogged}
+use Rattle.nb_map.specs.Maps.{MapOf, SeatOf}
 use Rattle.nb_map.specs.Searching.{IsAbove, IsSlotOf, slots_below}
 use Rattle.nb_map.specs.Writing.{HasBelow, exchange_steps, find_steps, passed_since}
 use Rattle.nb_map.specs.declared.waiting.AddFault.{AddFault}
@@ -21,10 +23,10 @@ use Rattle.nb_map.specs.declared.write.Written.TheVariants as written
 
 -- Why a write that tries again for as long as it takes may be refused. It is full only where the call puts a number at an
 -- absent key, and other keys have all slots of the last table; and past the range only where it is an add whose sum is, in
--- the map of what the seat has seen.
+-- the map that the log leaves at the refusal.
 abbrev pub IsJustAdd : Plan → Call → SeenBy → AddFault → Type 0
 IsJustAdd p call after add_fault.Full = Fills call × IsCrowded p after.seen (key_of_call call)
-IsJustAdd p call after add_fault.ValueRange = overflows call (map_of after.seen) ≡ true
+IsJustAdd p call after add_fault.ValueRange = overflows call (map_of_log (log_of after.seen)) ≡ true
 
 -- Why a write with so many tries may be refused: for these reasons, and contended only where others have won as many
 -- exchanges on the key since it began.
@@ -33,9 +35,9 @@ IsJust p call before after tries fault.Full = IsJustAdd p call after add_fault.F
 IsJust p call before after tries fault.Contended = tries ≤ passed_since call before after
 IsJust p call before after tries fault.ValueRange = IsJustAdd p call after add_fault.ValueRange
 
--- the seat has made no call, in however many steps, and the refusal is just
+-- the seat has made no call, and the refusal is just
 abbrev pub HasRefused : MapOf → Call → (before after : SeatOf) → AddFault → Type 0
-HasRefused map call before after fault = HasWaited map call before after [] × IsJustAdd map.chain.shape call after.chain fault
+HasRefused map call before after fault = HasLogged before after [] × IsJustAdd map.chain.shape call after.chain fault
 
 -- ---- in one table
 

@@ -1,7 +1,8 @@
 -- What a write does in one table, and how long it takes.
 use Rattle.std.specs.Prelude.{◌≡◌, ℕ, zero, suc, ◌+◌, ◌*◌, true, false, length, Option}
 use Rattle.std.specs.FinMap as map
-use Rattle.nb_core.specs.Calls.{Numbers, leaves_alone, overflows, reply_at}
+use Rattle.nb_core.specs.Calls.{leaves_alone, overflows}
+use Rattle.nb_core.specs.Log.{Numbers, reply_at}
 use Rattle.nb_core.specs.History.{IsExchange, number_in_value, key_of_call}
 use Rattle.nb_core.specs.Meaning.{IsCrowded, passed_over}
 use Rattle.nb_core.specs.Plans.{Plan, size_of}

@@ -1,8 +1,9 @@
 //! What is left of a map when all its seats are gathered.
 ghost use Rattle.std.specs.Prelude.{◌≡◌, ◌≤◌, [], length, IfOk, vec_capacity};
 ghost use Rattle.std.specs.FinMap as map;
-ghost use Rattle.nb_table.specs.Left.{HoldsOfMap};
-ghost use Rattle.nb_map.specs.Ending.{IsParted};
+ghost use Rattle.nb_core.specs.Log.{IsReplayed};
+ghost use Rattle.nb_table.specs.Left.{IsLeft};
+ghost use Rattle.nb_map.specs.Ending.{IsParted, log_left, map_left};
 
 use crate::map::Seat;
 use nb_core::{Key, Num, OutOfMemory};
@@ -11,7 +12,8 @@ use nb_table::{ChainSeat, Closed};
 use std::alloc::Global;
 use std::marker::Model;
 
-/// A map that no thread shares any more. Contracts see what is left of its tables, and what its seats counted.
+/// A map that no thread shares any more. Contracts see what is left of its tables, and with it the log of all calls that were
+/// made, and what its seats counted.
 #[derive(Drop)]
 pub struct Ended {
     pub(crate) closed: Closed,
@@ -31,24 +33,33 @@ impl Model for Ended {
 }
 
 impl Ended {
+    /// Reminds a proof that the log is replayed, and that a legal history left the tables, so that it may use an ended map without
+    /// remembering `finish`. It does nothing.
+    pub fn known(&self)
+        ensures replayed { IsReplayed (log_left self.now) }
+        ensures left { IsLeft self.now.tables }
+    {
+        let _ = &self.closed;
+    }
+
     /// How many keys the map has. The seats have counted them: it is a stored number.
     pub fn size(&self) -> u64
         ensures counted { result ≡ self.now.size }
-        ensures keys { HoldsOfMap self.now.tables (λ m. result ≡ length (map.entries m)) }
+        ensures keys { result ≡ length (map.entries (map_left self.now)) }
     {
         self.size
     }
 
     /// The number that the map has at the key. It takes no memory.
     pub fn get(&self, key: Key) -> Option<Num>
-        ensures { HoldsOfMap self.now.tables (λ m. result ≡ map.get m key) }
+        ensures { result ≡ map.get (map_left self.now) key }
     {
         self.closed.get(key)
     }
 
     /// The map's keys with their numbers, ascending by key. It takes memory for a plain map of them and for the vector.
     pub fn entries(&self, alloc: Global) -> Result<Vec<(Key, Num)>, OutOfMemory>
-        ensures { IfOk result (λ entries. HoldsOfMap self.now.tables (λ m. entries.items ≡ map.entries m)) }
+        ensures { IfOk result (λ entries. entries.items ≡ map.entries (map_left self.now)) }
     {
         self.closed.entries(alloc)
     }

@@ -9,6 +9,7 @@ mod decide;
 mod ended;
 mod exchange;
 mod get;
+pub mod laws;
 mod map;
 mod pause;
 mod room;

@@ -1,16 +1,16 @@
 //! The map and its seats.
-ghost use Rattle.std.specs.Prelude.{◌≡◌, ◌+◌, ◌<◌, ◌≤◌, ◌↔◌, ℕ, pos, IfOk, IfErr, is_ok, is_some, true, if◌then◌else◌, Option, [], ◌∷◌, length};
+ghost use Rattle.std.specs.Prelude.{◌≡◌, ◌+◌, ◌<◌, ◌≤◌, ◌↔◌, ℕ, pos, IfOk, IfErr, is_ok, is_some, true, if◌then◌else◌, Option, [], length};
+ghost use Rattle.nb_core.specs.Log.{IsBeginning, reply_at};
 ghost use Rattle.nb_core.specs.Meaning.{net_of_change};
 ghost use Rattle.nb_core.specs.Plans.{IsPlan};
 ghost use Rattle.nb_core.specs.Tables.{IsComplete};
 ghost use Rattle.nb_core.specs.declared.calls.Call.TheVariants as call;
 ghost use Rattle.nb_count.specs.Counts.{with_looks};
 ghost use Rattle.nb_table.specs.Chains.{Extended, seen_by};
-ghost use Rattle.nb_table.specs.Views.{IsBeginning};
-ghost use Rattle.nb_map.specs.Calling.{replied};
 ghost use Rattle.nb_map.specs.Looking.{IsSeenAtHome, get_steps};
-ghost use Rattle.nb_map.specs.Ending.{EndedWith};
-ghost use Rattle.nb_map.specs.Maps.{AreMine, HasCalled, IsMine, accounted, seats_of};
+ghost use Rattle.nb_map.specs.Ending.{EndedWith, HasTablesLeft};
+ghost use Rattle.nb_map.specs.Logs.{HasLogged, HasReplied, log};
+ghost use Rattle.nb_map.specs.Maps.{AreMine, HasWorked, IsMine, accounted, seats_of};
 ghost use Rattle.nb_map.specs.Refusing.{IsJust, put_steps};
 
 use crate::ended::{Ended, parted};
@@ -97,8 +97,8 @@ impl Map {
     #[inline]
     pub fn get(&self, seat: &mut Seat, key: Key) -> Option<Num>
         requires own { IsMine self.now seat.old }
-        ensures called { HasCalled self.now (call.Get key) seat.old seat.new (replied (call.Get key) result)
-            (get_steps self.now.chain.shape) }
+        ensures replied { HasReplied (call.Get key) seat.old seat.new (reply_at (call.Get key) result) }
+        ensures worked { HasWorked self.now (call.Get key) seat.old seat.new (get_steps self.now.chain.shape) }
         ensures three_steps { IsSeenAtHome self.now.chain.shape seat.old.chain seat.new.chain key
             → seat.new.chain.steps ≤ seat.old.chain.steps + 3 }
         ensures own { IsMine self.now seat.new }
@@ -109,8 +109,11 @@ impl Map {
     /// Whether the map has a key. It is a `get`.
     pub fn contains_key(&self, seat: &mut Seat, key: Key) -> bool
         requires own { IsMine self.now seat.old }
-        ensures called { (number : Option ℕ) × (is_some number ≡ result)
-            × HasCalled self.now (call.Get key) seat.old seat.new (replied (call.Get key) number) (get_steps self.now.chain.shape) }
+        ensures replied { (number : Option ℕ) × (is_some number ≡ result)
+            × HasReplied (call.Get key) seat.old seat.new (reply_at (call.Get key) number) }
+        ensures worked { HasWorked self.now (call.Get key) seat.old seat.new (get_steps self.now.chain.shape) }
+        ensures three_steps { IsSeenAtHome self.now.chain.shape seat.old.chain seat.new.chain key
+            → seat.new.chain.steps ≤ seat.old.chain.steps + 3 }
         ensures own { IsMine self.now seat.new }
     {
         self.get(seat, key).is_some()
@@ -131,11 +134,10 @@ impl Map {
     ) -> Result<Reply, PutFault>
         requires own { IsMine self.now seat.old }
         requires some { 1 ≤ tries }
-        ensures called { IfOk result (λ reply. HasCalled self.now (call.Write key want change) seat.old seat.new
-            ((call.Write key want change, reply) ∷ []) (put_steps self.now.chain.shape tries)) }
-        ensures refused { IfErr result (λ fault. HasCalled self.now (call.Write key want change) seat.old seat.new []
-            (put_steps self.now.chain.shape tries)
+        ensures replied { IfOk result (HasReplied (call.Write key want change) seat.old seat.new) }
+        ensures refused { IfErr result (λ fault. HasLogged seat.old seat.new []
             × IsJust self.now.chain.shape (call.Write key want change) seat.old.chain seat.new.chain tries fault) }
+        ensures worked { HasWorked self.now (call.Write key want change) seat.old seat.new (put_steps self.now.chain.shape tries) }
         ensures own { IsMine self.now seat.new }
     {
         let reply = put_if_match_in(
@@ -176,6 +178,7 @@ impl Map {
     /// How many tables are known to be complete, from the first one on: the top word, by one load.
     pub fn generation(&self, seat: &mut Seat) -> u32
         requires own { IsMine self.now seat.old }
+        ensures logged { HasLogged seat.old seat.new [] }
         ensures grows { Extended self.now.chain.shape seat.old.chain seat.new.chain [] 1 }
         ensures found { (seen_by self.now.chain.shape seat.new.chain).top ≡ result }
         ensures complete { (g : ℕ) → g < result → IsComplete self.now.chain.shape (seen_by self.now.chain.shape seat.new.chain) g }
@@ -189,6 +192,7 @@ impl Map {
     /// it is no more than a guess.
     pub fn size_estimate(&self, seat: &mut Seat) -> u64
         requires own { IsMine self.now seat.old }
+        ensures logged { HasLogged seat.old seat.new [] }
         ensures chain { seat.new.chain ≡ seat.old.chain }
         ensures count { seat.new.count ≡ with_looks self.now.counter.stripes seat.old.count }
         ensures own { IsMine self.now seat.new }
@@ -201,8 +205,10 @@ impl Map {
     pub fn meet(&self, a: &mut Seat, b: &mut Seat)
         requires a_own { IsMine self.now a.old }
         requires b_own { IsMine self.now b.old }
-        ensures a { Extended self.now.chain.shape a.old.chain a.new.chain [] 1 × IsBeginning b.old.chain.seen a.new.chain.seen × (a.new.count ≡ a.old.count) }
-        ensures b { Extended self.now.chain.shape b.old.chain b.new.chain [] 1 × IsBeginning a.old.chain.seen b.new.chain.seen × (b.new.count ≡ b.old.count) }
+        ensures a { HasLogged a.old a.new [] × IsBeginning (log b.old) (log a.new) }
+        ensures b { HasLogged b.old b.new [] × IsBeginning (log a.old) (log b.new) }
+        ensures a_grows { Extended self.now.chain.shape a.old.chain a.new.chain [] 1 × IsBeginning b.old.chain.seen a.new.chain.seen × (a.new.count ≡ a.old.count) }
+        ensures b_grows { Extended self.now.chain.shape b.old.chain b.new.chain [] 1 × IsBeginning a.old.chain.seen b.new.chain.seen × (b.new.count ≡ b.old.count) }
         ensures a_own { IsMine self.now a.new }
         ensures b_own { IsMine self.now b.new }
     {
@@ -214,7 +220,8 @@ impl Map {
     pub fn finish(self, seats: Vec<Seat>) -> Result<Ended, NotAll<Map, Seat>>
         requires own { AreMine self seats.items }
         ensures all { (is_ok result ≡ true) ↔ (length seats.items ≡ self.chain.shape.seats) }
-        ensures ended { IfOk result (λ ended. EndedWith self.chain.shape seats.items ended) }
+        ensures ended { IfOk result (EndedWith seats.items) }
+        ensures tables { IfOk result (HasTablesLeft self.chain.shape seats.items) }
         ensures back { IfErr result (λ given. (given.whole ≡ self) × (given.seats.items ≡ seats.items)) }
     {
         if seats.len() != self.chain.shape().seats() {

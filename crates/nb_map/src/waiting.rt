@@ -1,11 +1,13 @@
 //! The calls of `ConcurrentMap`, each of which is one conditional write. They try again while other seats' writes of the key
 //! come first, for as long as that may be, so they wait. Each tells in the end just one call, or none if it is refused.
 ghost use Rattle.std.specs.Prelude.{◌≡◌, false, true, None, IfOk, IfErr};
-ghost use Rattle.nb_core.specs.Calls.{Numbers, leaves_alone, overflows};
+ghost use Rattle.nb_core.specs.Calls.{leaves_alone, overflows};
+ghost use Rattle.nb_core.specs.Log.{Numbers};
 ghost use Rattle.nb_core.specs.declared.calls.Call.TheVariants as call;
 ghost use Rattle.nb_core.specs.declared.calls.Change.TheVariants as change;
 ghost use Rattle.nb_core.specs.declared.calls.Want.TheVariants as want;
-ghost use Rattle.nb_map.specs.Maps.{HasFound, HasMatched, HasReplied, IsMine};
+ghost use Rattle.nb_map.specs.Logs.{HasFound, HasMatched, HasReplied};
+ghost use Rattle.nb_map.specs.Maps.{HasWaited, IsMine};
 ghost use Rattle.nb_map.specs.Refusing.{HasRefused};
 
 use crate::map::{Map, Seat};
@@ -40,9 +42,10 @@ impl Map {
         number: Num,
     ) -> Result<Option<Num>, Full>
         requires own { IsMine self.now seat.old }
-        ensures found { IfOk result (HasFound self.now (call.Write key want.Any (change.Put number)) seat.old seat.new) }
+        ensures found { IfOk result (HasFound (call.Write key want.Any (change.Put number)) seat.old seat.new) }
         ensures full { IfErr result (λ fault. HasRefused self.now (call.Write key want.Any (change.Put number)) seat.old seat.new
             AddFault.Full) }
+        ensures waited { HasWaited self.now (call.Write key want.Any (change.Put number)) seat.old seat.new }
         ensures own { IsMine self.now seat.new }
     {
         Ok(self.put_where(rt, seat, key, Want::Any, number)?.before)
@@ -57,9 +60,10 @@ impl Map {
         number: Num,
     ) -> Result<Option<Num>, Full>
         requires own { IsMine self.now seat.old }
-        ensures found { IfOk result (HasFound self.now (call.Write key want.Absent (change.Put number)) seat.old seat.new) }
+        ensures found { IfOk result (HasFound (call.Write key want.Absent (change.Put number)) seat.old seat.new) }
         ensures full { IfErr result (λ fault. HasRefused self.now (call.Write key want.Absent (change.Put number)) seat.old seat.new
             AddFault.Full) }
+        ensures waited { HasWaited self.now (call.Write key want.Absent (change.Put number)) seat.old seat.new }
         ensures own { IsMine self.now seat.new }
     {
         Ok(self.put_where(rt, seat, key, Want::Absent, number)?.before)
@@ -68,7 +72,8 @@ impl Map {
     /// Puts a number in place of another, and answers what was there. `ConcurrentMap.replace` of two arguments.
     pub fn replace<R: Wait>(&self, rt: &R, seat: &mut Seat, key: Key, number: Num) -> Option<Num>
         requires own { IsMine self.now seat.old }
-        ensures found { HasFound self.now (call.Write key want.Present (change.Put number)) seat.old seat.new result }
+        ensures found { HasFound (call.Write key want.Present (change.Put number)) seat.old seat.new result }
+        ensures waited { HasWaited self.now (call.Write key want.Present (change.Put number)) seat.old seat.new }
         ensures own { IsMine self.now seat.new }
     {
         self.change_where(rt, seat, key, Want::Present, Change::Put(number))
@@ -78,7 +83,8 @@ impl Map {
     /// Puts a number in place of this one, and answers whether it did. `ConcurrentMap.replace` of three arguments.
     pub fn replace_if<R: Wait>(&self, rt: &R, seat: &mut Seat, key: Key, old: Num, new: Num) -> bool
         requires own { IsMine self.now seat.old }
-        ensures matched { HasMatched self.now (call.Write key (want.Equal old) (change.Put new)) seat.old seat.new result }
+        ensures matched { HasMatched (call.Write key (want.Equal old) (change.Put new)) seat.old seat.new result }
+        ensures waited { HasWaited self.now (call.Write key (want.Equal old) (change.Put new)) seat.old seat.new }
         ensures own { IsMine self.now seat.new }
     {
         self.change_where(rt, seat, key, Want::Equal(old), Change::Put(new))
@@ -88,7 +94,8 @@ impl Map {
     /// Takes out a key, and answers what was there. `ConcurrentMap.remove` of one argument.
     pub fn remove<R: Wait>(&self, rt: &R, seat: &mut Seat, key: Key) -> Option<Num>
         requires own { IsMine self.now seat.old }
-        ensures found { HasFound self.now (call.Write key want.Any change.Remove) seat.old seat.new result }
+        ensures found { HasFound (call.Write key want.Any change.Remove) seat.old seat.new result }
+        ensures waited { HasWaited self.now (call.Write key want.Any change.Remove) seat.old seat.new }
         ensures own { IsMine self.now seat.new }
     {
         self.change_where(rt, seat, key, Want::Any, Change::Remove)
@@ -98,7 +105,8 @@ impl Map {
     /// Takes out a key that has this number, and answers whether it did. `ConcurrentMap.remove` of two arguments.
     pub fn remove_if<R: Wait>(&self, rt: &R, seat: &mut Seat, key: Key, number: Num) -> bool
         requires own { IsMine self.now seat.old }
-        ensures matched { HasMatched self.now (call.Write key (want.Equal number) change.Remove) seat.old seat.new result }
+        ensures matched { HasMatched (call.Write key (want.Equal number) change.Remove) seat.old seat.new result }
+        ensures waited { HasWaited self.now (call.Write key (want.Equal number) change.Remove) seat.old seat.new }
         ensures own { IsMine self.now seat.new }
     {
         self.change_where(rt, seat, key, Want::Equal(number), Change::Remove)
@@ -114,8 +122,9 @@ impl Map {
         number: Num,
     ) -> Result<Option<Num>, AddFault>
         requires own { IsMine self.now seat.old }
-        ensures found { IfOk result (HasFound self.now (call.Write key want.Any (change.Add number)) seat.old seat.new) }
+        ensures found { IfOk result (HasFound (call.Write key want.Any (change.Add number)) seat.old seat.new) }
         ensures refused { IfErr result (HasRefused self.now (call.Write key want.Any (change.Add number)) seat.old seat.new) }
+        ensures waited { HasWaited self.now (call.Write key want.Any (change.Add number)) seat.old seat.new }
         ensures own { IsMine self.now seat.new }
     {
         let reply = self.write(rt, seat, key, &Want::Any, &Change::Add(number))?;
@@ -132,9 +141,10 @@ impl Map {
         number: Num,
     ) -> Result<Reply, Full>
         requires own { IsMine self.now seat.old }
-        ensures replied { IfOk result (HasReplied self.now (call.Write key want (change.Put number)) seat.old seat.new) }
+        ensures replied { IfOk result (HasReplied (call.Write key want (change.Put number)) seat.old seat.new) }
         ensures full { IfErr result (λ fault. HasRefused self.now (call.Write key want (change.Put number)) seat.old seat.new
             AddFault.Full) }
+        ensures waited { HasWaited self.now (call.Write key want (change.Put number)) seat.old seat.new }
         ensures own { IsMine self.now seat.new }
     {
         match self.write(rt, seat, key, &want, &Change::Put(number)) {
@@ -156,7 +166,8 @@ impl Map {
         requires own { IsMine self.now seat.old }
         requires no_put { leaves_alone (call.Write key want change) None ≡ true }
         requires in_range { (m : Numbers) → overflows (call.Write key want change) m ≡ false }
-        ensures replied { HasReplied self.now (call.Write key want change) seat.old seat.new result }
+        ensures replied { HasReplied (call.Write key want change) seat.old seat.new result }
+        ensures waited { HasWaited self.now (call.Write key want change) seat.old seat.new }
         ensures own { IsMine self.now seat.new }
     {
         match self.write(rt, seat, key, &want, &change) {
@@ -175,8 +186,9 @@ impl Map {
         change: &Change,
     ) -> Result<Reply, AddFault>
         requires own { IsMine self.now seat.old }
-        ensures replied { IfOk result (HasReplied self.now (call.Write key want.now change.now) seat.old seat.new) }
+        ensures replied { IfOk result (HasReplied (call.Write key want.now change.now) seat.old seat.new) }
         ensures refused { IfErr result (HasRefused self.now (call.Write key want.now change.now) seat.old seat.new) }
+        ensures waited { HasWaited self.now (call.Write key want.now change.now) seat.old seat.new }
         ensures own { IsMine self.now seat.new }
     {
         for _ in rt.forever() {

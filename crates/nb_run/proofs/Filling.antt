@@ -1,28 +1,25 @@
 -- What the seats of a run have claimed: keys that their commands may put, so that a full map has as many of these.
-use Rattle.std.proofs.Common.{◌≡◌, ◌∙◌, ◌==◌, ◌<◌, not, Bool, true, false, cond, ℕ, zero, suc, List, [], ◌∷◌, ◌++◌, map, filter, ap, sym, subst, refl, inl, inr, arith}
+use Rattle.std.proofs.Common.{◌≡◌, ◌≢◌, ◌∙◌, ◌==◌, ◌<◌, not, Bool, true, false, cond, ℕ, zero, suc, List, [], ◌∷◌, ◌++◌, map, filter, ap, sym, subst, refl, inl, inr, arith}
 use Rattle.std.specs.List.{All, AllZip}
+use Rattle.std.proofs.lemmas.Bool.{ne_eqb}
 use Rattle.std.proofs.lemmas.List.Elements.{All-append, All-cons, All-head, All-nil, All-same, All-tail, All-weaker, filter-append}
-use Rattle.nb_core.specs.History.{IsLegal}
+use Rattle.nb_core.specs.History.{IsLegal, seat_of_event}
 use Rattle.nb_core.specs.Laws.{Lasts}
 use Rattle.nb_core.specs.Plans.{IsPlan, Plan, generations_of}
 use Rattle.nb_core.specs.Tables.{HasSlotBelow, Tables, tables_at}
-use Rattle.nb_core.specs.declared.calls.Call.{Call}
-use Rattle.nb_core.specs.declared.calls.Reply.{Reply}
 use Rattle.nb_core.specs.declared.events.Event.{Event}
 use Rattle.nb_core.specs.declared.events.Event.TheVariants.{Claim, Kill, Won, CopyIn, Prime, Finish, Install, Take, Count, Promote, Read}
 use Rattle.nb_core.proofs.Theorems.{seen_lasts}
 use Rattle.nb_table.specs.Chains.{Grown, SeenBy, own_events}
 use Rattle.nb_table.specs.Views.{HasSeen}
-use Rattle.nb_map.specs.Calling.{HasMade, MayMake}
+use Rattle.nb_map.specs.Calling.{MayMake}
 use Rattle.nb_map.specs.Maps.{MapOf, SeatOf, new_seat, seats_of}
 use Rattle.nb_run.specs.Script.{Phase}
 use Rattle.nb_run.specs.Text.{call_of}
 use Rattle.nb_run.specs.Told.{all_commands, key_of_command, may_put}
-use Rattle.nb_run.specs.Working.{AreAnswered, HasMet, HaveRun, IsAnswered, PhaseRan, commands_of}
+use Rattle.nb_run.specs.Working.{AreAnswered, HasAnswered, HasMet, HaveRun, PhaseRan, commands_of}
 use Rattle.nb_run.specs.declared.answers.Answer.{Answer}
-use Rattle.nb_run.specs.declared.answers.Answer.TheVariants as answer
 use Rattle.nb_run.specs.declared.script.Command.{Command}
-use Rattle.nb_run.proofs.CallLemmas.{own-none}
 use Rattle.nb_run.proofs.Crowding.{IsClaimOf, IsPut}
 
 -- ---- what a seat has claimed
@@ -73,17 +70,12 @@ claim-made p t c cs adds (Count s g n) may = tt
 claim-made p t c cs adds (Promote s g) may = tt
 claim-made p t c cs adds (Read s d r) may = tt
 
--- the seat made some calls, by steps that the command's call may make
-abbrev pub HasStepped : MapOf → Command → (before after : SeatOf) → Type 0
-HasStepped m c before after =
-    (made : List (Call × Reply)) × (most : ℕ) × HasMade m.chain.shape (call_of c) before.chain after.chain made most
-
-pub answered-stepped : (m : MapOf) (c : Command) (a : Answer) (before after : SeatOf) → IsAnswered m c a before after → HasStepped m c before after
-answered-stepped m c answer.Nothing before after is = (_, is.2.0, is.2.1.steps)
-answered-stepped m c (answer.Value n) before after is = (_, is.2.0, is.2.1.steps)
-answered-stepped m c (answer.Matched b) before after is = (_, is.2.0, is.2.1.steps)
-answered-stepped m c answer.Full before after is = (_, is.0.0, is.0.1.steps)
-answered-stepped m c answer.Range before after is = (_, is.0.0, is.0.1.steps)
+-- events of other seats aren't its own
+own-none : (s : ℕ) (es : List Event) → All (λ e. seat_of_event e ≢ s) es → own_events s es ≡ []
+own-none s [] none = refl
+own-none s (e ∷ es) none =
+    let P : Event → Type 0 = λ e. seat_of_event e ≢ s in
+    rw (ne_eqb (seat_of_event e) s (All-head P e es none)) (own-none s es (All-tail P e es none))
 
 module _ (p : Plan) (plan : IsPlan p) where
   -- what is claimed stays so in later histories
@@ -177,9 +169,9 @@ module _ (m : MapOf) (plan : IsPlan m.chain.shape) where
   -- a command was answered
   pub claimed-answered :
       (cs cs' : List Command) → ((k : ℕ) → IsPut cs k → IsPut cs' k) → (c : Command) → (may_put c ≡ true → IsPut cs' (key_of_command c))
-      → (a : Answer) (before after : SeatOf) → IsAnswered m c a before after → HasClaimed p cs before.chain → HasClaimed p cs' after.chain
+      → (a : Answer) (before after : SeatOf) → HasAnswered m c a before after → HasClaimed p cs before.chain → HasClaimed p cs' after.chain
   claimed-answered cs cs' more c adds a before after is claimed =
-      let steps = (answered-stepped m c a before after is).2 in
+      let steps = is.1.1.1 in
       claimed-grown p plan cs cs' more before.chain after.chain steps.own steps.count claimed steps.grown
       (All-weaker (MayMake p (tables_at p after.chain.seen) (call_of c)) (IsClaimOf p cs' (tables_at p after.chain.seen))
       (claim-made p (tables_at p after.chain.seen) c cs' adds) steps.own steps.may)

@@ -1,5 +1,5 @@
 -- When a map can be full: for any number of workers at the end, and for one at each of its commands.
-use Rattle.std.proofs.Common.{◌≡◌, ◌≢◌, ◌∙◌, ◌==◌, ◌≤◌, ◌<◌, ◌-◌, not, cond, ℕ, zero, suc, List, [], ◌∷◌, ◌++◌, Some, map, take, ap, sym, subst, refl, inl, inr, append_assoc, append-nil, arith}
+use Rattle.std.proofs.Common.{◌≡◌, ◌≢◌, ◌∙◌, ◌==◌, ◌≤◌, ◌<◌, ◌-◌, not, cond, ℕ, zero, suc, List, [], ◌∷◌, ◌++◌, Some, length, map, take, ap, sym, subst, refl, inl, inr, append_assoc, append-nil, arith}
 use Rattle.std.specs.Prelude.{slice_get}
 use Rattle.std.specs.List.{All, count_by, flat_map}
 use Rattle.std.proofs.lemmas.Bool.{cases_Bool, eq-eqb, eqb-true}
@@ -11,17 +11,18 @@ use Rattle.nb_core.specs.Plans.{IsPlan, Plan, generations_of, size_of}
 use Rattle.nb_core.specs.Tables.{HasSlot, tables_at}
 use Rattle.nb_core.specs.declared.events.Event.{Event}
 use Rattle.nb_table.specs.Chains.{SeenBy, own_events}
-use Rattle.nb_table.specs.Views.{HasSeen, IsBeginning}
-use Rattle.nb_map.specs.Ending.{EndedOf, EndedWith}
+use Rattle.nb_core.specs.Log.{IsBeginning}
+use Rattle.nb_table.specs.Views.{HasSeen}
+use Rattle.nb_map.specs.Ending.{EndedOf, EndedWith, HasTablesLeft}
 use Rattle.nb_map.specs.Maps.{MapOf, SeatOf, new_seat, seats_of}
 use Rattle.nb_run.specs.Script.{Phase}
 use Rattle.nb_run.specs.Told.{MayCrowd, all_commands, key_of_command, others_put}
-use Rattle.nb_run.specs.Working.{AreAnswered, HasMet, HaveMet, HaveRun, IsAnswered, PhaseRan, commands_of}
+use Rattle.nb_run.specs.Working.{AreAnswered, HasAnswered, HasMet, HaveMet, HaveRun, PhaseRan, commands_of}
 use Rattle.nb_run.specs.declared.answers.Answer.{Answer}
 use Rattle.nb_run.specs.declared.answers.Answer.TheVariants as answer
 use Rattle.nb_run.specs.declared.script.Command.{Command}
 use Rattle.nb_run.proofs.Crowding.{IsClaimOf, IsPut, all-put, crowd-count, each-own, put-cases, put-left, put-right, seats-below}
-use Rattle.nb_run.proofs.Filling.{HasClaimed, among-all, answered-stepped, claimed-answered, claimed-history, claimed-met, claimed-new, claimed-run, later-lasts}
+use Rattle.nb_run.proofs.Filling.{HasClaimed, among-all, claimed-answered, claimed-history, claimed-met, claimed-new, claimed-run, later-lasts}
 
 -- ---- words
 
@@ -109,10 +110,10 @@ history-put p plan cs h legal own j has =
 -- A key is crowded at a moment of an ended map's history only by as many others as the commands may put.
 pub crowd-ended :
     (m : MapOf) → IsPlan m.chain.shape → (phases : List Phase) (answers : List (List (List Answer))) (after : List SeatOf) (ended : EndedOf)
-    → HaveRun m phases answers (seats_of m 0 m.chain.shape.seats) after → (end : EndedWith m.chain.shape after ended) → (k : ℕ) (h : List Event)
-    → IsBeginning h end.history → IsCrowded m.chain.shape h k
+    → HaveRun m phases answers (seats_of m 0 m.chain.shape.seats) after → length after ≡ m.chain.shape.seats → EndedWith after ended
+    → HasTablesLeft m.chain.shape after ended → (k : ℕ) (h : List Event) → IsBeginning h ended.tables.history → IsCrowded m.chain.shape h k
     → size_of m.chain.shape (generations_of m.chain.shape - 1) ≤ others_put k (all_commands phases)
-crowd-ended m plan phases answers after ended ran end k h beginning crowded =
+crowd-ended m plan phases answers after ended ran count end left k h beginning crowded =
     crowd-count p plan history legal k cs (λ j differs has. history-put p plan cs history legal own j has) still
   where
     p : Plan
@@ -122,10 +123,10 @@ crowd-ended m plan phases answers after ended ran end k h beginning crowded =
     cs = all_commands phases
 
     history : List Event
-    history = end.history
+    history = ended.tables.history
 
     legal : IsLegal p history
-    legal = subst (λ q. IsLegal q history) end.shape end.left.legal
+    legal = subst (λ q. IsLegal q history) left.shape left.left.legal
 
     still : IsCrowded p history k
     still i less =
@@ -142,8 +143,8 @@ crowd-ended m plan phases answers after ended ran end k h beginning crowded =
 
     own : (s : ℕ) → s < p.seats → All (IsClaimOf p cs (tables_at p history)) (own_events s history)
     own s less =
-        let found = seat-numbered (λ seat. HasSeen history seat.chain.number seat.chain.seen × HasClaimed p cs seat.chain) s after (end.once s less)
-        (λ i d within. (end.seen i d within, claimed i d within)) in
+        let found = seat-numbered (λ seat. HasSeen history seat.chain.number seat.chain.seen × HasClaimed p cs seat.chain) s after
+        (end.once s (omega (arith, less, count))) (λ i d within. (left.seen i d within, claimed i d within)) in
         subst (λ n. All (IsClaimOf p cs (tables_at p history)) (own_events n history)) found.1
         (claimed-history p plan cs found.0.chain history found.2.1 found.2.0 legal)
 
@@ -159,13 +160,13 @@ module _ (m : MapOf) (plan : IsPlan m.chain.shape) where
 
   -- after one command more
   pub lone-answered :
-      (done : List Command) (c : Command) (a : Answer) (before after : SeatOf) → IsAnswered m c a before after → IsLone p done before.chain
+      (done : List Command) (c : Command) (a : Answer) (before after : SeatOf) → HasAnswered m c a before after → IsLone p done before.chain
       → IsLone p (done ++ c ∷ []) after.chain
   lone-answered done c a before after is lone = record {
     claimed =
         claimed-answered m plan done (done ++ c ∷ []) (λ k put. put-left done (c ∷ []) k put) c
         (λ may. put-right done (c ∷ []) (key_of_command c) (inl (may, refl))) a before after is lone.claimed;
-    number = (answered-stepped m c a before after is).2.grown.number ∙ lone.number;
+    number = is.1.1.1.grown.number ∙ lone.number;
   }
 
   -- and after a meeting
@@ -180,10 +181,10 @@ module _ (m : MapOf) (plan : IsPlan m.chain.shape) where
   module _ (single : p.seats ≡ 1) where
     -- Where the seat finds the map full, the commands before may have filled it.
     pub lone-full :
-        (done : List Command) (c : Command) (before after : SeatOf) → IsAnswered m c answer.Full before after → IsLone p done before.chain
+        (done : List Command) (c : Command) (before after : SeatOf) → HasAnswered m c answer.Full before after → IsLone p done before.chain
         → MayCrowd p done c
     lone-full done c before after is lone =
-        (ap not is.1.0, crowd-count p plan h legal k done (λ j differs has. earlier j differs (put j has)) is.1.1)
+        (ap not is.0.1.0, crowd-count p plan h legal k done (λ j differs has. earlier j differs (put j has)) is.0.1.1)
       where
         h : List Event
         h = after.chain.seen
@@ -195,7 +196,7 @@ module _ (m : MapOf) (plan : IsPlan m.chain.shape) where
         next = lone-answered done c answer.Full before after is lone
 
         legal : IsLegal p h
-        legal = is.0.1.steps.grown.legal
+        legal = is.1.1.1.grown.legal
 
         put : (j : ℕ) → HasSlot p (tables_at p h) (generations_of p - 1) j → IsPut (done ++ c ∷ []) j
         put =
@@ -217,7 +218,7 @@ module _ (m : MapOf) (plan : IsPlan m.chain.shape) where
     crowd-lone done (c ∷ cs) (a ∷ answers) before after lone is =
         let rest = crowd-lone (done ++ c ∷ []) cs answers is.0 after (lone-answered done c a before is.0 is.1 lone) is.2 in (
           subst (λ xs. IsLone p xs after.chain) (append_assoc done (c ∷ []) cs) rest.0,
-          (λ full. lone-full done c before is.0 (subst (λ b. IsAnswered m c b before is.0) full is.1) lone, rest.1),
+          (λ full. lone-full done c before is.0 (subst (λ b. HasAnswered m c b before is.0) full is.1) lone, rest.1),
         )
 
     -- And of a run: one worker has the commands that are its own, phase after phase.

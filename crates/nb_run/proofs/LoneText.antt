@@ -1,5 +1,5 @@
 -- With one worker the text is the plain map's, but for the commands that were refused for want of room.
-use Rattle.std.proofs.Common.{◌≡◌, ◌∙◌, ◌<◌, ◌≤◌, ℕ, zero, suc, Bool, true, false, cond, nat_lt, ltb-true, List, [], ◌∷◌, ◌++◌, map, take, Option, Some, None, ap, sym, subst, refl, inl, inr, append_assoc, append-nil, arith}
+use Rattle.std.proofs.Common.{◌≡◌, ◌∙◌, ◌<◌, ◌≤◌, ℕ, zero, suc, Bool, true, false, cond, nat_lt, ltb-true, List, [], ◌∷◌, ◌++◌, map, take, Option, Some, None, length, ap, ap₂, sym, subst, refl, inl, inr, append_assoc, append-nil, arith}
 use Rattle.std.specs.Prelude.{slice_get}
 use Rattle.std.specs.List.{All, flat_map}
 use Rattle.std.specs.FinMap.{get, get-insert}
@@ -7,28 +7,30 @@ use Rattle.std.specs.Cmp.{nat_cmp_total, unsigned_tied}
 use Rattle.std.proofs.lemmas.Bool.{cases_Bool, eq-eqb}
 use Rattle.std.proofs.lemmas.Grind.{flat_map-append}
 use Rattle.std.proofs.lemmas.List.{map-append}
-use Rattle.std.proofs.lemmas.List.Elements.{All-append, All-head, All-nil, All-tail}
-use Rattle.nb_core.specs.Calls.{Numbers, changed, holds_of, is_past_max, map_after, overflows, reply_of, with_at}
-use Rattle.nb_core.specs.History.{IsLegal, map_of}
-use Rattle.nb_core.specs.Meaning.{AreReplies, IsCrowded, calls_of, map_of_calls}
+use Rattle.std.proofs.lemmas.List.Elements.{All-append, All-cons, All-head, All-nil, All-tail}
+use Rattle.nb_core.specs.Calls.{is_past_max, overflows}
+use Rattle.nb_core.specs.Log.{Entry, IsReplayed, Numbers, calls_of, changed, holds_of, map_after, map_of_log, reply_of, with_at}
+use Rattle.nb_core.specs.History.{IsLegal}
+use Rattle.nb_core.specs.Laws.{HasLog}
+use Rattle.nb_core.specs.Meaning.{IsCrowded}
 use Rattle.nb_core.specs.Plans.{IsPlan, Plan}
 use Rattle.nb_core.specs.declared.numbers.TheConstants.{VALUE_MAX}
 use Rattle.nb_core.specs.declared.calls.Call.{Call}
 use Rattle.nb_core.specs.declared.calls.Call.TheVariants as call
 use Rattle.nb_core.specs.declared.calls.Reply.{Reply}
-use Rattle.nb_core.specs.declared.events.Event.{Event}
-use Rattle.nb_core.proofs.Theorems.{calls_replayed, crowded_absent, lone_seat, map_in_range}
-use Rattle.nb_table.specs.Chains.{Grown}
-use Rattle.nb_map.specs.Ending.{EndedOf, EndedWith}
-use Rattle.nb_map.specs.Maps.{HasWaited, MapOf, SeatOf, new_seat, seats_of}
+use Rattle.nb_core.proofs.Theorems.{crowded_absent, log_is_replayed, map_in_range}
+use Rattle.nb_map.specs.Ending.{EndedOf, EndedWith, HasAll, log_left}
+use Rattle.nb_map.specs.Ending.{map_left as ended_map}
+use Rattle.nb_map.specs.Logs.{HasLogged, log}
+use Rattle.nb_map.specs.Maps.{MapOf, SeatOf, new_seat, seats_of}
 use Rattle.nb_run.specs.Script.{Bytes, Phase}
 use Rattle.nb_run.specs.Text.{answer_line, answer_of, call_of, ending, map_behind, map_left, shown, text_from}
 use Rattle.nb_run.specs.Told.{IsLoneText, MayCrowd, all_commands, key_of_command, phase_text}
-use Rattle.nb_run.specs.Working.{AreAnswered, HasMet, HasShown, HaveMet, HaveRun, IsAnswered, PhaseRan, commands_of}
+use Rattle.nb_run.specs.Working.{AreAnswered, HasAnswered, HasMet, HasShown, HaveMet, HaveRun, PhaseRan, commands_of}
 use Rattle.nb_run.specs.declared.answers.Answer.{Answer}
 use Rattle.nb_run.specs.declared.answers.Answer.TheVariants as answer
 use Rattle.nb_run.specs.declared.script.Command.{Command}
-use Rattle.nb_run.proofs.CallLemmas.{Calls, calls-append, calls-grown}
+use Rattle.nb_run.proofs.CallLemmas.{Calls}
 use Rattle.nb_run.proofs.Fullness.{AreJust, commands-lone, crowd-lone-run, just-at, lone-new}
 
 -- ---- a plain map
@@ -187,6 +189,30 @@ fits (call.Get k) m within = refl
 fits (call.Write k want change) m within =
     fits-at m k (holds_of want (get m k)) (changed change (get m k)) (λ n is. within k n is)
 
+-- ---- a log of one seat alone
+
+abbrev IsFirstEntry : Entry → Type 0
+IsFirstEntry entry = entry.seat < 1
+
+-- the first seat's call, as an entry
+abbrev entry_by_first : Call × Reply → Entry
+entry_by_first c = record { seat = 0; call = c.0; reply = c.1 }
+
+all-first : (later log : List Entry) → All IsFirstEntry (later ++ log) → All IsFirstEntry later
+all-first [] log all = All-nil IsFirstEntry
+all-first (entry ∷ later) log all =
+    All-cons IsFirstEntry entry later (All-head IsFirstEntry entry (later ++ log) all)
+    (all-first later log (All-tail IsFirstEntry entry (later ++ log) all))
+
+-- where all entries are the first seat's, they are its calls
+lone-entries : (log : List Entry) → All IsFirstEntry log → log ≡ map entry_by_first (calls_of 0 log)
+lone-entries [] all = refl
+lone-entries (entry ∷ log) all =
+    let zero : entry.seat ≡ 0 = omega (arith, All-head IsFirstEntry entry log all) in
+    rw (eq-eqb entry.seat 0 zero)
+    (ap₂ (λ s rest. record { seat = s; call = entry.call; reply = entry.reply } ∷ rest) zero
+    (lone-entries log (All-tail IsFirstEntry entry log all)))
+
 -- ---- one seat
 
 module _
@@ -196,64 +222,63 @@ module _
     abbrev p : Plan
     p = m.chain.shape
 
-    -- the map that the one seat's calls left, as far as it has seen
+    -- the map that the calls left, as far as the seat has seen
     abbrev held : SeatOf → Numbers
-    held seat = map_of_calls (calls_of seat.chain.seen 0)
-
-    lone-map : (h : List Event) → IsLegal p h → map_of h ≡ map_of_calls (calls_of h 0)
-    lone-map h legal = (calls_replayed p plan h legal).map ∙ ap map_of_calls (lone_seat p single h legal)
-
-    lone-replies : (h : List Event) → IsLegal p h → AreReplies (calls_of h 0)
-    lone-replies h legal = subst AreReplies (lone_seat p single h legal) (calls_replayed p plan h legal).replies
+    held seat = map_of_log (log seat)
 
     -- the seat is the map's first
     record IsFirst (seat : SeatOf) : Type 0 where
       number : seat.chain.number ≡ 0
 
-    -- what the seat has called more
+    -- what the seat has called more: all that is new in its log
     record HasCalledMore (made : Calls) (before after : SeatOf) : Type 0 where
       first : IsFirst after
+      has : HasLog p after.chain.seen
       legal : IsLegal p after.chain.seen
-      calls : calls_of after.chain.seen 0 ≡ made ++ calls_of before.chain.seen 0
+      log : log after ≡ map entry_by_first made ++ log before
 
-    grown-more :
-        (before after : SeatOf) (own : List Event) (count : ℕ) (made : Calls) → IsFirst before → Grown p before.chain after.chain own count
-        → calls_of own before.chain.number ≡ made → HasCalledMore made before after
-    grown-more before after own count made first grown calls = record {
-      first = record { number = grown.number ∙ first.number };
-      legal = grown.legal;
-      calls =
-          ap (λ h. calls_of h 0) grown.seen ∙ calls-append grown.later before.chain.seen 0
-          ∙ ap (λ calls. calls ++ calls_of before.chain.seen 0)
-          (calls-grown 0 grown first.number ∙ ap (calls_of own) (sym first.number) ∙ calls);
+    called-more :
+        (before after : SeatOf) (made : Calls) → IsFirst before → IsLegal p after.chain.seen → HasLogged before after made
+        → HasCalledMore made before after
+    called-more before after made first legal logged = record {
+      first = record { number = logged.number ∙ first.number };
+      has = has;
+      legal = legal;
+      log =
+          logged.grown
+          ∙ ap (λ later. later ++ log before)
+          (lone-entries logged.later (all-first logged.later (log before) (subst (All IsFirstEntry) logged.grown (first-seats has.seats)))
+          ∙ ap (map entry_by_first) (ap (λ n. calls_of n logged.later) (sym first.number) ∙ logged.own));
     }
+      where
+        has : HasLog p after.chain.seen
+        has = log_is_replayed p plan after.chain.seen legal
 
-    waited-more : (c : Call) (before after : SeatOf) (made : Calls) → IsFirst before → HasWaited m c before after made → HasCalledMore made before after
-    waited-more c before after made first is =
-        grown-more before after is.1.steps.own is.1.steps.count made first is.1.steps.grown is.1.steps.calls
+        first-seats : All (λ entry. entry.seat < p.seats) (log after) → All IsFirstEntry (log after)
+        first-seats = subst (λ n. All (λ entry. entry.seat < n) (log after)) single
 
     -- The one call that was made answers as on the plain map.
     shown-plain :
-        (c : Command) (a : Answer) (before after : SeatOf) → IsFirst before → HasShown m c a before after
+        (c : Command) (a : Answer) (before after : SeatOf) → IsFirst before → IsLegal p after.chain.seen → HasShown c a before after
         → IsFirst after × ((a ≡ answer_of c (held before)) × (held after ≡ map_left c (held before)))
-    shown-plain c a before after first is = (more.first, (answered, left))
+    shown-plain c a before after first legal is = (more.first, (answered, left))
       where
         reply : Reply
         reply = is.0
 
         more : HasCalledMore ((call_of c, reply) ∷ []) before after
-        more = waited-more (call_of c) before after ((call_of c, reply) ∷ []) first is.2
+        more = called-more before after ((call_of c, reply) ∷ []) first legal is.2
 
-        replies : AreReplies ((call_of c, reply) ∷ calls_of before.chain.seen 0)
-        replies = subst AreReplies more.calls (lone-replies after.chain.seen more.legal)
+        replies : IsReplayed (record { seat = 0; call = call_of c; reply = reply } ∷ log before)
+        replies = subst IsReplayed more.log more.has.replayed
 
         then : held after ≡ map_after (call_of c) (held before)
-        then = ap map_of_calls more.calls
+        then = ap map_of_log more.log
 
         acts : overflows (call_of c) (held before) ≡ false
         acts = fits (call_of c) (held before)
             (λ k n there. (map_in_range p plan after.chain.seen more.legal k n
-            (ap (λ x. get x k) (lone-map after.chain.seen more.legal ∙ then) ∙ there)).1)
+            (ap (λ x. get x k) (sym more.has.map ∙ then) ∙ there)).1)
 
         answered : a ≡ answer_of c (held before)
         answered =
@@ -264,20 +289,20 @@ module _
         left = then ∙ sym (ap (λ b. cond b (held before) (map_after (call_of c) (held before))) acts)
 
     -- a refused call leaves the map
-    refused-left : (c : Command) (before after : SeatOf) → HasCalledMore [] before after → held after ≡ held before
-    refused-left c before after more = ap map_of_calls more.calls
+    refused-left : (before after : SeatOf) → HasCalledMore [] before after → held after ≡ held before
+    refused-left before after more = ap map_of_log more.log
 
     -- and where it is refused for want of room, its key is absent
     refused-absent :
         (c : Command) (before after : SeatOf) → HasCalledMore [] before after → IsCrowded p after.chain.seen (key_of_command c)
         → get (held before) (key_of_command c) ≡ None
     refused-absent c before after more crowded =
-        ap (λ x. get x (key_of_command c)) (sym (lone-map after.chain.seen more.legal ∙ refused-left c before after more))
+        ap (λ x. get x (key_of_command c)) (sym (refused-left before after more) ∙ more.has.map)
         ∙ crowded_absent p plan after.chain.seen more.legal (key_of_command c) crowded
 
     -- an add that is refused for its sum answers so on the plain map
     past-plain :
-        (c : Command) (before after : SeatOf) → HasCalledMore [] before after → overflows (call_of c) (map_of after.chain.seen) ≡ true
+        (c : Command) (before after : SeatOf) → HasCalledMore [] before after → overflows (call_of c) (held after) ≡ true
         → (answer.Range ≡ answer_of c (held before)) × (held after ≡ map_left c (held before))
     past-plain c before after more past = (
       sym (ap (λ b. cond b answer.Range (shown c (reply_of (call_of c) (held before)))) over),
@@ -285,23 +310,23 @@ module _
     )
       where
         same : held after ≡ held before
-        same = refused-left c before after more
+        same = refused-left before after more
 
         over : overflows (call_of c) (held before) ≡ true
-        over = ap (overflows (call_of c)) (sym (lone-map after.chain.seen more.legal ∙ same)) ∙ past
+        over = ap (overflows (call_of c)) (sym same) ∙ past
 
     answered-plain :
-        (c : Command) (a : Answer) (before after : SeatOf) → IsFirst before → IsAnswered m c a before after
+        (c : Command) (a : Answer) (before after : SeatOf) → IsFirst before → HasAnswered m c a before after
         → IsFirst after × IsPlain c a (held before) (held after)
-    answered-plain c answer.Nothing before after first is = shown-plain c answer.Nothing before after first is
-    answered-plain c (answer.Value n) before after first is = shown-plain c (answer.Value n) before after first is
-    answered-plain c (answer.Matched b) before after first is = shown-plain c (answer.Matched b) before after first is
+    answered-plain c answer.Nothing before after first is = shown-plain c answer.Nothing before after first is.1.1.1.grown.legal is.0
+    answered-plain c (answer.Value n) before after first is = shown-plain c (answer.Value n) before after first is.1.1.1.grown.legal is.0
+    answered-plain c (answer.Matched b) before after first is = shown-plain c (answer.Matched b) before after first is.1.1.1.grown.legal is.0
     answered-plain c answer.Full before after first is =
-        let more = waited-more (call_of c) before after [] first is.0 in
-        (more.first, (refused-absent c before after more is.1.1, refused-left c before after more))
+        let more = called-more before after [] first is.1.1.1.grown.legal is.0.0 in
+        (more.first, (refused-absent c before after more is.0.1.1, refused-left before after more))
     answered-plain c answer.Range before after first is =
-        let more = waited-more (call_of c) before after [] first is.0 in
-        (more.first, past-plain c before after more is.1)
+        let more = called-more before after [] first is.1.1.1.grown.legal is.0.0 in
+        (more.first, past-plain c before after more is.0.1)
 
     commands-plain :
         (cs : List Command) (answers : List Answer) (before after : SeatOf) → IsFirst before → AreAnswered m cs answers before after
@@ -317,8 +342,7 @@ module _
     -- a meeting leaves the map
     met-plain : (seats : List SeatOf) (before after : SeatOf) → IsFirst before → HasMet m seats before after → IsFirst after × (held after ≡ held before)
     met-plain seats before after first met =
-        let more = grown-more before after [] met.steps [] first met.grown refl in
-        (more.first, ap map_of_calls more.calls)
+        let more = called-more before after [] first met.grown.legal met.logged in (more.first, refused-left before after more)
 
     -- ---- a run
 
@@ -380,16 +404,16 @@ module _
         of (mine ∷ other ∷ others) (t ∷ apart) joined phase_ran met rest later = absurd phase_ran.1
 
     -- the ended map is the one that the seat's calls left
-    ended-plain : (after : List SeatOf) (ended : EndedOf) (end : EndedWith p after ended) (seat : SeatOf) → after ≡ seat ∷ [] → IsFirst seat
-        → map_of end.history ≡ held seat
+    ended-plain : (after : List SeatOf) (ended : EndedOf) → EndedWith after ended → (seat : SeatOf) → after ≡ seat ∷ [] → IsFirst seat
+        → ended_map ended ≡ held seat
     ended-plain after ended end seat is first =
-        lone-map end.history (subst (λ q. IsLegal q end.history) end.shape end.left.legal) ∙ ap map_of_calls same
-      where
-        Same : SeatOf → Type 0
-        Same s = calls_of end.history s.chain.number ≡ calls_of s.chain.seen s.chain.number
-
-        same : calls_of end.history 0 ≡ calls_of seat.chain.seen 0
-        same = subst (λ n. calls_of end.history n ≡ calls_of seat.chain.seen n) first.number (All-head Same seat [] (subst (All Same) is end.calls))
+        let all = All-head (HasAll (log_left ended)) seat [] (subst (All (HasAll (log_left ended))) is end.logs) in
+        let made = subst (λ n. All (λ entry. entry.seat < n) (log_left ended)) (ap length is) end.made in
+        let none = ap (λ n. calls_of n all.later) (sym first.number) ∙ all.others in
+        ap map_of_log
+        (all.is
+        ∙ ap (λ later. later ++ log seat)
+        (lone-entries all.later (all-first all.later (log seat) (subst (All IsFirstEntry) all.is made)) ∙ ap (map entry_by_first) none))
 
 -- What one worker was answered is the plain map's text, but for commands that were refused for want of room, each where earlier
 -- commands may have filled the map.
@@ -397,12 +421,12 @@ pub lone-text :
     (m : MapOf) → IsPlan m.chain.shape
     → m.chain.shape.seats ≡ 1 → (phases : List Phase) (answers : List (List (List Answer))) (after : List SeatOf) (ended : EndedOf)
     → All (λ phase. All (λ task. task.0 < 1) phase) phases → HaveRun m phases answers (seats_of m 0 m.chain.shape.seats) after
-    → (end : EndedWith m.chain.shape after ended)
-    → IsLoneText m.chain.shape phases (flat_map (phase_text 0) answers ++ ending (map_of end.history))
+    → EndedWith after ended
+    → IsLoneText m.chain.shape phases (flat_map (phase_text 0) answers ++ ending (ended_map ended))
 lone-text m plan single phases answers after ended below ran end = record {
   full = full_at all;
   is =
-      ap (λ bytes. bytes ++ ending (map_of end.history)) done.lines ∙ ap (λ x. flat_map (answer_line 0) all ++ ending x) ends
+      ap (λ bytes. bytes ++ ending (ended_map ended)) done.lines ∙ ap (λ x. flat_map (answer_line 0) all ++ ending x) ends
       ∙ sym (text-plain (flat_map (λ phase. phase) phases) all map_none left (all-flat phases below)
       (subst (λ cs. ArePlain cs all map_none left) (same ∙ sym (commands-flat phases)) done.plain));
   absent = λ n c full is.
@@ -427,12 +451,12 @@ lone-text m plan single phases answers after ended below ran end = record {
     done = run-plain m plan single phases answers (new_seat m 0) after (record { number = refl }) from_new
 
     map_none : Numbers
-    map_none = map_of_calls []
+    map_none = map_of_log []
 
     left : Numbers
-    left = map_of_calls (calls_of done.seat.chain.seen 0)
+    left = map_of_log (log done.seat)
 
-    ends : map_of end.history ≡ left
+    ends : ended_map ended ≡ left
     ends = ended-plain m plan single after ended end done.seat done.is done.first
 
     just : AreJust m.chain.shape [] (flat_map (commands_of 0) phases) all

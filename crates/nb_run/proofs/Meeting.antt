@@ -6,24 +6,25 @@ use Rattle.std.specs.List.{All, AllZip}
 use Rattle.std.specs.Vec.{with_items}
 use Rattle.std.specs.declared.alloc.Global.{Global}
 use Rattle.std.specs.declared.vec.Vec.{Vec}
-use Rattle.nb_core.specs.declared.events.Event.{Event}
+use Rattle.nb_map.proofs.Theorems.{logs_add_up}
+use Rattle.nb_map.specs.Logs.{HasLogged, log}
 use Rattle.nb_map.specs.Maps.{IsMine, MapOf, SeatOf}
 use Rattle.nb_table.specs.Chains.{Extended}
 use Rattle.nb_table.proofs.Theorems.{steps_add_up}
-use Rattle.nb_table.specs.Views.{IsBeginning}
+use Rattle.nb_core.specs.Log.{Entry, IsBeginning}
 use Rattle.nb_run.specs.Working.{HasMet, HasMetAs, seats_of}
 use Rattle.nb_run.specs.declared.workers.Worker.{Worker}
-use Rattle.nb_run.proofs.CallLemmas.{HasSeenOf, beginning-grown, beginning-more}
+use Rattle.nb_run.proofs.CallLemmas.{IsSeenBy, beginning-logged, beginning-more}
 use Rattle.nb_run.proofs.Together.{all-zip-push, all-zip-then}
 
 -- what a seat has of a meeting with another one
 abbrev pub Meets : MapOf → (other before after : SeatOf) → Type 0
 Meets m other before after =
-    Extended m.chain.shape before.chain after.chain [] 1 × IsBeginning other.chain.seen after.chain.seen × (after.count ≡ before.count)
+    HasLogged before after [] × IsBeginning (log other) (log after) × Extended m.chain.shape before.chain after.chain [] 1 × (after.count ≡ before.count)
 
 -- who has seen more has heard of the same seats
-later-heard : (h h' : List Event) → IsBeginning h h' → (seats : List SeatOf) → All (HasSeenOf h) seats → All (HasSeenOf h') seats
-later-heard h h' begun = All-weaker (HasSeenOf h) (HasSeenOf h') (λ seat b. beginning-more b begun)
+later-heard : (h h' : List Entry) → IsBeginning h h' → (seats : List SeatOf) → All (IsSeenBy h) seats → All (IsSeenBy h') seats
+later-heard h h' begun = All-weaker (IsSeenBy h) (IsSeenBy h') (λ seat b. beginning-more b begun)
 
 -- lists with the same rest have the same element in front of it, and the same rest behind that
 pub same-at : {A : Type 0} (xs ys : List A) (i : ℕ) (d : A) → i < length xs → i < length ys → drop i ys ≡ drop i xs → get_or ys i d ≡ get_or xs i d
@@ -44,13 +45,24 @@ seated worker seat = record { number = worker.number; seat = seat; answers = wor
 module _ (m : MapOf) where
   -- ---- one seat
 
+  -- a seat that has met none
+  pub met-none : (seat : SeatOf) → IsMine m seat → HasMet m [] seat seat
+  met-none seat mine = record {
+    logged = logs_add_up.none mine;
+    heard = All-nil (IsSeenBy (log seat));
+    steps = 0;
+    grown = steps_add_up.none mine.chain;
+    counter = refl;
+  }
+
   -- a seat that has met one
   pub met-one : (other before after : SeatOf) → Meets m other before after → HasMet m (other ∷ []) before after
   met-one other before after meets = record {
+    logged = meets.0;
     steps = 1;
-    grown = steps_add_up.one meets.0;
-    counter = meets.2;
-    heard = All-cons (HasSeenOf after.chain.seen) other [] meets.1 (All-nil (HasSeenOf after.chain.seen));
+    grown = steps_add_up.one meets.2;
+    counter = meets.3;
+    heard = All-cons (IsSeenBy (log after)) other [] meets.1 (All-nil (IsSeenBy (log after)));
   }
 
   -- one meeting after another
@@ -58,24 +70,26 @@ module _ (m : MapOf) where
       (seats more : List SeatOf) (before now after : SeatOf) → HasMet m seats before now → HasMet m more now after
       → HasMet m (seats ++ more) before after
   met-then seats more before now after a b = record {
+    logged = logs_add_up.more a.logged b.logged;
     steps = a.steps + b.steps;
     grown = steps_add_up.more a.grown b.grown;
     counter = b.counter ∙ a.counter;
     heard =
-        All-append (HasSeenOf after.chain.seen) seats more (later-heard now.chain.seen after.chain.seen (beginning-grown b.grown) seats a.heard)
+        All-append (IsSeenBy (log after)) seats more (later-heard (log now) (log after) (beginning-logged b.logged) seats a.heard)
         b.heard;
   }
 
   -- of a seat that has heard more
   pub met-less :
-      (seats others : List SeatOf) (before after : SeatOf) → HasMet m others before after → All (HasSeenOf after.chain.seen) seats
+      (seats others : List SeatOf) (before after : SeatOf) → HasMet m others before after → All (IsSeenBy (log after)) seats
       → HasMet m seats before after
-  met-less seats others before after met heard = record { steps = met.steps; grown = met.grown; counter = met.counter; heard = heard }
+  met-less seats others before after met heard =
+      record { logged = met.logged; steps = met.steps; grown = met.grown; counter = met.counter; heard = heard }
 
   -- a seat has met itself
   pub met-itself : (seats : List SeatOf) (before after : SeatOf) → HasMet m seats before after → HasMet m (seats ++ before ∷ []) before after
   met-itself seats before after met = met-less (seats ++ before ∷ []) seats before after met
-      (All-push (HasSeenOf after.chain.seen) seats before met.heard (beginning-grown met.grown))
+      (All-push (IsSeenBy (log after)) seats before met.heard (beginning-logged met.logged))
 
   -- ---- one worker
 
@@ -110,7 +124,7 @@ module _ (m : MapOf) where
             (all_zip_more (HasMetAs m (s ∷ [])) workers (take i now) i worker (seated worker u) below at all
             (met-as (s ∷ []) worker u mine
             (met-less (s ∷ []) (t ∷ []) worker.seat u (met-one t worker.seat u b)
-            (All-cons (HasSeenOf u.chain.seen) s [] (beginning-more (beginning-grown met.grown) b.1) (All-nil (HasSeenOf u.chain.seen)))))),
+            (All-cons (IsSeenBy (log u)) s [] (beginning-more (beginning-logged met.logged) b.1) (All-nil (IsSeenBy (log u))))))),
         same-after workers now i (seated worker u) below below' rest,
       )
 
@@ -118,15 +132,15 @@ module _ (m : MapOf) where
 
   -- who has heard of them later has heard of them as they were
   heard-earlier :
-      (seats : List SeatOf) (h : List Event) (before after : List Worker) → AllZip (HasMetAs m seats) before after
-      → All (HasSeenOf h) (seats_of after) → All (HasSeenOf h) (seats_of before)
-  heard-earlier seats h [] [] all heard = All-nil (HasSeenOf h)
+      (seats : List SeatOf) (h : List Entry) (before after : List Worker) → AllZip (HasMetAs m seats) before after
+      → All (IsSeenBy h) (seats_of after) → All (IsSeenBy h) (seats_of before)
+  heard-earlier seats h [] [] all heard = All-nil (IsSeenBy h)
   heard-earlier seats h [] (v ∷ after) all heard = absurd all
   heard-earlier seats h (w ∷ before) [] all heard = absurd all
   heard-earlier seats h (w ∷ before) (v ∷ after) all heard =
-      All-cons (HasSeenOf h) w.seat (seats_of before)
-      (beginning-more (beginning-grown all.0.met.grown) (All-head (HasSeenOf h) v.seat (seats_of after) heard))
-      (heard-earlier seats h before after all.1 (All-tail (HasSeenOf h) v.seat (seats_of after) heard))
+      All-cons (IsSeenBy h) w.seat (seats_of before)
+      (beginning-more (beginning-logged all.0.met.logged) (All-head (IsSeenBy h) v.seat (seats_of after) heard))
+      (heard-earlier seats h before after all.1 (All-tail (IsSeenBy h) v.seat (seats_of after) heard))
 
   -- the last one has met the others, which meet then
   pub all-met :
@@ -150,10 +164,10 @@ module _ (m : MapOf) where
         own = b.own;
         met =
             let then = met-then (last.seat ∷ []) (seats_of between) w.seat v.seat u.seat a.met b.met in
-            let h = u.seat.chain.seen in
+            let h = log u.seat in
             met-less (seats_of before ++ last.seat ∷ []) (last.seat ∷ seats_of between) w.seat u.seat then
-            (All-push (HasSeenOf h) (seats_of before) last.seat (heard-earlier (last.seat ∷ []) h before between each b.met.heard)
-            (All-head (HasSeenOf h) last.seat (seats_of between) then.heard));
+            (All-push (IsSeenBy h) (seats_of before) last.seat (heard-earlier (last.seat ∷ []) h before between each b.met.heard)
+            (All-head (IsSeenBy h) last.seat (seats_of between) then.heard));
       }
 
 -- a vector's workers, after each has met these seats

@@ -6,17 +6,16 @@ use Rattle.std.specs.List.{All, flat_map}
 use Rattle.std.specs.FinMap.{entries, len-entries}
 use Rattle.std.specs.declared.alloc.Global.{Global}
 use Rattle.std.specs.declared.vec.Vec.{Vec}
-use Rattle.nb_core.specs.Calls.{Numbers}
-use Rattle.nb_core.specs.History.{IsLegal, map_of}
+use Rattle.nb_core.specs.Log.{Numbers}
+use Rattle.nb_core.specs.History.{IsLegal}
 use Rattle.nb_core.specs.Plans.{IsPlan, Plan}
-use Rattle.nb_table.specs.Left.{HoldsOfMap}
-use Rattle.nb_map.specs.Ending.{EndedOf, EndedWith}
+use Rattle.nb_map.specs.Ending.{EndedOf, EndedWith, HasTablesLeft, log_left, map_left}
 use Rattle.nb_map.specs.Maps.{AreMine, IsMine, MapOf, SeatOf, new_seat}
 use Rattle.nb_map.specs.Maps as maps
 use Rattle.nb_run.specs.Outcomes.{HaveWorkers, IsOutcome, lists_in, text_of_outcome}
 use Rattle.nb_run.specs.Script.{Phase}
 use Rattle.nb_run.specs.Text.{ending, ending_of}
-use Rattle.nb_run.specs.Told.{ArePhasesTold, IsLoneText, all_commands, phase_text}
+use Rattle.nb_run.specs.Told.{ArePhasesTold, IsLoneText, WasCrowded, all_commands, phase_text}
 use Rattle.nb_run.specs.Working.{AreNumbered, HasRoom, HaveRun, HaveRunAll, all_answers, answers_of, commands_of, joined, seats_of}
 use Rattle.nb_run.specs.declared.answers.Answer.{Answer}
 use Rattle.nb_run.specs.declared.outcome.Outcome.{Outcome}
@@ -236,10 +235,10 @@ ending-same m size es count are = ap₂ ending_of (count ∙ sym (len-entries m)
 pub is-outcome :
     (m : MapOf) → IsPlan m.chain.shape → (phases : List Phase)
     (before after : List Worker) (ended : EndedOf) (o : Outcome) → seats_of before ≡ maps.seats_of m 0 m.chain.shape.seats → All IsFresh before
-    → HaveRunAll m phases before after → EndedWith m.chain.shape (seats_of after) ended → lists_in o.answers.items ≡ answers_of after
-    → HoldsOfMap ended.tables (λ numbers. o.size ≡ length (entries numbers))
-    → HoldsOfMap ended.tables (λ numbers. o.entries.items ≡ entries numbers) → IsOutcome m.chain.shape phases o
-is-outcome m plan phases before after ended o are fresh ran end answers size kept = record {
+    → HaveRunAll m phases before after → EndedWith (seats_of after) ended → HasTablesLeft m.chain.shape (seats_of after) ended
+    → lists_in o.answers.items ≡ answers_of after → o.size ≡ length (entries (map_left ended))
+    → o.entries.items ≡ entries (map_left ended) → IsOutcome m.chain.shape phases o
+is-outcome m plan phases before after ended o are fresh ran end left answers size kept = record {
   few =
       omega (
         arith,
@@ -251,9 +250,11 @@ is-outcome m plan phases before after ended o are fresh ran end answers size kep
         plan.seats,
       );
   answered = joined-answers phases ran.answers (lists_in o.answers.items) in_lists;
-  history = end.history;
+  history = ended.tables.history;
   told = record {
-    legal = subst (λ q. IsLegal q end.history) end.shape end.left.legal;
+    legal = subst (λ q. IsLegal q ended.tables.history) left.shape left.left.legal;
+    replayed = end.replayed;
+    workers = made;
     answers = ran.answers;
     each = told.1;
     told = told.0;
@@ -274,13 +275,19 @@ is-outcome m plan phases before after ended o are fresh ran end answers size kep
     in_lists : AreJoined phases ran.answers (lists_in o.answers.items)
     in_lists = subst (AreJoined phases ran.answers) (sym answers) (run-joined m phases before after fresh ran)
 
-    crowded : MayFill p (all_commands phases) end.history
-    crowded = crowd-ended m plan phases ran.answers (seats_of after) ended from_new end
+    count : length (seats_of after) ≡ p.seats
+    count = run-all m phases before after p.seats are ran
 
-    told : ArePhasesTold p (all_commands phases) phases ran.answers [] end.history × All (IsEach p.seats) ran.answers
-    told = told-phases m phases ran.answers (seats_of after) ended (all_commands phases) from_new end crowded
+    made : All (λ entry. entry.seat < p.seats) (log_left ended)
+    made = subst (λ n. All (λ entry. entry.seat < n) (log_left ended)) count end.made
 
-    text : text_of_outcome phases o ≡ flat_map (phase_text 0) ran.answers ++ ending (map_of end.history)
+    crowded : MayFill p (all_commands phases) ended.tables.history
+    crowded = crowd-ended m plan phases ran.answers (seats_of after) ended from_new count end left
+
+    told : ArePhasesTold (WasCrowded p ended.tables.history (all_commands phases)) phases ran.answers [] (log_left ended) × All (IsEach p.seats) ran.answers
+    told = told-phases m phases ran.answers (seats_of after) ended (all_commands phases) from_new end left made crowded
+
+    text : text_of_outcome phases o ≡ flat_map (phase_text 0) ran.answers ++ ending (map_left ended)
     text =
         ap₂ (λ lines last. lines ++ last) (joined-lines phases ran.answers (lists_in o.answers.items) in_lists)
-        (ending-same (map_of end.history) o.size o.entries.items (size end.history end.left) (kept end.history end.left))
+        (ending-same (map_left ended) o.size o.entries.items size kept)

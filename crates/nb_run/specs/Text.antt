@@ -2,7 +2,8 @@
 use Rattle.std.specs.Prelude.{ℕ, suc, Bool, true, false, if◌then◌else◌, List, [], ◌∷◌, ◌++◌, codes, decimal, Option, Some, None, Result, Ok, Err}
 use Rattle.std.specs.List.{flat_map}
 use Rattle.std.specs.FinMap as map
-use Rattle.nb_core.specs.Calls.{Numbers, map_after, overflows, reply_of}
+use Rattle.nb_core.specs.Calls.{overflows}
+use Rattle.nb_core.specs.Log.{Numbers, map_after, reply_of}
 use Rattle.nb_core.specs.declared.calls.Call.{Call}
 use Rattle.nb_core.specs.declared.calls.Call.TheVariants as call
 use Rattle.nb_core.specs.declared.calls.Want.TheVariants.{Any, Absent, Present, Equal}

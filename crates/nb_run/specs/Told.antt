@@ -1,19 +1,16 @@
 -- What a text tells of a history, for any number of workers.
-use Rattle.std.specs.Prelude.{◌≡◌, ◌==◌, ◌≤◌, ◌-◌, ℕ, suc, Bool, not, true, List, [], ◌∷◌, ◌++◌, All, filter, length, map, slice_get, take, None, Some}
+use Rattle.std.specs.Prelude.{◌≡◌, ◌==◌, ◌≤◌, ◌<◌, ◌-◌, ℕ, suc, Bool, not, true, List, [], ◌∷◌, ◌++◌, All, filter, length, map, slice_get, take, None, Some}
 use Rattle.std.specs.FinMap.{empty, get}
 use Rattle.std.specs.List.{flat_map}
 use Rattle.std.specs.Set.{distinct_count}
 use Rattle.nb_core.specs.Calls.{leaves_alone, overflows}
-use Rattle.nb_core.specs.History.{IsLegal, key_of_call, map_of}
-use Rattle.nb_core.specs.Meaning.{IsCrowded, calls_of}
+use Rattle.nb_core.specs.History.{IsLegal, key_of_call}
+use Rattle.nb_core.specs.Log.{Entry, IsBeginning, IsReplayed, calls_of, log_of, map_of_log}
+use Rattle.nb_core.specs.Meaning.{IsCrowded}
 use Rattle.nb_core.specs.Plans.{Plan, generations_of, size_of}
-use Rattle.nb_core.specs.Tables.{tables_at}
 use Rattle.nb_core.specs.declared.calls.Call.{Call}
 use Rattle.nb_core.specs.declared.calls.Reply.{Reply}
 use Rattle.nb_core.specs.declared.events.Event.{Event}
-use Rattle.nb_table.specs.Chains.{own_events}
-use Rattle.nb_table.specs.Views.{IsBeginning}
-use Rattle.nb_map.specs.Calling.{MayMake}
 use Rattle.nb_run.specs.Script.{Bytes, Phase}
 use Rattle.nb_run.specs.Text.{answer_line, call_of, ending, map_behind, shown, text_of}
 use Rattle.nb_run.specs.Working.{commands_of}
@@ -41,53 +38,50 @@ MayCrowd p commands c = (may_put c ≡ true) × (size_of p (generations_of p - 1
 
 -- ---- answers and calls
 
--- A moment is given by the history until then, the newest event first. From one moment to a later one the worker made these
--- calls and no others, the newest first, and each of its events was such as the command's call may make.
-pub record HasDone (p : Plan) (w : ℕ) (c : Command) (calls : List (Call × Reply)) (before after : List Event) : Type 0 where
+-- A moment is given by the log until then. From one moment to a later one the worker made these calls and no others.
+pub record HasDone (w : ℕ) (calls : List (Call × Reply)) (before after : List Entry) : Type 0 where
   pub begun : IsBeginning before after
-  pub made : calls_of begun.later w ≡ calls
-  pub may : All (MayMake p (tables_at p after) (call_of c)) (own_events w begun.later)
+  pub made : calls_of w begun.later ≡ calls
 
--- From one moment to a later one the worker made no event.
-pub record HasRested (w : ℕ) (before after : List Event) : Type 0 where
-  pub begun : IsBeginning before after
-  pub none : own_events w begun.later ≡ []
+-- it made one call, that of the command, and this is what is shown of its reply
+abbrev pub IsCallShown : (w : ℕ) → Command → Answer → (before after : List Entry) → Type 0
+IsCallShown w c a before after = (reply : Reply) × (shown c reply ≡ a) × HasDone w ((call_of c, reply) ∷ []) before after
 
--- It made one call, that of the command, and this is what is shown of its reply.
-abbrev pub IsCallShown : Plan → (w : ℕ) → Command → Answer → (before after : List Event) → Type 0
-IsCallShown p w c a before after = (reply : Reply) × (shown c reply ≡ a) × HasDone p w c ((call_of c, reply) ∷ []) before after
+-- Where a command may be refused for want of room: a fact of the command and of the log until then.
+abbrev pub Refusals : Type 1
+Refusals = Command → List Entry → Type 0
 
 -- From one moment to the other the worker ran this command, which was answered so. A refused command made no call. One was
--- refused for want of room only where other keys had all slots of the last table at the later moment, and the script's
--- commands may have put them; and for its sum only where that was past the greatest number in the map of that moment.
-abbrev pub IsTold : Plan → List Command → (w : ℕ) → Command → Answer → (before after : List Event) → Type 0
-IsTold p script w c answer.Nothing before after = IsCallShown p w c answer.Nothing before after
-IsTold p script w c (answer.Value n) before after = IsCallShown p w c (answer.Value n) before after
-IsTold p script w c (answer.Matched b) before after = IsCallShown p w c (answer.Matched b) before after
-IsTold p script w c answer.Full before after = IsCrowded p after (key_of_command c) × MayCrowd p script c × HasDone p w c [] before after
-IsTold p script w c answer.Range before after = (overflows (call_of c) (map_of after) ≡ true) × HasDone p w c [] before after
+-- refused for want of room only where it may be; and for its sum only where that was past the greatest number in the map of
+-- that moment.
+abbrev pub IsTold : Refusals → (w : ℕ) → Command → Answer → (before after : List Entry) → Type 0
+IsTold full w c answer.Nothing before after = IsCallShown w c answer.Nothing before after
+IsTold full w c (answer.Value n) before after = IsCallShown w c (answer.Value n) before after
+IsTold full w c (answer.Matched b) before after = IsCallShown w c (answer.Matched b) before after
+IsTold full w c answer.Full before after = full c after × HasDone w [] before after
+IsTold full w c answer.Range before after = (overflows (call_of c) (map_of_log after) ≡ true) × HasDone w [] before after
 
 -- So one command after another, and nothing behind the last one.
-abbrev pub AreTold : Plan → List Command → (w : ℕ) → List Command → List Answer → (before after : List Event) → Type 0
-AreTold p script w [] [] before after = HasRested w before after
-AreTold p script w [] (a ∷ answers) before after = ⊥
-AreTold p script w (c ∷ cs) [] before after = ⊥
-AreTold p script w (c ∷ cs) (a ∷ answers) before after =
-    (next : List Event) × IsTold p script w c a before next × AreTold p script w cs answers next after
+abbrev pub AreTold : Refusals → (w : ℕ) → List Command → List Answer → (before after : List Entry) → Type 0
+AreTold full w [] [] before after = HasDone w [] before after
+AreTold full w [] (a ∷ answers) before after = ⊥
+AreTold full w (c ∷ cs) [] before after = ⊥
+AreTold full w (c ∷ cs) (a ∷ answers) before after =
+    (next : List Entry) × IsTold full w c a before next × AreTold full w cs answers next after
 
 -- From one moment to the other the workers from number w on ran their commands of the phase, each in their order.
-abbrev pub IsPhaseTold : Plan → List Command → Phase → (w : ℕ) → List (List Answer) → (before after : List Event) → Type 0
-IsPhaseTold p script phase w [] before after = Unit {0}
-IsPhaseTold p script phase w (mine ∷ others) before after =
-    AreTold p script w (commands_of w phase) mine before after × IsPhaseTold p script phase (suc w) others before after
+abbrev pub IsPhaseTold : Refusals → Phase → (w : ℕ) → List (List Answer) → (before after : List Entry) → Type 0
+IsPhaseTold full phase w [] before after = Unit {0}
+IsPhaseTold full phase w (mine ∷ others) before after =
+    AreTold full w (commands_of w phase) mine before after × IsPhaseTold full phase (suc w) others before after
 
--- One phase after another was run from the moment on, and the history ends with the last one.
-abbrev pub ArePhasesTold : Plan → List Command → List Phase → List (List (List Answer)) → (before history : List Event) → Type 0
-ArePhasesTold p script [] [] before history = history ≡ before
-ArePhasesTold p script [] (first ∷ answers) before history = ⊥
-ArePhasesTold p script (phase ∷ phases) [] before history = ⊥
-ArePhasesTold p script (phase ∷ phases) (first ∷ answers) before history =
-    (next : List Event) × IsPhaseTold p script phase 0 first before next × ArePhasesTold p script phases answers next history
+-- One phase after another was run from the moment on, and the log ends with the last one.
+abbrev pub ArePhasesTold : Refusals → List Phase → List (List (List Answer)) → (before log : List Entry) → Type 0
+ArePhasesTold full [] [] before log = log ≡ before
+ArePhasesTold full [] (first ∷ answers) before log = ⊥
+ArePhasesTold full (phase ∷ phases) [] before log = ⊥
+ArePhasesTold full (phase ∷ phases) (first ∷ answers) before log =
+    (next : List Entry) × IsPhaseTold full phase 0 first before next × ArePhasesTold full phases answers next log
 
 -- ---- the text
 
@@ -100,15 +94,22 @@ phase_text w (mine ∷ others) = flat_map (answer_line w) mine ++ phase_text (su
 abbrev pub all_commands : List Phase → List Command
 all_commands phases = flat_map (map (λ task. task.1)) phases
 
--- A legal history in which each worker's calls are those of its commands that weren't refused, with the answers that the text
--- shows, phase after phase; and each refusal was just at its moment. Behind the answers the text has the size and the entries
--- of the history's map.
+-- When the log of this history was so, other keys had all slots of the last table, and the script's commands may have put them.
+abbrev pub WasCrowded : Plan → List Event → List Command → Refusals
+WasCrowded p history script c at =
+    (then : List Event) × IsBeginning then history × (log_of then ≡ at) × IsCrowded p then (key_of_command c) × MayCrowd p script c
+
+-- A log in which each worker's calls are those of its commands that weren't refused, with the answers that the text shows, phase
+-- after phase; and each refusal was just at its moment. It is replayed, and behind the answers the text has the size and the
+-- entries of its map. It is the log of a legal history, which tells when the map was full.
 pub record IsToldBy (p : Plan) (phases : List Phase) (history : List Event) (text : Bytes) : Type 0 where
   pub legal : IsLegal p history
+  pub replayed : IsReplayed (log_of history)
+  pub workers : All (λ entry. entry.seat < p.seats) (log_of history)
   pub answers : List (List (List Answer))
   pub each : All (λ phase. length phase ≡ p.seats) answers
-  pub told : ArePhasesTold p (all_commands phases) phases answers [] history
-  pub is : text ≡ flat_map (phase_text 0) answers ++ ending (map_of history)
+  pub told : ArePhasesTold (WasCrowded p history (all_commands phases)) phases answers [] (log_of history)
+  pub is : text ≡ flat_map (phase_text 0) answers ++ ending (map_of_log (log_of history))
 
 -- ---- one worker
 

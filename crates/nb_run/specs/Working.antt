@@ -3,12 +3,14 @@ use Rattle.std.specs.Prelude.{◌≡◌, ◌==◌, ℕ, suc, List, [], ◌∷◌
 use Rattle.std.specs.List.{AllZip, flat_map}
 use Rattle.std.specs.declared.vec.Vec.{Vec}
 use Rattle.std.specs.declared.alloc.Global.{Global}
+use Rattle.nb_core.specs.Log.{IsBeginning}
 use Rattle.nb_core.specs.declared.calls.Reply.{Reply}
-use Rattle.nb_map.specs.Maps.{HasReplied, IsMine, MapOf, SeatOf}
+use Rattle.nb_map.specs.Calling.{HasStepped}
+use Rattle.nb_map.specs.Logs.{HasLogged, HasReplied, log}
+use Rattle.nb_map.specs.Maps.{IsMine, MapOf, SeatOf}
 use Rattle.nb_map.specs.Refusing.{HasRefused}
 use Rattle.nb_map.specs.declared.waiting.AddFault.TheVariants as fault
 use Rattle.nb_table.specs.Chains.{Grown}
-use Rattle.nb_table.specs.Views.{IsBeginning}
 use Rattle.nb_run.specs.Script.{Phase}
 use Rattle.nb_run.specs.Text.{call_of, shown}
 use Rattle.nb_run.specs.declared.script.Command.{Command}
@@ -17,23 +19,31 @@ use Rattle.nb_run.specs.declared.answers.Answer.TheVariants as answer
 use Rattle.nb_run.specs.declared.workers.Worker.{Worker}
 
 -- the seat made the command's call, and this is what is shown of its reply
-abbrev pub HasShown : MapOf → Command → Answer → (before after : SeatOf) → Type 0
-HasShown m c a before after = (reply : Reply) × (shown c reply ≡ a) × HasReplied m (call_of c) before after reply
+abbrev pub HasShown : Command → Answer → (before after : SeatOf) → Type 0
+HasShown c a before after = (reply : Reply) × (shown c reply ≡ a) × HasReplied (call_of c) before after reply
 
 -- The command was answered so: its call was made, or justly refused.
 abbrev pub IsAnswered : MapOf → Command → Answer → (before after : SeatOf) → Type 0
-IsAnswered m c answer.Nothing before after = HasShown m c answer.Nothing before after
-IsAnswered m c (answer.Value n) before after = HasShown m c (answer.Value n) before after
-IsAnswered m c (answer.Matched b) before after = HasShown m c (answer.Matched b) before after
+IsAnswered m c answer.Nothing before after = HasShown c answer.Nothing before after
+IsAnswered m c (answer.Value n) before after = HasShown c (answer.Value n) before after
+IsAnswered m c (answer.Matched b) before after = HasShown c (answer.Matched b) before after
 IsAnswered m c answer.Full before after = HasRefused m (call_of c) before after fault.Full
 IsAnswered m c answer.Range before after = HasRefused m (call_of c) before after fault.ValueRange
+
+-- the seat's steps were such as the command's call may make
+abbrev pub HasWorkedFor : MapOf → Command → (before after : SeatOf) → Type 0
+HasWorkedFor m c before after = (most : ℕ) × HasStepped m.chain.shape (call_of c) before.chain after.chain most
+
+-- it was answered so, by such steps
+abbrev pub HasAnswered : MapOf → Command → Answer → (before after : SeatOf) → Type 0
+HasAnswered m c a before after = IsAnswered m c a before after × HasWorkedFor m c before after
 
 -- one command after another was answered so
 abbrev pub AreAnswered : MapOf → List Command → List Answer → (before after : SeatOf) → Type 0
 AreAnswered m [] [] before after = after ≡ before
 AreAnswered m [] (a ∷ answers) before after = ⊥
 AreAnswered m (c ∷ cs) [] before after = ⊥
-AreAnswered m (c ∷ cs) (a ∷ answers) before after = (next : SeatOf) × IsAnswered m c a before next × AreAnswered m cs answers next after
+AreAnswered m (c ∷ cs) (a ∷ answers) before after = (next : SeatOf) × HasAnswered m c a before next × AreAnswered m cs answers next after
 
 -- a worker's commands of a phase, in their order
 abbrev pub commands_of : ℕ → Phase → List Command
@@ -45,12 +55,13 @@ PhaseRan m phase w [] [] [] = Unit {0}
 PhaseRan m phase w (mine ∷ others) (s ∷ before) (t ∷ after) = AreAnswered m (commands_of w phase) mine s t × PhaseRan m phase (suc w) others before after
 PhaseRan m phase w _ _ _ = ⊥
 
--- The seat has made no event since, and has seen what all these seats had.
+-- The seat has made no call since, and no event, and its log goes on from those of all these seats.
 pub record HasMet (m : MapOf) (seats : List SeatOf) (before after : SeatOf) : Type 0 where
+  pub logged : HasLogged before after []
+  pub heard : All (λ seat. IsBeginning (log seat) (log after)) seats
   pub steps : ℕ
   pub grown : Grown m.chain.shape before.chain after.chain [] steps
   pub counter : after.count ≡ before.count
-  pub heard : All (λ seat. IsBeginning seat.chain.seen after.chain.seen) seats
 
 -- every two of the seats have met
 abbrev pub HaveMet : MapOf → (before after : List SeatOf) → Type 0

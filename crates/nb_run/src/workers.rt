@@ -3,7 +3,7 @@ ghost use Rattle.std.specs.Prelude.{◌≡◌, ◌<◌, ◌∷◌, ◌++◌, [],
 ghost use Rattle.std.specs.Thread.{IsSync};
 ghost use Rattle.nb_map.specs.Maps.{IsMine};
 ghost use Rattle.std.specs.List.{AllZip};
-ghost use Rattle.nb_run.specs.Working.{AreNumbered, HasMet, HasMetAs, HasRoom, HasRunPhase, HaveRunAll, IsAnswered, IsReady, IsRun, phases_in, seats_of};
+ghost use Rattle.nb_run.specs.Working.{AreNumbered, HasMet, HasMetAs, HasRoom, HasRunPhase, HasWorkedFor, HaveRunAll, IsAnswered, IsReady, IsRun, phases_in, seats_of};
 
 use crate::answers::Answer;
 use crate::gate::Gate;
@@ -30,6 +30,7 @@ impl Command {
         requires own { IsMine map.now seat.old }
         ensures own { IsMine map.now seat.new }
         ensures answered { IsAnswered map.now self.now result seat.old seat.new }
+        ensures worked { HasWorkedFor map.now self.now seat.old seat.new }
     {
         match *self {
             Command::Get(key) => Answer::before(map.get(seat, key)),

@@ -1,24 +1,33 @@
 -- One token gathers the parts of all seats, and what it knows fits the words that are left.
-use Rattle.std.proofs.Common.{◌≡◌, ◌∙◌, ℕ, ◌+◌, ◌<◌, ◌==◌, cond, ap, sym, subst, refl, true, false, List, [], ◌∷◌, ◌++◌, length, length-append, slice_set, All, arith}
+use Rattle.std.proofs.Common.{◌≡◌, ◌∙◌, ◌⊎◌, ℕ, ◌+◌, ◌<◌, ◌≤◌, ◌==◌, cond, ap, sym, subst, subst₂, refl, inl, inr, true, false, List, [], ◌∷◌, ◌++◌, length, length-append, map, All, arith}
 use mathlib.Core.Option.{some}
 use lib.ListN.{get_elem?}
 use Rattle.std.specs.List.{count_by}
-use Rattle.std.proofs.lemmas.List.{nil_from_length}
-use Rattle.std.proofs.lemmas.List.Elements.{All-head, All-nil, All-push, All-same}
-use Rattle.std.proofs.lemmas.List.Sums.{sum_by-append}
+use Rattle.std.specs.List.Sorted.{IsPermutation}
+use Rattle.std.proofs.lemmas.Bool.{cases_lt, le-ltb, lt-ltb}
+use Rattle.std.proofs.lemmas.List.{append-nil, append_assoc, length-map, map-append, nil_from_length}
+use Rattle.std.proofs.lemmas.List.Elements.{All-cons, All-contains, All-head, All-map, All-nil, All-same, All-tail, All-weaker}
+use Rattle.std.proofs.lemmas.List.Sorted.{All-permutation, IsPermutation-append_comm, IsPermutation-append_right, IsPermutation-map, IsPermutation-sym, IsPermutation-trans, length_permutation, sum_by-IsPermutation}
+use Rattle.std.proofs.lemmas.List.Sums.{sum_by-cons}
 use Rattle.atomic_table.specs.Seated.{TableId}
 use Rattle.atomic_table.specs.Table.{Final, Seen, State}
 use Rattle.atomic_table.specs.declared.shared.Seat.{Seat}
-use Rattle.nb_core.specs.Plans.{Plan}
+use Rattle.nb_core.specs.History.{IsLegal}
+use Rattle.nb_core.specs.Plans.{IsPlan, Plan}
+use Rattle.nb_core.specs.Tables.{words_of}
 use Rattle.nb_core.specs.declared.events.Event.{Event}
 use Rattle.nb_table.specs.Chains.{AreOwn, ChainOf, IsOwn, SeenBy}
+use Rattle.nb_table.specs.Closing.{most_seen}
 use Rattle.nb_table.specs.Gathered.{ClosedWith, HasGathered}
-use Rattle.nb_table.specs.Inside.{IsSeat, part_of, seat_of}
+use Rattle.nb_table.specs.Inside.{IsSeat, part_of, seat_of, seat_with}
 use Rattle.nb_table.specs.Left.{ClosedOf}
-use Rattle.nb_table.specs.Views.{HasSeen, IsChained, all_parts, joined, spent_view}
+use Rattle.nb_core.specs.Log.{IsBeginning}
+use Rattle.nb_table.specs.Views.{HasSeen, IsChained, all_parts, joined}
 use Rattle.nb_table.specs.declared.chain.ChainSeat.TheInside as seat
+use Rattle.nb_table.specs.declared.view.Part.{Part}
 use Rattle.nb_table.specs.declared.view.View.{View}
-use Rattle.nb_table.proofs.Parted.{All-left, All-right, Fits, parts-at, sum-set, times-append, times_among}
+use Rattle.nb_table.proofs.Newest.{newest_is_seen}
+use Rattle.nb_table.proofs.Parted.{All-left, All-right, All-unmap, apart, times-cons, times_among}
 
 -- ---- lists whose last was taken
 
@@ -33,15 +42,6 @@ own-last chain seats left s is own =
     All-head (IsOwn chain) s [] (All-right (IsOwn chain) left (s ∷ [])
     (All-same (IsOwn chain) (left ++ s ∷ []) seats (sym is) own))
 
--- how many of these seats have this number
-abbrev times_numbered : ℕ → List SeenBy → ℕ
-times_numbered n = count_by (λ seat. seat.number == n)
-
-times_numbered-append :
-    (n : ℕ) (left : List SeenBy) (s : SeenBy)
-    → times_numbered n (left ++ s ∷ []) ≡ times_numbered n left + times_numbered n (s ∷ [])
-times_numbered-append n left s = sum_by-append (λ seat. cond (seat.number == n) 1 0) left (s ∷ [])
-
 -- a list from which nothing can be taken is empty
 pub none-left : (left : List SeenBy) → (0 < length left → false ≡ true) → left ≡ []
 none-left [] none = refl
@@ -49,24 +49,14 @@ none-left (x ∷ left) none = absurd (let e : false ≡ true = none (omega arith
 
 -- ---- gathering
 
--- the seat has seen a beginning of the history, and made no event since
-abbrev FitsSeat : List Event → SeenBy → Type 0
-FitsSeat history seat = HasSeen history seat.number seat.seen
-
--- a seat has seen what its one part has
-seen-by :
-    (h : List Event) (s : seat.Inside) (next : SeenBy) → IsSeat s → seat_of s ≡ next → All (Fits h) s.seat.me.0.parts
-    → FitsSeat h next
-seen-by h s next is_seat view fits =
+-- what a token of a chain's seat knows is the seat
+one-seat :
+    (chain : TableId) (s : seat.Inside) (next : SeenBy) → IsSeat s → seat_of s ≡ next → next.chain ≡ chain
+    → map (seat_with chain) s.seat.me.0.parts ≡ next ∷ []
+one-seat chain s next is_seat view own =
     let part = part_of s.seat.me.0.parts in
-    let own = All-head (Fits h) part [] (All-same (Fits h) (part ∷ []) s.seat.me.0.parts (sym is_seat.one) fits) in
-    subst (FitsSeat h) view own
-
--- and its number is its one part's
-numbered-by :
-    (n : ℕ) (s : seat.Inside) (next : SeenBy) → IsSeat s → seat_of s ≡ next
-    → times_among n s.seat.me.0.parts ≡ times_numbered n (next ∷ [])
-numbered-by n s next is_seat view = ap (times_among n) is_seat.one ∙ ap (λ v. times_numbered n (v ∷ [])) view
+    let table : chain ≡ s.seat.table_id = sym (ap (λ v. v.chain) view ∙ own) in
+    ap (map (seat_with chain)) is_seat.one ∙ ap (λ id. seat_with id part ∷ []) table ∙ ap (λ v. v ∷ []) view
 
 -- one seat's token, where the others are left
 pub gathered-first :
@@ -75,80 +65,165 @@ pub gathered-first :
 gathered-first chain s last left seats is_seat view is own = record {
   own = ap (λ v. v.chain) view ∙ own;
   free = is_seat.free;
-  count = omega (arith, ap length is_seat.one, ap length is, length-append left (last ∷ []));
-  times = λ n. omega (arith, numbered-by n s last is_seat view, ap (times_numbered n) is, times_numbered-append n left last);
-  seen =
-      λ h fits others. All-same (FitsSeat h) seats (left ++ last ∷ []) is
-      (All-push (FitsSeat h) left last others (seen-by h s last is_seat view fits));
+  are =
+      subst₂ IsPermutation (ap (λ parts. parts ++ left) (sym (one-seat chain s last is_seat view own))) (sym is)
+      (IsPermutation-append_comm (last ∷ []) left);
 }
 
 -- one seat's token more
 pub gathered-more :
     (chain : TableId) (token token' : Seat (Unit {0}) View) (s : seat.Inside) (next : SeenBy) (left left' seats : List SeenBy)
-    → HasGathered chain token left' seats → IsSeat s → seat_of s ≡ next → left' ≡ left ++ next ∷ []
+    → HasGathered chain token left' seats → IsSeat s → seat_of s ≡ next → left' ≡ left ++ next ∷ [] → next.chain ≡ chain
     → token'.table_id ≡ token.table_id → token'.me ≡ (joined token.me.0 s.seat.me.0, token.me.1)
     → HasGathered chain token' left seats
-gathered-more chain token token' s next left left' seats g is_seat view is table me = record {
+gathered-more chain token token' s next left left' seats g is_seat view is own table me = record {
   own = table ∙ g.own;
   free = ap (λ m. m.1) me ∙ g.free;
-  count =
-      let first = g.count in
-      omega (
-        arith,
-        first,
-        ap length parts,
-        length-append token.me.0.parts s.seat.me.0.parts,
-        ap length is_seat.one,
-        ap length is,
-        length-append left (next ∷ []),
-      );
-  times = λ n.
-      let first = g.times n in
-      omega (
-        arith,
-        first,
-        ap (times_among n) parts,
-        times-append n token.me.0.parts s.seat.me.0.parts,
-        numbered-by n s next is_seat view,
-        ap (times_numbered n) is,
-        times_numbered-append n left next,
-      );
-  seen = λ h fits others.
-      let all = All-same (Fits h) (token.me.0.parts ++ s.seat.me.0.parts) token'.me.0.parts (sym parts) fits in
-      let own = seen-by h s next is_seat view (All-right (Fits h) token.me.0.parts s.seat.me.0.parts all) in
-      g.seen h (All-left (Fits h) token.me.0.parts s.seat.me.0.parts all)
-      (All-same (FitsSeat h) left' (left ++ next ∷ []) is (All-push (FitsSeat h) left next others own));
+  are =
+      let knows = map (seat_with chain) in
+      let before = knows token.me.0.parts in
+      let parts = ap (λ m. knows m.0.parts) me ∙ map-append (seat_with chain) token.me.0.parts s.seat.me.0.parts
+      ∙ ap (λ seats. before ++ seats) (one-seat chain s next is_seat view own) in
+      let joined = ap (λ seats. seats ++ left) parts ∙ append_assoc before (next ∷ []) left in
+      let moved = IsPermutation-append_right before (next ∷ left) (left ++ next ∷ []) (IsPermutation-append_comm (next ∷ []) left) in
+      IsPermutation-trans (knows token'.me.0.parts ++ left) (before ++ left') seats
+      (subst₂ IsPermutation (sym joined) (ap (λ seats. before ++ seats) (sym is)) moved) g.are;
 }
-  where
-    parts : token'.me.0.parts ≡ token.me.0.parts ++ s.seat.me.0.parts
-    parts = ap (λ m. m.0.parts) me
+
+-- ---- the history
+
+-- the seat has seen a beginning of the history, and made no event since
+abbrev FitsSeat : List Event → SeenBy → Type 0
+FitsSeat history seat = HasSeen history seat.number seat.seen
+
+-- a seat adds to the most that was seen, or sees no more
+most-cases :
+    (seat : SeenBy) (seats : List SeenBy) → let rest = most_seen seats in
+    ((length rest < length seat.seen) × (most_seen (seat ∷ seats) ≡ seat.seen))
+    ⊎ ((length seat.seen ≤ length rest) × (most_seen (seat ∷ seats) ≡ rest))
+most-cases seat seats =
+    let rest = most_seen seats in
+    elim (cases_lt (length rest) (length seat.seen)) [
+      | inl more ↦ inl (more, ap (λ b. cond b seat.seen rest) (lt-ltb (length rest) (length seat.seen) more))
+      | inr less ↦ inr (less, ap (λ b. cond b seat.seen rest) (le-ltb (length rest) (length seat.seen) less))
+    ]
+
+-- no seat has seen more than the most
+most : (seats : List SeenBy) → All (λ seat. length seat.seen ≤ length (most_seen seats)) seats
+most [] = All-nil (λ seat. length seat.seen ≤ 0)
+most (seat ∷ seats) =
+    let within = λ (n : ℕ) (s : SeenBy). length s.seen ≤ n in
+    let all = most seats in
+    elim (most-cases seat seats) [
+      | inl more ↦
+          subst (λ (seen : List Event). All (within (length seen)) (seat ∷ seats)) (sym more.1)
+          (All-cons (within (length seat.seen)) seat seats (omega arith)
+          (All-weaker (within (length (most_seen seats))) (within (length seat.seen)) (λ s less. omega (arith, more.0, less)) seats all))
+      | inr less ↦
+          subst (λ (seen : List Event). All (within (length seen)) (seat ∷ seats)) (sym less.1)
+          (All-cons (within (length (most_seen seats))) seat seats less.0 all)
+    ]
+
+-- where each has seen a beginning, the most is one too
+most-begins : (h : List Event) (seats : List SeenBy) → All (FitsSeat h) seats → IsBeginning (most_seen seats) h
+most-begins h [] all = record { later = h; is = sym (append-nil h) }
+most-begins h (seat ∷ seats) all =
+    let fits = All-head (FitsSeat h) seat seats all in
+    elim (most-cases seat seats) [
+      | inl more ↦ subst (λ seen. IsBeginning seen h) (sym more.1) (record { later = fits.later; is = fits.is })
+      | inr less ↦ subst (λ seen. IsBeginning seen h) (sym less.1) (most-begins h seats (All-tail (FitsSeat h) seat seats all))
+    ]
+
+-- a beginning that is as long is the whole
+whole-beginning : (seen h : List Event) → IsBeginning seen h → length h ≤ length seen → seen ≡ h
+whole-beginning seen h b long =
+    let none = nil_from_length b.later (omega (arith, ap length b.is, length-append b.later seen, long)) in
+    sym (b.is ∙ ap (λ later. later ++ seen) none)
 
 -- ---- the words
 
--- where one token has as many parts as there are, it has each number
-times-whole :
-    (p : Plan) (s : State (Unit {0}) View) (id : ℕ) (v : View) → IsChained p s → get_elem? s.views id ≡ some v
-    → length v.parts ≡ p.seats → (n : ℕ) → n < p.seats → times_among n v.parts ≡ 1
-times-whole p s id v rule at whole n below =
-    let rest : length (all_parts (slice_set s.views id spent_view)) ≡ 0
-    = omega (arith, sum-set length length-append s.views id v spent_view at, whole, rule.count) in
-    let none : times_among n (all_parts (slice_set s.views id spent_view)) ≡ 0 = ap (times_among n) (nil_from_length _ rest) in
-    omega (arith, none, sum-set (times_among n) (times-append n) s.views id v spent_view at, rule.once n below)
+module _ (p : Plan) (s : State (Unit {0}) View) (rule : IsChained p s) (token : Seat (Unit {0}) View)
+    (at : get_elem? s.views token.id ≡ some token.me.0) (chain : TableId) (seats : List SeenBy)
+    (gathered : HasGathered chain token [] seats) (all : length seats ≡ p.seats) where
+  abbrev knows : Part → SeenBy
+  knows = seat_with chain
+
+  -- the token has all parts
+  all-there : IsPermutation (map knows (all_parts s.views)) seats
+  all-there =
+      let there = apart s.views token.id token.me.0 at in
+      let parts = token.me.0.parts in
+      let known = subst (λ known. IsPermutation known seats) (append-nil (map knows parts)) gathered.are in
+      let none = nil_from_length there.rest (omega (
+        arith,
+        length_permutation (all_parts s.views) (parts ++ there.rest) there.is,
+        length-append parts there.rest,
+        length_permutation (map knows parts) seats known,
+        length-map parts knows,
+        rule.count,
+        all,
+      )) in
+      let are = subst (IsPermutation (all_parts s.views)) (ap (λ rest. parts ++ rest) none ∙ append-nil parts) there.is in
+      IsPermutation-trans (map knows (all_parts s.views)) (map knows parts) seats
+      (IsPermutation-map knows (all_parts s.views) parts are) known
+
+  -- each seat fits the history
+  all-fit : All (FitsSeat rule.history) seats
+  all-fit =
+      All-permutation (FitsSeat rule.history) (map knows (all_parts s.views)) seats all-there
+      (All-map (FitsSeat rule.history) knows (all_parts s.views) rule.seen)
+
+  -- and what a part has seen, one of them has
+  no-more : All (λ part. length part.seen ≤ length (most_seen seats)) (all_parts s.views)
+  no-more =
+      let P : SeenBy → Type 0 = λ seat. length seat.seen ≤ length (most_seen seats) in
+      All-unmap P knows (all_parts s.views)
+      (All-permutation P seats (map knows (all_parts s.views))
+      (IsPermutation-sym (map knows (all_parts s.views)) seats all-there) (most seats))
+
+  -- who made the newest event has seen all
+  length-most : length rule.history ≤ length (most_seen seats)
+  length-most = of rule.history refl
+    where
+      of : (h : List Event) → rule.history ≡ h → length h ≤ length (most_seen seats)
+      of [] is = omega arith
+      of (e ∷ h) is =
+          let maker = newest_is_seen p s rule e h is in
+          let less = All-contains (λ part. length part.seen ≤ length (most_seen seats)) (all_parts s.views) maker.0 no-more maker.1 in
+          omega (arith, less, ap length (maker.3 ∙ is))
+
+  most-is : most_seen seats ≡ rule.history
+  most-is = whole-beginning (most_seen seats) rule.history (most-begins rule.history seats all-fit) length-most
+
+  times-there : (n : ℕ) → n < p.seats → count_by (λ seat. seat.number == n) seats ≡ 1
+  times-there n below =
+      let one = λ (seat : SeenBy). cond (seat.number == n) 1 0 in
+      sum_by-IsPermutation one (map knows (all_parts s.views)) seats all-there ∙ mapped (all_parts s.views) ∙ rule.once n below
+    where
+      mapped : (parts : List Part) → count_by (λ seat. seat.number == n) (map knows parts) ≡ times_among n parts
+      mapped [] = refl
+      mapped (part ∷ parts) =
+          sum_by-cons (λ seat. cond (seat.number == n) 1 0) (knows part) (map knows parts)
+          ∙ ap (λ m. cond (part.number == n) 1 0 + m) (mapped parts) ∙ sym (times-cons n part parts)
 
 -- what is left of a chain, where one token has gathered all seats
 pub closed-with :
-    (closed : ClosedOf) (key : Plan) → key ≡ closed.shape → (chain : TableId) (token : Seat (Unit {0}) View)
+    (closed : ClosedOf) → IsPlan closed.shape → (key : Plan) → key ≡ closed.shape → (chain : TableId) (token : Seat (Unit {0}) View)
     (seats : List SeenBy) (slots : List (Unit {0})) → HasGathered chain token [] seats → length seats ≡ closed.shape.seats
+    → closed.history ≡ most_seen seats
     → Final (Seen (IsChained key) token.id token.me.0) closed.words slots → ClosedWith seats closed
-closed-with closed key same chain token seats slots g all final =
+closed-with closed plan key same chain token seats slots g all history final =
     let p = closed.shape in
-    let rule : IsChained p final.0 = subst (λ k. IsChained k final.0) same final.1.0 in
-    let count : length token.me.0.parts ≡ p.seats = omega (arith, g.count, all) in
+    let s = final.0 in
+    let rule : IsChained p s = subst (λ k. IsChained k s) same final.1.0 in
+    let at = final.1.1 in
+    let is : rule.history ≡ closed.history = sym (history ∙ most-is p s rule token at chain seats g all) in
     record {
-      history = rule.history;
-      left = record { legal = rule.legal; is = sym final.2 ∙ rule.words };
-      seen =
-          g.seen rule.history (parts-at (Fits rule.history) final.0.views token.id token.me.0 final.1.1 rule.seen)
-          (All-nil (FitsSeat rule.history));
-      once = λ n below. omega (arith, g.times n, times-whole p final.0 token.id token.me.0 rule final.1.1 count n below);
+      left = record {
+        plan = plan;
+        legal = subst (IsLegal p) is rule.legal;
+        is = sym final.2 ∙ rule.words ∙ ap (words_of p) is;
+      };
+      seen = subst (λ h. All (FitsSeat h) seats) is (all-fit p s rule token at chain seats g all);
+      once = times-there p s rule token at chain seats g all;
     }

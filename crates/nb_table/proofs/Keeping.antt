@@ -13,7 +13,8 @@ use Rattle.nb_core.specs.History.{IsLegal, seat_of_event}
 use Rattle.nb_core.specs.declared.events.Event.{Event}
 use Rattle.nb_table.specs.Inside.{part_of}
 use Rattle.nb_table.specs.Steps.{Can, MayStep}
-use Rattle.nb_table.specs.Views.{HasMoved, IsBeginning, IsChained, Moves, all_parts, moved}
+use Rattle.nb_core.specs.Log.{IsBeginning}
+use Rattle.nb_table.specs.Views.{HasMoved, IsChained, Moves, all_parts, moved}
 use Rattle.nb_table.specs.declared.view.Part.{Part}
 use Rattle.nb_table.specs.declared.view.View.{View}
 use Rattle.nb_table.proofs.Parted.{All-at, Fits, IsTold, times-cons, times_among}

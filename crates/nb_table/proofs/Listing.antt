@@ -4,14 +4,14 @@ use Rattle.std.specs.FinMap.{empty, get, get-empty, get-insert, insert, nat_cmp-
 use Rattle.std.specs.Cmp.{nat_cmp_total, unsigned_tied}
 use Rattle.std.specs.Ordering.{eq_by_cmp, nat_cmp}
 use Rattle.std.proofs.lemmas.Bool.{cases_eq, eq-eqb, eqb-false, ne_eqb}
-use Rattle.nb_core.specs.Calls.{Numbers}
-use Rattle.nb_core.specs.Plans.{IsPlan, generations_of, size_of}
+use Rattle.nb_core.specs.Log.{Numbers}
+use Rattle.nb_core.specs.Plans.{generations_of, size_of}
 use Rattle.nb_core.specs.Tables.{IsInstalled, tables_at}
 use Rattle.nb_core.specs.History.{map_of}
 use Rattle.nb_core.specs.Meaning.{is_installed}
 use Rattle.nb_core.specs.Laws.{AreLinked}
 use Rattle.nb_core.specs.declared.states.KeyState.TheVariants.{Claimed}
-use Rattle.nb_table.specs.Left.{ClosedOf, HoldsOfMap, tables_left}
+use Rattle.nb_table.specs.Left.{ClosedOf, IsLeft, tables_left}
 use Rattle.nb_table.specs.Listing.{HasRight, IsListing}
 use Rattle.nb_table.proofs.Looking.{of-left}
 use Rattle.nb_core.proofs.Theorems.{held_has_place, linked, place_is, top_complete}
@@ -53,7 +53,7 @@ module _ (closed : ClosedOf) where
       | inl same ↦ inr (subst (HasRight closed found') (sym same) right)
       | inr other ↦ elim (listing.so_far k) [
         | inl none ↦ inl (others k other ∙ none)
-        | inr before ↦ inr (λ h left. others k other ∙ before h left)
+        | inr before ↦ inr (others k other ∙ before)
       ]
     ];
     tables = λ f j k from below slot is. kept k (listing.tables f j k from below slot is);
@@ -69,16 +69,16 @@ module _ (closed : ClosedOf) where
       kept : (k : ℕ) → HasRight closed found k → HasRight closed found' k
       kept k before = elim (cases_eq k key) [
         | inl same ↦ subst (HasRight closed found') (sym same) right
-        | inr other ↦ λ h left. others k other ∙ before h left
+        | inr other ↦ others k other ∙ before
       ]
 
   -- the key of a slot that the map hasn't got
   pub listing-without :
       (found : Numbers) (g i key : ℕ) → (tables_left closed).key g i ≡ Claimed key
-      → HoldsOfMap closed (λ m. None ≡ get m key) → IsListing closed found g i → IsListing closed found g (i + 1)
+      → None ≡ get (map_of closed.history) key → IsListing closed found g i → IsListing closed found g (i + 1)
   listing-without found g i key here none listing =
       let right : HasRight closed found key = elim (listing.so_far key) [
-        | inl nothing ↦ λ h left. nothing ∙ none h left
+        | inl nothing ↦ nothing ∙ none
         | inr before ↦ before
       ] in
       listing-key found found g i key here right (λ k other. refl) listing
@@ -86,12 +86,12 @@ module _ (closed : ClosedOf) where
   -- the key of a slot that the map has, put with its number
   pub listing-put :
       (found found' : Numbers) (g i key number : ℕ) → (tables_left closed).key g i ≡ Claimed key
-      → HoldsOfMap closed (λ m. Some number ≡ get m key) → found' ≡ insert found key number
+      → Some number ≡ get (map_of closed.history) key → found' ≡ insert found key number
       → IsListing closed found g i → IsListing closed found' g (i + 1)
   listing-put found found' g i key number here some put listing =
       let at = λ (k : ℕ). ap (λ m. get m k) put ∙ get-insert nat_cmp_total found key number k in
       listing-key found found' g i key here
-      (λ h left. at key ∙ ap (λ b. cond b (Some number) (get found key)) (own key) ∙ some h left)
+      (at key ∙ ap (λ b. cond b (Some number) (get found key)) (own key) ∙ some)
       (λ k other. at k ∙ ap (λ b. cond b (Some number) (get found k)) (apart k key other)) listing
     where
       own : (k : ℕ) → eq_by_cmp nat_cmp k k ≡ true
@@ -134,29 +134,30 @@ module _ (closed : ClosedOf) where
 
   -- Each key that the map has was found at its place from the top word on, so once all tables are done the two are the same.
   pub listing-all :
-      IsPlan closed.shape → (found : Numbers) (g : ℕ)
-      → generations_of closed.shape ≤ g → IsListing closed found g 0 → HoldsOfMap closed (λ m. found ≡ m)
-  listing-all plan found g whole listing history from =
-      same_map nat_cmp_total nat_cmp-IsAntisymmetric found (map_of history) (λ k.
+      IsLeft closed → (found : Numbers) (g : ℕ) → generations_of closed.shape ≤ g → IsListing closed found g 0
+      → found ≡ map_of closed.history
+  listing-all is found g whole listing =
+      same_map nat_cmp_total nat_cmp-IsAntisymmetric found (map_of closed.history) (λ k.
       elim (listing.so_far k) [
-        | inl none ↦ same-none k none (get (map_of history) k) refl
-        | inr right ↦ right history from
+        | inl none ↦ same-none k none (get (map_of closed.history) k) refl
+        | inr right ↦ right
       ])
     where
       same-none :
-          (k : ℕ) → get found k ≡ None → (number : Option ℕ) → get (map_of history) k ≡ number
-          → get found k ≡ get (map_of history) k
-      same-none k none None is = none ∙ sym is
-      same-none k none (Some n) is =
+          (k : ℕ) → get found k ≡ None → (number : Option ℕ) → get (map_of closed.history) k ≡ number
+          → get found k ≡ get (map_of closed.history) k
+      same-none k none None is_none = none ∙ sym is_none
+      same-none k none (Some n) is_some =
           let p = closed.shape in
-          let legal = from.legal in
-          let top = (tables_at p history).top in
-          let links = linked p plan history legal in
-          let found_at = held_has_place p plan history legal top k n (links.within top links.top)
-          (λ f below. (top_complete p plan history legal f below).1) is in
+          let h = closed.history in
+          let legal = is.legal in
+          let top = (tables_at p h).top in
+          let links = linked p is.plan h legal in
+          let found_at = held_has_place p is.plan h legal top k n (links.within top links.top)
+          (λ f below. (top_complete p is.plan h legal f below).1) is_some in
           let f = found_at.0.0 in
           let i = found_at.0.1 in
-          let first = (place_is p plan history legal top k f i).0 found_at.1 in
-          let claimed = of-left closed history from (λ t. t.key f i ≡ Claimed k) first.is in
-          let above = of-left closed history from (λ t. t.top ≤ f) first.from in
-          listing.tables f i k above (omega (arith, first.slot.0)) first.slot claimed history from
+          let first = (place_is p is.plan h legal top k f i).0 found_at.1 in
+          let claimed = of-left closed is (λ t. t.key f i ≡ Claimed k) first.is in
+          let above = of-left closed is (λ t. t.top ≤ f) first.from in
+          listing.tables f i k above (omega (arith, first.slot.0)) first.slot claimed

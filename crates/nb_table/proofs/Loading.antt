@@ -6,7 +6,8 @@ use Rattle.std.proofs.Math.Nat.{mod-add-mod, mod-eq-sub-mod, mod-eq_of_lt, mod-l
 use Rattle.std.proofs.lemmas.Bool.{eqb-false, eqb-true}
 use Rattle.std.proofs.lemmas.List.{set-get_or}
 use Rattle.std.proofs.lemmas.Option.{IfSome_then}
-use Rattle.nb_core.specs.Calls.{leaves_alone, reply_at}
+use Rattle.nb_core.specs.Calls.{leaves_alone}
+use Rattle.nb_core.specs.Log.{reply_at}
 use Rattle.nb_core.specs.Plans.{Plan, IsPlan, generations_of, header_place, key_place, size_of, value_place}
 use Rattle.nb_core.specs.States.{key_state, value_state}
 use Rattle.nb_core.specs.Tables.{AreOthers, IsOnPath, IsSlot, IsUnprimed, Tables, path_slot, tables_at, tables_of, words_of}

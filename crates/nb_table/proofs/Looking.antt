@@ -14,7 +14,7 @@ use Rattle.nb_core.specs.declared.states.KeyState.TheVariants.{Empty, Dead, Clai
 use Rattle.nb_core.specs.declared.states.ValueState.{ValueState}
 use Rattle.nb_core.specs.declared.states.ValueState.TheVariants.{Null, Tombstone, Live, PrimedNull, PrimedTombstone, Primed, Finished}
 use Rattle.nb_table.specs.Closing.{IsClosed, closed_of}
-use Rattle.nb_table.specs.Left.{ClosedOf, IsLeftBy, tables_left}
+use Rattle.nb_table.specs.Left.{ClosedOf, IsLeft, tables_left}
 use Rattle.nb_table.specs.declared.closed.Closed.TheInside as inside
 
 -- ---- words
@@ -27,25 +27,20 @@ word-at (w ∷ words) (suc place) word at = word-at words place word at
 
 -- ---- the laws of the history that left the words
 
-pub record IsLeft (closed : ClosedOf) : Type 0 where
-  pub plan : IsPlan closed.shape
-  pub history : List Event
-  pub left : IsLeftBy closed history
-
-pub is-left : (c : inside.Inside) (closed : ClosedOf) → IsClosed c → closed_of c ≡ closed → IsLeft closed
-is-left c closed is view = subst IsLeft view (record { plan = is.plan; history = is.left.0; left = is.left.1 })
+pub lawful : (c : inside.Inside) (closed : ClosedOf) → IsClosed c → closed_of c ≡ closed → IsLeft closed
+lawful c closed is view = subst IsLeft view is.left
 
 -- what holds of the tables of the history holds of what the words say
 pub of-left :
-    (closed : ClosedOf) (history : List Event) → IsLeftBy closed history → (P : Tables → Type 0)
-    → P (tables_at closed.shape history) → P (tables_left closed)
-of-left closed history left P = subst (λ words. P (tables_of closed.shape words)) (sym left.is)
+    (closed : ClosedOf) → IsLeft closed → (P : Tables → Type 0) → P (tables_at closed.shape closed.history)
+    → P (tables_left closed)
+of-left closed left P = subst (λ words. P (tables_of closed.shape words)) (sym left.is)
 
 pub law-left :
     (closed : ClosedOf) → IsLeft closed → (P : Plan → Tables → Type 0)
     → ((p : Plan) → IsPlan p → (h : List Event) → IsLegal p h → P p (tables_at p h)) → P closed.shape (tables_left closed)
-law-left closed left P law =
-    of-left closed left.history left.left (P closed.shape) (law closed.shape left.plan left.history left.left.legal)
+law-left closed is P law =
+    of-left closed is (P closed.shape) (law closed.shape is.plan closed.history is.legal)
 
 -- a key's slot is on its path
 abbrev pub AreOnPath : Plan → Tables → Type 0

@@ -12,7 +12,8 @@ use Rattle.nb_core.specs.History.{IsLegal, seat_of_event}
 use Rattle.nb_core.specs.declared.events.Event.{Event}
 use Rattle.nb_table.specs.Chains.{Extended, SeenBy}
 use Rattle.nb_table.specs.Inside.{IsSeat, part_of, seat_of}
-use Rattle.nb_table.specs.Views.{HasHeard, HasMoved, IsBeginning, IsChained, all_parts, joined, moved, noted, spent_view}
+use Rattle.nb_core.specs.Log.{IsBeginning}
+use Rattle.nb_table.specs.Views.{HasHeard, HasMoved, IsChained, all_parts, joined, moved, noted, spent_view}
 use Rattle.nb_table.specs.declared.chain.ChainSeat.TheInside as seat
 use Rattle.nb_table.specs.declared.view.Part.{Part}
 use Rattle.nb_table.specs.declared.view.View.{View}

@@ -6,7 +6,8 @@ use Rattle.std.proofs.lemmas.List.Elements.{All-cons, All-nil, All-push, All-sam
 use Rattle.atomic_table.specs.Table.{Splits, State, opening}
 use Rattle.nb_core.specs.Plans.{Plan, word_count}
 use Rattle.nb_core.specs.declared.events.Event.{Event}
-use Rattle.nb_table.specs.Views.{IsBeginning, IsChained, all_parts, first_part, first_view, fresh, other_parts}
+use Rattle.nb_core.specs.Log.{IsBeginning}
+use Rattle.nb_table.specs.Views.{IsChained, all_parts, first_part, first_view, fresh, other_parts}
 use Rattle.nb_table.specs.declared.view.Part.{Part}
 use Rattle.nb_table.specs.declared.view.View.{View}
 use Rattle.nb_table.proofs.Parted.{All-at, All-left, All-right, Fits, IsSum, IsTold, parts-at, parts-more, parts-set, sum-more, sum-set, times-append, times-cons, times_among}

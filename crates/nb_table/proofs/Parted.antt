@@ -1,12 +1,16 @@
 -- The parts of all tokens, where one token's have changed.
-use Rattle.std.proofs.Common.{◌≡◌, ℕ, zero, suc, ◌+◌, ◌==◌, cond, ap, sym, subst, List, [], ◌∷◌, ◌++◌, slice_set, All, arith}
+use Rattle.std.proofs.Common.{◌≡◌, ℕ, zero, suc, ◌+◌, ◌==◌, cond, ap, sym, subst, subst₂, List, [], ◌∷◌, ◌++◌, map, slice_set, All, arith}
 use mathlib.Core.Option.{some, some-injective, some-ne-none}
 use lib.ListN.{get_elem?}
 use Rattle.std.specs.List.{count_by}
+use Rattle.std.specs.List.Sorted.{IsPermutation}
+use Rattle.std.proofs.lemmas.List.{append_assoc}
+use Rattle.std.proofs.lemmas.List.Sorted.{IsPermutation-append_comm, IsPermutation-append_left, IsPermutation-append_right, IsPermutation-refl, IsPermutation-trans}
 use Rattle.std.proofs.lemmas.List.Elements.{All-append, All-cons, All-head, All-nil, All-tail}
 use Rattle.std.proofs.lemmas.List.Sums.{sum_by-append, sum_by-cons}
 use Rattle.nb_core.specs.declared.events.Event.{Event}
-use Rattle.nb_table.specs.Views.{HasSeen, IsBeginning, all_parts}
+use Rattle.nb_core.specs.Log.{IsBeginning}
+use Rattle.nb_table.specs.Views.{HasSeen, all_parts}
 use Rattle.nb_table.specs.declared.view.Part.{Part}
 use Rattle.nb_table.specs.declared.view.View.{View}
 
@@ -23,11 +27,56 @@ module _ {X : Type 0} (P : X → Type 0) where
   All-right [] ys every = every
   All-right (x ∷ xs) ys every = All-right xs ys (All-tail P x (xs ++ ys) every)
 
+  -- what holds of each value of a function holds of it at each element
+  pub All-unmap : {Y : Type 0} (f : Y → X) (ys : List Y) → All P (map f ys) → All (λ y. P (f y)) ys
+  All-unmap f [] every = All-nil (λ y. P (f y))
+  All-unmap f (y ∷ ys) every =
+      All-cons (λ y. P (f y)) y ys (All-head P (f y) (map f ys) every) (All-unmap f ys (All-tail P (f y) (map f ys) every))
+
   -- and of the element at a place
   pub All-at : (xs : List X) (i : ℕ) (x : X) → get_elem? xs i ≡ some x → All P xs → P x
   All-at [] i x at every = absurd (some-ne-none x (sym at))
   All-at (y ∷ xs) zero x at every = subst P (some-injective y x at) (All-head P y xs every)
   All-at (y ∷ xs) (suc i) x at every = All-at xs i x at (All-tail P y xs every)
+
+-- ---- one token's parts among all
+
+-- a list's middle comes first, in another order
+middle-first : (front middle back : List Part) → IsPermutation (front ++ (middle ++ back)) (middle ++ (front ++ back))
+middle-first front middle back =
+    subst₂ IsPermutation (append_assoc front middle back) (append_assoc middle front back)
+    (IsPermutation-append_left back (front ++ middle) (middle ++ front) (IsPermutation-append_comm front middle))
+
+-- so it does with more in front
+behind :
+    (front all middle rest : List Part) → IsPermutation all (middle ++ rest)
+    → IsPermutation (front ++ all) (middle ++ (front ++ rest))
+behind front all middle rest are =
+    IsPermutation-trans (front ++ all) (front ++ (middle ++ rest)) (middle ++ (front ++ rest))
+    (IsPermutation-append_right front all (middle ++ rest) are) (middle-first front middle rest)
+
+-- The parts of all tokens are those of one and the rest. These stay the same, whatever the one knows.
+pub record Apart (views : List View) (id : ℕ) (v : View) : Type 0 where
+  pub rest : List Part
+  pub is : IsPermutation (all_parts views) (v.parts ++ rest)
+  pub after : (w : View) → IsPermutation (all_parts (slice_set views id w)) (w.parts ++ rest)
+
+pub apart : (views : List View) (id : ℕ) (v : View) → get_elem? views id ≡ some v → Apart views id v
+apart [] id v at = absurd (some-ne-none v (sym at))
+apart (x ∷ views) zero v at = record {
+  rest = all_parts views;
+  is =
+      subst (λ u. IsPermutation (x.parts ++ all_parts views) (u.parts ++ all_parts views)) (some-injective x v at)
+      (IsPermutation-refl (x.parts ++ all_parts views));
+  after = λ w. IsPermutation-refl (w.parts ++ all_parts views);
+}
+apart (x ∷ views) (suc id) v at =
+    let there = apart views id v at in
+    record {
+      rest = x.parts ++ there.rest;
+      is = behind x.parts (all_parts views) v.parts there.rest there.is;
+      after = λ w. behind x.parts (all_parts (slice_set views id w)) w.parts there.rest (there.after w);
+    }
 
 -- ---- what holds of each part
 

@@ -1,7 +1,8 @@
 -- The event of each step, by the word that it finds: a load is one only as the read of a call, any other step only where it
 -- changes its word.
 use Rattle.std.specs.Prelude.{ℕ, suc, ◌-◌, ◌%◌, ◌==◌, ◌&&◌, nat_le, Bool, true, not, if◌then◌else◌, List, [], ◌∷◌, Option, Some, None}
-use Rattle.nb_core.specs.Calls.{leaves_alone, reply_at}
+use Rattle.nb_core.specs.Calls.{leaves_alone}
+use Rattle.nb_core.specs.Log.{reply_at}
 use Rattle.nb_core.specs.History.{number_in_value, key_of_call}
 use Rattle.nb_core.specs.Plans.{Plan, generations_of, size_of}
 use Rattle.nb_core.specs.States.{value_word}

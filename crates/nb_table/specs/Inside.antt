@@ -1,5 +1,6 @@
 -- What is in a chain and its seats, and how it is seen.
 use Rattle.std.specs.Prelude.{◌≡◌, List, [], ◌∷◌}
+use Rattle.atomic_table.specs.Seated.{TableId}
 use Rattle.nb_core.specs.Plans.{IsPlan, word_count}
 use Rattle.nb_table.specs.Chains.{ChainOf, SeenBy}
 use Rattle.nb_table.specs.declared.chain.Chain.TheInside as chain
@@ -22,11 +23,13 @@ abbrev pub part_of : List Part → Part
 part_of [] = record { number = 0; seen = []; steps = 0 }
 part_of (part ∷ parts) = part
 
+-- a chain's seat of which this part is known
+abbrev pub seat_with : TableId → Part → SeenBy
+seat_with chain part = record { chain = chain; number = part.number; seen = part.seen; steps = part.steps }
+
 -- the seat, as contracts see it
 abbrev pub seat_of : seat.Inside → SeenBy
-seat_of c =
-    let part = part_of c.seat.me.0.parts in
-    record { chain = c.seat.table_id; number = part.number; seen = part.seen; steps = part.steps }
+seat_of c = seat_with c.seat.table_id (part_of c.seat.me.0.parts)
 
 -- the token knows one seat
 pub record IsSeat (c : seat.Inside) : Type 0 where

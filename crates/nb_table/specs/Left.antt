@@ -1,24 +1,21 @@
--- What is left of a chain that is closed, and the map that it holds.
+-- What is left of a chain that is closed.
 use Rattle.std.specs.Prelude.{◌≡◌, ℕ, List}
-use Rattle.nb_core.specs.Calls.{Numbers}
-use Rattle.nb_core.specs.Plans.{Plan}
+use Rattle.nb_core.specs.Plans.{IsPlan, Plan}
 use Rattle.nb_core.specs.Tables.{Tables, tables_of, words_of}
-use Rattle.nb_core.specs.History.{IsLegal, map_of}
+use Rattle.nb_core.specs.History.{IsLegal}
 use Rattle.nb_core.specs.declared.events.Event.{Event}
 
--- a closed chain: its shape and its words
+-- a closed chain: its shape, its words, and the history that left them, the newest event first
 pub record ClosedOf : Type 0 where
   pub shape : Plan
   pub words : List ℕ
+  pub history : List Event
 
--- the history is legal, and left these words
-pub record IsLeftBy (closed : ClosedOf) (history : List Event) : Type 0 where
-  pub legal : IsLegal closed.shape history
-  pub is : closed.words ≡ words_of closed.shape history
-
--- whichever legal history left these words, this is so of its map
-abbrev pub HoldsOfMap : ClosedOf → (Numbers → Type 0) → Type 0
-HoldsOfMap closed P = (history : List Event) → IsLeftBy closed history → P (map_of history)
+-- the shape is a plan, and the history is legal, and left these words
+pub record IsLeft (closed : ClosedOf) : Type 0 where
+  pub plan : IsPlan closed.shape
+  pub legal : IsLegal closed.shape closed.history
+  pub is : closed.words ≡ words_of closed.shape closed.history
 
 -- what the words say
 abbrev pub tables_left : ClosedOf → Tables

@@ -1,14 +1,15 @@
 -- How far a closed chain's map was put into a plain one.
 use Rattle.std.specs.Prelude.{◌≡◌, ℕ, ◌<◌, ◌≤◌, ◌⊎◌, None}
 use Rattle.std.specs.FinMap as map
-use Rattle.nb_core.specs.Calls.{Numbers}
+use Rattle.nb_core.specs.Log.{Numbers}
+use Rattle.nb_core.specs.History.{map_of}
 use Rattle.nb_core.specs.Tables.{IsSlot}
 use Rattle.nb_core.specs.declared.states.KeyState.TheVariants.{Claimed}
-use Rattle.nb_table.specs.Left.{ClosedOf, HoldsOfMap, tables_left}
+use Rattle.nb_table.specs.Left.{ClosedOf, tables_left}
 
 -- at the key it has what the closed chain's map has
 abbrev pub HasRight : ClosedOf → Numbers → ℕ → Type 0
-HasRight closed found k = HoldsOfMap closed (λ m. map.get found k ≡ map.get m k)
+HasRight closed found k = map.get found k ≡ map.get (map_of closed.history) k
 
 -- At each key it has what the closed chain's map has, or nothing yet; and the keys of the tables from the top word to table g
 -- are done, and those of the first i slots of table g.

@@ -3,15 +3,15 @@ use Rattle.std.specs.Prelude.{◌≡◌, ◌≢◌, ℕ, zero, suc, ◌+◌, ◌
 use Rattle.atomic_table.specs.Table.{State, Me, Step}
 use Rattle.nb_core.specs.Plans.{Plan}
 use Rattle.nb_core.specs.Tables.{words_of}
+use Rattle.nb_core.specs.Log.{IsBeginning}
 use Rattle.nb_core.specs.History.{IsLegal, seat_of_event}
 use Rattle.nb_core.specs.declared.events.Event.{Event}
 use Rattle.nb_table.specs.declared.view.Part.{Part}
 use Rattle.nb_table.specs.declared.view.View.{View}
 
--- the list is a beginning of the history
-pub record IsBeginning (seen history : List Event) : Type 0 where
-  pub later : List Event
-  pub is : history ≡ later ++ seen
+-- a moment of a chain's table: its words, and what each token knows
+abbrev pub Moment : Type 0
+Moment = State (Unit {0}) View
 
 -- the seat of this number has seen a beginning of the history, and made no event since
 pub record HasSeen (history : List Event) (number : ℕ) (seen : List Event) : Type 0 where
@@ -55,7 +55,7 @@ spent_view = record { parts = []; told = [] }
 
 -- There is one legal history whose words these are. Each seat has seen a beginning of it, with all its own events; what
 -- a token was told of is a beginning too. No two seats share a number, and none is lost.
-pub record IsChained (p : Plan) (s : State (Unit {0}) View) : Type 0 where
+pub record IsChained (p : Plan) (s : Moment) : Type 0 where
   pub history : List Event
   pub legal : IsLegal p history
   pub words : s.words ≡ words_of p history
@@ -65,11 +65,10 @@ pub record IsChained (p : Plan) (s : State (Unit {0}) View) : Type 0 where
   pub once : (n : ℕ) → n < p.seats → count_by (λ part. part.number == n) (all_parts s.views) ≡ 1
   pub count : length (all_parts s.views) ≡ p.seats
 
--- The seat that made the newest event of the one history has seen all of it. What a seat has seen only grows, so the history of
--- a later moment goes on from that of an earlier one.
+-- The seat that made the newest event of the one history has seen all of it.
 abbrev pub NewestIsSeen : Type 0
 NewestIsSeen =
-    (p : Plan) (s : State (Unit {0}) View) (rule : IsChained p s) (e : Event) (h : List Event) → rule.history ≡ e ∷ h
+    (p : Plan) (s : Moment) (rule : IsChained p s) (e : Event) (h : List Event) → rule.history ≡ e ∷ h
     → (part : Part) × Contains (all_parts s.views) part × (part.number ≡ seat_of_event e) × (part.seen ≡ rule.history)
 
 -- ---- steps

@@ -5,7 +5,8 @@ ghost use Rattle.nb_table.specs.Chains.{AreOwn, Extended, IsOwn, seats_of};
 ghost use Rattle.nb_table.specs.Gathered.{ClosedWith, HasGathered};
 ghost use Rattle.nb_table.specs.Inside.{part_of};
 ghost use Rattle.nb_table.specs.Steps.{Can, Stepped};
-ghost use Rattle.nb_table.specs.Views.{HasHeard, IsBeginning};
+ghost use Rattle.nb_core.specs.Log.{IsBeginning};
+ghost use Rattle.nb_table.specs.Views.{HasHeard};
 
 use crate::closed::Closed;
 use crate::view::{Chained, Deal, Heard, Learn, Move, Note, Told, View};
@@ -13,6 +14,7 @@ use atomic_table::{Seat, Table};
 use nb_core::{Call, Key, NotAll, Num, OutOfMemory, Shape};
 use std::alloc::Global;
 use std::marker::{Brand, Model};
+use std::snapshot::Snapshot;
 
 /// A chain of tables that many threads share. Contracts see which chain it is, and its shape.
 #[derive(Drop)]
@@ -220,10 +222,15 @@ impl Chain {
         if seats.len() != self.shape.seats() {
             return Err(NotAll { whole: self, seats });
         }
+        let seen = Snapshot::of(&seats);
         let all = self.gather(seats);
         let Chain { table, shape } = self;
         let table = table.close_with(all);
-        Ok(Closed { table, shape })
+        Ok(Closed {
+            table,
+            shape,
+            seats: seen,
+        })
     }
 
     /// One token that knows what all these seats know.

@@ -1,23 +1,28 @@
 //! What is left of a chain that is closed.
 ghost use Rattle.std.specs.Prelude.{◌≡◌, ◌+◌, ◌<◌, IfOk, OnOk, slice_index};
 ghost use Rattle.std.specs.FinMap as map;
+ghost use Rattle.nb_core.specs.History.{map_of};
 ghost use Rattle.nb_core.specs.Meaning.{is_blank, is_installed, shown_from, value_in};
 ghost use Rattle.nb_core.specs.Plans.{IsPlan, generations_of, word_count};
 ghost use Rattle.nb_core.specs.Tables.{IsSlot};
-ghost use Rattle.nb_table.specs.Left.{HoldsOfMap, tables_left};
+ghost use Rattle.nb_table.specs.Left.{IsLeft, tables_left};
 ghost use Rattle.nb_table.specs.Listing.{IsListing};
 
+use crate::chain::ChainSeat;
 use nb_core::{
     Change, Key, KeyState, Num, OutOfMemory, PlainMap, Shape, ValueState, Want, decode_key,
     decode_lawful_value,
 };
 use std::alloc::Global;
 use std::marker::Model;
+use std::snapshot::Snapshot;
 
-/// A chain that no thread shares any more. Contracts see its shape and its words.
+/// A chain that no thread shares any more. Contracts see its shape, its words and the history that left them.
 pub struct Closed {
     pub(crate) table: atomic_table::Closed<(), Global>,
     pub(crate) shape: Shape,
+    /// What the seats had seen when they closed the chain: so what the history is. Only clauses read it; it takes no memory.
+    pub(crate) seats: Snapshot<Vec<ChainSeat>>,
 }
 
 impl Model for Closed {
@@ -33,9 +38,17 @@ impl Model for Closed {
 }
 
 impl Closed {
+    /// Reminds a proof that the history is legal and left the words, so that it may use a closed chain without remembering
+    /// `close`. It does nothing.
+    pub fn known(&self)
+        ensures { IsLeft self.now }
+    {
+        let _ = &self.shape;
+    }
+
     /// The number that the map has at the key. It takes no memory.
     pub fn get(&self, key: Key) -> Option<Num>
-        ensures { HoldsOfMap self.now (λ m. result ≡ map.get m key) }
+        ensures { result ≡ map.get (map_of self.now.history) key }
     {
         key.known();
         self.shown(key)
@@ -43,7 +56,7 @@ impl Closed {
 
     /// The map's keys with their numbers, ascending by key. It takes memory for a plain map of them and for the vector.
     pub fn entries(&self, alloc: Global) -> Result<Vec<(Key, Num)>, OutOfMemory>
-        ensures { IfOk result (λ entries. HoldsOfMap self.now (λ m. entries.items ≡ map.entries m)) }
+        ensures { IfOk result (λ entries. entries.items ≡ map.entries (map_of self.now.history)) }
     {
         let mut found = PlainMap::new(alloc);
         for g in self.top()..self.shape.generations() {
@@ -75,6 +88,7 @@ impl Closed {
     fn shown(&self, key: Key) -> Option<Num>
         ensures number { result ≡ shown_from self.now.shape (tables_left self.now) key 0 (generations_of self.now.shape) }
         ensures plan { IsPlan self.now.shape }
+        ensures left { IsLeft self.now }
     {
         for g in self.top()..self.shape.generations() {
             if !self.is_installed(g) {
@@ -164,7 +178,11 @@ impl Closed {
 
 impl Drop for Closed {
     fn drop(self) {
-        let Closed { table, shape: _ } = self;
+        let Closed {
+            table,
+            shape: _,
+            seats: _,
+        } = self;
         table.free();
     }
 }

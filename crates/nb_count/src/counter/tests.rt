@@ -1,5 +1,5 @@
 ghost use Rattle.std.specs.Prelude.{◌≡◌, IfOk};
-ghost use Rattle.nb_count.specs.Counts.{AreOwn};
+ghost use Rattle.nb_count.specs.Counts.{AreOwn, IsOwn};
 
 use super::*;
 use std::process::Abort;
@@ -9,8 +9,8 @@ use std::thread::Threads;
 
 /// Each seat adds the amount at its place.
 fn add_each(counter: &Counter, seats: &mut [CountSeat], amounts: &[i64])
-    requires { AreOwn counter.now.id seats.old }
-    ensures { AreOwn counter.now.id seats.new }
+    requires { AreOwn counter.now seats.old }
+    ensures { AreOwn counter.now seats.new }
 {
     for place in 0..seats.len().min(amounts.len()) {
         counter.add(&mut seats[place], amounts[place]);
@@ -19,8 +19,8 @@ fn add_each(counter: &Counter, seats: &mut [CountSeat], amounts: &[i64])
 
 /// Adds an amount many times.
 fn add_often(counter: &Counter, seat: &mut CountSeat, amount: i64)
-    requires { seat.old.counter ≡ counter.now.id }
-    ensures { seat.new.counter ≡ counter.now.id }
+    requires { IsOwn counter.now seat.old }
+    ensures { IsOwn counter.now seat.new }
 {
     for _ in 0..10_000u64 {
         counter.add(seat, amount);
@@ -29,16 +29,16 @@ fn add_often(counter: &Counter, seat: &mut CountSeat, amount: i64)
 
 /// All seats add at the same time, each from a thread of its own.
 fn add_together<R: Threads + Sync>(rt: &R, counter: &Counter, seats: &mut [CountSeat])
-    requires { AreOwn counter.now.id seats.old }
-    ensures { AreOwn counter.now.id seats.new }
+    requires { AreOwn counter.now seats.old }
+    ensures { AreOwn counter.now seats.new }
 {
     thread::for_each_mut(
         rt,
         seats,
         8,
         &|_, seat: &mut CountSeat|
-            requires { seat.now.counter ≡ counter.now.id }
-            ensures { seat.exit.now.counter ≡ counter.entry.now.id }
+            requires { IsOwn counter.now seat.now }
+            ensures { IsOwn counter.entry.now seat.exit.now }
         {
             add_often(counter, seat, 3);
         },
@@ -51,8 +51,8 @@ fn without_last<R: Abort>(
     counter: Counter,
     seats: Vec<CountSeat>,
 ) -> Result<(Counter, Vec<CountSeat>), OutOfMemory>
-    requires { AreOwn counter.id seats.items }
-    ensures { IfOk result (λ back. (back.0 ≡ counter) × AreOwn counter.id back.1.items) }
+    requires { AreOwn counter seats.items }
+    ensures { IfOk result (λ back. (back.0 ≡ counter) × AreOwn counter back.1.items) }
 {
     let mut seats = seats;
     let Some(last) = seats.pop() else {

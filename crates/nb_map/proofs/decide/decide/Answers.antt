@@ -1,7 +1,8 @@
 use Rattle.std.proofs.Common.{◌≡◌, ◌∙◌, ℕ, ◌≤◌, Bool, true, false, not, cond, ◌||◌, Option, Some, None, Result, Ok, Err, IfSome, ap, sym, subst, refl, arith}
 use Rattle.std.proofs.lemmas.Bool.{ltb-true, ne_eqb}
 use Rattle.std.specs.FinMap as map
-use Rattle.nb_core.specs.Calls.{Numbers, changed, holds_of, is_past_max, leaves_alone, overflows, same_number}
+use Rattle.nb_core.specs.Calls.{is_past_max, leaves_alone, overflows, same_number}
+use Rattle.nb_core.specs.Log.{Numbers, changed, holds_of}
 use Rattle.nb_core.specs.History.{key_of_call}
 use Rattle.nb_core.specs.declared.calls.Call.TheVariants.{Write}
 use Rattle.nb_core.specs.declared.calls.Change.{Change}

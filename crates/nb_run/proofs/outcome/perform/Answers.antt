@@ -1,6 +1,6 @@
 use Rattle.std.proofs.Common.{◌≡◌, ◌∙◌, ap, false, length, sym, subst, true}
 use Rattle.std.proofs.lemmas.List.Elements.{All-same}
-use Rattle.nb_map.specs.Ending.{EndedWith}
+use Rattle.nb_map.specs.Ending.{EndedWith, HasTablesLeft}
 use Rattle.nb_map.specs.Maps.{IsMine}
 use Rattle.nb_map.specs.Maps as maps
 use Rattle.nb_run.specs.Outcomes.{IsOutcome}
@@ -35,7 +35,8 @@ returns g c =
     let shape = c.in_ok-map.ensures.map in
     let o : Outcome = record { answers = c.in_ok-seats.answers; size = c.size-size.result; entries = c.in_ok-entries.entries } in
     let seats = c.in_ok-workers.ensures.seats ∙ c.in_ok-map.ensures.seats ∙ ap (λ p. maps.seats_of m 0 p.seats) (sym shape) in
-    let ended = subst (λ seats. EndedWith m.chain.shape seats c.in-Ok.ended) c.in_ok-seats.ensures.seats c.in-Ok.ensures.ended in
+    let ended = subst (λ seats. EndedWith seats c.in-Ok.ended) c.in_ok-seats.ensures.seats c.in-Ok.ensures.ended in
+    let left = subst (λ seats. HasTablesLeft m.chain.shape seats c.in-Ok.ended) c.in_ok-seats.ensures.seats c.in-Ok.ensures.tables in
     subst (λ p. IsOutcome p phases o) shape
     (is-outcome m c.in_ok-map.ensures.plan phases c.in_ok-workers.workers.items c.in_ok-ran.ran.items c.in-Ok.ended o seats
-    c.in_ok-workers.ensures.fresh c.in_ok-ran.ensures.ran ended c.in_ok-seats.ensures.answers c.size-size.ensures.keys c.in_ok-entries.ensures)
+    c.in_ok-workers.ensures.fresh c.in_ok-ran.ensures.ran ended left c.in_ok-seats.ensures.answers c.size-size.ensures.keys c.in_ok-entries.ensures)

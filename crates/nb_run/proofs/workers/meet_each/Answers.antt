@@ -1,8 +1,11 @@
-use Rattle.std.proofs.Common.{◌≡◌, ◌∙◌, ◌<◌, arith, get_or, length, subst, sym}
+use Rattle.std.proofs.Common.{◌≡◌, ◌∙◌, ◌<◌, arith, get_or, length, refl, subst, sym}
 use Rattle.std.proofs.lemmas.List.{get_or_default}
 use Rattle.nb_map.specs.Maps.{IsMine}
-use Rattle.nb_run.proofs.Meeting.{each-more, same-at}
+use Rattle.nb_run.proofs.Meeting.{each-more, met-none, same-at}
 use Rattle.nb_run.proofs.workers.meet_each.Goals as goal
+
+pub loop-other-init : goal.loop-other-init
+loop-other-init c = (c.requires.own, met-none c.args.map.now c.args.seat.now c.requires.own, tt, refl)
 
 pub meet-requires-clause-b_own : goal.meet-requires-clause-b_own
 meet-requires-clause-b_own c =
@@ -27,4 +30,6 @@ loop-other-preserved c =
     let at : worker ≡ get_or workers i worker =
     same-at workers now i d c.loop-other-test.true below inv.3 ∙ get_or_default workers i d worker c.loop-other-test.true in
     each-more m workers now i worker c.args.seat.now c.loop-other.seat c.meet.new.a c.meet.new.b
-    c.loop-other-test.true below at inv.3 c.meet.ensures.a_own c.meet.ensures.b_own inv.1 inv.2 c.meet.ensures.a c.meet.ensures.b
+    c.loop-other-test.true below at inv.3 c.meet.ensures.a_own c.meet.ensures.b_own inv.1 inv.2
+    (c.meet.ensures.a.0, c.meet.ensures.a.1, c.meet.ensures.a_grows.0, c.meet.ensures.a_grows.2)
+    (c.meet.ensures.b.0, c.meet.ensures.b.1, c.meet.ensures.b_grows.0, c.meet.ensures.b_grows.2)

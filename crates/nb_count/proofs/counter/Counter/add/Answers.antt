@@ -1,4 +1,3 @@
-use Rattle.std.proofs.Common.{◌≤◌, ap, arith}
 use Rattle.nb_count.proofs.Keeping.{allows-add}
 use Rattle.nb_count.proofs.Views.{own-table, own-place}
 use Rattle.nb_count.proofs.counter.Counter.add.Goals as goal
@@ -7,5 +6,4 @@ pub fetch_add-requires : goal.fetch_add-requires
 fetch_add-requires c =
     let same = own-table c.self.inside c.seat.inside _ _ c.self.view_is c.seat.view_is c.requires.own in
     let place = own-place c.self.inside c.seat.inside c.self.invariant c.seat.invariant same in
-    let positive : 1 ≤ c.self.inside.table.shared.key.stripes = omega (arith, c.self.invariant.some, ap (λ z. z.stripes) c.self.invariant.key) in
-    (same, place.0, allows-add _ _ _ _ _ _ _ c.seat.invariant.one c.cast_unsigned.type_inv place.1 positive)
+    (same, place.0, allows-add _ _ _ _ _ _ _ c.seat.invariant.one c.cast_unsigned.type_inv place.1)

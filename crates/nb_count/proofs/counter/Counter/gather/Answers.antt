@@ -8,15 +8,15 @@ use Rattle.nb_count.proofs.counter.Counter.gather.Goals as goal
 pub loop-other-init : goal.loop-other-init
 loop-other-init c =
     let items = c.pop.ensures.items ∙ ap (λ o. c.pop.new.self.items ++ option_to_list o) c.unwrap-last.ensures in (
-      gathered-first c.args.self.now.id c.last.inside _ _ _ c.last.invariant c.last.view_is items (own-last _ _ _ _ items c.requires.own),
-      own-left _ _ _ _ items c.requires.own,
+      gathered-first c.args.self.now.id c.last.inside _ _ _ c.last.invariant c.last.view_is items (own-last c.args.self.now _ _ _ items c.requires.own),
+      own-left c.args.self.now _ _ _ items c.requires.own,
     )
 
 pub join_seat-requires : goal.join_seat-requires
 join_seat-requires c =
     let table = ap (λ v. v.id) c.self.view_is in
     let is = c.in-Some.ensures.items in
-    let other = ap (λ v. v.counter) c.other.view_is ∙ own-last _ _ _ _ is c.loop-other.invariant.1 in (
+    let other = ap (λ v. v.counter) c.other.view_is ∙ own-last c.args.self.now _ _ _ is c.loop-other.invariant.1 in (
       c.loop-other.invariant.0.own ∙ sym table,
       other ∙ sym table,
       ap (λ m. m.1) c.other.invariant.one,
@@ -28,7 +28,7 @@ pub loop-other-preserved : goal.loop-other-preserved
 loop-other-preserved c =
     let is = c.in-Some.ensures.items in (
       gathered-more c.args.self.now.id c.loop-other.seat _ c.other.inside _ _ _ _ c.loop-other.invariant.0 c.other.invariant c.other.view_is is c.join_seat.ensures.0 c.join_seat.ensures.2,
-      own-left _ _ _ _ is c.loop-other.invariant.1,
+      own-left c.args.self.now _ _ _ is c.loop-other.invariant.1,
     )
 
 pub returns : goal.returns

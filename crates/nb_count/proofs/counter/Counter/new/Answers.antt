@@ -1,7 +1,7 @@
 use Rattle.std.proofs.Common.{◌∙◌, ◌*◌, ◌%◌, ap, refl, arith}
 use Rattle.nb_count.specs.declared.tally.TheConstants.{SPREAD}
 use Rattle.nb_count.specs.declared.counter.CountSeat.TheInside.{Inside}
-use Rattle.nb_count.proofs.Dealt.{count-words, dealing-count, dealing-done, dealing-first, dealing-more, dealt-is_seat, opens-zeros}
+use Rattle.nb_count.proofs.Dealt.{count-words, dealing-count, dealing-done, dealing-first, dealing-more, dealt-is_seat, dealt-own, opens-zeros}
 use Rattle.nb_count.proofs.Keeping.{splits}
 use Rattle.nb_count.proofs.counter.Counter.new.Goals as goal
 
@@ -40,3 +40,8 @@ loop-number-preserved c =
 
 pub returns-clause-seats : goal.returns-clause-seats
 returns-clause-seats c = dealing-done _ _ _ _ _ c.loop-number-test.false c.loop-number.auto.number-end c.loop-number.invariant.0
+
+pub returns-clause-own : goal.returns-clause-own
+returns-clause-own c =
+    let are = dealing-done _ _ _ _ _ c.loop-number-test.false c.loop-number.auto.number-end c.loop-number.invariant.0 in
+    dealt-own (record { id = c.in_ok-table.table.shared.table_id; stripes = c.args.stripes; seats = c.args.seats }) _ c.args.seats are

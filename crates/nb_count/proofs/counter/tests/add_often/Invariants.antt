@@ -1,5 +1,5 @@
-use Rattle.std.proofs.Common.{◌≡◌}
+use Rattle.nb_count.specs.Counts.{IsOwn}
 use Rattle.nb_count.proofs.counter.tests.add_often.Given as goal
 
 abbrev pub invariant-loop : goal.invariant-loop
-invariant-loop l = l.seat.counter ≡ l.fn.counter.id
+invariant-loop l = IsOwn l.fn.counter l.seat

@@ -1,9 +1,8 @@
 use Rattle.std.proofs.Common.{◌∙◌, ap, length, refl, subst, sym}
 use Rattle.std.proofs.lemmas.List.{length-map}
 use Rattle.std.proofs.lemmas.List.Elements.{All-weaker}
-use Rattle.nb_core.specs.Plans.{IsPlan}
 use Rattle.nb_map.proofs.Parted.{own-chains, own-counts}
-use Rattle.nb_map.proofs.Sizes.{AreGathered, ended-with, is-ended}
+use Rattle.nb_map.proofs.Sizes.{AreGathered, ended-with, is-ended, seen}
 use Rattle.nb_map.specs.Inside.{map_of}
 use Rattle.nb_map.specs.Maps.{AreMine, HasCounted, IsMine}
 use Rattle.nb_map.proofs.map.Map.finish.Goals as goal
@@ -32,13 +31,13 @@ gathered c = record {
 }
 
 pub invariant_of-result : goal.invariant_of-result
-invariant_of-result c =
-    let plan = subst IsPlan (ap (λ m. m.chain.shape) c.self.view_is) c.self.invariant.plan in
-    is-ended _ _ _ _ _ (gathered c) plan
-    c.in-Ok-Ok.size c.in-Ok-Ok.ensures'.sum
+invariant_of-result c = record {
+  left = c.in-Ok-Ok.ensures.closed.left;
+  size = is-ended _ _ _ _ _ (gathered c) c.in-Ok-Ok.size c.in-Ok-Ok.ensures'.sum;
+}
 
 pub returns-clause-ended : goal.returns-clause-ended
-returns-clause-ended c =
-    let plan = subst IsPlan (ap (λ m. m.chain.shape) c.self.view_is) c.self.invariant.plan in
-    ended-with _ _ _ _ _ (gathered c) plan c.in-Ok-Ok.size
-    c.in-Ok-Ok.ensures'.sum
+returns-clause-ended c = ended-with _ _ _ _ _ (gathered c) c.in-Ok-Ok.size c.in-Ok-Ok.ensures'.sum
+
+pub returns-clause-tables : goal.returns-clause-tables
+returns-clause-tables c = record { shape = (gathered c).shape; left = c.in-Ok-Ok.ensures.closed.left; seen = seen _ _ _ _ _ (gathered c) }

@@ -1,6 +1,6 @@
 use Rattle.std.proofs.Common.{refl, subst, subst₂, sym}
 use Rattle.nb_run.proofs.Answering.{by-add, by-found, by-get, by-matched, by-put}
-use Rattle.nb_run.specs.Working.{IsAnswered}
+use Rattle.nb_run.specs.Working.{HasWorkedFor, IsAnswered}
 use Rattle.nb_run.specs.declared.answers.Answer.TheVariants.{Matched}
 use Rattle.nb_run.specs.declared.script.Command.TheVariants as command
 use Rattle.nb_run.proofs.script.Command.answer.Goals as goal
@@ -8,7 +8,7 @@ use Rattle.nb_run.proofs.script.Command.answer.Goals as goal
 pub returns-in-Get-clause-answered : goal.returns-in-Get-clause-answered
 returns-in-Get-clause-answered g c =
     subst₂ (λ made a. IsAnswered c.args.map.now made a c.args.seat.now c.get.new.seat) (sym c.in-Get.is) (sym c.before-in-Get.ensures)
-    (by-get c.args.map.now c.args.seat.now c.get.new.seat c.in-Get.key _ c.get.result c.get.ensures.called)
+    (by-get c.args.map.now c.args.seat.now c.get.new.seat c.in-Get.key c.get.result c.get.ensures.replied)
 
 pub returns-in-Put-clause-answered : goal.returns-in-Put-clause-answered
 returns-in-Put-clause-answered g c =
@@ -44,3 +44,35 @@ pub returns-in-Add-clause-answered : goal.returns-in-Add-clause-answered
 returns-in-Add-clause-answered g c =
     subst₂ (λ made a. IsAnswered c.args.map.now made a c.args.seat.now c.add.new.seat) (sym c.in-Add.is) (sym c.added.ensures)
     (by-add c.args.map.now c.args.seat.now c.add.new.seat (command.Add c.in-Add.key c.in-Add.number) (λ reply. refl) c.add.result c.add.ensures.found c.add.ensures.refused)
+
+pub returns-in-Get-clause-worked : goal.returns-in-Get-clause-worked
+returns-in-Get-clause-worked g c =
+    subst (λ made. HasWorkedFor c.args.map.now made c.args.seat.now c.get.new.seat) (sym c.in-Get.is) (_, c.get.ensures.worked.steps)
+
+pub returns-in-Put-clause-worked : goal.returns-in-Put-clause-worked
+returns-in-Put-clause-worked g c =
+    subst (λ made. HasWorkedFor c.args.map.now made c.args.seat.now c.put.new.seat) (sym c.in-Put.is) (_, c.put.ensures.waited.1.steps)
+
+pub returns-in-PutIfAbsent-clause-worked : goal.returns-in-PutIfAbsent-clause-worked
+returns-in-PutIfAbsent-clause-worked g c =
+    subst (λ made. HasWorkedFor c.args.map.now made c.args.seat.now c.put_if_absent.new.seat) (sym c.in-PutIfAbsent.is) (_, c.put_if_absent.ensures.waited.1.steps)
+
+pub returns-in-Replace-clause-worked : goal.returns-in-Replace-clause-worked
+returns-in-Replace-clause-worked g c =
+    subst (λ made. HasWorkedFor c.args.map.now made c.args.seat.now c.replace.new.seat) (sym c.in-Replace.is) (_, c.replace.ensures.waited.1.steps)
+
+pub returns-in-ReplaceIf-clause-worked : goal.returns-in-ReplaceIf-clause-worked
+returns-in-ReplaceIf-clause-worked g c =
+    subst (λ made. HasWorkedFor c.args.map.now made c.args.seat.now c.replace_if.new.seat) (sym c.in-ReplaceIf.is) (_, c.replace_if.ensures.waited.1.steps)
+
+pub returns-in-Remove-clause-worked : goal.returns-in-Remove-clause-worked
+returns-in-Remove-clause-worked g c =
+    subst (λ made. HasWorkedFor c.args.map.now made c.args.seat.now c.remove.new.seat) (sym c.in-Remove.is) (_, c.remove.ensures.waited.1.steps)
+
+pub returns-in-RemoveIf-clause-worked : goal.returns-in-RemoveIf-clause-worked
+returns-in-RemoveIf-clause-worked g c =
+    subst (λ made. HasWorkedFor c.args.map.now made c.args.seat.now c.remove_if.new.seat) (sym c.in-RemoveIf.is) (_, c.remove_if.ensures.waited.1.steps)
+
+pub returns-in-Add-clause-worked : goal.returns-in-Add-clause-worked
+returns-in-Add-clause-worked g c =
+    subst (λ made. HasWorkedFor c.args.map.now made c.args.seat.now c.add.new.seat) (sym c.in-Add.is) (_, c.add.ensures.waited.1.steps)

@@ -25,7 +25,7 @@ loop-worker-preserved g c =
             subst (IsMine m) (sym b.seat-is) b.answer-answer.ensures.own,
             subst₂ Running (sym items) (sym b.seat-is)
                 (running-more m number phase i item.result b.answer-answer.result _ _ _ _ _ c.loop-worker-test.true item.is own
-                b.answer-answer.ensures.answered inv.1),
+                (b.answer-answer.ensures.answered, b.answer-answer.ensures.worked) inv.1),
             omega (
               arith,
               inv.2,

@@ -30,7 +30,7 @@ pub loop-other-preserved : goal.loop-other-preserved
 loop-other-preserved c =
     let is = c.in-Some.ensures.items in (
       gathered-more c.args.self.now.id c.loop-other.seat _ c.other.inside _ _ _ _ c.loop-other.invariant.0 c.other.invariant
-          c.other.view_is is c.join_seat.ensures.0 c.join_seat.ensures.2,
+          c.other.view_is is (own-last _ _ _ _ is c.loop-other.invariant.1).at c.join_seat.ensures.0 c.join_seat.ensures.2,
       own-left _ _ _ _ is c.loop-other.invariant.1,
     )
 

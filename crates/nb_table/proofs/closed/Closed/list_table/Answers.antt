@@ -1,6 +1,6 @@
 use Rattle.std.proofs.Common.{◌≡◌, ◌∙◌, ◌+◌, ◌≤◌, ap, sym, subst, is_ok, arith}
 use Rattle.std.specs.FinMap.{insert}
-use Rattle.nb_core.specs.Calls.{Numbers}
+use Rattle.nb_core.specs.Log.{Numbers}
 use Rattle.nb_core.specs.Plans.{size_of}
 use Rattle.nb_table.specs.Listing.{IsListing}
 use Rattle.nb_table.proofs.Listing.{listing-past, listing-put, listing-table, listing-without, on_ok}

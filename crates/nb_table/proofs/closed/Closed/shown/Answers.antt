@@ -5,7 +5,7 @@ use Rattle.nb_core.specs.Laws.{AreLinked}
 use Rattle.nb_core.specs.Tables.{IsComplete}
 use Rattle.nb_core.specs.declared.states.ValueState.TheVariants.{Live, Primed}
 use Rattle.nb_table.specs.Left.{tables_left}
-use Rattle.nb_table.proofs.Looking.{is-left, law-left, passes-final, passes-primed, primed-next, shown-absent, shown-from-top, shown-value, shows-none, shows-primed}
+use Rattle.nb_table.proofs.Looking.{lawful, law-left, passes-final, passes-primed, primed-next, shown-absent, shown-from-top, shown-value, shows-none, shows-primed}
 use Rattle.nb_table.proofs.closed.Closed.shown.Goals as goal
 use Rattle.nb_table.proofs.closed.Closed.shown.Goals.{in-Some+in-Primed+else-is_blank_in, in-Some+in-PrimedNull, in_default}
 use Rattle.nb_core.proofs.Theorems.{linked, top_complete}
@@ -13,9 +13,9 @@ use Rattle.nb_core.proofs.Theorems.{linked, top_complete}
 pub loop-g-init : goal.loop-g-init
 loop-g-init c =
     let closed = c.args.self.now in
-    let left = is-left c.self.inside closed c.self.invariant c.self.view_is in
-    let complete = law-left closed left (λ p t. (g : ℕ) → g < t.top → (g < generations_of p) × IsComplete p t g) top_complete in
-    shown-from-top closed.shape (tables_left closed) c.args.key (law-left closed left AreLinked linked) complete c.top-g.result
+    let is = lawful c.self.inside closed c.self.invariant c.self.view_is in
+    let complete = law-left closed is (λ p t. (g : ℕ) → g < t.top → (g < generations_of p) × IsComplete p t g) top_complete in
+    shown-from-top closed.shape (tables_left closed) c.args.key (law-left closed is AreLinked linked) complete c.top-g.result
     (omega (arith, c.top-g.ensures))
 
 pub returns-then-not-is_installed-clause-number : goal.returns-then-not-is_installed-clause-number
@@ -50,8 +50,8 @@ is_blank_in-requires c =
     let closed = c.args.self.now in
     let within : c.loop-g.g < generations_of closed.shape
     = omega (arith, c.generations-g-end.ensures, ap (λ v. generations_of v.shape) c.self.view_is) in
-    let left = is-left c.self.inside closed c.self.invariant c.self.view_is in
-    primed-next closed.shape (tables_left closed) c.loop-g.g c.args.key within (law-left closed left AreLinked linked)
+    let is = lawful c.self.inside closed c.self.invariant c.self.view_is in
+    primed-next closed.shape (tables_left closed) c.loop-g.g c.args.key within (law-left closed is AreLinked linked)
     c.in-Primed.number (ap Some (sym c.in-Primed.is) ∙ c.in-Some.ensures)
 
 pub returns-then-is_blank_in-clause-number : goal.returns-then-is_blank_in-clause-number

@@ -4,18 +4,18 @@ use Rattle.nb_core.specs.Laws.{IsValueWord}
 use Rattle.nb_core.specs.Plans.{value_place}
 use Rattle.nb_core.specs.States.{value_state}
 use Rattle.nb_core.specs.declared.states.ValueState.TheVariants.{Null}
-use Rattle.nb_table.proofs.Looking.{is-left}
+use Rattle.nb_table.proofs.Looking.{lawful}
 use Rattle.nb_table.proofs.closed.Closed.value_at.Goals as goal
 use Rattle.nb_core.proofs.Theorems.{lawful_words}
 
 pub decode_lawful_value-requires : goal.decode_lawful_value-requires
 decode_lawful_value-requires c =
     let closed = c.args.self.now in
-    let left = is-left c.self.inside closed c.self.invariant c.self.view_is in
+    let is = lawful c.self.inside closed c.self.invariant c.self.view_is in
     let place = c.value_place.ensures ∙ ap (λ v. value_place v.shape c.args.g c.args.i) c.self.view_is in
-    let lawful = lawful_words closed.shape left.plan left.history left.left.legal in
+    let words = lawful_words closed.shape is.plan closed.history is.legal in
     subst IsValueWord
-    (sym (c.word.ensures ∙ (λ j. slice_index (left.left.is j) (place j)))) (lawful.values c.args.g c.args.i c.requires)
+    (sym (c.word.ensures ∙ (λ j. slice_index (is.is j) (place j)))) (words.values c.args.g c.args.i c.requires)
 
 pub returns : goal.returns
 returns c =

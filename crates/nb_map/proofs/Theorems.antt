@@ -1,0 +1,2 @@
+-- The laws of a map's calls, proved, by the names that crates/nb_map/src/laws.rt gives them.
+pub use Rattle.nb_map.proofs.Logged.{logs_add_up}

@@ -1,0 +1,8 @@
+//! What a crate above may rest on while its seats make one call after another. Each function carries a law as its contract, so that
+//! the gate guards it; nobody calls it. A crate above takes the laws as theorems, from `proofs/Theorems.antt`.
+ghost use Rattle.nb_map.specs.Laws.{LogsAddUp};
+
+/// Calls add up: what a seat's log was, and which calls it made.
+pub fn logs_add_up()
+    ensures { LogsAddUp }
+{}

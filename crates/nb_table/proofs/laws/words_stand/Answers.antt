@@ -1,0 +1,5 @@
+use Rattle.nb_table.proofs.Newest.{words_stand}
+use Rattle.nb_table.proofs.laws.words_stand.Goals as goal
+
+pub returns : goal.returns
+returns c = words_stand
