@@ -14,7 +14,8 @@ use Rattle.nb_core.specs.declared.events.Event.{Event}
 use Rattle.nb_core.specs.declared.events.Event.TheVariants.{Take, Count, Promote}
 use Rattle.nb_table.proofs.Following.{if-follows, later, none-follows, one-follows}
 use Rattle.nb_table.specs.Chains.{Extended, SeenBy, seen_before, seen_by}
-use Rattle.nb_table.specs.Events.{counts, only, promotes, takes}
+use Rattle.nb_table.specs.Events.{only}
+use Rattle.nb_table.proofs.Events.{count_events, promote_events, take_events}
 use Rattle.nb_table.specs.Steps.{Can, Stepped}
 use Rattle.nb_core.proofs.Theorems.{beginnings_are_legal, counted, linked, lawful_words, own_lasts, places_are_distinct}
 
@@ -29,10 +30,10 @@ header-within p plan g n place table header at =
 -- a chunk may be taken of a table that has a next one
 pub can-take : (p : Plan) (number g : ℕ) (seen : List Event) → g < generations_of p
     → IsInstalled (tables_at p seen) (suc g) → (place chunk : ℕ) → place ≡ header_place p g 1 → chunk ≡ chunk_of p g
-    → Can p (takes number g) number seen place (λ found. (found + chunk) % 2 ^ 64)
+    → Can p (take_events number g) number seen place (λ found. (found + chunk) % 2 ^ 64)
 can-take p number g seen table growing place chunk at is =
-    subst (λ i. Can p (takes number g) number seen i (λ found. (found + chunk) % 2 ^ 64)) (sym at)
-    (subst (λ n. Can p (takes number g) number seen (header_place p g 1) (λ found. (found + n) % 2 ^ 64)) (sym is)
+    subst (λ i. Can p (take_events number g) number seen i (λ found. (found + chunk) % 2 ^ 64)) (sym at)
+    (subst (λ n. Can p (take_events number g) number seen (header_place p g 1) (λ found. (found + n) % 2 ^ 64)) (sym is)
     (λ plan seat others not_own legal.
     one-follows p (Take number g) number (header_place p g 1) _ (others ++ seen)
     (legal, (seat, table), (later p number seen plan others legal).installed (suc g) growing, tt) refl refl))
@@ -40,9 +41,9 @@ can-take p number g seen table growing place chunk at is =
 -- slots may be counted that the seat's own events turned, and that it hasn't counted
 pub can-count : (p : Plan) (number g c : ℕ) (seen : List Event) → g < generations_of p → 1 ≤ c
     → counted_by seen number g + c ≤ turned_by p seen number g → (place : ℕ) → place ≡ header_place p g 2
-    → Can p (counts number g c) number seen place (λ found. (found + c) % 2 ^ 64)
+    → Can p (count_events number g c) number seen place (λ found. (found + c) % 2 ^ 64)
 can-count p number g c seen table some turned place at =
-    subst (λ i. Can p (counts number g c) number seen i (λ found. (found + c) % 2 ^ 64)) (sym at)
+    subst (λ i. Can p (count_events number g c) number seen i (λ found. (found + c) % 2 ^ 64)) (sym at)
     (λ plan seat others not_own legal.
     let still = own_lasts p others seen number not_own in
     let turned' : counted_by (others ++ seen) number g + c ≤ turned_by p (others ++ seen) number g
@@ -54,7 +55,7 @@ can-count p number g c seen table some turned place at =
 -- the top word may be raised past a complete table
 pub can-promote : (p : Plan) (number g : ℕ) (seen : List Event) → g < generations_of p
     → IsComplete p (tables_at p seen) g → (least : ℕ) → least ≡ g + 1
-    → Can p (promotes number g) number seen 0 (λ found. max found least)
+    → Can p (promote_events number g) number seen 0 (λ found. max found least)
 can-promote p number g seen table complete least is plan seat others not_own legal =
     let h = others ++ seen in
     let found = slice_index (words_of p h) 0 in
@@ -134,12 +135,12 @@ module _ (p : Plan) (plan : IsPlan p) where
   module _ (g place found : ℕ) (before after : SeenBy) (table : g < generations_of p) where
     -- the done word after a count
     pub counts-sees : (c : ℕ) → place ≡ header_place p g 2
-        → Stepped p (counts before.number g c) place before found after
+        → Stepped p (count_events before.number g c) place before found after
         → (seen_by p after).counted g ≡ found + c
     counts-sees c at step =
-        let h = met p (counts before.number g c) place found before after step in
-        let legal = legal_now p (counts before.number g c) place found before after step in
-        let now = ap (λ t. t.counted g) (seen_now p (counts before.number g c) place found before after step) in
+        let h = met p (count_events before.number g c) place found before after step in
+        let legal = legal_now p (count_events before.number g c) place found before after step in
+        let now = ap (λ t. t.counted g) (seen_now p (count_events before.number g c) place found before after step) in
         let is_found : slice_index (words_of p h) (header_place p g 2) ≡ found
         = ap (slice_index (words_of p h)) (sym at) ∙ step.word in
         let new = counted p plan (Count before.number g c ∷ h) legal g table in
@@ -155,17 +156,17 @@ module _ (p : Plan) (plan : IsPlan p) where
 
 -- what a take tells of the take word before it
 pub taken : (p : Plan) (g place found : ℕ) (before after : SeenBy) → place ≡ header_place p g 1
-    → Stepped p (takes before.number g) place before found after → (seen_before p after).taken g ≡ found
+    → Stepped p (take_events before.number g) place before found after → (seen_before p after).taken g ≡ found
 taken p g place found before after at step =
     ap (λ h. (tables_at p (drop 1 h)).taken g) step.grows.seen
     ∙ ap (slice_index (words_of p (step.grows.others ++ before.seen))) (sym at) ∙ step.word
 
 -- what a promotion tells that raised the top word
-pub raised : (p : Plan) → IsPlan p → (g found : ℕ) (before after : SeenBy) → Stepped p (promotes before.number g) 0 before found after → found ≤ g
+pub raised : (p : Plan) → IsPlan p → (g found : ℕ) (before after : SeenBy) → Stepped p (promote_events before.number g) 0 before found after → found ≤ g
     → Extended p before after (Promote before.number g ∷ []) 1 × ((seen_before p after).top ≡ found) × ((seen_by p after).top ≡ suc g)
 raised p plan g found before after step low =
     let h = step.grows.others ++ before.seen in
-    let own : promotes before.number g found ≡ Promote before.number g ∷ []
+    let own : promote_events before.number g found ≡ Promote before.number g ∷ []
     = ap (λ b. only b (Promote before.number g)) (le-leb found g low) in
     let grows = subst (λ own. Extended p before after own 1) own step.grows in
     let legal : IsLegal p (Promote before.number g ∷ h)

@@ -6,32 +6,31 @@ use Rattle.atomic_table.specs.Seated.{TableId}
 use Rattle.atomic_table.specs.declared.shared.Seat.{Seat}
 use Rattle.nb_core.specs.Plans.{IsPlan, Plan}
 use Rattle.nb_table.specs.Chains.{ChainOf, IsOwn, SeenBy, new_seat, seats_of}
-use Rattle.nb_table.specs.Inside.{IsSeat, part_of, seat_of}
-use Rattle.nb_table.specs.Views.{first_part, first_view, fresh, other_parts}
+use Rattle.nb_table.specs.Inside.{IsSeat, part_of, seat_of, seat_with}
+use Rattle.nb_table.specs.Views.{first_part, first_view, new_part, new_parts, other_parts}
 use Rattle.nb_table.specs.declared.chain.ChainSeat.TheInside as seat
 use Rattle.nb_table.specs.declared.view.Part.{Part}
 use Rattle.nb_table.specs.declared.view.View.{View}
-use Rattle.nb_table.proofs.Opening.{new_part}
 
 -- the token has the parts of the seats that aren't dealt yet
 pub record IsDealing
     (chain : TableId) (p : Plan) (rest : Seat (Unit {0}) View) (dealt : List SeenBy) (number : ℕ) : Type 0 where
   pub own : rest.table_id ≡ chain
-  pub left : rest.me.0.parts ≡ fresh number (p.seats - number)
+  pub left : rest.me.0.parts ≡ new_parts number (p.seats - number)
   pub so_far : dealt ≡ seats_of chain 0 number
 
-fresh-first :
+new-first :
     (number seats : ℕ) → number < seats
-    → fresh number (seats - number) ≡ new_part number ∷ fresh (suc number) (seats - suc number)
-fresh-first number seats below =
-    let more : seats - number ≡ suc (seats - suc number) = omega arith in ap (fresh number) more
+    → new_parts number (seats - number) ≡ new_part number ∷ new_parts (suc number) (seats - suc number)
+new-first number seats below =
+    let more : seats - number ≡ suc (seats - suc number) = omega arith in ap (new_parts number) more
 
 left-token :
-    (parts : List Part) (number seats : ℕ) → number < seats → parts ≡ fresh number (seats - number)
-    → drop 1 parts ≡ fresh (number + 1) (seats - (number + 1))
+    (parts : List Part) (number seats : ℕ) → number < seats → parts ≡ new_parts number (seats - number)
+    → drop 1 parts ≡ new_parts (number + 1) (seats - (number + 1))
 left-token parts number seats below left =
     let more : suc number ≡ number + 1 = omega arith in
-    ap (drop 1) (left ∙ fresh-first number seats below) ∙ ap (λ n. fresh n (seats - n)) more
+    ap (drop 1) (left ∙ new-first number seats below) ∙ ap (λ n. new_parts n (seats - n)) more
 
 seats_of-more :
     (chain : TableId) (first count number : ℕ) → first + count ≡ number
@@ -45,24 +44,23 @@ seats_of-more chain first (suc count) number is =
 
 -- the one part of the token that is dealt next
 dealt-parts :
-    (rest : View) (number seats : ℕ) (s : seat.Inside) → number < seats → rest.parts ≡ fresh number (seats - number)
+    (rest : View) (number seats : ℕ) (s : seat.Inside) → number < seats → rest.parts ≡ new_parts number (seats - number)
     → s.seat.me ≡ (first_part rest, []) → s.seat.me.0.parts ≡ new_part number ∷ []
-dealt-parts rest number seats s below left me = ap (λ m. m.0.parts) me ∙ ap (take 1) (left ∙ fresh-first number seats below)
+dealt-parts rest number seats s below left me = ap (λ m. m.0.parts) me ∙ ap (take 1) (left ∙ new-first number seats below)
 
 -- the seat that is dealt next
 pub dealt-is_seat :
-    (rest : View) (number seats : ℕ) (s : seat.Inside) → number < seats → rest.parts ≡ fresh number (seats - number)
+    (rest : View) (number seats : ℕ) (s : seat.Inside) → number < seats → rest.parts ≡ new_parts number (seats - number)
     → s.seat.me ≡ (first_part rest, []) → IsSeat s
 dealt-is_seat rest number seats s below left me =
     let one = dealt-parts rest number seats s below left me in
     record { one = one ∙ ap (λ parts. part_of parts ∷ []) (sym one); free = ap (λ m. m.1) me }
 
 dealt-seat_of :
-    (rest : View) (number seats : ℕ) (s : seat.Inside) → number < seats → rest.parts ≡ fresh number (seats - number)
+    (rest : View) (number seats : ℕ) (s : seat.Inside) → number < seats → rest.parts ≡ new_parts number (seats - number)
     → s.seat.me ≡ (first_part rest, []) → seat_of s ≡ new_seat s.seat.table_id number
 dealt-seat_of rest number seats s below left me =
-    ap (λ (t : Part). record { chain = s.seat.table_id; number = t.number; seen = t.seen; steps = t.steps })
-    (ap part_of (dealt-parts rest number seats s below left me))
+    ap (λ parts. seat_with s.seat.table_id (part_of parts)) (dealt-parts rest number seats s below left me)
 
 many-seats : (chain : TableId) (first count : ℕ) → length (seats_of chain first count) ≡ count
 many-seats chain first zero = refl
@@ -79,7 +77,7 @@ pub dealing-first :
     → rest.me ≡ (first_view p.seats, []) → dealt ≡ [] → IsDealing chain p rest dealt 0
 dealing-first chain p rest dealt own me none = record {
   own = own;
-  left = let all : p.seats ≡ p.seats - 0 = omega arith in ap (λ m. m.0.parts) me ∙ ap (fresh 0) all;
+  left = let all : p.seats ≡ p.seats - 0 = omega arith in ap (λ m. m.0.parts) me ∙ ap (new_parts 0) all;
   so_far = none;
 }
 

@@ -26,7 +26,6 @@ use Rattle.nb_table.specs.Views.{HasSeen, IsChained, all_parts, joined}
 use Rattle.nb_table.specs.declared.chain.ChainSeat.TheInside as seat
 use Rattle.nb_table.specs.declared.view.Part.{Part}
 use Rattle.nb_table.specs.declared.view.View.{View}
-use Rattle.nb_table.proofs.Newest.{newest_is_seen}
 use Rattle.nb_table.proofs.Parted.{All-left, All-right, All-unmap, apart, times-cons, times_among}
 
 -- ---- lists whose last was taken
@@ -181,16 +180,12 @@ module _ (p : Plan) (s : State (Unit {0}) View) (rule : IsChained p s) (token : 
       (All-permutation P seats (map knows (all_parts s.views))
       (IsPermutation-sym (map knows (all_parts s.views)) seats all-there) (most seats))
 
-  -- who made the newest event has seen all
+  -- who made the last step has seen all
   length-most : length rule.history ≤ length (most_seen seats)
-  length-most = of rule.history refl
-    where
-      of : (h : List Event) → rule.history ≡ h → length h ≤ length (most_seen seats)
-      of [] is = omega arith
-      of (e ∷ h) is =
-          let maker = newest_is_seen p s rule e h is in
-          let less = All-contains (λ part. length part.seen ≤ length (most_seen seats)) (all_parts s.views) maker.0 no-more maker.1 in
-          omega (arith, less, ap length (maker.3 ∙ is))
+  length-most =
+      let last = rule.last in
+      let less = All-contains (λ part. length part.seen ≤ length (most_seen seats)) (all_parts s.views) last.0 no-more last.1 in
+      omega (arith, less, ap length last.3)
 
   most-is : most_seen seats ≡ rule.history
   most-is = whole-beginning (most_seen seats) rule.history (most-begins rule.history seats all-fit) length-most

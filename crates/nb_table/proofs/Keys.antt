@@ -15,7 +15,8 @@ use Rattle.nb_core.specs.declared.states.KeyState.{KeyState}
 use Rattle.nb_core.specs.declared.states.KeyState.TheVariants.{Empty}
 use Rattle.nb_table.proofs.Following.{if-follows, later, none-follows, one-follows}
 use Rattle.nb_table.specs.Chains.{Extended, SeenBy, seen_by}
-use Rattle.nb_table.specs.Events.{claims, installs, kills, only}
+use Rattle.nb_table.specs.Events.{only}
+use Rattle.nb_table.proofs.Events.{claim_events, install_events, kill_events}
 use Rattle.nb_table.specs.Steps.{Can, MayStep, Stepped}
 use Rattle.nb_core.proofs.Theorems.{lawful_words, linked, places_are_distinct}
 
@@ -46,7 +47,7 @@ module _ (p : Plan) (number g : ℕ) (seen : List Event) where
   -- an empty slot may be closed to keys once there is a next table
   pub can-kill :
       (i : ℕ) → IsSlot p g i → IsInstalled (tables_at p seen) (suc g)
-      → Can p (kills number g i) number seen (key_place p g i) (λ found. cond (eqb found 0) 1 found)
+      → Can p (kill_events number g i) number seen (key_place p g i) (λ found. cond (eqb found 0) 1 found)
   can-kill i slot growing plan numbered others not_own legal =
       exchange-follows p (Kill number g i) number (key_place p g i) 1 (others ++ seen) legal refl refl (λ zero_found. (
         legal,
@@ -62,7 +63,7 @@ module _ (p : Plan) (number g : ℕ) (seen : List Event) where
   pub can-claim :
       (i k word : ℕ) → IsSlot p g i → IsInstalled (tables_at p seen) g → HasWay p (tables_at p seen) g i k → k ≤ KEY_MAX
       → word ≡ k + 2
-      → Can p (claims number g i k) number seen (key_place p g i) (λ found. cond (eqb found 0) word found)
+      → Can p (claim_events number g i k) number seen (key_place p g i) (λ found. cond (eqb found 0) word found)
   can-claim i k word slot installed way in_range word_is plan numbered others not_own legal =
       let lasting = later p number seen plan others legal in
       let words = ap (slice_set (words_of p (others ++ seen)) (key_place p g i)) (sym word_is) in
@@ -89,7 +90,7 @@ module _ (p : Plan) (number g : ℕ) (seen : List Event) where
   pub can-install :
       (k : ℕ) → suc g < generations_of p → IsReady p (tables_at p seen) g → AreOthers p (tables_at p seen) g k (limit_of p g)
       → k ≤ KEY_MAX
-      → Can p (installs number g k) number seen (header_place p g 0) (λ found. cond (eqb found 0) 1 found)
+      → Can p (install_events number g k) number seen (header_place p g 0) (λ found. cond (eqb found 0) 1 found)
   can-install k room ready crowded in_range plan numbered others not_own legal =
       let lasting = later p number seen plan others legal in
       exchange-follows p (Install number g k) number (header_place p g 0) 1 (others ++ seen) legal refl refl (λ zero_found. (
@@ -184,7 +185,7 @@ module _
 -- after the exchange of a next word the next table is there, whoever installed it
 pub exchange-installs :
     (p : Plan) (number g k at found : ℕ) (before after : SeenBy) → at ≡ header_place p g 0
-    → Stepped p (installs number g k) at before found after → IsPlan p
+    → Stepped p (install_events number g k) at before found after → IsPlan p
     → g < generations_of p → IsInstalled (seen_by p after) (suc g)
 exchange-installs p number g k at found before after at_place told plan within =
     let e = Install number g k in

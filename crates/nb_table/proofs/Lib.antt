@@ -1,6 +1,7 @@
 mod ByHand
 mod Counts
 mod Dealt
+mod Events
 mod Following
 mod Gathered
 mod Growing
@@ -10,7 +11,7 @@ mod Listing
 mod Loading
 mod Looking
 mod Meeting
-mod Newest
+mod Moments
 mod Opening
 mod Parted
 pub mod Theorems

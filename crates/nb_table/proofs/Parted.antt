@@ -1,13 +1,13 @@
 -- The parts of all tokens, where one token's have changed.
-use Rattle.std.proofs.Common.{◌≡◌, ℕ, zero, suc, ◌+◌, ◌==◌, cond, ap, sym, subst, subst₂, List, [], ◌∷◌, ◌++◌, map, slice_set, All, arith}
+use Rattle.std.proofs.Common.{◌≡◌, ℕ, zero, suc, ◌+◌, ◌==◌, cond, sym, subst, subst₂, List, [], ◌∷◌, ◌++◌, map, slice_set, All}
 use mathlib.Core.Option.{some, some-injective, some-ne-none}
 use lib.ListN.{get_elem?}
 use Rattle.std.specs.List.{count_by}
 use Rattle.std.specs.List.Sorted.{IsPermutation}
 use Rattle.std.proofs.lemmas.List.{append_assoc}
-use Rattle.std.proofs.lemmas.List.Sorted.{IsPermutation-append_comm, IsPermutation-append_left, IsPermutation-append_right, IsPermutation-refl, IsPermutation-trans}
-use Rattle.std.proofs.lemmas.List.Elements.{All-append, All-cons, All-head, All-nil, All-tail}
-use Rattle.std.proofs.lemmas.List.Sums.{sum_by-append, sum_by-cons}
+use Rattle.std.proofs.lemmas.List.Elements.{All-cons, All-head, All-nil, All-tail}
+use Rattle.std.proofs.lemmas.List.Sorted.{All-permutation, IsPermutation-append_comm, IsPermutation-append_left, IsPermutation-append_right, IsPermutation-refl, IsPermutation-sym, IsPermutation-trans}
+use Rattle.std.proofs.lemmas.List.Sums.{sum_by-cons}
 use Rattle.nb_core.specs.declared.events.Event.{Event}
 use Rattle.nb_core.specs.Log.{IsBeginning}
 use Rattle.nb_table.specs.Views.{HasSeen, all_parts}
@@ -39,23 +39,30 @@ module _ {X : Type 0} (P : X → Type 0) where
   All-at (y ∷ xs) zero x at every = subst P (some-injective y x at) (All-head P y xs every)
   All-at (y ∷ xs) (suc i) x at every = All-at xs i x at (All-tail P y xs every)
 
+-- ---- parts in another order
+
+-- one after another, and the other way round
+pub and_then : {xs ys zs : List Part} → IsPermutation xs ys → IsPermutation ys zs → IsPermutation xs zs
+and_then {xs} {ys} {zs} = IsPermutation-trans xs ys zs
+
+pub back : {xs ys : List Part} → IsPermutation xs ys → IsPermutation ys xs
+back {xs} {ys} = IsPermutation-sym xs ys
+
+-- with others in front, and behind
+pub in_front : (zs : List Part) {xs ys : List Part} → IsPermutation xs ys → IsPermutation (zs ++ xs) (zs ++ ys)
+in_front zs {xs} {ys} = IsPermutation-append_right zs xs ys
+
+pub behind : (zs : List Part) {xs ys : List Part} → IsPermutation xs ys → IsPermutation (xs ++ zs) (ys ++ zs)
+behind zs {xs} {ys} = IsPermutation-append_left zs xs ys
+
+-- the first two of three lists change places
+pub exchanged : (xs ys zs : List Part) → IsPermutation (xs ++ (ys ++ zs)) (ys ++ (xs ++ zs))
+exchanged xs ys zs =
+    subst₂ IsPermutation (append_assoc xs ys zs) (append_assoc ys xs zs) (behind zs (IsPermutation-append_comm xs ys))
+
 -- ---- one token's parts among all
 
--- a list's middle comes first, in another order
-middle-first : (front middle back : List Part) → IsPermutation (front ++ (middle ++ back)) (middle ++ (front ++ back))
-middle-first front middle back =
-    subst₂ IsPermutation (append_assoc front middle back) (append_assoc middle front back)
-    (IsPermutation-append_left back (front ++ middle) (middle ++ front) (IsPermutation-append_comm front middle))
-
--- so it does with more in front
-behind :
-    (front all middle rest : List Part) → IsPermutation all (middle ++ rest)
-    → IsPermutation (front ++ all) (middle ++ (front ++ rest))
-behind front all middle rest are =
-    IsPermutation-trans (front ++ all) (front ++ (middle ++ rest)) (middle ++ (front ++ rest))
-    (IsPermutation-append_right front all (middle ++ rest) are) (middle-first front middle rest)
-
--- The parts of all tokens are those of one and the rest. These stay the same, whatever the one knows.
+-- The parts of all tokens are those of one and the rest. The rest stays as it is, whatever the one knows.
 pub record Apart (views : List View) (id : ℕ) (v : View) : Type 0 where
   pub rest : List Part
   pub is : IsPermutation (all_parts views) (v.parts ++ rest)
@@ -74,8 +81,8 @@ apart (x ∷ views) (suc id) v at =
     let there = apart views id v at in
     record {
       rest = x.parts ++ there.rest;
-      is = behind x.parts (all_parts views) v.parts there.rest there.is;
-      after = λ w. behind x.parts (all_parts (slice_set views id w)) w.parts there.rest (there.after w);
+      is = and_then (in_front x.parts there.is) (exchanged x.parts v.parts there.rest);
+      after = λ w. and_then (in_front x.parts (there.after w)) (exchanged x.parts w.parts there.rest);
     }
 
 -- ---- what holds of each part
@@ -88,38 +95,13 @@ Fits history part = HasSeen history part.number part.seen
 abbrev pub IsTold : List Event → View → Type 0
 IsTold history v = All (λ seen. IsBeginning seen history) v.told
 
-module _ (P : Part → Type 0) where
-  -- what holds of all tokens' parts holds of one token's
-  pub parts-at : (views : List View) (id : ℕ) (v : View) → get_elem? views id ≡ some v → All P (all_parts views) → All P v.parts
-  parts-at [] id v at every = absurd (some-ne-none v (sym at))
-  parts-at (x ∷ views) zero v at every =
-      subst (λ u. All P u.parts) (some-injective x v at) (All-left P x.parts (all_parts views) every)
-  parts-at (x ∷ views) (suc id) v at every = parts-at views id v at (All-right P x.parts (all_parts views) every)
-
-  -- it holds of all where it holds of the parts that one token has now
-  pub parts-set :
-      (views : List View) (id : ℕ) (w : View) → All P (all_parts views) → All P w.parts
-      → All P (all_parts (slice_set views id w))
-  parts-set [] id w every here = every
-  parts-set (x ∷ views) zero w every here =
-      All-append P w.parts (all_parts views) here (All-right P x.parts (all_parts views) every)
-  parts-set (x ∷ views) (suc id) w every here =
-      All-append P x.parts (all_parts (slice_set views id w)) (All-left P x.parts (all_parts views) every)
-      (parts-set views id w (All-right P x.parts (all_parts views) every) here)
-
-  -- and where it holds of those of a new token
-  pub parts-more :
-      (views : List View) (w : View) → All P (all_parts views) → All P w.parts → All P (all_parts (views ++ w ∷ []))
-  parts-more [] w every here = All-append P w.parts [] here (All-nil P)
-  parts-more (x ∷ views) w every here =
-      All-append P x.parts (all_parts (views ++ w ∷ [])) (All-left P x.parts (all_parts views) every)
-      (parts-more views w (All-right P x.parts (all_parts views) every) here)
-
--- ---- sums over parts
-
--- the sum over two lists is that over the first and that over the second
-abbrev pub IsSum : (List Part → ℕ) → Type 0
-IsSum f = (xs ys : List Part) → f (xs ++ ys) ≡ f xs + f ys
+-- what holds of all tokens' parts holds of one token's
+pub parts-of :
+    (P : Part → Type 0) (views : List View) (id : ℕ) (v : View) → get_elem? views id ≡ some v → All P (all_parts views)
+    → All P v.parts
+parts-of P views id v at every =
+    let there = apart views id v at in
+    All-left P v.parts there.rest (All-permutation P (all_parts views) (v.parts ++ there.rest) there.is every)
 
 -- how many of these parts have this number
 abbrev pub times_among : ℕ → List Part → ℕ
@@ -129,27 +111,3 @@ pub times-cons :
     (n : ℕ) (part : Part) (parts : List Part)
     → times_among n (part ∷ parts) ≡ cond (part.number == n) 1 0 + times_among n parts
 times-cons n = sum_by-cons (λ part. cond (part.number == n) 1 0)
-
-pub times-append : (n : ℕ) → IsSum (times_among n)
-times-append n = sum_by-append (λ part. cond (part.number == n) 1 0)
-
-module _ (f : List Part → ℕ) (sum : IsSum f) where
-  pub sum-nil : f [] ≡ 0
-  sum-nil = omega (arith, sum [] [])
-
-  -- what one token's parts make of the sum over all tokens
-  pub sum-set :
-      (views : List View) (id : ℕ) (v w : View) → get_elem? views id ≡ some v
-      → f (all_parts (slice_set views id w)) + f v.parts ≡ f (all_parts views) + f w.parts
-  sum-set [] id v w at = absurd (some-ne-none v (sym at))
-  sum-set (x ∷ views) zero v w at =
-      let same : f x.parts ≡ f v.parts = ap (λ u. f u.parts) (some-injective x v at) in
-      omega (arith, sum w.parts (all_parts views), sum x.parts (all_parts views))
-  sum-set (x ∷ views) (suc id) v w at =
-      omega (arith, sum x.parts (all_parts (slice_set views id w)), sum x.parts (all_parts views), sum-set views id v w at)
-
-  -- one token more
-  pub sum-more : (views : List View) (w : View) → f (all_parts (views ++ w ∷ [])) ≡ f (all_parts views) + f w.parts
-  sum-more [] w = omega (arith, sum w.parts [], sum-nil)
-  sum-more (x ∷ views) w =
-      omega (arith, sum x.parts (all_parts (views ++ w ∷ [])), sum x.parts (all_parts views), sum-more views w)

@@ -1,3 +1,3 @@
 -- What a crate above may rest on: what holds at each moment, and while it makes one step after another.
 pub use Rattle.nb_table.proofs.Growing.{steps_add_up}
-pub use Rattle.nb_table.proofs.Newest.{goes_on, newest_is_seen, words_stand}
+pub use Rattle.nb_table.proofs.Moments.{goes_on, stepper_has_seen, words_stand}

@@ -15,7 +15,8 @@ use Rattle.nb_core.specs.declared.states.ValueState.{ValueState}
 use Rattle.nb_core.specs.declared.states.ValueState.TheVariants.{Null, Tombstone, Live, Primed, Finished}
 use Rattle.nb_table.specs.Chains.{Extended, SeenBy, seen_before, seen_by}
 use Rattle.nb_table.specs.Conditions.{HasSource, IsCopied}
-use Rattle.nb_table.specs.Events.{copies, finishes, only, primes}
+use Rattle.nb_table.specs.Events.{only}
+use Rattle.nb_table.proofs.Events.{copy_events, finish_events, prime_events}
 use Rattle.nb_table.specs.Steps.{Can, Stepped}
 use Rattle.nb_table.proofs.Following.{if-follows, none-follows, one-follows}
 use Rattle.nb_core.proofs.Theorems.{beginnings_are_legal, codings, lawful_words, linked, moved, one_slot, places_are_distinct, seen_lasts}
@@ -148,7 +149,7 @@ module _ where
   pub can-prime :
       (p : Plan) → (number : ℕ) (seen : List Event) (g i : ℕ) → IsSlot p g i
       → IsInstalled (tables_at p seen) (suc g) → (k : ℕ) × ((tables_at p seen).key g i ≡ Claimed k)
-      → Can p (primes number g i) number seen (value_place p g i) (λ found. bit_or found 1)
+      → Can p (prime_events number g i) number seen (value_place p g i) (λ found. bit_or found 1)
   can-prime p number seen g i slot growing claimed plan seated others not_own legal =
       let h = others ++ seen in
       let place = value_place p g i in
@@ -170,7 +171,7 @@ module _ where
   pub can-finish :
       (p : Plan) → (number : ℕ) (seen : List Event) (g i n : ℕ) → IsSlot p g i
       → IsCopied p (tables_at p seen) g i n
-      → Can p (finishes number g i n) number seen (value_place p g i) (λ found. bit_or found 2)
+      → Can p (finish_events number g i n) number seen (value_place p g i) (λ found. bit_or found 2)
   can-finish p number seen g i n slot copied plan seated others not_own legal =
       let h = others ++ seen in
       let t = tables_at p h in
@@ -202,7 +203,7 @@ module _ where
       (p : Plan) → (number : ℕ) (seen : List Event) (g i k n word : ℕ)
       → IsSlot p g i → value_state word ≡ Some (Live n) → (tables_at p seen).key g i ≡ Claimed k
       → HasSource p (tables_at p seen) g k n
-      → Can p (copies number g i k n) number seen (value_place p g i) (λ found. cond (eqb found 0) word found)
+      → Can p (copy_events number g i k n) number seen (value_place p g i) (λ found. cond (eqb found 0) word found)
   can-copy p number seen g i k n word slot says claimed source plan seated others not_own legal =
       let h = others ++ seen in
       let t = tables_at p h in
@@ -300,7 +301,7 @@ module _
 module _
     (p : Plan) (plan : IsPlan p) (before : SeenBy)
     (found : ℕ) (after : SeenBy) (g i : ℕ) (slot : IsSlot p g i)
-    (step : Stepped p (primes before.number g i) (value_place p g i) before found after) (v : ValueState)
+    (step : Stepped p (prime_events before.number g i) (value_place p g i) before found after) (v : ValueState)
     (says : value_state found ≡ Some v) where
   pub prime-won :
       IsUnprimed v
@@ -331,7 +332,7 @@ then-finished v n held other =
 module _
     (p : Plan) (plan : IsPlan p) (before : SeenBy)
     (found : ℕ) (after : SeenBy) (g i n : ℕ) (slot : IsSlot p g i)
-    (step : Stepped p (finishes before.number g i n) (value_place p g i) before found after) (v : ValueState)
+    (step : Stepped p (finish_events before.number g i n) (value_place p g i) before found after) (v : ValueState)
     (says : value_state found ≡ Some v) where
   pub finish-won :
       v ≡ Primed n
@@ -347,7 +348,7 @@ module _
   still-held : IsPrimedOrFinished (tables_at p before.seen) g i n → (v ≡ Primed n) ⊎ (v ≡ Finished n)
   still-held held =
       let h = step.grows.others ++ before.seen in
-      let legal = met-legal p plan (finishes before.number g i n) before found after g i slot step in
+      let legal = met-legal p plan (finish_events before.number g i n) before found after g i slot step in
       let value : (tables_at p h).value g i ≡ v = ap (λ x. unwrap_or (value_state x) Null) step.word
       ∙ ap (λ o. unwrap_or o Null) says in
       subst (λ x. (x ≡ Primed n) ⊎ (x ≡ Finished n)) value
@@ -367,7 +368,7 @@ module _
 module _
     (p : Plan) (plan : IsPlan p) (before : SeenBy) (found : ℕ)
     (after : SeenBy) (g i k n : ℕ) (slot : IsSlot p g i)
-    (step : Stepped p (copies before.number g i k n) (value_place p g i) before found after) (v : ValueState)
+    (step : Stepped p (copy_events before.number g i k n) (value_place p g i) before found after) (v : ValueState)
     (says : value_state found ≡ Some v) where
   pub copy-won :
       (word : ℕ) → value_state word ≡ Some (Live n) → v ≡ Null

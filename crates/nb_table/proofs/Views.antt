@@ -1,9 +1,8 @@
 -- A chain and its seats, from within and as contracts see them.
 use Rattle.std.proofs.Common.{◌≡◌, ◌∙◌, ℕ, ◌<◌, Bool, true, false, cond, eqb, ap, sym, subst, refl, List, [], ◌∷◌}
-use mathlib.Core.Option.{none}
 use prog.Atomic.{either}
 use Rattle.atomic_table.specs.Seated.{TableId}
-use Rattle.atomic_table.specs.Table.{Allows, step}
+use Rattle.atomic_table.specs.Table.{Allows}
 use Rattle.atomic_table.specs.declared.shared.Seat.{Seat}
 use Rattle.nb_core.specs.Plans.{Plan, IsPlan, word_count}
 use Rattle.nb_core.specs.History.{IsLegal}
@@ -19,32 +18,42 @@ use Rattle.nb_table.specs.declared.view.View.{View}
 
 -- ---- what a step asks
 
--- what a step of a seat on the chain's table asks
-abbrev pub IsAsked : TableId → Plan → seat.Inside → (p : Plan) → (ℕ → List Event) → ℕ → ℕ → ℕ → (ℕ → ℕ) → Type 0
-IsAsked table key s p events place a b f =
-    (s.seat.table_id ≡ table) × (place < table.words) × Allows (IsChained key) table.slots s.seat.id s.seat.me place f
-    (Moves p events (step table.slots place a b none) s.seat.me)
+-- what a step of a token on the chain's table asks
+abbrev pub IsAsked :
+    TableId → Plan → Seat (Unit {0}) View → (p : Plan) → (ℕ → List Event) → (place : ℕ) → (ℕ → ℕ) → Type 0
+IsAsked table key s p events place f =
+    (s.table_id ≡ table) × (place < table.words) × Allows (IsChained key) table.slots s.id s.me place f
+    (Moves p events place s.me)
 
--- it may be made where its events can, whatever its operands are
+-- it may be made where its events can
 pub asked :
-    (c : chain.Inside) (s : seat.Inside) (the_chain : ChainOf) (seeing : SeenBy) (p : Plan) (events : ℕ → List Event)
-    (place a b : ℕ) (f : ℕ → ℕ)
-    → chain_of c ≡ the_chain → seat_of s ≡ seeing → IsChain c → IsSeat s → seeing.chain ≡ the_chain.id → p ≡ the_chain.shape
-    → place < word_count the_chain.shape → Can p events seeing.number seeing.seen place f
-    → IsAsked c.table.shared.table_id c.table.shared.key s p events place a b f
-asked c s the_chain seeing p events place a b f c_is s_is is_chain is_seat own shape within can =
+    (c : chain.Inside) (s : Seat (Unit {0}) View) (the_chain : ChainOf) (p : Plan) (events : ℕ → List Event) (place : ℕ)
+    (f : ℕ → ℕ)
+    → chain_of c ≡ the_chain → IsChain c → let part = part_of s.me.0.parts in
+    s.me.0.parts ≡ part ∷ [] → s.table_id ≡ the_chain.id → p ≡ the_chain.shape
+    → place < word_count the_chain.shape → Can p events part.number part.seen place f
+    → IsAsked c.table.shared.table_id c.table.shared.key s p events place f
+asked c s the_chain p events place f c_is is_chain one own shape within can =
     let same : p ≡ c.shape = shape ∙ sym (ap (λ v. v.shape) c_is) in
     let within' : place < c.table.shared.table_id.words
     = subst (λ n. place < n) (sym (is_chain.words ∙ ap (λ v. word_count v.shape) c_is)) within in
-    let can' = subst (λ v. Can p events v.number v.seen place f) (sym s_is) can in
     let slots = c.table.shared.table_id.slots in (
-      ap (λ v. v.chain) s_is ∙ own ∙ sym (ap (λ v. v.id) c_is),
+      own ∙ sym (ap (λ v. v.id) c_is),
       within',
-      subst (λ q. Allows (IsChained q) slots s.seat.id s.seat.me place f (Moves p events (step slots place a b none) s.seat.me))
-          (same ∙ sym is_chain.key)
-          (allows-step p (subst IsPlan (sym same) is_chain.plan) events slots s.seat.id s.seat.me (part_of s.seat.me.0.parts)
-          place a b f is_seat.one can'),
+      subst (λ q. Allows (IsChained q) slots s.id s.me place f (Moves p events place s.me)) (same ∙ sym is_chain.key)
+          (allows-step p (subst IsPlan (sym same) is_chain.plan) events slots s.id s.me (part_of s.me.0.parts) place f one can),
     )
+
+-- the same of a seat
+pub asked-seat :
+    (c : chain.Inside) (s : seat.Inside) (the_chain : ChainOf) (seeing : SeenBy) (p : Plan) (events : ℕ → List Event)
+    (place : ℕ) (f : ℕ → ℕ)
+    → chain_of c ≡ the_chain → seat_of s ≡ seeing → IsChain c → IsSeat s → seeing.chain ≡ the_chain.id → p ≡ the_chain.shape
+    → place < word_count the_chain.shape → Can p events seeing.number seeing.seen place f
+    → IsAsked c.table.shared.table_id c.table.shared.key s.seat p events place f
+asked-seat c s the_chain seeing p events place f c_is s_is is_chain is_seat own shape within can =
+    asked c s.seat the_chain p events place f c_is is_chain is_seat.one (ap (λ v. v.chain) s_is ∙ own) shape within
+    (subst (λ v. Can p events v.number v.seen place f) (sym s_is) can)
 
 -- the two cases, as contracts and as the table's steps write them
 either-cases : (b : Bool) (x y : ℕ) → cond b x y ≡ either b x y
@@ -62,9 +71,9 @@ can-exchange p events number seen place old new can =
 -- ---- a seat after a step
 
 module _
-    (p : Plan) (events : ℕ → List Event) (slots place a b found : ℕ) (s : seat.Inside) (after : Seat (Unit {0}) View)
+    (p : Plan) (events : ℕ → List Event) (place found : ℕ) (s : seat.Inside) (after : Seat (Unit {0}) View)
     (before : SeenBy) (is_seat : IsSeat s) (s_is : seat_of s ≡ before)
-    (moves : Moves p events (step slots place a b none) s.seat.me found after.me) where
+    (moves : Moves p events place s.seat.me found after.me) where
   -- what it tells
   told : HasMoved p events place found (part_of s.seat.me.0.parts) (part_of after.me.0.parts)
   told =

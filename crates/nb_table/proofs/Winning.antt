@@ -13,7 +13,7 @@ use Rattle.nb_core.specs.declared.states.KeyState.TheVariants.{Claimed}
 use Rattle.nb_core.specs.declared.states.ValueState.{ValueState}
 use Rattle.nb_core.specs.declared.states.ValueState.TheVariants.{Null}
 use Rattle.nb_table.specs.Chains.{Extended, SeenBy, seen_by}
-use Rattle.nb_table.specs.Events.{wins}
+use Rattle.nb_table.proofs.Events.{win_events}
 use Rattle.nb_table.specs.Steps.{Can, Stepped}
 use Rattle.nb_table.proofs.Following.{if-follows, none-follows, one-follows}
 use Rattle.nb_table.proofs.Values.{value-kept, value-made}
@@ -26,10 +26,10 @@ win number g i from to call = Won number g i from to call (record { before = num
 -- the events by the words of two values are those by the values
 pub wins-of :
     (number g i old new : ℕ) (from to : ValueState) (call : Call) → value_state old ≡ Some from → value_state new ≡ Some to
-    → wins number g i (unwrap_or (value_state old) Null) (unwrap_or (value_state new) Null) call ≡ wins number g i from to call
+    → win_events number g i (unwrap_or (value_state old) Null) (unwrap_or (value_state new) Null) call ≡ win_events number g i from to call
 wins-of number g i old new from to call says_old says_new =
-    ap (λ a. wins number g i (unwrap_or a Null) (unwrap_or (value_state new) Null) call) says_old
-    ∙ ap (λ b. wins number g i from (unwrap_or b Null) call) says_new
+    ap (λ a. win_events number g i (unwrap_or a Null) (unwrap_or (value_state new) Null) call) says_old
+    ∙ ap (λ b. win_events number g i from (unwrap_or b Null) call) says_new
 
 -- A call may put in place of an unprimed value what it makes of it, in its key's slot, once the key is settled below.
 pub can-win :
@@ -38,7 +38,7 @@ pub can-win :
     → value_state old ≡ Some from → value_state new ≡ Some to → IsCallInRange call
     → (tables_at p seen).key g i ≡ Claimed (key_of_call call) → IsUnprimed from
     → IsSettledBelow p (tables_at p seen) g (key_of_call call) → IsExchange call (key_of_call call) from to
-    → Can p (wins number g i from to call) number seen (value_place p g i) (λ found. cond (eqb found old) new found)
+    → Can p (win_events number g i from to call) number seen (value_place p g i) (λ found. cond (eqb found old) new found)
 can-win p number seen g i old new from to call slot says_old says_new ranges claimed unprimed
     settled exchange plan seated others not_own legal =
     let h = others ++ seen in
@@ -68,7 +68,7 @@ can-win p number seen g i old new from to call slot says_old says_new ranges cla
 module _
     (p : Plan) (plan : IsPlan p) (before : SeenBy)
     (found : ℕ) (after : SeenBy) (g i : ℕ) (from to : ValueState) (call : Call) (slot : IsSlot p g i)
-    (step : Stepped p (wins before.number g i from to call) (value_place p g i) before found after)
+    (step : Stepped p (win_events before.number g i from to call) (value_place p g i) before found after)
     (v : ValueState) (says : value_state found ≡ Some v) where
   pub win-won :
       (new : ℕ) → value_state new ≡ Some to → v ≡ from

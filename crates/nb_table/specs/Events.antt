@@ -1,15 +1,13 @@
--- The event of each step, by the word that it finds: a load is one only as the read of a call, any other step only where it
--- changes its word.
-use Rattle.std.specs.Prelude.{ℕ, suc, ◌-◌, ◌%◌, ◌==◌, ◌&&◌, nat_le, Bool, true, not, if◌then◌else◌, List, [], ◌∷◌, Option, Some, None}
+-- When a load is an event: as the read of a call, where what it shows of the call's key decides the call.
+use Rattle.std.specs.Prelude.{ℕ, suc, ◌-◌, ◌==◌, ◌&&◌, Bool, not, if◌then◌else◌, List, [], ◌∷◌, Option, Some, None}
 use Rattle.nb_core.specs.Calls.{leaves_alone}
 use Rattle.nb_core.specs.Log.{reply_at}
-use Rattle.nb_core.specs.History.{number_in_value, key_of_call}
+use Rattle.nb_core.specs.History.{key_of_call}
 use Rattle.nb_core.specs.Plans.{Plan, generations_of, size_of}
-use Rattle.nb_core.specs.States.{value_word}
 use Rattle.nb_core.specs.Tables.{path_slot}
 use Rattle.nb_core.specs.declared.calls.Call.{Call}
 use Rattle.nb_core.specs.declared.events.Event.{Event}
-use Rattle.nb_core.specs.declared.events.Event.TheVariants.{Claim, Kill, Won, CopyIn, Prime, Finish, Install, Take, Count, Promote, Read}
+use Rattle.nb_core.specs.declared.events.Event.TheVariants.{Read}
 use Rattle.nb_core.specs.declared.states.KeyState.{KeyState}
 use Rattle.nb_core.specs.declared.states.KeyState.TheVariants.{Empty, Dead, Claimed}
 use Rattle.nb_core.specs.declared.states.ValueState.{ValueState}
@@ -18,54 +16,6 @@ use Rattle.nb_core.specs.declared.states.ValueState.TheVariants.{Null, Tombstone
 -- the event, if this holds
 abbrev pub only : Bool → Event → List Event
 only holds e = if holds then e ∷ [] else []
-
--- ---- steps on keys
-
--- a key may come only to an empty slot
-abbrev pub claims : (number g i k : ℕ) → ℕ → List Event
-claims number g i k found = only (found == 0) (Claim number g i k)
-
--- and only an empty slot is closed to keys
-abbrev pub kills : (number g i : ℕ) → ℕ → List Event
-kills number g i found = only (found == 0) (Kill number g i)
-
--- ---- steps on values
-
--- a call wins its exchange where it finds the value that it replaces, and replies the content of that
-abbrev pub wins : (number g i : ℕ) (from to : ValueState) (call : Call) → ℕ → List Event
-wins number g i from to call found =
-    only (found == value_word from) (Won number g i from to call (record { before = number_in_value from; matched = true }))
-
--- a number is copied only where the value is null
-abbrev pub copies : (number g i k n : ℕ) → ℕ → List Event
-copies number g i k n found = only (found == 0) (CopyIn number g i k n)
-
--- a value is primed where its word is even: then it isn't primed yet
-abbrev pub primes : (number g i : ℕ) → ℕ → List Event
-primes number g i found = only (found % 2 == 0) (Prime number g i)
-
--- a number is finished where it is still primed
-abbrev pub finishes : (number g i n : ℕ) → ℕ → List Event
-finishes number g i n found = only (found == value_word (Primed n)) (Finish number g i)
-
--- ---- steps on headers
-
--- a table is installed only where there is no next one
-abbrev pub installs : (number g k : ℕ) → ℕ → List Event
-installs number g k found = only (found == 0) (Install number g k)
-
--- each fetch-add of a take word or of a done word is an event
-abbrev pub takes : (number g : ℕ) → ℕ → List Event
-takes number g found = Take number g ∷ []
-
-abbrev pub counts : (number g c : ℕ) → ℕ → List Event
-counts number g c found = Count number g c ∷ []
-
--- the top word is raised past the table, if it isn't higher already
-abbrev pub promotes : (number g : ℕ) → ℕ → List Event
-promotes number g found = only (nat_le found g) (Promote number g)
-
--- ---- loads
 
 -- What a load shows of a key is `Some` of what the map has at it, a number or none; or `None`, where it shows nothing.
 

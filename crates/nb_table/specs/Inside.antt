@@ -3,6 +3,7 @@ use Rattle.std.specs.Prelude.{◌≡◌, List, [], ◌∷◌}
 use Rattle.atomic_table.specs.Seated.{TableId}
 use Rattle.nb_core.specs.Plans.{IsPlan, word_count}
 use Rattle.nb_table.specs.Chains.{ChainOf, SeenBy}
+use Rattle.nb_table.specs.Views.{new_part}
 use Rattle.nb_table.specs.declared.chain.Chain.TheInside as chain
 use Rattle.nb_table.specs.declared.chain.ChainSeat.TheInside as seat
 use Rattle.nb_table.specs.declared.view.Part.{Part}
@@ -20,7 +21,7 @@ pub record IsChain (c : chain.Inside) : Type 0 where
 
 -- the one part of a seat's token, where it has one
 abbrev pub part_of : List Part → Part
-part_of [] = record { number = 0; seen = []; steps = 0 }
+part_of [] = new_part 0
 part_of (part ∷ parts) = part
 
 -- a chain's seat of which this part is known

@@ -1,5 +1,5 @@
 -- What follows of the rule at any moment, and of the steps that a seat made.
-use Rattle.std.specs.Prelude.{◌≡◌, ℕ, ◌+◌, List, [], ◌++◌, All, Contains}
+use Rattle.std.specs.Prelude.{◌≡◌, ◌≢◌, ℕ, ◌+◌, ◌<◌, List, [], ◌++◌, All, Contains}
 use Rattle.nb_core.specs.History.{map_of}
 use Rattle.nb_core.specs.Laws.{Lasts}
 use Rattle.nb_core.specs.Meaning.{Stands}
@@ -7,7 +7,7 @@ use Rattle.nb_core.specs.Plans.{IsPlan, Plan}
 use Rattle.nb_core.specs.declared.events.Event.{Event}
 use Rattle.nb_table.specs.Chains.{ChainOf, Extended, Grown, IsOwn, SeenBy, seen_by}
 use Rattle.nb_core.specs.Log.{IsBeginning}
-use Rattle.nb_table.specs.Views.{IsChained, Moment, all_parts}
+use Rattle.nb_table.specs.Views.{IsChained, Moment, parts_at, steps_at}
 use Rattle.nb_table.specs.declared.view.Part.{Part}
 
 -- ---- one history that grows
@@ -16,16 +16,29 @@ use Rattle.nb_table.specs.declared.view.Part.{Part}
 abbrev pub WordsStand : Type 0
 WordsStand = (p : Plan) (s : Moment) → IsPlan p → (rule : IsChained p s) → Stands p s.words (map_of rule.history)
 
--- each of these seats is among the later ones too, and has seen there at least what it had seen
-abbrev pub HaveSeenMore : List Part → List Part → Type 0
-HaveSeenMore parts later =
-    All (λ part. (part' : Part) × Contains later part' × (part'.number ≡ part.number) × IsBeginning part.seen part'.seen) parts
+-- each seat has seen at the second moment at least what it had seen at the first
+abbrev pub HaveSeenMore : Moment → Moment → Type 0
+HaveSeenMore s s' =
+    All (λ part. (part' : Part) × Contains (parts_at s') part' × (part'.number ≡ part.number) × IsBeginning part.seen part'.seen)
+    (parts_at s)
 
--- No seat forgets what it has seen: so the history of a later moment goes on from that of an earlier one.
+-- No seat forgets what it has seen, so the history of a later moment goes on from that of an earlier one.
 abbrev pub GoesOn : Type 0
 GoesOn =
-    (p : Plan) (s s' : Moment) (rule : IsChained p s) (rule' : IsChained p s')
-    → HaveSeenMore (all_parts s.views) (all_parts s'.views) → IsBeginning rule.history rule'.history
+    (p : Plan) (s s' : Moment) (rule : IsChained p s) (rule' : IsChained p s') → HaveSeenMore s s'
+    → IsBeginning rule.history rule'.history
+
+-- all seats but the one of this number know at the second moment just what they knew at the first
+abbrev pub OthersStay : ℕ → Moment → Moment → Type 0
+OthersStay number s s' = All (λ part. part.number ≢ number → Contains (parts_at s) part) (parts_at s')
+
+-- After each step, be it an event or none, the seat that made it has seen the history up to that step: where one more step has
+-- been made, or several, and all seats but one know just what they knew, this one has seen all of the history.
+abbrev pub StepperHasSeen : Type 0
+StepperHasSeen =
+    (p : Plan) (s s' : Moment) (rule : IsChained p s) (rule' : IsChained p s') (number : ℕ) → steps_at s < steps_at s'
+    → OthersStay number s s'
+    → (part : Part) × Contains (parts_at s') part × (part.number ≡ number) × (part.seen ≡ rule'.history)
 
 -- ---- the steps of one seat
 

@@ -1,6 +1,6 @@
 -- What the tokens of a chain's table know, and the rule that its words keep.
-use Rattle.std.specs.Prelude.{◌≡◌, ◌≢◌, ℕ, zero, suc, ◌+◌, ◌<◌, ◌==◌, List, [], ◌∷◌, ◌++◌, length, map, take, drop, count_by, All, Contains, slice_index}
-use Rattle.atomic_table.specs.Table.{State, Me, Step}
+use Rattle.std.specs.Prelude.{◌≡◌, ◌≢◌, ℕ, zero, suc, ◌+◌, ◌<◌, ◌≤◌, ◌==◌, List, [], ◌∷◌, ◌++◌, length, map, take, drop, count_by, sum_by, All, Contains, slice_index}
+use Rattle.atomic_table.specs.Table.{State, Me}
 use Rattle.nb_core.specs.Plans.{Plan}
 use Rattle.nb_core.specs.Tables.{words_of}
 use Rattle.nb_core.specs.Log.{IsBeginning}
@@ -24,14 +24,29 @@ abbrev pub all_parts : List View → List Part
 all_parts [] = []
 all_parts (v ∷ views) = v.parts ++ all_parts views
 
--- the parts of so many seats from a number on, which have seen nothing
-abbrev pub fresh : ℕ → ℕ → List Part
-fresh number zero = []
-fresh number (suc count) = record { number = number; seen = []; steps = 0 } ∷ fresh (suc number) count
+-- how many steps these seats have made in all
+abbrev pub all_steps : List Part → ℕ
+all_steps = sum_by (λ part. part.steps)
+
+-- the parts of all seats at a moment, and how many steps had been made
+abbrev pub parts_at : Moment → List Part
+parts_at s = all_parts s.views
+
+abbrev pub steps_at : Moment → ℕ
+steps_at s = all_steps (parts_at s)
+
+-- the part of a seat that has seen nothing
+abbrev pub new_part : ℕ → Part
+new_part number = record { number = number; seen = []; steps = 0; last_step = 0 }
+
+-- those of so many such seats from a number on
+abbrev pub new_parts : ℕ → ℕ → List Part
+new_parts number zero = []
+new_parts number (suc count) = new_part number ∷ new_parts (suc number) count
 
 -- the first token knows all seats
 abbrev pub first_view : ℕ → View
-first_view seats = record { parts = fresh 0 seats; told = [] }
+first_view seats = record { parts = new_parts 0 seats; told = [] }
 
 -- the first part alone
 abbrev pub first_part : View → View
@@ -54,49 +69,46 @@ abbrev pub spent_view : View
 spent_view = record { parts = []; told = [] }
 
 -- There is one legal history whose words these are. Each seat has seen a beginning of it, with all its own events; what
--- a token was told of is a beginning too. No two seats share a number, and none is lost.
+-- a token was told of is a beginning too. Some seat's last step is the last of all, and this seat has seen all of the history.
+-- No two seats share a number, and none is lost.
 pub record IsChained (p : Plan) (s : Moment) : Type 0 where
   pub history : List Event
   pub legal : IsLegal p history
   pub words : s.words ≡ words_of p history
-  pub seen : All (λ part. HasSeen history part.number part.seen) (all_parts s.views)
+  pub seen : All (λ part. HasSeen history part.number part.seen) (parts_at s)
   pub told : All (λ v. All (λ seen. IsBeginning seen history) v.told) s.views
-  pub numbers : All (λ part. part.number < p.seats) (all_parts s.views)
-  pub once : (n : ℕ) → n < p.seats → count_by (λ part. part.number == n) (all_parts s.views) ≡ 1
-  pub count : length (all_parts s.views) ≡ p.seats
-
--- The seat that made the newest event of the one history has seen all of it.
-abbrev pub NewestIsSeen : Type 0
-NewestIsSeen =
-    (p : Plan) (s : Moment) (rule : IsChained p s) (e : Event) (h : List Event) → rule.history ≡ e ∷ h
-    → (part : Part) × Contains (all_parts s.views) part × (part.number ≡ seat_of_event e) × (part.seen ≡ rule.history)
+  pub steps : All (λ part. part.last_step ≤ steps_at s) (parts_at s)
+  pub last : (part : Part) × Contains (parts_at s) part × (part.last_step ≡ steps_at s) × (part.seen ≡ history)
+  pub numbers : All (λ part. part.number < p.seats) (parts_at s)
+  pub once : (n : ℕ) → n < p.seats → count_by (λ part. part.number == n) (parts_at s) ≡ 1
+  pub count : length (parts_at s) ≡ p.seats
 
 -- ---- steps
 
--- the seat's part after a step that found the history grown by others' events, and made these of its own
-abbrev pub moved : Part → List Event → List Event → Part
-moved part others own = record { number = part.number; seen = own ++ (others ++ part.seen); steps = part.steps + 1 }
+-- the seat's part after a step, the one of this number among all: it found the history grown by others' events, and made these
+-- of its own
+abbrev pub moved : Part → List Event → List Event → ℕ → Part
+moved part others own step =
+    record { number = part.number; seen = own ++ (others ++ part.seen); steps = part.steps + 1; last_step = step }
 
--- what a step tells: others made events meanwhile, the word was as found after them, and these events of the seat's follow
+-- What a step tells: others made events meanwhile, the word was as found after them, and these events of the seat's follow. It
+-- is a later step than the seat's last one.
 pub record HasMoved (p : Plan) (events : ℕ → List Event) (place found : ℕ) (part part' : Part) : Type 0 where
   pub others : List Event
   pub not_own : All (λ e. seat_of_event e ≢ part.number) others
   pub mine : All (λ e. seat_of_event e ≡ part.number) (events found)
   pub legal : IsLegal p (events found ++ (others ++ part.seen))
   pub word : slice_index (words_of p (others ++ part.seen)) place ≡ found
-  pub is : part' ≡ moved part others (events found)
+  pub step : ℕ
+  pub later : part.last_step < step
+  pub is : part' ≡ moved part others (events found) step
 
--- what a step by a token that knows one seat makes of what it knows
+-- What a step by a token that knows one seat makes of what it knows: the seat's part has moved, and the seat has seen all that
+-- the token was told of.
 pub record Moves
-    (p : Plan) (events : ℕ → List Event) (step : Step (Unit {0})) (me : Me (Unit {0}) View) (found : ℕ)
-    (me' : Me (Unit {0}) View) : Type 0 where
-  pub after : Part
-  pub is : me' ≡ (record { parts = after ∷ []; told = me.0.told }, me.1)
-  pub moves : (part : Part) → me.0.parts ≡ part ∷ [] → HasMoved p events step.word found part after
-
--- what a load by a token that knows one seat makes of it: the seat has then seen all that the token was told of
-pub record HasHeard (p : Plan) (place : ℕ) (me : Me (Unit {0}) View) (found : ℕ) (me' : Me (Unit {0}) View) : Type 0 where
+    (p : Plan) (events : ℕ → List Event) (place : ℕ) (me : Me (Unit {0}) View) (found : ℕ) (me' : Me (Unit {0}) View)
+    : Type 0 where
   pub after : Part
   pub is : me' ≡ (record { parts = after ∷ []; told = [] }, me.1)
-  pub moves : (part : Part) → me.0.parts ≡ part ∷ [] → HasMoved p (λ found. []) place found part after
+  pub moves : (part : Part) → me.0.parts ≡ part ∷ [] → HasMoved p events place found part after
   pub heard : All (λ seen. IsBeginning seen after.seen) me.0.told

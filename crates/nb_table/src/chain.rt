@@ -6,10 +6,10 @@ ghost use Rattle.nb_table.specs.Gathered.{ClosedWith, HasGathered};
 ghost use Rattle.nb_table.specs.Inside.{part_of};
 ghost use Rattle.nb_table.specs.Steps.{Can, Stepped};
 ghost use Rattle.nb_core.specs.Log.{IsBeginning};
-ghost use Rattle.nb_table.specs.Views.{HasHeard};
+ghost use Rattle.nb_table.specs.Views.{Moves};
 
 use crate::closed::Closed;
-use crate::view::{Chained, Deal, Heard, Learn, Move, Note, Told, View};
+use crate::view::{Chained, Deal, Learn, Move, Note, Told, View};
 use atomic_table::{Seat, Table};
 use nb_core::{Call, Key, NotAll, Num, OutOfMemory, Shape};
 use std::alloc::Global;
@@ -205,10 +205,11 @@ impl Chain {
         requires own { seat.old.table_id ≡ self.now.id }
         requires shape { B.shape ≡ self.now.shape }
         requires one { seat.old.me.0.parts ≡ part_of seat.old.me.0.parts ∷ [] }
+        requires none { B.events ≡ (λ found. []) }
         ensures own { seat.new.table_id ≡ seat.old.table_id }
-        ensures heard { HasHeard B.shape 0 seat.old.me result seat.new.me }
+        ensures heard { Moves B.shape B.events 0 seat.old.me result seat.new.me }
     {
-        self.table.shared.load::<Heard<B>>(seat, 0)
+        self.table.shared.load::<Move<B>>(seat, 0)
     }
 
     /// With all seats: what is left of the chain. With another number of seats everything comes back.

@@ -9,11 +9,13 @@ use nb_core::{Event, Shape};
 use std::collections::LinkedList;
 use std::marker::{Brand, PhantomData};
 
-/// What a seat has seen, the newest event first, and how many steps it has made. No value of it is made.
+/// What a seat has seen, the newest event first; how many steps it has made; and which of all steps on the chain was its last
+/// one, or 0 before its first. No value of it is made.
 pub struct Part {
     pub number: usize,
     pub seen: LinkedList<Event>,
     pub steps: u64,
+    pub last_step: u64,
 }
 
 /// What one token knows: of one seat in normal use, and lists that it was told of.
@@ -52,7 +54,7 @@ pub(crate) struct Move<B> {
 impl<B: Told> Play<(), View> for Move<B> {
     ghost use Rattle.nb_table.specs.Views.{Moves};
 
-    ghost then = { Moves B.shape B.events };
+    ghost then = { λ step. Moves B.shape B.events step.word };
 }
 
 /// The first part goes to a new token.
@@ -85,15 +87,4 @@ impl Join<View> for Learn {
     ghost both = { joined };
 
     ghost spent = { spent_view };
-}
-
-/// What the token was told of, its seat has seen after the step.
-pub(crate) struct Heard<B> {
-    told: PhantomData<B>,
-}
-
-impl<B: Told> Play<(), View> for Heard<B> {
-    ghost use Rattle.nb_table.specs.Views.{HasHeard};
-
-    ghost then = { λ step. HasHeard B.shape step.word };
 }

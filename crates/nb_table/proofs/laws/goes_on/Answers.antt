@@ -1,4 +1,4 @@
-use Rattle.nb_table.proofs.Newest.{goes_on}
+use Rattle.nb_table.proofs.Moments.{goes_on}
 use Rattle.nb_table.proofs.laws.goes_on.Goals as goal
 
 pub returns : goal.returns

@@ -1,4 +1,4 @@
-use Rattle.nb_table.proofs.Newest.{words_stand}
+use Rattle.nb_table.proofs.Moments.{words_stand}
 use Rattle.nb_table.proofs.laws.words_stand.Goals as goal
 
 pub returns : goal.returns

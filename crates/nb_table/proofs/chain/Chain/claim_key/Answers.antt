@@ -2,7 +2,7 @@ use Rattle.std.proofs.Common.{◌∙◌, ◌<◌, ap, cond, eqb, subst, sym, sli
 use Rattle.nb_core.specs.Plans.{Key, key_place, word_count}
 use Rattle.nb_core.specs.Tables.{words_of}
 use Rattle.nb_core.specs.declared.events.Event.TheVariants.{Claim}
-use Rattle.nb_table.specs.Events.{claims}
+use Rattle.nb_table.proofs.Events.{claim_events}
 use Rattle.nb_table.specs.Steps.{Can}
 use Rattle.nb_table.proofs.Keys.{can-claim, key-won}
 use Rattle.nb_table.proofs.chain.Chain.claim_key.Goals as goal
@@ -21,7 +21,7 @@ exchanges-requires-clause-can c =
     let seat = c.args.seat.now in
     let word = c.encode_key-word.result in
     let at_place = c.key_place-place.ensures ∙ ap (λ v. key_place v.shape c.args.g c.args.i) c.self.view_is in
-    let events = claims seat.number c.args.g c.args.i c.args.key in
+    let events = claim_events seat.number c.args.g c.args.i c.args.key in
     subst (λ place. Can p events seat.number seat.seen place (λ found. cond (eqb found 0) word found)) (sym at_place)
     (can-claim p seat.number c.args.g seat.seen c.args.i c.args.key word c.requires.slot c.requires.installed c.requires.way
     c.encode_key-word.ensures.in_range c.encode_key-word.ensures.word)

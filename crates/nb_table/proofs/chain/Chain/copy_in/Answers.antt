@@ -1,6 +1,6 @@
 use Rattle.std.proofs.Common.{◌∙◌, ◌<◌, cond, eqb, ap, sym, subst}
 use Rattle.nb_core.specs.Plans.{value_place, word_count}
-use Rattle.nb_table.specs.Events.{copies}
+use Rattle.nb_table.proofs.Events.{copy_events}
 use Rattle.nb_table.specs.Steps.{Can, Stepped}
 use Rattle.nb_table.proofs.Values.{can-copy, copy-lost, copy-won, found-is, value-within}
 use Rattle.nb_table.proofs.chain.Chain.copy_in.Goals as goal
@@ -17,7 +17,7 @@ exchanges-requires-clause-can c =
     let p = c.args.self.now.shape in
     let seat = c.args.seat.now in
     let place = c.value_place-place.ensures ∙ ap (λ v. value_place v.shape c.args.g c.args.i) c.self.view_is in
-    subst (λ x. Can p (copies seat.number c.args.g c.args.i c.args.key c.args.number) seat.number seat.seen x (λ found. cond
+    subst (λ x. Can p (copy_events seat.number c.args.g c.args.i c.args.key c.args.number) seat.number seat.seen x (λ found. cond
     (eqb found 0) c.encode_value-word.result found)) (sym place)
     (can-copy p seat.number
     seat.seen c.args.g c.args.i c.args.key c.args.number
@@ -28,7 +28,7 @@ exchanges-requires-clause-can c =
 pub decode_lawful_value-requires : goal.decode_lawful_value-requires
 decode_lawful_value-requires c =
     let p = c.args.self.now.shape in
-    let events = copies c.args.seat.now.number c.args.g c.args.i c.args.key c.args.number in
+    let events = copy_events c.args.seat.now.number c.args.g c.args.i c.args.key c.args.number in
     let place = c.value_place-place.ensures ∙ ap (λ v. value_place v.shape c.args.g c.args.i) c.self.view_is in
     let step = subst (λ x. Stepped p events x c.args.seat.now c.exchanges.result c.exchanges.new.seat) place
     c.exchanges.ensures in
@@ -38,7 +38,7 @@ decode_lawful_value-requires c =
 pub returns-clause-won : goal.returns-clause-won
 returns-clause-won c =
     let p = c.args.self.now.shape in
-    let events = copies c.args.seat.now.number c.args.g c.args.i c.args.key c.args.number in
+    let events = copy_events c.args.seat.now.number c.args.g c.args.i c.args.key c.args.number in
     let place = c.value_place-place.ensures ∙ ap (λ v. value_place v.shape c.args.g c.args.i) c.self.view_is in
     let step = subst (λ x. Stepped p events x c.args.seat.now c.exchanges.result c.exchanges.new.seat) place
     c.exchanges.ensures in
@@ -50,7 +50,7 @@ returns-clause-won c =
 pub returns-clause-lost : goal.returns-clause-lost
 returns-clause-lost c =
     let p = c.args.self.now.shape in
-    let events = copies c.args.seat.now.number c.args.g c.args.i c.args.key c.args.number in
+    let events = copy_events c.args.seat.now.number c.args.g c.args.i c.args.key c.args.number in
     let place = c.value_place-place.ensures ∙ ap (λ v. value_place v.shape c.args.g c.args.i) c.self.view_is in
     let step = subst (λ x. Stepped p events x c.args.seat.now c.exchanges.result c.exchanges.new.seat) place
     c.exchanges.ensures in

@@ -1,9 +1,9 @@
 use Rattle.std.specs.Prelude.{unwrap_or}
-use Rattle.nb_table.specs.Events.{copies}
+use Rattle.nb_table.proofs.Events.{copy_events}
 use Rattle.nb_table.proofs.chain.Chain.copy_in.Given as goal
 
 abbrev pub ghosts-exchanges : goal.ghosts-exchanges
 ghosts-exchanges a = record {
   shape = a.self.now.shape;
-  events = copies a.seat.now.number a._spot.g a._spot.i (unwrap_or a._spot.key 0) (unwrap_or a._spot.number 0);
+  events = copy_events a.seat.now.number a._spot.g a._spot.i (unwrap_or a._spot.key 0) (unwrap_or a._spot.number 0);
 }

@@ -1,6 +1,6 @@
 use Rattle.std.proofs.Common.{◌∙◌, ◌<◌, ap, sym, subst, bit_or}
 use Rattle.nb_core.specs.Plans.{value_place, word_count}
-use Rattle.nb_table.specs.Events.{finishes}
+use Rattle.nb_table.proofs.Events.{finish_events}
 use Rattle.nb_table.specs.Steps.{Can, Stepped}
 use Rattle.nb_table.proofs.Values.{can-finish, finish-lost, finish-won, found-is, value-within}
 use Rattle.nb_table.proofs.chain.Chain.finish_slot.Goals as goal
@@ -17,7 +17,7 @@ ors-requires-clause-can c =
     let p = c.args.self.now.shape in
     let seat = c.args.seat.now in
     let place = c.value_place-place.ensures ∙ ap (λ v. value_place v.shape c.args.g c.args.i) c.self.view_is in
-    subst (λ x. Can p (finishes seat.number c.args.g c.args.i c.args.number) seat.number seat.seen x (λ found. bit_or found 2))
+    subst (λ x. Can p (finish_events seat.number c.args.g c.args.i c.args.number) seat.number seat.seen x (λ found. bit_or found 2))
     (sym place)
     (can-finish p seat.number seat.seen c.args.g
     c.args.i c.args.number c.requires.slot
@@ -26,7 +26,7 @@ ors-requires-clause-can c =
 pub decode_lawful_value-requires : goal.decode_lawful_value-requires
 decode_lawful_value-requires c =
     let p = c.args.self.now.shape in
-    let events = finishes c.args.seat.now.number c.args.g c.args.i c.args.number in
+    let events = finish_events c.args.seat.now.number c.args.g c.args.i c.args.number in
     let place = c.value_place-place.ensures ∙ ap (λ v. value_place v.shape c.args.g c.args.i) c.self.view_is in
     let step = subst (λ x. Stepped p events x c.args.seat.now c.ors.result c.ors.new.seat) place c.ors.ensures in
     found-is p c.requires.own.plan events c.args.seat.now c.ors.result c.ors.new.seat
@@ -35,7 +35,7 @@ decode_lawful_value-requires c =
 pub returns-clause-won : goal.returns-clause-won
 returns-clause-won c =
     let p = c.args.self.now.shape in
-    let events = finishes c.args.seat.now.number c.args.g c.args.i c.args.number in
+    let events = finish_events c.args.seat.now.number c.args.g c.args.i c.args.number in
     let place = c.value_place-place.ensures ∙ ap (λ v. value_place v.shape c.args.g c.args.i) c.self.view_is in
     let step = subst (λ x. Stepped p events x c.args.seat.now c.ors.result c.ors.new.seat) place c.ors.ensures in
     finish-won p c.requires.own.plan c.args.seat.now c.ors.result
@@ -45,7 +45,7 @@ returns-clause-won c =
 pub returns-clause-lost : goal.returns-clause-lost
 returns-clause-lost c =
     let p = c.args.self.now.shape in
-    let events = finishes c.args.seat.now.number c.args.g c.args.i c.args.number in
+    let events = finish_events c.args.seat.now.number c.args.g c.args.i c.args.number in
     let place = c.value_place-place.ensures ∙ ap (λ v. value_place v.shape c.args.g c.args.i) c.self.view_is in
     let step = subst (λ x. Stepped p events x c.args.seat.now c.ors.result c.ors.new.seat) place c.ors.ensures in
     finish-lost p c.requires.own.plan c.args.seat.now c.ors.result

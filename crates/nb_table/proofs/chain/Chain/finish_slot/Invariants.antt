@@ -1,9 +1,9 @@
 use Rattle.std.specs.Prelude.{unwrap_or}
-use Rattle.nb_table.specs.Events.{finishes}
+use Rattle.nb_table.proofs.Events.{finish_events}
 use Rattle.nb_table.proofs.chain.Chain.finish_slot.Given as goal
 
 abbrev pub ghosts-ors : goal.ghosts-ors
 ghosts-ors a = record {
   shape = a.self.now.shape;
-  events = finishes a.seat.now.number a._spot.g a._spot.i (unwrap_or a._spot.number 0);
+  events = finish_events a.seat.now.number a._spot.g a._spot.i (unwrap_or a._spot.number 0);
 }

@@ -1,6 +1,6 @@
 use Rattle.std.proofs.Common.{◌∙◌, ◌<◌, ap, arith, cond, eqb, subst, sym}
 use Rattle.nb_core.specs.Plans.{Header, header_place, limit_of, word_count}
-use Rattle.nb_table.specs.Events.{installs}
+use Rattle.nb_table.proofs.Events.{install_events}
 use Rattle.nb_table.specs.Steps.{Can}
 use Rattle.nb_table.proofs.Keys.{can-install, exchange-installs}
 use Rattle.nb_table.proofs.chain.Chain.install.Goals as goal
@@ -19,7 +19,7 @@ exchanges-requires-clause-can c =
     let seat = c.args.seat.now in
     let at_place = c.header_place-place.ensures ∙ ap (λ v. header_place v.shape c.args.g 0) c.self.view_is in
     let limit = limit_of p c.args.g in
-    let events = installs seat.number c.args.g c.args.key in
+    let events = install_events seat.number c.args.g c.args.key in
     subst (λ place. Can p events seat.number seat.seen place (λ found. cond (eqb found 0) 1 found)) (sym at_place)
     (can-install p seat.number c.args.g seat.seen c.args.key c.requires.room c.requires.ready c.requires.crowded
     c.known.ensures)

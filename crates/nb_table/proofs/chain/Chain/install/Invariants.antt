@@ -1,9 +1,9 @@
 use Rattle.std.proofs.Common.{unwrap_or}
-use Rattle.nb_table.specs.Events.{installs}
+use Rattle.nb_table.proofs.Events.{install_events}
 use Rattle.nb_table.proofs.chain.Chain.install.Given as goal
 
 abbrev pub ghosts-exchanges : goal.ghosts-exchanges
 ghosts-exchanges a = record {
   shape = a.self.now.shape;
-  events = installs a.seat.now.number a._spot.g (unwrap_or a._spot.key 0);
+  events = install_events a.seat.now.number a._spot.g (unwrap_or a._spot.key 0);
 }

@@ -1,7 +1,7 @@
 use Rattle.std.proofs.Common.{◌∙◌, ap, cond, eqb, refl, subst, sym}
 use Rattle.nb_core.specs.Plans.{key_place}
 use Rattle.nb_core.specs.declared.events.Event.TheVariants.{Kill}
-use Rattle.nb_table.specs.Events.{kills}
+use Rattle.nb_table.proofs.Events.{kill_events}
 use Rattle.nb_table.specs.Steps.{Can}
 use Rattle.nb_table.proofs.Keys.{can-kill, key-lost, key-won}
 use Rattle.nb_table.proofs.chain.Chain.kill_key.Goals as goal
@@ -11,7 +11,7 @@ exchanges-requires-clause-can c =
     let p = c.args.self.now.shape in
     let seat = c.args.seat.now in
     let at_place = c.key_place-place.ensures ∙ ap (λ v. key_place v.shape c.args.g c.args.i) c.self.view_is in
-    let events = kills seat.number c.args.g c.args.i in
+    let events = kill_events seat.number c.args.g c.args.i in
     subst (λ place. Can p events seat.number seat.seen place (λ found. cond (eqb found 0) 1 found)) (sym at_place)
     (can-kill p seat.number c.args.g seat.seen c.args.i c.requires.slot c.requires.growing)
 

@@ -6,7 +6,7 @@ use Rattle.nb_table.proofs.chain.Chain.new.Goals as goal
 
 pub of_words-requires : goal.of_words-requires
 of_words-requires c =
-    opens c.args.shape c.as_slice.result.now
+    opens c.args.shape c.as_slice.result.now c.seats.ensures.plan.seats.0
     (c.as_slice.ensures.value ∙ c.in_ok-words.ensures.items_if_clones_equal (λ y e. e)
     ∙ ap (λ n. replicate n 0) c.words.ensures)
 

@@ -1,6 +1,6 @@
 use Rattle.std.proofs.Common.{◌∙◌, ◌<◌, ap, sym, subst, bit_or}
 use Rattle.nb_core.specs.Plans.{value_place, word_count}
-use Rattle.nb_table.specs.Events.{primes}
+use Rattle.nb_table.proofs.Events.{prime_events}
 use Rattle.nb_table.specs.Steps.{Can, Stepped}
 use Rattle.nb_table.proofs.Values.{can-prime, found-is, prime-lost, prime-won, value-within}
 use Rattle.nb_table.proofs.chain.Chain.prime.Goals as goal
@@ -17,7 +17,7 @@ ors-requires-clause-can c =
     let p = c.args.self.now.shape in
     let seat = c.args.seat.now in
     let place = c.value_place-place.ensures ∙ ap (λ v. value_place v.shape c.args.g c.args.i) c.self.view_is in
-    subst (λ x. Can p (primes seat.number c.args.g c.args.i) seat.number seat.seen x (λ found. bit_or found 1)) (sym place)
+    subst (λ x. Can p (prime_events seat.number c.args.g c.args.i) seat.number seat.seen x (λ found. bit_or found 1)) (sym place)
     (can-prime p seat.number seat.seen c.args.g c.args.i
     c.requires.slot c.requires.growing
     c.requires.claimed)
@@ -25,7 +25,7 @@ ors-requires-clause-can c =
 pub decode_lawful_value-requires : goal.decode_lawful_value-requires
 decode_lawful_value-requires c =
     let p = c.args.self.now.shape in
-    let events = primes c.args.seat.now.number c.args.g c.args.i in
+    let events = prime_events c.args.seat.now.number c.args.g c.args.i in
     let place = c.value_place-place.ensures ∙ ap (λ v. value_place v.shape c.args.g c.args.i) c.self.view_is in
     let step = subst (λ x. Stepped p events x c.args.seat.now c.ors.result c.ors.new.seat) place c.ors.ensures in
     found-is p c.requires.own.plan events c.args.seat.now c.ors.result c.ors.new.seat
@@ -34,7 +34,7 @@ decode_lawful_value-requires c =
 pub returns-clause-won : goal.returns-clause-won
 returns-clause-won c =
     let p = c.args.self.now.shape in
-    let events = primes c.args.seat.now.number c.args.g c.args.i in
+    let events = prime_events c.args.seat.now.number c.args.g c.args.i in
     let place = c.value_place-place.ensures ∙ ap (λ v. value_place v.shape c.args.g c.args.i) c.self.view_is in
     let step = subst (λ x. Stepped p events x c.args.seat.now c.ors.result c.ors.new.seat) place c.ors.ensures in
     prime-won p c.requires.own.plan c.args.seat.now c.ors.result
@@ -44,7 +44,7 @@ returns-clause-won c =
 pub returns-clause-lost : goal.returns-clause-lost
 returns-clause-lost c =
     let p = c.args.self.now.shape in
-    let events = primes c.args.seat.now.number c.args.g c.args.i in
+    let events = prime_events c.args.seat.now.number c.args.g c.args.i in
     let place = c.value_place-place.ensures ∙ ap (λ v. value_place v.shape c.args.g c.args.i) c.self.view_is in
     let step = subst (λ x. Stepped p events x c.args.seat.now c.ors.result c.ors.new.seat) place c.ors.ensures in
     prime-lost p c.requires.own.plan c.args.seat.now c.ors.result

@@ -1,6 +1,6 @@
 use Rattle.std.proofs.Common.{◌∙◌, ◌<◌, cond, eqb, ap, sym, subst, subst₂}
 use Rattle.nb_core.specs.Plans.{value_place, word_count}
-use Rattle.nb_table.specs.Events.{wins}
+use Rattle.nb_table.proofs.Events.{win_events}
 use Rattle.nb_table.specs.Steps.{Can, Stepped}
 use Rattle.nb_table.proofs.Values.{found-is, value-within}
 use Rattle.nb_table.proofs.Winning.{can-win, win-lost, win-won, wins-of}
@@ -38,7 +38,7 @@ decode_lawful_value-requires c =
     let step = subst₂ (λ x told. Stepped p told x seat c.exchanges.result c.exchanges.new.seat) place events
     c.exchanges.ensures in
     found-is p c.requires.own.plan
-    (wins seat.number c.args.g c.args.i c.args.from c.args.to c.args.call) seat c.exchanges.result c.exchanges.new.seat
+    (win_events seat.number c.args.g c.args.i c.args.from c.args.to c.args.call) seat c.exchanges.result c.exchanges.new.seat
     c.args.g c.args.i c.requires.slot step
 
 pub returns-clause-won : goal.returns-clause-won
