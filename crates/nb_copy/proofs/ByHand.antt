@@ -4,7 +4,7 @@ use Rattle.std.proofs.lemmas.Bool.Decides.{eqb_tells}
 use Rattle.nb_core.specs.Plans.{Plan, generations_of, limit_of, size_of}
 use Rattle.nb_core.specs.History.{HasWay}
 use Rattle.nb_core.proofs.Theorems.{complete_passed, linked, top_complete}
-use Rattle.nb_core.specs.Laws.{primed}
+use Rattle.nb_core.specs.States.{primed}
 use Rattle.nb_core.specs.Tables.{AreOthers, IsComplete, IsInstalled, IsOther, IsReady, IsSettledBelow, IsUnprimed, Tables, path_slot}
 use Rattle.nb_core.specs.declared.events.Event.{Event}
 use Rattle.nb_core.specs.declared.states.KeyState.TheVariants.{Claimed}

@@ -2,9 +2,10 @@
 use Rattle.std.proofs.Common.{◌≡◌, ◌≢◌, ◌∙◌, ◌⊎◌, ℕ, suc, ◌+◌, ◌≤◌, ◌<◌, Bool, true, false, cond, List, [], ◌∷◌, Some, None, ap, sym, subst, refl, inl, inr, arith}
 use Rattle.std.proofs.lemmas.Bool.{eq-eqb}
 use Rattle.nb_core.specs.Plans.{Plan, generations_of, size_of}
-use Rattle.nb_core.specs.Tables.{HasSlot, IsFinished, IsFinishedValue, IsInstalled, IsSlot, IsUnprimed, Tables}
+use Rattle.nb_core.specs.Tables.{HasSlot, IsFinished, IsFinishedValue, IsInstalled, IsSlot, IsUnprimed, Tables, IsPassed, IsPrimedOrFinished}
 use Rattle.nb_core.specs.History.{is_finished_by_priming}
-use Rattle.nb_core.specs.Laws.{IsPassed, IsPrimedOrFinished, Lasts, primed}
+use Rattle.nb_core.specs.States.{primed}
+use Rattle.nb_core.specs.Laws.{Lasts}
 use Rattle.nb_core.specs.declared.states.KeyState.TheVariants.{Claimed}
 use Rattle.nb_core.specs.declared.states.ValueState.{ValueState}
 use Rattle.nb_core.specs.declared.states.ValueState.TheVariants.{Null, Tombstone, Live, PrimedNull, PrimedTombstone, Primed, Finished}

@@ -1,8 +1,8 @@
 -- How a slot is copied.
 use Rattle.std.proofs.Common.{◌≡◌, ◌∙◌, ℕ, suc, ◌+◌, ◌*◌, ◌<◌, [], ◌∷◌, ap, sym, subst, refl, inl, arith}
 use Rattle.nb_core.specs.Plans.{Plan, generations_of, size_of}
-use Rattle.nb_core.specs.Tables.{AreOthers, HasSlot, IsOnPath, Tables, path_slot}
-use Rattle.nb_core.specs.Laws.{IsPassed, UpToDead, Lasts}
+use Rattle.nb_core.specs.Tables.{AreOthers, HasSlot, IsOnPath, Tables, path_slot, IsPassed, UpToDead}
+use Rattle.nb_core.specs.Laws.{Lasts}
 use Rattle.nb_core.specs.declared.states.KeyState.TheVariants.{Dead}
 use Rattle.nb_core.specs.declared.events.Event.TheVariants.{Claim}
 use Rattle.nb_table.specs.Chains.{ChainOf, Extended, IsOwn, SeenBy, seen_by}

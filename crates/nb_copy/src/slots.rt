@@ -1,6 +1,6 @@
 //! Copying one slot.
 ghost use Rattle.std.specs.Prelude.{◌≡◌, ◌≢◌, ◌+◌, ◌*◌, ◌<◌, suc, [], ◌∷◌, if◌then◌else◌, IfSome, IfNone};
-ghost use Rattle.nb_core.specs.Laws.{IsPassed, IsPrimedOrFinished};
+ghost use Rattle.nb_core.specs.Tables.{IsPassed, IsPrimedOrFinished};
 ghost use Rattle.nb_core.specs.Plans.{generations_of, size_of};
 ghost use Rattle.nb_core.specs.Tables.{HasSlot, IsFinished, IsInstalled, IsOnPath, IsSlot};
 ghost use Rattle.nb_core.specs.declared.states.KeyState.TheVariants as key_is;

@@ -4,9 +4,9 @@ use Rattle.std.proofs.lemmas.Bool.Decides.{nat_tests}
 use Rattle.std.proofs.lemmas.Nat.{and_mask}
 use Rattle.std.proofs.lemmas.Nat.Bits.{and_pow, bit_at-suc, bit_at_lowest}
 use Rattle.std.specs.Int.Bits.{or_add_and}
-use Rattle.nb_core.specs.States.{IsValueState, value_state, value_word}
+use Rattle.nb_core.specs.States.{IsValueState, value_state, value_word, primed}
 use Rattle.nb_core.specs.Tables.{IsUnprimed}
-use Rattle.nb_core.specs.Laws.{Codings, primed}
+use Rattle.nb_core.specs.Laws.{Codings}
 use Rattle.nb_core.specs.declared.states.ValueState.{ValueState}
 use Rattle.nb_core.specs.declared.states.ValueState.TheVariants.{Null, Tombstone, Live, PrimedNull, PrimedTombstone, Primed, Finished}
 

@@ -6,9 +6,10 @@ use Rattle.std.proofs.Math.Pow.{pow-lt}
 use Rattle.std.proofs.lemmas.Bool.{eqb-false, eqb-true, false_from_ne_true, ne_eqb}
 use Rattle.std.specs.Option.{IfSome, option_map_or}
 use Rattle.nb_core.specs.Plans.{Plan, IsPlan, Header, generations_of, size_of}
-use Rattle.nb_core.specs.Tables.{IsFinished, IsFinishedValue, IsSlot, IsUnprimed, Tables, is_finished_value, tables_at}
+use Rattle.nb_core.specs.Tables.{IsFinished, IsFinishedValue, IsSlot, IsUnprimed, Tables, is_finished_value, tables_at, finished_among, is_dead}
 use Rattle.nb_core.specs.History.{IsInRange, IsLegal, MayClaim, MayFinish, MayFollow, MayKill, MayPrime, counted_by, counts, is_finished_by_priming, seat_of_event, turned_by, turned_slot, turns, turns_slot}
-use Rattle.nb_core.specs.Laws.{CountedOnce, finished_among, is_dead, over_seats, primed, times_turned}
+use Rattle.nb_core.specs.States.{primed}
+use Rattle.nb_core.specs.Laws.{CountedOnce, over_seats, times_turned}
 use Rattle.nb_core.proofs.Frames.{finished, key_after, key-first, key-frame, value_after, value-first, value-frame}
 use Rattle.nb_core.proofs.Keeping.{sound}
 use Rattle.nb_core.proofs.Lasting.{put-unprimed, win-puts}

@@ -5,10 +5,9 @@ use Rattle.std.proofs.lemmas.Bool.{cases_lt, ne_eqb}
 use Rattle.std.proofs.lemmas.Bool.Decides.{nat_tests}
 use Rattle.std.specs.Option.{unwrap_or}
 use Rattle.nb_core.specs.Plans.{Plan, IsPlan, Header, Key, Value, generations_of, value_place}
-use Rattle.nb_core.specs.States.{IsValueState, key_state, key_word, value_state, value_word}
+use Rattle.nb_core.specs.States.{IsValueState, key_state, key_word, value_state, value_word, primed}
 use Rattle.nb_core.specs.Tables.{IsSlot, tables_at, words_of}
 use Rattle.nb_core.specs.History.{IsInRange, IsLegal}
-use Rattle.nb_core.specs.Laws.{primed}
 use Rattle.nb_core.proofs.Codings.{finished-word, primed-word, value_state-word}
 use Rattle.nb_core.proofs.Tables.{base_of-le}
 use Rattle.nb_core.proofs.Words.{at_slot, length-words_of, word-first, word_after, word-frame}

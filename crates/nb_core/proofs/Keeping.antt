@@ -1,9 +1,9 @@
 -- Each step keeps the invariant, so it holds after every legal history.
 use Rattle.std.proofs.Common.{◌≡◌, ◌≢◌, ◌∙◌, ℕ, ◌<◌, ◌≤◌, ◌⊎◌, suc, List, [], ◌∷◌, ap, sym, subst, refl, inl, inr, arith}
 use Rattle.nb_core.specs.Plans.{Plan, IsPlan, generations_of}
-use Rattle.nb_core.specs.Tables.{HasSlot, IsComplete, IsFinishedValue, IsSlot, IsUnprimed, Tables, path_slot, tables_at}
+use Rattle.nb_core.specs.Tables.{HasSlot, IsComplete, IsFinishedValue, IsSlot, IsUnprimed, Tables, path_slot, tables_at, HasContent}
 use Rattle.nb_core.specs.History.{IsLegal, MayClaim, MayFinish}
-use Rattle.nb_core.specs.Laws.{HasContent, primed}
+use Rattle.nb_core.specs.States.{primed}
 use Rattle.nb_core.proofs.Frames.{key-first, next-first, value-first}
 use Rattle.nb_core.proofs.Lasting.{complete-stays, installed-stays, key-claimed, key-was, key-was_dead, next-stays, others-stay, put-unprimed, slot-stays, value-content, value-empty, value-final, value-primed_or_finished, value-primed, win-puts}
 use Rattle.nb_core.proofs.Passing.{no_true}

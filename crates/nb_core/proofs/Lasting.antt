@@ -2,9 +2,9 @@
 use Rattle.std.proofs.Common.{◌≡◌, ◌≢◌, ◌∙◌, ℕ, ◌<◌, ◌≤◌, ◌⊎◌, zero, suc, Option, Some, None, MatchOption, sym, subst, refl, inl, inr}
 use Rattle.nb_core.specs.Log.{changed}
 use Rattle.nb_core.specs.Plans.{Plan, IsPlan, generations_of}
-use Rattle.nb_core.specs.Tables.{AreOthers, HasSlot, IsComplete, IsFinished, IsFinishedValue, IsInstalled, IsSlot, IsUnprimed, Tables, path_slot}
+use Rattle.nb_core.specs.Tables.{AreOthers, HasSlot, IsComplete, IsFinished, IsFinishedValue, IsInstalled, IsSlot, IsUnprimed, Tables, path_slot, HasContent, IsPrimedOrFinished}
 use Rattle.nb_core.specs.History.{IsExchange, MayClaim, MayWin, number_in_value, key_of_call}
-use Rattle.nb_core.specs.Laws.{HasContent, IsPrimedOrFinished, primed}
+use Rattle.nb_core.specs.States.{primed}
 use Rattle.nb_core.proofs.Legality.{number_left}
 use Rattle.nb_core.proofs.Passing.{no_true}
 use Rattle.nb_core.proofs.Sound.{IsSound, claimed-same, empty-null, empty-unclaimed, path_slot-is_slot, unprimed-not_final}

@@ -1,9 +1,9 @@
 -- What is so at a moment, and still is at every later one.
 use Rattle.std.proofs.Common.{◌≡◌, ◌≢◌, ◌∙◌, ℕ, ◌<◌, ◌≤◌, zero, suc, [], ◌∷◌, ◌++◌, sym, subst, refl, inl, inr, arith}
 use Rattle.nb_core.specs.Plans.{Plan, IsPlan, generations_of, size_of}
-use Rattle.nb_core.specs.Tables.{HasSlot, IsFinishedValue, IsReady, IsSettledBelow, IsSlot, Tables, path_slot, tables_at}
+use Rattle.nb_core.specs.Tables.{HasSlot, IsFinishedValue, IsReady, IsSettledBelow, IsSlot, Tables, path_slot, tables_at, IsPassed, AtSlot, UpToDead, Whole}
 use Rattle.nb_core.specs.History.{HasValue}
-use Rattle.nb_core.specs.Laws.{BeginningsAreLegal, ContentOnce, IsPassed, AtSlot, UpToDead, Whole, Lasts, SeenLasts, SlotsStay, Stays}
+use Rattle.nb_core.specs.Laws.{BeginningsAreLegal, ContentOnce, Lasts, SeenLasts, SlotsStay, Stays}
 use Rattle.nb_core.proofs.Keeping.{claim-not_late, sound}
 use Rattle.nb_core.proofs.Lasting.{complete-stays, finished-stays, installed-stays, key-claimed, key-dead, key-was, others-stay, slot-stays, value-content, value-final, value-primed_or_finished, value-some, value-still_final}
 use Rattle.nb_core.proofs.Sound.{IsSound, dead-null, finished-not_empty, path_slot-is_slot}

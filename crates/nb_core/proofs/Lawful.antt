@@ -2,10 +2,10 @@
 use Rattle.std.proofs.Common.{◌≡◌, ◌≢◌, ◌∙◌, ℕ, ◌-◌, ◌+◌, ◌%◌, ◌^◌, ◌<◌, ◌≤◌, ◌⊎◌, zero, suc, cond, ◌||◌, List, [], ◌∷◌, slice_index, ap, sym, subst, subst₂, refl, inl, inr, arith}
 use Rattle.std.proofs.lemmas.Bool.{cond_both}
 use Rattle.nb_core.specs.Plans.{Plan, IsPlan, Header, generations_of, header_place, size_of}
-use Rattle.nb_core.specs.States.{IsKeyState, value_state}
-use Rattle.nb_core.specs.Tables.{IsSlot, IsUnprimed, chunk_of, Tables, is_finished_value, tables_at, words_of}
+use Rattle.nb_core.specs.States.{IsKeyState, value_state, primed}
+use Rattle.nb_core.specs.Tables.{IsSlot, IsUnprimed, chunk_of, Tables, is_finished_value, tables_at, words_of, finished_among, is_dead}
 use Rattle.nb_core.specs.History.{IsLegal}
-use Rattle.nb_core.specs.Laws.{IsKeyChange, IsValueChange, IsWonChange, LawfulChanges, LawfulWords, finished_among, is_dead, primed}
+use Rattle.nb_core.specs.Laws.{IsKeyChange, IsValueChange, IsWonChange, LawfulChanges, LawfulWords}
 use Rattle.nb_core.proofs.Codings.{value_state-word}
 use Rattle.nb_core.proofs.Counting.{counted_once}
 use Rattle.nb_core.proofs.Frames.{finished, key_after, key-frame, value_after, value-frame, value_words}

@@ -3,10 +3,9 @@ use Rattle.std.specs.Prelude.{ℕ, suc, zero, ◌+◌, ◌-◌, ◌%◌, ◌==�
 use Rattle.nb_core.specs.Calls.{is_past_max, leaves_alone, same_number}
 use Rattle.nb_core.specs.Log.{changed, holds_of}
 use Rattle.nb_core.specs.Plans.{Plan, generations_of, limit_of, size_of}
-use Rattle.nb_core.specs.Tables.{Tables, is_finished_value, path_slot, tables_at}
+use Rattle.nb_core.specs.Tables.{Tables, is_finished_value, path_slot, tables_at, is_dead}
 use Rattle.nb_core.specs.Histories.{is_empty}
 use Rattle.nb_core.specs.History.{number_in_value, counted_by, key_of_call, turned_by}
-use Rattle.nb_core.specs.Laws.{is_dead}
 use Rattle.nb_core.specs.Meaning.{is_claimed_by, is_installed, slot_among}
 use Rattle.nb_core.specs.declared.numbers.TheConstants.{KEY_MAX, VALUE_MAX}
 use Rattle.nb_core.specs.declared.calls.Call.{Call}

@@ -1,8 +1,8 @@
 -- Which tables are there, and where on the paths of keys their slots lie.
 use Rattle.std.proofs.Common.{ℕ, ◌-◌, ◌<◌, zero, suc, inl, inr, arith}
 use Rattle.nb_core.specs.Plans.{Plan, IsPlan, generations_of}
-use Rattle.nb_core.specs.Tables.{HasSlot, IsComplete, IsInstalled, Tables, path_slot, tables_at}
-use Rattle.nb_core.specs.Laws.{AtSlot, ClaimedOnPath, IsPassed, PassedAbove, TablesAreLinked, UpToDead, Whole, WholeCrowded}
+use Rattle.nb_core.specs.Tables.{HasSlot, IsComplete, IsInstalled, Tables, path_slot, tables_at, AtSlot, IsPassed, UpToDead, Whole}
+use Rattle.nb_core.specs.Laws.{ClaimedOnPath, PassedAbove, TablesAreLinked, WholeCrowded}
 use Rattle.nb_core.proofs.Following.{top_complete}
 use Rattle.nb_core.proofs.Keeping.{sound}
 use Rattle.nb_core.proofs.Room.{crowded-complete_below, others-whole}

@@ -2,9 +2,9 @@
 use Rattle.std.proofs.Common.{◌≡◌, ◌≢◌, ◌∙◌, ℕ, ◌≤◌, zero, suc, ap, sym, refl, subst, inl, inr, cond, eqb, List, [], ◌∷◌, Option, Some, None, arith}
 use Rattle.std.proofs.lemmas.Bool.{cases_order, cond-true, cond_both, eqb-false, eqb-true}
 use Rattle.nb_core.specs.Plans.{Plan, IsPlan}
-use Rattle.nb_core.specs.Tables.{IsSlot, IsUnprimed, Tables, tables_at}
+use Rattle.nb_core.specs.Tables.{IsSlot, IsUnprimed, Tables, tables_at, HasContent}
 use Rattle.nb_core.specs.History.{IsLegal, IsPrimedBelow, MayWin, number_in_value, key_of_call}
-use Rattle.nb_core.specs.Laws.{HasContent, primed}
+use Rattle.nb_core.specs.States.{primed}
 use Rattle.nb_core.proofs.Frames.{finished, key-first, value_after, value-frame}
 use Rattle.nb_core.proofs.Keeping.{above-primed, sound}
 use Rattle.nb_core.proofs.Lasting.{key-claimed, key-was, put-content, put-number, put-unprimed, value-empty, win-key, win-puts}

@@ -10,7 +10,8 @@ use Rattle.nb_core.specs.Tables.{HasSlot, IsFinishedValue, IsSettledBelow, IsSlo
 use Rattle.nb_core.specs.History.{IsLegal, IsPrimedBelow, counts, key_of_call, seat_of_event, turned_by, turns}
 use Rattle.nb_core.specs.Log.{calls_of, log_of}
 use Rattle.nb_core.specs.Meaning.{is_win_of_another, passed_over}
-use Rattle.nb_core.specs.Laws.{HasOwnStill, IsValueChange, LostExchange, OwnLasts, PassedOverAdds, primed}
+use Rattle.nb_core.specs.States.{primed}
+use Rattle.nb_core.specs.Laws.{HasOwnStill, IsValueChange, LostExchange, OwnLasts, PassedOverAdds}
 use Rattle.nb_core.proofs.Lasting.{win-key}
 use Rattle.nb_core.proofs.Later.{seen_lasts}
 use Rattle.nb_core.proofs.Lawful.{lawful_changes}

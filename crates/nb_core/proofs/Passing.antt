@@ -4,11 +4,10 @@ use Rattle.std.proofs.lemmas.Bool.{both_ways, eq-eqb, eqb-false, eqb-true, leb-t
 use Rattle.nb_core.specs.Log.{changed, holds_of}
 use Rattle.nb_core.specs.Plans.{Plan, generations_of, limit_of, size_of}
 use Rattle.nb_core.specs.States.{IsValueState}
-use Rattle.nb_core.specs.Tables.{AreOthers, HasSlotBelow, IsComplete, IsFinished, IsFinishedValue, IsInstalled, IsOther, IsReady, IsSettledBelow, IsSlot, IsUnprimed, Tables, is_finished_value, path_slot, tables_at}
+use Rattle.nb_core.specs.Tables.{AreOthers, HasSlotBelow, IsComplete, IsFinished, IsFinishedValue, IsInstalled, IsOther, IsReady, IsSettledBelow, IsSlot, IsUnprimed, Tables, is_finished_value, path_slot, tables_at, is_dead}
 use Rattle.nb_core.specs.Histories.{is_empty}
 use Rattle.nb_core.specs.History.{Exchanges, HasValue, IsCallInRange, IsChangeInRange, IsExchange, IsInRange, IsPrimedBelow, IsWantInRange, MayClaim, MayFinish, MayFollow, MayWin, number_in_value, counted_by, key_of_call, turned_by}
 use Rattle.nb_core.specs.Meaning.{is_claimed_by, is_installed, slot_among}
-use Rattle.nb_core.specs.Laws.{is_dead}
 use Rattle.nb_core.proofs.Legality.{all_finished, are_others, claimed_key, distance_of, exchanges_to, has_slot_below, has_value_at, is_call_in_range, is_change_in_range, is_complete, is_exchange, is_finished, is_in_range, is_live, is_null, is_other, is_primed_at, is_primed_below, is_ready, is_settled_below, is_slot, is_unprimed, is_value_in_range, is_want_in_range, may_claim_at, may_finish_of, may_follow, may_win, primed_number, same_value, settled_among}
 use Rattle.nb_core.specs.declared.numbers.TheConstants.{KEY_MAX, VALUE_MAX}
 use Rattle.nb_core.specs.declared.calls.Call.{Call}

@@ -8,8 +8,8 @@ use Rattle.std.proofs.lemmas.Map.Steps.{length-le_from_distinct_below}
 use Rattle.std.proofs.lemmas.Map.Views.{Contains-from_any}
 use Rattle.std.specs.List.{list_any, range_with_len}
 use Rattle.nb_core.specs.Plans.{Plan, IsPlan, generations_of, size_of}
-use Rattle.nb_core.specs.Tables.{AreOthers, HasSlot, IsComplete, IsFinishedValue, IsOther, Tables, path_slot}
-use Rattle.nb_core.specs.Laws.{HasRoom, IsPassed, AtSlot, UpToDead, Whole}
+use Rattle.nb_core.specs.Tables.{AreOthers, HasSlot, IsComplete, IsFinishedValue, IsOther, Tables, path_slot, IsPassed, AtSlot, UpToDead, Whole}
+use Rattle.nb_core.specs.Laws.{HasRoom}
 use Rattle.nb_core.proofs.Passing.{below_suc}
 use Rattle.nb_core.proofs.Sound.{IsSound, dead-unclaimed, finished-not_empty, finished-value, no_slot-past, no_slot-whole, one_key, one_slot, path_slot-is_slot}
 use Rattle.nb_core.proofs.Tables.{sizes_never_fall}

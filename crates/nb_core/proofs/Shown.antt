@@ -2,10 +2,10 @@
 use Rattle.std.proofs.Common.{◌≡◌, ◌≢◌, ◌∙◌, ℕ, ◌+◌, ◌-◌, ◌<◌, ◌≤◌, ◌⊎◌, zero, suc, ap, sym, refl, subst, inl, inr, Bool, true, false, Option, Some, None, arith}
 use Rattle.std.proofs.lemmas.Bool.{cases_lt, cases_order, cond_both, eq-eqb}
 use Rattle.nb_core.specs.Plans.{Plan, IsPlan, generations_of, size_of}
-use Rattle.nb_core.specs.Tables.{AreOthers, HasSlot, IsComplete, IsFinishedValue, IsInstalled, IsSettledBelow, IsSlot, IsUnprimed, Tables, path_slot, tables_at}
+use Rattle.nb_core.specs.Tables.{AreOthers, HasSlot, IsComplete, IsFinishedValue, IsInstalled, IsSettledBelow, IsSlot, IsUnprimed, Tables, path_slot, tables_at, HasContent, IsPassed}
 use Rattle.nb_core.specs.History.{MayWin, number_in_value, key_of_call}
 use Rattle.nb_core.specs.Meaning.{is_blank, is_installed, shown_by, shown_from, value_in}
-use Rattle.nb_core.specs.Laws.{AtEmpty, AtValue, CrowdedAbsent, Decided, HasContent, InLast, IsPassed, NoNext, Shows, TablesStand, WinNumber}
+use Rattle.nb_core.specs.Laws.{AtEmpty, AtValue, CrowdedAbsent, Decided, InLast, NoNext, Shows, TablesStand, WinNumber}
 use Rattle.nb_core.proofs.Keeping.{sound}
 use Rattle.nb_core.proofs.Lasting.{win-key}
 use Rattle.nb_core.proofs.Newest.{HasNoneFrom, HasNoneFrom-slot, HasNoneFrom-unprimed, HasNoneIn, IsNewest, IsNewestAt, from_suc, newest}

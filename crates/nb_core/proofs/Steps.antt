@@ -3,7 +3,7 @@ use Rattle.std.proofs.Common.{◌≡◌, ℕ, ◌<◌, ◌≤◌, max, suc, cond
 use Rattle.nb_core.specs.Plans.{Plan, IsPlan, Top, Header, generations_of}
 use Rattle.nb_core.specs.Tables.{IsSlot, Tables, tables_at}
 use Rattle.nb_core.specs.History.{IsLegal, MayClaim, MayCopyIn, MayFinish, MayInstall, MayKill, MayPrime, MayPromote, MayWin}
-use Rattle.nb_core.specs.Laws.{primed}
+use Rattle.nb_core.specs.States.{primed}
 use Rattle.nb_core.proofs.Frames.{finished, key_after, key-frame, next-frame, value_after, value-frame}
 use Rattle.nb_core.proofs.Words.{at_slot, at_table, word_after, word-frame}
 use Rattle.nb_core.specs.declared.numbers.TheConstants.{KEY_MAX}

@@ -1,10 +1,10 @@
 -- The laws of legal histories: what holds at every moment, whatever atomic steps were made, by whom, in which order.
-use Rattle.std.specs.Prelude.{◌≡◌, ◌≢◌, ℕ, suc, zero, ◌+◌, ◌-◌, ◌%◌, ◌<◌, ◌≤◌, ◌⊎◌, ◌||◌, pos, Bool, true, false, if◌then◌else◌, List, [], ◌∷◌, ◌++◌, length, slice_index, bit_or, Option, Some, None, All}
+use Rattle.std.specs.Prelude.{◌≡◌, ◌≢◌, ℕ, suc, zero, ◌+◌, ◌-◌, ◌%◌, ◌<◌, ◌≤◌, ◌⊎◌, pos, true, if◌then◌else◌, List, [], ◌∷◌, ◌++◌, length, slice_index, bit_or, Option, Some, None, All}
 use Rattle.std.specs.FinMap as map
 use Rattle.nb_core.specs.Calls.{leaves_alone}
 use Rattle.nb_core.specs.Plans.{Plan, IsPlan, generations_of, header_place, size_of, value_place, word_count}
-use Rattle.nb_core.specs.States.{IsKeyState, IsValueState, value_state, value_word}
-use Rattle.nb_core.specs.Tables.{AreOthers, HasSlot, IsComplete, IsFinished, IsFinishedValue, IsInstalled, IsOnPath, IsReady, IsSettledBelow, IsSlot, IsUnprimed, Tables, is_finished_value, path_slot, tables_at, words_of}
+use Rattle.nb_core.specs.States.{IsKeyState, IsValueState, IsValueWord, primed, value_state, value_word}
+use Rattle.nb_core.specs.Tables.{AreOthers, HasContent, HasSlot, IsComplete, IsFinished, IsFinishedValue, IsInstalled, IsOnPath, IsPassed, IsPrimedOrFinished, IsReady, IsSettledBelow, IsSlot, IsUnprimed, Tables, finished_among, path_slot, tables_at, words_of}
 use Rattle.nb_core.specs.History.{HasValue, IsLegal, MayWin, Replies, number_in_value, counted_by, key_of_call, map_of, seat_of_event, turned_by, turns_slot}
 use Rattle.nb_core.specs.Log.{Entry, IsReplayed, calls_of, log_of, map_of_log, reply_at}
 use Rattle.nb_core.specs.Meaning.{IsCrowded, Stands, net_of_seats, passed_over, place_of}
@@ -18,11 +18,6 @@ use Rattle.nb_core.specs.declared.states.ValueState.{ValueState}
 use Rattle.nb_core.specs.declared.states.ValueState.TheVariants.{Null, Tombstone, Live, PrimedNull, PrimedTombstone, Primed, Finished}
 
 -- ---- words
-
--- the word stands for a state of a value
-pub record IsValueWord (word : ℕ) : Type 0 where
-  pub state : ValueState
-  pub decodes : value_state word ≡ Some state
 
 -- There are as many words as the plan says. Each key word and value word stands for a state. A slot without a key has the
 -- value null, and the last table's header words stay 0.
@@ -50,16 +45,6 @@ IsWonChange Tombstone (Live n) = Unit {0}
 IsWonChange (Live m) (Live n) = n ≢ m
 IsWonChange (Live m) Tombstone = Unit {0}
 IsWonChange _ _ = ⊥
-
--- the same value, primed
-abbrev pub primed : ValueState → ValueState
-primed Null = PrimedNull
-primed Tombstone = PrimedTombstone
-primed (Live n) = Primed n
-primed PrimedNull = PrimedNull
-primed PrimedTombstone = PrimedTombstone
-primed (Primed n) = Primed n
-primed (Finished n) = Finished n
 
 -- How words stand for the states of values.
 pub record Codings : Type 0 where
@@ -121,16 +106,6 @@ SlotsStay =
     (p : Plan) → IsPlan p → (later h : List Event) → IsLegal p (later ++ h) → (g i : ℕ) → IsSlot p g i
     → Stays (tables_at p h) (tables_at p (later ++ h)) g i
 
--- the value is a number, or the tombstone that took its place, primed or not
-abbrev pub HasContent : ValueState → Type 0
-HasContent Null = ⊥
-HasContent Tombstone = Unit {0}
-HasContent (Live n) = Unit {0}
-HasContent PrimedNull = ⊥
-HasContent PrimedTombstone = Unit {0}
-HasContent (Primed n) = Unit {0}
-HasContent (Finished n) = Unit {0}
-
 -- A value that was ever a number or a tombstone is never null again, primed or not.
 abbrev pub ContentOnce : Type 0
 ContentOnce =
@@ -144,13 +119,6 @@ InstalledAfter =
     → IsComplete p (tables_at p h) g
 
 -- ---- what a look at the tables decides
-
--- A call need not look for the key in this table any more: the key's slot is finished, or other keys have its path, up to
--- a closed slot or whole.
-pub data IsPassed (p : Plan) (t : Tables) (g k : ℕ) : Type 0 where
-  AtSlot : (i : ℕ) → i < size_of p g → t.key g i ≡ Claimed k → IsFinishedValue (t.value g i) → IsPassed p t g k
-  UpToDead : (d : ℕ) → d < size_of p g → AreOthers p t g k d → t.key g (path_slot p g k d) ≡ Dead → IsPassed p t g k
-  Whole : AreOthers p t g k (size_of p g) → IsPassed p t g k
 
 -- What a table shows of the key. It shows none where other keys have the key's path up to an empty slot, and where they
 -- have all of the path and there is no next table. The key's own slot shows the number in it, or none for a null or a
@@ -173,16 +141,6 @@ Decided =
 abbrev pub times_turned : Plan → List Event → ℕ → ℕ → ℕ
 times_turned p [] g i = 0
 times_turned p (e ∷ h) g i = (if turns_slot p h e g i then 1 else 0) + times_turned p h g i
-
-abbrev pub is_dead : KeyState → Bool
-is_dead Empty = false
-is_dead Dead = true
-is_dead (Claimed k) = false
-
--- how many of the first n slots of a table are finished
-abbrev pub finished_among : Tables → ℕ → ℕ → ℕ
-finished_among t g zero = 0
-finished_among t g (suc n) = (if is_dead (t.key g n) || is_finished_value (t.value g n) then 1 else 0) + finished_among t g n
 
 -- the sum of a number over the first n seats
 abbrev pub over_seats : (ℕ → ℕ) → ℕ → ℕ
@@ -260,10 +218,6 @@ CallsAppend = (s : ℕ) (later log : List Entry) → calls_of s (later ++ log) �
 -- Each beginning of a legal history is legal.
 abbrev pub BeginningsAreLegal : Type 0
 BeginningsAreLegal = (p : Plan) (later h : List Event) → IsLegal p (later ++ h) → IsLegal p h
-
--- the slot has this number primed, or finished
-abbrev pub IsPrimedOrFinished : Tables → ℕ → ℕ → ℕ → Type 0
-IsPrimedOrFinished t g i n = (t.value g i ≡ Primed n) ⊎ (t.value g i ≡ Finished n)
 
 -- what is still so in later tables
 pub record Lasts (p : Plan) (t u : Tables) : Type 0 where

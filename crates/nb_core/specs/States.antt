@@ -1,5 +1,5 @@
 -- What the words of a slot mean.
-use Rattle.std.specs.Prelude.{ℕ, ◌+◌, ◌-◌, ◌*◌, ◌/◌, ◌%◌, ◌==◌, ◌≤◌, nat_lt, if◌then◌else◌, Option, Some, None}
+use Rattle.std.specs.Prelude.{◌≡◌, ℕ, ◌+◌, ◌-◌, ◌*◌, ◌/◌, ◌%◌, ◌==◌, ◌≤◌, nat_lt, if◌then◌else◌, Option, Some, None}
 use Rattle.nb_core.specs.declared.numbers.TheConstants.{KEY_MAX, VALUE_MAX}
 use Rattle.nb_core.specs.declared.states.KeyState.{KeyState}
 use Rattle.nb_core.specs.declared.states.KeyState.TheVariants.{Empty, Dead, Claimed}
@@ -60,3 +60,18 @@ IsValueState PrimedNull = Unit {0}
 IsValueState PrimedTombstone = Unit {0}
 IsValueState (Primed n) = n ≤ VALUE_MAX
 IsValueState (Finished n) = n ≤ VALUE_MAX
+
+-- the word stands for a state of a value
+pub record IsValueWord (word : ℕ) : Type 0 where
+  pub state : ValueState
+  pub decodes : value_state word ≡ Some state
+
+-- the same value, primed
+abbrev pub primed : ValueState → ValueState
+primed Null = PrimedNull
+primed Tombstone = PrimedTombstone
+primed (Live n) = Primed n
+primed PrimedNull = PrimedNull
+primed PrimedTombstone = PrimedTombstone
+primed (Primed n) = Primed n
+primed (Finished n) = Finished n

@@ -1,11 +1,11 @@
 -- The words of a chain of tables after a history, and what they say of its slots.
-use Rattle.std.specs.Prelude.{◌≡◌, ◌≢◌, ℕ, suc, zero, ◌+◌, ◌%◌, ◌^◌, ◌<◌, ◌⊎◌, min, max, bit_or, Bool, true, false, IsTrue, List, [], ◌∷◌, replicate, slice_index, slice_set, unwrap_or}
+use Rattle.std.specs.Prelude.{◌≡◌, ◌≢◌, ℕ, suc, zero, ◌+◌, ◌%◌, ◌^◌, ◌<◌, ◌⊎◌, ◌||◌, min, max, bit_or, Bool, true, false, if◌then◌else◌, IsTrue, List, [], ◌∷◌, replicate, slice_index, slice_set, unwrap_or}
 use Rattle.nb_core.specs.Plans.{Plan, generations_of, header_place, key_place, size_of, value_place, word_count}
 use Rattle.nb_core.specs.States.{key_state, key_word, value_state, value_word}
 use Rattle.nb_core.specs.declared.events.Event.{Event}
 use Rattle.nb_core.specs.declared.events.Event.TheVariants.{Claim, Kill, Won, CopyIn, Prime, Finish, Install, Take, Count, Promote, Read}
 use Rattle.nb_core.specs.declared.states.KeyState.{KeyState}
-use Rattle.nb_core.specs.declared.states.KeyState.TheVariants.{Dead, Claimed}
+use Rattle.nb_core.specs.declared.states.KeyState.TheVariants.{Empty, Dead, Claimed}
 use Rattle.nb_core.specs.declared.states.ValueState.{ValueState}
 use Rattle.nb_core.specs.declared.states.ValueState.TheVariants.{Null, Tombstone, Live, PrimedNull, PrimedTombstone, Primed, Finished}
 
@@ -142,3 +142,36 @@ HasSlotBelow p t (suc g) k = HasSlot p t g k
 abbrev pub IsSettledBelow : Plan → Tables → ℕ → ℕ → Type 0
 IsSettledBelow p t zero k = Unit {0}
 IsSettledBelow p t (suc g) k = (i : ℕ) → i < size_of p g → t.key g i ≡ Claimed k → IsFinishedValue (t.value g i)
+
+-- ---- what a seat may find
+
+-- the value is a number, or the tombstone that took its place, primed or not
+abbrev pub HasContent : ValueState → Type 0
+HasContent Null = ⊥
+HasContent Tombstone = Unit {0}
+HasContent (Live n) = Unit {0}
+HasContent PrimedNull = ⊥
+HasContent PrimedTombstone = Unit {0}
+HasContent (Primed n) = Unit {0}
+HasContent (Finished n) = Unit {0}
+
+-- the slot has this number primed, or finished
+abbrev pub IsPrimedOrFinished : Tables → ℕ → ℕ → ℕ → Type 0
+IsPrimedOrFinished t g i n = (t.value g i ≡ Primed n) ⊎ (t.value g i ≡ Finished n)
+
+-- A call need not look for the key in this table any more: the key's slot is finished, or other keys have its path, up to
+-- a closed slot or whole.
+pub data IsPassed (p : Plan) (t : Tables) (g k : ℕ) : Type 0 where
+  AtSlot : (i : ℕ) → i < size_of p g → t.key g i ≡ Claimed k → IsFinishedValue (t.value g i) → IsPassed p t g k
+  UpToDead : (d : ℕ) → d < size_of p g → AreOthers p t g k d → t.key g (path_slot p g k d) ≡ Dead → IsPassed p t g k
+  Whole : AreOthers p t g k (size_of p g) → IsPassed p t g k
+
+abbrev pub is_dead : KeyState → Bool
+is_dead Empty = false
+is_dead Dead = true
+is_dead (Claimed k) = false
+
+-- how many of the first n slots of a table are finished
+abbrev pub finished_among : Tables → ℕ → ℕ → ℕ
+finished_among t g zero = 0
+finished_among t g (suc n) = (if is_dead (t.key g n) || is_finished_value (t.value g n) then 1 else 0) + finished_among t g n

@@ -9,7 +9,7 @@ ghost use Rattle.nb_core.specs.Tables.{chunk_of, tables_at};
 ghost use Rattle.nb_core.specs.Histories.{HasNumbers, headers_at, plan, slots_at, top_at, grows_when_a_path_is_crowded, a_removal_is_not_copied, copy_of_one_slot, stopped_copier, three_helpers, contended_once, contended_once_with_two_tries, filled_removed_refilled, plan_of_three, same_size_successor, add_contended_once, adds, full_in_the_middle, half_copied};
 ghost use Rattle.nb_core.specs.History.{IsLegal};
 ghost use Rattle.nb_core.specs.Log.{log_of};
-ghost use Rattle.nb_core.specs.Laws.{finished_among};
+ghost use Rattle.nb_core.specs.Tables.{finished_among};
 ghost use Rattle.nb_core.specs.Meaning.{IsCrowded, net_of_seats, place_of};
 ghost use Rattle.nb_core.specs.declared.numbers.TheConstants.{KEY_MAX, VALUE_MAX};
 ghost use Rattle.nb_core.specs.declared.states.KeyState.TheVariants.{Claimed, Dead, Empty};

@@ -1,6 +1,6 @@
 //! What the two words of a slot hold.
 ghost use Rattle.std.specs.Prelude.{◌≡◌, ◌≢◌, Some, IfSome, IfNone};
-ghost use Rattle.nb_core.specs.Laws.{IsValueWord};
+ghost use Rattle.nb_core.specs.States.{IsValueWord};
 ghost use Rattle.nb_core.specs.States.{IsKeyState, IsValueState, key_state, key_word, value_state, value_word};
 ghost use Rattle.nb_core.specs.Tables.{is_finished_value};
 

@@ -4,9 +4,9 @@ use Rattle.std.proofs.Math.Pow.{pow_mono}
 use Rattle.std.proofs.lemmas.List.Elements.{All-cons, All-get_or, All-nil}
 use Rattle.nb_core.specs.Calls.{leaves_alone}
 use Rattle.nb_core.specs.History.{HasWay, key_of_call}
-use Rattle.nb_core.specs.Laws.{IsPassed, Lasts}
+use Rattle.nb_core.specs.Tables.{IsPassed, AreOthers, HasSlotBelow, IsComplete, IsInstalled, IsReady, Tables, path_slot, tables_at}
+use Rattle.nb_core.specs.Laws.{Lasts}
 use Rattle.nb_core.specs.Plans.{IsPlan, Plan, generations_of, limit_of, size_of}
-use Rattle.nb_core.specs.Tables.{AreOthers, HasSlotBelow, IsComplete, IsInstalled, IsReady, Tables, path_slot, tables_at}
 use Rattle.nb_core.specs.declared.calls.Call.{Call}
 use Rattle.nb_core.specs.declared.calls.Reply.{Reply}
 use Rattle.nb_core.specs.declared.events.Event.TheVariants.{Claim, Install}

@@ -7,9 +7,9 @@ use Rattle.std.proofs.lemmas.Nat.{mod_below, pow_pos}
 use Rattle.std.proofs.lemmas.List.{append-nil}
 use Rattle.nb_core.specs.Calls.{leaves_alone}
 use Rattle.nb_core.specs.History.{key_of_call}
-use Rattle.nb_core.specs.Laws.{AtSlot, IsPassed, Lasts}
+use Rattle.nb_core.specs.Tables.{AtSlot, IsPassed, AreOthers, IsComplete, IsFinished, IsFinishedValue, IsInstalled, IsOnPath, IsOther, IsReady, IsSlot, IsUnprimed, Tables, path_slot}
+use Rattle.nb_core.specs.Laws.{Lasts}
 use Rattle.nb_core.specs.Plans.{IsPlan, Plan, generations_of, size_of}
-use Rattle.nb_core.specs.Tables.{AreOthers, IsComplete, IsFinished, IsFinishedValue, IsInstalled, IsOnPath, IsOther, IsReady, IsSlot, IsUnprimed, Tables, path_slot}
 use Rattle.nb_core.specs.declared.calls.Call.{Call}
 use Rattle.nb_core.specs.declared.calls.Reply.{Reply}
 use Rattle.nb_core.specs.declared.states.KeyState.TheVariants.{Claimed, Dead, Empty}

@@ -1,8 +1,7 @@
 -- Where a search for a key comes to in a table, and how long it may take.
 use Rattle.std.specs.Prelude.{◌≡◌, ℕ, zero, suc, ◌+◌, ◌-◌, ◌<◌, ◌==◌, if◌then◌else◌, List, [], None}
-use Rattle.nb_core.specs.Laws.{IsPassed}
+use Rattle.nb_core.specs.Tables.{IsPassed, AreOthers, IsInstalled, Tables, path_slot}
 use Rattle.nb_core.specs.Plans.{Plan, generations_of, size_of}
-use Rattle.nb_core.specs.Tables.{AreOthers, IsInstalled, Tables, path_slot}
 use Rattle.nb_core.specs.declared.calls.Call.{Call}
 use Rattle.nb_core.specs.declared.calls.Reply.{Reply}
 use Rattle.nb_core.specs.declared.states.KeyState.TheVariants.{Claimed, Empty}

@@ -4,7 +4,7 @@ use Rattle.std.proofs.lemmas.Bool.{eq-eqb}
 use Rattle.std.proofs.lemmas.Bool.Decides.{eqb_tells}
 use Rattle.nb_core.specs.Plans.{IsPlan, Plan, generations_of, limit_of, size_of}
 use Rattle.nb_core.specs.History.{HasWay, IsLegal, counted_by, turned_by}
-use Rattle.nb_core.specs.Laws.{primed}
+use Rattle.nb_core.specs.States.{primed}
 use Rattle.nb_core.specs.Tables.{AreOthers, IsComplete, IsOther, IsSettledBelow, IsUnprimed, Tables, path_slot}
 use Rattle.nb_core.specs.declared.events.Event.{Event}
 use Rattle.nb_core.specs.declared.events.Event.TheVariants.{Finish}

@@ -4,10 +4,10 @@ use Rattle.std.proofs.lemmas.Bool.{eq-eqb, eqb-true, eqb-false, ne_eqb}
 use Rattle.std.proofs.lemmas.List.{get_or-set_same}
 use Rattle.std.specs.Option.{unwrap_or}
 use Rattle.nb_core.specs.Plans.{Plan, IsPlan, Value, generations_of, value_place, word_count}
-use Rattle.nb_core.specs.States.{IsKeyState, IsValueState, value_state, value_word}
-use Rattle.nb_core.specs.Tables.{IsInstalled, IsSlot, IsUnprimed, Tables, tables_at, words_of}
+use Rattle.nb_core.specs.States.{IsKeyState, IsValueState, value_state, value_word, IsValueWord, primed}
+use Rattle.nb_core.specs.Tables.{IsInstalled, IsSlot, IsUnprimed, Tables, tables_at, words_of, IsPrimedOrFinished}
 use Rattle.nb_core.specs.History.{HasValue, IsLegal, IsPrimedBelow, MayPrime}
-use Rattle.nb_core.specs.Laws.{IsPrimedOrFinished, IsValueWord, Lasts, primed}
+use Rattle.nb_core.specs.Laws.{Lasts}
 use Rattle.nb_core.specs.declared.events.Event.{Event}
 use Rattle.nb_core.specs.declared.events.Event.TheVariants.{CopyIn, Prime, Finish}
 use Rattle.nb_core.specs.declared.states.KeyState.TheVariants.{Claimed}

@@ -1,9 +1,8 @@
 -- What a seat must have seen before some steps.
 use Rattle.std.specs.Prelude.{◌≡◌, ℕ, zero, suc, ◌<◌}
 use Rattle.nb_core.specs.Plans.{Plan, size_of}
-use Rattle.nb_core.specs.Tables.{IsInstalled, Tables}
+use Rattle.nb_core.specs.Tables.{IsInstalled, Tables, IsPassed, IsPrimedOrFinished}
 use Rattle.nb_core.specs.History.{HasValue}
-use Rattle.nb_core.specs.Laws.{IsPassed, IsPrimedOrFinished}
 use Rattle.nb_core.specs.declared.states.KeyState.TheVariants.{Claimed}
 
 -- The key's slot in the table below holds this number, primed or finished. The first table has none below it.

@@ -1,7 +1,7 @@
 //! The steps that copy the slots of a table.
 ghost use Rattle.std.specs.Prelude.{◌≡◌, ◌≢◌, ℕ, suc, [], ◌∷◌};
 ghost use Rattle.nb_core.specs.Tables.{IsInstalled, IsSlot, IsUnprimed};
-ghost use Rattle.nb_core.specs.Laws.{primed};
+ghost use Rattle.nb_core.specs.States.{primed};
 ghost use Rattle.nb_core.specs.declared.events.Event.TheVariants as event;
 ghost use Rattle.nb_core.specs.declared.states.KeyState.TheVariants as key_is;
 ghost use Rattle.nb_core.specs.declared.states.ValueState.TheVariants as value_is;

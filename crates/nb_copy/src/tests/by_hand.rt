@@ -1,7 +1,8 @@
 //! A small writer over any table of a chain, made by hand. A helper first looks, by loads, at what its step asks for.
 ghost use Rattle.std.specs.Prelude.{◌≡◌, ℕ, ◌<◌, [], suc};
 ghost use Rattle.nb_core.specs.History.{Exchanges, HasValue};
-ghost use Rattle.nb_core.specs.Laws.{IsPrimedOrFinished, primed};
+ghost use Rattle.nb_core.specs.Tables.{IsPrimedOrFinished};
+ghost use Rattle.nb_core.specs.States.{primed};
 ghost use Rattle.nb_core.specs.Plans.{generations_of, size_of};
 ghost use Rattle.nb_core.specs.Tables.{AreOthers, IsComplete, IsInstalled, IsOther, IsReady, IsSlot, IsUnprimed, path_slot};
 ghost use Rattle.nb_core.specs.declared.states.KeyState.TheVariants as key_is;

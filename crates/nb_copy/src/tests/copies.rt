@@ -1,6 +1,6 @@
 //! Copies by several seats in one thread, with writers between them and copiers that stop.
 ghost use Rattle.std.specs.Prelude.{◌≡◌};
-ghost use Rattle.nb_core.specs.Laws.{IsPrimedOrFinished};
+ghost use Rattle.nb_core.specs.Tables.{IsPrimedOrFinished};
 ghost use Rattle.nb_core.specs.Tables.{IsSlot};
 ghost use Rattle.nb_core.specs.declared.states.KeyState.TheVariants as key_is;
 ghost use Rattle.nb_table.specs.Chains.{AreOwn, IsOwn, seen_by};

@@ -1,7 +1,8 @@
 //! The steps of a copy from table 0 to table 1, each made by hand. A helper first looks, by loads, at what its step asks for.
 ghost use Rattle.std.specs.Prelude.{◌≡◌, ◌<◌, ◌≤◌, ◌+◌, [], suc};
 ghost use Rattle.nb_core.specs.History.{counted_by, turned_by};
-ghost use Rattle.nb_core.specs.Laws.{IsPassed, IsPrimedOrFinished, primed};
+ghost use Rattle.nb_core.specs.Tables.{IsPassed, IsPrimedOrFinished};
+ghost use Rattle.nb_core.specs.States.{primed};
 ghost use Rattle.nb_core.specs.Plans.{generations_of, size_of};
 ghost use Rattle.nb_core.specs.Tables.{AreOthers, IsInstalled, IsOther, IsSlot, path_slot};
 ghost use Rattle.nb_core.specs.declared.states.KeyState.TheVariants as key_is;

@@ -1,6 +1,6 @@
 //! Copies from table 0 to table 1, each step of which is made by hand, by several seats in one thread.
 ghost use Rattle.std.specs.Prelude.{◌≡◌};
-ghost use Rattle.nb_core.specs.Laws.{IsPrimedOrFinished};
+ghost use Rattle.nb_core.specs.Tables.{IsPrimedOrFinished};
 ghost use Rattle.nb_core.specs.declared.states.KeyState.TheVariants as key_is;
 ghost use Rattle.nb_table.specs.Chains.{AreOwn, IsOwn, seen_by};
 

@@ -1,8 +1,7 @@
 use Rattle.std.proofs.Common.{◌≡◌, ◌≢◌, ◌∙◌, ◌+◌, ◌<◌, [], suc, ap, sym, subst, arith, rules}
 use Rattle.std.proofs.lemmas.Bool.{eqb-false}
-use Rattle.nb_core.specs.Laws.{UpToDead}
+use Rattle.nb_core.specs.Tables.{UpToDead, path_slot}
 use Rattle.nb_core.specs.Plans.{generations_of, limit_of, size_of}
-use Rattle.nb_core.specs.Tables.{path_slot}
 use Rattle.nb_core.specs.declared.states.KeyState.TheVariants.{Claimed, Dead}
 use Rattle.nb_table.specs.Chains.{SeenBy, seen_by}
 use Rattle.nb_copy.specs.Handing.{table_steps}

@@ -1,6 +1,6 @@
 use Rattle.std.proofs.Common.{◌≡◌, ◌∙◌, ◌+◌, ◌-◌, ◌==◌, None, Some, suc, sym, subst, refl, arith, rules}
 use Rattle.std.proofs.lemmas.List.{append-nil}
-use Rattle.nb_core.specs.Laws.{Whole}
+use Rattle.nb_core.specs.Tables.{Whole}
 use Rattle.nb_core.specs.Plans.{generations_of, size_of}
 use Rattle.nb_table.specs.Chains.{seen_by}
 use Rattle.nb_table.specs.Conditions.{IsReached}

@@ -1,9 +1,8 @@
 use Rattle.std.proofs.Common.{◌≡◌, ◌∙◌, ◌+◌, ◌-◌, ◌<◌, ◌≢◌, None, Some, ap, sym, subst, arith, rules}
 use Rattle.std.proofs.lemmas.Bool.{eqb-false}
 use Rattle.nb_core.specs.History.{key_of_call}
-use Rattle.nb_core.specs.Laws.{UpToDead}
+use Rattle.nb_core.specs.Tables.{UpToDead, AreOthers, path_slot}
 use Rattle.nb_core.specs.Plans.{size_of}
-use Rattle.nb_core.specs.Tables.{AreOthers, path_slot}
 use Rattle.nb_table.specs.Conditions.{IsReached}
 use Rattle.nb_core.specs.declared.states.KeyState.TheVariants.{Claimed, Dead, Empty}
 use Rattle.nb_table.specs.Events.{read, shown_by_key}

@@ -1,5 +1,5 @@
 use Rattle.std.proofs.Common.{◌≡◌, ◌∙◌, suc, ap, rules}
-use Rattle.nb_core.specs.Laws.{primed}
+use Rattle.nb_core.specs.States.{primed}
 use Rattle.nb_table.specs.Chains.{seen_by}
 use Rattle.nb_table.proofs.Theorems.{steps_add_up}
 use Rattle.nb_copy.proofs.ByHand.{primed-step}

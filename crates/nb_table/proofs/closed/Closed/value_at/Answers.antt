@@ -1,8 +1,7 @@
 use Rattle.std.proofs.Common.{◌∙◌, ap, slice_index, subst, sym}
 use Rattle.std.specs.Option.{unwrap_or}
-use Rattle.nb_core.specs.Laws.{IsValueWord}
+use Rattle.nb_core.specs.States.{IsValueWord, value_state}
 use Rattle.nb_core.specs.Plans.{value_place}
-use Rattle.nb_core.specs.States.{value_state}
 use Rattle.nb_core.specs.declared.states.ValueState.TheVariants.{Null}
 use Rattle.nb_table.proofs.Looking.{lawful}
 use Rattle.nb_table.proofs.closed.Closed.value_at.Goals as goal

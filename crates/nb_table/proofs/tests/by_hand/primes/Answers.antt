@@ -1,5 +1,5 @@
 use Rattle.std.proofs.Common.{◌≡◌, ◌∙◌, ap, rules}
-use Rattle.nb_core.specs.Laws.{primed}
+use Rattle.nb_core.specs.States.{primed}
 use Rattle.nb_table.specs.Chains.{seen_by}
 use Rattle.nb_table.proofs.ByHand.{primed_is, primed_step}
 use Rattle.nb_table.proofs.tests.by_hand.primes.Goals as goal

@@ -1,4 +1,4 @@
-use Rattle.nb_core.specs.Laws.{IsPassed}
+use Rattle.nb_core.specs.Tables.{IsPassed}
 use Rattle.nb_table.specs.Chains.{seen_by}
 use Rattle.nb_table.proofs.ByHand.{below_one}
 use Rattle.nb_table.proofs.tests.by_hand.reads.Goals as goal
