@@ -1,7 +1,7 @@
 -- How a slot for a key is claimed, and how a table is completed where there is none.
-use Rattle.std.proofs.Common.{◌≡◌, ◌≢◌, ◌∙◌, ℕ, ◌==◌, zero, suc, ◌+◌, ◌-◌, ◌*◌, ◌^◌, ◌<◌, ◌≤◌, ◌⊎◌, Bool, true, false, IsTrue, cond, List, [], ◌∷◌, None, ap, sym, subst, refl, inl, inr, arith}
+use Rattle.std.proofs.Common.{◌≡◌, ◌≢◌, ◌∙◌, ℕ, ◌==◌, zero, suc, ◌+◌, ◌-◌, ◌*◌, ◌^◌, ◌<◌, ◌≤◌, ◌⊎◌, Bool, true, false, IsTrue, cond, List, [], ◌∷◌, ◌++◌, None, ap, sym, subst, refl, inl, inr, arith}
 use Rattle.std.proofs.Math.Pow.{pow_mono}
-use Rattle.std.proofs.lemmas.List.Elements.{All-cons, All-get_or, All-nil}
+use Rattle.std.proofs.lemmas.List.Elements.{All-get_or}
 use Rattle.nb_core.specs.Calls.{leaves_alone}
 use Rattle.nb_core.specs.History.{HasWay, key_of_call}
 use Rattle.nb_core.specs.Tables.{IsPassed, AreOthers, HasSlotBelow, IsComplete, IsInstalled, IsReady, Tables, path_slot, tables_at}
@@ -15,7 +15,7 @@ use Rattle.nb_core.specs.declared.states.KeyState.TheVariants.{Claimed, Dead, Em
 use Rattle.nb_table.specs.Chains.{ChainOf, Extended, IsOwn, SeenBy, seen_by}
 use Rattle.nb_copy.specs.Handing.{HasCompleted, table_steps}
 use Rattle.nb_map.proofs.Made.{made-copied, made-more, made-none, made-quiet, made-step, made-within, slot-below-lasts}
-use Rattle.nb_map.specs.Calling.{HasMade, MayMake, replied}
+use Rattle.nb_map.specs.Calling.{HasMade, IsBeforeNext, replied}
 use Rattle.nb_map.specs.Searching.{read_at, walk_steps}
 use Rattle.nb_map.specs.Writing.{HasBelow, IsFound, find_steps, grow_steps, owed_below, steps_below}
 use Rattle.nb_map.specs.declared.claim.Below.{Below}
@@ -51,7 +51,7 @@ completed-below call chain zero some table done = absurd (omega (arith, some))
 completed-below call chain (suc g) {before} {after} some table done =
     let same : suc g - 1 ≡ g = omega arith in
     let done' = subst (λ f. HasCompleted chain.shape f before after) same done in
-    (made-copied chain call table done'.copied, done'.complete)
+    (made-copied chain call table refl done'.copied, done'.complete)
 
 -- what is known of the table below is so still
 pub below-lasts :
@@ -136,24 +136,30 @@ module _ (chain : ChainOf) where
       → (IsTrue result → Extended p before after (Install before.number g key ∷ []) 1) → (result ≡ false → Extended p before after [] 1)
       → HasMade p call before after [] 1
   made-install call key g {before} {after} true is acts won lost =
-      made-step p call (won refl) refl
-      (All-cons (MayMake p (seen_by p after) call) (Install before.number g key) [] (sym is, acts) (All-nil (MayMake p (seen_by p after) call)))
+      made-step p call (won refl) refl (sym is, acts) (λ h. refl) (λ f. refl)
   made-install call key g false is acts won lost = made-quiet p call (lost refl)
 
-  -- a slot was claimed for the call's key
+  -- a slot was claimed for the call's key, where no next table was seen
   pub made-claim :
       (call : Call) (key g i : ℕ) {before after : SeenBy} → key_of_call call ≡ key → leaves_alone call None ≡ false → g < generations_of p
-      → Extended p before after (Claim before.number g i key ∷ []) 1 → HasMade p call before after [] 1
-  made-claim call key g i {before} {after} is acts table won =
-      made-step p call won refl
-      (All-cons (MayMake p (seen_by p after) call) (Claim before.number g i key) [] (table, inr (sym is, acts))
-      (All-nil (MayMake p (seen_by p after) call)))
+      → (IsInstalled (seen_by p before) (suc g) → ⊥) → Extended p before after (Claim before.number g i key ∷ []) 1
+      → HasMade p call before after [] 1
+  made-claim call key g i {before} {after} is acts table no_next won =
+      let first : IsBeforeNext p before.seen after.seen g (Claim before.number g i key) = record {
+        seen = before.seen;
+        begun = record { later = []; is = refl };
+        no_next = no_next;
+        met = won.others ++ before.seen;
+        rested = record { later = won.others; is = refl; others = won.not_own };
+        claimed = record { later = []; is = won.seen };
+      } in
+      made-step p call won refl (table, inr (sym is, acts, first)) (λ h. refl) (λ f. refl)
 
   -- then a table was completed
   pub made-complete :
       {call : Call} {before then after : SeenBy} {g most : ℕ} → suc g < generations_of p → IsOwn chain before
       → HasMade p call before then [] most → HasCompleted p g then after → HasMade p call before after [] (most + table_steps p g)
-  made-complete {call} next own so_far done = made-more chain own so_far (made-copied chain call next done.copied)
+  made-complete {call} next own so_far done = made-more chain own so_far (made-copied chain call next refl done.copied)
 
 -- the number behind a slot is small
 pub behind-fits : (p : Plan) → IsPlan p → (g d : ℕ) → g < generations_of p → d < size_of p g → d + 1 ≤ 2 ^ 19

@@ -4,7 +4,7 @@ use Rattle.std.specs.FinMap as map
 use Rattle.std.specs.List.{All}
 use Rattle.std.proofs.lemmas.Bool.{eq-eqb, ne_eqb}
 use Rattle.std.proofs.lemmas.List.{append-nil}
-use Rattle.std.proofs.lemmas.List.Elements.{All-cons, All-head, All-nil, All-tail}
+use Rattle.std.proofs.lemmas.List.Elements.{All-head, All-tail}
 use Rattle.nb_core.specs.Calls.{leaves_alone}
 use Rattle.nb_core.specs.Log.{calls_of, log_of, map_of_log, reply_at}
 use Rattle.nb_core.specs.History.{IsLegal, number_in_value, key_of_call, seat_of_event}
@@ -25,7 +25,7 @@ use Rattle.nb_table.specs.Conditions.{IsReached}
 use Rattle.nb_table.specs.Events.{read, shown_by_value}
 use Rattle.nb_map.proofs.Made.{made-more, made-read, made-stays, made-step, read_shown}
 use Rattle.nb_map.proofs.Searched.{reached-lasts}
-use Rattle.nb_map.specs.Calling.{HasMade, MayMake, replied}
+use Rattle.nb_map.specs.Calling.{HasMade, replied}
 use Rattle.nb_map.specs.Writing.{passed_since}
 use Rattle.nb_core.proofs.Theorems.{decided, log_is_replayed, lost_exchange, passed_over_adds, passed_settled}
 use Rattle.nb_table.proofs.Theorems.{steps_add_up}
@@ -224,7 +224,7 @@ module _ (chain : ChainOf) where
       made-step p call step
       (ap (λ b. cond b ((call, reply) ∷ []) []) (eq-eqb before.number before.number refl)
       ∙ ap (λ n. (call, record { before = n; matched = true }) ∷ []) is)
-      (All-cons (MayMake p (seen_by p after) call) (Won before.number g i from to call reply) [] tt (All-nil (MayMake p (seen_by p after) call)))
+      tt (λ h. refl) (λ f. refl)
 
   -- one that was lost to another unprimed value, after others that were lost
   pub lost-more :

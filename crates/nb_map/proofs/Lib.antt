@@ -10,4 +10,5 @@ mod Parted
 mod Searched
 mod Sizes
 pub mod Theorems
+mod Turned
 mod Written

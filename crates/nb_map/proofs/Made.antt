@@ -1,23 +1,26 @@
 -- What the steps of a call add up to.
-use Rattle.std.proofs.Common.{◌≡◌, ◌∙◌, ℕ, suc, zero, ◌+◌, ◌==◌, ◌≤◌, ◌<◌, ◌⊎◌, Bool, true, false, cond, List, [], ◌∷◌, ◌++◌, Option, Some, None, ap, sym, subst, refl, inl, inr, arith}
+use Rattle.std.proofs.Common.{◌≡◌, ◌∙◌, ℕ, suc, zero, ◌+◌, ◌==◌, ◌≤◌, ◌<◌, Bool, true, false, cond, List, [], ◌∷◌, ◌++◌, length, Option, Some, None, ap, sym, subst, refl, inl, inr, arith}
 use Rattle.std.specs.List.{All}
 use Rattle.std.proofs.lemmas.Bool.{eq-eqb}
+use Rattle.std.proofs.lemmas.List.{append_assoc}
 use Rattle.std.proofs.lemmas.List.Elements.{All-append, All-cons, All-head, All-nil, All-tail, All-weaker, filter_map-append}
 use Rattle.nb_core.specs.Calls.{leaves_alone}
 use Rattle.nb_core.specs.Log.{calls_of, entry_of, log_of, reply_at}
-use Rattle.nb_core.specs.History.{key_of_call}
+use Rattle.nb_core.specs.History.{counts, key_of_call, turned_slot}
 use Rattle.nb_core.specs.Laws.{Lasts}
 use Rattle.nb_core.specs.Plans.{Plan, generations_of}
-use Rattle.nb_core.specs.Tables.{HasSlotBelow, Tables}
+use Rattle.nb_core.specs.Tables.{HasSlotBelow, Tables, tables_at}
 use Rattle.nb_core.specs.declared.calls.Call.{Call}
 use Rattle.nb_core.specs.declared.calls.Reply.{Reply}
 use Rattle.nb_core.specs.declared.events.Event.{Event}
-use Rattle.nb_core.specs.declared.events.Event.TheVariants.{Claim, Kill, Won, CopyIn, Prime, Finish, Install, Take, Count, Promote, Read}
-use Rattle.nb_table.specs.Chains.{ChainOf, Extended, IsOwn, SeenBy, seen_by}
+use Rattle.nb_core.specs.declared.events.Event.TheVariants.{Claim, Won, Install, Read}
+use Rattle.nb_table.specs.Chains.{ChainOf, Extended, Grown, IsOwn, SeenBy, seen_by}
 use Rattle.nb_table.specs.Events.{only, read}
+use Rattle.nb_core.specs.Log.{IsBeginning}
 use Rattle.nb_copy.specs.Copying.{HasCopied, IsCopying}
-use Rattle.nb_map.specs.Calling.{HasMade, MayMake, read_of}
+use Rattle.nb_map.specs.Calling.{HasCountedTurned, HasMade, IsBeforeNext, MayMake, read_of}
 use Rattle.nb_core.proofs.Theorems.{calls_append}
+use Rattle.nb_map.proofs.Turned.{counted-apart, counted-copied, counted-more, counted-quiet}
 use Rattle.nb_table.proofs.Theorems.{steps_add_up}
 
 -- ---- calls of logs
@@ -32,54 +35,60 @@ calls-copying p t g s [] copying = refl
 calls-copying p t g s (e ∷ own) copying = one e (All-head (IsCopying p t g) e own copying) (calls-copying p t g s own (All-tail (IsCopying p t g) e own copying))
   where
     one : (e : Event) → IsCopying p t g e → calls_of s (log_of own) ≡ [] → calls_of s (log_of (e ∷ own)) ≡ []
-    one (Claim s' f i k) may none = none
-    one (Kill s' f i) may none = none
-    one (CopyIn s' f i k n) may none = none
-    one (Prime s' f i) may none = none
-    one (Finish s' f i) may none = none
-    one (Take s' f) may none = none
-    one (Count s' f c) may none = none
-    one (Promote s' f) may none = none
     one (Won s' f i a b c r) may none = absurd may
-    one (Install s' f k) may none = absurd may
     one (Read s' c r) may none = absurd may
+    one e may none = none
 
 -- and every call may copy
 copying-may :
-    (p : Plan) (t : Tables) (g : ℕ) (call : Call) → suc g < generations_of p → (e : Event) → IsCopying p t g e → MayMake p t call e
-copying-may p t g call next (Claim s f i k) may =
-    subst (λ n. (n < generations_of p) × (HasSlotBelow p t n k ⊎ ((k ≡ key_of_call call) × (leaves_alone call None ≡ false)))) (sym may.0) (next, inl may.1)
-copying-may p t g call next (Kill s f i) may = tt
-copying-may p t g call next (CopyIn s f i k n) may = tt
-copying-may p t g call next (Prime s f i) may = tt
-copying-may p t g call next (Finish s f i) may = tt
-copying-may p t g call next (Take s f) may = tt
-copying-may p t g call next (Count s f c) may = tt
-copying-may p t g call next (Promote s f) may = tt
-copying-may p t g call next (Won s f i a b c r) may = absurd may
-copying-may p t g call next (Install s f k) may = absurd may
-copying-may p t g call next (Read s c r) may = absurd may
+    (p : Plan) (before after : List Event) (g : ℕ) (call : Call) → suc g < generations_of p → (e : Event) → IsCopying p (tables_at p after) g e
+    → MayMake p before after call e
+copying-may p before after g call next (Claim s f i k) may =
+    let below = subst (λ n. (n < generations_of p) × HasSlotBelow p (tables_at p after) n k) (sym may.0) (next, may.1) in (below.0, inl below.1)
+copying-may p before after g call next (Install s f k) may = absurd may
+copying-may p before after g call next e may = tt
 
--- what a call may make it may make still
+-- ---- what a call may make it may make in more steps
+
+-- beginnings of a history
+begins-itself : (h : List Event) → IsBeginning h h
+begins-itself h = record { later = []; is = refl }
+
+begins-more : {x y z : List Event} → IsBeginning x y → IsBeginning y z → IsBeginning x z
+begins-more {x} a b = record { later = b.later ++ a.later; is = b.is ∙ ap (λ h. b.later ++ h) a.is ∙ sym (append_assoc b.later a.later x) }
+
+begins : {p : Plan} {before after : SeenBy} {own : List Event} {count : ℕ} → Grown p before after own count → IsBeginning before.seen after.seen
+begins grown = record { later = grown.later; is = grown.seen }
+
 pub slot-below-lasts : (p : Plan) (t u : Tables) → Lasts p t u → (g k : ℕ) → g < generations_of p → HasSlotBelow p t g k → HasSlotBelow p u g k
 slot-below-lasts p t u lasting zero k table below = below
 slot-below-lasts p t u lasting (suc g) k table below = lasting.has_slot g k (omega (arith, table)) below
 
-may-lasts : (p : Plan) (t u : Tables) (call : Call) → Lasts p t u → (e : Event) → MayMake p t call e → MayMake p u call e
-may-lasts p t u call lasting (Claim s g i k) may = (
+-- from an earlier moment on, and up to a later one
+before-next-lasts :
+    (p : Plan) (before begun after ended : List Event) (g : ℕ) (claim : Event) → IsBeginning before begun → IsBeginning after ended
+    → IsBeforeNext p begun after g claim → IsBeforeNext p before ended g claim
+before-next-lasts p before begun after ended g claim more later first = record {
+  seen = first.seen;
+  begun = begins-more more first.begun;
+  no_next = first.no_next;
+  met = first.met;
+  rested = first.rested;
+  claimed = begins-more first.claimed later;
+}
+
+may-lasts :
+    (p : Plan) (before begun after ended : List Event) (call : Call) → IsBeginning before begun → IsBeginning after ended
+    → Lasts p (tables_at p after) (tables_at p ended) → (e : Event) → MayMake p begun after call e → MayMake p before ended call e
+may-lasts p before begun after ended call more later lasting (Claim s g i k) may = (
   may.0,
-  elim may.1 [ inl below ↦ inl (slot-below-lasts p t u lasting g k may.0 below) | inr own ↦ inr own ],
+  elim may.1 [
+    | inl below ↦ inl (slot-below-lasts p (tables_at p after) (tables_at p ended) lasting g k may.0 below)
+    | inr own ↦ inr (own.0, own.1, before-next-lasts p before begun after ended g (Claim s g i k) more later own.2)
+  ],
 )
-may-lasts p t u call lasting (Kill s f i) may = tt
-may-lasts p t u call lasting (Won s f i a b c r) may = tt
-may-lasts p t u call lasting (CopyIn s f i k n) may = tt
-may-lasts p t u call lasting (Prime s f i) may = tt
-may-lasts p t u call lasting (Finish s f i) may = tt
-may-lasts p t u call lasting (Install s f k) may = may
-may-lasts p t u call lasting (Take s f) may = tt
-may-lasts p t u call lasting (Count s f c) may = tt
-may-lasts p t u call lasting (Promote s f) may = tt
-may-lasts p t u call lasting (Read s c r) may = tt
+may-lasts p before begun after ended call more later lasting (Install s f k) may = may
+may-lasts p before begun after ended call more later lasting e may = tt
 
 -- ---- one step
 
@@ -95,46 +104,54 @@ made-none chain call seat own = record {
   count = 0;
   grown = steps_add_up.none own;
   calls = refl;
-  may = All-nil (MayMake chain.shape (seen_by chain.shape seat) call);
+  may = All-nil (MayMake chain.shape seat.seen seat.seen call);
+  counted = λ g. refl;
   few = omega arith;
 }
 
 module _ (p : Plan) (call : Call) where
-  -- a step with these events
-  pub made-step :
-      {before after : SeenBy} {own : List Event} {made : List (Call × Reply)} → Extended p before after own 1 → calls_of before.number (log_of own) ≡ made
-      → All (MayMake p (seen_by p after) call) own → HasMade p call before after made 1
-  made-step {own = own} step calls may = record {
-    own = own;
+  -- a step without an event
+  pub made-quiet : {before after : SeenBy} → Extended p before after [] 1 → HasMade p call before after [] 1
+  made-quiet {before} {after} step = record {
+    own = [];
     count = 1;
     grown = steps_add_up.one step;
-    calls = calls;
-    may = may;
+    calls = refl;
+    may = All-nil (MayMake p before.seen after.seen call);
+    counted = counted-quiet step;
     few = omega arith;
   }
 
-  -- a step without an event
-  pub made-quiet : {before after : SeenBy} → Extended p before after [] 1 → HasMade p call before after [] 1
-  made-quiet {before} {after} step = made-step step refl (All-nil (MayMake p (seen_by p after) call))
+  -- a step with an event that isn't one of copying
+  pub made-step :
+      {before after : SeenBy} {e : Event} {made : List (Call × Reply)} → Extended p before after (e ∷ []) 1
+      → calls_of before.number (log_of (e ∷ [])) ≡ made → MayMake p before.seen after.seen call e → ((h : List Event) → turned_slot p h e ≡ None)
+      → ((g : ℕ) → counts e before.number g ≡ 0) → HasMade p call before after made 1
+  made-step {before} {after} {e} step calls may turned counted = record {
+    own = e ∷ [];
+    count = 1;
+    grown = steps_add_up.one step;
+    calls = calls;
+    may = All-cons (MayMake p before.seen after.seen call) e [] may (All-nil (MayMake p before.seen after.seen call));
+    counted = counted-apart step turned counted;
+    few = omega arith;
+  }
 
   -- a load that is told the call
   pub made-read :
       {before after : SeenBy} (shown : Option (Option ℕ)) → Extended p before after (read before.number call shown) 1
       → HasMade p call before after (read_shown call shown) 1
   made-read None step = made-quiet step
-  made-read {before} {after} (Some number) step = made-step step (one (leaves_alone call number)) (may (leaves_alone call number))
+  made-read {before} {after} (Some number) step = one (leaves_alone call number) step
     where
-      same : (before.number == before.number) ≡ true
-      same = eq-eqb before.number before.number refl
+      reply : Reply
+      reply = reply_at call number
 
-      one : (b : Bool) → calls_of before.number (log_of (only b (Read before.number call (reply_at call number))))
-          ≡ cond b ((call, reply_at call number) ∷ []) []
-      one true = ap (λ x. cond x ((call, reply_at call number) ∷ []) []) same
-      one false = refl
-
-      may : (b : Bool) → All (MayMake p (seen_by p after) call) (only b (Read before.number call (reply_at call number)))
-      may true = All-cons (MayMake p (seen_by p after) call) (Read before.number call (reply_at call number)) [] tt (All-nil (MayMake p (seen_by p after) call))
-      may false = All-nil (MayMake p (seen_by p after) call)
+      one : (b : Bool) → Extended p before after (only b (Read before.number call reply)) 1
+          → HasMade p call before after (cond b ((call, reply) ∷ []) []) 1
+      one true step =
+          made-step step (ap (λ b. cond b ((call, reply) ∷ []) []) (eq-eqb before.number before.number refl)) tt (λ h. refl) (λ g. refl)
+      one false step = made-quiet step
 
 -- ---- more steps
 
@@ -148,6 +165,7 @@ made-within most most' below made = record {
   grown = made.grown;
   calls = made.calls;
   may = made.may;
+  counted = made.counted;
   few = omega (arith, made.few, below);
 }
 
@@ -173,7 +191,9 @@ module _ (chain : ChainOf) where
       → HasMade p call before then made most → HasMade p call then after made' most'
       → HasMade p call before after (made' ++ made) (most + most')
   made-more {call} {before} {then} {after} {made} {made'} own a b =
-      let lasting = steps_add_up.stays (steps_add_up.own own a.grown) b.grown in
+      let own' = steps_add_up.own own a.grown in
+      let lasting = steps_add_up.stays own' b.grown in
+      let same = steps_add_up.stays (steps_add_up.own own' b.grown) (steps_add_up.none (steps_add_up.own own' b.grown)) in
       record {
         own = b.own ++ a.own;
         count = a.count + b.count;
@@ -183,21 +203,27 @@ module _ (chain : ChainOf) where
             ∙ ap (λ n. calls_of n (log_of b.own) ++ calls_of before.number (log_of a.own)) (sym a.grown.number)
             ∙ ap (λ calls. calls ++ calls_of before.number (log_of a.own)) b.calls
             ∙ ap (λ calls. made' ++ calls) a.calls;
-        may = All-append (MayMake p (seen_by p after) call) b.own a.own b.may
-            (All-weaker (MayMake p (seen_by p then) call) (MayMake p (seen_by p after) call) (may-lasts p (seen_by p then) (seen_by p after) call lasting)
-            a.own a.may);
+        may = All-append (MayMake p before.seen after.seen call) b.own a.own
+            (All-weaker (MayMake p then.seen after.seen call) (MayMake p before.seen after.seen call)
+            (may-lasts p before.seen then.seen after.seen after.seen call (begins a.grown) (begins-itself after.seen) same) b.own b.may)
+            (All-weaker (MayMake p before.seen then.seen call) (MayMake p before.seen after.seen call)
+            (may-lasts p before.seen before.seen then.seen after.seen call (begins-itself before.seen) (begins b.grown) lasting) a.own a.may);
+        counted = counted-more p before.number before.seen then.seen after.seen a.counted
+            (subst (λ n. HasCountedTurned p n then.seen after.seen) a.grown.number b.counted);
         few = omega (arith, a.few, b.few);
       }
 
-  -- copying
+  -- copying that counted what it turned
   pub made-copied :
       (call : Call) {before after : SeenBy} {g : ℕ} {slots : List ℕ} {chunks adding most : ℕ} → suc g < generations_of p
-      → HasCopied p g before after slots chunks adding most → HasMade p call before after [] most
-  made-copied call {before} {after} {g} next copied = record {
+      → adding ≡ length slots → HasCopied p g before after slots chunks adding most → HasMade p call before after [] most
+  made-copied call {before} {after} {g} next all copied = record {
     own = copied.own;
     count = copied.count;
     grown = copied.grown;
     calls = calls-copying p (seen_by p after) g before.number copied.own copied.copying;
-    may = All-weaker (IsCopying p (seen_by p after) g) (MayMake p (seen_by p after) call) (copying-may p (seen_by p after) g call next) copied.own copied.copying;
+    may = All-weaker (IsCopying p (seen_by p after) g) (MayMake p before.seen after.seen call) (copying-may p before.seen after.seen g call next)
+        copied.own copied.copying;
+    counted = counted-copied all copied;
     few = copied.few;
   }

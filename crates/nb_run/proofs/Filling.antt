@@ -53,22 +53,22 @@ claim-lasts p cs cs' t u more lasting (Read s c r) is = tt
 
 -- a command claims a key for itself only where it may put it
 claim-made :
-    (p : Plan) (t : Tables) (c : Command) (cs : List Command) → (may_put c ≡ true → IsPut cs (key_of_command c)) → (e : Event)
-    → MayMake p t (call_of c) e → IsClaimOf p cs t e
-claim-made p t c cs adds (Claim s g i k) may = (
+    (p : Plan) (before after : List Event) (c : Command) (cs : List Command) → (may_put c ≡ true → IsPut cs (key_of_command c)) → (e : Event)
+    → MayMake p before after (call_of c) e → IsClaimOf p cs (tables_at p after) e
+claim-made p before after c cs adds (Claim s g i k) may = (
   may.0,
   elim may.1 [ inl below ↦ inl below | inr own ↦ inr (subst (IsPut cs) (sym own.0) (adds (ap not own.1))) ],
 )
-claim-made p t c cs adds (Kill s g i) may = tt
-claim-made p t c cs adds (Won s g i a b d r) may = tt
-claim-made p t c cs adds (CopyIn s g i k n) may = tt
-claim-made p t c cs adds (Prime s g i) may = tt
-claim-made p t c cs adds (Finish s g i) may = tt
-claim-made p t c cs adds (Install s g k) may = tt
-claim-made p t c cs adds (Take s g) may = tt
-claim-made p t c cs adds (Count s g n) may = tt
-claim-made p t c cs adds (Promote s g) may = tt
-claim-made p t c cs adds (Read s d r) may = tt
+claim-made p before after c cs adds (Kill s g i) may = tt
+claim-made p before after c cs adds (Won s g i a b d r) may = tt
+claim-made p before after c cs adds (CopyIn s g i k n) may = tt
+claim-made p before after c cs adds (Prime s g i) may = tt
+claim-made p before after c cs adds (Finish s g i) may = tt
+claim-made p before after c cs adds (Install s g k) may = tt
+claim-made p before after c cs adds (Take s g) may = tt
+claim-made p before after c cs adds (Count s g n) may = tt
+claim-made p before after c cs adds (Promote s g) may = tt
+claim-made p before after c cs adds (Read s d r) may = tt
 
 -- events of other seats aren't its own
 own-none : (s : ℕ) (es : List Event) → All (λ e. seat_of_event e ≢ s) es → own_events s es ≡ []
@@ -173,8 +173,8 @@ module _ (m : MapOf) (plan : IsPlan m.chain.shape) where
   claimed-answered cs cs' more c adds a before after is claimed =
       let steps = is.1.1.1 in
       claimed-grown p plan cs cs' more before.chain after.chain steps.own steps.count claimed steps.grown
-      (All-weaker (MayMake p (tables_at p after.chain.seen) (call_of c)) (IsClaimOf p cs' (tables_at p after.chain.seen))
-      (claim-made p (tables_at p after.chain.seen) c cs' adds) steps.own steps.may)
+      (All-weaker (MayMake p before.chain.seen after.chain.seen (call_of c)) (IsClaimOf p cs' (tables_at p after.chain.seen))
+      (claim-made p before.chain.seen after.chain.seen c cs' adds) steps.own steps.may)
 
   -- the seats met
   pub claimed-met :

@@ -1,6 +1,6 @@
 use Rattle.std.proofs.Common.{◌≡◌, ◌≢◌, ◌∙◌, ◌+◌, ◌<◌, [], suc, ap, sym, subst, arith, rules}
 use Rattle.std.proofs.lemmas.Bool.{eqb-false}
-use Rattle.nb_core.specs.Tables.{UpToDead, path_slot}
+use Rattle.nb_core.specs.Tables.{IsInstalled, UpToDead, path_slot}
 use Rattle.nb_core.specs.Plans.{generations_of, limit_of, size_of}
 use Rattle.nb_core.specs.declared.states.KeyState.TheVariants.{Claimed, Dead}
 use Rattle.nb_table.specs.Chains.{SeenBy, seen_by}
@@ -52,6 +52,20 @@ looked c =
           (made-within 0 1 (omega arith) (made-none c.args.chain.now c.args.call.now c.args.seat.now c.requires.own))
     ]
 
+-- and it showed none, or there is none behind the last table
+no-next : (c : After-path_slot-i) → IsInstalled (seen_by c.args.chain.now.shape c.else-g-generations.seat) (suc c.args.g) → ⊥
+no-next c next =
+    let chain = c.args.chain.now in
+    let seat = c.else-g-generations.seat in
+    let more = table-within chain seat (made-own chain c.requires.own (looked c)) (suc c.args.g) next in
+    let tables : c.generations.result ≡ generations_of chain.shape = search rules in
+    elim c.else-g-generations.branch [
+      | else-g-generations-via-then-g-generations+else-load_next w ↦
+          let shown = w.load_next.ensures.installed.1 (subst (λ (s : SeenBy). IsInstalled (seen_by chain.shape s) (suc c.args.g)) w.seat-is next) in
+          absurd (let looked = w.if-load_next.false in cc)
+      | else-g-generations-via-else-g-generations w ↦ absurd (let last = w.if-g-generations.false in omega (arith, last, more, tables))
+    ]
+
 pub claim_key-requires-clause-installed : goal.claim_key-requires-clause-installed
 claim_key-requires-clause-installed c =
     (made-stays c.args.chain.now c.requires.own
@@ -79,7 +93,8 @@ returns-in-Empty-clause-found c =
     let in_table : c.path_slot-i.result < size_of chain.shape c.args.g = search rules in (
       made-within 2 _ (omega arith)
           (made-more chain c.requires.own (looked (goal.at.returns-in-Empty-clause-found c).After-path_slot-i)
-          (made-claim chain c.args.call.now c.args.key c.args.g c.path_slot-i.result c.requires.key c.requires.acts table claimed.0)),
+          (made-claim chain c.args.call.now c.args.key c.args.g c.path_slot-i.result c.requires.key c.requires.acts table
+          (no-next (goal.at.returns-in-Empty-clause-found c).After-path_slot-i) claimed.0)),
       (in_table, claimed.1),
     )
 

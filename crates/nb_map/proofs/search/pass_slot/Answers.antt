@@ -2,6 +2,7 @@ use Rattle.std.proofs.Common.{suc, inr, subst, sym, arith}
 use Rattle.nb_core.specs.Tables.{IsFinishedValue}
 use Rattle.nb_map.proofs.Made.{made-copied, made-none, made-within}
 use Rattle.nb_map.proofs.Searched.{finished-passed, primed-next, table-within}
+use Rattle.nb_map.proofs.Turned.{one-if}
 use Rattle.nb_map.specs.Searching.{pass_steps}
 use Rattle.nb_map.proofs.search.pass_slot.Goals as goal
 use Rattle.nb_table.proofs.Theorems.{steps_add_up}
@@ -17,7 +18,8 @@ returns-then-not-is_finished-clause-made c call =
     let next = primed-next chain c.args.seat.now c.requires.own c.args.g c.args.i c.requires.slot c.args.value
     c.requires.held c.requires.primed in
     made-copied chain call
-    (table-within chain c.args.seat.now c.requires.own (suc c.args.g) next) c.copy_and_count.ensures.copied
+    (table-within chain c.args.seat.now c.requires.own (suc c.args.g) next) (one-if c.copy_and_count.result c.args.i)
+    c.copy_and_count.ensures.copied
 
 pub returns-then-not-is_finished-clause-passed : goal.returns-then-not-is_finished-clause-passed
 returns-then-not-is_finished-clause-passed c key claimed =
