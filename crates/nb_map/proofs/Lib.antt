@@ -2,6 +2,7 @@ mod ByHand
 mod Bounds
 mod Claimed
 mod Counted
+mod Crowding
 mod Dealt
 mod Exchanged
 mod Logged

@@ -1,4 +1,5 @@
 pub mod Calling
+pub mod Crowding
 pub mod Searching
 pub mod Looking
 pub mod Writing

@@ -1,144 +1,76 @@
 -- What the seats of a run have claimed: keys that their commands may put, so that a full map has as many of these.
-use Rattle.std.proofs.Common.{◌≡◌, ◌≢◌, ◌∙◌, ◌==◌, ◌<◌, not, Bool, true, false, cond, ℕ, zero, suc, List, [], ◌∷◌, ◌++◌, map, filter, ap, sym, subst, refl, inl, inr, arith}
+use Rattle.std.proofs.Common.{◌≡◌, ◌∙◌, ◌==◌, not, Bool, true, false, cond, ℕ, zero, suc, List, [], ◌∷◌, ◌++◌, map, filter, ap, sym, subst, refl, inl, inr}
 use Rattle.std.specs.List.{All, AllZip}
-use Rattle.std.proofs.lemmas.Bool.{ne_eqb}
-use Rattle.std.proofs.lemmas.List.Elements.{All-append, All-cons, All-head, All-nil, All-same, All-tail, All-weaker, filter-append}
-use Rattle.nb_core.specs.History.{IsLegal, seat_of_event}
-use Rattle.nb_core.specs.Laws.{Lasts}
-use Rattle.nb_core.specs.Plans.{IsPlan, Plan, generations_of}
-use Rattle.nb_core.specs.Tables.{HasSlotBelow, Tables, tables_at}
-use Rattle.nb_core.specs.declared.events.Event.{Event}
-use Rattle.nb_core.specs.declared.events.Event.TheVariants.{Claim, Kill, Won, CopyIn, Prime, Finish, Install, Take, Count, Promote, Read}
-use Rattle.nb_core.proofs.Theorems.{seen_lasts}
-use Rattle.nb_table.specs.Chains.{Grown, SeenBy, own_events}
-use Rattle.nb_table.specs.Views.{HasSeen}
-use Rattle.nb_map.specs.Calling.{MayMake}
+use Rattle.std.specs.Set.{distinct_count}
+use Rattle.std.proofs.lemmas.Bool.{eq-eqb}
+use Rattle.std.proofs.lemmas.List.{append-nil, map-append}
+use Rattle.std.proofs.lemmas.List.Elements.{All-cons, All-head, All-nil, All-tail, All-weaker, filter-append}
+use Rattle.nb_core.specs.History.{key_of_call}
+use Rattle.nb_core.specs.Plans.{IsPlan, Plan}
+use Rattle.nb_core.specs.declared.calls.Call.{Call}
+use Rattle.nb_table.specs.Chains.{SeenBy}
+use Rattle.nb_map.proofs.Theorems.{asks_add_up}
+use Rattle.nb_map.specs.Crowding.{HasAsked, IsFilled, fills, others_filled}
 use Rattle.nb_map.specs.Maps.{MapOf, SeatOf, new_seat, seats_of}
 use Rattle.nb_run.specs.Script.{Phase}
 use Rattle.nb_run.specs.Text.{call_of}
-use Rattle.nb_run.specs.Told.{all_commands, key_of_command, may_put}
+use Rattle.nb_run.specs.Told.{all_commands, key_of_command}
 use Rattle.nb_run.specs.Working.{AreAnswered, HasAnswered, HasMet, HaveRun, PhaseRan, commands_of}
 use Rattle.nb_run.specs.declared.answers.Answer.{Answer}
 use Rattle.nb_run.specs.declared.script.Command.{Command}
-use Rattle.nb_run.proofs.Crowding.{IsClaimOf, IsPut}
+
+-- ---- keys that commands may put
+
+-- one of these commands may put the key
+abbrev pub IsPut : List Command → ℕ → Type 0
+IsPut cs k = IsFilled (map call_of cs) k
+
+-- more commands may put it too
+pub put-left : (cs ds : List Command) (k : ℕ) → IsPut cs k → IsPut (cs ++ ds) k
+put-left [] ds k put = absurd put
+put-left (c ∷ cs) ds k put = elim put [ inl here ↦ inl here | inr later ↦ inr (put-left cs ds k later) ]
+
+pub put-right : (cs ds : List Command) (k : ℕ) → IsPut ds k → IsPut (cs ++ ds) k
+put-right [] ds k put = put
+put-right (c ∷ cs) ds k put = inr (put-right cs ds k put)
+
+-- one call more fills no key but its own
+pub others-same : (k : ℕ) (calls : List Call) (call : Call) → key_of_call call ≡ k → others_filled k (calls ++ call ∷ []) ≡ others_filled k calls
+others-same k calls call key =
+    ap (distinct_count (λ i j. i == j))
+    (ap (λ xs. filter other (map key_of_call xs)) (filter-append fills calls (call ∷ []))
+    ∙ ap (filter other) (map-append key_of_call (filter fills calls) (filter fills (call ∷ [])))
+    ∙ filter-append other before (map key_of_call (filter fills (call ∷ [])))
+    ∙ ap (λ xs. filter other before ++ xs) (none (fills call)) ∙ append-nil (filter other before))
+  where
+    other : ℕ → Bool
+    other j = not (j == k)
+
+    before : List ℕ
+    before = map key_of_call (filter fills calls)
+
+    none : (b : Bool) → filter other (map key_of_call (cond b (call ∷ []) [])) ≡ []
+    none true = ap (λ x. cond (not x) (key_of_call call ∷ []) []) (eq-eqb (key_of_call call) k key)
+    none false = refl
 
 -- ---- what a seat has claimed
 
--- The seat's own claims are of keys that these commands may put, or that have a slot in the table below.
-pub record HasClaimed (p : Plan) (cs : List Command) (seat : SeenBy) : Type 0 where
-  pub own : All (IsClaimOf p cs (tables_at p seat.seen)) (own_events seat.number seat.seen)
-
--- a claim is so still, and of more commands
-slot-below-lasts : (p : Plan) (t u : Tables) → Lasts p t u → (g k : ℕ) → g < generations_of p → HasSlotBelow p t g k → HasSlotBelow p u g k
-slot-below-lasts p t u lasting zero k table below = below
-slot-below-lasts p t u lasting (suc g) k table below = lasting.has_slot g k (omega (arith, table)) below
-
-claim-lasts :
-    (p : Plan) (cs cs' : List Command) (t u : Tables) → ((k : ℕ) → IsPut cs k → IsPut cs' k) → Lasts p t u → (e : Event)
-    → IsClaimOf p cs t e → IsClaimOf p cs' u e
-claim-lasts p cs cs' t u more lasting (Claim s g i k) is = (
-  is.0,
-  elim is.1 [ inl below ↦ inl (slot-below-lasts p t u lasting g k is.0 below) | inr put ↦ inr (more k put) ],
-)
-claim-lasts p cs cs' t u more lasting (Kill s g i) is = tt
-claim-lasts p cs cs' t u more lasting (Won s g i a b c r) is = tt
-claim-lasts p cs cs' t u more lasting (CopyIn s g i k n) is = tt
-claim-lasts p cs cs' t u more lasting (Prime s g i) is = tt
-claim-lasts p cs cs' t u more lasting (Finish s g i) is = tt
-claim-lasts p cs cs' t u more lasting (Install s g k) is = tt
-claim-lasts p cs cs' t u more lasting (Take s g) is = tt
-claim-lasts p cs cs' t u more lasting (Count s g c) is = tt
-claim-lasts p cs cs' t u more lasting (Promote s g) is = tt
-claim-lasts p cs cs' t u more lasting (Read s c r) is = tt
-
--- a command claims a key for itself only where it may put it
-claim-made :
-    (p : Plan) (before after : List Event) (c : Command) (cs : List Command) → (may_put c ≡ true → IsPut cs (key_of_command c)) → (e : Event)
-    → MayMake p before after (call_of c) e → IsClaimOf p cs (tables_at p after) e
-claim-made p before after c cs adds (Claim s g i k) may = (
-  may.0,
-  elim may.1 [ inl below ↦ inl below | inr own ↦ inr (subst (IsPut cs) (sym own.0) (adds (ap not own.1))) ],
-)
-claim-made p before after c cs adds (Kill s g i) may = tt
-claim-made p before after c cs adds (Won s g i a b d r) may = tt
-claim-made p before after c cs adds (CopyIn s g i k n) may = tt
-claim-made p before after c cs adds (Prime s g i) may = tt
-claim-made p before after c cs adds (Finish s g i) may = tt
-claim-made p before after c cs adds (Install s g k) may = tt
-claim-made p before after c cs adds (Take s g) may = tt
-claim-made p before after c cs adds (Count s g n) may = tt
-claim-made p before after c cs adds (Promote s g) may = tt
-claim-made p before after c cs adds (Read s d r) may = tt
-
--- events of other seats aren't its own
-own-none : (s : ℕ) (es : List Event) → All (λ e. seat_of_event e ≢ s) es → own_events s es ≡ []
-own-none s [] none = refl
-own-none s (e ∷ es) none =
-    let P : Event → Type 0 = λ e. seat_of_event e ≢ s in
-    rw (ne_eqb (seat_of_event e) s (All-head P e es none)) (own-none s es (All-tail P e es none))
-
-module _ (p : Plan) (plan : IsPlan p) where
-  -- what is claimed stays so in later histories
-  pub later-lasts : (before after later : List Event) → after ≡ later ++ before → IsLegal p after → Lasts p (tables_at p before) (tables_at p after)
-  later-lasts before after later is legal =
-      subst (λ h. Lasts p (tables_at p before) (tables_at p h)) (sym is) (seen_lasts p plan later before (subst (IsLegal p) is legal))
-
-  -- a seat that has seen more, with claims of its own that are so
-  claimed-grown :
-      (cs cs' : List Command) → ((k : ℕ) → IsPut cs k → IsPut cs' k) → (before after : SeenBy) (own : List Event) (count : ℕ)
-      → HasClaimed p cs before → Grown p before after own count → All (IsClaimOf p cs' (tables_at p after.seen)) own → HasClaimed p cs' after
-  claimed-grown cs cs' more before after own count claimed grown new =
-      record {
-        own = All-same (IsClaimOf p cs' (tables_at p after.seen)) _ _ parts (All-append (IsClaimOf p cs' (tables_at p after.seen)) own _ new old);
-      }
-    where
-      lasting : Lasts p (tables_at p before.seen) (tables_at p after.seen)
-      lasting = later-lasts before.seen after.seen grown.later grown.seen grown.legal
-
-      old : All (IsClaimOf p cs' (tables_at p after.seen)) (own_events before.number before.seen)
-      old =
-          All-weaker (IsClaimOf p cs (tables_at p before.seen)) (IsClaimOf p cs' (tables_at p after.seen))
-          (claim-lasts p cs cs' (tables_at p before.seen) (tables_at p after.seen) more lasting) _ claimed.own
-
-      parts : own_events after.number after.seen ≡ own ++ own_events before.number before.seen
-      parts =
-          ap (λ n. own_events n after.seen) grown.number ∙ ap (own_events before.number) grown.seen
-          ∙ filter-append _ grown.later before.seen
-          ∙ ap (λ es. es ++ own_events before.number before.seen) grown.own_are
-
-  -- a seat that made no event of its own
-  claimed-quiet :
-      (cs : List Command) (before after : SeenBy) (count : ℕ) → HasClaimed p cs before → Grown p before after [] count → HasClaimed p cs after
-  claimed-quiet cs before after count claimed grown =
-      claimed-grown cs cs (λ k put. put) before after [] count claimed grown (All-nil (IsClaimOf p cs (tables_at p after.seen)))
-
-  -- in a history that it has seen a beginning of with all its own events, its own claims are so too
-  pub claimed-history :
-      (cs : List Command) (seat : SeenBy) (history : List Event) → HasClaimed p cs seat → HasSeen history seat.number seat.seen → IsLegal p history
-      → All (IsClaimOf p cs (tables_at p history)) (own_events seat.number history)
-  claimed-history cs seat history claimed seen legal =
-      All-same (IsClaimOf p cs (tables_at p history)) _ _ parts
-      (All-weaker (IsClaimOf p cs (tables_at p seat.seen)) (IsClaimOf p cs (tables_at p history))
-      (claim-lasts p cs cs (tables_at p seat.seen) (tables_at p history) (λ k put. put) (later-lasts seat.seen history seen.later seen.is legal))
-      _ claimed.own)
-    where
-      parts : own_events seat.number history ≡ own_events seat.number seat.seen
-      parts =
-          ap (own_events seat.number) seen.is ∙ filter-append _ seen.later seat.seen
-          ∙ ap (λ es. es ++ own_events seat.number seat.seen) (own-none seat.number seen.later seen.others)
+-- the seat's own claims are of keys that these commands may put, or that have a slot in the table below
+abbrev pub HasClaimed : Plan → List Command → SeenBy → Type 0
+HasClaimed p cs seat = HasAsked p (map call_of cs) seat
 
 -- ---- a run
 
 -- where one of the commands may put its key, so may one of all
 abbrev pub AreAmong : (all cs : List Command) → Type 0
-AreAmong all cs = All (λ c. may_put c ≡ true → IsPut all (key_of_command c)) cs
+AreAmong all cs = All (λ c. fills (call_of c) ≡ true → IsPut all (key_of_command c)) cs
 
 -- so it is of all commands themselves
 pub among-all : (cs : List Command) → AreAmong cs cs
-among-all [] = All-nil (λ (c : Command). may_put c ≡ true → IsPut [] (key_of_command c))
+among-all [] = All-nil (λ (c : Command). fills (call_of c) ≡ true → IsPut [] (key_of_command c))
 among-all (c ∷ cs) =
-    All-cons (λ d. may_put d ≡ true → IsPut (c ∷ cs) (key_of_command d)) c cs (λ may. inl (may, refl))
-    (All-weaker (λ d. may_put d ≡ true → IsPut cs (key_of_command d)) (λ d. may_put d ≡ true → IsPut (c ∷ cs) (key_of_command d))
+    All-cons (λ d. fills (call_of d) ≡ true → IsPut (c ∷ cs) (key_of_command d)) c cs (λ may. inl (may, refl))
+    (All-weaker (λ d. fills (call_of d) ≡ true → IsPut cs (key_of_command d)) (λ d. fills (call_of d) ≡ true → IsPut (c ∷ cs) (key_of_command d))
     (λ d put may. inr (put may)) cs (among-all cs))
 
 module _ {X : Type 0} (P : X → Type 0) where
@@ -168,19 +100,15 @@ module _ (m : MapOf) (plan : IsPlan m.chain.shape) where
 
   -- a command was answered
   pub claimed-answered :
-      (cs cs' : List Command) → ((k : ℕ) → IsPut cs k → IsPut cs' k) → (c : Command) → (may_put c ≡ true → IsPut cs' (key_of_command c))
+      (cs cs' : List Command) → ((k : ℕ) → IsPut cs k → IsPut cs' k) → (c : Command) → (fills (call_of c) ≡ true → IsPut cs' (key_of_command c))
       → (a : Answer) (before after : SeatOf) → HasAnswered m c a before after → HasClaimed p cs before.chain → HasClaimed p cs' after.chain
-  claimed-answered cs cs' more c adds a before after is claimed =
-      let steps = is.1.1.1 in
-      claimed-grown p plan cs cs' more before.chain after.chain steps.own steps.count claimed steps.grown
-      (All-weaker (MayMake p before.chain.seen after.chain.seen (call_of c)) (IsClaimOf p cs' (tables_at p after.chain.seen))
-      (claim-made p before.chain.seen after.chain.seen c cs' adds) steps.own steps.may)
+  claimed-answered cs cs' more c adds a before after is claimed = asks_add_up.more plan more adds claimed is.1.1
 
   -- the seats met
   pub claimed-met :
       (cs : List Command) (seats : List SeatOf) (before after : SeatOf) → HasMet m seats before after → HasClaimed p cs before.chain
       → HasClaimed p cs after.chain
-  claimed-met cs seats before after met claimed = claimed-quiet p plan cs before.chain after.chain met.steps claimed met.grown
+  claimed-met cs seats before after met claimed = asks_add_up.rested plan claimed met.grown
 
   module _ (cs : List Command) where
     abbrev Claimed : SeatOf → Type 0
@@ -194,8 +122,8 @@ module _ (m : MapOf) (plan : IsPlan m.chain.shape) where
     claimed-commands [] (a ∷ answers) before after among is claimed = absurd is
     claimed-commands (c ∷ commands) [] before after among is claimed = absurd is
     claimed-commands (c ∷ commands) (a ∷ answers) before after among is claimed =
-        claimed-commands commands answers is.0 after (All-tail (λ c. may_put c ≡ true → IsPut cs (key_of_command c)) c commands among) is.2
-        (claimed-answered cs cs (λ k put. put) c (All-head (λ c. may_put c ≡ true → IsPut cs (key_of_command c)) c commands among) a before is.0 is.1
+        claimed-commands commands answers is.0 after (All-tail (λ c. fills (call_of c) ≡ true → IsPut cs (key_of_command c)) c commands among) is.2
+        (claimed-answered cs cs (λ k put. put) c (All-head (λ c. fills (call_of c) ≡ true → IsPut cs (key_of_command c)) c commands among) a before is.0 is.1
         claimed)
 
     -- the workers ran a phase
@@ -205,7 +133,7 @@ module _ (m : MapOf) (plan : IsPlan m.chain.shape) where
     claimed-phase phase w [] [] [] among ran all = All-nil Claimed
     claimed-phase phase w (mine ∷ others) (s ∷ before) (t ∷ after) among ran all =
         All-cons Claimed t after
-        (claimed-commands (commands_of w phase) mine s t (all-of-worker (λ c. may_put c ≡ true → IsPut cs (key_of_command c)) w phase among) ran.0
+        (claimed-commands (commands_of w phase) mine s t (all-of-worker (λ c. fills (call_of c) ≡ true → IsPut cs (key_of_command c)) w phase among) ran.0
         (All-head Claimed s before all))
         (claimed-phase phase (suc w) others before after among ran.1 (All-tail Claimed s before all))
     claimed-phase phase w _ _ _ among ran all = absurd ran
@@ -232,11 +160,11 @@ module _ (m : MapOf) (plan : IsPlan m.chain.shape) where
         (claimed-phase phase 0 first before ran.0 (all-left Q (map (λ task. task.1) phase) (all_commands phases) among) ran.2 all))
       where
         Q : Command → Type 0
-        Q c = may_put c ≡ true → IsPut cs (key_of_command c)
+        Q c = fills (call_of c) ≡ true → IsPut cs (key_of_command c)
 
     -- new seats have claimed nothing
     pub claimed-new : (number count : ℕ) → All Claimed (seats_of m number count)
     claimed-new number zero = All-nil Claimed
     claimed-new number (suc count) =
         All-cons Claimed (new_seat m number) (seats_of m (suc number) count)
-        (record { own = All-nil (IsClaimOf p cs (tables_at p [])) }) (claimed-new (suc number) count)
+        (asks_add_up.none refl) (claimed-new (suc number) count)

@@ -3,26 +3,28 @@ use Rattle.std.proofs.Common.{◌≡◌, ◌≢◌, ◌∙◌, ◌==◌, ◌≤�
 use Rattle.std.specs.Prelude.{slice_get}
 use Rattle.std.specs.List.{All, count_by, flat_map}
 use Rattle.std.proofs.lemmas.Bool.{cases_Bool, eq-eqb, eqb-true}
-use Rattle.std.proofs.lemmas.List.Elements.{All-head, All-tail}
+use Rattle.std.proofs.lemmas.List.Elements.{All-head, All-nil, All-tail}
 use Rattle.std.proofs.lemmas.List.Sums.{sum_by-cons}
-use Rattle.nb_core.specs.History.{IsLegal}
+use Rattle.nb_core.specs.History.{IsLegal, seat_of_event}
 use Rattle.nb_core.specs.Meaning.{IsCrowded}
 use Rattle.nb_core.specs.Plans.{IsPlan, Plan, generations_of, size_of}
-use Rattle.nb_core.specs.Tables.{HasSlot, tables_at}
 use Rattle.nb_core.specs.declared.events.Event.{Event}
-use Rattle.nb_table.specs.Chains.{SeenBy, own_events}
+use Rattle.nb_table.specs.Chains.{SeenBy}
 use Rattle.nb_core.specs.Log.{IsBeginning}
 use Rattle.nb_table.specs.Views.{HasSeen}
+use Rattle.nb_map.proofs.Theorems.{crowded_by_calls}
+use Rattle.nb_map.specs.Crowding.{HasAskedIn, others_filled}
 use Rattle.nb_map.specs.Ending.{EndedOf, EndedWith, HasTablesLeft}
 use Rattle.nb_map.specs.Maps.{MapOf, SeatOf, new_seat, seats_of}
+use Rattle.std.proofs.lemmas.List.{map-append}
 use Rattle.nb_run.specs.Script.{Phase}
-use Rattle.nb_run.specs.Told.{MayCrowd, all_commands, key_of_command, others_put}
+use Rattle.nb_run.specs.Text.{call_of}
+use Rattle.nb_run.specs.Told.{MayCrowd, all_commands, key_of_command}
 use Rattle.nb_run.specs.Working.{AreAnswered, HasAnswered, HasMet, HaveMet, HaveRun, PhaseRan, commands_of}
 use Rattle.nb_run.specs.declared.answers.Answer.{Answer}
 use Rattle.nb_run.specs.declared.answers.Answer.TheVariants as answer
 use Rattle.nb_run.specs.declared.script.Command.{Command}
-use Rattle.nb_run.proofs.Crowding.{IsClaimOf, IsPut, all-put, crowd-count, each-own, put-cases, put-left, put-right, seats-below}
-use Rattle.nb_run.proofs.Filling.{HasClaimed, among-all, claimed-answered, claimed-history, claimed-met, claimed-new, claimed-run, later-lasts}
+use Rattle.nb_run.proofs.Filling.{HasClaimed, among-all, claimed-answered, claimed-met, claimed-new, claimed-run, others-same, put-left, put-right}
 
 -- ---- words
 
@@ -97,24 +99,14 @@ seat-numbered P n (seat ∷ seats) once all =
           seat-numbered P n seats (omega (arith, once, first, none)) (All-tail P seat seats all)
     ]
 
--- In a legal history in which each seat's own claims are of keys that the commands may put, these may put each key with a
--- slot of the last table.
-history-put :
-    (p : Plan) → IsPlan p → (cs : List Command) (h : List Event) → IsLegal p h
-    → ((s : ℕ) → s < p.seats → All (IsClaimOf p cs (tables_at p h)) (own_events s h)) → (j : ℕ)
-    → HasSlot p (tables_at p h) (generations_of p - 1) j → IsPut cs j
-history-put p plan cs h legal own j has =
-    all-put p plan cs h legal (each-own (IsClaimOf p cs (tables_at p h)) p.seats h (seats-below p h legal) own) (generations_of p - 1)
-    (omega (arith, plan.some_tables)) j has
-
 -- A key is crowded at a moment of an ended map's history only by as many others as the commands may put.
 pub crowd-ended :
     (m : MapOf) → IsPlan m.chain.shape → (phases : List Phase) (answers : List (List (List Answer))) (after : List SeatOf) (ended : EndedOf)
     → HaveRun m phases answers (seats_of m 0 m.chain.shape.seats) after → length after ≡ m.chain.shape.seats → EndedWith after ended
     → HasTablesLeft m.chain.shape after ended → (k : ℕ) (h : List Event) → IsBeginning h ended.tables.history → IsCrowded m.chain.shape h k
-    → size_of m.chain.shape (generations_of m.chain.shape - 1) ≤ others_put k (all_commands phases)
+    → size_of m.chain.shape (generations_of m.chain.shape - 1) ≤ others_filled k (map call_of (all_commands phases))
 crowd-ended m plan phases answers after ended ran count end left k h beginning crowded =
-    crowd-count p plan history legal k cs (λ j differs has. history-put p plan cs history legal own j has) still
+    crowded_by_calls p plan (map call_of cs) history (subst (λ q. IsLegal q history) left.shape left.left.legal) asked h beginning k crowded
   where
     p : Plan
     p = m.chain.shape
@@ -125,28 +117,19 @@ crowd-ended m plan phases answers after ended ran count end left k h beginning c
     history : List Event
     history = ended.tables.history
 
-    legal : IsLegal p history
-    legal = subst (λ q. IsLegal q history) left.shape left.left.legal
-
-    still : IsCrowded p history k
-    still i less =
-        let lasting = later-lasts p plan h history beginning.later beginning.is legal in
-        let is = crowded i less in
-        record {
-          other = is.other;
-          is = lasting.claimed (generations_of p - 1) i is.other (omega (arith, plan.some_tables), less) is.is;
-          differs = is.differs;
-        }
-
     claimed : All (λ seat. HasClaimed p cs seat.chain) after
     claimed = claimed-run m plan cs phases answers (seats_of m 0 p.seats) after (among-all cs) ran (claimed-new m plan cs 0 p.seats)
 
-    own : (s : ℕ) → s < p.seats → All (IsClaimOf p cs (tables_at p history)) (own_events s history)
-    own s less =
-        let found = seat-numbered (λ seat. HasSeen history seat.chain.number seat.chain.seen × HasClaimed p cs seat.chain) s after
-        (end.once s (omega (arith, less, count))) (λ i d within. (left.seen i d within, claimed i d within)) in
-        subst (λ n. All (IsClaimOf p cs (tables_at p history)) (own_events n history)) found.1
-        (claimed-history p plan cs found.0.chain history found.2.1 found.2.0 legal)
+    asked : (n : ℕ) → n < p.seats → HasAskedIn p (map call_of cs) history n
+    asked n less =
+        let found = seat-numbered (λ seat. HasSeen history seat.chain.number seat.chain.seen × HasClaimed p cs seat.chain) n after
+        (end.once n (omega (arith, less, count))) (λ i d within. (left.seen i d within, claimed i d within)) in
+        record {
+          seat = found.0.chain;
+          number = found.1;
+          asked = found.2.1;
+          seen = subst (λ s. HasSeen history s found.0.chain.seen) found.1 found.2.0;
+        }
 
 -- ---- one worker
 
@@ -183,8 +166,12 @@ module _ (m : MapOf) (plan : IsPlan m.chain.shape) where
     pub lone-full :
         (done : List Command) (c : Command) (before after : SeatOf) → HasAnswered m c answer.Full before after → IsLone p done before.chain
         → MayCrowd p done c
-    lone-full done c before after is lone =
-        (ap not is.0.1.0, crowd-count p plan h legal k done (λ j differs has. earlier j differs (put j has)) is.0.1.1)
+    lone-full done c before after is lone = (
+      ap not is.0.1.0,
+      subst (λ most. size_of p (generations_of p - 1) ≤ most)
+          (ap (others_filled k) (map-append call_of done (c ∷ [])) ∙ others-same k (map call_of done) (call_of c) refl)
+          (crowded_by_calls p plan (map call_of (done ++ c ∷ [])) h is.1.1.1.grown.legal asked h (record { later = []; is = refl }) k is.0.1.1),
+    )
       where
         h : List Event
         h = after.chain.seen
@@ -195,17 +182,13 @@ module _ (m : MapOf) (plan : IsPlan m.chain.shape) where
         next : IsLone p (done ++ c ∷ []) after.chain
         next = lone-answered done c answer.Full before after is lone
 
-        legal : IsLegal p h
-        legal = is.1.1.1.grown.legal
-
-        put : (j : ℕ) → HasSlot p (tables_at p h) (generations_of p - 1) j → IsPut (done ++ c ∷ []) j
-        put =
-            history-put p plan (done ++ c ∷ []) h legal
-            (λ s less. let zero : after.chain.number ≡ s = omega (arith, next.number, less, single) in
-            subst (λ n. All (IsClaimOf p (done ++ c ∷ []) (tables_at p h)) (own_events n h)) zero next.claimed.own)
-
-        earlier : (j : ℕ) → j ≢ k → IsPut (done ++ c ∷ []) j → IsPut done j
-        earlier j differs put = elim (put-cases done c j put) [ inl before ↦ before | inr same ↦ absurd (differs (sym same)) ]
+        asked : (n : ℕ) → n < p.seats → HasAskedIn p (map call_of (done ++ c ∷ [])) h n
+        asked n less = record {
+          seat = after.chain;
+          number = omega (arith, next.number, less, single);
+          asked = next.claimed;
+          seen = record { later = []; is = refl; others = All-nil (λ (e : Event). seat_of_event e ≢ n) };
+        }
 
     -- So at each of its commands.
     pub crowd-lone :

@@ -1,6 +1,5 @@
 mod Answering
 mod CallLemmas
-mod Crowding
 mod FaultLemmas
 mod Filling
 mod FoundLemmas

@@ -1,5 +1,5 @@
 -- From what the workers did to what the text tells.
-use Rattle.std.proofs.Common.{◌≡◌, ◌∙◌, ◌==◌, inl, inr, Bool, true, false, cond, ℕ, zero, suc, ◌+◌, ◌-◌, ◌<◌, ◌≤◌, not, List, [], ◌∷◌, ◌++◌, length, ap, sym, subst, refl, arith}
+use Rattle.std.proofs.Common.{◌≡◌, ◌∙◌, ◌==◌, inl, inr, Bool, true, false, cond, ℕ, zero, suc, ◌+◌, ◌-◌, ◌<◌, ◌≤◌, not, List, [], ◌∷◌, ◌++◌, length, map, ap, sym, subst, refl, arith}
 use Rattle.std.proofs.lemmas.Bool.{cases_eq, eq-eqb}
 use Rattle.std.proofs.lemmas.List.{append-nil, append_cancel_right}
 use Rattle.std.specs.List.{All, AllZip}
@@ -10,12 +10,13 @@ use Rattle.nb_core.specs.Plans.{Plan, generations_of, size_of}
 use Rattle.nb_core.specs.declared.events.Event.{Event}
 use Rattle.nb_core.proofs.Theorems.{calls_append}
 use Rattle.nb_table.specs.Views.{HasSeen}
+use Rattle.nb_map.specs.Crowding.{others_filled}
 use Rattle.nb_map.specs.Ending.{EndedOf, EndedWith, HasAll, HasTablesLeft, log_left}
 use Rattle.nb_map.specs.Logs.{HasLogged, log}
 use Rattle.nb_map.specs.Maps.{MapOf, SeatOf, seats_of}
 use Rattle.nb_run.specs.Script.{Phase}
 use Rattle.nb_run.specs.Text.{call_of}
-use Rattle.nb_run.specs.Told.{ArePhasesTold, AreTold, HasDone, IsPhaseTold, IsTold, Refusals, WasCrowded, key_of_command, others_put}
+use Rattle.nb_run.specs.Told.{ArePhasesTold, AreTold, HasDone, IsPhaseTold, IsTold, Refusals, WasCrowded, key_of_command}
 use Rattle.nb_run.specs.Working.{AreAnswered, HasAnswered, HasMet, HaveMet, HaveRun, IsAnswered, PhaseRan, commands_of}
 use Rattle.nb_run.specs.declared.script.Command.{Command}
 use Rattle.nb_run.specs.declared.answers.Answer.{Answer}
@@ -25,7 +26,7 @@ use Rattle.nb_run.proofs.CallLemmas.{Calls, IsSeenBy, Longest, beginning-grown, 
 -- where other keys have all slots of the last table, these commands may have put enough keys
 abbrev pub MayFill : Plan → List Command → List Event → Type 0
 MayFill p script history =
-    (k : ℕ) (h : List Event) → IsBeginning h history → IsCrowded p h k → size_of p (generations_of p - 1) ≤ others_put k script
+    (k : ℕ) (h : List Event) → IsBeginning h history → IsCrowded p h k → size_of p (generations_of p - 1) ≤ others_filled k (map call_of script)
 
 -- ---- between moments
 

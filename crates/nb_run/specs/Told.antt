@@ -1,9 +1,8 @@
 -- What a text tells of a history, for any number of workers.
-use Rattle.std.specs.Prelude.{◌≡◌, ◌==◌, ◌≤◌, ◌<◌, ◌-◌, ℕ, suc, Bool, not, true, List, [], ◌∷◌, ◌++◌, All, filter, length, map, slice_get, take, None, Some}
+use Rattle.std.specs.Prelude.{◌≡◌, ◌≤◌, ◌<◌, ◌-◌, ℕ, suc, Bool, true, List, [], ◌∷◌, ◌++◌, All, length, map, slice_get, take, None, Some}
 use Rattle.std.specs.FinMap.{empty, get}
 use Rattle.std.specs.List.{flat_map}
-use Rattle.std.specs.Set.{distinct_count}
-use Rattle.nb_core.specs.Calls.{leaves_alone, overflows}
+use Rattle.nb_core.specs.Calls.{overflows}
 use Rattle.nb_core.specs.History.{IsLegal, key_of_call}
 use Rattle.nb_core.specs.Log.{Entry, IsBeginning, IsReplayed, calls_of, log_of, map_of_log}
 use Rattle.nb_core.specs.Meaning.{IsCrowded}
@@ -11,6 +10,7 @@ use Rattle.nb_core.specs.Plans.{Plan, generations_of, size_of}
 use Rattle.nb_core.specs.declared.calls.Call.{Call}
 use Rattle.nb_core.specs.declared.calls.Reply.{Reply}
 use Rattle.nb_core.specs.declared.events.Event.{Event}
+use Rattle.nb_map.specs.Crowding.{fills, others_filled}
 use Rattle.nb_run.specs.Script.{Bytes, Phase}
 use Rattle.nb_run.specs.Text.{answer_line, call_of, ending, map_behind, shown, text_of}
 use Rattle.nb_run.specs.Working.{commands_of}
@@ -20,21 +20,14 @@ use Rattle.nb_run.specs.declared.answers.Answer.TheVariants as answer
 
 -- ---- who filled the map
 
--- whether the command puts a number at an absent key
-abbrev pub may_put : Command → Bool
-may_put c = not (leaves_alone (call_of c) None)
-
 abbrev pub key_of_command : Command → ℕ
 key_of_command c = key_of_call (call_of c)
 
--- how many keys other than this one these commands may put
-abbrev pub others_put : ℕ → List Command → ℕ
-others_put k commands =
-    distinct_count (λ i j. i == j) (filter (λ j. not (j == k)) (map key_of_command (filter may_put commands)))
-
--- These commands may have taken all slots of the last table from the command's key.
+-- These commands may have taken all slots of the last table from the command's key: it puts a number at an absent key, and they
+-- on as many other keys.
 abbrev pub MayCrowd : Plan → List Command → Command → Type 0
-MayCrowd p commands c = (may_put c ≡ true) × (size_of p (generations_of p - 1) ≤ others_put (key_of_command c) commands)
+MayCrowd p commands c =
+    (fills (call_of c) ≡ true) × (size_of p (generations_of p - 1) ≤ others_filled (key_of_command c) (map call_of commands))
 
 -- ---- answers and calls
 
