@@ -25,9 +25,9 @@ pub record IsBeforeNext (p : Plan) (before after : List Event) (g : ℕ) (claim 
   pub rested : HasSeen met (seat_of_event claim) seen
   pub claimed : IsBeginning (claim ∷ met) after
 
--- From one moment to a later one the call may make the event. Copying is free to every call. A table is installed, and a slot
--- claimed for a key that has none in the table below, only for the call's own key, and only by a put or an add whose condition
--- holds of an absent key; and the slot only before the seat saw a next table.
+-- From one moment to a later one the call may make the event. Copying is free to every call, and the log tells of exchanges and
+-- reads. A table is installed, and a slot claimed for a key that has none in the table below, only for the call's own key, and
+-- only by a put or an add whose condition holds of an absent key; and the slot only before the seat saw a next table.
 abbrev pub MayMake : Plan → (before after : List Event) → Call → Event → Type 0
 MayMake p before after call (Claim s g i k) =
     (g < generations_of p)
