@@ -1,5 +1,5 @@
 -- What a call does at its key's slot, and what others did meanwhile.
-use Rattle.std.proofs.Common.{◌≡◌, ◌≢◌, ◌∙◌, ℕ, suc, zero, ◌+◌, ◌-◌, ◌*◌, ◌≤◌, ◌<◌, true, false, cond, List, [], ◌∷◌, ◌++◌, length, Option, Some, None, is_some, ap, sym, subst, subst₂, refl, arith}
+use Rattle.std.proofs.Common.{◌≡◌, ◌≢◌, ◌∙◌, ℕ, suc, zero, ◌+◌, ◌-◌, ◌*◌, ◌≤◌, ◌<◌, min, true, false, cond, List, [], ◌∷◌, ◌++◌, length, Option, Some, None, is_some, ap, sym, subst, subst₂, refl, arith}
 use Rattle.std.specs.FinMap as map
 use Rattle.std.specs.List.{All}
 use Rattle.std.proofs.lemmas.Bool.{eq-eqb, ne_eqb}
@@ -110,8 +110,8 @@ enough-above lost tries pass below =
     omega (arith, spent)
 
 -- and where the call ends at the slot
-pub enough-here : (lost tries pass : ℕ) → lost ≤ tries → 2 * lost + 1 + 1 ≤ 2 * (tries + 1) + pass
-enough-here lost tries pass below = omega (arith, below)
+pub enough-here : (lost tries passed : ℕ) → lost ≤ tries → lost ≤ passed → 2 * lost + 1 + 1 ≤ 2 * (min tries passed + 1)
+enough-here lost tries passed below fewer = omega (arith, below, fewer)
 
 -- ---- the exchanges that others won
 

@@ -5,9 +5,11 @@ mod Counted
 mod Crowding
 mod Dealt
 mod Exchanged
+mod Home
 mod Logged
 mod Made
 mod Parted
+mod Rounds
 mod Searched
 mod Sizes
 pub mod Theorems

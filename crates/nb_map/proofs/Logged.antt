@@ -15,7 +15,7 @@ use Rattle.nb_table.specs.Chains.{Extended}
 use Rattle.nb_map.specs.Calling.{HasMade}
 use Rattle.nb_map.specs.Laws.{LogsAddUp}
 use Rattle.nb_map.specs.Logs.{HasLogged, log}
-use Rattle.nb_map.specs.Maps.{HasWaited, HasWorked, IsMine, MapOf, SeatOf, accounted}
+use Rattle.nb_map.specs.Maps.{HasWorked, IsMine, MapOf, SeatOf, accounted}
 use Rattle.nb_map.proofs.Counted.{calls-later}
 use Rattle.nb_map.proofs.Made.{made-more, made-none, made-quiet}
 
@@ -79,35 +79,6 @@ pub worked-uncounted :
     {map : MapOf} {call : Call} {before after : SeatOf} {made : List (Call × Reply)} {most : ℕ}
     → HasMade map.chain.shape call before.chain after.chain made most → after.count ≡ before.count → HasWorked map call before after most
 worked-uncounted {before = before} made same = record { steps = (_, made); net = pos 0; count = same ∙ sym (counted-none before.count) }
-
--- steps that made no call counted nothing
-uncounted :
-    {map : MapOf} {call : Call} {before after : SeatOf} {most : ℕ} → IsMine map before → IsMine map after → HasLogged before after []
-    → HasWorked map call before after most → after.count ≡ before.count
-uncounted {before = before} {after} mine mine' none worked =
-    let calls : calls_of after.chain.number (log after) ≡ calls_of before.chain.number (log before) =
-        ap₂ calls_of none.number none.grown ∙ calls_append before.chain.number none.later (log before)
-        ∙ ap (λ calls. calls ++ calls_of before.chain.number (log before)) none.own in
-    let net : worked.net ≡ pos 0 = omega (arith, ints, ap (λ count. count.added) worked.count, mine.counted, mine'.counted, ap net_of calls) in
-    worked.count ∙ ap (λ net. accounted net before.count) net ∙ counted-none before.count
-
--- no try
-pub waited-none : {map : MapOf} (call : Call) (seat : SeatOf) → IsMine map seat → HasWaited map call seat seat
-waited-none {map} call seat mine =
-    (0, record { steps = (_, made-none map.chain call seat.chain mine.chain); net = pos 0; count = sym (counted-none seat.count) })
-
--- one more try, after others that made no call
-pub waited-more :
-    {map : MapOf} {call : Call} {before then after : SeatOf} {most : ℕ} → IsMine map before → IsMine map then → HasLogged before then []
-    → HasWaited map call before then → HasWorked map call then after most → HasWaited map call before after
-waited-more {map} {most = most} mine mine' none (most', a) b = (
-  most' + most,
-  record {
-    steps = (_, made-more map.chain mine.chain a.steps.1 b.steps.1);
-    net = b.net;
-    count = b.count ∙ ap (accounted b.net) (uncounted mine mine' none a);
-  },
-)
 
 -- ---- two seats that meet
 

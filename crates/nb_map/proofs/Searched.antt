@@ -20,7 +20,6 @@ use Rattle.nb_table.specs.Conditions.{IsReached}
 use Rattle.nb_table.specs.Events.{is_last_slot, read, shown_by_key, shown_by_value}
 use Rattle.nb_map.proofs.Made.{made-more, made-read, made-within, read_shown}
 use Rattle.nb_map.specs.Calling.{HasMade, read_of, replied}
-use Rattle.nb_map.specs.Looking.{IsAtHome, IsAway}
 use Rattle.nb_map.specs.Searching.{IsAbove}
 use Rattle.nb_core.proofs.Theorems.{complete_passed, linked, paths_are_distinct, top_complete}
 
@@ -264,6 +263,13 @@ on-path p t g k i d key is near at others = record {
 pub others-none : (p : Plan) (t : Tables) (g key : ℕ) → AreOthers p t g key 0
 others-none p t g key e before = absurd (omega (arith, before))
 
+-- a walk that ends behind no slot of another key makes one step
+pub walk-short :
+    (p : Plan) (t : Tables) (g k from d before after : ℕ) → AreOthers p t g k d → after ≤ before + (d - from) + 1
+    → (AreOthers p t g k 1 → ⊥) → after ≤ before + 1
+walk-short p t g k from zero before after others few home = omega (arith, few)
+walk-short p t g k from (suc d) before after others few home = absurd (home (λ e near. others e (omega (arith, near))))
+
 -- another key has the next slot of a key's path too
 pub others-more :
     (p : Plan) (t u : Tables) → Lasts p t u → (g key d i other : ℕ) → g < generations_of p → AreOthers p t g key d → path_slot p g key d ≡ i
@@ -271,61 +277,3 @@ pub others-more :
 others-more p t u lasting g key d i other table others at is differs =
     below_more (λ e. IsOther (u.key g (path_slot p g key e)) key) d (lasting.others g key d table others)
     (record { other = other; is = ap (u.key g) at ∙ is; differs = differs })
-
--- ---- at home
-
--- a value that is primed stays primed
-primed-lasts :
-    (p : Plan) (t u : Tables) → Lasts p t u → (g i : ℕ) → IsSlot p g i → (v : ValueState) → t.value g i ≡ v → (IsUnprimed v → ⊥)
-    → IsUnprimed (u.value g i) → ⊥
-primed-lasts p t u lasting g i slot Null is primed later = primed tt
-primed-lasts p t u lasting g i slot Tombstone is primed later = primed tt
-primed-lasts p t u lasting g i slot (Live n) is primed later = primed tt
-primed-lasts p t u lasting g i slot PrimedNull is primed later =
-    subst IsUnprimed (lasting.final g i slot (subst IsFinishedValue (sym is) refl) ∙ is) later
-primed-lasts p t u lasting g i slot PrimedTombstone is primed later =
-    subst IsUnprimed (lasting.final g i slot (subst IsFinishedValue (sym is) refl) ∙ is) later
-primed-lasts p t u lasting g i slot (Primed n) is primed later = elim (lasting.primed_or_finished g i n slot (inl is)) [
-  | inl same ↦ subst IsUnprimed same later
-  | inr done ↦ subst IsUnprimed done later
-]
-primed-lasts p t u lasting g i slot (Finished n) is primed later =
-    subst IsUnprimed (lasting.final g i slot (subst IsFinishedValue (sym is) refl) ∙ is) later
-
--- a key that is away from home stays away
-pub away-lasts :
-    (p : Plan) (t u : Tables) → Lasts p t u → (g k : ℕ) → g < generations_of p → IsAway p t g k → IsAway p u g k
-away-lasts p t u lasting g k table away =
-    let slot : IsSlot p g (path_slot p g k 0) = (table, mod_below (k + 0) (size_of p g) (pow_pos _)) in
-    elim away [
-      | inl others ↦ inl (lasting.others g k 1 table others)
-      | inr rest ↦ elim rest [
-        | inl dead ↦ inr (inl (lasting.dead g (path_slot p g k 0) slot dead))
-        | inr own ↦
-            inr (inr (
-              lasting.claimed g (path_slot p g k 0) k slot own.0,
-              primed-lasts p t u lasting g (path_slot p g k 0) slot (t.value g (path_slot p g k 0)) refl own.1,
-            ))
-      ]
-    ]
-
--- and isn't at home
-pub not-both : (p : Plan) (t : Tables) (g k : ℕ) → IsAway p t g k → IsAtHome p t g k → ⊥
-not-both p t g k away home = elim away [
-  | inl others ↦
-      let first = others 0 (omega arith) in
-      elim home [
-        | inl empty ↦ (let both : Empty ≡ Claimed first.other = sym empty ∙ first.is in cc)
-        | inr own ↦ first.differs (let both : Claimed first.other ≡ Claimed k = sym first.is ∙ own.0 in cc)
-      ]
-  | inr rest ↦ elim rest [
-    | inl dead ↦ elim home [
-      | inl empty ↦ (let both : Empty ≡ Dead = sym empty ∙ dead in cc)
-      | inr own ↦ (let both : Claimed k ≡ Dead = sym own.0 ∙ dead in cc)
-    ]
-    | inr primed ↦ elim home [
-      | inl empty ↦ (let both : Empty ≡ Claimed k = sym empty ∙ primed.0 in cc)
-      | inr own ↦ primed.1 own.1
-    ]
-  ]
-]

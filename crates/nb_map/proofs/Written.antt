@@ -1,18 +1,30 @@
 -- What a write comes to, table after table.
-use Rattle.std.proofs.Common.{◌≡◌, ℕ, zero, suc, ◌+◌, ◌-◌, ◌*◌, ◌≤◌, List, length, ap, sym, subst, add-one, arith}
-use Rattle.std.proofs.Math.Nat.{mul-le-mul_left, mul-le-mul_right}
+use Rattle.std.proofs.Common.{◌≡◌, ◌⊎◌, inl, inr, ℕ, zero, suc, ◌+◌, ◌-◌, ◌*◌, ◌<◌, ◌≤◌, min, List, [], length, sym, subst, arith}
+use Rattle.std.proofs.Math.Nat.{le_refl, mul-le-mul_left, mul-le-mul_right}
+use Rattle.std.proofs.lemmas.List.{append-nil}
 use Rattle.nb_core.specs.Meaning.{passed_over}
 use Rattle.nb_core.specs.History.{key_of_call}
 use Rattle.nb_core.specs.Plans.{IsPlan, Plan, generations_of, size_of}
+use Rattle.nb_core.specs.Tables.{IsReady}
 use Rattle.nb_core.specs.declared.calls.Call.{Call}
+use Rattle.nb_core.specs.declared.calls.Reply.{Reply}
 use Rattle.nb_core.specs.declared.events.Event.{Event}
 use Rattle.nb_copy.specs.Handing.{table_steps}
-use Rattle.nb_table.specs.Chains.{Grown, SeenBy}
+use Rattle.nb_table.proofs.Theorems.{steps_add_up}
+use Rattle.nb_table.specs.Chains.{ChainOf, Extended, Grown, IsOwn, SeenBy, seen_by}
+use Rattle.nb_table.specs.Conditions.{IsReached}
 use Rattle.nb_map.proofs.Bounds.{next-size, slots-more}
-use Rattle.nb_map.proofs.Exchanged.{passed-at}
-use Rattle.nb_map.specs.Refusing.{IsJust, IsWritten, put_steps}
+use Rattle.nb_map.proofs.Exchanged.{passed-at, passed-still}
+use Rattle.nb_map.proofs.Home.{home-before, home-in, passed-away}
+use Rattle.nb_map.proofs.Made.{made-more, made-none, made-own, made-stays, made-within}
+use Rattle.nb_map.proofs.Searched.{reached-above, reached-lasts, reached-top, table-within}
+use Rattle.nb_map.specs.Calling.{HasMade}
+use Rattle.nb_map.specs.Looking.{get_steps}
+use Rattle.nb_map.specs.Refusing.{IsJust, IsWritten, exchange_steps, made_by, put_steps, write_steps}
 use Rattle.nb_map.specs.Searching.{pass_steps, slots_below}
-use Rattle.nb_map.specs.Writing.{find_steps, passed_since, steps_below}
+use Rattle.nb_map.specs.Writing.{HasBelow, IsAloneAtHome, IsSeenAlone, find_steps, passed_since, steps_below}
+use Rattle.nb_map.specs.declared.claim.Below.{Below}
+use Rattle.nb_map.specs.declared.claim.Below.TheVariants.{Complete}
 use Rattle.nb_map.specs.declared.write.PutFault.{PutFault}
 use Rattle.nb_map.specs.declared.write.PutFault.TheVariants.{Full, Contended, ValueRange}
 use Rattle.nb_map.specs.declared.write.Written.{Written}
@@ -54,6 +66,65 @@ written-longer p call g tries a b (Refused fault) is = just-longer p call tries 
 written-longer p call g tries a b (Above below left) is =
     let longer = passed-longer call a b in let spent = is.4 in (is.0, is.1, is.2, is.3, omega (arith, spent, longer))
 
+-- ---- steps in one table
+
+-- some steps after others that made no call
+pub made-then :
+    {chain : ChainOf} {call : Call} {before then after : SeenBy} {made : List (Call × Reply)} {most most' : ℕ} → IsOwn chain before
+    → HasMade chain.shape call before then [] most → HasMade chain.shape call then after made most'
+    → HasMade chain.shape call before after made (most + most')
+made-then {chain} {call} {before} {after = after} {made} {most} {most'} own a b =
+    subst (λ made. HasMade chain.shape call before after made (most + most')) (append-nil made) (made-more chain own a b)
+
+-- the steps at the slot come after those that found it
+pub made-written :
+    {chain : ChainOf} {call : Call} {start then after : SeenBy} (g tries : ℕ) (written : Written) → IsOwn chain start
+    → HasMade chain.shape call start then [] (find_steps chain.shape g)
+    → HasMade chain.shape call then after (made_by call written) (exchange_steps chain.shape g tries (passed_since call then after) written)
+    → HasMade chain.shape call start after (made_by call written) (write_steps chain.shape g tries (passed_since call start after) written)
+made-written {chain} {call} {start} {then} {after} g tries written own found made =
+    made-within (write_steps chain.shape g tries (passed_since call then after) written) _
+    (more _ _ (passed-longer call found.grown made.grown) written) (made-then own found made)
+  where
+    more : (passed passed' : ℕ) → passed ≤ passed' → (written : Written) → write_steps chain.shape g tries passed written ≤ write_steps chain.shape g tries passed' written
+    more passed passed' fewer (Replied reply) = omega (arith, fewer)
+    more passed passed' fewer (Refused fault) = omega (arith, fewer)
+    more passed passed' fewer (Above below left) = omega arith
+
+-- who is alone with its key at home is so all the while
+pub alone-first :
+    {chain : ChainOf} {call : Call} {start then after : SeenBy} {own own' : List Event} {count count' : ℕ} (g : ℕ) → g < generations_of chain.shape
+    → IsOwn chain start → Grown chain.shape start then own count → Grown chain.shape then after own' count'
+    → IsAloneAtHome chain.shape g call start after → IsAloneAtHome chain.shape g call start then
+alone-first {chain} {call} {start} {then} {after} g table own a b alone = record {
+  home = home-before chain.shape _ _ (steps_add_up.stays (steps_add_up.own own a) b) g (key_of_call call) table alone.home;
+  known = alone.known;
+  alone =
+      let fewer = passed-still call (passed_since call start then) a b (le_refl (passed_since call start then)) in
+      omega (arith, fewer, alone.alone);
+}
+
+pub alone-then :
+    {chain : ChainOf} {call : Call} {start then after : SeenBy} {own own' : List Event} {count count' : ℕ} (g : ℕ) → g < generations_of chain.shape
+    → IsOwn chain start → Grown chain.shape start then own count → Grown chain.shape then after own' count'
+    → IsAloneAtHome chain.shape g call start after → IsAloneAtHome chain.shape g call then after
+alone-then {chain} {call} {start} {then} {after} g table own a b alone = record {
+  home = alone.home;
+  known = λ fills.
+      (steps_add_up.stays own a).claimed g _ (key_of_call call) (home-in chain.shape g (key_of_call call) table) (alone.known fills);
+  alone = let fewer = passed-longer call a b in omega (arith, fewer, alone.alone);
+}
+
+-- a load and an exchange are enough for it at its slot
+pub alone-written :
+    {chain : ChainOf} {call : Call} {start after : SeenBy} {made : List (Call × Reply)} (g tries : ℕ) → g < generations_of chain.shape → IsOwn chain start
+    → (written : Written) → HasMade chain.shape call start after made (exchange_steps chain.shape g tries (passed_since call start after) written)
+    → IsWritten chain.shape call start after g tries written → IsAloneAtHome chain.shape g call start after → after.steps ≤ start.steps + 2
+alone-written g tries table own (Replied reply) made is alone = omega (arith, made.grown.steps, made.few, alone.alone)
+alone-written g tries table own (Refused fault) made is alone = omega (arith, made.grown.steps, made.few, alone.alone)
+alone-written {chain} {call} {after = after} g tries table own (Above below left) made is alone =
+    absurd (passed-away chain after (made-own chain own made) g (key_of_call call) table is.0.0 alone.home)
+
 -- ---- bounds of steps
 
 -- the most steps of a write in a table but for its exchanges, and in all tables below one
@@ -63,9 +134,6 @@ table_share p g = find_steps p g + 2 + pass_steps p g
 abbrev pub written_below : Plan → ℕ → ℕ
 written_below p zero = 0
 written_below p (suc g) = table_share p g + written_below p g
-
-pub written-more : (p : Plan) (g : ℕ) → written_below p (g + 1) ≡ table_share p g + written_below p g
-written-more p g = ap (written_below p) (add-one g)
 
 -- the most steps to complete all tables below one
 abbrev completed_below : Plan → ℕ → ℕ
@@ -104,20 +172,128 @@ written-few p plan (suc g) below =
     one size above n s g done here under written rest next = omega (arith, rest, next)
 
 -- a write comes to each table once at most
-pub put-bound :
-    (p : Plan) → IsPlan p → (g tries : ℕ) → g ≤ generations_of p
-    → 1 + written_below p g + 2 * tries ≤ put_steps p tries
-put-bound p plan g tries below =
+write-bound : (p : Plan) → IsPlan p → (g : ℕ) → g ≤ generations_of p → written_below p g ≤ get_steps p
+write-bound p plan g below =
     let n = size_of p (generations_of p - 1) in
     let written = written-few p plan g below in
     let completed = completed-few p plan g below in
     let slots = slots-more p (generations_of p) g below in
     let twice = mul-le-mul_right (4 * n + 15) slots in
     let all = mul-le-mul_right (2 * n + 14) below in
-    fits (written_below p g) (steps_below p g) (slots_below p g) (slots_below p (generations_of p)) (completed_below p g) g (generations_of p) n tries written
-    completed slots twice all below plan.some_tables
+    fits (written_below p g) (steps_below p g) (slots_below p g) (slots_below p (generations_of p)) (completed_below p g) g (generations_of p) n written
+    completed slots twice all below
   where
-    fits : (written under s t done g tables n tries : ℕ) → written + under ≤ 3 * s + 2 * done + g * (2 * n + 14) → done ≤ s * (4 * n + 15) + g
-        → s ≤ t → s * (4 * n + 15) ≤ t * (4 * n + 15) → g * (2 * n + 14) ≤ tables * (2 * n + 14) → g ≤ tables → 1 ≤ tables
-        → 1 + written + 2 * tries ≤ 8 * (t + tries + tables) * (n + 8)
-    fits written under s t done g tables n tries a b c d e f some = omega (arith, a, b, c, d, e, f, some)
+    fits : (written under s t done g tables n : ℕ) → written + under ≤ 3 * s + 2 * done + g * (2 * n + 14) → done ≤ s * (4 * n + 15) + g
+        → s ≤ t → s * (4 * n + 15) ≤ t * (4 * n + 15) → g * (2 * n + 14) ≤ tables * (2 * n + 14) → g ≤ tables
+        → written ≤ 8 * (t + tables) * (n + 8)
+    fits written under s t done g tables n a b c d e f = omega (arith, a, b, c, d, e, f)
+
+-- ---- from table to table
+
+-- A write that began in table `first` has come to table g, with so many tries left. In the first table it has only lost tries.
+pub record HasCome (p : Plan) (call : Call) (start now : SeenBy) (first g tries left : ℕ) (known : Below) : Type 0 where
+  pub made : HasMade p call start now [] (written_below p g + 2 * (tries - left))
+  pub direct : g ≡ first → now.steps ≤ start.steps + 2 * (tries - left)
+  pub from : first ≤ g
+  pub reached : IsReached p (seen_by p now) g (key_of_call call)
+  pub below : HasBelow p (seen_by p now) g (key_of_call call) known
+  pub some : 1 ≤ left
+  pub fewer : left ≤ tries
+  pub lost : tries ≤ left + passed_since call start now
+
+-- it begins there
+pub come-first :
+    (chain : ChainOf) (call : Call) (start : SeenBy) → IsOwn chain start → (g tries : ℕ) → IsReached chain.shape (seen_by chain.shape start) g (key_of_call call)
+    → IsReady chain.shape (seen_by chain.shape start) g → 1 ≤ tries → HasCome chain.shape call start start g g tries tries Complete
+come-first chain call start own g tries reached ready some = record {
+  made = made-within 0 (written_below chain.shape g + 2 * (tries - tries)) (omega arith) (made-none chain call start own);
+  direct = λ same. omega arith;
+  from = omega arith;
+  reached = reached;
+  below = ready;
+  some = some;
+  fewer = omega arith;
+  lost = omega arith;
+}
+
+module _ (chain : ChainOf) {call : Call} {start now after : SeenBy} {first g tries left : ℕ} {below : Below} (own : IsOwn chain start)
+    (come : HasCome chain.shape call start now first g tries left below) (table : g < generations_of chain.shape) where
+  -- it goes on in the next table
+  pub come-above :
+      {left' : ℕ} {below' : Below} → HasMade chain.shape call now after [] (write_steps chain.shape g left (passed_since call now after) (Above below' left'))
+      → IsWritten chain.shape call now after g left (Above below' left') → HasCome chain.shape call start after first (suc g) tries left' below'
+  come-above {left'} {below'} made is = record {
+    made = made-within _ _ (omega (arith, come.fewer, is.3)) (made-more chain own come.made made);
+    direct = λ same. absurd (let from = come.from in omega (arith, same, from));
+    from = let from = come.from in omega (arith, from);
+    reached = reached-above chain.shape _ g (key_of_call call)
+        (reached-lasts chain.shape _ _ (made-stays chain (made-own chain own come.made) made) g (key_of_call call) table come.reached) is.0;
+    below = is.1;
+    some = is.2;
+    fewer = omega (arith, come.fewer, is.3);
+    lost = omega (arith, come.lost, is.4, passed-both call come.made.grown made.grown);
+  }
+
+  -- it ends here, and has lost no more tries than others won exchanges
+  pub come-end :
+      {calls : List (Call × Reply)} → HasMade chain.shape call now after calls (find_steps chain.shape g + 2 * (min left (passed_since call now after) + 1))
+      → HasMade chain.shape call start after calls (get_steps chain.shape + 2 * min tries (passed_since call start after))
+  come-end {calls} made =
+      let bound = write-bound chain.shape own.plan (suc g) table in
+      let both = passed-both call come.made.grown made.grown in
+      made-within
+      (written_below chain.shape g + 2 * (tries - left) + (find_steps chain.shape g + 2 * (min left (passed_since call now after) + 1))) _
+      (omega (arith, bound, both, come.fewer, come.lost))
+      (made-then own come.made made)
+
+  -- and is short where it is alone with its key at home in the first table
+  pub come-short :
+      {calls : List (Call × Reply)} {most : ℕ} → HasMade chain.shape call now after calls most
+      → (IsAloneAtHome chain.shape g call now after → after.steps ≤ now.steps + 3)
+      → IsAloneAtHome chain.shape first call start after → after.steps ≤ start.steps + 3
+  come-short made short alone = elim (same-or-less first g come.from) [
+    | inl same ↦
+        let here = subst (λ f. IsAloneAtHome chain.shape f call start after) same alone in
+        omega (
+          arith,
+          come.direct (sym same),
+          come.lost,
+          passed-both call come.made.grown made.grown,
+          alone.alone,
+          short (alone-then g table own come.made.grown made.grown here),
+        )
+    | inr less ↦
+        let then = made-own chain own come.made in
+        let lower : first < generations_of chain.shape = omega (arith, less, table) in
+        absurd
+        (passed-away chain after (made-own chain then made) first (key_of_call call) lower
+        ((made-stays chain then made).passed first (key_of_call call) lower (come.reached.below first less)) alone.home)
+  ]
+    where
+      same-or-less : (a b : ℕ) → a ≤ b → (a ≡ b) ⊎ (a < b)
+      same-or-less a b from = grind (arith, from)
+
+-- ---- one write
+
+-- a load of the top word comes on top, and each try that was lost is within the bound
+pub put-bound :
+    (p : Plan) (tries passed passed' : ℕ) → 1 ≤ tries → passed ≤ passed'
+    → 1 + (get_steps p + 2 * min tries passed) ≤ put_steps p (min tries (passed' + 1))
+put-bound p tries passed passed' some fewer =
+    fits (slots_below p (generations_of p)) (generations_of p) (size_of p (generations_of p - 1)) (min tries passed) (min tries (passed' + 1))
+    (omega (arith, some)) (omega (arith, fewer))
+  where
+    fits : (t tables n lost most : ℕ) → 1 ≤ most → lost ≤ most → 1 + (8 * (t + tables) * (n + 8) + 2 * lost) ≤ 8 * (t + most + tables) * (n + 8)
+    fits t tables n lost most some fewer = omega (arith, some, fewer)
+
+-- who was alone with its key at home in the top table that it knew is so in the one that it has loaded
+pub alone-top :
+    {chain : ChainOf} {call : Call} {start then after : SeenBy} {own : List Event} {count : ℕ} (top : ℕ) → IsOwn chain start
+    → Extended chain.shape start then [] 1 → (seen_by chain.shape then).top ≡ top → Grown chain.shape then after own count
+    → IsSeenAlone chain.shape call start after → IsAloneAtHome chain.shape top call then after
+alone-top {chain} {call} {start} {then} {after} top own load is grown alone =
+    let mine = steps_add_up.own own (steps_add_up.one load) in
+    let same : (seen_by chain.shape after).top ≡ top =
+        omega (arith, alone.0, (steps_add_up.stays own (steps_add_up.one load)).top, (steps_add_up.stays mine grown).top, is) in
+    let table = table-within chain then mine top (reached-top chain then mine (key_of_call call) top is).installed in
+    alone-then top table own (steps_add_up.one load) grown (subst (λ g. IsAloneAtHome chain.shape g call start after) same alone.1)

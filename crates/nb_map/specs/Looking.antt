@@ -4,7 +4,7 @@ use Rattle.nb_core.specs.Plans.{Plan, generations_of, size_of}
 use Rattle.nb_core.specs.Tables.{AreOthers, IsUnprimed, Tables, path_slot}
 use Rattle.nb_core.specs.declared.calls.Call.{Call}
 use Rattle.nb_core.specs.declared.calls.Reply.{Reply}
-use Rattle.nb_core.specs.declared.states.KeyState.TheVariants.{Claimed, Dead, Empty}
+use Rattle.nb_core.specs.declared.states.KeyState.TheVariants.{Claimed, Empty}
 use Rattle.nb_table.specs.Chains.{SeenBy, seen_by}
 use Rattle.nb_map.specs.Calling.{replied}
 use Rattle.nb_map.specs.Searching.{IsAbove, pass_steps, slots_below}
@@ -29,21 +29,15 @@ IsAtHome p t g k =
     (t.key g (path_slot p g k 0) ≡ Empty)
     ⊎ ((t.key g (path_slot p g k 0) ≡ Claimed k) × IsUnprimed (t.value g (path_slot p g k 0)))
 
--- the key's home slot in the table is another key's, or closed to keys, or its own with a primed value
-abbrev pub IsAway : Plan → Tables → (g k : ℕ) → Type 0
-IsAway p t g k =
-    AreOthers p t g k 1 ⊎ (t.key g (path_slot p g k 0) ≡ Dead)
-    ⊎ ((t.key g (path_slot p g k 0) ≡ Claimed k) × (IsUnprimed (t.value g (path_slot p g k 0)) → ⊥))
-
 -- the seat has learned of no new top table, and has seen the key at home in the one that it knows
 abbrev pub IsSeenAtHome : Plan → (before after : SeenBy) → ℕ → Type 0
 IsSeenAtHome p before after k =
     ((seen_by p before).top ≡ (seen_by p after).top) × IsAtHome p (seen_by p after) (seen_by p after).top k
 
--- where a glance shows nothing, the search goes on from a slot of the key's path, behind slots of other keys
+-- where a glance shows nothing, the key isn't at home, and the search goes on from a slot of its path, behind slots of other keys
 abbrev pub IsGlance : Plan → Tables → (g k : ℕ) → Glance → Type 0
 IsGlance p t g k (glance.Shows number) = Unit {0}
-IsGlance p t g k (glance.From d) = (d < size_of p g) × AreOthers p t g k d × IsAway p t g k
+IsGlance p t g k (glance.From d) = (d < size_of p g) × AreOthers p t g k d × (IsAtHome p t g k → ⊥)
 
 -- the read that the glance was, for a call that leaves alone what it shows
 abbrev pub glanced_by : Call → Glance → List (Call × Reply)

@@ -61,7 +61,3 @@ pub record HasWorked (map : MapOf) (call : Call) (before after : SeatOf) (most :
   pub steps : HasStepped map.chain.shape call before.chain after.chain most
   pub net : ℤ
   pub count : after.count ≡ accounted net before.count
-
--- The same, in however many steps.
-abbrev pub HasWaited : MapOf → Call → (before after : SeatOf) → Type 0
-HasWaited map call before after = (most : ℕ) × HasWorked map call before after most

@@ -1,5 +1,5 @@
 -- What a write comes to, and when it is refused.
-use Rattle.std.specs.Prelude.{◌≡◌, ℕ, suc, ◌+◌, ◌-◌, ◌*◌, ◌≤◌, true, List, [], ◌∷◌}
+use Rattle.std.specs.Prelude.{◌≡◌, ℕ, suc, ◌+◌, ◌-◌, ◌*◌, ◌≤◌, min, true, List, [], ◌∷◌, Result, Ok, Err}
 use Rattle.nb_core.specs.Calls.{Fills, overflows}
 use Rattle.nb_core.specs.History.{key_of_call}
 use Rattle.nb_core.specs.Log.{log_of, map_of_log}
@@ -9,9 +9,9 @@ use Rattle.nb_core.specs.declared.calls.Call.{Call}
 use Rattle.nb_core.specs.declared.calls.Reply.{Reply}
 use Rattle.nb_table.specs.Chains.{SeenBy, seen_by}
 use Rattle.nb_map.specs.Logs.{HasLogged}
-use Rattle.nb_map.specs.Maps.{MapOf, SeatOf}
-use Rattle.nb_map.specs.Searching.{IsAbove, IsSlotOf, slots_below}
-use Rattle.nb_map.specs.Writing.{HasBelow, exchange_steps, find_steps, passed_since}
+use Rattle.nb_map.specs.Maps.{HasWorked, MapOf, SeatOf}
+use Rattle.nb_map.specs.Searching.{IsAbove, IsSlotOf, pass_steps, slots_below}
+use Rattle.nb_map.specs.Writing.{HasBelow, find_steps, passed_since}
 use Rattle.nb_map.specs.declared.waiting.AddFault.{AddFault}
 use Rattle.nb_map.specs.declared.waiting.AddFault.TheVariants as add_fault
 use Rattle.nb_map.specs.declared.write.PutFault.{PutFault}
@@ -34,6 +34,11 @@ abbrev pub IsJust : Plan → Call → (before after : SeenBy) → (tries : ℕ) 
 IsJust p call before after tries fault.Full = IsJustAdd p call after add_fault.Full
 IsJust p call before after tries fault.Contended = tries ≤ passed_since call before after
 IsJust p call before after tries fault.ValueRange = IsJustAdd p call after add_fault.ValueRange
+
+-- the call, if it was made and not refused
+abbrev pub made_in : {E : Type 0} → Call → Result Reply E → List (Call × Reply)
+made_in call (Ok reply) = (call, reply) ∷ []
+made_in call (Err fault) = []
 
 -- the seat has made no call, and the refusal is just
 abbrev pub HasRefused : MapOf → Call → (before after : SeatOf) → AddFault → Type 0
@@ -72,16 +77,23 @@ made_by call (written.Above below left) = []
 
 -- ---- bounds of steps
 
--- how many of so many tries are spent
-abbrev pub spent_by : ℕ → Written → ℕ
-spent_by tries (written.Replied reply) = tries
-spent_by tries (written.Refused fault) = tries
-spent_by tries (written.Above below left) = tries - left
+-- The most steps at a slot, where the write had so many tries and others won so many exchanges on its key: a load and an
+-- exchange for each try that was lost and for one more. Where it goes on in the next table, it has lost the tries that are
+-- gone, and there is the end of a copy.
+abbrev pub exchange_steps : Plan → (g tries passed : ℕ) → Written → ℕ
+exchange_steps p g tries passed (written.Replied reply) = 2 * (min tries passed + 1)
+exchange_steps p g tries passed (written.Refused fault) = 2 * (min tries passed + 1)
+exchange_steps p g tries passed (written.Above below left) = 2 * (tries - left + 1) + pass_steps p g
 
 -- the most steps of a write in table g
-abbrev pub write_steps : Plan → (g tries : ℕ) → Written → ℕ
-write_steps p g tries written = find_steps p g + exchange_steps p g (spent_by tries written)
+abbrev pub write_steps : Plan → (g tries passed : ℕ) → Written → ℕ
+write_steps p g tries passed written = find_steps p g + exchange_steps p g tries passed written
 
 -- the most steps of a write, with T slots in all tables, G tables, and N slots in the last one: 8 (T + tries + G) (N + 8)
 abbrev pub put_steps : Plan → (tries : ℕ) → ℕ
 put_steps p tries = 8 * (slots_below p (generations_of p) + tries + generations_of p) * (size_of p (generations_of p - 1) + 8)
+
+-- The call has worked for no longer than a write with as many tries as others won exchanges on its key meanwhile, and one more.
+-- So it is lock-free: only where another write came first does it work for longer than T, G and N say.
+abbrev pub IsLockFree : MapOf → Call → (before after : SeatOf) → Type 0
+IsLockFree map call before after = HasWorked map call before after (put_steps map.chain.shape (passed_since call before.chain after.chain + 1))

@@ -1,17 +1,19 @@
 -- What a write does in one table, and how long it takes.
 use Rattle.std.specs.Prelude.{◌≡◌, ℕ, zero, suc, ◌+◌, ◌*◌, true, false, length, Option}
 use Rattle.std.specs.FinMap as map
-use Rattle.nb_core.specs.Calls.{leaves_alone, overflows}
+use Rattle.nb_core.specs.Calls.{Fills, leaves_alone, overflows}
 use Rattle.nb_core.specs.Log.{Numbers, reply_at}
 use Rattle.nb_core.specs.History.{IsExchange, number_in_value, key_of_call}
 use Rattle.nb_core.specs.Meaning.{IsCrowded, passed_over}
 use Rattle.nb_core.specs.Plans.{Plan, size_of}
-use Rattle.nb_core.specs.Tables.{HasSlotBelow, IsReady, IsUnprimed, Tables}
+use Rattle.nb_core.specs.Tables.{HasSlotBelow, IsReady, IsUnprimed, Tables, path_slot}
 use Rattle.nb_core.specs.declared.calls.Call.{Call}
+use Rattle.nb_core.specs.declared.states.KeyState.TheVariants.{Claimed}
 use Rattle.nb_core.specs.declared.states.ValueState.{ValueState}
 use Rattle.nb_table.specs.Chains.{SeenBy, seen_by}
 use Rattle.nb_copy.specs.Handing.{table_steps}
-use Rattle.nb_map.specs.Searching.{IsAbove, IsSlotOf, pass_steps}
+use Rattle.nb_map.specs.Looking.{IsAtHome}
+use Rattle.nb_map.specs.Searching.{IsAbove, IsSlotOf}
 use Rattle.nb_map.specs.declared.decide.Decision.{Decision}
 use Rattle.nb_map.specs.declared.decide.Decision.TheVariants as decision
 use Rattle.nb_map.specs.declared.claim.Below.{Below}
@@ -73,6 +75,16 @@ find_steps p g = 3 * size_of p g + steps_below p g + 4 + table_steps p g
 abbrev pub passed_since : Call → (before after : SeenBy) → ℕ
 passed_since call before after = passed_over after.seen (length before.seen) (key_of_call call) before.number
 
--- the most steps at a slot: a load and an exchange for each try that is spent and one more, and the end of a copy
-abbrev pub exchange_steps : Plan → (g spent : ℕ) → ℕ
-exchange_steps p g spent = 2 * (spent + 1) + pass_steps p g
+-- ---- at home
+
+-- The call's key is at home in the table after these steps, and others have won no exchange on it meanwhile. If the call puts
+-- a number at an absent key, the home slot was known as the key's before.
+pub record IsAloneAtHome (p : Plan) (g : ℕ) (call : Call) (before after : SeenBy) : Type 0 where
+  pub home : IsAtHome p (seen_by p after) g (key_of_call call)
+  pub known : Fills call → (seen_by p before).key g (path_slot p g (key_of_call call) 0) ≡ Claimed (key_of_call call)
+  pub alone : passed_since call before after ≡ 0
+
+-- the seat has learned of no new top table, and was alone with the call's key at home in the one that it knows
+abbrev pub IsSeenAlone : Plan → Call → (before after : SeenBy) → Type 0
+IsSeenAlone p call before after =
+    ((seen_by p before).top ≡ (seen_by p after).top) × IsAloneAtHome p (seen_by p after).top call before after

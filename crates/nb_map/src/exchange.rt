@@ -7,8 +7,8 @@ ghost use Rattle.nb_table.specs.Chains.{IsOwn, seen_by};
 ghost use Rattle.nb_table.specs.Conditions.{IsReached};
 ghost use Rattle.nb_table.specs.Events.{shown_by_value};
 ghost use Rattle.nb_map.specs.Calling.{HasMade};
-ghost use Rattle.nb_map.specs.Refusing.{IsWritten, made_by, spent_by};
-ghost use Rattle.nb_map.specs.Writing.{exchange_steps};
+ghost use Rattle.nb_map.specs.Refusing.{IsWritten, exchange_steps, made_by};
+ghost use Rattle.nb_map.specs.Writing.{passed_since};
 
 use crate::claim::Below;
 use crate::decide::{Decision, decide};
@@ -38,7 +38,7 @@ pub(crate) fn exchange<P: Pause>(
     requires some { 1 ≤ tries }
     requires serves { P.serves pause.old chain.now }
     ensures made { HasMade chain.now.shape call.now seat.old seat.new (made_by call.now result)
-        (exchange_steps chain.now.shape g (spent_by tries result)) }
+        (exchange_steps chain.now.shape g tries (passed_since call.now seat.old seat.new) result) }
     ensures written { IsWritten chain.now.shape call.now seat.old seat.new g tries result }
     ensures serves { P.serves pause.new chain.now }
 {

@@ -1,5 +1,5 @@
 //! The map and its seats.
-ghost use Rattle.std.specs.Prelude.{◌≡◌, ◌+◌, ◌<◌, ◌≤◌, ◌↔◌, ℕ, pos, IfOk, IfErr, is_ok, is_some, true, if◌then◌else◌, Option, [], length};
+ghost use Rattle.std.specs.Prelude.{◌≡◌, ◌+◌, ◌<◌, ◌≤◌, ◌↔◌, ℕ, min, pos, IfOk, IfErr, is_ok, is_some, true, if◌then◌else◌, Option, [], length};
 ghost use Rattle.nb_core.specs.Log.{IsBeginning, reply_at};
 ghost use Rattle.nb_core.specs.Meaning.{net_of_change};
 ghost use Rattle.nb_core.specs.Plans.{IsPlan};
@@ -12,6 +12,7 @@ ghost use Rattle.nb_map.specs.Ending.{EndedWith, HasTablesLeft};
 ghost use Rattle.nb_map.specs.Logs.{HasLogged, HasReplied, log};
 ghost use Rattle.nb_map.specs.Maps.{AreMine, HasWorked, IsMine, accounted, seats_of};
 ghost use Rattle.nb_map.specs.Refusing.{IsJust, put_steps};
+ghost use Rattle.nb_map.specs.Writing.{IsSeenAlone, passed_since};
 
 use crate::ended::{Ended, parted};
 use crate::get::get_in;
@@ -28,7 +29,7 @@ use std::sync::Mutex;
 /// A map from whole numbers to whole numbers, which many threads share. Contracts see its chain of tables and its counter.
 #[derive(Drop)]
 pub struct Map {
-    chain: Chain,
+    pub(crate) chain: Chain,
     counter: Counter,
     /// Room in which `finish` gathers the seats, so that it takes no memory. A vector for seats can't be shared by threads, and
     /// a lock that holds one can. No call takes this lock.
@@ -137,7 +138,10 @@ impl Map {
         ensures replied { IfOk result (HasReplied (call.Write key want change) seat.old seat.new) }
         ensures refused { IfErr result (λ fault. HasLogged seat.old seat.new []
             × IsJust self.now.chain.shape (call.Write key want change) seat.old.chain seat.new.chain tries fault) }
-        ensures worked { HasWorked self.now (call.Write key want change) seat.old seat.new (put_steps self.now.chain.shape tries) }
+        ensures worked { HasWorked self.now (call.Write key want change) seat.old seat.new
+            (put_steps self.now.chain.shape (min tries (passed_since (call.Write key want change) seat.old.chain seat.new.chain + 1))) }
+        ensures four_steps { IsSeenAlone self.now.chain.shape (call.Write key want change) seat.old.chain seat.new.chain
+            → seat.new.chain.steps ≤ seat.old.chain.steps + 4 }
         ensures own { IsMine self.now seat.new }
     {
         let reply = put_if_match_in(
@@ -154,7 +158,7 @@ impl Map {
     }
 
     /// Counts what a write with this change and reply did to the number of keys.
-    fn count(&self, seat: &mut CountSeat, change: &Change, reply: &Reply)
+    pub(crate) fn count(&self, seat: &mut CountSeat, change: &Change, reply: &Reply)
         requires own { seat.old.counter ≡ self.now.counter.id }
         ensures { seat.new ≡ accounted (if reply.now.matched then net_of_change change.now reply.now.before else pos 0) seat.old }
     {

@@ -59,6 +59,7 @@ pub(crate) fn walk_path(
     ensures made { HasMade chain.now.shape call.now seat.old seat.new (read_at chain.now.shape g call.now result)
         (walk_steps chain.now.shape g from result) }
     ensures ends { EndsAt chain.now.shape (seen_by chain.now.shape seat.new) g key result }
+    ensures short { (AreOthers chain.now.shape (seen_by chain.now.shape seat.new) g key 1 → ⊥) → seat.new.steps ≤ seat.old.steps + 1 }
 {
     for distance in from..chain.shape().size_of(g) {
         let i = chain.shape().path_slot(g, key, distance);
@@ -94,6 +95,7 @@ pub(crate) fn seek(
     ensures made { HasMade chain.now.shape call.now seat.old seat.new (read_sought call.now result)
         (size_of chain.now.shape g - from + 1) }
     ensures sought { IsSought chain.now.shape (seen_by chain.now.shape seat.new) g key result }
+    ensures short { (AreOthers chain.now.shape (seen_by chain.now.shape seat.new) g key 1 → ⊥) → seat.new.steps ≤ seat.old.steps + 1 }
 {
     match walk_path(chain, seat, g, key, call, from) {
         Place::Slot(i) => Sought::Slot(i),

@@ -1,18 +1,23 @@
 //! The calls of `ConcurrentMap`, each of which is one conditional write. They try again while other seats' writes of the key
 //! come first, for as long as that may be, so they wait. Each tells in the end just one call, or none if it is refused.
-ghost use Rattle.std.specs.Prelude.{◌≡◌, false, true, None, IfOk, IfErr};
+ghost use Rattle.std.specs.Prelude.{◌≡◌, ◌+◌, ◌≤◌, false, true, None, IfOk, IfErr};
 ghost use Rattle.nb_core.specs.Calls.{leaves_alone, overflows};
 ghost use Rattle.nb_core.specs.Log.{Numbers};
 ghost use Rattle.nb_core.specs.declared.calls.Call.TheVariants as call;
 ghost use Rattle.nb_core.specs.declared.calls.Change.TheVariants as change;
 ghost use Rattle.nb_core.specs.declared.calls.Want.TheVariants as want;
+ghost use Rattle.nb_table.specs.Chains.{IsOwn};
+ghost use Rattle.nb_map.specs.Calling.{HasMade};
 ghost use Rattle.nb_map.specs.Logs.{HasFound, HasMatched, HasReplied};
-ghost use Rattle.nb_map.specs.Maps.{HasWaited, IsMine};
-ghost use Rattle.nb_map.specs.Refusing.{HasRefused};
+ghost use Rattle.nb_map.specs.Maps.{IsMine};
+ghost use Rattle.nb_map.specs.Refusing.{HasRefused, IsJustAdd, IsLockFree, made_in, put_steps};
+ghost use Rattle.nb_map.specs.Writing.{IsSeenAlone, passed_since};
 
 use crate::map::{Map, Seat};
-use crate::write::PutFault;
-use nb_core::{Change, Key, Num, Reply, Want};
+use crate::pause::NoPause;
+use crate::write::{PutFault, write_from};
+use nb_core::{Call, Change, Key, Num, Reply, Want};
+use nb_table::{Chain, ChainSeat};
 use std::sync::Wait;
 use thiserror::Error;
 
@@ -45,7 +50,9 @@ impl Map {
         ensures found { IfOk result (HasFound (call.Write key want.Any (change.Put number)) seat.old seat.new) }
         ensures full { IfErr result (λ fault. HasRefused self.now (call.Write key want.Any (change.Put number)) seat.old seat.new
             AddFault.Full) }
-        ensures waited { HasWaited self.now (call.Write key want.Any (change.Put number)) seat.old seat.new }
+        ensures lock_free { IsLockFree self.now (call.Write key want.Any (change.Put number)) seat.old seat.new }
+        ensures four_steps { IsSeenAlone self.now.chain.shape (call.Write key want.Any (change.Put number)) seat.old.chain seat.new.chain
+            → seat.new.chain.steps ≤ seat.old.chain.steps + 4 }
         ensures own { IsMine self.now seat.new }
     {
         Ok(self.put_where(rt, seat, key, Want::Any, number)?.before)
@@ -63,7 +70,9 @@ impl Map {
         ensures found { IfOk result (HasFound (call.Write key want.Absent (change.Put number)) seat.old seat.new) }
         ensures full { IfErr result (λ fault. HasRefused self.now (call.Write key want.Absent (change.Put number)) seat.old seat.new
             AddFault.Full) }
-        ensures waited { HasWaited self.now (call.Write key want.Absent (change.Put number)) seat.old seat.new }
+        ensures lock_free { IsLockFree self.now (call.Write key want.Absent (change.Put number)) seat.old seat.new }
+        ensures four_steps { IsSeenAlone self.now.chain.shape (call.Write key want.Absent (change.Put number)) seat.old.chain seat.new.chain
+            → seat.new.chain.steps ≤ seat.old.chain.steps + 4 }
         ensures own { IsMine self.now seat.new }
     {
         Ok(self.put_where(rt, seat, key, Want::Absent, number)?.before)
@@ -73,7 +82,9 @@ impl Map {
     pub fn replace<R: Wait>(&self, rt: &R, seat: &mut Seat, key: Key, number: Num) -> Option<Num>
         requires own { IsMine self.now seat.old }
         ensures found { HasFound (call.Write key want.Present (change.Put number)) seat.old seat.new result }
-        ensures waited { HasWaited self.now (call.Write key want.Present (change.Put number)) seat.old seat.new }
+        ensures lock_free { IsLockFree self.now (call.Write key want.Present (change.Put number)) seat.old seat.new }
+        ensures four_steps { IsSeenAlone self.now.chain.shape (call.Write key want.Present (change.Put number)) seat.old.chain seat.new.chain
+            → seat.new.chain.steps ≤ seat.old.chain.steps + 4 }
         ensures own { IsMine self.now seat.new }
     {
         self.change_where(rt, seat, key, Want::Present, Change::Put(number))
@@ -84,7 +95,9 @@ impl Map {
     pub fn replace_if<R: Wait>(&self, rt: &R, seat: &mut Seat, key: Key, old: Num, new: Num) -> bool
         requires own { IsMine self.now seat.old }
         ensures matched { HasMatched (call.Write key (want.Equal old) (change.Put new)) seat.old seat.new result }
-        ensures waited { HasWaited self.now (call.Write key (want.Equal old) (change.Put new)) seat.old seat.new }
+        ensures lock_free { IsLockFree self.now (call.Write key (want.Equal old) (change.Put new)) seat.old seat.new }
+        ensures four_steps { IsSeenAlone self.now.chain.shape (call.Write key (want.Equal old) (change.Put new)) seat.old.chain seat.new.chain
+            → seat.new.chain.steps ≤ seat.old.chain.steps + 4 }
         ensures own { IsMine self.now seat.new }
     {
         self.change_where(rt, seat, key, Want::Equal(old), Change::Put(new))
@@ -95,7 +108,9 @@ impl Map {
     pub fn remove<R: Wait>(&self, rt: &R, seat: &mut Seat, key: Key) -> Option<Num>
         requires own { IsMine self.now seat.old }
         ensures found { HasFound (call.Write key want.Any change.Remove) seat.old seat.new result }
-        ensures waited { HasWaited self.now (call.Write key want.Any change.Remove) seat.old seat.new }
+        ensures lock_free { IsLockFree self.now (call.Write key want.Any change.Remove) seat.old seat.new }
+        ensures four_steps { IsSeenAlone self.now.chain.shape (call.Write key want.Any change.Remove) seat.old.chain seat.new.chain
+            → seat.new.chain.steps ≤ seat.old.chain.steps + 4 }
         ensures own { IsMine self.now seat.new }
     {
         self.change_where(rt, seat, key, Want::Any, Change::Remove)
@@ -106,7 +121,9 @@ impl Map {
     pub fn remove_if<R: Wait>(&self, rt: &R, seat: &mut Seat, key: Key, number: Num) -> bool
         requires own { IsMine self.now seat.old }
         ensures matched { HasMatched (call.Write key (want.Equal number) change.Remove) seat.old seat.new result }
-        ensures waited { HasWaited self.now (call.Write key (want.Equal number) change.Remove) seat.old seat.new }
+        ensures lock_free { IsLockFree self.now (call.Write key (want.Equal number) change.Remove) seat.old seat.new }
+        ensures four_steps { IsSeenAlone self.now.chain.shape (call.Write key (want.Equal number) change.Remove) seat.old.chain seat.new.chain
+            → seat.new.chain.steps ≤ seat.old.chain.steps + 4 }
         ensures own { IsMine self.now seat.new }
     {
         self.change_where(rt, seat, key, Want::Equal(number), Change::Remove)
@@ -124,10 +141,12 @@ impl Map {
         requires own { IsMine self.now seat.old }
         ensures found { IfOk result (HasFound (call.Write key want.Any (change.Add number)) seat.old seat.new) }
         ensures refused { IfErr result (HasRefused self.now (call.Write key want.Any (change.Add number)) seat.old seat.new) }
-        ensures waited { HasWaited self.now (call.Write key want.Any (change.Add number)) seat.old seat.new }
+        ensures lock_free { IsLockFree self.now (call.Write key want.Any (change.Add number)) seat.old seat.new }
+        ensures four_steps { IsSeenAlone self.now.chain.shape (call.Write key want.Any (change.Add number)) seat.old.chain seat.new.chain
+            → seat.new.chain.steps ≤ seat.old.chain.steps + 4 }
         ensures own { IsMine self.now seat.new }
     {
-        let reply = self.write(rt, seat, key, &Want::Any, &Change::Add(number))?;
+        let reply = self.write(rt, seat, key, Want::Any, Change::Add(number))?;
         Ok(reply.before)
     }
 
@@ -144,10 +163,12 @@ impl Map {
         ensures replied { IfOk result (HasReplied (call.Write key want (change.Put number)) seat.old seat.new) }
         ensures full { IfErr result (λ fault. HasRefused self.now (call.Write key want (change.Put number)) seat.old seat.new
             AddFault.Full) }
-        ensures waited { HasWaited self.now (call.Write key want (change.Put number)) seat.old seat.new }
+        ensures lock_free { IsLockFree self.now (call.Write key want (change.Put number)) seat.old seat.new }
+        ensures four_steps { IsSeenAlone self.now.chain.shape (call.Write key want (change.Put number)) seat.old.chain seat.new.chain
+            → seat.new.chain.steps ≤ seat.old.chain.steps + 4 }
         ensures own { IsMine self.now seat.new }
     {
-        match self.write(rt, seat, key, &want, &Change::Put(number)) {
+        match self.write(rt, seat, key, want, Change::Put(number)) {
             Ok(reply) => Ok(reply),
             Err(AddFault::Full) => Err(Full),
             Err(AddFault::ValueRange) => unreachable!(),
@@ -167,38 +188,64 @@ impl Map {
         requires no_put { leaves_alone (call.Write key want change) None ≡ true }
         requires in_range { (m : Numbers) → overflows (call.Write key want change) m ≡ false }
         ensures replied { HasReplied (call.Write key want change) seat.old seat.new result }
-        ensures waited { HasWaited self.now (call.Write key want change) seat.old seat.new }
+        ensures lock_free { IsLockFree self.now (call.Write key want change) seat.old seat.new }
+        ensures four_steps { IsSeenAlone self.now.chain.shape (call.Write key want change) seat.old.chain seat.new.chain
+            → seat.new.chain.steps ≤ seat.old.chain.steps + 4 }
         ensures own { IsMine self.now seat.new }
     {
-        match self.write(rt, seat, key, &want, &change) {
+        match self.write(rt, seat, key, want, change) {
             Ok(reply) => reply,
             Err(_) => unreachable!(),
         }
     }
 
-    /// Makes a write, and tries again while it is contended.
+    /// Makes a write, and counts what it did to the number of keys.
     fn write<R: Wait>(
         &self,
         rt: &R,
         seat: &mut Seat,
         key: Key,
-        want: &Want,
-        change: &Change,
+        want: Want,
+        change: Change,
     ) -> Result<Reply, AddFault>
         requires own { IsMine self.now seat.old }
-        ensures replied { IfOk result (HasReplied (call.Write key want.now change.now) seat.old seat.new) }
-        ensures refused { IfErr result (HasRefused self.now (call.Write key want.now change.now) seat.old seat.new) }
-        ensures waited { HasWaited self.now (call.Write key want.now change.now) seat.old seat.new }
+        ensures replied { IfOk result (HasReplied (call.Write key want change) seat.old seat.new) }
+        ensures refused { IfErr result (HasRefused self.now (call.Write key want change) seat.old seat.new) }
+        ensures lock_free { IsLockFree self.now (call.Write key want change) seat.old seat.new }
+        ensures four_steps { IsSeenAlone self.now.chain.shape (call.Write key want change) seat.old.chain seat.new.chain
+            → seat.new.chain.steps ≤ seat.old.chain.steps + 4 }
         ensures own { IsMine self.now seat.new }
     {
-        for _ in rt.forever() {
-            match self.put_if_match(seat, key, *want, *change, u32::MAX) {
-                Ok(reply) => return Ok(reply),
-                Err(PutFault::Contended) => {}
-                Err(PutFault::Full) => return Err(AddFault::Full),
-                Err(PutFault::ValueRange) => return Err(AddFault::ValueRange),
-            }
-        }
-        unreachable!()
+        let reply = write_through(rt, &self.chain, &mut seat.chain, key, want, change)?;
+        self.count(&mut seat.count, &change, &reply);
+        Ok(reply)
     }
+}
+
+/// Makes a write on a chain of tables, and tries again for as long as other seats come first.
+fn write_through<R: Wait>(
+    rt: &R,
+    chain: &Chain,
+    seat: &mut ChainSeat,
+    key: Key,
+    want: Want,
+    change: Change,
+) -> Result<Reply, AddFault>
+    requires own { IsOwn chain.now seat.old }
+    ensures made { HasMade chain.now.shape (call.Write key want change) seat.old seat.new (made_in (call.Write key want change) result)
+        (put_steps chain.now.shape (passed_since (call.Write key want change) seat.old seat.new + 1)) }
+    ensures refused { IfErr result (IsJustAdd chain.now.shape (call.Write key want change) seat.new) }
+    ensures four_steps { IsSeenAlone chain.now.shape (call.Write key want change) seat.old seat.new → seat.new.steps ≤ seat.old.steps + 4 }
+{
+    let call = Call::Write { key, want, change };
+    let top = chain.load_top(seat);
+    for _ in rt.forever() {
+        match write_from(chain, seat, top, key, &call, u32::MAX, &mut NoPause) {
+            Ok(reply) => return Ok(reply),
+            Err(PutFault::Contended) => {}
+            Err(PutFault::Full) => return Err(AddFault::Full),
+            Err(PutFault::ValueRange) => return Err(AddFault::ValueRange),
+        }
+    }
+    unreachable!()
 }

@@ -1,12 +1,14 @@
 //! Writing a key.
-ghost use Rattle.std.specs.Prelude.{◌≡◌, ◌≤◌, [], ◌∷◌, IfOk, IfErr};
+ghost use Rattle.std.specs.Prelude.{◌≡◌, ◌≤◌, ◌+◌, ◌*◌, min, IfErr};
 ghost use Rattle.nb_core.specs.History.{key_of_call};
+ghost use Rattle.nb_core.specs.Tables.{IsReady};
 ghost use Rattle.nb_core.specs.declared.calls.Call.TheVariants as call;
 ghost use Rattle.nb_table.specs.Chains.{IsOwn, seen_by};
 ghost use Rattle.nb_table.specs.Conditions.{IsReached};
 ghost use Rattle.nb_map.specs.Calling.{HasMade};
-ghost use Rattle.nb_map.specs.Refusing.{IsJust, IsTarget, IsWritten, made_at, made_by, put_steps, write_steps};
-ghost use Rattle.nb_map.specs.Writing.{HasBelow, find_steps};
+ghost use Rattle.nb_map.specs.Looking.{get_steps};
+ghost use Rattle.nb_map.specs.Refusing.{IsJust, IsTarget, IsWritten, made_at, made_by, made_in, put_steps, write_steps};
+ghost use Rattle.nb_map.specs.Writing.{HasBelow, IsAloneAtHome, IsSeenAlone, find_steps, passed_since};
 
 use crate::claim::{Below, Found, find_or_claim};
 use crate::decide::{Decision, decide};
@@ -69,17 +71,43 @@ pub fn put_if_match_in<P: Pause>(
     requires own { IsOwn chain.now seat.old }
     requires some { 1 ≤ tries }
     requires serves { P.serves pause.old chain.now }
-    ensures made { IfOk result (λ reply. HasMade chain.now.shape (call.Write key want change) seat.old seat.new
-        ((call.Write key want change, reply) ∷ []) (put_steps chain.now.shape tries)) }
-    ensures refused { IfErr result (λ fault. HasMade chain.now.shape (call.Write key want change) seat.old seat.new []
-        (put_steps chain.now.shape tries) × IsJust chain.now.shape (call.Write key want change) seat.old seat.new tries fault) }
+    ensures made { HasMade chain.now.shape (call.Write key want change) seat.old seat.new (made_in (call.Write key want change) result)
+        (put_steps chain.now.shape (min tries (passed_since (call.Write key want change) seat.old seat.new + 1))) }
+    ensures refused { IfErr result (IsJust chain.now.shape (call.Write key want change) seat.old seat.new tries) }
+    ensures four_steps { IsSeenAlone chain.now.shape (call.Write key want change) seat.old seat.new → seat.new.steps ≤ seat.old.steps + 4 }
     ensures serves { P.serves pause.new chain.now }
 {
     let call = Call::Write { key, want, change };
+    let top = chain.load_top(seat);
+    write_from(chain, seat, top, key, &call, tries, pause)
+}
+
+/// Makes a write, in the top table `first` or above it.
+pub(crate) fn write_from<P: Pause>(
+    chain: &Chain,
+    seat: &mut ChainSeat,
+    first: u32,
+    key: Key,
+    call: &Call,
+    tries: u32,
+    pause: &mut P,
+) -> Result<Reply, PutFault>
+    requires own { IsOwn chain.now seat.old }
+    requires key { key_of_call call.now ≡ key }
+    requires reached { IsReached chain.now.shape (seen_by chain.now.shape seat.old) first key }
+    requires ready { IsReady chain.now.shape (seen_by chain.now.shape seat.old) first }
+    requires some { 1 ≤ tries }
+    requires serves { P.serves pause.old chain.now }
+    ensures made { HasMade chain.now.shape call.now seat.old seat.new (made_in call.now result)
+        (get_steps chain.now.shape + 2 * min tries (passed_since call.now seat.old seat.new)) }
+    ensures refused { IfErr result (IsJust chain.now.shape call.now seat.old seat.new tries) }
+    ensures short { IsAloneAtHome chain.now.shape first call.now seat.old seat.new → seat.new.steps ≤ seat.old.steps + 3 }
+    ensures serves { P.serves pause.new chain.now }
+{
     let mut below = Below::Complete;
     let mut left = tries;
-    for g in chain.load_top(seat)..chain.shape().generations() {
-        match write_in(chain, seat, g, key, &call, below, left, pause) {
+    for g in first..chain.shape().generations() {
+        match write_in(chain, seat, g, key, call, below, left, pause) {
             Written::Replied(reply) => return Ok(reply),
             Written::Refused(fault) => return Err(fault),
             Written::Above(now, tries_left) => {
@@ -110,8 +138,9 @@ fn write_in<P: Pause>(
     requires some { 1 ≤ tries }
     requires serves { P.serves pause.old chain.now }
     ensures made { HasMade chain.now.shape call.now seat.old seat.new (made_by call.now result)
-        (write_steps chain.now.shape g tries result) }
+        (write_steps chain.now.shape g tries (passed_since call.now seat.old seat.new) result) }
     ensures written { IsWritten chain.now.shape call.now seat.old seat.new g tries result }
+    ensures short { IsAloneAtHome chain.now.shape g call.now seat.old seat.new → seat.new.steps ≤ seat.old.steps + 3 }
     ensures serves { P.serves pause.new chain.now }
 {
     match aim(chain, seat, g, key, call, below) {
@@ -132,6 +161,7 @@ fn aim(chain: &Chain, seat: &mut ChainSeat, g: u32, key: Key, call: &Call, below
     requires below { HasBelow chain.now.shape (seen_by chain.now.shape seat.old) g key below }
     ensures made { HasMade chain.now.shape call.now seat.old seat.new (made_at call.now result) (find_steps chain.now.shape g) }
     ensures target { IsTarget chain.now.shape call.now seat.new g key result }
+    ensures short { IsAloneAtHome chain.now.shape g call.now seat.old seat.new → seat.new.steps ≤ seat.old.steps + 1 }
 {
     if let Decision::Leave(reply) = decide(call, &None) {
         return match seek(chain, seat, g, key, call, 0) {

@@ -1,8 +1,11 @@
-use Rattle.std.proofs.Common.{◌+◌, ◌-◌, ◌<◌, ◌≤◌, [], arith}
-use Rattle.nb_core.specs.Plans.{size_of}
-use Rattle.nb_core.specs.Tables.{IsInstalled}
-use Rattle.nb_table.specs.Chains.{seen_by}
+use Rattle.std.proofs.Common.{◌≡◌, ℕ, ◌+◌, ◌-◌, ◌<◌, ◌≤◌, [], refl, arith}
+use Rattle.std.proofs.lemmas.Nat.{pow_pos}
+use Rattle.nb_core.specs.Plans.{Plan, size_of}
+use Rattle.nb_core.specs.Tables.{IsInstalled, path_slot}
+use Rattle.nb_core.specs.declared.states.KeyState.TheVariants.{Claimed}
+use Rattle.nb_table.specs.Chains.{SeenBy, seen_by}
 use Rattle.nb_map.proofs.Claimed.{behind-fits, below-lasts, empty-behind, walked-claimed, walked-here, walked-none, walked-behind, walked-to, walked-whole}
+use Rattle.nb_map.proofs.Home.{home-in, own-ends, own-first}
 use Rattle.nb_map.proofs.Made.{made-more, made-own, made-stays}
 use Rattle.nb_map.proofs.Searched.{reached-lasts, table-within}
 use Rattle.nb_map.specs.Calling.{HasMade}
@@ -17,6 +20,7 @@ loop-i-init c = record {
   within = omega arith;
   others = λ e near. absurd (omega (arith, near));
   below = c.requires.below;
+  first = λ own. refl;
 }
 
 pub walk_path-requires-clause-reached : goal.walk_path-requires-clause-reached
@@ -111,6 +115,54 @@ returns-in-Some-clause-made c =
     c.loop-i.invariant.within c.in-Empty.ensures.ends.0 c.settle_below-below.ensures.fewer c.loop-i.invariant.walked
     (settled (goal.at.returns-in-Some-clause-made c).After-settle_below-below) c.in-Some.ensures.found.0
 
+-- ---- where the home slot is the key's own
+
+-- it is so still after the walk, which is the first one and makes one step
+abbrev IsHome : SeenBy → (g k : ℕ) → Plan → Type 0
+IsHome seat g k p = (seen_by p seat).key g (path_slot p g k 0) ≡ Claimed k
+
+home-still : (c : After-walk_path) → IsHome c.args.seat.now c.args.g c.args.key c.args.chain.now.shape
+    → IsHome c.walk_path.new.seat c.args.g c.args.key c.args.chain.now.shape
+home-still c own =
+    let chain = c.args.chain.now in
+    let table = table-within chain c.args.seat.now c.requires.own c.args.g c.requires.reached.installed in
+    (made-stays chain c.requires.own
+    (walked-to chain c.requires.own c.requires.acts c.loop-i.invariant.walked c.walk_path.result c.walk_path.ensures.made)).claimed
+    c.args.g _ c.args.key (home-in chain.shape c.args.g c.args.key table) own
+
+walked-once : (c : After-walk_path) → IsHome c.args.seat.now c.args.g c.args.key c.args.chain.now.shape
+    → c.walk_path.new.seat.steps ≤ c.args.seat.now.steps + 1
+walked-once c own =
+    let p = c.args.chain.now.shape in
+    omega (
+      arith,
+      c.loop-i.invariant.first own,
+      c.walk_path.ensures.short (own-first p (seen_by p c.walk_path.new.seat) c.args.g c.args.key 1 (home-still c own) (omega arith)),
+    )
+
+-- and doesn't end at an empty slot
+not-empty : (c : In-Empty) → IsHome c.walk_path.new.seat c.args.g c.args.key c.args.chain.now.shape → ⊥
+not-empty c own =
+    let p = c.args.chain.now.shape in
+    own-ends p (seen_by p c.walk_path.new.seat) c.args.g c.args.key c.in-Empty.distance own c.in-Empty.ensures.ends.1 c.in-Empty.ensures.ends.2
+
+pub returns-in-Slot-clause-short : goal.returns-in-Slot-clause-short
+returns-in-Slot-clause-short c = walked-once (goal.at.returns-in-Slot-clause-short c).After-walk_path
+
+pub returns-in-Closed-clause-short : goal.returns-in-Closed-clause-short
+returns-in-Closed-clause-short c = walked-once (goal.at.returns-in-Closed-clause-short c).After-walk_path
+
+pub returns-in-Whole-clause-short : goal.returns-in-Whole-clause-short
+returns-in-Whole-clause-short c own =
+    let p = c.args.chain.now.shape in
+    absurd
+    (own-first p (seen_by p c.walk_path.new.seat) c.args.g c.args.key _ (home-still (goal.at.returns-in-Whole-clause-short c).After-walk_path own)
+    (pow_pos _) c.in-Whole.ensures.ends)
+
+pub returns-in-Some-clause-short : goal.returns-in-Some-clause-short
+returns-in-Some-clause-short c own =
+    let at = goal.at.returns-in-Some-clause-short c in absurd (not-empty at.In-Empty (home-still at.After-walk_path own))
+
 pub overflow_add-from : goal.overflow_add-from
 overflow_add-from c =
     let chain = c.args.chain.now in
@@ -134,4 +186,6 @@ loop-i-preserved c =
       others = lost.1;
       below = below-lasts chain.shape _ _ (made-stays chain c.settle_below-below.ensures.own lost.0) c.args.g c.args.key table
           c.settle_below-below.result has;
+      first = λ own.
+          let at = goal.at.loop-i-preserved c in absurd (not-empty at.In-Empty (home-still at.After-walk_path own));
     }

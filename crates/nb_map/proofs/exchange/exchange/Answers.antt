@@ -4,7 +4,7 @@ use Rattle.nb_core.specs.declared.states.KeyState.TheVariants.{Claimed}
 use Rattle.nb_table.specs.Chains.{seen_by}
 use Rattle.nb_map.specs.Calling.{HasMade}
 use Rattle.nb_map.specs.Searching.{IsAbove, pass_steps}
-use Rattle.nb_map.specs.Writing.{IsDecided, exchange_steps}
+use Rattle.nb_map.specs.Writing.{IsDecided}
 use Rattle.nb_map.proofs.Exchanged.{enough-above, enough-here, looked, lost-more, made-won, none-is, none-of, not-same, passed-still, reached-settled, read-acting, read-left, read-primed, shown-decided, shown-none, shown-some, some-shown, still-stands}
 use Rattle.nb_map.proofs.Made.{made-more, made-none, made-own, made-quiet, made-within}
 use Rattle.nb_map.proofs.exchange.exchange.Goals as goal
@@ -54,7 +54,7 @@ returns-in_default-clause-made g c =
     let quiet = subst (λ made. HasMade p c.args.call.now c.args.seat.now c.load_value-from.new.seat made (2 * lost + 1))
     (read-primed c.args.call.now c.load_value-from.result none) look in
     let enough = enough-above lost c.args.tries pass c.loop-lost-test.true in
-    made-within (2 * lost + 1 + pass) (exchange_steps p c.args.g (c.args.tries - (c.args.tries - lost))) (omega (arith, enough))
+    made-within (2 * lost + 1 + pass) _ (omega (arith, enough))
     (made-more chain c.requires.own quiet (c.pass_slot.ensures.made c.args.call.now))
 
 pub returns-in_default-clause-written : goal.returns-in_default-clause-written
@@ -90,8 +90,9 @@ returns-in-Leave-clause-made g c =
     let lost = c.loop-lost.lost in
     let left = subst (IsDecided c.args.call.now c.in-Some.number) c.in-Leave.is c.decide.ensures in
     let look = looked chain c.load_value-from.result c.requires.own c.loop-lost.invariant.0 c.load_value-from.ensures.grows in
-    let enough = enough-here lost c.args.tries (pass_steps p c.args.g) c.loop-lost.auto.lost-end in
-    made-within (2 * lost + 1) (exchange_steps p c.args.g c.args.tries) (omega (arith, enough))
+    let passed = passed-still c.args.call.now lost c.loop-lost.invariant.0.grown (steps_add_up.one c.load_value-from.ensures.grows) c.loop-lost.invariant.1 in
+    let enough = enough-here lost c.args.tries _ c.loop-lost.auto.lost-end passed in
+    made-within (2 * lost + 1) _ (omega (arith, enough))
     (subst (λ made. HasMade p c.args.call.now c.args.seat.now c.load_value-from.new.seat made (2 * lost + 1))
     (read-left c.args.call.now c.load_value-from.result c.in-Some.number c.in-Leave.reply (sym c.shown.ensures ∙ c.in-Some.is) left.0 left.1) look)
 
@@ -105,8 +106,9 @@ returns-in-Overflow-clause-made g c =
     let lost = c.loop-lost.lost in
     let refused = subst (IsDecided c.args.call.now c.in-Some.number) c.in-Overflow.is c.decide.ensures in
     let look = looked chain c.load_value-from.result c.requires.own c.loop-lost.invariant.0 c.load_value-from.ensures.grows in
-    let enough = enough-here lost c.args.tries (pass_steps p c.args.g) c.loop-lost.auto.lost-end in
-    made-within (2 * lost + 1) (exchange_steps p c.args.g c.args.tries) (omega (arith, enough))
+    let passed = passed-still c.args.call.now lost c.loop-lost.invariant.0.grown (steps_add_up.one c.load_value-from.ensures.grows) c.loop-lost.invariant.1 in
+    let enough = enough-here lost c.args.tries _ c.loop-lost.auto.lost-end passed in
+    made-within (2 * lost + 1) _ (omega (arith, enough))
     (subst (λ made. HasMade p c.args.call.now c.args.seat.now c.load_value-from.new.seat made (2 * lost + 1))
     (read-acting c.args.call.now c.load_value-from.result c.in-Some.number (sym c.shown.ensures ∙ c.in-Some.is) refused.0) look)
 
@@ -174,8 +176,10 @@ returns-then-eq-clause-made g c =
     let look = looked chain c.load_value-from.result c.requires.own c.loop-lost.invariant.0 c.load_value-from.ensures.grows in
     let quiet = subst (λ made. HasMade p c.args.call.now c.args.seat.now c.load_value-from.new.seat made (2 * lost + 1))
     (read-acting c.args.call.now c.load_value-from.result c.in-Some.number shows acts) look in
-    let enough = enough-here lost c.args.tries (pass_steps p c.args.g) c.loop-lost.auto.lost-end in
-    made-within (2 * lost + 1 + 1) (exchange_steps p c.args.g c.args.tries) (omega (arith, enough))
+    let passed = passed-still c.args.call.now lost c.loop-lost.invariant.0.grown
+    (steps_add_up.more (steps_add_up.one c.load_value-from.ensures.grows) (steps_add_up.one won.0)) c.loop-lost.invariant.1 in
+    let enough = enough-here lost c.args.tries _ c.loop-lost.auto.lost-end passed in
+    made-within (2 * lost + 1 + 1) _ (omega (arith, enough))
     (made-more chain c.requires.own quiet
     (made-won chain c.in-Some.number (shown-some c.load_value-from.result c.in-Some.number shows).1 won.0))
 
@@ -213,7 +217,7 @@ returns-then-is_none-clause-made g c =
     (read-acting c.args.call.now c.load_value-from.result c.in-Some.number (sym c.shown.ensures ∙ c.in-Some.is) acts) look in
     let steps = made-more chain c.requires.own quiet (made-quiet p c.args.call.now (c.win_value-found.ensures.lost differs).0) in
     let enough = enough-above lost c.args.tries pass c.loop-lost-test.true in
-    made-within (2 * lost + 1 + 1 + pass) (exchange_steps p c.args.g (c.args.tries - (c.args.tries - lost))) (omega (arith, enough))
+    made-within (2 * lost + 1 + 1 + pass) _ (omega (arith, enough))
     (made-more chain c.requires.own steps (c.pass_slot-then-is_none.ensures.made c.args.call.now))
 
 pub returns-then-is_none-clause-written : goal.returns-then-is_none-clause-written
@@ -275,8 +279,8 @@ pub returns-clause-made : goal.returns-clause-made
 returns-clause-made g c =
     let p = c.args.chain.now.shape in
     let lost = c.loop-lost.lost in
-    let enough = enough-here lost c.args.tries (pass_steps p c.args.g) c.loop-lost.auto.lost-end in
-    made-within (2 * lost) (exchange_steps p c.args.g c.args.tries) (omega (arith, enough)) c.loop-lost.invariant.0
+    let enough = enough-here lost c.args.tries _ c.loop-lost.auto.lost-end c.loop-lost.invariant.1 in
+    made-within (2 * lost) _ (omega (arith, enough)) c.loop-lost.invariant.0
 
 pub returns-clause-written : goal.returns-clause-written
 returns-clause-written g c =

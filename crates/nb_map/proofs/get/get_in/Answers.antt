@@ -5,8 +5,9 @@ use Rattle.nb_core.specs.declared.calls.Call.TheVariants as call
 use Rattle.nb_table.specs.Chains.{seen_by}
 use Rattle.nb_map.specs.Looking.{IsAtHome, get_steps, looked_below}
 use Rattle.nb_map.proofs.Bounds.{get-bound}
+use Rattle.nb_map.proofs.Home.{home-before}
 use Rattle.nb_map.proofs.Made.{made-more, made-own, made-quiet, made-stays, made-within}
-use Rattle.nb_map.proofs.Searched.{away-lasts, not-both, reached-lasts, reached-top, table-within}
+use Rattle.nb_map.proofs.Searched.{reached-lasts, reached-top, table-within}
 use Rattle.nb_map.proofs.get.get_in.Goals as goal
 use Rattle.nb_table.proofs.Theorems.{steps_add_up}
 
@@ -67,7 +68,6 @@ returns-in-From c =
           let same : (seen_by c.args.chain.now.shape c.get_from.new.seat).top ≡ c.load_top-top.result =
           omega (arith, home.0, first.top, second.top, third.top, c.load_top-top.ensures.found) in
           absurd
-          (not-both p (seen_by c.args.chain.now.shape c.get_from.new.seat) c.load_top-top.result c.args.key
-          (away-lasts p _ _ third c.load_top-top.result c.args.key table c.in-From.ensures.glance.2)
-          (subst (λ g. IsAtHome p (seen_by c.args.chain.now.shape c.get_from.new.seat) g c.args.key) same home.1));
+          (c.in-From.ensures.glance.2 (home-before p _ _ third c.load_top-top.result c.args.key table
+          (subst (λ g. IsAtHome p (seen_by c.args.chain.now.shape c.get_from.new.seat) g c.args.key) same home.1)));
     }

@@ -5,6 +5,7 @@ use Rattle.nb_core.specs.declared.calls.Call.TheVariants as call
 use Rattle.nb_core.specs.declared.states.KeyState.TheVariants.{Claimed}
 use Rattle.nb_table.specs.Chains.{Extended, seen_by}
 use Rattle.nb_table.specs.Events.{read, shown_by_value}
+use Rattle.nb_map.proofs.Home.{primed-away}
 use Rattle.nb_map.proofs.Made.{made-quiet, made-read}
 use Rattle.nb_map.proofs.Searched.{is-primed, others-none, shown-primed}
 use Rattle.nb_map.proofs.get.glance_at.Goals as goal
@@ -40,10 +41,8 @@ returns-in_default c =
       glance = (
         pow_pos _,
         others-none p seen c.args.g c.args.key,
-        inr (inr (
-          subst (λ i. seen.key c.args.g i ≡ Claimed c.args.key) (sym c.requires.home) claimed,
-          subst (λ i. IsUnprimed (seen.value c.args.g i) → ⊥) (sym c.requires.home)
-              (subst (λ v. IsUnprimed v → ⊥) (sym c.load_value.ensures.found) primed),
-        )),
+        primed-away p seen c.args.g c.args.key (subst (λ i. seen.key c.args.g i ≡ Claimed c.args.key) (sym c.requires.home) claimed)
+            (subst (λ i. IsUnprimed (seen.value c.args.g i) → ⊥) (sym c.requires.home)
+            (subst (λ v. IsUnprimed v → ⊥) (sym c.load_value.ensures.found) primed)),
       );
     }

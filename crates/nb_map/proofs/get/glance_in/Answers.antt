@@ -10,6 +10,7 @@ use Rattle.nb_table.specs.Chains.{Extended, seen_by}
 use Rattle.nb_table.specs.Events.{read, shown_by_key}
 use Rattle.nb_map.specs.Calling.{HasMade}
 use Rattle.nb_map.specs.Looking.{glanced_by}
+use Rattle.nb_map.proofs.Home.{dead-away, others-away}
 use Rattle.nb_map.proofs.Made.{made-more, made-quiet, made-read, made-within, read_shown}
 use Rattle.nb_map.proofs.Searched.{on-path, others-more, others-none, read-before, reached-lasts, shown-other, shown-own, table-within, two-slots}
 use Rattle.nb_map.proofs.get.glance_in.Goals as goal
@@ -64,7 +65,7 @@ returns-else-eq c =
     record {
       made = made-within 1 2 (omega arith) (subst (λ made. HasMade p get c.args.seat.now c.load_key.new.seat made 1) none
           (made-read p get (shown_by_key p c.args.g c.path_slot-home.result (Claimed c.in-Claimed.other) c.args.key) (subst seen c.in-Claimed.is c.load_key.ensures.grows)));
-      glance = (more, others, inl others);
+      glance = (more, others, others-away p (seen_by p c.load_key.new.seat) c.args.g c.args.key 1 (omega arith) others);
     }
 
 pub returns-in-Empty-clause-made : goal.returns-in-Empty-clause-made
@@ -85,6 +86,7 @@ returns-in-Dead c =
       glance = (
         pow_pos _,
         others-none p (seen_by c.args.chain.now.shape c.load_key.new.seat) c.args.g c.args.key,
-        inr (inl (ap ((seen_by c.args.chain.now.shape c.load_key.new.seat).key c.args.g) at ∙ c.load_key.ensures.found ∙ c.in-Dead.is)),
+        dead-away p (seen_by p c.load_key.new.seat) c.args.g c.args.key
+            (ap ((seen_by c.args.chain.now.shape c.load_key.new.seat).key c.args.g) at ∙ c.load_key.ensures.found ∙ c.in-Dead.is),
       );
     }

@@ -1,10 +1,7 @@
-use Rattle.std.proofs.Common.{subst}
-use Rattle.std.proofs.lemmas.List.{append-nil}
-use Rattle.nb_map.specs.Calling.{HasMade}
-use Rattle.nb_map.specs.Refusing.{made_by, write_steps}
-use Rattle.nb_map.proofs.Made.{made-more, made-own, made-stays}
+use Rattle.std.proofs.Common.{arith}
+use Rattle.nb_map.proofs.Made.{made-own, made-stays}
 use Rattle.nb_map.proofs.Searched.{reached-lasts, table-within}
-use Rattle.nb_map.proofs.Written.{written-longer}
+use Rattle.nb_map.proofs.Written.{alone-first, alone-then, alone-written, made-written, written-longer}
 use Rattle.nb_map.proofs.write.write_in.Goals as goal
 
 pub exchange-requires-clause-own : goal.exchange-requires-clause-own
@@ -20,14 +17,22 @@ exchange-requires-clause-reached g c =
 
 pub returns-in-Slot-clause-made : goal.returns-in-Slot-clause-made
 returns-in-Slot-clause-made g c =
-    let p = c.args.chain.now.shape in
-    let call = c.args.call.now in
-    subst (λ made. HasMade p call c.args.seat.now c.exchange.new.seat made (write_steps p c.args.g c.args.tries c.exchange.result))
-    (append-nil (made_by call c.exchange.result))
-    (made-more c.args.chain.now c.requires.own c.in-Slot.ensures.made
-    c.exchange.ensures.made)
+    made-written c.args.g c.args.tries c.exchange.result c.requires.own c.in-Slot.ensures.made c.exchange.ensures.made
 
 pub returns-in-Slot-clause-written : goal.returns-in-Slot-clause-written
 returns-in-Slot-clause-written g c =
     written-longer c.args.chain.now.shape c.args.call.now c.args.g c.args.tries c.in-Slot.ensures.made.grown
     c.exchange.ensures.made.grown c.exchange.result c.exchange.ensures.written
+
+pub returns-in-Slot-clause-short : goal.returns-in-Slot-clause-short
+returns-in-Slot-clause-short g c alone =
+    let chain = c.args.chain.now in
+    let table = table-within chain c.args.seat.now c.requires.own c.args.g c.requires.reached.installed in
+    let aimed = c.in-Slot.ensures.made in
+    let made = c.exchange.ensures.made in
+    omega (
+      arith,
+      c.in-Slot.ensures.short (alone-first c.args.g table c.requires.own aimed.grown made.grown alone),
+      alone-written c.args.g c.args.tries table (made-own chain c.requires.own aimed) c.exchange.result made c.exchange.ensures.written
+          (alone-then c.args.g table c.requires.own aimed.grown made.grown alone),
+    )

@@ -1,50 +1,55 @@
-use Rattle.std.proofs.Common.{refl}
+use Rattle.std.proofs.Common.{[], ◌∷◌, ap, arith, refl, subst, subst₂, sym}
+use Rattle.std.proofs.lemmas.Int.{ints}
+use Rattle.std.proofs.lemmas.Result.{err_from_is_err_and}
 use Rattle.nb_core.specs.declared.calls.Call.TheVariants as call
-use Rattle.nb_map.proofs.Logged.{logged-more, logged-same, waited-more, waited-none}
+use Rattle.nb_map.proofs.Counted.{kept-mine, uncounted-mine}
+use Rattle.nb_map.proofs.Logged.{logged, worked-uncounted}
+use Rattle.nb_map.specs.Logs.{HasLogged}
+use Rattle.nb_map.specs.Maps.{IsMine, SeatOf}
+use Rattle.nb_map.specs.Refusing.{HasRefused, IsLockFree}
 use Rattle.nb_map.proofs.map.Map.write.Goals as goal
 
-pub loop-init : goal.loop-init
-loop-init g c = (
-  tt,
-  tt,
-  c.requires.own,
-  logged-same c.requires.own refl,
-  waited-none (call.Write c.args.key c.args.want.now c.args.change.now) c.args.seat.now c.requires.own,
-)
+pub returns-in_err-reply-clause-refused : goal.returns-in_err-reply-clause-refused
+returns-in_err-reply-clause-refused g c =
+    let mine = subst₂ IsMine (sym c.self.view_is) (sym c.seat.view_is) c.requires.own in
+    let after : SeatOf = record { chain = c.write_through.new.seat; count = c.seat.inside.count } in
+    let write = call.Write c.args.key c.args.want c.args.change in
+    let p = err_from_is_err_and c.from_residual.result c.from_residual.ensures.1 in
+    rw (p.1, p.2)
+    (subst₂ (λ map before. HasRefused map write before after c.in_err-reply.field-0.0)
+    c.self.view_is c.seat.view_is (logged {after = after} mine c.in_err-reply.ensures.made, c.in_err-reply.ensures.refused))
 
-pub loop-preserved : goal.loop-preserved
-loop-preserved g c =
-    let (_, _, mine, none, waited) = c.loop.invariant in (
-      tt,
-      tt,
-      c.in-Err-Contended.ensures.own,
-      logged-more none c.in-Err-Contended.ensures.refused.0,
-      waited-more c.requires.own mine none waited c.in-Err-Contended.ensures.worked,
-    )
+pub returns-in_err-reply-clause-lock_free : goal.returns-in_err-reply-clause-lock_free
+returns-in_err-reply-clause-lock_free g c =
+    let after : SeatOf = record { chain = c.write_through.new.seat; count = c.seat.inside.count } in
+    subst₂ (λ map before. IsLockFree map (call.Write c.args.key c.args.want c.args.change) before after) c.self.view_is c.seat.view_is
+    (worked-uncounted {after = after} c.in_err-reply.ensures.made refl)
 
-pub returns-in-Ok-clause-replied : goal.returns-in-Ok-clause-replied
-returns-in-Ok-clause-replied g c = logged-more c.loop.invariant.3 c.in-Ok.ensures.replied
+pub returns-in_err-reply-clause-own : goal.returns-in_err-reply-clause-own
+returns-in_err-reply-clause-own g c =
+    let mine = subst₂ IsMine (sym c.self.view_is) (sym c.seat.view_is) c.requires.own in
+    let after : SeatOf = record { chain = c.write_through.new.seat; count = c.seat.inside.count } in
+    subst (λ map. IsMine map after) c.self.view_is (uncounted-mine {after = after} mine c.in_err-reply.ensures.made refl refl)
 
-pub returns-in-Err-Full-clause-refused : goal.returns-in-Err-Full-clause-refused
-returns-in-Err-Full-clause-refused g c = (
-  logged-more c.loop.invariant.3 c.in-Err-Full.ensures.refused.0,
-  rw c.in-Err-Full.field-0-is at c.in-Err-Full.ensures.refused.1,
-)
+pub returns-clause-replied : goal.returns-clause-replied
+returns-clause-replied g c =
+    let mine = subst₂ IsMine (sym c.self.view_is) (sym c.seat.view_is) c.requires.own in
+    let after : SeatOf = record { chain = c.write_through.new.seat; count = c.count.new.seat } in
+    let write = call.Write c.args.key c.args.want c.args.change in
+    subst (λ before. HasLogged before after ((write, c.in_ok-reply.reply) ∷ [])) c.seat.view_is
+    (logged {after = after} mine c.in_ok-reply.ensures.made)
 
-pub returns-in-Err-ValueRange-clause-refused : goal.returns-in-Err-ValueRange-clause-refused
-returns-in-Err-ValueRange-clause-refused g c = (
-  logged-more c.loop.invariant.3 c.in-Err-ValueRange.ensures.refused.0,
-  rw c.in-Err-ValueRange.field-0-is at c.in-Err-ValueRange.ensures.refused.1,
-)
+pub returns-clause-own : goal.returns-clause-own
+returns-clause-own g c =
+    let mine = subst₂ IsMine (sym c.self.view_is) (sym c.seat.view_is) c.requires.own in
+    let added = ap (λ count. count.added) c.count.ensures in
+    let after : SeatOf = record { chain = c.write_through.new.seat; count = c.count.new.seat } in
+    subst (λ map. IsMine map after) c.self.view_is
+    (kept-mine {after = after} mine c.in_ok-reply.ensures.made (ap (λ count. count.counter) c.count.ensures) (omega (arith, ints, added)))
 
-pub returns-in-Ok-clause-waited : goal.returns-in-Ok-clause-waited
-returns-in-Ok-clause-waited g c =
-    let (_, _, mine, none, waited) = c.loop.invariant in waited-more c.requires.own mine none waited c.in-Ok.ensures.worked
-
-pub returns-in-Err-Full-clause-waited : goal.returns-in-Err-Full-clause-waited
-returns-in-Err-Full-clause-waited g c =
-    let (_, _, mine, none, waited) = c.loop.invariant in waited-more c.requires.own mine none waited c.in-Err-Full.ensures.worked
-
-pub returns-in-Err-ValueRange-clause-waited : goal.returns-in-Err-ValueRange-clause-waited
-returns-in-Err-ValueRange-clause-waited g c =
-    let (_, _, mine, none, waited) = c.loop.invariant in waited-more c.requires.own mine none waited c.in-Err-ValueRange.ensures.worked
+pub returns-clause-lock_free : goal.returns-clause-lock_free
+returns-clause-lock_free g c =
+    let after : SeatOf = record { chain = c.write_through.new.seat; count = c.count.new.seat } in
+    let write = call.Write c.args.key c.args.want c.args.change in
+    subst₂ (λ map before. IsLockFree map write before after) c.self.view_is c.seat.view_is
+    (record { steps = (_, c.in_ok-reply.ensures.made); net = _; count = c.count.ensures })
