@@ -1,5 +1,5 @@
 -- The seats of a map are put together from those of its chain and of its counter, the last first.
-use Rattle.std.proofs.Common.{◌≡◌, ◌∙◌, ℕ, zero, suc, ◌+◌, pos, ap, ap₂, sym, refl, List, [], ◌∷◌, ◌++◌, drop, length, length-append, reverse, arith}
+use Rattle.std.proofs.Common.{◌≡◌, ◌∙◌, ℕ, zero, suc, ◌+◌, ap, ap₂, sym, refl, List, [], ◌∷◌, ◌++◌, drop, length, length-append, reverse, arith}
 use Rattle.std.proofs.lemmas.List.{length-reverse, reverse-append}
 use Rattle.std.proofs.lemmas.List.Elements.{All-cons, All-nil, All-same}
 use Rattle.nb_core.specs.Plans.{IsPlan, Plan}

@@ -1,9 +1,8 @@
 -- What a call does at its key's slot, and what others did meanwhile.
-use Rattle.std.proofs.Common.{◌≡◌, ◌≢◌, ◌∙◌, ℕ, suc, zero, ◌+◌, ◌-◌, ◌*◌, ◌≤◌, ◌<◌, min, true, false, cond, List, [], ◌∷◌, ◌++◌, length, Option, Some, None, is_some, ap, sym, subst, subst₂, refl, arith}
+use Rattle.std.proofs.Common.{◌≡◌, ◌≢◌, ◌∙◌, ℕ, suc, zero, ◌+◌, ◌≤◌, ◌<◌, true, false, cond, List, [], ◌∷◌, ◌++◌, length, Option, Some, None, is_some, ap, sym, subst, subst₂, refl, arith}
 use Rattle.std.specs.FinMap as map
 use Rattle.std.specs.List.{All}
 use Rattle.std.proofs.lemmas.Bool.{eq-eqb, ne_eqb}
-use Rattle.std.proofs.lemmas.List.{append-nil}
 use Rattle.std.proofs.lemmas.List.Elements.{All-head, All-tail}
 use Rattle.nb_core.specs.Calls.{leaves_alone}
 use Rattle.nb_core.specs.Log.{calls_of, log_of, map_of_log, reply_at}
@@ -23,8 +22,8 @@ use Rattle.nb_core.specs.declared.states.ValueState.TheVariants.{Null, Tombstone
 use Rattle.nb_table.specs.Chains.{ChainOf, Extended, Grown, IsOwn, SeenBy, seen_by}
 use Rattle.nb_table.specs.Conditions.{IsReached}
 use Rattle.nb_table.specs.Events.{read, shown_by_value}
-use Rattle.nb_map.proofs.Made.{made-more, made-read, made-stays, made-step, read_shown}
-use Rattle.nb_map.proofs.Searched.{reached-lasts}
+use Rattle.nb_map.proofs.Made.{made-read, made-stays, made-step, read_shown}
+use Rattle.nb_map.proofs.Searched.{made-then, reached-lasts}
 use Rattle.nb_map.specs.Calling.{HasMade, replied}
 use Rattle.nb_map.specs.Writing.{passed_since}
 use Rattle.nb_core.proofs.Theorems.{decided, log_is_replayed, lost_exchange, passed_over_adds, passed_settled}
@@ -101,43 +100,21 @@ read-acting call v number shows acts = ap (read_shown call) shows ∙ ap (λ b. 
 pub read-primed : (call : Call) (v : ValueState) → shown_by_value v ≡ None → read_shown call (shown_by_value v) ≡ []
 read-primed call v shows = ap (read_shown call) shows
 
--- ---- steps
-
--- so many steps are enough where the slot is finished after some tries,
-pub enough-above : (lost tries pass : ℕ) → lost < tries → 2 * lost + 1 + 1 + pass ≤ 2 * (tries - (tries - lost) + 1) + pass
-enough-above lost tries pass below =
-    let spent : tries - (tries - lost) ≡ lost = omega (arith, below) in
-    omega (arith, spent)
-
--- and where the call ends at the slot
-pub enough-here : (lost tries passed : ℕ) → lost ≤ tries → lost ≤ passed → 2 * lost + 1 + 1 ≤ 2 * (min tries passed + 1)
-enough-here lost tries passed below fewer = omega (arith, below, fewer)
-
 -- ---- the exchanges that others won
 
-pub passed-at :
-    (start mid after later later' : List Event) → mid ≡ later ++ start → after ≡ later' ++ mid → (k s : ℕ)
-    → passed_over after (length start) k s ≡ passed_over after (length mid) k s + passed_over mid (length start) k s
-passed-at start mid after later later' is is' k s =
-    subst₂ (λ m a. passed_over a (length start) k s ≡ passed_over a (length m) k s + passed_over m (length start) k s) (sym is)
-    (sym (is' ∙ ap (λ h. later' ++ h) is)) (passed_over_adds later' later start k s)
-
--- as many as won, have won later
-pub passed-still :
-    (call : Call) {p : Plan} {start mid after : SeenBy} {own own' : List Event} {count count' : ℕ} (n : ℕ)
-    → Grown p start mid own count → Grown p mid after own' count' → n ≤ passed_since call start mid → n ≤ passed_since call start after
-passed-still call {p} {start} {mid} {after} n a b below =
-    let sum = passed-at start.seen mid.seen after.seen a.later b.later a.seen b.seen (key_of_call call) start.number in
-    omega (arith, sum, below)
-
--- and one more, if one has won since
-passed-more :
-    (call : Call) {p : Plan} {start mid after : SeenBy} {own own' : List Event} {count count' : ℕ} (n : ℕ)
-    → Grown p start mid own count → Grown p mid after own' count' → 1 ≤ passed_over after.seen (length mid.seen) (key_of_call call) start.number
-    → n ≤ passed_since call start mid → n + 1 ≤ passed_since call start after
-passed-more call {p} {start} {mid} {after} n a b one below =
-    let sum = passed-at start.seen mid.seen after.seen a.later b.later a.seen b.seen (key_of_call call) start.number in
-    omega (arith, sum, below, one)
+-- up to a moment and since then
+pub passed-sum :
+    (call : Call) {p : Plan} {start mid after : SeenBy} {own own' : List Event} {count count' : ℕ} → Grown p start mid own count
+    → Grown p mid after own' count' → passed_since call start mid + passed_since call mid after ≡ passed_since call start after
+passed-sum call {p} {start} {mid} {after} a b =
+    subst (λ s. passed_since call start mid + passed_over after.seen (length mid.seen) (key_of_call call) s ≡ passed_since call start after) (sym a.number)
+    (omega (arith, at mid.seen after.seen a.later b.later a.seen b.seen (key_of_call call) start.number))
+  where
+    at : (m a later later' : List Event) → m ≡ later ++ start.seen → a ≡ later' ++ m → (k s : ℕ)
+        → passed_over a (length start.seen) k s ≡ passed_over a (length m) k s + passed_over m (length start.seen) k s
+    at m a later later' is is' k s =
+        subst₂ (λ m a. passed_over a (length start.seen) k s ≡ passed_over a (length m) k s + passed_over m (length start.seen) k s) (sym is)
+        (sym (is' ∙ ap (λ h. later' ++ h) is)) (passed_over_adds later' later start.seen k s)
 
 -- events of others are no calls of the seat
 pub calls-others : (s : ℕ) (es : List Event) → All (λ e. seat_of_event e ≢ s) es → calls_of s (log_of es) ≡ []
@@ -210,9 +187,7 @@ module _ (chain : ChainOf) where
       {call : Call} {start before after : SeenBy} {most : ℕ} (v : ValueState) → IsOwn chain start → HasMade p call start before [] most
       → Extended p before after (read before.number call (shown_by_value v)) 1
       → HasMade p call start after (read_shown call (shown_by_value v)) (most + 1)
-  looked {call} {start} {before} {after} {most} v own so_far load =
-      subst (λ made. HasMade p call start after made (most + 1)) (append-nil (read_shown call (shown_by_value v)))
-      (made-more chain own so_far (made-read p call (shown_by_value v) load))
+  looked {call} v own so_far load = made-then own so_far (made-read p call (shown_by_value v) load)
 
   -- an exchange that was won
   pub made-won :
@@ -234,10 +209,7 @@ module _ (chain : ChainOf) where
       → (seen_by p after).value g i ≡ v → IsUnprimed v → v ≢ (seen_by p loaded).value g i
       → lost ≤ passed_since call start loaded → lost + 1 ≤ passed_since call start after
   lost-more {call} {start} {loaded} {after} lost g i v own made step slot claimed settled held unprimed differs below =
-      let number = made.grown.number in
-      let none = subst (λ s. calls_of s (log_of step.others) ≡ []) number (calls-others loaded.number step.others step.not_own) in
-      passed-more call lost made.grown (steps_add_up.one step)
-      (lost-at p own.plan step.others loaded.seen after.seen step.seen g i
-      (key_of_call call) start.number slot none step.legal claimed settled (subst IsUnprimed (sym held) unprimed)
-      (λ same. differs (sym held ∙ same)))
-      below
+      let one = lost-at p own.plan step.others loaded.seen after.seen step.seen g i (key_of_call call) loaded.number slot
+      (calls-others loaded.number step.others step.not_own) step.legal claimed settled (subst IsUnprimed (sym held) unprimed)
+      (λ same. differs (sym held ∙ same)) in
+      omega (arith, below, passed-sum call made.grown (steps_add_up.one step), one)

@@ -1,12 +1,10 @@
 -- The log of a seat after its calls, and what the tries of a write that waits add up to.
 use Rattle.std.proofs.Common.{◌≡◌, ◌∙◌, ◌+◌, ℕ, List, [], ◌++◌, pos, ap, ap₂, refl, subst, sym, arith}
-use Rattle.std.proofs.Math.IntN.{◌+ℤ◌}
 use Rattle.std.proofs.lemmas.Int.{ints}
 use Rattle.std.proofs.lemmas.List.{append-nil, append_assoc}
 use Rattle.std.proofs.lemmas.List.Elements.{filter_map-append}
 use Rattle.nb_core.proofs.Theorems.{calls_append, log_is_replayed}
 use Rattle.nb_core.specs.Log.{IsBeginning, calls_of, entry_of, log_of}
-use Rattle.nb_core.specs.Meaning.{net_of}
 use Rattle.nb_core.specs.declared.calls.Call.{Call}
 use Rattle.nb_core.specs.declared.calls.Call.TheVariants.{Get}
 use Rattle.nb_core.specs.declared.calls.Reply.{Reply}
@@ -17,7 +15,7 @@ use Rattle.nb_map.specs.Laws.{LogsAddUp}
 use Rattle.nb_map.specs.Logs.{HasLogged, log}
 use Rattle.nb_map.specs.Maps.{HasWorked, IsMine, MapOf, SeatOf, accounted}
 use Rattle.nb_map.proofs.Counted.{calls-later}
-use Rattle.nb_map.proofs.Made.{made-more, made-none, made-quiet}
+use Rattle.nb_map.proofs.Made.{made-none, made-quiet}
 
 -- after the steps of a call
 pub logged :

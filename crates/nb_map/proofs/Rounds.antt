@@ -1,5 +1,5 @@
 -- What the rounds of a write add up to that tries again where it was contended.
-use Rattle.std.proofs.Common.{◌≡◌, ℕ, zero, suc, ◌+◌, ◌-◌, ◌*◌, ◌^◌, ◌<◌, ◌≤◌, min, List, [], subst, arith}
+use Rattle.std.proofs.Common.{◌≡◌, ℕ, zero, suc, ◌+◌, ◌-◌, ◌*◌, ◌^◌, ◌≤◌, min, List, [], subst, arith}
 use Rattle.std.proofs.Math.Nat.{mul-le-mul_right}
 use Rattle.std.proofs.Math.Pow.{pow_mono}
 use Rattle.std.proofs.lemmas.List.Elements.{All-get_or}
@@ -8,9 +8,10 @@ use Rattle.nb_core.specs.declared.calls.Call.{Call}
 use Rattle.nb_core.specs.declared.calls.Reply.{Reply}
 use Rattle.nb_table.proofs.Theorems.{steps_add_up}
 use Rattle.nb_table.specs.Chains.{ChainOf, Extended, IsOwn, SeenBy, seen_by}
-use Rattle.nb_map.proofs.Made.{made-own, made-quiet, made-within}
-use Rattle.nb_map.proofs.Searched.{reached-top, table-within}
-use Rattle.nb_map.proofs.Written.{alone-then, alone-top, made-then, passed-both, passed-longer}
+use Rattle.nb_map.proofs.Made.{made-quiet, made-within}
+use Rattle.nb_map.proofs.Exchanged.{passed-sum}
+use Rattle.nb_map.proofs.Searched.{made-then, reached-top, table-within}
+use Rattle.nb_map.proofs.Written.{alone-then, alone-top}
 use Rattle.nb_map.specs.Calling.{HasMade}
 use Rattle.nb_map.specs.Looking.{get_steps}
 use Rattle.nb_map.specs.Refusing.{put_steps}
@@ -65,18 +66,20 @@ module _ (chain : ChainOf) {call : Call} {start first now after : SeenBy} {calls
       2 ^ 32 - 1 ≤ passed_since call now after → HasMade chain.shape call first after calls (round_steps chain.shape (passed_since call first after))
   rounds-more contended =
       made-within (round_steps chain.shape (passed_since call first now) + (get_steps chain.shape + 2 * min (2 ^ 32 - 1) (passed_since call now after))) _
-      (round-bound chain.shape own.plan _ _ _ contended (passed-both call rounds.grown round.grown)) (made-then (steps_add_up.own own (steps_add_up.one load)) rounds round)
+      (round-bound chain.shape own.plan _ _ _ contended (omega (arith, passed-sum call rounds.grown round.grown)))
+      (made-then (steps_add_up.own own (steps_add_up.one load)) rounds round)
 
   -- the last one
   pub rounds-end : HasMade chain.shape call start after calls (put_steps chain.shape (passed_since call start after + 1))
   rounds-end =
       let mine = steps_add_up.own own (steps_add_up.one load) in
-      let both = passed-both call rounds.grown round.grown in
-      let longer = passed-longer call (steps_add_up.one load) (made-then mine rounds round).grown in
+      let all = made-then mine rounds round in
+      let both = passed-sum call rounds.grown round.grown in
+      let longer = passed-sum call (steps_add_up.one load) all.grown in
       made-within
       (1 + (round_steps chain.shape (passed_since call first now) + (get_steps chain.shape + 2 * min (2 ^ 32 - 1) (passed_since call now after)))) _
       (last-bound chain.shape _ _ _ (omega (arith, both, longer)))
-      (made-then own (made-quiet chain.shape call load) (made-then mine rounds round))
+      (made-then own (made-quiet chain.shape call load) all)
 
   -- who is alone with its key makes no other one
   pub rounds-short :
@@ -88,6 +91,6 @@ module _ (chain : ChainOf) {call : Call} {start first now after : SeenBy} {calls
       let all = made-then mine rounds round in
       let home = alone-top top own load is all.grown alone in
       let table = table-within chain first mine top (reached-top chain first mine 0 top is).installed in
-      let none : passed_since call first now ≡ 0 = omega (arith, passed-both call rounds.grown round.grown, home.alone) in
+      let none : passed_since call first now ≡ 0 = omega (arith, passed-sum call rounds.grown round.grown, home.alone) in
       let few = subst (λ passed. rounds.count ≤ round_steps chain.shape passed) none rounds.few in
       omega (arith, load.steps, rounds.grown.steps, few, short (alone-then top table mine rounds.grown round.grown home))

@@ -3,7 +3,6 @@ use Rattle.std.proofs.Common.{◌≡◌, ◌≢◌, ◌∙◌, ℕ, suc, zero, �
 use Rattle.std.proofs.lemmas.Bool.{eq-eqb, ne_eqb}
 use Rattle.std.proofs.Math.Pow.{pow_mono}
 use Rattle.std.proofs.lemmas.List.Elements.{All-get_or}
-use Rattle.std.proofs.lemmas.Nat.{mod_below, pow_pos}
 use Rattle.std.proofs.lemmas.List.{append-nil}
 use Rattle.nb_core.specs.Calls.{leaves_alone}
 use Rattle.nb_core.specs.History.{key_of_call}
@@ -12,7 +11,7 @@ use Rattle.nb_core.specs.Laws.{Lasts}
 use Rattle.nb_core.specs.Plans.{IsPlan, Plan, generations_of, size_of}
 use Rattle.nb_core.specs.declared.calls.Call.{Call}
 use Rattle.nb_core.specs.declared.calls.Reply.{Reply}
-use Rattle.nb_core.specs.declared.states.KeyState.TheVariants.{Claimed, Dead, Empty}
+use Rattle.nb_core.specs.declared.states.KeyState.TheVariants.{Claimed, Dead}
 use Rattle.nb_core.specs.declared.states.ValueState.{ValueState}
 use Rattle.nb_core.specs.declared.states.ValueState.TheVariants.{Null, Tombstone, Live, PrimedNull, PrimedTombstone, Primed, Finished}
 use Rattle.nb_table.specs.Chains.{ChainOf, Extended, IsOwn, SeenBy, seen_by}
@@ -181,6 +180,14 @@ read-alone call number alone = ap (λ b. cond b (replied call number) []) alone
 
 -- ---- one slot more
 
+-- some steps after others that made no call
+pub made-then :
+    {chain : ChainOf} {call : Call} {before then after : SeenBy} {made : List (Call × Reply)} {most most' : ℕ} → IsOwn chain before
+    → HasMade chain.shape call before then [] most → HasMade chain.shape call then after made most'
+    → HasMade chain.shape call before after made (most + most')
+made-then {chain} {call} {before} {after = after} {made} {most} {most'} own a b =
+    subst (λ made. HasMade chain.shape call before after made (most + most')) (append-nil made) (made-more chain own a b)
+
 module _ (chain : ChainOf) (g : ℕ) (table : g < generations_of chain.shape) where
   abbrev p : Plan
   p = chain.shape
@@ -222,10 +229,8 @@ module _ (chain : ChainOf) (g : ℕ) (table : g < generations_of chain.shape) wh
       → HasMade p call start before (read_up_to p g call d) (d - from) → Extended p before after (read before.number call shown) 1
       → HasMade p call start after (read_shown call shown) (d + 1 - from)
   walked {call} {start} {before} {after} d from shown near ahead own so_far load =
-      subst (λ made. HasMade p call start after made (d + 1 - from)) (append-nil (read_shown call shown))
-      (made-within (d - from + 1) (d + 1 - from) (omega (arith, ahead))
-      (made-more chain own (subst (λ made. HasMade p call start before made (d - from)) (read-before p g call d near) so_far)
-      (made-read p call shown load)))
+      made-within (d - from + 1) (d + 1 - from) (omega (arith, ahead))
+      (made-then own (subst (λ made. HasMade p call start before made (d - from)) (read-before p g call d near) so_far) (made-read p call shown load))
 
   -- a look at a slot of another key
   pub walked-on :

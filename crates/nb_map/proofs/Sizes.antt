@@ -1,5 +1,5 @@
 -- The size of a map whose seats are gathered is what they have counted.
-use Rattle.std.proofs.Common.{◌≡◌, ◌∙◌, ℕ, zero, suc, ◌+◌, ◌<◌, ◌≤◌, ◌==◌, Bool, true, false, cond, List, [], ◌∷◌, ◌++◌, length, length-append, map, All, get_or, ap, ap₂, sym, subst, refl, inl, inr, arith}
+use Rattle.std.proofs.Common.{◌≡◌, ◌∙◌, ℕ, zero, suc, ◌+◌, ◌<◌, ◌≤◌, ◌==◌, Bool, true, false, cond, List, [], ◌∷◌, ◌++◌, length, length-append, map, All, get_or, ap, ap₂, sym, subst, refl, arith}
 use Rattle.std.specs.FinMap.{entries}
 use Rattle.std.specs.List.{count_by}
 use Rattle.std.specs.Prelude.{ℤ, pos}

@@ -1,8 +1,6 @@
 -- What a write comes to, table after table.
-use Rattle.std.proofs.Common.{◌≡◌, ◌⊎◌, inl, inr, ℕ, zero, suc, ◌+◌, ◌-◌, ◌*◌, ◌<◌, ◌≤◌, min, List, [], length, sym, subst, arith}
-use Rattle.std.proofs.Math.Nat.{le_refl, mul-le-mul_left, mul-le-mul_right}
-use Rattle.std.proofs.lemmas.List.{append-nil}
-use Rattle.nb_core.specs.Meaning.{passed_over}
+use Rattle.std.proofs.Common.{◌≡◌, ◌⊎◌, inl, inr, ℕ, zero, suc, ◌+◌, ◌-◌, ◌*◌, ◌<◌, ◌≤◌, min, List, [], sym, subst, arith}
+use Rattle.std.proofs.Math.Nat.{mul-le-mul_left, mul-le-mul_right}
 use Rattle.nb_core.specs.History.{key_of_call}
 use Rattle.nb_core.specs.Plans.{IsPlan, Plan, generations_of, size_of}
 use Rattle.nb_core.specs.Tables.{IsReady}
@@ -14,10 +12,10 @@ use Rattle.nb_table.proofs.Theorems.{steps_add_up}
 use Rattle.nb_table.specs.Chains.{ChainOf, Extended, Grown, IsOwn, SeenBy, seen_by}
 use Rattle.nb_table.specs.Conditions.{IsReached}
 use Rattle.nb_map.proofs.Bounds.{next-size, slots-more}
-use Rattle.nb_map.proofs.Exchanged.{passed-at, passed-still}
-use Rattle.nb_map.proofs.Home.{home-before, home-in, passed-away}
-use Rattle.nb_map.proofs.Made.{made-more, made-none, made-own, made-stays, made-within}
-use Rattle.nb_map.proofs.Searched.{reached-above, reached-lasts, reached-top, table-within}
+use Rattle.nb_map.proofs.Exchanged.{passed-sum}
+use Rattle.nb_map.proofs.Home.{home-in, passed-away}
+use Rattle.nb_map.proofs.Made.{made-none, made-own, made-stays, made-within}
+use Rattle.nb_map.proofs.Searched.{made-then, reached-above, reached-lasts, reached-top, table-within}
 use Rattle.nb_map.specs.Calling.{HasMade}
 use Rattle.nb_map.specs.Looking.{get_steps}
 use Rattle.nb_map.specs.Refusing.{IsJust, IsWritten, exchange_steps, made_by, put_steps, write_steps}
@@ -30,30 +28,13 @@ use Rattle.nb_map.specs.declared.write.PutFault.TheVariants.{Full, Contended, Va
 use Rattle.nb_map.specs.declared.write.Written.{Written}
 use Rattle.nb_map.specs.declared.write.Written.TheVariants.{Replied, Refused, Above}
 
--- what others won since a later moment, they won since an earlier one
-pub passed-longer :
-    (call : Call) {p : Plan} {start mid after : SeenBy} {own own' : List Event} {count count' : ℕ} → Grown p start mid own count
-    → Grown p mid after own' count' → passed_since call mid after ≤ passed_since call start after
-passed-longer call {p} {start} {mid} {after} a b =
-    let sum = passed-at start.seen mid.seen after.seen a.later b.later a.seen b.seen (key_of_call call) start.number in
-    subst (λ s. passed_over after.seen (length mid.seen) (key_of_call call) s ≤ passed_since call start after) (sym a.number) (omega (arith, sum))
-
--- and what they won up to the later moment comes on top
-pub passed-both :
-    (call : Call) {p : Plan} {start mid after : SeenBy} {own own' : List Event} {count count' : ℕ} → Grown p start mid own count
-    → Grown p mid after own' count' → passed_since call start mid + passed_since call mid after ≤ passed_since call start after
-passed-both call {p} {start} {mid} {after} a b =
-    let sum = passed-at start.seen mid.seen after.seen a.later b.later a.seen b.seen (key_of_call call) start.number in
-    subst (λ s. passed_since call start mid + passed_over after.seen (length mid.seen) (key_of_call call) s ≤ passed_since call start after)
-    (sym a.number) (omega (arith, sum))
-
 -- a refusal that is just for the tries that were left is so for all
 pub just-longer :
     (p : Plan) (call : Call) {start mid after : SeenBy} {own own' : List Event} {count count' : ℕ} (tries left : ℕ)
     → Grown p start mid own count → Grown p mid after own' count' → tries ≤ left + passed_since call start mid → (fault : PutFault)
     → IsJust p call mid after left fault → IsJust p call start after tries fault
 just-longer p call tries left a b spent Full just = just
-just-longer p call tries left a b spent Contended just = let both = passed-both call a b in omega (arith, spent, just, both)
+just-longer p call tries left a b spent Contended just = omega (arith, spent, just, passed-sum call a b)
 just-longer p call tries left a b spent ValueRange just = just
 
 -- and what a write came to from the later moment on, it came to from the earlier one on
@@ -63,18 +44,9 @@ pub written-longer :
     → IsWritten p call start after g tries written
 written-longer p call g tries a b (Replied reply) is = tt
 written-longer p call g tries a b (Refused fault) is = just-longer p call tries tries a b (omega arith) fault is
-written-longer p call g tries a b (Above below left) is =
-    let longer = passed-longer call a b in let spent = is.4 in (is.0, is.1, is.2, is.3, omega (arith, spent, longer))
+written-longer p call g tries a b (Above below left) is = (is.0, is.1, is.2, is.3, omega (arith, is.4, passed-sum call a b))
 
 -- ---- steps in one table
-
--- some steps after others that made no call
-pub made-then :
-    {chain : ChainOf} {call : Call} {before then after : SeenBy} {made : List (Call × Reply)} {most most' : ℕ} → IsOwn chain before
-    → HasMade chain.shape call before then [] most → HasMade chain.shape call then after made most'
-    → HasMade chain.shape call before after made (most + most')
-made-then {chain} {call} {before} {after = after} {made} {most} {most'} own a b =
-    subst (λ made. HasMade chain.shape call before after made (most + most')) (append-nil made) (made-more chain own a b)
 
 -- the steps at the slot come after those that found it
 pub made-written :
@@ -82,28 +54,13 @@ pub made-written :
     → HasMade chain.shape call start then [] (find_steps chain.shape g)
     → HasMade chain.shape call then after (made_by call written) (exchange_steps chain.shape g tries (passed_since call then after) written)
     → HasMade chain.shape call start after (made_by call written) (write_steps chain.shape g tries (passed_since call start after) written)
-made-written {chain} {call} {start} {then} {after} g tries written own found made =
-    made-within (write_steps chain.shape g tries (passed_since call then after) written) _
-    (more _ _ (passed-longer call found.grown made.grown) written) (made-then own found made)
-  where
-    more : (passed passed' : ℕ) → passed ≤ passed' → (written : Written) → write_steps chain.shape g tries passed written ≤ write_steps chain.shape g tries passed' written
-    more passed passed' fewer (Replied reply) = omega (arith, fewer)
-    more passed passed' fewer (Refused fault) = omega (arith, fewer)
-    more passed passed' fewer (Above below left) = omega arith
+made-written {call = call} g tries (Replied reply) own found made =
+    made-within _ _ (omega (arith, passed-sum call found.grown made.grown)) (made-then own found made)
+made-written {call = call} g tries (Refused fault) own found made =
+    made-within _ _ (omega (arith, passed-sum call found.grown made.grown)) (made-then own found made)
+made-written g tries (Above below left) own found made = made-then own found made
 
--- who is alone with its key at home is so all the while
-pub alone-first :
-    {chain : ChainOf} {call : Call} {start then after : SeenBy} {own own' : List Event} {count count' : ℕ} (g : ℕ) → g < generations_of chain.shape
-    → IsOwn chain start → Grown chain.shape start then own count → Grown chain.shape then after own' count'
-    → IsAloneAtHome chain.shape g call start after → IsAloneAtHome chain.shape g call start then
-alone-first {chain} {call} {start} {then} {after} g table own a b alone = record {
-  home = home-before chain.shape _ _ (steps_add_up.stays (steps_add_up.own own a) b) g (key_of_call call) table alone.home;
-  known = alone.known;
-  alone =
-      let fewer = passed-still call (passed_since call start then) a b (le_refl (passed_since call start then)) in
-      omega (arith, fewer, alone.alone);
-}
-
+-- who is alone with its key at home is so from a later moment on
 pub alone-then :
     {chain : ChainOf} {call : Call} {start then after : SeenBy} {own own' : List Event} {count count' : ℕ} (g : ℕ) → g < generations_of chain.shape
     → IsOwn chain start → Grown chain.shape start then own count → Grown chain.shape then after own' count'
@@ -112,7 +69,7 @@ alone-then {chain} {call} {start} {then} {after} g table own a b alone = record 
   home = alone.home;
   known = λ fills.
       (steps_add_up.stays own a).claimed g _ (key_of_call call) (home-in chain.shape g (key_of_call call) table) (alone.known fills);
-  alone = let fewer = passed-longer call a b in omega (arith, fewer, alone.alone);
+  alone = omega (arith, passed-sum call a b, alone.alone);
 }
 
 -- a load and an exchange are enough for it at its slot
@@ -223,15 +180,15 @@ module _ (chain : ChainOf) {call : Call} {start now after : SeenBy} {first g tri
       {left' : ℕ} {below' : Below} → HasMade chain.shape call now after [] (write_steps chain.shape g left (passed_since call now after) (Above below' left'))
       → IsWritten chain.shape call now after g left (Above below' left') → HasCome chain.shape call start after first (suc g) tries left' below'
   come-above {left'} {below'} made is = record {
-    made = made-within _ _ (omega (arith, come.fewer, is.3)) (made-more chain own come.made made);
-    direct = λ same. absurd (let from = come.from in omega (arith, same, from));
-    from = let from = come.from in omega (arith, from);
+    made = made-within _ _ (omega (arith, come.fewer, is.3)) (made-then own come.made made);
+    direct = λ same. absurd (omega (arith, same, come.from));
+    from = omega (arith, come.from);
     reached = reached-above chain.shape _ g (key_of_call call)
         (reached-lasts chain.shape _ _ (made-stays chain (made-own chain own come.made) made) g (key_of_call call) table come.reached) is.0;
     below = is.1;
     some = is.2;
     fewer = omega (arith, come.fewer, is.3);
-    lost = omega (arith, come.lost, is.4, passed-both call come.made.grown made.grown);
+    lost = omega (arith, come.lost, is.4, passed-sum call come.made.grown made.grown);
   }
 
   -- it ends here, and has lost no more tries than others won exchanges
@@ -240,7 +197,7 @@ module _ (chain : ChainOf) {call : Call} {start now after : SeenBy} {first g tri
       → HasMade chain.shape call start after calls (get_steps chain.shape + 2 * min tries (passed_since call start after))
   come-end {calls} made =
       let bound = write-bound chain.shape own.plan (suc g) table in
-      let both = passed-both call come.made.grown made.grown in
+      let both = passed-sum call come.made.grown made.grown in
       made-within
       (written_below chain.shape g + 2 * (tries - left) + (find_steps chain.shape g + 2 * (min left (passed_since call now after) + 1))) _
       (omega (arith, bound, both, come.fewer, come.lost))
@@ -258,7 +215,7 @@ module _ (chain : ChainOf) {call : Call} {start now after : SeenBy} {first g tri
           arith,
           come.direct (sym same),
           come.lost,
-          passed-both call come.made.grown made.grown,
+          passed-sum call come.made.grown made.grown,
           alone.alone,
           short (alone-then g table own come.made.grown made.grown here),
         )
@@ -294,6 +251,6 @@ pub alone-top :
 alone-top {chain} {call} {start} {then} {after} top own load is grown alone =
     let mine = steps_add_up.own own (steps_add_up.one load) in
     let same : (seen_by chain.shape after).top ≡ top =
-        omega (arith, alone.0, (steps_add_up.stays own (steps_add_up.one load)).top, (steps_add_up.stays mine grown).top, is) in
+    omega (arith, alone.0, (steps_add_up.stays own (steps_add_up.one load)).top, (steps_add_up.stays mine grown).top, is) in
     let table = table-within chain then mine top (reached-top chain then mine (key_of_call call) top is).installed in
     alone-then top table own (steps_add_up.one load) grown (subst (λ g. IsAloneAtHome chain.shape g call start after) same alone.1)

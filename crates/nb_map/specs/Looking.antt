@@ -23,11 +23,13 @@ abbrev pub read_by : Call → Look → List (Call × Reply)
 read_by call (Shows number) = replied call number
 read_by call Above = []
 
--- the key's home slot in the table is its own, with a value that isn't primed, or it is empty
+-- the key's home slot in the table is its own
+abbrev pub IsHomeSlot : Plan → Tables → (g k : ℕ) → Type 0
+IsHomeSlot p t g k = t.key g (path_slot p g k 0) ≡ Claimed k
+
+-- the same, with a value that isn't primed, or the home slot is empty
 abbrev pub IsAtHome : Plan → Tables → (g k : ℕ) → Type 0
-IsAtHome p t g k =
-    (t.key g (path_slot p g k 0) ≡ Empty)
-    ⊎ ((t.key g (path_slot p g k 0) ≡ Claimed k) × IsUnprimed (t.value g (path_slot p g k 0)))
+IsAtHome p t g k = (t.key g (path_slot p g k 0) ≡ Empty) ⊎ (IsHomeSlot p t g k × IsUnprimed (t.value g (path_slot p g k 0)))
 
 -- the seat has learned of no new top table, and has seen the key at home in the one that it knows
 abbrev pub IsSeenAtHome : Plan → (before after : SeenBy) → ℕ → Type 0

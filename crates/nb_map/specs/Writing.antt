@@ -6,13 +6,12 @@ use Rattle.nb_core.specs.Log.{Numbers, reply_at}
 use Rattle.nb_core.specs.History.{IsExchange, number_in_value, key_of_call}
 use Rattle.nb_core.specs.Meaning.{IsCrowded, passed_over}
 use Rattle.nb_core.specs.Plans.{Plan, size_of}
-use Rattle.nb_core.specs.Tables.{HasSlotBelow, IsReady, IsUnprimed, Tables, path_slot}
+use Rattle.nb_core.specs.Tables.{HasSlotBelow, IsReady, IsUnprimed, Tables}
 use Rattle.nb_core.specs.declared.calls.Call.{Call}
-use Rattle.nb_core.specs.declared.states.KeyState.TheVariants.{Claimed}
 use Rattle.nb_core.specs.declared.states.ValueState.{ValueState}
 use Rattle.nb_table.specs.Chains.{SeenBy, seen_by}
 use Rattle.nb_copy.specs.Handing.{table_steps}
-use Rattle.nb_map.specs.Looking.{IsAtHome}
+use Rattle.nb_map.specs.Looking.{IsAtHome, IsHomeSlot}
 use Rattle.nb_map.specs.Searching.{IsAbove, IsSlotOf}
 use Rattle.nb_map.specs.declared.decide.Decision.{Decision}
 use Rattle.nb_map.specs.declared.decide.Decision.TheVariants as decision
@@ -81,7 +80,7 @@ passed_since call before after = passed_over after.seen (length before.seen) (ke
 -- a number at an absent key, the home slot was known as the key's before.
 pub record IsAloneAtHome (p : Plan) (g : ℕ) (call : Call) (before after : SeenBy) : Type 0 where
   pub home : IsAtHome p (seen_by p after) g (key_of_call call)
-  pub known : Fills call → (seen_by p before).key g (path_slot p g (key_of_call call) 0) ≡ Claimed (key_of_call call)
+  pub known : Fills call → IsHomeSlot p (seen_by p before) g (key_of_call call)
   pub alone : passed_since call before after ≡ 0
 
 -- the seat has learned of no new top table, and was alone with the call's key at home in the one that it knows

@@ -3,12 +3,12 @@ ghost use Rattle.std.specs.Prelude.{◌≡◌, ◌≢◌, ℕ, ◌+◌, ◌-◌,
 ghost use Rattle.nb_core.specs.Calls.{Fills};
 ghost use Rattle.nb_core.specs.History.{key_of_call};
 ghost use Rattle.nb_core.specs.Plans.{generations_of, limit_of, size_of};
-ghost use Rattle.nb_core.specs.Tables.{AreOthers, IsComplete, IsInstalled, IsReady, path_slot};
+ghost use Rattle.nb_core.specs.Tables.{AreOthers, IsComplete, IsInstalled, IsReady};
 ghost use Rattle.nb_core.specs.declared.calls.Call.{Call};
-ghost use Rattle.nb_core.specs.declared.states.KeyState.TheVariants as key_is;
 ghost use Rattle.nb_table.specs.Chains.{IsOwn, seen_by};
 ghost use Rattle.nb_table.specs.Conditions.{IsReached};
 ghost use Rattle.nb_map.specs.Calling.{HasMade};
+ghost use Rattle.nb_map.specs.Looking.{IsHomeSlot};
 ghost use Rattle.nb_map.specs.Writing.{HasBelow, IsFound, find_steps, grow_steps, owed_below};
 ghost use Rattle.nb_map.specs.declared.claim.Below.TheVariants as below_is;
 
@@ -57,8 +57,7 @@ pub(crate) fn find_or_claim(
     requires below { HasBelow chain.now.shape (seen_by chain.now.shape seat.old) g key below }
     ensures made { HasMade chain.now.shape call.now seat.old seat.new [] (find_steps chain.now.shape g) }
     ensures found { IsFound chain.now.shape seat.new g key result }
-    ensures short { (seen_by chain.now.shape seat.old).key g (path_slot chain.now.shape g key 0) ≡ key_is.Claimed key
-        → seat.new.steps ≤ seat.old.steps + 1 }
+    ensures short { IsHomeSlot chain.now.shape (seen_by chain.now.shape seat.old) g key → seat.new.steps ≤ seat.old.steps + 1 }
 {
     let mut below = below;
     let mut from = 0;

@@ -123,8 +123,11 @@ impl Map {
     /// Changes what the map has at a key, where the condition holds of it, and replies what it had: `steps::put_if_match_in` on
     /// the map's tables. An exchange that another seat came before is tried again, `tries` times in all, so this waits for
     /// nobody: it takes at most 8 (T + `tries` + G) (N + 8) steps on the chain, whose G tables have T slots and the last of
-    /// them N. A key that came is counted afterwards, and one that went, by one step on the counter. A refused write leaves the
-    /// map as it is; but tables may have been installed and copied for it, and its key may keep a slot without a number.
+    /// them N; and however many tries it has, at most 8 (T + w + 1 + G) (N + 8) where other seats have won `w` exchanges on the
+    /// key since this seat's last step. Where they have won none and the seat knows the key at home in the top table, these are
+    /// four: loads of the top word, of the key and of its value, and the exchange. A key that came is counted afterwards, and one
+    /// that went, by one step on the counter. A refused write leaves the map as it is; but tables may have been installed and
+    /// copied for it, and its key may keep a slot without a number.
     pub fn put_if_match(
         &self,
         seat: &mut Seat,

@@ -1,5 +1,6 @@
 //! The calls of `ConcurrentMap`, each of which is one conditional write. They try again while other seats' writes of the key
-//! come first, for as long as that may be, so they wait. Each tells in the end just one call, or none if it is refused.
+//! come first, for as long as that may be, so they wait; but they are lock-free: only the success of others costs them anything.
+//! Each tells in the end just one call, or none if it is refused.
 ghost use Rattle.std.specs.Prelude.{◌≡◌, ◌+◌, ◌≤◌, false, true, None, IfOk, IfErr};
 ghost use Rattle.nb_core.specs.Calls.{leaves_alone, overflows};
 ghost use Rattle.nb_core.specs.Log.{Numbers};
@@ -39,6 +40,11 @@ pub enum AddFault {
 
 impl Map {
     /// Puts a number at a key, and answers what was there. `ConcurrentMap.put`.
+    ///
+    /// It is lock-free, as all of these calls are: where other seats have won `w` exchanges on the key since this seat's last
+    /// step, it takes at most 8 (T + w + 1 + G) (N + 8) steps on the chain, whose G tables have T slots and the last of them N.
+    /// So only the success of others costs it anything, and no seat that stops, wherever that is, can hold it up. Where others
+    /// have won none and the seat knows the key at home in the top table, these are four steps.
     pub fn put<R: Wait>(
         &self,
         rt: &R,
@@ -59,6 +65,7 @@ impl Map {
     }
 
     /// Puts a number at a key that has none, and answers what was there. `ConcurrentMap.putIfAbsent`.
+    /// Lock-free, with the bound of `put`.
     pub fn put_if_absent<R: Wait>(
         &self,
         rt: &R,
@@ -79,6 +86,7 @@ impl Map {
     }
 
     /// Puts a number in place of another, and answers what was there. `ConcurrentMap.replace` of two arguments.
+    /// Lock-free, with the bound of `put`.
     pub fn replace<R: Wait>(&self, rt: &R, seat: &mut Seat, key: Key, number: Num) -> Option<Num>
         requires own { IsMine self.now seat.old }
         ensures found { HasFound (call.Write key want.Present (change.Put number)) seat.old seat.new result }
@@ -92,6 +100,7 @@ impl Map {
     }
 
     /// Puts a number in place of this one, and answers whether it did. `ConcurrentMap.replace` of three arguments.
+    /// Lock-free, with the bound of `put`.
     pub fn replace_if<R: Wait>(&self, rt: &R, seat: &mut Seat, key: Key, old: Num, new: Num) -> bool
         requires own { IsMine self.now seat.old }
         ensures matched { HasMatched (call.Write key (want.Equal old) (change.Put new)) seat.old seat.new result }
@@ -105,6 +114,7 @@ impl Map {
     }
 
     /// Takes out a key, and answers what was there. `ConcurrentMap.remove` of one argument.
+    /// Lock-free, with the bound of `put`.
     pub fn remove<R: Wait>(&self, rt: &R, seat: &mut Seat, key: Key) -> Option<Num>
         requires own { IsMine self.now seat.old }
         ensures found { HasFound (call.Write key want.Any change.Remove) seat.old seat.new result }
@@ -118,6 +128,7 @@ impl Map {
     }
 
     /// Takes out a key that has this number, and answers whether it did. `ConcurrentMap.remove` of two arguments.
+    /// Lock-free, with the bound of `put`.
     pub fn remove_if<R: Wait>(&self, rt: &R, seat: &mut Seat, key: Key, number: Num) -> bool
         requires own { IsMine self.now seat.old }
         ensures matched { HasMatched (call.Write key (want.Equal number) change.Remove) seat.old seat.new result }
@@ -131,6 +142,7 @@ impl Map {
     }
 
     /// Raises the number at a key, an absent one counting as 0, and answers what was there.
+    /// Lock-free, with the bound of `put`.
     pub fn add<R: Wait>(
         &self,
         rt: &R,

@@ -1,12 +1,13 @@
 //! Writing a key.
 ghost use Rattle.std.specs.Prelude.{◌≡◌, ◌≤◌, ◌+◌, ◌*◌, min, IfErr};
+ghost use Rattle.nb_core.specs.Calls.{Fills};
 ghost use Rattle.nb_core.specs.History.{key_of_call};
 ghost use Rattle.nb_core.specs.Tables.{IsReady};
 ghost use Rattle.nb_core.specs.declared.calls.Call.TheVariants as call;
 ghost use Rattle.nb_table.specs.Chains.{IsOwn, seen_by};
 ghost use Rattle.nb_table.specs.Conditions.{IsReached};
 ghost use Rattle.nb_map.specs.Calling.{HasMade};
-ghost use Rattle.nb_map.specs.Looking.{get_steps};
+ghost use Rattle.nb_map.specs.Looking.{IsAtHome, IsHomeSlot, get_steps};
 ghost use Rattle.nb_map.specs.Refusing.{IsJust, IsTarget, IsWritten, made_at, made_by, made_in, put_steps, write_steps};
 ghost use Rattle.nb_map.specs.Writing.{HasBelow, IsAloneAtHome, IsSeenAlone, find_steps, passed_since};
 
@@ -161,7 +162,9 @@ fn aim(chain: &Chain, seat: &mut ChainSeat, g: u32, key: Key, call: &Call, below
     requires below { HasBelow chain.now.shape (seen_by chain.now.shape seat.old) g key below }
     ensures made { HasMade chain.now.shape call.now seat.old seat.new (made_at call.now result) (find_steps chain.now.shape g) }
     ensures target { IsTarget chain.now.shape call.now seat.new g key result }
-    ensures short { IsAloneAtHome chain.now.shape g call.now seat.old seat.new → seat.new.steps ≤ seat.old.steps + 1 }
+    ensures short { IsAtHome chain.now.shape (seen_by chain.now.shape seat.new) g (key_of_call call.now)
+        → (Fills call.now → IsHomeSlot chain.now.shape (seen_by chain.now.shape seat.old) g (key_of_call call.now))
+        → seat.new.steps ≤ seat.old.steps + 1 }
 {
     if let Decision::Leave(reply) = decide(call, &None) {
         return match seek(chain, seat, g, key, call, 0) {

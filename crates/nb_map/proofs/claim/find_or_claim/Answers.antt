@@ -1,14 +1,14 @@
-use Rattle.std.proofs.Common.{◌≡◌, ℕ, ◌+◌, ◌-◌, ◌<◌, ◌≤◌, [], refl, arith}
+use Rattle.std.proofs.Common.{◌+◌, ◌-◌, ◌<◌, ◌≤◌, [], refl, arith}
 use Rattle.std.proofs.lemmas.Nat.{pow_pos}
-use Rattle.nb_core.specs.Plans.{Plan, size_of}
-use Rattle.nb_core.specs.Tables.{IsInstalled, path_slot}
-use Rattle.nb_core.specs.declared.states.KeyState.TheVariants.{Claimed}
-use Rattle.nb_table.specs.Chains.{SeenBy, seen_by}
+use Rattle.nb_core.specs.Plans.{size_of}
+use Rattle.nb_core.specs.Tables.{IsInstalled}
+use Rattle.nb_table.specs.Chains.{seen_by}
 use Rattle.nb_map.proofs.Claimed.{behind-fits, below-lasts, empty-behind, walked-claimed, walked-here, walked-none, walked-behind, walked-to, walked-whole}
 use Rattle.nb_map.proofs.Home.{home-in, own-ends, own-first}
 use Rattle.nb_map.proofs.Made.{made-more, made-own, made-stays}
 use Rattle.nb_map.proofs.Searched.{reached-lasts, table-within}
 use Rattle.nb_map.specs.Calling.{HasMade}
+use Rattle.nb_map.specs.Looking.{IsHomeSlot}
 use Rattle.nb_map.specs.Writing.{HasBelow, owed_below}
 use Rattle.nb_map.specs.declared.search.Place.TheVariants.{Closed, Empty, Slot, Whole}
 use Rattle.nb_map.proofs.claim.find_or_claim.Goals as goal
@@ -117,12 +117,9 @@ returns-in-Some-clause-made c =
 
 -- ---- where the home slot is the key's own
 
--- it is so still after the walk, which is the first one and makes one step
-abbrev IsHome : SeenBy → (g k : ℕ) → Plan → Type 0
-IsHome seat g k p = (seen_by p seat).key g (path_slot p g k 0) ≡ Claimed k
-
-home-still : (c : After-walk_path) → IsHome c.args.seat.now c.args.g c.args.key c.args.chain.now.shape
-    → IsHome c.walk_path.new.seat c.args.g c.args.key c.args.chain.now.shape
+-- it is so still after the walk,
+home-still : (c : After-walk_path) → IsHomeSlot c.args.chain.now.shape (seen_by c.args.chain.now.shape c.args.seat.now) c.args.g c.args.key
+    → IsHomeSlot c.args.chain.now.shape (seen_by c.args.chain.now.shape c.walk_path.new.seat) c.args.g c.args.key
 home-still c own =
     let chain = c.args.chain.now in
     let table = table-within chain c.args.seat.now c.requires.own c.args.g c.requires.reached.installed in
@@ -130,7 +127,8 @@ home-still c own =
     (walked-to chain c.requires.own c.requires.acts c.loop-i.invariant.walked c.walk_path.result c.walk_path.ensures.made)).claimed
     c.args.g _ c.args.key (home-in chain.shape c.args.g c.args.key table) own
 
-walked-once : (c : After-walk_path) → IsHome c.args.seat.now c.args.g c.args.key c.args.chain.now.shape
+-- which is the first one and makes one step,
+walked-once : (c : After-walk_path) → IsHomeSlot c.args.chain.now.shape (seen_by c.args.chain.now.shape c.args.seat.now) c.args.g c.args.key
     → c.walk_path.new.seat.steps ≤ c.args.seat.now.steps + 1
 walked-once c own =
     let p = c.args.chain.now.shape in
@@ -141,7 +139,7 @@ walked-once c own =
     )
 
 -- and doesn't end at an empty slot
-not-empty : (c : In-Empty) → IsHome c.walk_path.new.seat c.args.g c.args.key c.args.chain.now.shape → ⊥
+not-empty : (c : In-Empty) → IsHomeSlot c.args.chain.now.shape (seen_by c.args.chain.now.shape c.walk_path.new.seat) c.args.g c.args.key → ⊥
 not-empty c own =
     let p = c.args.chain.now.shape in
     own-ends p (seen_by p c.walk_path.new.seat) c.args.g c.args.key c.in-Empty.distance own c.in-Empty.ensures.ends.1 c.in-Empty.ensures.ends.2

@@ -1,11 +1,11 @@
-use Rattle.std.proofs.Common.{◌≡◌, ◌∙◌, ◌+◌, ◌-◌, ◌*◌, is_some, ap, sym, subst, arith, rules}
+use Rattle.std.proofs.Common.{◌≡◌, ◌∙◌, ◌+◌, ◌*◌, is_some, ap, sym, subst, arith, rules}
 use Rattle.nb_core.specs.History.{key_of_call}
 use Rattle.nb_core.specs.declared.states.KeyState.TheVariants.{Claimed}
 use Rattle.nb_table.specs.Chains.{seen_by}
 use Rattle.nb_map.specs.Calling.{HasMade}
 use Rattle.nb_map.specs.Searching.{IsAbove, pass_steps}
 use Rattle.nb_map.specs.Writing.{IsDecided}
-use Rattle.nb_map.proofs.Exchanged.{enough-above, enough-here, looked, lost-more, made-won, none-is, none-of, not-same, passed-still, reached-settled, read-acting, read-left, read-primed, shown-decided, shown-none, shown-some, some-shown, still-stands}
+use Rattle.nb_map.proofs.Exchanged.{looked, lost-more, made-won, none-is, none-of, not-same, passed-sum, reached-settled, read-acting, read-left, read-primed, shown-decided, shown-none, shown-some, some-shown, still-stands}
 use Rattle.nb_map.proofs.Made.{made-more, made-none, made-own, made-quiet, made-within}
 use Rattle.nb_map.proofs.exchange.exchange.Goals as goal
 use Rattle.nb_table.proofs.Theorems.{steps_add_up}
@@ -53,8 +53,7 @@ returns-in_default-clause-made g c =
     let look = looked chain c.load_value-from.result c.requires.own c.loop-lost.invariant.0 c.load_value-from.ensures.grows in
     let quiet = subst (λ made. HasMade p c.args.call.now c.args.seat.now c.load_value-from.new.seat made (2 * lost + 1))
     (read-primed c.args.call.now c.load_value-from.result none) look in
-    let enough = enough-above lost c.args.tries pass c.loop-lost-test.true in
-    made-within (2 * lost + 1 + pass) _ (omega (arith, enough))
+    made-within (2 * lost + 1 + pass) _ (omega (arith, c.loop-lost-test.true))
     (made-more chain c.requires.own quiet (c.pass_slot.ensures.made c.args.call.now))
 
 pub returns-in_default-clause-written : goal.returns-in_default-clause-written
@@ -69,13 +68,12 @@ returns-in_default-clause-written g c =
     let steps = made-more chain c.requires.own look pass in
     let here = still-stands chain c.requires.own steps c.args.g c.args.i c.args.key c.requires.key
     c.requires.slot c.requires.claimed c.requires.reached in
-    let passed = passed-still c.args.call.now c.loop-lost.lost so_far.0.grown
-    (steps_add_up.more (steps_add_up.one c.load_value-from.ensures.grows) pass.grown) so_far.1 in (
+    let passed = passed-sum c.args.call.now so_far.0.grown (steps_add_up.more (steps_add_up.one c.load_value-from.ensures.grows) pass.grown) in (
       c.pass_slot.ensures.passed (key_of_call c.args.call.now) found.0,
       record { slot = c.args.i; in_table = c.requires.slot.1; is = here.0 },
       omega (arith, below),
       omega arith,
-      omega (arith, below, passed),
+      omega (arith, below, so_far.1, passed),
     )
 
 pub returns-in_default-clause-serves : goal.returns-in_default-clause-serves
@@ -90,9 +88,8 @@ returns-in-Leave-clause-made g c =
     let lost = c.loop-lost.lost in
     let left = subst (IsDecided c.args.call.now c.in-Some.number) c.in-Leave.is c.decide.ensures in
     let look = looked chain c.load_value-from.result c.requires.own c.loop-lost.invariant.0 c.load_value-from.ensures.grows in
-    let passed = passed-still c.args.call.now lost c.loop-lost.invariant.0.grown (steps_add_up.one c.load_value-from.ensures.grows) c.loop-lost.invariant.1 in
-    let enough = enough-here lost c.args.tries _ c.loop-lost.auto.lost-end passed in
-    made-within (2 * lost + 1) _ (omega (arith, enough))
+    let passed = passed-sum c.args.call.now c.loop-lost.invariant.0.grown (steps_add_up.one c.load_value-from.ensures.grows) in
+    made-within (2 * lost + 1) _ (omega (arith, c.loop-lost.auto.lost-end, c.loop-lost.invariant.1, passed))
     (subst (λ made. HasMade p c.args.call.now c.args.seat.now c.load_value-from.new.seat made (2 * lost + 1))
     (read-left c.args.call.now c.load_value-from.result c.in-Some.number c.in-Leave.reply (sym c.shown.ensures ∙ c.in-Some.is) left.0 left.1) look)
 
@@ -106,9 +103,8 @@ returns-in-Overflow-clause-made g c =
     let lost = c.loop-lost.lost in
     let refused = subst (IsDecided c.args.call.now c.in-Some.number) c.in-Overflow.is c.decide.ensures in
     let look = looked chain c.load_value-from.result c.requires.own c.loop-lost.invariant.0 c.load_value-from.ensures.grows in
-    let passed = passed-still c.args.call.now lost c.loop-lost.invariant.0.grown (steps_add_up.one c.load_value-from.ensures.grows) c.loop-lost.invariant.1 in
-    let enough = enough-here lost c.args.tries _ c.loop-lost.auto.lost-end passed in
-    made-within (2 * lost + 1) _ (omega (arith, enough))
+    let passed = passed-sum c.args.call.now c.loop-lost.invariant.0.grown (steps_add_up.one c.load_value-from.ensures.grows) in
+    made-within (2 * lost + 1) _ (omega (arith, c.loop-lost.auto.lost-end, c.loop-lost.invariant.1, passed))
     (subst (λ made. HasMade p c.args.call.now c.args.seat.now c.load_value-from.new.seat made (2 * lost + 1))
     (read-acting c.args.call.now c.load_value-from.result c.in-Some.number (sym c.shown.ensures ∙ c.in-Some.is) refused.0) look)
 
@@ -176,10 +172,9 @@ returns-then-eq-clause-made g c =
     let look = looked chain c.load_value-from.result c.requires.own c.loop-lost.invariant.0 c.load_value-from.ensures.grows in
     let quiet = subst (λ made. HasMade p c.args.call.now c.args.seat.now c.load_value-from.new.seat made (2 * lost + 1))
     (read-acting c.args.call.now c.load_value-from.result c.in-Some.number shows acts) look in
-    let passed = passed-still c.args.call.now lost c.loop-lost.invariant.0.grown
-    (steps_add_up.more (steps_add_up.one c.load_value-from.ensures.grows) (steps_add_up.one won.0)) c.loop-lost.invariant.1 in
-    let enough = enough-here lost c.args.tries _ c.loop-lost.auto.lost-end passed in
-    made-within (2 * lost + 1 + 1) _ (omega (arith, enough))
+    let passed = passed-sum c.args.call.now c.loop-lost.invariant.0.grown
+    (steps_add_up.more (steps_add_up.one c.load_value-from.ensures.grows) (steps_add_up.one won.0)) in
+    made-within (2 * lost + 1 + 1) _ (omega (arith, c.loop-lost.auto.lost-end, c.loop-lost.invariant.1, passed))
     (made-more chain c.requires.own quiet
     (made-won chain c.in-Some.number (shown-some c.load_value-from.result c.in-Some.number shows).1 won.0))
 
@@ -216,8 +211,7 @@ returns-then-is_none-clause-made g c =
     let quiet = subst (λ made. HasMade p c.args.call.now c.args.seat.now c.load_value-from.new.seat made (2 * lost + 1))
     (read-acting c.args.call.now c.load_value-from.result c.in-Some.number (sym c.shown.ensures ∙ c.in-Some.is) acts) look in
     let steps = made-more chain c.requires.own quiet (made-quiet p c.args.call.now (c.win_value-found.ensures.lost differs).0) in
-    let enough = enough-above lost c.args.tries pass c.loop-lost-test.true in
-    made-within (2 * lost + 1 + 1 + pass) _ (omega (arith, enough))
+    made-within (2 * lost + 1 + 1 + pass) _ (omega (arith, c.loop-lost-test.true))
     (made-more chain c.requires.own steps (c.pass_slot-then-is_none.ensures.made c.args.call.now))
 
 pub returns-then-is_none-clause-written : goal.returns-then-is_none-clause-written
@@ -230,7 +224,7 @@ returns-then-is_none-clause-written g c =
     let then = steps_add_up.more (steps_add_up.one c.load_value-from.ensures.grows) (steps_add_up.more lost (c.pass_slot-then-is_none.ensures.made c.args.call.now).grown) in
     let lasting = steps_add_up.stays c.requires.own (steps_add_up.more so_far.0.grown then) in
     let found = steps_add_up.stays c.requires.own (steps_add_up.more so_far.0.grown (steps_add_up.more (steps_add_up.one c.load_value-from.ensures.grows) lost)) in
-    let passed = passed-still c.args.call.now c.loop-lost.lost so_far.0.grown then so_far.1 in (
+    let passed = passed-sum c.args.call.now so_far.0.grown then in (
       subst (λ k. IsAbove chain.shape (seen_by c.args.chain.now.shape c.pass_slot-then-is_none.new.seat) c.args.g k) (sym c.requires.key)
           (c.pass_slot-then-is_none.ensures.passed c.args.key (found.claimed c.args.g c.args.i c.args.key c.requires.slot c.requires.claimed)),
       record {
@@ -240,7 +234,7 @@ returns-then-is_none-clause-written g c =
       },
       omega (arith, below),
       omega arith,
-      omega (arith, below, passed),
+      omega (arith, below, so_far.1, passed),
     )
 
 pub returns-then-is_none-clause-serves : goal.returns-then-is_none-clause-serves
@@ -269,7 +263,7 @@ loop-lost-preserved g c =
           (made-more chain c.requires.own quiet (made-quiet p c.args.call.now other.0)),
       lost-more chain lost c.args.g c.args.i c.win_value-found.result c.requires.own look
           other.0 c.requires.slot here.0 settled other.1 unprimed (λ same. differs (same ∙ c.load_value-from.ensures.found))
-          (passed-still c.args.call.now lost so_far.0.grown (steps_add_up.one c.load_value-from.ensures.grows) so_far.1),
+          (omega (arith, so_far.1, passed-sum c.args.call.now so_far.0.grown (steps_add_up.one c.load_value-from.ensures.grows))),
       c.before_exchange.ensures.serves,
     )
 
@@ -279,8 +273,7 @@ pub returns-clause-made : goal.returns-clause-made
 returns-clause-made g c =
     let p = c.args.chain.now.shape in
     let lost = c.loop-lost.lost in
-    let enough = enough-here lost c.args.tries _ c.loop-lost.auto.lost-end c.loop-lost.invariant.1 in
-    made-within (2 * lost) _ (omega (arith, enough)) c.loop-lost.invariant.0
+    made-within (2 * lost) _ (omega (arith, c.loop-lost.auto.lost-end, c.loop-lost.invariant.1)) c.loop-lost.invariant.0
 
 pub returns-clause-written : goal.returns-clause-written
 returns-clause-written g c =

@@ -1,6 +1,5 @@
-use Rattle.std.proofs.Common.{◌≡◌, ◌∙◌, ◌≢◌, None, Some, ap, inl, inr, sym, subst, refl, arith, rules}
+use Rattle.std.proofs.Common.{◌≡◌, ◌∙◌, ◌≢◌, None, Some, ap, sym, subst, refl, arith, rules}
 use Rattle.std.proofs.lemmas.Bool.{eqb-false}
-use Rattle.std.proofs.lemmas.List.{append-nil}
 use Rattle.std.proofs.lemmas.Nat.{pow_pos}
 use Rattle.nb_core.specs.Tables.{path_slot}
 use Rattle.nb_core.specs.declared.calls.Call.TheVariants as call
@@ -9,10 +8,9 @@ use Rattle.nb_core.specs.declared.states.KeyState.TheVariants.{Claimed}
 use Rattle.nb_table.specs.Chains.{Extended, seen_by}
 use Rattle.nb_table.specs.Events.{read, shown_by_key}
 use Rattle.nb_map.specs.Calling.{HasMade}
-use Rattle.nb_map.specs.Looking.{glanced_by}
 use Rattle.nb_map.proofs.Home.{dead-away, others-away}
-use Rattle.nb_map.proofs.Made.{made-more, made-quiet, made-read, made-within, read_shown}
-use Rattle.nb_map.proofs.Searched.{on-path, others-more, others-none, read-before, reached-lasts, shown-other, shown-own, table-within, two-slots}
+use Rattle.nb_map.proofs.Made.{made-quiet, made-read, made-within, read_shown}
+use Rattle.nb_map.proofs.Searched.{made-then, on-path, others-more, others-none, read-before, reached-lasts, shown-other, shown-own, table-within, two-slots}
 use Rattle.nb_map.proofs.get.glance_in.Goals as goal
 use Rattle.nb_table.proofs.Theorems.{steps_add_up}
 
@@ -35,16 +33,14 @@ glance_at-requires-clause-reached c =
 
 pub returns-then-eq-clause-made : goal.returns-then-eq-clause-made
 returns-then-eq-clause-made c =
-    let chain = c.args.chain.now in
-    let p = chain.shape in
+    let p = c.args.chain.now.shape in
     let get = call.Get c.args.key in
     let seen = λ (s : KeyState). Extended c.args.chain.now.shape c.args.seat.now c.load_key.new.seat (read c.args.seat.now.number get (shown_by_key p c.args.g c.path_slot-home.result s c.args.key)) 1 in
     let none = shown-own p c.args.g c.path_slot-home.result c.args.key c.args.key c.in-Claimed.other refl c.if-eq.ensures in
     let load = made-quiet p get
     (subst (λ shown. Extended c.args.chain.now.shape c.args.seat.now c.load_key.new.seat (read c.args.seat.now.number get shown) 1) none
     (subst seen c.in-Claimed.is c.load_key.ensures.grows)) in
-    subst (λ made. HasMade p get c.args.seat.now c.glance_at.new.seat made 2) (append-nil (glanced_by get c.glance_at.result))
-    (made-more chain c.requires.own load c.glance_at.ensures.made)
+    made-then c.requires.own load c.glance_at.ensures.made
 
 pub returns-else-eq : goal.returns-else-eq
 returns-else-eq c =

@@ -1,12 +1,9 @@
-use Rattle.std.proofs.Common.{◌+◌, ◌-◌, subst, arith}
-use Rattle.std.proofs.lemmas.List.{append-nil}
+use Rattle.std.proofs.Common.{◌+◌, ◌-◌, arith}
 use Rattle.nb_core.specs.Plans.{size_of}
-use Rattle.nb_core.specs.declared.calls.Call.TheVariants as call
-use Rattle.nb_map.specs.Calling.{HasMade}
-use Rattle.nb_map.specs.Looking.{look_steps, read_by}
+use Rattle.nb_map.specs.Looking.{look_steps}
 use Rattle.nb_map.specs.Searching.{pass_steps}
-use Rattle.nb_map.proofs.Made.{made-more, made-stays, made-within}
-use Rattle.nb_map.proofs.Searched.{reached-lasts, table-within}
+use Rattle.nb_map.proofs.Made.{made-stays, made-within}
+use Rattle.nb_map.proofs.Searched.{made-then, reached-lasts, table-within}
 use Rattle.nb_map.proofs.get.look_in.Goals as goal
 
 pub look_at-requires-clause-reached : goal.look_at-requires-clause-reached
@@ -18,11 +15,6 @@ look_at-requires-clause-reached c =
 
 pub returns-in-Slot-clause-made : goal.returns-in-Slot-clause-made
 returns-in-Slot-clause-made c =
-    let chain = c.args.chain.now in
-    let p = chain.shape in
-    let get = call.Get c.args.key in
-    let most = size_of p c.args.g - c.args.from + 1 + (pass_steps p c.args.g + 1) in
-    made-within most (look_steps p c.args.g) (omega arith)
-    (subst (λ made. HasMade p get c.args.seat.now c.look_at.new.seat made most)
-    (append-nil (read_by get c.look_at.result))
-    (made-more chain c.requires.own c.in-Slot.ensures.made c.look_at.ensures.made))
+    let p = c.args.chain.now.shape in
+    made-within (size_of p c.args.g - c.args.from + 1 + (pass_steps p c.args.g + 1)) (look_steps p c.args.g) (omega arith)
+    (made-then c.requires.own c.in-Slot.ensures.made c.look_at.ensures.made)

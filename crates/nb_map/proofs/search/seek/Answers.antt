@@ -1,13 +1,12 @@
-use Rattle.std.proofs.Common.{◌≡◌, ◌∙◌, ◌+◌, ◌-◌, ◌≤◌, ◌==◌, None, Some, suc, sym, subst, refl, arith, rules}
-use Rattle.std.proofs.lemmas.List.{append-nil}
+use Rattle.std.proofs.Common.{◌≡◌, ◌+◌, ◌-◌, ◌≤◌, ◌==◌, None, Some, suc, sym, subst, refl, arith, rules}
 use Rattle.nb_core.specs.Tables.{Whole}
 use Rattle.nb_core.specs.Plans.{generations_of, size_of}
 use Rattle.nb_core.specs.Tables.{AreOthers}
 use Rattle.nb_table.specs.Chains.{seen_by}
 use Rattle.nb_table.specs.Conditions.{IsReached}
-use Rattle.nb_map.specs.Calling.{HasMade, read_of}
+use Rattle.nb_map.specs.Calling.{HasMade}
 use Rattle.nb_map.proofs.Made.{made-more, made-own, made-quiet, made-read, made-stays}
-use Rattle.nb_map.proofs.Searched.{made-unless, not-last, reached-lasts, read-alone, table-within}
+use Rattle.nb_map.proofs.Searched.{made-then, made-unless, not-last, reached-lasts, read-alone, table-within}
 use Rattle.nb_map.proofs.search.seek.Goals as goal
 use Rattle.nb_map.proofs.search.seek.Goals.{After-load_next}
 use Rattle.nb_table.proofs.Theorems.{steps_add_up}
@@ -42,8 +41,8 @@ returns-else-load_next-clause-made c =
     let walk = made-unless _ (suc c.args.g == generations_of chain.shape) _ (size_of chain.shape c.args.g - c.args.from)
     (not-last chain.shape c.args.g tables c.if-g-generations.false) (omega arith) c.in-Whole.ensures.made in
     subst (λ made. HasMade chain.shape c.args.call.now c.args.seat.now c.load_next.new.seat made (size_of chain.shape c.args.g - c.args.from + 1))
-    (append-nil (read_of c.args.call.now None) ∙ read-alone c.args.call.now None c.requires.alone)
-    (made-more chain c.requires.own walk (made-read chain.shape c.args.call.now (Some None) c.if-load_next.ensures.grows))
+    (read-alone c.args.call.now None c.requires.alone)
+    (made-then c.requires.own walk (made-read chain.shape c.args.call.now (Some None) c.if-load_next.ensures.grows))
 
 -- the first slot of the path is another key's
 away : (c : After-load_next) → (AreOthers c.args.chain.now.shape (seen_by c.args.chain.now.shape c.load_next.new.seat) c.args.g c.args.key 1 → ⊥)

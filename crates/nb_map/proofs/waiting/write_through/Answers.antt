@@ -1,6 +1,6 @@
 use Rattle.std.proofs.Common.{arith}
 use Rattle.nb_core.specs.declared.calls.Call.TheVariants as call
-use Rattle.nb_map.proofs.Made.{made-none, made-stays, made-within}
+use Rattle.nb_map.proofs.Made.{made-none, made-within}
 use Rattle.nb_map.proofs.Rounds.{rounds-end, rounds-more, rounds-short}
 use Rattle.nb_map.proofs.Searched.{reached-lasts, reached-top, ready-top, table-within}
 use Rattle.nb_map.proofs.waiting.write_through.Goals as goal
@@ -21,7 +21,7 @@ write_from-requires-clause-reached g c =
     let mine = steps_add_up.own c.requires.own (steps_add_up.one c.load_top-top.ensures.grows) in
     let top = c.load_top-top.result in
     let reached = reached-top chain c.load_top-top.new.seat mine c.args.key top c.load_top-top.ensures.found in
-    reached-lasts chain.shape _ _ (made-stays chain mine c.loop.invariant.rounds) top c.args.key
+    reached-lasts chain.shape _ _ (steps_add_up.stays mine c.loop.invariant.rounds.grown) top c.args.key
     (table-within chain c.load_top-top.new.seat mine top reached.installed) reached
 
 pub write_from-requires-clause-ready : goal.write_from-requires-clause-ready
@@ -30,7 +30,7 @@ write_from-requires-clause-ready g c =
     let mine = steps_add_up.own c.requires.own (steps_add_up.one c.load_top-top.ensures.grows) in
     let top = c.load_top-top.result in
     let reached = reached-top chain c.load_top-top.new.seat mine c.args.key top c.load_top-top.ensures.found in
-    (made-stays chain mine c.loop.invariant.rounds).ready top (table-within chain c.load_top-top.new.seat mine top reached.installed)
+    (steps_add_up.stays mine c.loop.invariant.rounds.grown).ready top (table-within chain c.load_top-top.new.seat mine top reached.installed)
     (ready-top chain c.load_top-top.new.seat mine top c.load_top-top.ensures.found)
 
 pub loop-preserved : goal.loop-preserved

@@ -2,8 +2,9 @@ use Rattle.std.proofs.Common.{arith}
 use Rattle.std.proofs.lemmas.Result.{IfErr-weaker}
 use Rattle.nb_core.specs.declared.calls.Call.TheVariants as call
 use Rattle.nb_map.proofs.Made.{made-quiet, made-within}
-use Rattle.nb_map.proofs.Searched.{reached-top, ready-top}
-use Rattle.nb_map.proofs.Written.{alone-top, just-longer, made-then, passed-longer, put-bound}
+use Rattle.nb_map.proofs.Exchanged.{passed-sum}
+use Rattle.nb_map.proofs.Searched.{made-then, reached-top, ready-top}
+use Rattle.nb_map.proofs.Written.{alone-top, just-longer, put-bound}
 use Rattle.nb_map.proofs.write.put_if_match_in.Goals as goal
 use Rattle.nb_table.proofs.Theorems.{steps_add_up}
 
@@ -25,7 +26,7 @@ returns-clause-made g c =
     let write = call.Write c.args.key c.args.want c.args.change in
     let load = c.load_top-top.ensures.grows in
     let made = c.write_from.ensures.made in
-    made-within _ _ (put-bound p c.args.tries _ _ c.requires.some (passed-longer write (steps_add_up.one load) made.grown))
+    made-within _ _ (put-bound p c.args.tries _ _ c.requires.some (omega (arith, passed-sum write (steps_add_up.one load) made.grown)))
     (made-then c.requires.own (made-quiet p write load) made)
 
 pub returns-clause-refused : goal.returns-clause-refused

@@ -1,4 +1,4 @@
-use Rattle.std.proofs.Common.{◌+◌, ◌-◌, ◌*◌, ◌<◌, ◌≤◌, add-one, subst, sym, arith, rules}
+use Rattle.std.proofs.Common.{◌≤◌, add-one, subst, sym, arith, rules}
 use Rattle.nb_core.specs.Plans.{generations_of}
 use Rattle.nb_table.specs.Chains.{seen_by}
 use Rattle.nb_table.specs.Conditions.{IsReached}

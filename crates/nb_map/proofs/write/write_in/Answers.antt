@@ -1,7 +1,8 @@
 use Rattle.std.proofs.Common.{arith}
+use Rattle.nb_map.proofs.Home.{home-before}
 use Rattle.nb_map.proofs.Made.{made-own, made-stays}
 use Rattle.nb_map.proofs.Searched.{reached-lasts, table-within}
-use Rattle.nb_map.proofs.Written.{alone-first, alone-then, alone-written, made-written, written-longer}
+use Rattle.nb_map.proofs.Written.{alone-then, alone-written, made-written, written-longer}
 use Rattle.nb_map.proofs.write.write_in.Goals as goal
 
 pub exchange-requires-clause-own : goal.exchange-requires-clause-own
@@ -32,7 +33,8 @@ returns-in-Slot-clause-short g c alone =
     let made = c.exchange.ensures.made in
     omega (
       arith,
-      c.in-Slot.ensures.short (alone-first c.args.g table c.requires.own aimed.grown made.grown alone),
+      c.in-Slot.ensures.short
+          (home-before chain.shape _ _ (made-stays chain (made-own chain c.requires.own aimed) made) c.args.g _ table alone.home) alone.known,
       alone-written c.args.g c.args.tries table (made-own chain c.requires.own aimed) c.exchange.result made c.exchange.ensures.written
           (alone-then c.args.g table c.requires.own aimed.grown made.grown alone),
     )
