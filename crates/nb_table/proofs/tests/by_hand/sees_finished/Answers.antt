@@ -1,5 +1,5 @@
 use Rattle.std.proofs.Common.{sym, subst, rules}
-use Rattle.nb_core.specs.Laws.IsPassed.{AtSlot}
+use Rattle.nb_core.specs.Tables.IsPassed.{AtSlot}
 use Rattle.nb_core.specs.Tables.{IsFinishedValue}
 use Rattle.nb_table.proofs.tests.by_hand.sees_finished.Goals as goal
 use Rattle.nb_table.proofs.Theorems.{steps_add_up}
