@@ -6,14 +6,14 @@ use Rattle.std.proofs.lemmas.List.{append-nil, append_assoc, length-append}
 use Rattle.std.proofs.lemmas.List.Elements.{All-append, All-cons, All-head, All-nil, All-tail, All-weaker, filter-append}
 use Rattle.nb_core.specs.Plans.{Plan, generations_of}
 use Rattle.nb_core.specs.Tables.{Tables}
-use Rattle.nb_core.specs.History.{counted_by, counts, seat_of_event, turned_slot}
+use Rattle.nb_core.specs.History.{counted_by, counts, seat_of_event, slot_in, slots_turned, turned_slot}
 use Rattle.nb_core.specs.Laws.{Lasts}
 use Rattle.nb_core.specs.declared.events.Event.{Event}
 use Rattle.nb_core.specs.declared.events.Event.TheVariants.{Claim, Kill, Won, CopyIn, Prime, Finish, Install, Take, Count, Promote, Read}
 use Rattle.nb_table.specs.Chains.{ChainOf, Extended, IsOwn, SeenBy, seen_by}
 use Rattle.nb_core.proofs.Theorems.{own_lasts, counted}
 use Rattle.nb_table.proofs.Theorems.{steps_add_up}
-use Rattle.nb_copy.specs.Copying.{HasCopied, IsCopying, is_take, slot_in, slots_turned}
+use Rattle.nb_copy.specs.Copying.{HasCopied, IsCopying, is_take}
 
 -- ---- one step
 

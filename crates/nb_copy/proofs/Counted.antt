@@ -1,20 +1,18 @@
 -- How slots are counted, and chunks and tables are copied.
-use Rattle.std.proofs.Common.{◌≡◌, ◌∙◌, ℕ, suc, ◌+◌, ◌-◌, ◌*◌, ◌==◌, ◌&&◌, ◌⊎◌, ◌≤◌, ◌<◌, Bool, true, false, cond, List, [], ◌∷◌, ◌++◌, length, Option, Some, None, ap, sym, subst, subst₂, refl, inl, inr, arith}
+use Rattle.std.proofs.Common.{◌≡◌, ◌∙◌, ℕ, suc, ◌+◌, ◌-◌, ◌*◌, ◌==◌, ◌&&◌, ◌⊎◌, ◌≤◌, ◌<◌, Bool, true, false, cond, List, [], ◌∷◌, ◌++◌, length, ap, sym, subst, subst₂, refl, inl, inr, arith}
 use mir.Val.{bool_byte}
-use Rattle.std.specs.Option.{option_map_or}
 use Rattle.std.proofs.lemmas.Bool.{eq-eqb}
 use Rattle.std.specs.List.{All}
 use Rattle.std.proofs.lemmas.List.{length-append}
 use Rattle.std.proofs.lemmas.List.Elements.{All-append, All-cons, All-nil, All-weaker}
 use Rattle.nb_core.specs.Plans.{Plan, generations_of, size_of}
 use Rattle.nb_core.specs.Tables.{IsComplete, IsFinished}
-use Rattle.nb_core.specs.History.{counted_by, seat_of_event, turned_by, turned_slot}
-use Rattle.nb_core.specs.declared.events.Event.{Event}
+use Rattle.nb_core.specs.History.{counted_by, slots_turned, turned_by}
 use Rattle.nb_core.specs.declared.events.Event.TheVariants.{Count, Promote, Take}
 use Rattle.nb_table.specs.Chains.{ChainOf, Extended, IsOwn, SeenBy, seen_by}
 use Rattle.nb_core.proofs.Theorems.{counted}
 use Rattle.nb_copy.proofs.Copied.{copied-more, copied-one, copied-own, copied-quiet, copied-stays}
-use Rattle.nb_copy.specs.Copying.{HasCopied, slot_in, slots_turned}
+use Rattle.nb_copy.specs.Copying.{HasCopied}
 
 -- ---- what may be counted
 
@@ -34,22 +32,6 @@ pub byte-small : (b : Bool) → bool_byte b ≤ 1
 byte-small true = omega arith
 byte-small false = omega arith
 
--- a seat's events turned as many slots as there are in their list
-turned-length : (p : Plan) (h : List Event) (number g : ℕ) → turned_by p h number g ≡ length (slots_turned p h number g)
-turned-length p [] number g = refl
-turned-length p (e ∷ h) number g =
-    ap (λ n. n + turned_by p h number g) (one (number-is e) (turned_slot p h e))
-    ∙ ap (λ n. length (cond (number-is e) (slot_in g (turned_slot p h e)) []) + n) (turned-length p h number g)
-    ∙ sym (length-append (cond (number-is e) (slot_in g (turned_slot p h e)) []) (slots_turned p h number g))
-  where
-    number-is : Event → Bool
-    number-is e = seat_of_event e == number
-
-    one : (b : Bool) (slot : Option (ℕ × ℕ)) → cond (b && option_map_or (λ s. s.0 == g) slot false) 1 0 ≡ length (cond b (slot_in g slot) [])
-    one false slot = refl
-    one true None = refl
-    one true (Some slot) = sym (length-if (slot.0 == g) slot.1)
-
 -- what a seat has turned, and not counted, it may count
 pub may-count :
     (chain : ChainOf) {before after : SeenBy} {slots : List ℕ} {chunks most : ℕ} → IsOwn chain before → (g : ℕ) → g < generations_of chain.shape → HasCopied chain.shape g before after slots chunks 0 most
@@ -58,9 +40,8 @@ may-count chain {before} {after} {slots} own g table copied =
     let p = chain.shape in
     let once = counted p own.plan before.seen own.legal g table in
     let turned : turned_by p after.seen after.number g ≡ length slots + turned_by p before.seen before.number g
-    = ap (λ n. turned_by p after.seen n g) copied.grown.number ∙ turned-length p after.seen before.number g ∙ ap length copied.turned
-    ∙ length-append slots (slots_turned p before.seen before.number g)
-    ∙ ap (λ n. length slots + n) (sym (turned-length p before.seen before.number g)) in
+    = ap (λ n. turned_by p after.seen n g) copied.grown.number ∙ ap length copied.turned
+    ∙ length-append slots (slots_turned p before.seen before.number g) in
     let now : counted_by after.seen after.number g ≡ counted_by before.seen before.number g + 0
     = ap (λ n. counted_by after.seen n g) copied.grown.number ∙ copied.counted in
     fits _ _ _ _ _ turned now (once.own before.number)

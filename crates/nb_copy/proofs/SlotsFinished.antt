@@ -3,7 +3,7 @@ use Rattle.std.proofs.Common.{◌≡◌, ◌≢◌, ◌∙◌, ◌⊎◌, ℕ, s
 use Rattle.std.proofs.lemmas.Bool.{eq-eqb}
 use Rattle.nb_core.specs.Plans.{Plan, generations_of, size_of}
 use Rattle.nb_core.specs.Tables.{HasSlot, IsFinished, IsFinishedValue, IsInstalled, IsSlot, IsUnprimed, Tables, IsPassed, IsPrimedOrFinished}
-use Rattle.nb_core.specs.History.{is_finished_by_priming}
+use Rattle.nb_core.specs.History.{is_finished_by_priming, slot_in}
 use Rattle.nb_core.specs.States.{primed}
 use Rattle.nb_core.specs.Laws.{Lasts}
 use Rattle.nb_core.specs.declared.states.KeyState.TheVariants.{Claimed}
@@ -14,7 +14,7 @@ use Rattle.nb_table.specs.Chains.{ChainOf, Extended, IsOwn, SeenBy, seen_before,
 use Rattle.nb_table.specs.Conditions.{HasSource, IsCopied}
 use Rattle.nb_core.proofs.Theorems.{linked, passed_above}
 use Rattle.nb_copy.proofs.Copied.{copied-one, copied-quiet, copied-then, copied-within}
-use Rattle.nb_copy.specs.Copying.{HasCopied, slot_in}
+use Rattle.nb_copy.specs.Copying.{HasCopied}
 
 -- ---- what the seat has seen
 

@@ -1,8 +1,8 @@
 -- What a copier does.
-use Rattle.std.specs.Prelude.{◌≡◌, ℕ, suc, ◌+◌, ◌≤◌, ◌==◌, Bool, true, false, if◌then◌else◌, List, [], ◌∷◌, ◌++◌, length, filter, All, Option, Some, None}
+use Rattle.std.specs.Prelude.{◌≡◌, ℕ, suc, ◌+◌, ◌≤◌, Bool, true, false, List, ◌++◌, length, filter, All}
 use Rattle.nb_core.specs.Plans.{Plan}
 use Rattle.nb_core.specs.Tables.{HasSlot, Tables}
-use Rattle.nb_core.specs.History.{counted_by, seat_of_event, turned_slot}
+use Rattle.nb_core.specs.History.{counted_by, slots_turned}
 use Rattle.nb_core.specs.declared.events.Event.{Event}
 use Rattle.nb_core.specs.declared.events.Event.TheVariants.{Claim, Kill, Won, CopyIn, Prime, Finish, Install, Take, Count, Promote, Read}
 use Rattle.nb_table.specs.Chains.{Grown, SeenBy, seen_by}
@@ -21,17 +21,6 @@ IsCopying p t g (Take s f) = f ≡ g
 IsCopying p t g (Count s f c) = f ≡ g
 IsCopying p t g (Promote s f) = f ≡ g
 IsCopying p t g (Read s c r) = ⊥
-
--- the slot, if it is one of table g
-abbrev pub slot_in : (g : ℕ) → Option (ℕ × ℕ) → List ℕ
-slot_in g None = []
-slot_in g (Some slot) = if slot.0 == g then slot.1 ∷ [] else []
-
--- the slots of table g that a seat's events turned finished, the newest first
-abbrev pub slots_turned : Plan → List Event → (number g : ℕ) → List ℕ
-slots_turned p [] number g = []
-slots_turned p (e ∷ h) number g =
-    (if seat_of_event e == number then slot_in g (turned_slot p h e) else []) ++ slots_turned p h number g
 
 -- the event asks for a chunk
 abbrev pub is_take : Event → Bool

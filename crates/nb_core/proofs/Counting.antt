@@ -1,13 +1,14 @@
 -- Just one event turns each finished slot finished, and what the seats count is what their own events turned.
-use Rattle.std.proofs.Common.{◌≡◌, ◌∙◌, ℕ, zero, suc, ◌+◌, ◌%◌, ◌^◌, ◌<◌, ◌≤◌, ◌⊎◌, inl, inr, sym, ap, refl, subst, Bool, true, false, cond, eqb, ◌&&◌, ◌||◌, List, [], ◌∷◌, slice_index, Option, Some, None, arith}
+use Rattle.std.proofs.Common.{◌≡◌, ◌∙◌, ℕ, zero, suc, ◌+◌, ◌%◌, ◌^◌, ◌<◌, ◌≤◌, ◌⊎◌, inl, inr, sym, ap, refl, subst, Bool, true, false, cond, eqb, ◌&&◌, ◌||◌, List, [], ◌∷◌, length, slice_index, Option, Some, None, arith}
 use Rattle.std.proofs.Math.Bool.{and-false, and-true, or-true}
 use Rattle.std.proofs.Math.Nat.{mod-eq_of_lt}
 use Rattle.std.proofs.Math.Pow.{pow-lt}
 use Rattle.std.proofs.lemmas.Bool.{eqb-false, eqb-true, false_from_ne_true, ne_eqb}
+use Rattle.std.proofs.lemmas.List.{length-append}
 use Rattle.std.specs.Option.{IfSome, option_map_or}
 use Rattle.nb_core.specs.Plans.{Plan, IsPlan, Header, generations_of, size_of}
 use Rattle.nb_core.specs.Tables.{IsFinished, IsFinishedValue, IsSlot, IsUnprimed, Tables, is_finished_value, tables_at, finished_among, is_dead}
-use Rattle.nb_core.specs.History.{IsInRange, IsLegal, MayClaim, MayFinish, MayFollow, MayKill, MayPrime, counted_by, counts, is_finished_by_priming, seat_of_event, turned_by, turned_slot, turns, turns_slot}
+use Rattle.nb_core.specs.History.{IsInRange, IsLegal, MayClaim, MayFinish, MayFollow, MayKill, MayPrime, counted_by, counts, is_finished_by_priming, seat_of_event, slot_in, slots_turned, turned_by, turned_in, turned_slot, turns_slot}
 use Rattle.nb_core.specs.States.{primed}
 use Rattle.nb_core.specs.Laws.{CountedOnce, over_seats, times_turned}
 use Rattle.nb_core.proofs.Frames.{finished, key_after, key-first, key-frame, value_after, value-first, value-frame}
@@ -271,13 +272,31 @@ over_seats-of_turned p g None range = over_seats-zero (size_of p g)
 over_seats-of_turned p g (Some slot) range =
     over_seats-of_slot (eqb slot.0 g) slot.1 (size_of p g) (in_same_table p slot.0 slot.1 g range)
 
+-- a seat turns one slot of a table in an event, if the slot is of this table and the event the seat's
+length-turned_in : (p : Plan) (h : List Event) (e : Event) (s g : ℕ) → length (turned_in p h e s g) ≡ bit (eqb (seat_of_event e) s && is_in g (turned_slot p h e))
+length-turned_in p h e s g = one (eqb (seat_of_event e) s) (turned_slot p h e)
+  where
+    if : (b : Bool) (i : ℕ) → length (cond b (i ∷ []) []) ≡ bit b
+    if true i = refl
+    if false i = refl
+
+    one : (b : Bool) (slot : Option (ℕ × ℕ)) → length (cond b (slot_in g slot) []) ≡ bit (b && is_in g slot)
+    one false slot = refl
+    one true None = refl
+    one true (Some slot) = if (eqb slot.0 g) slot.1
+
 -- in an event the seats turn as many slots of a table as turn there
-turns-sum :
+turned_in-sum :
     (p : Plan) (h : List Event) (e : Event) (g : ℕ) → IsInRange p e
-    → over_seats (λ s. bit (turns p h e s g)) p.seats ≡ over_seats (λ i. bit (turns_slot p h e g i)) (size_of p g)
-turns-sum p h e g range =
-    over_seats-of_seat (seat_of_event e) p.seats 1 (is_in g (turned_slot p h e)) (seat-in_range p e range)
+    → over_seats (λ s. length (turned_in p h e s g)) p.seats ≡ over_seats (λ i. bit (turns_slot p h e g i)) (size_of p g)
+turned_in-sum p h e g range =
+    over_seats-same _ (λ s. bit (eqb (seat_of_event e) s && is_in g (turned_slot p h e))) p.seats (λ s below. length-turned_in p h e s g)
+    ∙ over_seats-of_seat (seat_of_event e) p.seats 1 (is_in g (turned_slot p h e)) (seat-in_range p e range)
     ∙ sym (over_seats-of_turned p g (turned_slot p h e) (turned_slot-in_range p h e range))
+
+-- one event more
+turned_by-more : (p : Plan) (h : List Event) (e : Event) (s g : ℕ) → turned_by p (e ∷ h) s g ≡ length (turned_in p h e s g) + turned_by p h s g
+turned_by-more p h e s g = length-append (turned_in p h e s g) (slots_turned p h s g)
 
 -- the number of finished slots, as a sum
 finished_among-sum : (t : Tables) (g n : ℕ) → finished_among t g n ≡ over_seats (slot_bit t g) n
@@ -300,23 +319,24 @@ turned_by-sum p [] plan legal g within =
     let none = over_seats-same _ (λ i. 0) (size_of p g) (λ i lt. slot_bit-first p plan g i (within, lt)) in
     over_seats-zero p.seats ∙ sym (none ∙ over_seats-zero (size_of p g))
 turned_by-sum p (e ∷ h) plan legal g within =
-    over_seats-step (λ s. bit (turns p h e s g)) (λ s. turned_by p h s g) (λ i. bit (turns_slot p h e g i))
+    over_seats-same _ (λ s. length (turned_in p h e s g) + turned_by p h s g) p.seats (λ s below. turned_by-more p h e s g)
+    ∙ over_seats-step (λ s. length (turned_in p h e s g)) (λ s. turned_by p h s g) (λ i. bit (turns_slot p h e g i))
     (slot_bit (tables_at p h) g) (slot_bit (tables_at p (e ∷ h)) g) p.seats (size_of p g)
-    (turns-sum p h e g legal.1) (turned_by-sum p h plan legal.0 g within) (λ i lt. slot_bit-next p e h plan legal g i (within, lt))
+    (turned_in-sum p h e g legal.1) (turned_by-sum p h plan legal.0 g within) (λ i lt. slot_bit-next p e h plan legal g i (within, lt))
 
 -- ---- counts
 
 -- no event makes a seat count more slots than it turned
 counts-own :
     (p : Plan) (h : List Event) (e : Event) (s g : ℕ) → MayFollow p h e → counted_by h s g ≤ turned_by p h s g
-    → counts e s g + counted_by h s g ≤ bit (turns p h e s g) + turned_by p h s g
+    → counts e s g + counted_by h s g ≤ turned_by p (e ∷ h) s g
 counts-own p h (Count seat f c) s g may before =
     let own = may.own in
-    let less =
-    at_slot (λ s g here. counted_by h s g ≤ turned_by p h s g → cond here c 0 + counted_by h s g ≤ 0 + turned_by p h s g)
+    let less : cond (eqb seat s && eqb f g) c 0 + counted_by h s g ≤ turned_by p h s g =
+    at_slot (λ s g here. counted_by h s g ≤ turned_by p h s g → cond here c 0 + counted_by h s g ≤ turned_by p h s g)
     seat f s g (λ before. omega arith) (λ before. omega arith) before in
-    rw (and-false (eqb seat s)) less
-counts-own p h _ s g may before = omega arith
+    omega (arith, less, turned_by-more p h (Count seat f c) s g)
+counts-own p h e s g may before = omega (arith, before, turned_by-more p h e s g)
 
 -- a seat counts no more slots than it turned
 counted_by-own : (p : Plan) (h : List Event) → IsLegal p h → (s g : ℕ) → counted_by h s g ≤ turned_by p h s g

@@ -1,5 +1,5 @@
 -- What other seats do between two moments: the exchanges that they win, and what they leave of a seat's own.
-use Rattle.std.proofs.Common.{◌≡◌, ◌≢◌, ◌∙◌, ℕ, ◌+◌, ◌-◌, ◌≤◌, zero, suc, Bool, true, false, not, cond, eqb, ◌&&◌, List, [], ◌∷◌, ◌++◌, length, take, ap, sym, subst, subst₂, refl, inl, inr, arith, append_assoc, length-append}
+use Rattle.std.proofs.Common.{◌≡◌, ◌≢◌, ◌∙◌, ℕ, ◌-◌, ◌≤◌, zero, suc, Bool, true, false, not, cond, eqb, ◌&&◌, List, [], ◌∷◌, ◌++◌, length, take, ap, sym, subst, subst₂, refl, inl, inr, arith, append_assoc, length-append}
 use Rattle.std.specs.List.{count_by}
 use Rattle.std.proofs.Math.Seq.{take-append_seam}
 use Rattle.std.proofs.lemmas.Bool.{cond-false, eq-eqb, ne_eqb}
@@ -7,7 +7,7 @@ use Rattle.std.proofs.lemmas.List.Elements.{All-head, All-tail}
 use Rattle.std.proofs.lemmas.List.Sums.{sum_by-append, sum_by-cons}
 use Rattle.nb_core.specs.Plans.{Plan, IsPlan}
 use Rattle.nb_core.specs.Tables.{HasSlot, IsFinishedValue, IsSettledBelow, IsSlot, IsUnprimed, Tables, tables_at}
-use Rattle.nb_core.specs.History.{IsLegal, IsPrimedBelow, counts, key_of_call, seat_of_event, turned_by, turns}
+use Rattle.nb_core.specs.History.{IsLegal, IsPrimedBelow, counts, key_of_call, seat_of_event, slots_turned, turned_in}
 use Rattle.nb_core.specs.Log.{calls_of, log_of}
 use Rattle.nb_core.specs.Meaning.{is_win_of_another, passed_over}
 use Rattle.nb_core.specs.States.{primed}
@@ -140,8 +140,8 @@ counts-other (Count r f c) s g other = cond-false (eqb r s && eqb f g) c 0 (othe
 counts-other e s g other = refl
 
 -- and turns nothing finished for it
-turns-other : (p : Plan) (e : Event) (h : List Event) (s g : ℕ) → seat_of_event e ≢ s → turns p h e s g ≡ false
-turns-other p e h s g other = other_seat (seat_of_event e) s _ other
+turned_in-other : (p : Plan) (e : Event) (h : List Event) (s g : ℕ) → seat_of_event e ≢ s → turned_in p h e s g ≡ []
+turned_in-other p e h s g other = cond-false (eqb (seat_of_event e) s) _ _ (ne_eqb (seat_of_event e) s other)
 
 -- a seat's own stays with one event more of another seat
 own-more :
@@ -151,7 +151,7 @@ own-more p e later h s other own = record {
   calls = calls_of-other e (later ++ h) s other ∙ own.calls;
   counted = λ g. omega (arith, counts-other e s g other, own.counted g);
   turned = λ g.
-      ap (λ t. cond t 1 0 + turned_by p (later ++ h) s g) (turns-other p e (later ++ h) s g other) ∙ omega (arith, own.turned g);
+      ap (λ slots. length (slots ++ slots_turned p (later ++ h) s g)) (turned_in-other p e (later ++ h) s g other) ∙ own.turned g;
 }
 
 pub own_lasts : OwnLasts

@@ -1,5 +1,5 @@
 -- Legal histories: when an event may follow, and the map that a history stands for.
-use Rattle.std.specs.Prelude.{◌≡◌, ◌≢◌, ℕ, suc, zero, ◌+◌, ◌<◌, ◌≤◌, ◌⊎◌, ◌==◌, ◌&&◌, Bool, true, false, if◌then◌else◌, List, [], ◌∷◌, Option, Some, None, MatchOption}
+use Rattle.std.specs.Prelude.{◌≡◌, ◌≢◌, ℕ, suc, zero, ◌+◌, ◌<◌, ◌≤◌, ◌⊎◌, ◌==◌, ◌&&◌, Bool, true, false, if◌then◌else◌, List, [], ◌∷◌, ◌++◌, length, Option, Some, None, MatchOption}
 use Rattle.std.specs.FinMap as map
 use Rattle.std.specs.Option.{option_map_or}
 use Rattle.nb_core.specs.Calls.{overflows}
@@ -141,18 +141,27 @@ turned_slot p h (Finish s g i) = Some (g, i)
 turned_slot p h (Prime s g i) = if is_finished_by_priming ((tables_at p h).value g i) then Some (g, i) else None
 turned_slot p h _ = None
 
--- whether the event turned a slot of this table finished, and was the seat's
-abbrev pub turns : Plan → List Event → Event → ℕ → ℕ → Bool
-turns p h e s g = seat_of_event e == s && option_map_or (λ slot. slot.0 == g) (turned_slot p h e) false
-
 -- whether the event turned this slot finished
 abbrev pub turns_slot : Plan → List Event → Event → ℕ → ℕ → Bool
 turns_slot p h e g i = option_map_or (λ slot. slot.0 == g && slot.1 == i) (turned_slot p h e) false
 
--- how many slots of a table the events of a seat turned finished
-abbrev pub turned_by : Plan → List Event → ℕ → ℕ → ℕ
-turned_by p [] s g = 0
-turned_by p (e ∷ h) s g = (if turns p h e s g then 1 else 0) + turned_by p h s g
+-- the slot, if it is one of table g
+abbrev pub slot_in : (g : ℕ) → Option (ℕ × ℕ) → List ℕ
+slot_in g None = []
+slot_in g (Some slot) = if slot.0 == g then slot.1 ∷ [] else []
+
+-- the slot of table g that the event turned finished, if it did and was the seat's
+abbrev pub turned_in : Plan → List Event → Event → (s g : ℕ) → List ℕ
+turned_in p h e s g = if seat_of_event e == s then slot_in g (turned_slot p h e) else []
+
+-- the slots of table g that the events of a seat turned finished, the newest first
+abbrev pub slots_turned : Plan → List Event → (s g : ℕ) → List ℕ
+slots_turned p [] s g = []
+slots_turned p (e ∷ h) s g = turned_in p h e s g ++ slots_turned p h s g
+
+-- how many they are
+abbrev pub turned_by : Plan → List Event → (s g : ℕ) → ℕ
+turned_by p h s g = length (slots_turned p h s g)
 
 -- how many slots of a table an event counted, where it was the seat's
 abbrev pub counts : Event → ℕ → ℕ → ℕ

@@ -84,6 +84,10 @@ abbrev pub calls_of : ℕ → List Entry → List (Call × Reply)
 calls_of seat [] = []
 calls_of seat (entry ∷ log) = if entry.seat == seat then (entry.call, entry.reply) ∷ calls_of seat log else calls_of seat log
 
+-- the map has the key all the while, from the one log to the other that goes on from it (a walk must show such a key)
+abbrev pub HeldThrough : (first last : List Entry) → ℕ → Type 0
+HeldThrough first last k = (log : List Entry) → IsBeginning first log → IsBeginning log last → (number : ℕ) × (get (map_of_log log) k ≡ Some number)
+
 -- ---- the log of a history
 
 -- A call is made at just one event: the exchange that it wins, or a load that decides it. No other event is in the log.

@@ -1,10 +1,10 @@
 -- What the tables of a moment stand for, and what a history says of calls and keys.
-use Rattle.std.specs.Prelude.{◌≡◌, ℕ, ℤ, pos, suc, zero, ◌-◌, ◌+ℤ◌, ◌-ℤ◌, ◌<◌, ◌≤◌, ◌⊎◌, ◌==◌, ◌&&◌, not, Bool, true, false, if◌then◌else◌, IsTrue, List, [], ◌∷◌, length, take, drop, count_by, Option, Some, None, option_map}
+use Rattle.std.specs.Prelude.{◌≡◌, ℕ, ℤ, pos, suc, zero, ◌-◌, ◌+ℤ◌, ◌-ℤ◌, ◌<◌, ◌≤◌, ◌==◌, ◌&&◌, not, Bool, true, false, if◌then◌else◌, List, [], ◌∷◌, length, take, count_by, Option, Some, None, option_map}
 use Rattle.std.specs.FinMap as map
 use Rattle.nb_core.specs.Log.{Entry, Numbers, calls_of}
 use Rattle.nb_core.specs.Plans.{Plan, generations_of, size_of}
 use Rattle.nb_core.specs.Tables.{IsOther, Tables, tables_at, tables_of}
-use Rattle.nb_core.specs.History.{key_of_call, map_of}
+use Rattle.nb_core.specs.History.{key_of_call}
 use Rattle.nb_core.specs.declared.numbers.TheConstants.{KEY_MAX}
 use Rattle.nb_core.specs.declared.calls.Call.{Call}
 use Rattle.nb_core.specs.declared.calls.Call.TheVariants as call
@@ -98,14 +98,6 @@ net_of_seats log (suc n) = net_of (calls_of n log) +ℤ net_of_seats log n
 
 -- ---- keys
 
--- the history when it had n events
-abbrev pub beginning : List Event → ℕ → List Event
-beginning h n = drop (length h - n) h
-
--- the map has the key all the while, from the first n events to the first m (a walk must meet such a key)
-abbrev pub HeldThrough : List Event → ℕ → ℕ → ℕ → Type 0
-HeldThrough h n m k = (l : ℕ) → n ≤ l → l ≤ m → IsTrue (map.contains_key (map_of (beginning h l)) k)
-
 -- other keys have all slots of the last table
 abbrev pub IsCrowded : Plan → List Event → ℕ → Type 0
 IsCrowded p h k = (i : ℕ) → i < size_of p (generations_of p - 1) → IsOther ((tables_at p h).key (generations_of p - 1) i) k
@@ -132,10 +124,3 @@ place_from p t k g (suc tables) = first_place (option_map (λ i. (g, i)) (slot_a
 -- the key's first place from table g on, after the history
 abbrev pub place_of : Plan → List Event → ℕ → ℕ → Option (ℕ × ℕ)
 place_of p h g k = place_from p (tables_at p h) k g (generations_of p - g)
-
--- One place comes before another, as a walk meets them: in an earlier table, or in an earlier slot of the same one. The end comes
--- after all.
-abbrev pub IsBefore : Option (ℕ × ℕ) → Option (ℕ × ℕ) → Type 0
-IsBefore None later = ⊥
-IsBefore (Some a) None = Unit {0}
-IsBefore (Some a) (Some b) = (a.0 < b.0) ⊎ ((a.0 ≡ b.0) × (a.1 < b.1))

@@ -5,7 +5,7 @@ use Rattle.std.proofs.lemmas.List.{get_or_past}
 use Rattle.std.proofs.lemmas.Nat.{pow_pos}
 use Rattle.nb_core.specs.Plans.{IsPlan, Plan, generations_of, size_of}
 use Rattle.nb_map.specs.Looking.{get_steps, look_steps, looked_below}
-use Rattle.nb_map.specs.Searching.{slots_below}
+use Rattle.nb_map.specs.Searching.{pass_steps, slots_below}
 use Rattle.nb_core.proofs.Theorems.{sizes_never_fall}
 
 -- no table is larger than the last one
@@ -61,6 +61,18 @@ looked-most p (suc m) g below = elim (less-or-same g m below) [
   where
     less-or-same : (a b : ℕ) → a ≤ suc b → (a ≤ b) ⊎ (a ≡ suc b)
     less-or-same a b below = grind (arith, below)
+
+-- the same, where the first look begins at the key's slot
+pub get_at-bound :
+    (p : Plan) → IsPlan p → (g : ℕ) → g < generations_of p → pass_steps p g + 1 + looked_below p (generations_of p) ≤ get_steps p
+get_at-bound p plan g table =
+    let looked = looked-few p plan (generations_of p) (le_refl (generations_of p)) in
+    let most = looked-most p (generations_of p) (suc g) table in
+    fits (looked_below p (generations_of p)) (pass_steps p g) (slots_below p (generations_of p)) (generations_of p) (size_of p (generations_of p - 1)) looked
+    (omega (arith, most))
+  where
+    fits : (looked pass t tables n : ℕ) → looked ≤ t + tables * (2 * n + 10) → pass + 1 ≤ looked → pass + 1 + looked ≤ 8 * (t + tables) * (n + 8)
+    fits looked pass t tables n a b = omega (arith, a, b)
 
 -- a read looks at each table once at most, after three loads
 pub get-bound :

@@ -16,13 +16,13 @@ use Rattle.nb_table.specs.Chains.{ChainOf, Extended, IsOwn, SeenBy, seen_by}
 use Rattle.nb_copy.specs.Handing.{HasCompleted, table_steps}
 use Rattle.nb_map.proofs.Made.{made-copied, made-more, made-none, made-quiet, made-step, made-within, slot-below-lasts}
 use Rattle.nb_map.specs.Calling.{HasMade, IsBeforeNext, replied}
-use Rattle.nb_map.specs.Searching.{read_at, walk_steps}
+use Rattle.nb_map.specs.Searching.{read_at, probe_steps}
 use Rattle.nb_map.specs.Writing.{HasBelow, IsFound, find_steps, grow_steps, owed_below, steps_below}
 use Rattle.nb_map.specs.declared.claim.Below.{Below}
 use Rattle.nb_map.specs.declared.claim.Below.TheVariants.{Complete, HasKey, Passed}
 use Rattle.nb_map.specs.declared.claim.Found.TheVariants.{Above, Full}
-use Rattle.nb_map.specs.declared.search.Place.{Place}
-use Rattle.nb_map.specs.declared.search.Place.TheVariants as place
+use Rattle.nb_map.specs.declared.search.PathEnd.{PathEnd}
+use Rattle.nb_map.specs.declared.search.PathEnd.TheVariants as ends
 use Rattle.nb_core.proofs.Theorems.{complete_passed, linked, whole_crowded}
 
 -- a table below that isn't known to be complete is owed all its steps
@@ -168,11 +168,11 @@ behind-fits p plan g d table near =
     omega (arith, most, near)
 
 -- a walk of a call that puts a number at an absent key is no read
-read-never : (p : Plan) (g : ℕ) (call : Call) (place : Place) → leaves_alone call None ≡ false → read_at p g call place ≡ []
-read-never p g call (place.Slot i) acts = refl
-read-never p g call (place.Empty d) acts = ap (λ b. cond b (replied call None) []) acts
-read-never p g call place.Closed acts = refl
-read-never p g call place.Whole acts =
+read-never : (p : Plan) (g : ℕ) (call : Call) (end : PathEnd) → leaves_alone call None ≡ false → read_at p g call end ≡ []
+read-never p g call (ends.Slot i) acts = refl
+read-never p g call (ends.Empty d) acts = ap (λ b. cond b (replied call None) []) acts
+read-never p g call ends.Closed acts = refl
+read-never p g call ends.Whole acts =
     ap (λ b. cond (suc g == generations_of p) (cond b (replied call None) []) []) acts ∙ none (suc g == generations_of p)
   where
     none : (b : Bool) → cond {A = List (Call × Reply)} b [] [] ≡ []
@@ -183,7 +183,7 @@ read-never p g call place.Whole acts =
 
 -- The walk of a call along the key's path has come so far: it made no read. Its steps are few, together with those that the
 -- table below may still cost.
-pub record HasWalked (p : Plan) (call : Call) (before after : SeenBy) (g from : ℕ) (below : Below) : Type 0 where
+pub record HasProbed (p : Plan) (call : Call) (before after : SeenBy) (g from : ℕ) (below : Below) : Type 0 where
   pub most : ℕ
   pub made : HasMade p call before after [] most
   pub few : most + owed_below p g below ≤ 3 * from + steps_below p g
@@ -191,7 +191,7 @@ pub record HasWalked (p : Plan) (call : Call) (before after : SeenBy) (g from : 
 -- it begins with no step
 pub walked-none :
     (chain : ChainOf) (call : Call) (seat : SeenBy) → IsOwn chain seat → (g : ℕ) (below : Below)
-    → HasWalked chain.shape call seat seat g 0 below
+    → HasProbed chain.shape call seat seat g 0 below
 walked-none chain call seat own g below = record {
   most = 0;
   made = made-none chain call seat own;
@@ -228,17 +228,17 @@ module _ (chain : ChainOf) where
   -- a walk that goes on makes no read
   pub walked-to :
       {call : Call} {before then after : SeenBy} {g from : ℕ} {below : Below} → IsOwn chain before → leaves_alone call None ≡ false
-      → (walked : HasWalked q call before then g from below) (place : Place)
-      → HasMade q call then after (read_at q g call place) (walk_steps q g from place)
-      → HasMade q call before after [] (walked.most + walk_steps q g from place)
-  walked-to {call} {before} {then} {after} {g} {from} own acts walked place made =
+      → (walked : HasProbed q call before then g from below) (end : PathEnd)
+      → HasMade q call then after (read_at q g call end) (probe_steps q g from end)
+      → HasMade q call before after [] (walked.most + probe_steps q g from end)
+  walked-to {call} {before} {then} {after} {g} {from} own acts walked end made =
       made-more chain own walked.made
-      (subst (λ reads. HasMade q call then after reads (walk_steps q g from place)) (read-never q g call place acts) made)
+      (subst (λ reads. HasMade q call then after reads (probe_steps q g from end)) (read-never q g call end acts) made)
 
   -- where it ends in this table
   pub walked-here :
       {call : Call} {before then after : SeenBy} {g from : ℕ} {below : Below} → from ≤ size_of q g
-      → (walked : HasWalked q call before then g from below)
+      → (walked : HasProbed q call before then g from below)
       → HasMade q call before after [] (walked.most + (size_of q g - from)) → HasMade q call before after [] (find_steps q g)
   walked-here {g = g} {from} {below} within walked made =
       made-within (walked.most + (size_of q g - from)) (find_steps q g)
@@ -247,7 +247,7 @@ module _ (chain : ChainOf) where
   -- where other keys have the whole path
   pub walked-whole :
       {call : Call} {before then whole after : SeenBy} {g from : ℕ} {below : Below} → IsOwn chain before → from ≤ size_of q g
-      → (walked : HasWalked q call before then g from below) → HasMade q call before whole [] (walked.most + (size_of q g - from))
+      → (walked : HasProbed q call before then g from below) → HasMade q call before whole [] (walked.most + (size_of q g - from))
       → HasMade q call whole after [] (grow_steps q g below) → HasMade q call before after [] (find_steps q g)
   walked-whole {g = g} {from} {below} own within walked made left =
       made-within (walked.most + (size_of q g - from) + grow_steps q g below) (find_steps q g)
@@ -257,7 +257,7 @@ module _ (chain : ChainOf) where
   -- where a slot was empty and the table below is settled, and the call ends there
   pub walked-claimed :
       {call : Call} {before then settled after : SeenBy} {g from : ℕ} {below : Below} (below' : Below) (d : ℕ) → IsOwn chain before
-      → from ≤ size_of q g → d < size_of q g → owed_below q g below' ≤ owed_below q g below → (walked : HasWalked q call before then g from below)
+      → from ≤ size_of q g → d < size_of q g → owed_below q g below' ≤ owed_below q g below → (walked : HasProbed q call before then g from below)
       → HasMade q call before settled [] (walked.most + (d + 1 - from) + (owed_below q g below - owed_below q g below'))
       → HasMade q call settled after [] (2 + grow_steps q g below') → HasMade q call before after [] (find_steps q g)
   walked-claimed {g = g} {from} {below} below' d own within near fewer walked made claimed =
@@ -269,9 +269,9 @@ module _ (chain : ChainOf) where
   -- or goes on behind the slot
   pub walked-behind :
       {call : Call} {before then settled after : SeenBy} {g from : ℕ} {below : Below} (below' : Below) (d : ℕ) → IsOwn chain before
-      → from ≤ d → owed_below q g below' ≤ owed_below q g below → (walked : HasWalked q call before then g from below)
+      → from ≤ d → owed_below q g below' ≤ owed_below q g below → (walked : HasProbed q call before then g from below)
       → HasMade q call before settled [] (walked.most + (d + 1 - from) + (owed_below q g below - owed_below q g below'))
-      → HasMade q call settled after [] 2 → HasWalked q call before after g (d + 1) below'
+      → HasMade q call settled after [] 2 → HasProbed q call before after g (d + 1) below'
   walked-behind {g = g} {from} {below} below' d own ahead fewer walked made lost = record {
     most = walked.most + (d + 1 - from) + (owed_below q g below - owed_below q g below') + 2;
     made = made-more chain own made lost;

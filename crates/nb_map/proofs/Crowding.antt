@@ -1,5 +1,5 @@
 -- A map can be full for a key only where calls filled as many other keys as the last table has slots.
-use Rattle.std.proofs.Common.{◌≡◌, ◌≢◌, ◌∙◌, ◌==◌, ◌≤◌, ◌<◌, ◌-◌, ◌⊎◌, ◌||◌, not, Bool, true, false, cond, eqb, ℕ, zero, suc, List, [], ◌∷◌, ◌++◌, map, filter, length, get_or, slice_index, ap, sym, subst, refl, inl, inr, arith}
+use Rattle.std.proofs.Common.{◌≡◌, ◌≢◌, ◌∙◌, ◌==◌, ◌≤◌, ◌<◌, ◌-◌, ◌||◌, not, Bool, true, false, cond, eqb, ℕ, zero, suc, List, [], ◌∷◌, ◌++◌, map, filter, length, get_or, slice_index, ap, sym, subst, refl, inl, inr, arith}
 use Rattle.std.specs.List.{All, list_any, range_with_len}
 use Rattle.std.specs.Set.{is_member, unique_keys}
 use Rattle.std.specs.Cmp.{nat_eq_equiv}
@@ -15,7 +15,7 @@ use Rattle.nb_core.specs.Laws.{IsKeyChange, Lasts}
 use Rattle.nb_core.specs.Meaning.{IsCrowded}
 use Rattle.nb_core.specs.Plans.{IsPlan, Plan, generations_of, key_place, size_of, word_count}
 use Rattle.nb_core.specs.States.{key_state}
-use Rattle.nb_core.specs.Tables.{HasSlot, HasSlotBelow, IsSlot, Tables, tables_at, words_of}
+use Rattle.nb_core.specs.Tables.{HasSlot, IsSlot, Tables, tables_at, words_of}
 use Rattle.nb_core.specs.declared.calls.Call.{Call}
 use Rattle.nb_core.specs.declared.events.Event.{Event}
 use Rattle.nb_core.specs.declared.events.Event.TheVariants.{Claim, Kill, Won, CopyIn, Prime, Finish, Install, Take, Count, Promote, Read}

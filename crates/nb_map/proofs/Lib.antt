@@ -4,14 +4,18 @@ mod Claimed
 mod Counted
 mod Crowding
 mod Dealt
+mod Earlier
 mod Exchanged
 mod Home
 mod Logged
 mod Made
 mod Parted
+mod Passing
 mod Rounds
 mod Searched
 mod Sizes
 pub mod Theorems
 mod Turned
+mod Walked
 mod Written
+mod WholeWalk

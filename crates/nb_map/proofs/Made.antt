@@ -1,12 +1,12 @@
 -- What the steps of a call add up to.
-use Rattle.std.proofs.Common.{◌≡◌, ◌∙◌, ℕ, suc, zero, ◌+◌, ◌==◌, ◌≤◌, ◌<◌, Bool, true, false, cond, List, [], ◌∷◌, ◌++◌, length, Option, Some, None, ap, sym, subst, refl, inl, inr, arith}
+use Rattle.std.proofs.Common.{◌≡◌, ◌∙◌, ℕ, suc, zero, ◌+◌, ◌≤◌, ◌<◌, Bool, true, false, cond, List, [], ◌∷◌, ◌++◌, length, Option, Some, None, ap, sym, subst, refl, inl, inr, arith}
 use Rattle.std.specs.List.{All}
 use Rattle.std.proofs.lemmas.Bool.{eq-eqb}
 use Rattle.std.proofs.lemmas.List.{append_assoc}
 use Rattle.std.proofs.lemmas.List.Elements.{All-append, All-cons, All-head, All-nil, All-tail, All-weaker, filter_map-append}
 use Rattle.nb_core.specs.Calls.{leaves_alone}
 use Rattle.nb_core.specs.Log.{calls_of, entry_of, log_of, reply_at}
-use Rattle.nb_core.specs.History.{counts, key_of_call, turned_slot}
+use Rattle.nb_core.specs.History.{counts, turned_slot}
 use Rattle.nb_core.specs.Laws.{Lasts}
 use Rattle.nb_core.specs.Plans.{Plan, generations_of}
 use Rattle.nb_core.specs.Tables.{HasSlotBelow, Tables, tables_at}
@@ -51,13 +51,13 @@ copying-may p before after g call next e may = tt
 -- ---- what a call may make it may make in more steps
 
 -- beginnings of a history
-begins-itself : (h : List Event) → IsBeginning h h
+pub begins-itself : {A : Type 0} (h : List A) → IsBeginning h h
 begins-itself h = record { later = []; is = refl }
 
-begins-more : {x y z : List Event} → IsBeginning x y → IsBeginning y z → IsBeginning x z
+pub begins-more : {A : Type 0} {x y z : List A} → IsBeginning x y → IsBeginning y z → IsBeginning x z
 begins-more {x} a b = record { later = b.later ++ a.later; is = b.is ∙ ap (λ h. b.later ++ h) a.is ∙ sym (append_assoc b.later a.later x) }
 
-begins : {p : Plan} {before after : SeenBy} {own : List Event} {count : ℕ} → Grown p before after own count → IsBeginning before.seen after.seen
+pub begins : {p : Plan} {before after : SeenBy} {own : List Event} {count : ℕ} → Grown p before after own count → IsBeginning before.seen after.seen
 begins grown = record { later = grown.later; is = grown.seen }
 
 pub slot-below-lasts : (p : Plan) (t u : Tables) → Lasts p t u → (g k : ℕ) → g < generations_of p → HasSlotBelow p t g k → HasSlotBelow p u g k

@@ -6,7 +6,7 @@ use Rattle.std.proofs.lemmas.List.Elements.{All-get_or}
 use Rattle.std.proofs.lemmas.List.{append-nil}
 use Rattle.nb_core.specs.Calls.{leaves_alone}
 use Rattle.nb_core.specs.History.{key_of_call}
-use Rattle.nb_core.specs.Tables.{AtSlot, IsPassed, AreOthers, IsComplete, IsFinished, IsFinishedValue, IsInstalled, IsOnPath, IsOther, IsReady, IsSlot, IsUnprimed, Tables, path_slot}
+use Rattle.nb_core.specs.Tables.{AtSlot, IsPassed, AreOthers, IsComplete, IsFinished, IsInstalled, IsOnPath, IsOther, IsReady, IsSlot, IsUnprimed, Tables, UpToDead, path_slot}
 use Rattle.nb_core.specs.Laws.{Lasts}
 use Rattle.nb_core.specs.Plans.{IsPlan, Plan, generations_of, size_of}
 use Rattle.nb_core.specs.declared.calls.Call.{Call}
@@ -19,7 +19,7 @@ use Rattle.nb_table.specs.Conditions.{IsReached}
 use Rattle.nb_table.specs.Events.{is_last_slot, read, shown_by_key, shown_by_value}
 use Rattle.nb_map.proofs.Made.{made-more, made-read, made-within, read_shown}
 use Rattle.nb_map.specs.Calling.{HasMade, read_of, replied}
-use Rattle.nb_map.specs.Searching.{IsAbove}
+use Rattle.nb_map.specs.Searching.{IsAbove, IsClosedTo}
 use Rattle.nb_core.proofs.Theorems.{complete_passed, linked, paths_are_distinct, top_complete}
 
 -- a table that is there is one of the plan's
@@ -106,6 +106,10 @@ pub ready-top :
 ready-top chain seat own zero is = tt
 ready-top chain seat own (suc g) is =
     complete-below chain seat own (suc g) is g (omega arith)
+
+-- it goes on above where the key's path is closed
+pub closed-above : (p : Plan) (t : Tables) (g k : ℕ) → IsClosedTo p t g k → IsInstalled t (suc g) → IsAbove p t g k
+closed-above p t g k closed next = (UpToDead closed.0 closed.1 closed.2 closed.3, next)
 
 -- and go on in the next table
 pub reached-above : (p : Plan) (t : Tables) (g k : ℕ) → IsReached p t g k → IsAbove p t g k → IsReached p t (suc g) k

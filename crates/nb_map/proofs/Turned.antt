@@ -1,19 +1,17 @@
 -- What the steps of a call turn finished, and what they count.
-use Rattle.std.proofs.Common.{◌≡◌, ◌≢◌, ◌∙◌, ℕ, ◌+◌, ◌==◌, ◌&&◌, ◌⊎◌, Bool, true, false, cond, List, [], ◌∷◌, ◌++◌, length, Option, Some, None, ap, sym, subst, refl, inl, inr, arith}
+use Rattle.std.proofs.Common.{◌≡◌, ◌≢◌, ◌∙◌, ℕ, ◌+◌, ◌==◌, ◌⊎◌, Bool, true, false, cond, List, [], ◌∷◌, ◌++◌, length, None, ap, sym, subst, refl, inl, inr, arith}
 use Rattle.std.specs.List.{All}
-use Rattle.std.specs.Option.{option_map_or}
-use Rattle.std.proofs.Math.Bool.{and-false}
 use Rattle.std.proofs.lemmas.Bool.Decides.{nat_tests}
 use Rattle.std.proofs.lemmas.List.{length-append}
 use Rattle.std.proofs.lemmas.List.Elements.{All-head, All-tail}
-use Rattle.nb_core.specs.History.{counted_by, counts, seat_of_event, turned_by, turned_slot, turns}
+use Rattle.nb_core.specs.History.{counted_by, counts, seat_of_event, slot_in, slots_turned, turned_by, turned_in, turned_slot}
 use Rattle.nb_core.specs.Plans.{Plan}
 use Rattle.nb_core.specs.Tables.{Tables, tables_at}
 use Rattle.nb_core.specs.declared.events.Event.{Event}
 use Rattle.nb_core.specs.declared.events.Event.TheVariants.{Kill, Prime, Finish, Count}
 use Rattle.nb_core.proofs.Theorems.{own_lasts}
 use Rattle.nb_table.specs.Chains.{Extended, SeenBy, own_events}
-use Rattle.nb_copy.specs.Copying.{HasCopied, IsCopying, slot_in, slots_turned}
+use Rattle.nb_copy.specs.Copying.{HasCopied, IsCopying}
 use Rattle.nb_map.specs.Calling.{HasCountedTurned}
 
 -- one moment after another
@@ -40,7 +38,8 @@ pub counted-apart :
     → ((g : ℕ) → counts e before.number g ≡ 0) → HasCountedTurned p before.number before.seen after.seen
 counted-apart {p} {before} {after} {e} step turned counted =
     subst (HasCountedTurned p s before.seen) (sym step.seen)
-    (counted-more p s before.seen met (e ∷ met) (counted-others p s step.others before.seen step.not_own) (λ g. omega (arith, none g, counted g)))
+    (counted-more p s before.seen met (e ∷ met) (counted-others p s step.others before.seen step.not_own)
+    (λ g. omega (arith, ap length (none g), length-append (turned_in p met e s g) (slots_turned p met s g), counted g)))
   where
     s : ℕ
     s = before.number
@@ -48,10 +47,12 @@ counted-apart {p} {before} {after} {e} step turned counted =
     met : List Event
     met = step.others ++ before.seen
 
-    none : (g : ℕ) → cond {A = ℕ} (turns p met e s g) 1 0 ≡ 0
-    none g =
-        ap (λ slot. cond (seat_of_event e == s && option_map_or (λ slot. slot.0 == g) slot false) 1 0) (turned met)
-        ∙ ap (λ b. cond b 1 0) (and-false (seat_of_event e == s))
+    cond-same : (b : Bool) → cond {A = List ℕ} b [] [] ≡ []
+    cond-same true = refl
+    cond-same false = refl
+
+    none : (g : ℕ) → turned_in p met e s g ≡ []
+    none g = ap (λ slot. cond (seat_of_event e == s) (slot_in g slot) []) (turned met) ∙ cond-same (seat_of_event e == s)
 
 -- ---- copying
 
@@ -60,28 +61,19 @@ pub one-if : (turned : Bool) (i : ℕ) → cond turned 1 0 ≡ length (cond turn
 one-if true i = refl
 one-if false i = refl
 
--- a seat's events turned as many slots as there are in their list
-turned-length : (p : Plan) (h : List Event) (s g : ℕ) → turned_by p h s g ≡ length (slots_turned p h s g)
-turned-length p [] s g = refl
-turned-length p (e ∷ h) s g =
-    let rest = turned-length p h s g in
-    let new = cond (seat_of_event e == s) (slot_in g (turned_slot p h e)) [] in
-    omega (arith, rest, one (seat_of_event e == s) (turned_slot p h e), length-append new (slots_turned p h s g))
-  where
-    one : (b : Bool) (slot : Option (ℕ × ℕ)) → cond (b && option_map_or (λ s. s.0 == g) slot false) 1 0 ≡ length (cond b (slot_in g slot) [])
-    one false slot = refl
-    one true None = refl
-    one true (Some slot) = one-if (slot.0 == g) slot.1
-
 -- copying one table counts nothing of another, and turns nothing
 module _ (p : Plan) (t : Tables) (s g f : ℕ) (other : g ≢ f) where
   elsewhere :
-      (e : Event) (h : List Event) → ((seat_of_event e == s) ≡ true → IsCopying p t g e) → counts e s f ≡ cond (turns p h e s f) 1 0
+      (e : Event) (h : List Event) → ((seat_of_event e == s) ≡ true → IsCopying p t g e) → counts e s f ≡ length (turned_in p h e s f)
   elsewhere (Kill s' table i) h copying = grind (arith, nat_tests, other, copying)
   elsewhere (Prime s' table i) h copying = grind (arith, nat_tests, other, copying)
   elsewhere (Finish s' table i) h copying = grind (arith, nat_tests, other, copying)
   elsewhere (Count s' table c) h copying = grind (arith, nat_tests, other, copying)
-  elsewhere e h copying = ap (λ b. cond b 1 0) (sym (and-false (seat_of_event e == s)))
+  elsewhere e h copying = none (seat_of_event e == s)
+    where
+      none : (b : Bool) → 0 ≡ length (cond {A = List ℕ} b [] [])
+      none true = refl
+      none false = refl
 
   counted-away :
       (later h : List Event) → All (IsCopying p t g) (own_events s later)
@@ -89,7 +81,7 @@ module _ (p : Plan) (t : Tables) (s g f : ℕ) (other : g ≢ f) where
   counted-away [] h copying = refl
   counted-away (e ∷ later) h copying =
       let both = parts (seat_of_event e == s) copying in
-      omega (arith, counted-away later h both.1, elsewhere e (later ++ h) both.0)
+      omega (arith, counted-away later h both.1, elsewhere e (later ++ h) both.0, length-append (turned_in p (later ++ h) e s f) (slots_turned p (later ++ h) s f))
     where
       P : Event → Type 0
       P = IsCopying p t g
@@ -121,8 +113,6 @@ counted-copied {p} {before} {after} {g} {slots} {adding = adding} all copied f =
       arith,
       all,
       copied.counted,
-      turned-length p before.seen s g,
-      turned-length p after.seen s g,
       ap length copied.turned,
       length-append slots (slots_turned p before.seen s g),
     )

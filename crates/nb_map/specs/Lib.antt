@@ -9,3 +9,4 @@ pub mod Logs
 pub mod Maps
 pub mod Inside
 pub mod Ending
+pub mod Walks

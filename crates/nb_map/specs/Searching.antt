@@ -4,11 +4,11 @@ use Rattle.nb_core.specs.Tables.{IsPassed, AreOthers, IsInstalled, Tables, path_
 use Rattle.nb_core.specs.Plans.{Plan, generations_of, size_of}
 use Rattle.nb_core.specs.declared.calls.Call.{Call}
 use Rattle.nb_core.specs.declared.calls.Reply.{Reply}
-use Rattle.nb_core.specs.declared.states.KeyState.TheVariants.{Claimed, Empty}
+use Rattle.nb_core.specs.declared.states.KeyState.TheVariants.{Claimed, Dead, Empty}
 use Rattle.nb_copy.specs.Handing.{slot_steps}
 use Rattle.nb_map.specs.Calling.{read_of, replied}
-use Rattle.nb_map.specs.declared.search.Place.{Place}
-use Rattle.nb_map.specs.declared.search.Place.TheVariants as place
+use Rattle.nb_map.specs.declared.search.PathEnd.{PathEnd}
+use Rattle.nb_map.specs.declared.search.PathEnd.TheVariants as ends
 use Rattle.nb_map.specs.declared.search.Sought.{Sought}
 use Rattle.nb_map.specs.declared.search.Sought.TheVariants as sought
 
@@ -20,26 +20,30 @@ IsAbove p t g k = IsPassed p t g k × IsInstalled t (suc g)
 abbrev pub IsSlotOf : Plan → Tables → (g i k : ℕ) → Type 0
 IsSlotOf p t g i k = (i < size_of p g) × (t.key g i ≡ Claimed k)
 
--- the tables show that a walk along the key's path in this table ends here
-abbrev pub EndsAt : Plan → Tables → (g k : ℕ) → Place → Type 0
-EndsAt p t g k (place.Slot i) = IsSlotOf p t g i k
-EndsAt p t g k (place.Empty d) = (d < size_of p g) × AreOthers p t g k d × (t.key g (path_slot p g k d) ≡ Empty)
-EndsAt p t g k place.Closed = IsAbove p t g k
-EndsAt p t g k place.Whole = AreOthers p t g k (size_of p g)
+-- the key's path in this table is closed, behind slots of other keys
+abbrev pub IsClosedTo : Plan → Tables → (g k : ℕ) → Type 0
+IsClosedTo p t g k = (d : ℕ) × (d < size_of p g) × AreOthers p t g k d × (t.key g (path_slot p g k d) ≡ Dead)
 
--- the read that the walk was, for a call that leaves an absent key alone: at an empty slot, and at the end of the last table
-abbrev pub read_at : Plan → ℕ → Call → Place → List (Call × Reply)
-read_at p g call (place.Slot i) = []
-read_at p g call (place.Empty d) = read_of call None
-read_at p g call place.Closed = []
-read_at p g call place.Whole = if suc g == generations_of p then read_of call None else []
+-- the tables show that a probe of the key's path in this table ends here
+abbrev pub EndsAt : Plan → Tables → (g k : ℕ) → PathEnd → Type 0
+EndsAt p t g k (ends.Slot i) = IsSlotOf p t g i k
+EndsAt p t g k (ends.Empty d) = (d < size_of p g) × AreOthers p t g k d × (t.key g (path_slot p g k d) ≡ Empty)
+EndsAt p t g k ends.Closed = IsClosedTo p t g k × IsInstalled t (suc g)
+EndsAt p t g k ends.Whole = AreOthers p t g k (size_of p g)
 
--- the most steps of a walk from a distance on: a load for each slot
-abbrev pub walk_steps : Plan → (g from : ℕ) → Place → ℕ
-walk_steps p g from (place.Slot i) = size_of p g - from
-walk_steps p g from (place.Empty d) = d + 1 - from
-walk_steps p g from place.Closed = size_of p g - from
-walk_steps p g from place.Whole = size_of p g - from
+-- the read that the probe was, for a call that leaves an absent key alone: at an empty slot, and at the end of the last table
+abbrev pub read_at : Plan → ℕ → Call → PathEnd → List (Call × Reply)
+read_at p g call (ends.Slot i) = []
+read_at p g call (ends.Empty d) = read_of call None
+read_at p g call ends.Closed = []
+read_at p g call ends.Whole = if suc g == generations_of p then read_of call None else []
+
+-- the most steps of a probe from a distance on: a load for each slot
+abbrev pub probe_steps : Plan → (g from : ℕ) → PathEnd → ℕ
+probe_steps p g from (ends.Slot i) = size_of p g - from
+probe_steps p g from (ends.Empty d) = d + 1 - from
+probe_steps p g from ends.Closed = size_of p g - from
+probe_steps p g from ends.Whole = size_of p g - from
 
 -- the tables show what a search in this table came to
 abbrev pub IsSought : Plan → Tables → (g k : ℕ) → Sought → Type 0

@@ -12,7 +12,7 @@ ghost use Rattle.nb_map.specs.Looking.{IsHomeSlot};
 ghost use Rattle.nb_map.specs.Writing.{HasBelow, IsFound, find_steps, grow_steps, owed_below};
 ghost use Rattle.nb_map.specs.declared.claim.Below.TheVariants as below_is;
 
-use crate::search::{Place, walk_path};
+use crate::search::{PathEnd, probe};
 use nb_copy::complete;
 use nb_core::{Call, Key, KeyState};
 use nb_table::{Chain, ChainSeat};
@@ -62,11 +62,11 @@ pub(crate) fn find_or_claim(
     let mut below = below;
     let mut from = 0;
     loop {
-        match walk_path(chain, seat, g, key, call, from) {
-            Place::Slot(i) => return Found::Slot(i),
-            Place::Closed => return Found::Above(Below::Passed),
-            Place::Whole => return leave_whole(chain, seat, g, key, call, below),
-            Place::Empty(distance) => {
+        match probe(chain, seat, g, key, call, from) {
+            PathEnd::Slot(i) => return Found::Slot(i),
+            PathEnd::Closed => return Found::Above(Below::Passed),
+            PathEnd::Whole => return leave_whole(chain, seat, g, key, call, below),
+            PathEnd::Empty(distance) => {
                 below = settle_below(chain, seat, g, below);
                 match claim_at(chain, seat, g, key, call, below, distance) {
                     Some(found) => return found,

@@ -116,6 +116,21 @@ fn get_from(
     unreachable!()
 }
 
+/// What the map has at a key, from its slot `i` of table `g` on: in the common case by one load.
+#[inline]
+pub(crate) fn get_at(chain: &Chain, seat: &mut ChainSeat, g: u32, i: usize, key: Key) -> Option<Num>
+    requires own { IsOwn chain.now seat.old }
+    requires slot { IsSlot chain.now.shape g i }
+    requires claimed { (seen_by chain.now.shape seat.old).key g i ≡ key_is.Claimed key }
+    requires reached { IsReached chain.now.shape (seen_by chain.now.shape seat.old) g key }
+    ensures made { HasMade chain.now.shape (call.Get key) seat.old seat.new (replied (call.Get key) result) (get_steps chain.now.shape) }
+{
+    match look_at(chain, seat, g, i, key) {
+        Look::Shows(number) => number,
+        Look::Above => get_from(chain, seat, g + 1, key, 0),
+    }
+}
+
 /// What table `g` shows of a key, from a distance of its path on.
 #[tactic(auto, using(nb_core::proofs::Theorems::linked))]
 fn look_in(chain: &Chain, seat: &mut ChainSeat, g: u32, key: Key, from: usize) -> Look

@@ -2,6 +2,7 @@
 //! the gate guards it; nobody calls it. A crate above takes the laws as theorems, from `proofs/Theorems.antt`.
 ghost use Rattle.nb_map.specs.Crowding.{AsksAddUp, CrowdedByCalls};
 ghost use Rattle.nb_map.specs.Laws.{LogsAddUp};
+ghost use Rattle.nb_map.specs.Walks.{WalkLasts, WholeWalk};
 
 /// Calls add up: what a seat's log was, and which calls it made.
 pub fn logs_add_up()
@@ -16,4 +17,14 @@ pub fn asks_add_up()
 /// Only calls on as many other keys as the last table has slots can fill a map for a key.
 pub fn crowded_by_calls()
     ensures { CrowdedByCalls }
+{}
+
+/// A walk is its seat's also after other calls of the seat.
+pub fn walk_lasts()
+    ensures { WalkLasts }
+{}
+
+/// A whole walk shows no key twice, pairs that its seat has read meanwhile, and each key that the map has all the while.
+pub fn whole_walk()
+    ensures { WholeWalk }
 {}

@@ -16,11 +16,13 @@ mod room;
 mod search;
 pub mod steps;
 mod waiting;
+mod walk;
 mod write;
 
 pub use ended::Ended;
 pub use map::{Map, Seat};
 pub use waiting::{AddFault, Full};
+pub use walk::Walk;
 pub use write::PutFault;
 
 #[cfg(test)]

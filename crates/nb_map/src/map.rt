@@ -1,5 +1,5 @@
 //! The map and its seats.
-ghost use Rattle.std.specs.Prelude.{◌≡◌, ◌+◌, ◌<◌, ◌≤◌, ◌↔◌, ℕ, min, pos, IfOk, IfErr, is_ok, is_some, true, if◌then◌else◌, Option, [], length};
+ghost use Rattle.std.specs.Prelude.{◌≡◌, ◌+◌, ◌<◌, ◌≤◌, ◌↔◌, ℕ, min, pos, IfOk, IfErr, IfSome, is_ok, is_some, true, if◌then◌else◌, Option, [], length};
 ghost use Rattle.nb_core.specs.Log.{IsBeginning, reply_at};
 ghost use Rattle.nb_core.specs.Meaning.{net_of_change};
 ghost use Rattle.nb_core.specs.Plans.{IsPlan};
@@ -12,18 +12,21 @@ ghost use Rattle.nb_map.specs.Ending.{EndedWith, HasTablesLeft};
 ghost use Rattle.nb_map.specs.Logs.{HasLogged, HasReplied, log};
 ghost use Rattle.nb_map.specs.Maps.{AreMine, HasWorked, IsMine, accounted, seats_of};
 ghost use Rattle.nb_map.specs.Refusing.{IsJust, put_steps};
+ghost use Rattle.nb_map.specs.Walks.{HasRead, HasWalked, IsWalkOf, begun_by, passing_steps, slots_from};
 ghost use Rattle.nb_map.specs.Writing.{IsSeenAlone, passed_since};
 
 use crate::ended::{Ended, parted};
 use crate::get::get_in;
 use crate::pause::NoPause;
 use crate::room::Room;
+use crate::walk::{Place, Walk, next_from};
 use crate::write::{PutFault, put_if_match_in};
 use nb_core::{Change, Key, NotAll, Num, OutOfMemory, Reply, Shape, Want};
 use nb_count::{CountSeat, Counter};
 use nb_table::{Chain, ChainSeat};
 use std::alloc::Global;
 use std::marker::Model;
+use std::snapshot::Snapshot;
 use std::sync::Mutex;
 
 /// A map from whole numbers to whole numbers, which many threads share. Contracts see its chain of tables and its counter.
@@ -205,6 +208,46 @@ impl Map {
         ensures own { IsMine self.now seat.new }
     {
         self.counter.estimate(&mut seat.count)
+    }
+
+    /// Begins a walk over the map's keys in the table that is the top one now, by one load of the top word.
+    pub fn walk(&self, seat: &mut Seat) -> Walk
+        requires own { IsMine self.now seat.old }
+        ensures logged { HasLogged seat.old seat.new [] }
+        ensures begun { result ≡ begun_by self.now seat.new }
+        ensures walk { IsWalkOf self.now seat.new result }
+        ensures grows { Extended self.now.chain.shape seat.old.chain seat.new.chain [] 1 }
+        ensures count { seat.new.count ≡ seat.old.count }
+        ensures own { IsMine self.now seat.new }
+    {
+        let first = self.generation(seat);
+        Walk {
+            first,
+            place: Place::Slot(first, 0),
+            begun: Snapshot::of(seat),
+        }
+    }
+
+    /// The next key of a walk that this seat has begun, with its number: `while let Some((key, number)) =
+    /// map.next_key(&mut seat, &mut walk)` goes through the map while others write it. Each pair that is shown is a `get` of
+    /// this seat with its place in the log; no key is shown twice; and from `walk` to the `None` that ends it, each key that the
+    /// map has all the while is shown (`laws::whole_walk`). A key that comes or goes meanwhile may be shown or not. After `None`
+    /// it answers `None` for ever.
+    ///
+    /// Where no table is being copied, a slot costs one load and a key one more. All calls of a walk together make at most
+    /// T (T + B + 4) steps on the chain, whose tables have T slots and a `get` at most B steps.
+    pub fn next_key(&self, seat: &mut Seat, walk: &mut Walk) -> Option<(Key, Num)>
+        requires own { IsMine self.now seat.old }
+        requires walk { IsWalkOf self.now seat.old walk.old }
+        ensures read { HasRead seat.old seat.new result }
+        ensures walked { HasWalked self.now.chain.shape seat.old seat.new walk.old walk.new result }
+        ensures worked { (key : ℕ) → HasWorked self.now (call.Get key) seat.old seat.new
+            (passing_steps self.now.chain.shape walk.old.place walk.new.place) }
+        ensures ahead { IfSome result (λ pair. slots_from self.now.chain.shape walk.new.place < slots_from self.now.chain.shape walk.old.place) }
+        ensures walk { IsWalkOf self.now seat.new walk.new }
+        ensures own { IsMine self.now seat.new }
+    {
+        next_from(&self.chain, &mut seat.chain, walk.first, &mut walk.place)
     }
 
     /// Lets each of two seats see all that the other has seen. Each makes one step, a load of the top word, and two loads

@@ -9,15 +9,15 @@ ghost use Rattle.nb_core.specs.declared.states.KeyState.TheVariants as key_is;
 ghost use Rattle.nb_table.specs.Chains.{IsOwn, seen_by};
 ghost use Rattle.nb_table.specs.Conditions.{IsReached};
 ghost use Rattle.nb_map.specs.Calling.{HasMade};
-ghost use Rattle.nb_map.specs.Searching.{EndsAt, IsAbove, IsSought, pass_steps, read_at, read_sought, walk_steps};
+ghost use Rattle.nb_map.specs.Searching.{EndsAt, IsAbove, IsSought, pass_steps, read_at, read_sought, probe_steps};
 
 use nb_copy::copy_and_count;
 use nb_core::{Call, Key, KeyState, ValueState};
 use nb_table::{Chain, ChainSeat};
 
-/// Where a walk along a key's path in a table ends.
+/// Where a probe of a key's path in a table ends.
 #[derive(Clone, Copy)]
-pub(crate) enum Place {
+pub(crate) enum PathEnd {
     /// At the key's own slot.
     Slot(usize),
     /// At an empty slot, at this distance on the path.
@@ -39,17 +39,17 @@ pub(crate) enum Sought {
     Above,
 }
 
-/// Walks along the path of a call's key in table `g`, from a distance on: one load for each slot. What the walk comes upon may
-/// be the call's read, so only a call that puts a number at an absent key may begin at the path's end.
+/// Probes the path of a call's key in table `g`, from a distance on: one load for each slot. What the probe comes upon may be
+/// the call's read, so only a call that puts a number at an absent key may begin at the path's end.
 #[tactic(auto, using(nb_core::proofs::Theorems::linked))]
-pub(crate) fn walk_path(
+pub(crate) fn probe(
     chain: &Chain,
     seat: &mut ChainSeat,
     g: u32,
     key: Key,
     call: &Call,
     from: usize,
-) -> Place
+) -> PathEnd
     requires own { IsOwn chain.now seat.old }
     requires key { key_of_call call.now ≡ key }
     requires reached { IsReached chain.now.shape (seen_by chain.now.shape seat.old) g key }
@@ -57,7 +57,7 @@ pub(crate) fn walk_path(
     requires others { AreOthers chain.now.shape (seen_by chain.now.shape seat.old) g key from }
     requires start { (from < size_of chain.now.shape g) ⊎ Fills call.now }
     ensures made { HasMade chain.now.shape call.now seat.old seat.new (read_at chain.now.shape g call.now result)
-        (walk_steps chain.now.shape g from result) }
+        (probe_steps chain.now.shape g from result) }
     ensures ends { EndsAt chain.now.shape (seen_by chain.now.shape seat.new) g key result }
     ensures short { (AreOthers chain.now.shape (seen_by chain.now.shape seat.new) g key 1 → ⊥) → seat.new.steps ≤ seat.old.steps + 1 }
 {
@@ -66,14 +66,14 @@ pub(crate) fn walk_path(
         match chain.load_key(seat, g, i, Some(*call)) {
             KeyState::Claimed(other) => {
                 if other == key {
-                    return Place::Slot(i);
+                    return PathEnd::Slot(i);
                 }
             }
-            KeyState::Empty => return Place::Empty(distance),
-            KeyState::Dead => return Place::Closed,
+            KeyState::Empty => return PathEnd::Empty(distance),
+            KeyState::Dead => return PathEnd::Closed,
         }
     }
-    Place::Whole
+    PathEnd::Whole
 }
 
 /// Searches table `g` for the key of a call that leaves an absent key alone, from a distance of the key's path on.
@@ -97,11 +97,11 @@ pub(crate) fn seek(
     ensures sought { IsSought chain.now.shape (seen_by chain.now.shape seat.new) g key result }
     ensures short { (AreOthers chain.now.shape (seen_by chain.now.shape seat.new) g key 1 → ⊥) → seat.new.steps ≤ seat.old.steps + 1 }
 {
-    match walk_path(chain, seat, g, key, call, from) {
-        Place::Slot(i) => Sought::Slot(i),
-        Place::Empty(_) => Sought::Absent,
-        Place::Closed => Sought::Above,
-        Place::Whole => {
+    match probe(chain, seat, g, key, call, from) {
+        PathEnd::Slot(i) => Sought::Slot(i),
+        PathEnd::Empty(_) => Sought::Absent,
+        PathEnd::Closed => Sought::Above,
+        PathEnd::Whole => {
             if g + 1 == chain.shape().generations() {
                 return Sought::Absent;
             }

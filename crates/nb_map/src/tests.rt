@@ -6,3 +6,4 @@ mod rows;
 mod stress;
 mod threads;
 mod visits;
+mod walks;

@@ -6,13 +6,13 @@ use Rattle.nb_table.specs.Chains.{seen_by}
 use Rattle.nb_map.proofs.Claimed.{behind-fits, below-lasts, empty-behind, walked-claimed, walked-here, walked-none, walked-behind, walked-to, walked-whole}
 use Rattle.nb_map.proofs.Home.{home-in, own-ends, own-first}
 use Rattle.nb_map.proofs.Made.{made-more, made-own, made-stays}
-use Rattle.nb_map.proofs.Searched.{reached-lasts, table-within}
+use Rattle.nb_map.proofs.Searched.{closed-above, reached-lasts, table-within}
 use Rattle.nb_map.specs.Calling.{HasMade}
 use Rattle.nb_map.specs.Looking.{IsHomeSlot}
 use Rattle.nb_map.specs.Writing.{HasBelow, owed_below}
-use Rattle.nb_map.specs.declared.search.Place.TheVariants.{Closed, Empty, Slot, Whole}
+use Rattle.nb_map.specs.declared.search.PathEnd.TheVariants.{Closed, Empty, Slot, Whole}
 use Rattle.nb_map.proofs.claim.find_or_claim.Goals as goal
-use Rattle.nb_map.proofs.claim.find_or_claim.Goals.{After-settle_below-below, After-walk_path, In-Empty}
+use Rattle.nb_map.proofs.claim.find_or_claim.Goals.{After-settle_below-below, After-probe, In-Empty}
 
 pub loop-i-init : goal.loop-i-init
 loop-i-init c = record {
@@ -23,8 +23,8 @@ loop-i-init c = record {
   first = λ own. refl;
 }
 
-pub walk_path-requires-clause-reached : goal.walk_path-requires-clause-reached
-walk_path-requires-clause-reached c =
+pub probe-requires-clause-reached : goal.probe-requires-clause-reached
+probe-requires-clause-reached c =
     let chain = c.args.chain.now in
     let table = table-within chain c.args.seat.now c.requires.own c.args.g c.requires.reached.installed in
     reached-lasts chain.shape _ _ (made-stays chain c.requires.own c.loop-i.invariant.walked.made)
@@ -42,27 +42,33 @@ returns-in-Closed-clause-made c =
     walked-here c.args.chain.now c.loop-i.invariant.within walked
     (walked-to c.args.chain.now c.requires.own c.requires.acts walked Closed c.in-Closed.ensures.made)
 
--- the table is there still after the walk, and what is known of the one below is so still
-installed-still : (c : After-walk_path) → IsInstalled (seen_by c.args.chain.now.shape c.walk_path.new.seat) c.args.g
+pub returns-in-Closed-clause-found : goal.returns-in-Closed-clause-found
+returns-in-Closed-clause-found c =
+    let p = c.args.chain.now.shape in
+    let ends = c.in-Closed.ensures.ends in
+    (closed-above p (seen_by p c.probe.new.seat) c.args.g c.args.key ends.0 ends.1, tt)
+
+-- the table is there still after the probe, and what is known of the one below is so still
+installed-still : (c : After-probe) → IsInstalled (seen_by c.args.chain.now.shape c.probe.new.seat) c.args.g
 installed-still c =
     let chain = c.args.chain.now in
     (made-stays chain c.requires.own
-    (walked-to chain c.requires.own c.requires.acts c.loop-i.invariant.walked c.walk_path.result c.walk_path.ensures.made)).installed
+    (walked-to chain c.requires.own c.requires.acts c.loop-i.invariant.walked c.probe.result c.probe.ensures.made)).installed
     c.args.g c.requires.reached.installed
 
-below-still : (c : After-walk_path) → HasBelow c.args.chain.now.shape (seen_by c.args.chain.now.shape c.walk_path.new.seat) c.args.g c.args.key c.loop-i.below
+below-still : (c : After-probe) → HasBelow c.args.chain.now.shape (seen_by c.args.chain.now.shape c.probe.new.seat) c.args.g c.args.key c.loop-i.below
 below-still c =
     let chain = c.args.chain.now in
     let table = table-within chain c.args.seat.now c.requires.own c.args.g c.requires.reached.installed in
     let own = made-own chain c.requires.own c.loop-i.invariant.walked.made in
-    below-lasts chain.shape _ _ (made-stays chain own c.walk_path.ensures.made) c.args.g c.args.key table c.loop-i.below
+    below-lasts chain.shape _ _ (made-stays chain own c.probe.ensures.made) c.args.g c.args.key table c.loop-i.below
     c.loop-i.invariant.below
 
 pub leave_whole-requires-clause-installed : goal.leave_whole-requires-clause-installed
-leave_whole-requires-clause-installed c = installed-still (goal.at.leave_whole-requires-clause-installed c).After-walk_path
+leave_whole-requires-clause-installed c = installed-still (goal.at.leave_whole-requires-clause-installed c).After-probe
 
 pub leave_whole-requires-clause-below : goal.leave_whole-requires-clause-below
-leave_whole-requires-clause-below c = below-still (goal.at.leave_whole-requires-clause-below c).After-walk_path
+leave_whole-requires-clause-below c = below-still (goal.at.leave_whole-requires-clause-below c).After-probe
 
 pub returns-in-Whole-clause-made : goal.returns-in-Whole-clause-made
 returns-in-Whole-clause-made c =
@@ -71,7 +77,7 @@ returns-in-Whole-clause-made c =
     (walked-to c.args.chain.now c.requires.own c.requires.acts walked Whole c.in-Whole.ensures.made) c.leave_whole.ensures.made
 
 pub settle_below-below-requires-clause-installed : goal.settle_below-below-requires-clause-installed
-settle_below-below-requires-clause-installed c = installed-still (goal.at.settle_below-below-requires-clause-installed c).After-walk_path
+settle_below-below-requires-clause-installed c = installed-still (goal.at.settle_below-below-requires-clause-installed c).After-probe
 
 -- the empty slot lies no nearer than the walk had come
 ahead : (c : In-Empty) → c.loop-i.from ≤ c.in-Empty.distance
@@ -79,8 +85,8 @@ ahead c =
     let chain = c.args.chain.now in
     let table = table-within chain c.args.seat.now c.requires.own c.args.g c.requires.reached.installed in
     let own = made-own chain c.requires.own c.loop-i.invariant.walked.made in
-    let lasting = made-stays chain own c.walk_path.ensures.made in
-    empty-behind chain.shape (seen_by c.args.chain.now.shape c.walk_path.new.seat) c.args.g c.args.key c.loop-i.from c.in-Empty.distance
+    let lasting = made-stays chain own c.probe.ensures.made in
+    empty-behind chain.shape (seen_by c.args.chain.now.shape c.probe.new.seat) c.args.g c.args.key c.loop-i.from c.in-Empty.distance
     (lasting.others c.args.g c.args.key c.loop-i.from table c.loop-i.invariant.others) c.in-Empty.ensures.ends.2
 
 -- what was done until a slot may be claimed
@@ -99,13 +105,13 @@ claim_at-requires-clause-installed c =
 
 pub claim_at-requires-clause-below : goal.claim_at-requires-clause-below
 claim_at-requires-clause-below c =
-    c.settle_below-below.ensures.below c.args.key (below-still (goal.at.claim_at-requires-clause-below c).After-walk_path)
+    c.settle_below-below.ensures.below c.args.key (below-still (goal.at.claim_at-requires-clause-below c).After-probe)
 
 pub claim_at-requires-clause-others : goal.claim_at-requires-clause-others
 claim_at-requires-clause-others c =
     let chain = c.args.chain.now in
     let table = table-within chain c.args.seat.now c.requires.own c.args.g c.requires.reached.installed in
-    let own = made-own chain (made-own chain c.requires.own c.loop-i.invariant.walked.made) c.walk_path.ensures.made in
+    let own = made-own chain (made-own chain c.requires.own c.loop-i.invariant.walked.made) c.probe.ensures.made in
     (made-stays chain own (c.settle_below-below.ensures.made c.args.call.now)).others c.args.g c.args.key c.in-Empty.distance table
     c.in-Empty.ensures.ends.1
 
@@ -118,48 +124,48 @@ returns-in-Some-clause-made c =
 -- ---- where the home slot is the key's own
 
 -- it is so still after the walk,
-home-still : (c : After-walk_path) → IsHomeSlot c.args.chain.now.shape (seen_by c.args.chain.now.shape c.args.seat.now) c.args.g c.args.key
-    → IsHomeSlot c.args.chain.now.shape (seen_by c.args.chain.now.shape c.walk_path.new.seat) c.args.g c.args.key
+home-still : (c : After-probe) → IsHomeSlot c.args.chain.now.shape (seen_by c.args.chain.now.shape c.args.seat.now) c.args.g c.args.key
+    → IsHomeSlot c.args.chain.now.shape (seen_by c.args.chain.now.shape c.probe.new.seat) c.args.g c.args.key
 home-still c own =
     let chain = c.args.chain.now in
     let table = table-within chain c.args.seat.now c.requires.own c.args.g c.requires.reached.installed in
     (made-stays chain c.requires.own
-    (walked-to chain c.requires.own c.requires.acts c.loop-i.invariant.walked c.walk_path.result c.walk_path.ensures.made)).claimed
+    (walked-to chain c.requires.own c.requires.acts c.loop-i.invariant.walked c.probe.result c.probe.ensures.made)).claimed
     c.args.g _ c.args.key (home-in chain.shape c.args.g c.args.key table) own
 
 -- which is the first one and makes one step,
-walked-once : (c : After-walk_path) → IsHomeSlot c.args.chain.now.shape (seen_by c.args.chain.now.shape c.args.seat.now) c.args.g c.args.key
-    → c.walk_path.new.seat.steps ≤ c.args.seat.now.steps + 1
+walked-once : (c : After-probe) → IsHomeSlot c.args.chain.now.shape (seen_by c.args.chain.now.shape c.args.seat.now) c.args.g c.args.key
+    → c.probe.new.seat.steps ≤ c.args.seat.now.steps + 1
 walked-once c own =
     let p = c.args.chain.now.shape in
     omega (
       arith,
       c.loop-i.invariant.first own,
-      c.walk_path.ensures.short (own-first p (seen_by p c.walk_path.new.seat) c.args.g c.args.key 1 (home-still c own) (omega arith)),
+      c.probe.ensures.short (own-first p (seen_by p c.probe.new.seat) c.args.g c.args.key 1 (home-still c own) (omega arith)),
     )
 
 -- and doesn't end at an empty slot
-not-empty : (c : In-Empty) → IsHomeSlot c.args.chain.now.shape (seen_by c.args.chain.now.shape c.walk_path.new.seat) c.args.g c.args.key → ⊥
+not-empty : (c : In-Empty) → IsHomeSlot c.args.chain.now.shape (seen_by c.args.chain.now.shape c.probe.new.seat) c.args.g c.args.key → ⊥
 not-empty c own =
     let p = c.args.chain.now.shape in
-    own-ends p (seen_by p c.walk_path.new.seat) c.args.g c.args.key c.in-Empty.distance own c.in-Empty.ensures.ends.1 c.in-Empty.ensures.ends.2
+    own-ends p (seen_by p c.probe.new.seat) c.args.g c.args.key c.in-Empty.distance own c.in-Empty.ensures.ends.1 c.in-Empty.ensures.ends.2
 
 pub returns-in-Slot-clause-short : goal.returns-in-Slot-clause-short
-returns-in-Slot-clause-short c = walked-once (goal.at.returns-in-Slot-clause-short c).After-walk_path
+returns-in-Slot-clause-short c = walked-once (goal.at.returns-in-Slot-clause-short c).After-probe
 
 pub returns-in-Closed-clause-short : goal.returns-in-Closed-clause-short
-returns-in-Closed-clause-short c = walked-once (goal.at.returns-in-Closed-clause-short c).After-walk_path
+returns-in-Closed-clause-short c = walked-once (goal.at.returns-in-Closed-clause-short c).After-probe
 
 pub returns-in-Whole-clause-short : goal.returns-in-Whole-clause-short
 returns-in-Whole-clause-short c own =
     let p = c.args.chain.now.shape in
     absurd
-    (own-first p (seen_by p c.walk_path.new.seat) c.args.g c.args.key _ (home-still (goal.at.returns-in-Whole-clause-short c).After-walk_path own)
+    (own-first p (seen_by p c.probe.new.seat) c.args.g c.args.key _ (home-still (goal.at.returns-in-Whole-clause-short c).After-probe own)
     (pow_pos _) c.in-Whole.ensures.ends)
 
 pub returns-in-Some-clause-short : goal.returns-in-Some-clause-short
 returns-in-Some-clause-short c own =
-    let at = goal.at.returns-in-Some-clause-short c in absurd (not-empty at.In-Empty (home-still at.After-walk_path own))
+    let at = goal.at.returns-in-Some-clause-short c in absurd (not-empty at.In-Empty (home-still at.After-probe own))
 
 pub overflow_add-from : goal.overflow_add-from
 overflow_add-from c =
@@ -176,7 +182,7 @@ loop-i-preserved c =
     let table = table-within chain c.args.seat.now c.requires.own c.args.g c.requires.reached.installed in
     let near : c.in-Empty.distance < size_of chain.shape c.args.g = c.in-Empty.ensures.ends.0 in
     let lost = c.in-None.ensures.other in
-    let has = c.settle_below-below.ensures.below c.args.key (below-still (goal.at.loop-i-preserved c).After-walk_path) in
+    let has = c.settle_below-below.ensures.below c.args.key (below-still (goal.at.loop-i-preserved c).After-probe) in
     record {
       walked = walked-behind chain c.settle_below-below.result c.in-Empty.distance c.requires.own (ahead (goal.at.loop-i-preserved c).In-Empty)
           c.settle_below-below.ensures.fewer c.loop-i.invariant.walked (settled (goal.at.loop-i-preserved c).After-settle_below-below) lost.0;
@@ -185,5 +191,5 @@ loop-i-preserved c =
       below = below-lasts chain.shape _ _ (made-stays chain c.settle_below-below.ensures.own lost.0) c.args.g c.args.key table
           c.settle_below-below.result has;
       first = λ own.
-          let at = goal.at.loop-i-preserved c in absurd (not-empty at.In-Empty (home-still at.After-walk_path own));
+          let at = goal.at.loop-i-preserved c in absurd (not-empty at.In-Empty (home-still at.After-probe own));
     }

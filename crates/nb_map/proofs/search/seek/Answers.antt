@@ -6,17 +6,23 @@ use Rattle.nb_table.specs.Chains.{seen_by}
 use Rattle.nb_table.specs.Conditions.{IsReached}
 use Rattle.nb_map.specs.Calling.{HasMade}
 use Rattle.nb_map.proofs.Made.{made-more, made-own, made-quiet, made-read, made-stays}
-use Rattle.nb_map.proofs.Searched.{made-then, made-unless, not-last, reached-lasts, read-alone, table-within}
+use Rattle.nb_map.proofs.Searched.{closed-above, made-then, made-unless, not-last, reached-lasts, read-alone, table-within}
 use Rattle.nb_map.proofs.search.seek.Goals as goal
 use Rattle.nb_map.proofs.search.seek.Goals.{After-load_next}
 use Rattle.nb_table.proofs.Theorems.{steps_add_up}
+
+pub returns-in-Closed-clause-sought : goal.returns-in-Closed-clause-sought
+returns-in-Closed-clause-sought c =
+    let p = c.args.chain.now.shape in
+    let ends = c.in-Closed.ensures.ends in
+    closed-above p (seen_by p c.probe.new.seat) c.args.g c.args.key ends.0 ends.1
 
 pub load_next-requires-clause-reached : goal.load_next-requires-clause-reached
 load_next-requires-clause-reached c =
     let chain = c.args.chain.now in
     let table = table-within chain c.args.seat.now c.requires.own c.args.g c.requires.reached.installed in
-    subst (λ k. IsReached chain.shape (seen_by c.args.chain.now.shape c.walk_path.new.seat) c.args.g k) (sym c.requires.key)
-    (reached-lasts chain.shape _ _ (made-stays chain c.requires.own c.walk_path.ensures.made) c.args.g c.args.key table c.requires.reached)
+    subst (λ k. IsReached chain.shape (seen_by c.args.chain.now.shape c.probe.new.seat) c.args.g k) (sym c.requires.key)
+    (reached-lasts chain.shape _ _ (made-stays chain c.requires.own c.probe.ensures.made) c.args.g c.args.key table c.requires.reached)
 
 pub returns-then-load_next-clause-made : goal.returns-then-load_next-clause-made
 returns-then-load_next-clause-made c =
@@ -30,7 +36,7 @@ pub returns-then-load_next-clause-sought : goal.returns-then-load_next-clause-so
 returns-then-load_next-clause-sought c =
     let chain = c.args.chain.now in
     let table = table-within chain c.args.seat.now c.requires.own c.args.g c.requires.reached.installed in
-    let own = made-own chain c.requires.own c.walk_path.ensures.made in
+    let own = made-own chain c.requires.own c.probe.ensures.made in
     let lasting = steps_add_up.stays own (steps_add_up.one c.load_next.ensures.grows) in
     (Whole (lasting.others c.args.g c.args.key (size_of chain.shape c.args.g) table c.in-Whole.ensures.ends), c.if-load_next.ensures.installed.0 refl)
 
@@ -50,7 +56,7 @@ away : (c : After-load_next) → (AreOthers c.args.chain.now.shape (seen_by c.ar
 away c home =
     let chain = c.args.chain.now in
     let table = table-within chain c.args.seat.now c.requires.own c.args.g c.requires.reached.installed in
-    let own = made-own chain c.requires.own c.walk_path.ensures.made in
+    let own = made-own chain c.requires.own c.probe.ensures.made in
     let others = (steps_add_up.stays own (steps_add_up.one c.load_next.ensures.grows)).others c.args.g c.args.key _ table c.in-Whole.ensures.ends in
     absurd (home (λ e first. others e (omega (arith, first, c.requires.near))))
 

@@ -1,7 +1,7 @@
 use Rattle.std.proofs.Common.{◌≡◌, ◌∙◌, ◌+◌, ◌-◌, ◌<◌, ◌≤◌, ◌≢◌, None, Some, ap, sym, subst, arith, rules}
 use Rattle.std.proofs.lemmas.Bool.{eqb-false}
 use Rattle.nb_core.specs.History.{key_of_call}
-use Rattle.nb_core.specs.Tables.{UpToDead, AreOthers, path_slot}
+use Rattle.nb_core.specs.Tables.{AreOthers, path_slot}
 use Rattle.nb_core.specs.Plans.{size_of}
 use Rattle.nb_table.specs.Conditions.{IsReached}
 use Rattle.nb_core.specs.declared.states.KeyState.TheVariants.{Claimed, Dead, Empty}
@@ -10,8 +10,8 @@ use Rattle.nb_table.specs.Chains.{Extended, seen_by}
 use Rattle.nb_map.specs.Calling.{HasMade}
 use Rattle.nb_map.proofs.Made.{made-none, made-own, made-stays, made-within}
 use Rattle.nb_map.proofs.Searched.{dead-next, on-path, others-more, reached-lasts, read-end, read-start, shown-own, table-within, walk-short, walked, walked-on}
-use Rattle.nb_map.proofs.search.walk_path.Goals as goal
-use Rattle.nb_map.proofs.search.walk_path.Goals.{After-load_key}
+use Rattle.nb_map.proofs.search.probe.Goals as goal
+use Rattle.nb_map.proofs.search.probe.Goals.{After-load_key}
 use Rattle.nb_table.proofs.Theorems.{steps_add_up}
 
 pub loop-distance-init : goal.loop-distance-init
@@ -104,7 +104,7 @@ returns-in-Dead-clause-ends c =
     let is : (seen_by c.args.chain.now.shape c.load_key.new.seat).key c.args.g (path_slot chain.shape c.args.g c.args.key c.loop-distance.distance) ≡ Dead
     = ap ((seen_by c.args.chain.now.shape c.load_key.new.seat).key c.args.g) at ∙ c.load_key.ensures.found ∙ c.in-Dead.is in
     let in_table : c.path_slot-i.result < size_of chain.shape c.args.g = search rules in (
-      UpToDead c.loop-distance.distance near (lasting.others c.args.g c.args.key c.loop-distance.distance table so_far.1) is,
+      (c.loop-distance.distance, near, lasting.others c.args.g c.args.key c.loop-distance.distance table so_far.1, is),
       dead-next chain c.load_key.new.seat (steps_add_up.own own (steps_add_up.one c.load_key.ensures.grows))
           c.args.g c.path_slot-i.result (table, in_table) (c.load_key.ensures.found ∙ c.in-Dead.is),
     )

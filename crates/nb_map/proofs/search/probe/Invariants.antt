@@ -3,7 +3,7 @@ use Rattle.nb_core.specs.Tables.{AreOthers}
 use Rattle.nb_table.specs.Chains.{seen_by}
 use Rattle.nb_map.proofs.Searched.{read_up_to}
 use Rattle.nb_map.specs.Calling.{HasMade}
-use Rattle.nb_map.proofs.search.walk_path.Given as goal
+use Rattle.nb_map.proofs.search.probe.Given as goal
 
 abbrev pub invariant-loop-distance : goal.invariant-loop-distance
 invariant-loop-distance l =
