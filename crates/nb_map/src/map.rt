@@ -97,6 +97,13 @@ impl Map {
         Ok((map, seats))
     }
 
+    /// The shape that the map was made with. It makes no step.
+    pub fn shape(&self) -> &Shape
+        ensures { result.now ≡ self.now.chain.shape }
+    {
+        self.chain.shape()
+    }
+
     /// What the map has at a key. In the common case, where the key has its home slot in the top table, these are three loads.
     #[inline]
     pub fn get(&self, seat: &mut Seat, key: Key) -> Option<Num>

@@ -1,0 +1,91 @@
+-- How contracts see a set and its seats, and what a call of the set does, told by the log of all calls.
+use Rattle.std.specs.Prelude.{◌≡◌, ℕ, zero, suc, ◌≤◌, ◌+◌, Bool, List, [], ◌∷◌, ◌++◌, All}
+use Rattle.nb_core.specs.Meaning.{IsCrowded}
+use Rattle.nb_core.specs.Plans.{Plan}
+use Rattle.nb_map.specs.Logs as of_map
+use Rattle.nb_map.specs.Looking.{IsSeenAtHome}
+use Rattle.nb_map.specs.Maps.{MapOf}
+use Rattle.nb_map.specs.Maps as maps
+use Rattle.nb_map.specs.Refusing as refusing
+use Rattle.nb_map.specs.Writing.{IsSeenAlone}
+use Rattle.nb_set.specs.Log.{Call, Entry, IsReplayed, calls_of}
+use Rattle.nb_set.specs.OfMap.{call_for, log_as}
+
+-- a set: the map that it is kept in
+pub record SetOf : Type 0 where
+  pub map : MapOf
+
+-- a set's seat: what it has seen and counted as a seat of that map
+pub record SeatOf : Type 0 where
+  pub map : maps.SeatOf
+
+-- the shape of its tables
+abbrev pub shape_of : SetOf → Plan
+shape_of set = set.map.chain.shape
+
+-- the number of the seat
+abbrev pub number_of : SeatOf → ℕ
+number_of seat = seat.map.chain.number
+
+-- how many steps it has made on the tables
+abbrev pub steps_of : SeatOf → ℕ
+steps_of seat = seat.map.chain.steps
+
+-- the log that a seat knows: the calls of all seats until its last step
+abbrev pub log : SeatOf → List Entry
+log seat = log_as (of_map.log seat.map)
+
+-- ---- what a call does
+
+-- The log has gone on. All of it is replayed, and of what is new just these calls are the seat's.
+pub record HasLogged (before after : SeatOf) (made : List (Call × Bool)) : Type 0 where
+  pub number : number_of after ≡ number_of before
+  pub later : List Entry
+  pub grown : log after ≡ later ++ log before
+  pub replayed : IsReplayed (log after)
+  pub own : calls_of (number_of before) later ≡ made
+
+-- the seat has made this one call, with this reply
+abbrev pub HasReplied : Call → (before after : SeatOf) → Bool → Type 0
+HasReplied call before after reply = HasLogged before after ((call, reply) ∷ [])
+
+-- the seat has made no call, and other keys have all slots of the last table, so that there is none for this one
+abbrev pub HasNoRoom : SetOf → ℕ → (before after : SeatOf) → Type 0
+HasNoRoom set k before after = HasLogged before after [] × IsCrowded (shape_of set) after.map.chain.seen k
+
+-- ---- seats
+
+-- the seat is one of this set's
+abbrev pub IsMine : SetOf → SeatOf → Type 0
+IsMine set seat = maps.IsMine set.map seat.map
+
+-- all these seats are this set's
+abbrev pub AreMine : SetOf → List SeatOf → Type 0
+AreMine set seats = All (IsMine set) seats
+
+-- so many seats of a set from a number on, which have seen nothing
+abbrev pub seats_of : SetOf → ℕ → ℕ → List SeatOf
+seats_of set number zero = []
+seats_of set number (suc count) = record { map = maps.new_seat set.map number } ∷ seats_of set (suc number) count
+
+-- ---- how long a call works
+
+-- it has made at most so many steps on the tables, and one on the counter where it changed the size
+abbrev pub HasWorked : SetOf → Call → (before after : SeatOf) → (most : ℕ) → Type 0
+HasWorked set call before after most = maps.HasWorked set.map (call_for call) before.map after.map most
+
+-- It is lock-free: only where other seats' writes of the key came first did it work for longer than its tables say.
+abbrev pub IsLockFree : SetOf → Call → (before after : SeatOf) → Type 0
+IsLockFree set call before after = refusing.IsLockFree set.map (call_for call) before.map after.map
+
+-- the key is at home in the top table, which is the one that the seat knew, so that a look at it takes three steps
+abbrev pub IsAtHome : SetOf → ℕ → (before after : SeatOf) → Type 0
+IsAtHome set k before after = IsSeenAtHome (shape_of set) before.map.chain after.map.chain k
+
+-- the same, and no other seat has changed it meanwhile, so that a write of it takes four
+abbrev pub IsAloneAtHome : SetOf → Call → (before after : SeatOf) → Type 0
+IsAloneAtHome set call before after = IsSeenAlone (shape_of set) (call_for call) before.map.chain after.map.chain
+
+-- it has made so many steps more on the tables at most
+abbrev pub HasStepped : (before after : SeatOf) → (most : ℕ) → Type 0
+HasStepped before after most = steps_of after ≤ steps_of before + most

@@ -1,0 +1,18 @@
+//! A set of whole numbers that many threads read and change at the same time. `contains` and walks wait for nobody; `add` and
+//! `remove` try again while other seats' writes of the same key come first.
+//!
+//! It is kept in a map of `nb_map`, which has number 0 at each key of the set, as the key set of a `ConcurrentHashMap` is
+//! (`newKeySet`). Its contracts speak of sets: of one log of `add`, `remove` and `contains`, each with its reply.
+#![tactic(auto)]
+
+mod ended;
+pub mod laws;
+mod room;
+mod set;
+
+pub use ended::SetEnded;
+pub use nb_map::Full;
+pub use set::{LongSet, Seat, Walk};
+
+#[cfg(test)]
+mod tests;

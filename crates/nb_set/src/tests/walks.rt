@@ -1,0 +1,38 @@
+//! Walks over a set.
+ghost use Rattle.nb_set.specs.Sets.{IsMine};
+ghost use Rattle.nb_set.specs.Walks.{IsWalkOf};
+
+use super::on_set::*;
+use crate::{LongSet, Seat, Walk};
+use nb_core::Key;
+use std::process::Abort;
+use std::test::Fail;
+
+/// Sees that a walk goes on with these keys, in this order, and then ends, and stays at its end.
+fn shows<R: Abort>(rt: &R, set: &LongSet, seat: &mut Seat, walk: &mut Walk, keys: &[u64])
+    requires own { IsMine set.now seat.old }
+    requires walk { IsWalkOf set.now seat.old walk.old }
+    ensures own { IsMine set.now seat.new }
+    ensures walk { IsWalkOf set.now seat.new walk.new }
+{
+    for k in keys {
+        let next = set.next_key(seat, walk);
+        assert_eq!(rt; next.map(Key::get), Some(*k));
+    }
+    let next = set.next_key(seat, walk);
+    assert!(rt; next.is_none());
+    let next = set.next_key(seat, walk);
+    assert!(rt; next.is_none());
+}
+
+/// A key whose path goes on from the table's last slot to its first is met there, and one that was removed isn't shown.
+#[test]
+fn walk_wraps(rt: HostRuntime) -> Result<(), Fail> {
+    let (set, mut seat) = with_one(&rt, rt.alloc(), 1)?;
+    adds(&rt, &set, &mut seat, &[3, 7, 2]);
+    assert!(rt; remove(&rt, &set, &mut seat, 2));
+    let mut walk = set.walk(&mut seat);
+    shows(&rt, &set, &mut seat, &mut walk, &[7, 3]);
+    one_leaves(&rt, rt.alloc(), set, seat, &[3, 7])?;
+    Ok(())
+}
