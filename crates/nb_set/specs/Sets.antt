@@ -2,6 +2,7 @@
 use Rattle.std.specs.Prelude.{◌≡◌, ℕ, zero, suc, ◌≤◌, ◌+◌, Bool, List, [], ◌∷◌, ◌++◌, All}
 use Rattle.nb_core.specs.Meaning.{IsCrowded}
 use Rattle.nb_core.specs.Plans.{Plan}
+use Rattle.nb_core.specs.Tables.{tables_at}
 use Rattle.nb_map.specs.Logs as of_map
 use Rattle.nb_map.specs.Looking.{IsSeenAtHome}
 use Rattle.nb_map.specs.Maps.{MapOf}
@@ -30,6 +31,10 @@ number_of seat = seat.map.chain.number
 -- how many steps it has made on the tables
 abbrev pub steps_of : SeatOf → ℕ
 steps_of seat = seat.map.chain.steps
+
+-- how many tables the seat knows to be complete, from the first one on
+abbrev pub generation_of : SetOf → SeatOf → ℕ
+generation_of set seat = (tables_at (shape_of set) seat.map.chain.seen).top
 
 -- the log that a seat knows: the calls of all seats until its last step
 abbrev pub log : SeatOf → List Entry

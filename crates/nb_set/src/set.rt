@@ -5,7 +5,7 @@ ghost use Rattle.nb_core.specs.Plans.{IsPlan};
 ghost use Rattle.nb_map.specs.Looking.{get_steps};
 ghost use Rattle.nb_set.specs.Ending.{EndedWith};
 ghost use Rattle.nb_set.specs.Log as call;
-ghost use Rattle.nb_set.specs.Sets.{AreMine, HasLogged, HasNoRoom, HasReplied, HasStepped, HasWorked, IsAloneAtHome, IsAtHome, IsLockFree, IsMine, log, seats_of, shape_of};
+ghost use Rattle.nb_set.specs.Sets.{AreMine, HasLogged, HasNoRoom, HasReplied, HasStepped, HasWorked, IsAloneAtHome, IsAtHome, IsLockFree, IsMine, generation_of, log, seats_of, shape_of};
 ghost use Rattle.nb_set.specs.Walks.{HasAsked, HasEnded, HasShown, IsLater, IsWalkOf, slots_before, walking_steps, with_shown};
 
 use crate::ended::SetEnded;
@@ -142,6 +142,7 @@ impl LongSet {
     /// How many tables are known to be complete, from the first one on: how often the set has grown. One step.
     pub fn generation(&self, seat: &mut Seat) -> u32
         requires own { IsMine self.now seat.old }
+        ensures found { result ≡ generation_of self.now seat.new }
         ensures logged { HasLogged seat.old seat.new [] }
         ensures steps { HasStepped seat.old seat.new 1 }
         ensures own { IsMine self.now seat.new }
