@@ -12,8 +12,8 @@ use Rattle.nb_map.specs.declared.waiting.Full.{Full}
 use Rattle.nb_run.specs.Text.{before, call_of, of_add, of_put, shown}
 use Rattle.nb_run.specs.Working.{IsAnswered}
 use Rattle.nb_run.specs.declared.answers.Answer.TheVariants as answer
-use Rattle.nb_run.specs.declared.script.Command.{Command}
-use Rattle.nb_run.specs.declared.script.Command.TheVariants as command
+use Rattle.nb_script.specs.declared.script.Command.{Command}
+use Rattle.nb_script.specs.declared.script.Command.TheVariants as command
 
 module _ (m : MapOf) (s t : SeatOf) where
   -- what was found is shown

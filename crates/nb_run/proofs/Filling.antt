@@ -12,12 +12,12 @@ use Rattle.nb_table.specs.Chains.{SeenBy}
 use Rattle.nb_map.proofs.Theorems.{asks_add_up}
 use Rattle.nb_map.specs.Crowding.{HasAsked, IsFilled, fills, others_filled}
 use Rattle.nb_map.specs.Maps.{MapOf, SeatOf, new_seat, seats_of}
-use Rattle.nb_run.specs.Script.{Phase}
+use Rattle.nb_script.specs.Script.{Phase}
 use Rattle.nb_run.specs.Text.{call_of}
 use Rattle.nb_run.specs.Told.{all_commands, key_of_command}
 use Rattle.nb_run.specs.Working.{AreAnswered, HasAnswered, HasMet, HaveRun, PhaseRan, commands_of}
 use Rattle.nb_run.specs.declared.answers.Answer.{Answer}
-use Rattle.nb_run.specs.declared.script.Command.{Command}
+use Rattle.nb_script.specs.declared.script.Command.{Command}
 
 -- ---- keys that commands may put
 

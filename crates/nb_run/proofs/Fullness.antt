@@ -17,13 +17,13 @@ use Rattle.nb_map.specs.Crowding.{HasAskedIn, others_filled}
 use Rattle.nb_map.specs.Ending.{EndedOf, EndedWith, HasTablesLeft}
 use Rattle.nb_map.specs.Maps.{MapOf, SeatOf, new_seat, seats_of}
 use Rattle.std.proofs.lemmas.List.{map-append}
-use Rattle.nb_run.specs.Script.{Phase}
+use Rattle.nb_script.specs.Script.{Phase}
 use Rattle.nb_run.specs.Text.{call_of}
 use Rattle.nb_run.specs.Told.{MayCrowd, all_commands, key_of_command}
 use Rattle.nb_run.specs.Working.{AreAnswered, HasAnswered, HasMet, HaveMet, HaveRun, PhaseRan, commands_of}
 use Rattle.nb_run.specs.declared.answers.Answer.{Answer}
 use Rattle.nb_run.specs.declared.answers.Answer.TheVariants as answer
-use Rattle.nb_run.specs.declared.script.Command.{Command}
+use Rattle.nb_script.specs.declared.script.Command.{Command}
 use Rattle.nb_run.proofs.Filling.{HasClaimed, among-all, claimed-answered, claimed-met, claimed-new, claimed-run, others-same, put-left, put-right}
 
 -- ---- words

@@ -23,13 +23,13 @@ use Rattle.nb_map.specs.Ending.{EndedOf, EndedWith, HasAll, log_left}
 use Rattle.nb_map.specs.Ending.{map_left as ended_map}
 use Rattle.nb_map.specs.Logs.{HasLogged, log}
 use Rattle.nb_map.specs.Maps.{MapOf, SeatOf, new_seat, seats_of}
-use Rattle.nb_run.specs.Script.{Bytes, Phase}
+use Rattle.nb_script.specs.Script.{Bytes, Phase}
 use Rattle.nb_run.specs.Text.{answer_line, answer_of, call_of, ending, map_behind, map_left, shown, text_from}
 use Rattle.nb_run.specs.Told.{IsLoneText, MayCrowd, all_commands, key_of_command, phase_text}
 use Rattle.nb_run.specs.Working.{AreAnswered, HasAnswered, HasMet, HasShown, HaveMet, HaveRun, PhaseRan, commands_of}
 use Rattle.nb_run.specs.declared.answers.Answer.{Answer}
 use Rattle.nb_run.specs.declared.answers.Answer.TheVariants as answer
-use Rattle.nb_run.specs.declared.script.Command.{Command}
+use Rattle.nb_script.specs.declared.script.Command.{Command}
 use Rattle.nb_run.proofs.CallLemmas.{Calls}
 use Rattle.nb_run.proofs.Fullness.{AreJust, commands-lone, crowd-lone-run, just-at, lone-new}
 

@@ -13,7 +13,7 @@ use Rattle.nb_map.specs.Ending.{EndedOf, EndedWith, HasTablesLeft, log_left, map
 use Rattle.nb_map.specs.Maps.{AreMine, IsMine, MapOf, SeatOf, new_seat}
 use Rattle.nb_map.specs.Maps as maps
 use Rattle.nb_run.specs.Outcomes.{HaveWorkers, IsOutcome, lists_in, text_of_outcome}
-use Rattle.nb_run.specs.Script.{Phase}
+use Rattle.nb_script.specs.Script.{Phase}
 use Rattle.nb_run.specs.Text.{ending, ending_of}
 use Rattle.nb_run.specs.Told.{ArePhasesTold, IsLoneText, WasCrowded, all_commands, phase_text}
 use Rattle.nb_run.specs.Working.{AreNumbered, HasRoom, HaveRun, HaveRunAll, all_answers, answers_of, commands_of, joined, seats_of}

@@ -6,7 +6,7 @@ use Rattle.std.proofs.lemmas.Bool.{cases_eq}
 use Rattle.std.proofs.lemmas.List.Elements.{All-head, All-tail}
 use Rattle.std.proofs.lemmas.List.{drop-drop, get_or-set_other, get_or-set_same}
 use Rattle.nb_run.specs.Output.{AreAnswersOf, after_phase, all_lines, left, phase_lines}
-use Rattle.nb_run.specs.Script.{Bytes, Phase}
+use Rattle.nb_script.specs.Script.{Bytes, Phase}
 use Rattle.nb_run.specs.Text.{answer_line}
 use Rattle.nb_run.specs.Told.{phase_text}
 use Rattle.nb_run.specs.Working.{commands_of}

@@ -3,8 +3,9 @@ use Rattle.std.proofs.Common.{List, Option}
 use Rattle.std.specs.Io.KnownBytes.{Appends}
 use Rattle.nb_core.specs.Plans.{Plan}
 use Rattle.nb_run.specs.Outcomes.{IsOutcome, text_of_outcome}
-use Rattle.nb_run.specs.Runs.{HasReadScript, HasRun}
-use Rattle.nb_run.specs.Script.{Bytes, Phase}
+use Rattle.nb_run.specs.Runs.{HasRun}
+use Rattle.nb_script.specs.Inputs.{HasReadScript}
+use Rattle.nb_script.specs.Script.{Bytes, Phase}
 use Rattle.nb_run.specs.declared.outcome.Outcome.{Outcome}
 use Rattle.nb_run.proofs.ScriptLemmas.{script-workers}
 

@@ -6,10 +6,10 @@ use Rattle.std.specs.List.{All, AllZip, flat_map}
 use Rattle.std.specs.declared.alloc.Global.{Global}
 use Rattle.std.specs.declared.vec.Vec.{Vec}
 use Rattle.nb_map.specs.Maps.{IsMine, MapOf, SeatOf}
-use Rattle.nb_run.specs.Script.{Phase}
+use Rattle.nb_script.specs.Script.{Phase}
 use Rattle.nb_run.specs.Working.{AreAnswered, AreNumbered, HasMet, HasMetAs, HasRoom, HaveRun, HaveRunAll, IsReady, IsRun, PhaseRan, all_answers, answers_of, commands_of, joined, phases_in, seats_of}
 use Rattle.nb_run.specs.declared.answers.Answer.{Answer}
-use Rattle.nb_run.specs.declared.script.Command.{Command}
+use Rattle.nb_script.specs.declared.script.Command.{Command}
 use Rattle.nb_run.specs.declared.workers.Worker.{Worker}
 use Rattle.nb_run.proofs.Together.{all-zip-all, all-zip-right}
 

@@ -3,10 +3,10 @@ use Rattle.std.proofs.Common.{◌≡◌, ◌∙◌, ℕ, suc, ◌+◌, ◌<◌, 
 use Rattle.std.proofs.Math.Seq.{drop-cons}
 use Rattle.std.proofs.lemmas.List.{append-nil, drop_all}
 use Rattle.nb_map.specs.Maps.{MapOf, SeatOf}
-use Rattle.nb_run.specs.Script.{Phase}
+use Rattle.nb_script.specs.Script.{Phase}
 use Rattle.nb_run.specs.Working.{AreAnswered, HasAnswered, commands_of}
 use Rattle.nb_run.specs.declared.answers.Answer.{Answer}
-use Rattle.nb_run.specs.declared.script.Command.{Command}
+use Rattle.nb_script.specs.declared.script.Command.{Command}
 
 -- The commands of the first i tasks are answered. If those of the others are answered, all are.
 pub record IsRunning (m : MapOf) (w : ℕ) (phase : Phase) (i : ℕ) (before answers : List Answer) (first now : SeatOf) : Type 0 where

@@ -4,7 +4,7 @@ use Rattle.std.proofs.Math.Seq.{drop-cons}
 use Rattle.std.specs.List.{flat_map}
 use Rattle.std.specs.Io.KnownBytes.{Appends}
 use Rattle.std.proofs.KnownBytes.{Appends-nil, Appends-trans}
-use Rattle.nb_run.specs.Script.{Bytes}
+use Rattle.nb_script.specs.Script.{Bytes}
 use Rattle.nb_run.specs.Output.{Says}
 use Rattle.nb_run.specs.Text.{answer_line, answer_text, ending_of, entry_line}
 use Rattle.nb_run.specs.declared.answers.Answer.{Answer}

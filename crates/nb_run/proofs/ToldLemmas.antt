@@ -9,16 +9,15 @@ use Rattle.nb_core.specs.Meaning.{IsCrowded}
 use Rattle.nb_core.specs.Plans.{Plan, generations_of, size_of}
 use Rattle.nb_core.specs.declared.events.Event.{Event}
 use Rattle.nb_core.proofs.Theorems.{calls_append}
-use Rattle.nb_table.specs.Views.{HasSeen}
 use Rattle.nb_map.specs.Crowding.{others_filled}
 use Rattle.nb_map.specs.Ending.{EndedOf, EndedWith, HasAll, HasTablesLeft, log_left}
 use Rattle.nb_map.specs.Logs.{HasLogged, log}
 use Rattle.nb_map.specs.Maps.{MapOf, SeatOf, seats_of}
-use Rattle.nb_run.specs.Script.{Phase}
+use Rattle.nb_script.specs.Script.{Phase}
 use Rattle.nb_run.specs.Text.{call_of}
 use Rattle.nb_run.specs.Told.{ArePhasesTold, AreTold, HasDone, IsPhaseTold, IsTold, Refusals, WasCrowded, key_of_command}
-use Rattle.nb_run.specs.Working.{AreAnswered, HasAnswered, HasMet, HaveMet, HaveRun, IsAnswered, PhaseRan, commands_of}
-use Rattle.nb_run.specs.declared.script.Command.{Command}
+use Rattle.nb_run.specs.Working.{AreAnswered, HasMet, HaveMet, HaveRun, IsAnswered, PhaseRan, commands_of}
+use Rattle.nb_script.specs.declared.script.Command.{Command}
 use Rattle.nb_run.specs.declared.answers.Answer.{Answer}
 use Rattle.nb_run.specs.declared.answers.Answer.TheVariants as answer
 use Rattle.nb_run.proofs.CallLemmas.{Calls, IsSeenBy, Longest, beginning-grown, beginning-itself, beginning-logged, beginning-more, beginning-none, calls-apart, log-begins, longest, later-apart}

@@ -1,10 +1,6 @@
-pub mod Faults
-pub mod Options
 pub mod Outcomes
 pub mod Output
-pub mod Reading
 pub mod Runs
-pub mod Script
 pub mod Serving
 pub mod Text
 pub mod Told

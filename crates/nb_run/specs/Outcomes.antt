@@ -5,7 +5,7 @@ use Rattle.std.specs.declared.vec.Vec.{Vec}
 use Rattle.nb_core.specs.Plans.{Plan}
 use Rattle.nb_core.specs.declared.events.Event.{Event}
 use Rattle.nb_run.specs.Output.{AreAnswersOf, all_lines}
-use Rattle.nb_run.specs.Script.{Bytes, Phase}
+use Rattle.nb_script.specs.Script.{Bytes, Phase}
 use Rattle.nb_run.specs.Text.{ending_of}
 use Rattle.nb_run.specs.Told.{IsLoneText, IsToldBy}
 use Rattle.nb_run.specs.declared.answers.Answer.{Answer}

@@ -2,7 +2,7 @@
 use Rattle.std.specs.Prelude.{◌≡◌, ℕ, suc, List, [], ◌∷◌, ◌++◌, Option, drop, length, slice_index, take}
 use Rattle.std.specs.Io.KnownBytes.{Appends}
 use Rattle.std.specs.List.{flat_map}
-use Rattle.nb_run.specs.Script.{Bytes, Phase}
+use Rattle.nb_script.specs.Script.{Bytes, Phase}
 use Rattle.nb_run.specs.Text.{answer_line}
 use Rattle.nb_run.specs.Working.{commands_of}
 use Rattle.nb_run.specs.declared.answers.Answer.{Answer}

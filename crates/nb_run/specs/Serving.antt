@@ -5,16 +5,17 @@ use Rattle.std.specs.declared.string.String.{String}
 use Rattle.std.specs.declared.vec.Vec.{Vec}
 use Rattle.std.specs.declared.alloc.Global.{Global}
 use Rattle.nb_core.specs.Plans.{Plan}
-use Rattle.nb_run.specs.Faults.{complaint_of, status_of}
-use Rattle.nb_run.specs.Options.{AreGiven, IsDue}
-use Rattle.nb_run.specs.Runs.{HasRun, IsFaultOf}
-use Rattle.nb_run.specs.Script.{Bytes}
-use Rattle.nb_run.specs.declared.options.OptionFault.{OptionFault}
-use Rattle.nb_run.specs.declared.options.OptionFault.TheVariants as option
-use Rattle.nb_run.specs.declared.faults.RunFault.{RunFault}
-use Rattle.nb_run.specs.declared.faults.RunFault.TheVariants as run
-use Rattle.nb_run.specs.declared.faults.ServeFault.{ServeFault}
-use Rattle.nb_run.specs.declared.faults.ServeFault.TheVariants as serve
+use Rattle.nb_script.specs.Faults.{complaint_of, status_of}
+use Rattle.nb_script.specs.Options.{AreGiven, IsDue}
+use Rattle.nb_run.specs.Runs.{HasRun}
+use Rattle.nb_script.specs.Inputs.{IsFaultOf}
+use Rattle.nb_script.specs.Script.{Bytes}
+use Rattle.nb_script.specs.declared.options.OptionFault.{OptionFault}
+use Rattle.nb_script.specs.declared.options.OptionFault.TheVariants as option
+use Rattle.nb_script.specs.declared.faults.RunFault.{RunFault}
+use Rattle.nb_script.specs.declared.faults.RunFault.TheVariants as run
+use Rattle.nb_script.specs.declared.faults.ServeFault.{ServeFault}
+use Rattle.nb_script.specs.declared.faults.ServeFault.TheVariants as serve
 
 -- the words of the command line, or why there are none
 abbrev pub Words : Type 0

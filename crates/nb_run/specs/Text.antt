@@ -12,9 +12,9 @@ use Rattle.nb_core.specs.declared.calls.Reply.{Reply}
 use Rattle.nb_map.specs.declared.waiting.Full.{Full}
 use Rattle.nb_map.specs.declared.waiting.AddFault.{AddFault}
 use Rattle.nb_map.specs.declared.waiting.AddFault.TheVariants as fault
-use Rattle.nb_run.specs.Script.{Bytes, Phase}
-use Rattle.nb_run.specs.declared.script.Command.{Command}
-use Rattle.nb_run.specs.declared.script.Command.TheVariants as command
+use Rattle.nb_script.specs.Script.{Bytes, Phase}
+use Rattle.nb_script.specs.declared.script.Command.{Command}
+use Rattle.nb_script.specs.declared.script.Command.TheVariants as command
 use Rattle.nb_run.specs.declared.answers.Answer.{Answer}
 use Rattle.nb_run.specs.declared.answers.Answer.TheVariants as answer
 

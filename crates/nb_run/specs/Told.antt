@@ -11,10 +11,10 @@ use Rattle.nb_core.specs.declared.calls.Call.{Call}
 use Rattle.nb_core.specs.declared.calls.Reply.{Reply}
 use Rattle.nb_core.specs.declared.events.Event.{Event}
 use Rattle.nb_map.specs.Crowding.{fills, others_filled}
-use Rattle.nb_run.specs.Script.{Bytes, Phase}
+use Rattle.nb_script.specs.Script.{Bytes, Phase}
 use Rattle.nb_run.specs.Text.{answer_line, call_of, ending, map_behind, shown, text_of}
 use Rattle.nb_run.specs.Working.{commands_of}
-use Rattle.nb_run.specs.declared.script.Command.{Command}
+use Rattle.nb_script.specs.declared.script.Command.{Command}
 use Rattle.nb_run.specs.declared.answers.Answer.{Answer}
 use Rattle.nb_run.specs.declared.answers.Answer.TheVariants as answer
 

@@ -11,9 +11,9 @@ use Rattle.nb_map.specs.Maps.{IsMine, MapOf, SeatOf}
 use Rattle.nb_map.specs.Refusing.{HasRefused}
 use Rattle.nb_map.specs.declared.waiting.AddFault.TheVariants as fault
 use Rattle.nb_table.specs.Chains.{Grown}
-use Rattle.nb_run.specs.Script.{Phase}
+use Rattle.nb_script.specs.Script.{Phase}
 use Rattle.nb_run.specs.Text.{call_of, shown}
-use Rattle.nb_run.specs.declared.script.Command.{Command}
+use Rattle.nb_script.specs.declared.script.Command.{Command}
 use Rattle.nb_run.specs.declared.answers.Answer.{Answer}
 use Rattle.nb_run.specs.declared.answers.Answer.TheVariants as answer
 use Rattle.nb_run.specs.declared.workers.Worker.{Worker}

@@ -3,24 +3,19 @@
 #![tactic(auto)]
 
 pub mod answers;
-pub mod faults;
 pub mod gate;
-pub mod options;
 pub(crate) mod outcome;
 pub(crate) mod output;
-pub mod reader;
 pub mod run;
-pub mod script;
 pub mod serve;
-pub mod streams;
 pub(crate) mod workers;
 
-use options::OptionFault;
+use nb_script::options::OptionFault;
+use nb_script::streams::{FromRead, FromWrite};
 use std::env;
 use std::io::ErrorKind;
 use std::process::ExitCode;
 use std::rt::Env;
-use streams::{FromRead, FromWrite};
 
 /// The words of the command line. Arguments that aren't text are wrong ones.
 fn arguments(rt: &(impl Env + AllocGlobal)) -> Result<Vec<String>, OptionFault> {

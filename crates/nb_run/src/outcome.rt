@@ -7,10 +7,10 @@ ghost use Rattle.nb_run.specs.Working.{AreNumbered, HasRoom, answers_of, command
 use crate::answers::Answer;
 use crate::gate::Gate;
 use crate::output::count_of;
-use crate::reader::Phase;
 use crate::workers::{Worker, run_phases};
 use nb_core::{Key, Num, OutOfMemory, Shape};
 use nb_map::{Map, Seat};
+use nb_script::reader::Phase;
 use std::alloc::Global;
 use std::sync::Wait;
 use std::thread::Threads;

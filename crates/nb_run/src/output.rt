@@ -7,12 +7,12 @@ ghost use Rattle.nb_run.specs.Text.{answer_line, answer_text, ending_of, entry_l
 ghost use Rattle.nb_run.specs.Working.{commands_of};
 
 use crate::answers::Answer;
-use crate::reader::Phase;
-use crate::script::Command;
-use crate::streams::{Failed, Sink, write_all};
 use arrayvec::ArrayVec;
 use itoa::Buffer;
 use nb_core::{Key, MAX_SEATS, Num};
+use nb_script::reader::Phase;
+use nb_script::script::Command;
+use nb_script::streams::{Failed, Sink, write_all};
 
 /// How many bytes are written at once.
 const ROOM: usize = 4096;

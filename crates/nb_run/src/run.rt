@@ -1,14 +1,15 @@
 //! Runs a script, from the bytes in to the bytes out.
 ghost use Rattle.std.specs.Prelude.{◌≡◌, ◌≢◌, ◌↔◌, false, IsTrue, IfErr, IsErrOf, OnOk};
-ghost use Rattle.nb_run.specs.Runs.{HasRun, IsFaultOf};
+ghost use Rattle.nb_run.specs.Runs.{HasRun};
+ghost use Rattle.nb_script.specs.Inputs.{IsFaultOf};
 
-use crate::faults::RunFault;
 use crate::gate::{Gate, Open};
-use crate::options::Options;
 use crate::outcome::perform;
 use crate::output::tell;
-use crate::reader::read_script;
-use crate::streams::{Sink, Source};
+use nb_script::faults::RunFault;
+use nb_script::options::Options;
+use nb_script::reader::read_script;
+use nb_script::streams::{Sink, Source};
 use std::sync::Wait;
 use std::thread::Threads;
 

@@ -2,10 +2,10 @@
 ghost use Rattle.std.specs.Prelude.{◌≡◌, ◌≢◌, ◌⊎◌, ◌↔◌, false, IsTrue, IfOk, IfErr, IsErrOf, OnOk, Result};
 ghost use Rattle.nb_run.specs.Serving.{GiveNone, GiveOptions, HasFailed, HasShownHelp, HasRunAsAsked, IsServeFaultOf};
 
-use crate::faults::{RunFault, ServeFault};
-use crate::options::{OptionFault, Options, read_options};
 use crate::run::run;
-use crate::streams::{Sink, Source, write_all};
+use nb_script::faults::{RunFault, ServeFault};
+use nb_script::options::{OptionFault, Options, read_options};
+use nb_script::streams::{Sink, Source, write_all};
 use std::alloc::Global;
 use std::sync::Wait;
 use std::thread::Threads;

@@ -4,13 +4,13 @@ ghost use Rattle.std.specs.Prelude.{◌≡◌, false};
 mod ends;
 mod workers;
 
-use crate::faults::{RunFault, ServeFault};
-use crate::options::{OptionFault, Options};
 use crate::run::run;
-use crate::script::Cause;
 use crate::serve::serve;
-use crate::streams::{Failed, FromRead, FromWrite, Source};
 use nb_core::{Shape, ShapeFault};
+use nb_script::faults::{RunFault, ServeFault};
+use nb_script::options::{OptionFault, Options};
+use nb_script::script::Cause;
+use nb_script::streams::{Failed, FromRead, FromWrite, Source};
 use std::alloc::{AllocError, Global};
 use std::fmt::Display;
 use std::process::Abort;

@@ -7,10 +7,10 @@ ghost use Rattle.nb_run.specs.Working.{AreNumbered, HasMet, HasMetAs, HasRoom, H
 
 use crate::answers::Answer;
 use crate::gate::Gate;
-use crate::reader::Phase;
-use crate::script::Command;
 use nb_core::OutOfMemory;
 use nb_map::{Map, Seat};
+use nb_script::reader::Phase;
+use nb_script::script::Command;
 use std::snapshot::Snapshot;
 use std::sync::Wait;
 use std::thread;
@@ -22,33 +22,6 @@ pub(crate) struct Worker {
     pub(crate) number: usize,
     pub(crate) seat: Seat,
     pub(crate) answers: Vec<Answer>,
-}
-
-impl Command {
-    /// Makes the command's call.
-    fn answer<R: Wait>(&self, rt: &R, map: &Map, seat: &mut Seat) -> Answer
-        requires own { IsMine map.now seat.old }
-        ensures own { IsMine map.now seat.new }
-        ensures answered { IsAnswered map.now self.now result seat.old seat.new }
-        ensures worked { HasWorkedFor map.now self.now seat.old seat.new }
-    {
-        match *self {
-            Command::Get(key) => Answer::before(map.get(seat, key)),
-            Command::Put(key, number) => Answer::put(map.put(rt, seat, key, number)),
-            Command::PutIfAbsent(key, number) => {
-                Answer::put(map.put_if_absent(rt, seat, key, number))
-            }
-            Command::Replace(key, number) => Answer::before(map.replace(rt, seat, key, number)),
-            Command::ReplaceIf(key, old, new) => {
-                Answer::Matched(map.replace_if(rt, seat, key, old, new))
-            }
-            Command::Remove(key) => Answer::before(map.remove(rt, seat, key)),
-            Command::RemoveIf(key, number) => {
-                Answer::Matched(map.remove_if(rt, seat, key, number))
-            }
-            Command::Add(key, number) => Answer::added(map.add(rt, seat, key, number)),
-        }
-    }
 }
 
 impl Worker {
@@ -73,7 +46,7 @@ impl Worker {
         for (worker, command) in phase {
             if *worker == number {
                 gate.before(number, done);
-                let answer = command.answer(rt, map, &mut seat);
+                let answer = answer_to(rt, map, &mut seat, command);
                 gate.after(number, done);
                 answers.push_reserved(answer);
                 done += 1;
@@ -217,4 +190,27 @@ pub(crate) fn run_phases<R: Threads + Wait + Sync, G: Gate + Sync>(
         workers = meet_all(map, apart);
     }
     Ok(workers)
+}
+
+/// Makes the command's call.
+fn answer_to<R: Wait>(rt: &R, map: &Map, seat: &mut Seat, command: &Command) -> Answer
+    requires own { IsMine map.now seat.old }
+    ensures own { IsMine map.now seat.new }
+    ensures answered { IsAnswered map.now command.now result seat.old seat.new }
+    ensures worked { HasWorkedFor map.now command.now seat.old seat.new }
+{
+    match *command {
+        Command::Get(key) => Answer::before(map.get(seat, key)),
+        Command::Put(key, number) => Answer::put(map.put(rt, seat, key, number)),
+        Command::PutIfAbsent(key, number) => {
+            Answer::put(map.put_if_absent(rt, seat, key, number))
+        }
+        Command::Replace(key, number) => Answer::before(map.replace(rt, seat, key, number)),
+        Command::ReplaceIf(key, old, new) => {
+            Answer::Matched(map.replace_if(rt, seat, key, old, new))
+        }
+        Command::Remove(key) => Answer::before(map.remove(rt, seat, key)),
+        Command::RemoveIf(key, number) => { Answer::Matched(map.remove_if(rt, seat, key, number)) }
+        Command::Add(key, number) => Answer::added(map.add(rt, seat, key, number)),
+    }
 }

@@ -2,12 +2,12 @@
 ghost use Rattle.std.specs.Prelude.{◌≡◌, None, false};
 
 use super::{CONDITIONAL_ANSWERS, CONDITIONAL_WRITES, assert_runs, plain_options, words_of};
-use crate::faults::RunFault;
-use crate::options::OptionFault;
 use crate::run::run;
-use crate::script::Cause;
 use crate::serve::serve;
-use crate::streams::{Failed, FromRead, FromWrite, Sink, Source};
+use nb_script::faults::RunFault;
+use nb_script::options::OptionFault;
+use nb_script::script::Cause;
+use nb_script::streams::{Failed, FromRead, FromWrite, Sink, Source};
 use std::io;
 use std::io::{ErrorKind, Read, Write};
 use std::test::Fail;

@@ -3,10 +3,10 @@ ghost use Rattle.std.specs.Prelude.{◌≡◌, false};
 
 use super::{CONDITIONAL_ANSWERS, CONDITIONAL_WRITES, assert_serves, words_of};
 use crate::gate::Gate;
-use crate::options::Options;
 use crate::run::{run, run_gated};
-use crate::streams::{FromRead, FromWrite};
 use nb_core::Shape;
+use nb_script::options::Options;
+use nb_script::streams::{FromRead, FromWrite};
 use std::sync::atomic::{AtomicBool, AtomicU64, Ordering};
 use std::test::Fail;
 

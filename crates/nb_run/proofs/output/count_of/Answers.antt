@@ -1,7 +1,7 @@
 use Rattle.std.proofs.Common.{rules, ◌∙◌, sym, filter, ◌==◌, List, ℕ}
 use Rattle.std.proofs.lemmas.List.{length-map}
 use Rattle.std.proofs.lemmas.List.Sums.{length-filter}
-use Rattle.nb_run.specs.declared.script.Command.{Command}
+use Rattle.nb_script.specs.declared.script.Command.{Command}
 use Rattle.nb_run.proofs.output.count_of.Goals as goal
 
 pub returns : goal.returns

@@ -2,10 +2,10 @@ use Rattle.std.proofs.Common.{◌≡◌, ◌∙◌, ◌+◌, ◌<◌, ◌≤◌,
 use Rattle.std.proofs.lemmas.List.{length-map}
 use Rattle.std.proofs.lemmas.Option.{slice_get_within}
 use Rattle.nb_run.specs.Output.{Says, all_lines, left, phase_lines}
-use Rattle.nb_run.specs.Script.{Bytes, Phase}
+use Rattle.nb_script.specs.Script.{Bytes, Phase}
 use Rattle.nb_run.specs.Working.{commands_of}
 use Rattle.nb_run.specs.declared.answers.Answer.{Answer}
-use Rattle.nb_run.specs.declared.script.Command.{Command}
+use Rattle.nb_script.specs.declared.script.Command.{Command}
 use Rattle.nb_run.proofs.OutputLemmas.{answers-at, count-next, left-after, left-all, none-done, phases-next}
 use Rattle.nb_run.proofs.Saying.{HasSaid, has-begun, has-more}
 use Rattle.nb_run.proofs.output.tell.Goals as goal

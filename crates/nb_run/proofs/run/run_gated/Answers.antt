@@ -1,7 +1,8 @@
 use Rattle.std.proofs.Common.{rules, OnOk}
 use Rattle.std.proofs.lemmas.Result.{IfOk-weaker}
 use Rattle.nb_run.specs.Outcomes.{IsOutcome}
-use Rattle.nb_run.specs.Runs.{HasReadScript, HasRun}
+use Rattle.nb_run.specs.Runs.{HasRun}
+use Rattle.nb_script.specs.Inputs.{HasReadScript}
 use Rattle.nb_run.specs.Working.{phases_in}
 use Rattle.nb_run.proofs.Performed.{has-run}
 use Rattle.nb_run.proofs.run.run_gated.Goals as goal

@@ -22,16 +22,16 @@ loop-worker-preserved g c =
           let own : (item.result.0 == number) ≡ true = grind (arith, nat_tests, same) in
           let items = ap (λ v. v.items) b.answers-is ∙ b.push_reserved.ensures.items in
           let capacity = ap vec_capacity b.answers-is ∙ b.push_reserved.ensures.capacity in (
-            subst (IsMine m) (sym b.seat-is) b.answer-answer.ensures.own,
+            subst (IsMine m) (sym b.seat-is) b.answer_to-answer.ensures.own,
             subst₂ Running (sym items) (sym b.seat-is)
-                (running-more m number phase i item.result b.answer-answer.result _ _ _ _ _ c.loop-worker-test.true item.is own
-                (b.answer-answer.ensures.answered, b.answer-answer.ensures.worked) inv.1),
+                (running-more m number phase i item.result b.answer_to-answer.result _ _ _ _ _ c.loop-worker-test.true item.is own
+                (b.answer_to-answer.ensures.answered, b.answer_to-answer.ensures.worked) inv.1),
             omega (
               arith,
               inv.2,
               capacity,
               ap length items,
-              length-append c.loop-worker.answers.items (b.answer-answer.result ∷ []),
+              length-append c.loop-worker.answers.items (b.answer_to-answer.result ∷ []),
               room-own m number phase i item.result c.loop-worker-test.true item.is own,
             ),
             capacity ∙ inv.3,

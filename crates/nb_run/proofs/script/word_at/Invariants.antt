@@ -1,7 +1,0 @@
-use Rattle.std.proofs.Common.{◌≡◌, ℕ, ◌+◌, slice_get}
-use Rattle.nb_run.specs.Script.{words_of}
-use Rattle.nb_run.proofs.script.word_at.Given as goal
-
--- the words that are left are those behind the ones that were passed
-abbrev pub invariant-loop-passed : goal.invariant-loop-passed
-invariant-loop-passed l = (i : ℕ) → slice_get (words_of l.text) (l._passed + i) ≡ slice_get (words_of l.rest) i

@@ -1,0 +1,9 @@
+mod FaultLemmas
+mod FoundLemmas
+mod Numbers
+mod PlanLemmas
+mod Reading
+mod RuleLemmas
+mod Taken
+mod TextLemmas
+mod Words

@@ -1,0 +1,5 @@
+pub mod Faults
+pub mod Inputs
+pub mod Options
+pub mod Reading
+pub mod Script

@@ -1,0 +1,161 @@
+//! The options of the runner.
+ghost use Rattle.std.specs.Prelude.{◌≡◌, ◌≤◌, ◌^◌, false, ℕ, [], IfErr, IfNone, IfOk, IfSome, OnOk, map, string_bytes};
+ghost use Rattle.clap.specs.Words.{app_of, fault_of, found_of, kind_of, rows_of, rule_of};
+ghost use Rattle.nb_core.specs.Plans.{Plan};
+ghost use Rattle.nb_script.specs.Options.{AreGiven, ComesTo, IsDue, IsFound, nbrun, option_rule, plan_of_text};
+ghost use Rattle.nb_script.specs.Script.{number_of};
+
+use clap::error::ErrorKind;
+use clap::{Arg, ArgAction, ArgMatches, Command, value_parser};
+use nb_core::{MAX_GENERATIONS, Shape};
+use std::alloc::{AllocError, Global};
+use thiserror::Error;
+
+/// Why words give no options.
+#[derive(Debug, Drop, Error)]
+pub enum OptionFault {
+    #[error("bad usage")]
+    Usage,
+    /// The words ask for help, and this is its text.
+    #[error("{0}")]
+    Help(String),
+    #[error("out of memory")]
+    OutOfMemory,
+}
+
+impl From<AllocError> for OptionFault {
+    ghost use Rattle.nb_script.specs.declared.options.OptionFault.TheVariants.{OutOfMemory};
+
+    ghost from_gives = { λ _ fault. fault ≡ OutOfMemory };
+
+    fn from(_error: AllocError) -> OptionFault {
+        OptionFault::OutOfMemory
+    }
+}
+
+/// What a run is to be.
+#[derive(Clone, Copy, Debug, PartialEq, Eq)]
+pub struct Options {
+    /// How the map is laid out. Its seats are the workers.
+    pub shape: Shape,
+}
+
+/// `--NAME VALUE`, with one value.
+fn option<'a>(alloc: Global, name: &'a str, value: &'a str, help: &'a str) -> Arg<'a>
+    ensures rule { rule_of result ≡ option_rule name.entry.now }
+    ensures local { result.global ≡ false }
+{
+    Arg::new(alloc, name)
+        .long(name)
+        .action(ArgAction::Set)
+        .value_name(value)
+        .help(help)
+}
+
+/// The command line. Clap checks each number against its range.
+fn command<'a>(alloc: Global) -> Result<Command<'a>, AllocError>
+    ensures { IfOk result (λ command. app_of command ≡ nbrun) }
+{
+    let bits = option(alloc, "bits", "B", "The first table has 2^B slots")
+        .value_parser(value_parser!(u32).range(2..=12))
+        .default_value("4");
+    let generations = option(alloc, "generations", "G", "Tables, each twice the last")
+        .value_parser(value_parser!(u32).range(1..=8))
+        .default_value("4");
+    let seats = option(alloc, "seats", "S", "Workers at once")
+        .value_parser(value_parser!(u32).range(1..=8))
+        .default_value("1");
+    let stripes = option(alloc, "stripes", "P", "Words that a count is spread over")
+        .value_parser(value_parser!(u32).range(1..=8))
+        .default_value("1");
+    let plan = option(
+        alloc,
+        "plan",
+        "E,E,..",
+        "A table of 2^E slots for each E, in place of --bits and --generations",
+    );
+    Command::new(alloc, "nbrun")
+        .about("Runs a script of commands, read from standard input, on a map of whole numbers")
+        .arg(bits)?
+        .arg(generations)?
+        .arg(seats)?
+        .arg(stripes)?
+        .arg(plan)
+}
+
+/// What clap's error comes to.
+fn option_fault(alloc: Global, error: &clap::Error) -> OptionFault
+    ensures { ComesTo (kind_of error.now) result }
+{
+    match error.kind() {
+        ErrorKind::OutOfMemory => OptionFault::OutOfMemory,
+        ErrorKind::DisplayHelp => match error.to_string(alloc) {
+            Ok(text) => OptionFault::Help(text),
+            Err(_) => OptionFault::OutOfMemory,
+        },
+        _ => OptionFault::Usage,
+    }
+}
+
+/// The number that a plan's part writes, where it fits. A plus before it is refused.
+fn read_exponent(part: &str) -> Option<u32>
+    ensures some { IfSome result (λ n. number_of part.now ≡ Some n) }
+    ensures none { IfNone result ((n : ℕ) → number_of part.now ≡ Some n → 2 ^ 32 ≤ n) }
+{
+    if part.starts_with('+') {
+        None
+    } else {
+        part.parse().ok()
+    }
+}
+
+/// The shape whose exponents a plan's text writes.
+fn read_plan(text: &str, seats: usize, stripes: usize) -> Option<Shape>
+    ensures some { IfSome result (λ shape. plan_of_text text.now seats stripes ≡ Some shape) }
+    ensures none { IfNone result (plan_of_text text.now seats stripes ≡ None) }
+{
+    let mut exponents = [0; MAX_GENERATIONS];
+    let mut count = 0;
+    for part in text.split(',') {
+        if count == MAX_GENERATIONS {
+            return None;
+        }
+        exponents[count] = read_exponent(part)?;
+        count += 1;
+    }
+    Shape::with_plan(&exponents[..count], seats, stripes).ok()
+}
+
+/// The shape that clap's matches ask for.
+fn read_shape(matches: &ArgMatches<'_>) -> Option<Shape>
+    ensures some { IfSome result (IsFound (rows_of (found_of matches.now))) }
+    ensures none { IfNone result ((plan : Plan) →
+        ¬ (IsFound (rows_of (found_of matches.now)) plan)) }
+{
+    let bits = matches.get_one::<u32>("bits")?;
+    let generations = matches.get_one::<u32>("generations")?;
+    let seats = matches.get_one::<u32>("seats")? as usize;
+    let stripes = matches.get_one::<u32>("stripes")? as usize;
+    match matches.get_str("plan") {
+        Some(text) => read_plan(text, seats, stripes),
+        None => Shape::new(bits, generations, seats, stripes).ok(),
+    }
+}
+
+/// The options that the words give, of which the first is the program's name.
+pub fn read_options(alloc: Global, words: &[String]) -> Result<Options, OptionFault>
+    ensures given { IfOk result (λ options. AreGiven (map string_bytes words.now) options.shape) }
+    ensures fault { IfErr result (IsDue (map string_bytes words.now)) }
+{
+    let matches = match command(alloc)?.try_get_matches_from(words) {
+        Ok(matches) => matches,
+        Err(error) => return Err(option_fault(alloc, &error)),
+    };
+    let Some(shape) = read_shape(&matches) else {
+        return Err(OptionFault::Usage);
+    };
+    Ok(Options { shape })
+}
+
+#[cfg(test)]
+mod tests;
