@@ -11,6 +11,7 @@ mod Logged
 mod Made
 mod Parted
 mod Passing
+mod Replied
 mod Rounds
 mod Searched
 mod Sizes

@@ -1,9 +1,15 @@
 -- What follows of the calls that a seat made.
-use Rattle.std.specs.Prelude.{List, [], ◌++◌}
+use Rattle.std.specs.Prelude.{◌≡◌, List, [], ◌++◌}
+use Rattle.nb_core.specs.Log.{reply_at}
 use Rattle.nb_core.specs.declared.calls.Call.{Call}
 use Rattle.nb_core.specs.declared.calls.Reply.{Reply}
-use Rattle.nb_map.specs.Logs.{HasLogged}
+use Rattle.nb_map.specs.Logs.{HasLogged, HasReplied}
 use Rattle.nb_map.specs.Maps.{IsMine, MapOf, SeatOf}
+
+-- The reply of a call that a seat made is the call's for what was at its key.
+abbrev pub RepliesFit : Type 0
+RepliesFit =
+    (before after : SeatOf) (call : Call) (reply : Reply) → HasReplied call before after reply → reply ≡ reply_at call reply.before
 
 -- Calls add up: none, and some after others.
 pub record LogsAddUp : Type 0 where

@@ -1,12 +1,17 @@
 //! What a crate above may rest on while its seats make one call after another. Each function carries a law as its contract, so that
 //! the gate guards it; nobody calls it. A crate above takes the laws as theorems, from `proofs/Theorems.antt`.
 ghost use Rattle.nb_map.specs.Crowding.{AsksAddUp, CrowdedByCalls};
-ghost use Rattle.nb_map.specs.Laws.{LogsAddUp};
+ghost use Rattle.nb_map.specs.Laws.{LogsAddUp, RepliesFit};
 ghost use Rattle.nb_map.specs.Walks.{WalkLasts, WholeWalk};
 
 /// Calls add up: what a seat's log was, and which calls it made.
 pub fn logs_add_up()
     ensures { LogsAddUp }
+{}
+
+/// The reply of a call that a seat made is the call's for what was at its key.
+pub fn replies_fit()
+    ensures { RepliesFit }
 {}
 
 /// What seats are asked adds up: a seat claims a key that is new to the tables only for a call that puts a number at it.

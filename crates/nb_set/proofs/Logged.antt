@@ -3,7 +3,6 @@ use Rattle.std.proofs.Common.{◌≡◌, ◌∙◌, ℕ, ◌==◌, Bool, true, f
 use Rattle.std.specs.Result.{IfErr}
 use Rattle.std.proofs.lemmas.List.{append_assoc, map-append}
 use Rattle.nb_core.specs.Log.{reply_at}
-use Rattle.nb_core.specs.Log as map_log
 use Rattle.nb_core.specs.declared.calls.Call as map_call
 use Rattle.nb_core.specs.declared.calls.Reply.{Reply}
 use Rattle.nb_map.specs.Logs as of_map
@@ -12,7 +11,7 @@ use Rattle.nb_set.specs.Laws.{LogsAddUp}
 use Rattle.nb_set.specs.Log.{Add, Call, Contains, Entry, Remove, calls_of}
 use Rattle.nb_set.specs.OfMap.{call_as, call_for, entry_as, log_as}
 use Rattle.nb_set.specs.Sets.{HasLogged, HasReplied, SeatOf, log, number_of}
-use Rattle.nb_set.proofs.Read.{calls-as, read, replies-at}
+use Rattle.nb_set.proofs.Read.{calls-as, read}
 
 -- the log of a seat after calls of the map
 pub logged-as :
@@ -31,10 +30,7 @@ replied-as :
     {before after : SeatOf} (call : map_call.Call) (reply : Reply) → of_map.HasReplied call before.map after.map reply
     → HasLogged before after (call_as (call, reply_at call reply.before) ∷ [])
 replied-as {before} {after} call reply logged =
-    let same =
-    replies-at logged.later (of_map.log before.map) (number_of before) call reply (subst map_log.IsReplayed logged.grown logged.replayed)
-    logged.own in
-    subst (λ r. HasLogged before after (call_as (call, r) ∷ [])) same (logged-as logged)
+    subst (λ r. HasLogged before after (call_as (call, r) ∷ [])) (theorems.replies_fit before.map after.map call reply logged) (logged-as logged)
 
 -- ---- each call of the set
 

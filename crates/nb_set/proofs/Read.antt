@@ -1,5 +1,5 @@
 -- A map's log, read as that of the set of its keys.
-use Rattle.std.proofs.Common.{◌≡◌, ◌∙◌, ℕ, ◌||◌, ◌==◌, Bool, true, false, not, cond, if◌then◌else◌, List, [], ◌∷◌, ◌++◌, map, Option, Some, None, is_some, ap, sym, subst, refl, length, unwrap_or, ◌+◌, ◌&&◌, arith}
+use Rattle.std.proofs.Common.{◌≡◌, ◌∙◌, ℕ, ◌||◌, ◌==◌, Bool, true, false, not, cond, if◌then◌else◌, List, [], ◌∷◌, ◌++◌, map, Option, Some, None, is_some, ap, sym, subst, refl, unwrap_or, ◌+◌, ◌&&◌}
 use Rattle.std.proofs.lemmas.List.{map-append}
 use Rattle.std.specs.FinMap.{FinMap, contains_key, get, get-empty, get-insert, get-remove, get_tied, insert, remove}
 use Rattle.std.specs.Ordering.{eq_by_cmp, nat_cmp}
@@ -9,7 +9,6 @@ use Rattle.nb_core.specs.Log as map_log
 use Rattle.nb_core.specs.declared.calls.Call as map_call
 use Rattle.nb_core.specs.declared.calls.Call.TheVariants as on_map
 use Rattle.nb_core.specs.declared.calls.Change.TheVariants as change
-use Rattle.nb_core.specs.declared.calls.Reply.{Reply}
 use Rattle.nb_set.specs.Log.{Call, IsReplayed, Keys, calls_of, reply_of, set_after, set_of_log}
 use Rattle.nb_set.specs.OfMap.{call_as, entry_as, log_as, put_as, removal_as}
 
@@ -88,10 +87,6 @@ step keys m (on_map.Write k want change.Remove) are = removal-step keys m k (hol
 
 -- ---- logs
 
-abbrev head-or : {A : Type 0} → A → List A → A
-head-or a [] = a
-head-or a (x ∷ xs) = x
-
 -- The log of a map that is replayed is so as that of the set, and the set that it leaves has the map's keys.
 pub read : (log : List map_log.Entry) → map_log.IsReplayed log → IsReplayed (log_as log) × AreKeys (set_of_log (log_as log)) (map_of_log log)
 read [] replayed = (tt, λ k. ap is_some (get-empty nat_cmp k) ∙ ap is_some (sym (get-empty nat_cmp k)))
@@ -121,29 +116,3 @@ begins-as {first} begun = record { later = log_as begun.later; is = ap log_as be
 pub begins-replayed : (later first : List map_log.Entry) → map_log.IsReplayed (later ++ first) → map_log.IsReplayed first
 begins-replayed [] first replayed = replayed
 begins-replayed (entry ∷ later) first replayed = begins-replayed later first replayed.1
-
--- where a seat made one call, its reply is that of the map for what was at its key
-pub replies-at :
-    (later first : List map_log.Entry) (seat : ℕ) (call : map_call.Call) (reply : Reply) → map_log.IsReplayed (later ++ first)
-    → map_log.calls_of seat later ≡ (call, reply) ∷ [] → reply ≡ reply_at call reply.before
-replies-at [] first seat call reply replayed made = absurd (omega (arith, ap length made))
-replies-at (entry ∷ later) first seat call reply (is, replayed) made =
-    own (entry.seat == seat) refl (replies-at later first seat call reply replayed)
-  where
-    -- what a call replies on a map it replies for what is there at its key
-    replied-at : (call : map_call.Call) (m : Numbers) → map_log.reply_of call m ≡ reply_at call (map_log.reply_of call m).before
-    replied-at (on_map.Get k) m = refl
-    replied-at (on_map.Write k want change) m = refl
-
-    at-entry : entry.reply ≡ reply_at entry.call entry.reply.before
-    at-entry = subst (λ r. r ≡ reply_at entry.call r.before) (sym is) (replied-at entry.call (map_of_log (later ++ first)))
-
-    Calls : Bool → Type 0
-    Calls b = (if b then (entry.call, entry.reply) ∷ map_log.calls_of seat later else map_log.calls_of seat later) ≡ (call, reply) ∷ []
-
-    own : (b : Bool) → (entry.seat == seat) ≡ b → (map_log.calls_of seat later ≡ (call, reply) ∷ [] → reply ≡ reply_at call reply.before)
-        → reply ≡ reply_at call reply.before
-    own true mine before =
-        let same : ◌≡◌ {A = map_call.Call × Reply} (entry.call, entry.reply) (call, reply) = ap (head-or (call, reply)) (subst Calls mine made) in
-        subst (λ made. made.1 ≡ reply_at made.0 made.1.before) same at-entry
-    own false other before = before (subst Calls other made)

@@ -1,0 +1,14 @@
+//! A map from whole numbers to values of any type, which many threads share.
+//!
+//! Each write stores its value first, and a value stays until the store is dropped, also where its key was written over or taken
+//! out, or the write was refused: memory grows with the writes, not with the keys.
+#![tactic(auto)]
+
+mod map;
+mod store;
+
+pub use map::{LongFault, LongMap, Stored, Unshown};
+pub use store::{Found, Placed, Receipt, Store, StoreFault};
+
+#[cfg(test)]
+mod tests;

@@ -1,0 +1,238 @@
+//! The typed map, and its calls.
+ghost use Rattle.std.specs.Prelude.{◌≡◌, ◌+◌, ◌≤◌, ◌↔◌, ℕ, IfOk, IfErr, Option, [], is_ok, length, true};
+ghost use Rattle.nb_core.specs.Log.{IsBeginning, reply_at};
+ghost use Rattle.nb_core.specs.Plans.{IsPlan};
+ghost use Rattle.nb_core.specs.declared.calls.Call.TheVariants as call;
+ghost use Rattle.nb_core.specs.declared.calls.Change.TheVariants as change;
+ghost use Rattle.nb_core.specs.declared.calls.Want.TheVariants as want;
+ghost use Rattle.nb_map.specs.Ending.{EndedWith};
+ghost use Rattle.nb_map.specs.Logs.{HasFound, HasLogged, HasReplied, log};
+ghost use Rattle.nb_map.specs.Looking.{IsSeenAtHome, get_steps};
+ghost use Rattle.nb_map.specs.Maps.{AreMine, HasWorked, IsMine, seats_of};
+ghost use Rattle.nb_map.specs.Refusing.{IsLockFree};
+ghost use Rattle.nb_long.specs.Typed.{HasWritten, IsFound, IsRefused, as_fault};
+
+use crate::store::{Found, Placed, Receipt, Store, StoreFault};
+use nb_core::{Key, NotAll, Num, OutOfMemory, Shape};
+use nb_map::{Ended, Full, Map, Seat};
+use std::alloc::Global;
+use std::marker::Model;
+use std::sync::Wait;
+
+/// A map from keys to values of any type, which many threads share. Each value is stored once, and the map has its number.
+#[derive(Drop)]
+pub struct LongMap<V> {
+    map: Map,
+    store: Store<V>,
+}
+
+impl<V> Model for LongMap<V> {
+    ghost use Rattle.nb_long.specs.Typed.{LongMapOf};
+
+    ghost Value = { LongMapOf };
+
+    ghost view = { λ m. record { map = m.map; store = m.store } };
+}
+
+/// What a typed write came to.
+#[derive(Drop)]
+pub struct Stored<V> {
+    /// The number that the key had before, or none.
+    pub before: Option<Num>,
+    /// Whether the key has the value's number now.
+    pub done: bool,
+    /// What reads the value, written or not, for as long as the store lasts.
+    pub receipt: Receipt<V>,
+}
+
+/// The store didn't show a number that the map gave. Tests show that this never comes.
+#[derive(Clone, Copy, Debug, PartialEq, Eq)]
+pub struct Unshown;
+
+/// Why a value wasn't written. It is handed back, or what reads it.
+#[derive(Drop)]
+pub enum LongFault<V> {
+    /// There is no memory for the value: it comes back.
+    OutOfMemory(V),
+    /// It is stored, but past the greatest value number. `Store::placed_value` reads it.
+    ValueRange(Placed<V>),
+    /// It is stored, but other keys have all slots of the last table. `Store::value` reads it.
+    Full(Receipt<V>),
+    /// It is stored, but the store didn't show a number that the map gave.
+    Unshown(Receipt<V>),
+}
+
+impl<V: Drop> LongMap<V> {
+    /// An empty map with an empty store, and its seats.
+    pub fn new(alloc: Global, shape: Shape) -> Result<(LongMap<V>, Vec<Seat>), OutOfMemory>
+        ensures shape { IfOk result (λ made. made.0.map.chain.shape ≡ shape) }
+        ensures plan { IfOk result (λ made. IsPlan made.0.map.chain.shape) }
+        ensures seats { IfOk result (λ made. made.1.items ≡ seats_of made.0.map 0 shape.seats) }
+        ensures own { IfOk result (λ made. AreMine made.0.map made.1.items) }
+    {
+        let store = Store::new(alloc)?;
+        let (map, seats) = Map::new(alloc, shape)?;
+        Ok((LongMap { map, store }, seats))
+    }
+
+    /// Stores a value and puts its number at a key. `ConcurrentMap.put`, but that it answers the number that was there.
+    ///
+    /// The value is stored first, whatever comes of the write, and stays until the store is dropped. Lock-free, with the bound of
+    /// `Map::put`, once the value is stored.
+    pub fn put<R: Wait>(
+        &self,
+        rt: &R,
+        seat: &mut Seat,
+        key: Key,
+        value: V,
+    ) -> Result<Stored<V>, LongFault<V>>
+        requires own { IsMine self.now.map seat.old }
+        ensures written { IfOk result (HasWritten self.now key want.Any value seat.old seat.new) }
+        ensures refused { IfErr result (IsRefused self.now key want.Any value seat.old seat.new) }
+        ensures own { IsMine self.now.map seat.new }
+    {
+        let receipt = match self.store.push(rt, value) {
+            Ok(receipt) => receipt,
+            Err(fault) => return Err(unstored(fault)),
+        };
+        match self.map.put(rt, seat, key, receipt.number()) {
+            Ok(before) => Ok(Stored {
+                before,
+                done: true,
+                receipt,
+            }),
+            Err(Full) => Err(LongFault::Full(receipt)),
+        }
+    }
+
+    /// Stores a value and puts its number at a key that has none. `ConcurrentMap.putIfAbsent`. As `put` else: the value is stored
+    /// even where the key is there.
+    pub fn put_if_absent<R: Wait>(
+        &self,
+        rt: &R,
+        seat: &mut Seat,
+        key: Key,
+        value: V,
+    ) -> Result<Stored<V>, LongFault<V>>
+        requires own { IsMine self.now.map seat.old }
+        ensures written { IfOk result (HasWritten self.now key want.Absent value seat.old seat.new) }
+        ensures refused { IfErr result (IsRefused self.now key want.Absent value seat.old seat.new) }
+        ensures own { IsMine self.now.map seat.new }
+    {
+        let receipt = match self.store.push(rt, value) {
+            Ok(receipt) => receipt,
+            Err(fault) => return Err(unstored(fault)),
+        };
+        match self.map.put_if_absent(rt, seat, key, receipt.number()) {
+            Ok(before) => Ok(Stored {
+                before,
+                done: before.is_none(),
+                receipt,
+            }),
+            Err(Full) => Err(LongFault::Full(receipt)),
+        }
+    }
+
+    /// Stores a value and puts its number in place of another. `ConcurrentMap.replace` of two arguments. As `put` else, but it is
+    /// never full.
+    pub fn replace<R: Wait>(
+        &self,
+        rt: &R,
+        seat: &mut Seat,
+        key: Key,
+        value: V,
+    ) -> Result<Stored<V>, LongFault<V>>
+        requires own { IsMine self.now.map seat.old }
+        ensures written { IfOk result (HasWritten self.now key want.Present value seat.old seat.new) }
+        ensures refused { IfErr result (IsRefused self.now key want.Present value seat.old seat.new) }
+        ensures own { IsMine self.now.map seat.new }
+    {
+        let receipt = match self.store.push(rt, value) {
+            Ok(receipt) => receipt,
+            Err(fault) => return Err(unstored(fault)),
+        };
+        let before = self.map.replace(rt, seat, key, receipt.number());
+        Ok(Stored {
+            before,
+            done: before.is_some(),
+            receipt,
+        })
+    }
+}
+
+impl<V> LongMap<V> {
+    /// The store of the map's values.
+    pub fn store(&self) -> &Store<V>
+        ensures { result.now ≡ self.now.store }
+    {
+        &self.store
+    }
+
+    /// What the map has at a key. It is a `get` of the map of numbers, and a look at the store; it waits for nobody.
+    pub fn get(&self, seat: &mut Seat, key: Key) -> Result<Option<Found<'_, V>>, Unshown>
+        requires own { IsMine self.now.map seat.old }
+        ensures found { (number : Option ℕ) × IsFound self.now.store number result × HasReplied (call.Get key) seat.old seat.new (reply_at (call.Get key) number) }
+        ensures worked { HasWorked self.now.map (call.Get key) seat.old seat.new (get_steps self.now.map.chain.shape) }
+        ensures three_steps { IsSeenAtHome self.now.map.chain.shape seat.old.chain seat.new.chain key
+            → seat.new.chain.steps ≤ seat.old.chain.steps + 3 }
+        ensures own { IsMine self.now.map seat.new }
+    {
+        let Some(number) = self.map.get(seat, key) else {
+            return Ok(None);
+        };
+        match self.store.show(number) {
+            Some(found) => Ok(Some(found)),
+            None => Err(Unshown),
+        }
+    }
+
+    /// Takes out a key, and answers the number that was there. `ConcurrentMap.remove`. The value stays in the store.
+    pub fn remove<R: Wait>(&self, rt: &R, seat: &mut Seat, key: Key) -> Option<Num>
+        requires own { IsMine self.now.map seat.old }
+        ensures found { HasFound (call.Write key want.Any change.Remove) seat.old seat.new result }
+        ensures lock_free { IsLockFree self.now.map (call.Write key want.Any change.Remove) seat.old seat.new }
+        ensures own { IsMine self.now.map seat.new }
+    {
+        self.map.remove(rt, seat, key)
+    }
+
+    /// Lets each of two seats see all that the other has seen.
+    pub fn meet(&self, a: &mut Seat, b: &mut Seat)
+        requires a_own { IsMine self.now.map a.old }
+        requires b_own { IsMine self.now.map b.old }
+        ensures a { HasLogged a.old a.new [] × IsBeginning (log b.old) (log a.new) }
+        ensures b { HasLogged b.old b.new [] × IsBeginning (log a.old) (log b.new) }
+        ensures a_own { IsMine self.now.map a.new }
+        ensures b_own { IsMine self.now.map b.new }
+    {
+        self.map.meet(a, b);
+    }
+
+    /// With all seats: what is left of the map of numbers, and the store. With another number of seats everything comes back.
+    pub fn finish(self, seats: Vec<Seat>) -> Result<(Ended, Store<V>), NotAll<LongMap<V>, Seat>>
+        requires own { AreMine self.map seats.items }
+        ensures all { (is_ok result ≡ true) ↔ (length seats.items ≡ self.map.chain.shape.seats) }
+        ensures ended { IfOk result (λ left. EndedWith seats.items left.0) }
+        ensures store { IfOk result (λ left. left.1 ≡ self.store) }
+        ensures back { IfErr result (λ given. (given.whole ≡ self) × (given.seats.items ≡ seats.items)) }
+    {
+        let LongMap { map, store } = self;
+        match map.finish(seats) {
+            Ok(ended) => Ok((ended, store)),
+            Err(NotAll { whole: map, seats }) => Err(NotAll {
+                whole: LongMap { map, store },
+                seats,
+            }),
+        }
+    }
+}
+
+/// A fault of the store, as one of the map.
+fn unstored<V>(fault: StoreFault<V>) -> LongFault<V>
+    ensures { result ≡ as_fault fault }
+{
+    match fault {
+        StoreFault::OutOfMemory(value) => LongFault::OutOfMemory(value),
+        StoreFault::ValueRange(placed) => LongFault::ValueRange(placed),
+    }
+}
