@@ -1,12 +1,16 @@
 -- How contracts see a typed map, and what its calls do: each is calls of the map of numbers, in its log, with values that the store
 -- holds under these numbers.
-use Rattle.std.specs.Prelude.{◌≡◌, ℕ, Option, Some, None, Result, Ok, Err}
+use Rattle.std.specs.Prelude.{◌≡◌, ℕ, Bool, true, false, List, ◌∷◌, Option, Some, None, Result, Ok, Err, All}
 use Rattle.boxcar.specs.Table.{Shelves, Shows, Where}
 use Rattle.nb_core.specs.declared.calls.Call.{Call}
 use Rattle.nb_core.specs.declared.calls.Call.TheVariants as call
+use Rattle.nb_core.specs.declared.calls.Change.{Change}
 use Rattle.nb_core.specs.declared.calls.Change.TheVariants as change
 use Rattle.nb_core.specs.declared.calls.Want.{Want}
-use Rattle.nb_map.specs.Logs.{HasReplied}
+use Rattle.nb_core.specs.declared.calls.Want.TheVariants as want
+use Rattle.nb_core.specs.Log.{reply_at}
+use Rattle.nb_core.specs.declared.calls.Reply.{Reply}
+use Rattle.nb_map.specs.Logs.{HasLogged, HasReplied}
 use Rattle.nb_map.specs.Maps.{MapOf, SeatOf}
 use Rattle.nb_map.specs.Refusing.{HasRefused, IsLockFree}
 use Rattle.nb_map.specs.declared.waiting.AddFault.TheVariants as add_fault
@@ -59,3 +63,48 @@ IsRefused m key want value before after (fault.Full receipt) =
     HasStored m.store value receipt × HasRefused m.map (put_of key want receipt) before after add_fault.Full
     × IsLockFree m.map (put_of key want receipt) before after
 IsRefused m key want value before after (fault.Unshown receipt) = ⊥
+
+-- ---- writes where an equal value stands
+
+-- a call of the key that has changed nothing: a read, or a write whose condition didn't hold
+abbrev pub IsIdle : (key : ℕ) → Call × Reply → Type 0
+IsIdle key (call.Get k, reply) = k ≡ key
+IsIdle key (call.Write k want change, reply) = (k ≡ key) × (reply.matched ≡ false)
+
+-- the seat has made such calls alone, or none
+pub record HasIdled (key : ℕ) (before after : SeatOf) : Type 0 where
+  pub calls : List (Call × Reply)
+  pub idle : All (IsIdle key) calls
+  pub logged : HasLogged before after calls
+
+-- The seat has made this call, after none or some that have changed nothing.
+pub record HasMadeLast (key : ℕ) (call : Call) (reply : Reply) (before after : SeatOf) : Type 0 where
+  pub earlier : List (Call × Reply)
+  pub idle : All (IsIdle key) earlier
+  pub logged : HasLogged before after ((call, reply) ∷ earlier)
+
+-- the store shows a value under the number, and this is whether it is equal to the given one
+abbrev pub IsCompared : {V : Type 0} → (V → V → Bool) → Shelves → V → (number : ℕ) → Bool → Type 0
+IsCompared {V} eq store value number equal = (found : Where V) × Shows store found × (found.index ≡ number) × (eq found.value value ≡ equal)
+
+-- What the key had at last, and whether the write was made. It was where the key's value was equal to the given one: the last call
+-- is a write that matched on its number. Else the last call is a read, which found no number, or a value that isn't equal.
+abbrev pub HasChangedIf :
+    {V : Type 0} → (V → V → Bool) → LongMapOf → (key : ℕ) → V → Change → (before after : SeatOf) → Option ℕ → Bool → Type 0
+HasChangedIf eq m key value change before after (Some n) true =
+    IsCompared eq m.store value n true × HasMadeLast key (call.Write key (want.Equal n) change) (record { before = Some n; matched = true }) before after
+HasChangedIf eq m key value change before after (Some n) false =
+    IsCompared eq m.store value n false × HasMadeLast key (call.Get key) (reply_at (call.Get key) (Some n)) before after
+HasChangedIf eq m key value change before after None true = ⊥
+HasChangedIf eq m key value change before after None false = HasMadeLast key (call.Get key) (reply_at (call.Get key) None) before after
+
+-- the last call is a read of a number that the store didn't show, and nothing was changed
+abbrev pub IsUnshown : (key : ℕ) → (before after : SeatOf) → Type 0
+IsUnshown key before after = (n : ℕ) × HasMadeLast key (call.Get key) (reply_at (call.Get key) (Some n)) before after
+
+-- What is given back where a value isn't written in place of an equal one. There is always a slot for it.
+abbrev pub IsRefusedIf : {V : Type 0} → LongMapOf → (key : ℕ) → V → (before after : SeatOf) → LongFault V → Type 0
+IsRefusedIf m key value before after (fault.OutOfMemory back) = GivesBack m.store value (store_fault.OutOfMemory back) × (after ≡ before)
+IsRefusedIf m key value before after (fault.ValueRange placed) = GivesBack m.store value (store_fault.ValueRange placed) × (after ≡ before)
+IsRefusedIf m key value before after (fault.Full receipt) = ⊥
+IsRefusedIf m key value before after (fault.Unshown receipt) = HasStored m.store value receipt × IsUnshown key before after

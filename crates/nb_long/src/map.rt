@@ -1,6 +1,7 @@
 //! The typed map, and its calls.
-ghost use Rattle.std.specs.Prelude.{◌≡◌, ◌+◌, ◌≤◌, ◌↔◌, ℕ, IfOk, IfErr, Option, [], is_ok, length, true};
-ghost use Rattle.nb_core.specs.Log.{IsBeginning, reply_at};
+ghost use Rattle.std.specs.Prelude.{◌≡◌, ◌+◌, ◌≤◌, ◌↔◌, ℕ, false, IfOk, IfErr, IfNone, IfSome, Option, [], is_ok, length, true};
+ghost use Rattle.nb_core.specs.Calls.{overflows};
+ghost use Rattle.nb_core.specs.Log.{IsBeginning, Numbers, reply_at};
 ghost use Rattle.nb_core.specs.Plans.{IsPlan};
 ghost use Rattle.nb_core.specs.declared.calls.Call.TheVariants as call;
 ghost use Rattle.nb_core.specs.declared.calls.Change.TheVariants as change;
@@ -10,14 +11,16 @@ ghost use Rattle.nb_map.specs.Logs.{HasFound, HasLogged, HasReplied, log};
 ghost use Rattle.nb_map.specs.Looking.{IsSeenAtHome, get_steps};
 ghost use Rattle.nb_map.specs.Maps.{AreMine, HasWorked, IsMine, seats_of};
 ghost use Rattle.nb_map.specs.Refusing.{IsLockFree};
-ghost use Rattle.nb_long.specs.Typed.{HasWritten, IsFound, IsRefused, as_fault};
+ghost use Rattle.nb_long.specs.Stores.{HasStored};
+ghost use Rattle.nb_long.specs.Typed.{HasChangedIf, HasIdled, HasWritten, IsFound, IsRefused, IsRefusedIf, IsUnshown, as_fault};
 
 use crate::store::{Found, Placed, Receipt, Store, StoreFault};
-use nb_core::{Key, NotAll, Num, OutOfMemory, Shape};
-use nb_map::{Ended, Full, Map, Seat};
+use nb_core::{Change, Key, NotAll, Num, OutOfMemory, Shape, Want};
+use nb_map::{Ended, Full, Map, PutFault, Seat};
 use std::alloc::Global;
 use std::marker::Model;
 use std::sync::Wait;
+use thiserror::Error;
 
 /// A map from keys to values of any type, which many threads share. Each value is stored once, and the map has its number.
 #[derive(Drop)]
@@ -45,20 +48,34 @@ pub struct Stored<V> {
     pub receipt: Receipt<V>,
 }
 
+/// What a write where an equal value stands came to.
+#[derive(Clone, Copy)]
+struct Changed {
+    /// What the key had at last.
+    before: Option<Num>,
+    /// Whether the write was made.
+    done: bool,
+}
+
 /// The store didn't show a number that the map gave. Tests show that this never comes.
-#[derive(Clone, Copy, Debug, PartialEq, Eq)]
+#[derive(Clone, Copy, Debug, PartialEq, Eq, Error)]
+#[error("a value isn't shown")]
 pub struct Unshown;
 
 /// Why a value wasn't written. It is handed back, or what reads it.
-#[derive(Drop)]
+#[derive(Debug, Drop, Error)]
 pub enum LongFault<V> {
     /// There is no memory for the value: it comes back.
+    #[error("out of memory")]
     OutOfMemory(V),
     /// It is stored, but past the greatest value number. `Store::placed_value` reads it.
+    #[error("value number too large")]
     ValueRange(Placed<V>),
     /// It is stored, but other keys have all slots of the last table. `Store::value` reads it.
+    #[error("the map is full")]
     Full(Receipt<V>),
     /// It is stored, but the store didn't show a number that the map gave.
+    #[error("a value isn't shown")]
     Unshown(Receipt<V>),
 }
 
@@ -158,6 +175,43 @@ impl<V: Drop> LongMap<V> {
             receipt,
         })
     }
+
+    /// Stores a value and puts its number where the key has a value equal to `old`. `ConcurrentMap.replace` of three arguments, by
+    /// `V`'s equality. As `put` else, but it is never full.
+    ///
+    /// It reads the key's number, compares, and writes if the number is still there; else it begins again. So each time but the
+    /// last it is another seat's write of the key that held it up, also one that put an equal value.
+    pub fn replace_if<R: Wait>(
+        &self,
+        rt: &R,
+        seat: &mut Seat,
+        key: Key,
+        old: &V,
+        new: V,
+    ) -> Result<Stored<V>, LongFault<V>>
+    where
+        V: PartialEq,
+        requires own { IsMine self.now.map seat.old }
+        ensures stored { IfOk result (λ stored. HasStored self.now.store new stored.receipt) }
+        ensures changed { IfOk result (λ stored. HasChangedIf V.eq self.now key old.now (change.Put stored.receipt.index) seat.old seat.new
+            stored.before stored.done) }
+        ensures refused { IfErr result (IsRefusedIf self.now key new seat.old seat.new) }
+        ensures own { IsMine self.now.map seat.new }
+    {
+        let receipt = match self.store.push(rt, new) {
+            Ok(receipt) => receipt,
+            Err(fault) => return Err(unstored(fault)),
+        };
+        let change = Change::Put(receipt.number());
+        match self.change_if(rt, seat, key, old, &change) {
+            Ok(Changed { before, done }) => Ok(Stored {
+                before,
+                done,
+                receipt,
+            }),
+            Err(Unshown) => Err(LongFault::Unshown(receipt)),
+        }
+    }
 }
 
 impl<V> LongMap<V> {
@@ -194,6 +248,94 @@ impl<V> LongMap<V> {
         ensures own { IsMine self.now.map seat.new }
     {
         self.map.remove(rt, seat, key)
+    }
+
+    /// Takes out a key that has a value equal to this one, by `V`'s equality, and answers whether it did. `ConcurrentMap.remove` of
+    /// two arguments. The value stays in the store. It goes on as `replace_if` does.
+    pub fn remove_if<R: Wait>(
+        &self,
+        rt: &R,
+        seat: &mut Seat,
+        key: Key,
+        value: &V,
+    ) -> Result<bool, Unshown>
+    where
+        V: PartialEq,
+        requires own { IsMine self.now.map seat.old }
+        ensures changed { IfOk result (λ done. (number : Option ℕ) × HasChangedIf V.eq self.now key value.now change.Remove seat.old seat.new number done) }
+        ensures unshown { IfErr result (λ fault. IsUnshown key seat.old seat.new) }
+        ensures own { IsMine self.now.map seat.new }
+    {
+        let changed = self.change_if(rt, seat, key, value, &Change::Remove)?;
+        Ok(changed.done)
+    }
+
+    /// Changes what a key has, where that is a value equal to this one.
+    fn change_if<R: Wait>(
+        &self,
+        rt: &R,
+        seat: &mut Seat,
+        key: Key,
+        value: &V,
+        change: &Change,
+    ) -> Result<Changed, Unshown>
+    where
+        V: PartialEq,
+        requires own { IsMine self.now.map seat.old }
+        requires in_range { (n : ℕ) (m : Numbers) → overflows (call.Write key (want.Equal n) change.now) m ≡ false }
+        ensures changed { IfOk result (λ changed. HasChangedIf V.eq self.now key value.now change.now seat.old seat.new changed.before changed.done) }
+        ensures unshown { IfErr result (λ fault. IsUnshown key seat.old seat.new) }
+        ensures own { IsMine self.now.map seat.new }
+    {
+        for _ in rt.forever() {
+            if let Some(changed) = self.change_once(seat, key, value, change)? {
+                return Ok(changed);
+            }
+        }
+        unreachable!()
+    }
+
+    /// The same, or none where another seat has written the key since it was read.
+    fn change_once(
+        &self,
+        seat: &mut Seat,
+        key: Key,
+        value: &V,
+        change: &Change,
+    ) -> Result<Option<Changed>, Unshown>
+    where
+        V: PartialEq,
+        requires own { IsMine self.now.map seat.old }
+        requires in_range { (n : ℕ) (m : Numbers) → overflows (call.Write key (want.Equal n) change.now) m ≡ false }
+        ensures changed { IfOk result (λ round. IfSome round (λ changed. HasChangedIf V.eq self.now key value.now change.now seat.old seat.new
+            changed.before changed.done)) }
+        ensures idle { IfOk result (λ round. IfNone round (HasIdled key seat.old seat.new)) }
+        ensures unshown { IfErr result (λ fault. IsUnshown key seat.old seat.new) }
+        ensures own { IsMine self.now.map seat.new }
+    {
+        let Some(found) = self.get(seat, key)? else {
+            return Ok(Some(Changed {
+                before: None,
+                done: false,
+            }));
+        };
+        let number = found.number();
+        let before = Some(number);
+        if found.value() != value {
+            return Ok(Some(Changed {
+                before,
+                done: false,
+            }));
+        }
+        match self
+            .map
+            .put_if_match(seat, key, Want::Equal(number), *change, 1)
+        {
+            Ok(reply) if reply.matched => Ok(Some(Changed { before, done: true })),
+            Ok(_) => Ok(None),
+            Err(PutFault::Contended) => Ok(None),
+            Err(_) => unreachable!(),
+        }
     }
 
     /// Lets each of two seats see all that the other has seen.

@@ -7,8 +7,12 @@ ghost use Rattle.nb_long.specs.Stores.{GivesBack, HasStored};
 use boxcar::Pushed;
 use nb_core::{Num, OutOfMemory};
 use std::alloc::Global;
+use std::fmt;
+use std::fmt::{Debug, Formatter};
 use std::marker::Model;
+use std::ops::Deref;
 use std::sync::Wait;
+use thiserror::Error;
 
 /// Values of which each is stored once, by any thread, and stays until the store is dropped.
 #[derive(Drop)]
@@ -95,13 +99,25 @@ impl<'a, V> Model for Found<'a, V> {
     ghost invariant = { λ f. (f.number ≡ f.pushed.index) × (f.value.now ≡ f.pushed.value) };
 }
 
+impl<V> Deref for Found<'_, V> {
+    type Target = V;
+
+    ghost deref_gives = { λ found value. value ≡ found.value };
+
+    fn deref(&self) -> &V {
+        self.value
+    }
+}
+
 impl<'a, V> Found<'a, V> {
+    /// The number under which the store holds the value, and which the map had.
     pub fn number(&self) -> Num
         ensures { result ≡ self.now.index }
     {
         self.number
     }
 
+    /// The value, which lives as long as the store does.
     pub fn value(&self) -> &'a V
         ensures { result.now ≡ self.now.value }
     {
@@ -109,12 +125,28 @@ impl<'a, V> Found<'a, V> {
     }
 }
 
+impl<V> Debug for Placed<V> {
+    fn fmt<W: fmt::Write>(&self, f: &mut Formatter<W>) -> fmt::Result {
+        f.debug_tuple("Placed").field(&self.pushed.index()).finish()
+    }
+}
+
+impl<V> Debug for Receipt<V> {
+    fn fmt<W: fmt::Write>(&self, f: &mut Formatter<W>) -> fmt::Result {
+        f.debug_tuple("Receipt")
+            .field(&self.pushed.index())
+            .finish()
+    }
+}
+
 /// Why a value wasn't stored as asked.
-#[derive(Drop)]
+#[derive(Debug, Drop, Error)]
 pub enum StoreFault<V> {
     /// There is no memory for it: the value comes back.
+    #[error("out of memory")]
     OutOfMemory(V),
     /// It is stored, but past the greatest value number. `Store::placed_value` reads it.
+    #[error("value number too large")]
     ValueRange(Placed<V>),
 }
 
