@@ -12,7 +12,7 @@ ghost use Rattle.nb_map.specs.Looking.{IsSeenAtHome, get_steps};
 ghost use Rattle.nb_map.specs.Maps.{AreMine, HasWorked, IsMine, seats_of};
 ghost use Rattle.nb_map.specs.Refusing.{IsLockFree};
 ghost use Rattle.nb_long.specs.Stores.{HasStored};
-ghost use Rattle.nb_long.specs.Typed.{HasChangedIf, HasIdled, HasWritten, IsFound, IsRefused, IsRefusedIf, IsUnshown, as_fault};
+ghost use Rattle.nb_long.specs.Typed.{HasChangedIf, HasIdled, HasWritten, IsFound, IsRefused, IsRefusedIf, IsUnshown};
 
 use crate::store::{Found, Placed, Receipt, Store, StoreFault};
 use nb_core::{Change, Key, NotAll, Num, OutOfMemory, Shape, Want};
@@ -79,6 +79,20 @@ pub enum LongFault<V> {
     Unshown(Receipt<V>),
 }
 
+impl<V: Drop> From<StoreFault<V>> for LongFault<V> {
+    ghost use Rattle.std.specs.Prelude.{◌≡◌};
+    ghost use Rattle.nb_long.specs.Typed.{as_fault};
+
+    ghost from_gives = { λ fault given. given ≡ as_fault fault };
+
+    fn from(fault: StoreFault<V>) -> LongFault<V> {
+        match fault {
+            StoreFault::OutOfMemory(value) => LongFault::OutOfMemory(value),
+            StoreFault::ValueRange(placed) => LongFault::ValueRange(placed),
+        }
+    }
+}
+
 impl<V: Drop> LongMap<V> {
     /// An empty map with an empty store, and its seats.
     pub fn new(alloc: Global, shape: Shape) -> Result<(LongMap<V>, Vec<Seat>), OutOfMemory>
@@ -108,10 +122,7 @@ impl<V: Drop> LongMap<V> {
         ensures refused { IfErr result (IsRefused self.now key want.Any value seat.old seat.new) }
         ensures own { IsMine self.now.map seat.new }
     {
-        let receipt = match self.store.push(rt, value) {
-            Ok(receipt) => receipt,
-            Err(fault) => return Err(unstored(fault)),
-        };
+        let receipt = self.store.push(rt, value)?;
         match self.map.put(rt, seat, key, receipt.number()) {
             Ok(before) => Ok(Stored {
                 before,
@@ -136,10 +147,7 @@ impl<V: Drop> LongMap<V> {
         ensures refused { IfErr result (IsRefused self.now key want.Absent value seat.old seat.new) }
         ensures own { IsMine self.now.map seat.new }
     {
-        let receipt = match self.store.push(rt, value) {
-            Ok(receipt) => receipt,
-            Err(fault) => return Err(unstored(fault)),
-        };
+        let receipt = self.store.push(rt, value)?;
         match self.map.put_if_absent(rt, seat, key, receipt.number()) {
             Ok(before) => Ok(Stored {
                 before,
@@ -164,10 +172,7 @@ impl<V: Drop> LongMap<V> {
         ensures refused { IfErr result (IsRefused self.now key want.Present value seat.old seat.new) }
         ensures own { IsMine self.now.map seat.new }
     {
-        let receipt = match self.store.push(rt, value) {
-            Ok(receipt) => receipt,
-            Err(fault) => return Err(unstored(fault)),
-        };
+        let receipt = self.store.push(rt, value)?;
         let before = self.map.replace(rt, seat, key, receipt.number());
         Ok(Stored {
             before,
@@ -179,8 +184,8 @@ impl<V: Drop> LongMap<V> {
     /// Stores a value and puts its number where the key has a value equal to `old`. `ConcurrentMap.replace` of three arguments, by
     /// `V`'s equality. As `put` else, but it is never full.
     ///
-    /// It reads the key's number, compares, and writes if the number is still there; else it begins again. So each time but the
-    /// last it is another seat's write of the key that held it up, also one that put an equal value.
+    /// It reads the key's number, compares, and writes if the number is still there; else it begins again, as it does, too, where
+    /// another seat put an equal value meanwhile. Nothing bounds how often it begins again.
     pub fn replace_if<R: Wait>(
         &self,
         rt: &R,
@@ -198,10 +203,7 @@ impl<V: Drop> LongMap<V> {
         ensures refused { IfErr result (IsRefusedIf self.now key new seat.old seat.new) }
         ensures own { IsMine self.now.map seat.new }
     {
-        let receipt = match self.store.push(rt, new) {
-            Ok(receipt) => receipt,
-            Err(fault) => return Err(unstored(fault)),
-        };
+        let receipt = self.store.push(rt, new)?;
         let change = Change::Put(receipt.number());
         match self.change_if(rt, seat, key, old, &change) {
             Ok(Changed { before, done }) => Ok(Stored {
@@ -366,15 +368,5 @@ impl<V> LongMap<V> {
                 seats,
             }),
         }
-    }
-}
-
-/// A fault of the store, as one of the map.
-fn unstored<V>(fault: StoreFault<V>) -> LongFault<V>
-    ensures { result ≡ as_fault fault }
-{
-    match fault {
-        StoreFault::OutOfMemory(value) => LongFault::OutOfMemory(value),
-        StoreFault::ValueRange(placed) => LongFault::ValueRange(placed),
     }
 }
