@@ -1,18 +1,26 @@
-/* Loaded before a program's libraries, it refuses the program's Nth request for memory or for a thread, and then says so by a
-   byte on a descriptor. N stands in REFUSE, and the descriptor's number in REFUSED. */
+/* Loaded before a program's libraries, it refuses the program's Nth request for memory or for a thread, and at the end of the
+   program says how many such requests there were and how many blocks of memory were left. N stands in REFUSE, and the number
+   of the descriptor to say it on in REFUSED. */
 #define _GNU_SOURCE
 #include <dlfcn.h>
 #include <errno.h>
 #include <pthread.h>
+#include <stdio.h>
 #include <stdlib.h>
+#include <string.h>
+#include <sys/syscall.h>
 #include <unistd.h>
 
 void *__libc_malloc(size_t size);
+void *__libc_calloc(size_t count, size_t size);
+void *__libc_realloc(void *block, size_t size);
+void __libc_free(void *block);
 
 static int (*create)(pthread_t *, const pthread_attr_t *, void *(*)(void *), void *);
 static unsigned long refuse;
 static unsigned long asked;
-static int told;
+static long left;
+static int told = -1;
 
 __attribute__((constructor)) static void begin(void)
 {
@@ -20,24 +28,66 @@ __attribute__((constructor)) static void begin(void)
     refuse = strtoul(getenv("REFUSE"), NULL, 10);
     told = atoi(getenv("REFUSED"));
     asked = 0;
+    left = 0;
+}
+
+__attribute__((destructor)) static void end(void)
+{
+    char text[64];
+    int length = snprintf(text, sizeof text, "%lu %ld\n", asked, left);
+    if (told >= 0 && write(told, text, (size_t)length) != length)
+        abort();
+    told = -1;
+}
+
+void _exit(int status)
+{
+    end();
+    syscall(SYS_exit_group, status);
+    __builtin_unreachable();
 }
 
 static int is_refused(void)
 {
-    if (__atomic_add_fetch(&asked, 1, __ATOMIC_SEQ_CST) != refuse)
-        return 0;
-    if (write(told, "r", 1) != 1)
-        abort();
-    return 1;
+    return __atomic_add_fetch(&asked, 1, __ATOMIC_SEQ_CST) == refuse;
+}
+
+static void *taken(void *block)
+{
+    if (block != NULL)
+        __atomic_add_fetch(&left, 1, __ATOMIC_SEQ_CST);
+    return block;
+}
+
+static void *none(void)
+{
+    errno = ENOMEM;
+    return NULL;
 }
 
 void *malloc(size_t size)
 {
-    if (is_refused()) {
-        errno = ENOMEM;
-        return NULL;
-    }
-    return __libc_malloc(size);
+    return is_refused() ? none() : taken(__libc_malloc(size));
+}
+
+void *calloc(size_t count, size_t size)
+{
+    return is_refused() ? none() : taken(__libc_calloc(count, size));
+}
+
+void *realloc(void *block, size_t size)
+{
+    if (is_refused())
+        return none();
+    void *moved = __libc_realloc(block, size);
+    return block == NULL ? taken(moved) : moved;
+}
+
+void free(void *block)
+{
+    if (block != NULL)
+        __atomic_sub_fetch(&left, 1, __ATOMIC_SEQ_CST);
+    __libc_free(block);
 }
 
 int pthread_create(pthread_t *thread, const pthread_attr_t *attributes, void *(*start)(void *), void *argument)

@@ -1,4 +1,3 @@
-mod ByHand
 mod Bounds
 mod Claimed
 mod Counted

@@ -24,6 +24,3 @@ pub use map::{Map, Seat};
 pub use waiting::{AddFault, Full};
 pub use walk::Walk;
 pub use write::PutFault;
-
-#[cfg(test)]
-mod tests;

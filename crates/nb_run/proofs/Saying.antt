@@ -1,13 +1,12 @@
 -- What is said through the buffer, one part after another.
-use Rattle.std.proofs.Common.{◌≡◌, ◌∙◌, ℕ, suc, ◌+◌, ◌<◌, List, [], ◌∷◌, ◌++◌, Option, ap, sym, subst₂, refl, length, drop, get_or, append_assoc, append-nil, add-one, codes, decimal}
+use Rattle.std.proofs.Common.{◌≡◌, ◌∙◌, ℕ, suc, Result, Ok, Err, IfErr, ◌+◌, ◌<◌, List, [], ◌∷◌, ◌++◌, Option, ap, sym, subst, refl, length, drop, get_or, append_assoc, append-nil, add-one}
 use Rattle.std.proofs.Math.Seq.{drop-cons}
 use Rattle.std.specs.List.{flat_map}
 use Rattle.std.specs.Io.KnownBytes.{Appends}
 use Rattle.std.proofs.KnownBytes.{Appends-nil, Appends-trans}
 use Rattle.nb_script.specs.Script.{Bytes}
+use Rattle.nb_script.specs.Streams.{AppendsSome}
 use Rattle.nb_run.specs.Output.{Says}
-use Rattle.nb_run.specs.Text.{answer_line, answer_text, ending_of, entry_line}
-use Rattle.nb_run.specs.declared.answers.Answer.{Answer}
 
 pub says-nothing : (written : Option Bytes) (waiting : Bytes) → Says written waiting written waiting []
 says-nothing written waiting = record { out = []; appended = Appends-nil written; is = append-nil waiting }
@@ -31,6 +30,36 @@ says-both a b c p q r first second one two = record {
       ∙ ap (λ bytes. one.out ++ bytes) two.is ∙ sym (append_assoc one.out two.out r);
 }
 
+-- ---- a write that failed
+
+pub some-longer : (a b : Option Bytes) (text rest : Bytes) → AppendsSome a b text → AppendsSome a b (text ++ rest)
+some-longer a b text rest some = record {
+  out = some.out;
+  missing = some.missing ++ rest;
+  are = sym (append_assoc some.out some.missing rest) ∙ ap (λ bytes. bytes ++ rest) some.are;
+  appended = some.appended;
+}
+
+pub some-after :
+    (a b c : Option Bytes) (p q first second : Bytes) → Says a p b q first → AppendsSome b c (q ++ second) → AppendsSome a c (p ++ (first ++ second))
+some-after a b c p q first second said some = record {
+  out = said.out ++ some.out;
+  missing = some.missing;
+  are = append_assoc said.out some.out some.missing ∙ ap (λ bytes. said.out ++ bytes) some.are ∙ sym (append_assoc said.out q second)
+      ∙ ap (λ bytes. bytes ++ second) (sym said.is) ∙ append_assoc p first second;
+  appended = Appends-trans a b c said.out some.out said.appended some.appended;
+}
+
+-- what waited went out, and then a beginning of the text
+pub some-through :
+    (a b c : Option Bytes) (p text : Bytes) → Appends a b p → AppendsSome b c text → AppendsSome a c (p ++ text)
+some-through a b c p text gone some = record {
+  out = p ++ some.out;
+  missing = some.missing;
+  are = append_assoc p some.out some.missing ∙ ap (λ bytes. p ++ bytes) some.are;
+  appended = Appends-trans a b c p some.out gone some.appended;
+}
+
 -- ---- one part after another of a whole
 
 -- something of the whole was said, and this is the rest
@@ -51,39 +80,54 @@ has-more a b c p q r part rest rest' whole so_far said next = record {
   all = append_assoc so_far.text part rest' ∙ ap (λ bytes. so_far.text ++ bytes) (sym next) ∙ so_far.all;
 }
 
+said-whole :
+    (a b : Option Bytes) (q rest whole : Bytes) → (so_far : HasSaid a [] b q rest whole) → rest ≡ [] → so_far.text ≡ whole
+said-whole a b q rest whole so_far none =
+    sym (append-nil so_far.text) ∙ ap (λ bytes. so_far.text ++ bytes) (sym none) ∙ so_far.all
+
+-- the next part failed
+pub some-of :
+    (a b c : Option Bytes) (p q part rest rest' whole : Bytes) → HasSaid a p b q rest whole → AppendsSome b c (q ++ part) → rest ≡ part ++ rest'
+    → AppendsSome a c (p ++ whole)
+some-of a b c p q part rest rest' whole so_far some next =
+    let longer : AppendsSome b c (q ++ rest) =
+    subst (AppendsSome b c) (append_assoc q part rest' ∙ ap (λ bytes. q ++ bytes) (sym next)) (some-longer b c (q ++ part) rest' some) in
+    subst (λ bytes. AppendsSome a c (p ++ bytes)) so_far.all (some-after a b c p q so_far.text rest so_far.said longer)
+
+-- all of the whole was said, and what follows it failed
+pub some-last :
+    (a b c : Option Bytes) (q rest whole ending : Bytes) → HasSaid a [] b q rest whole → rest ≡ [] → AppendsSome b c (q ++ ending)
+    → AppendsSome a c (whole ++ ending)
+some-last a b c q rest whole ending so_far none some =
+    subst (λ text. AppendsSome a c (text ++ ending)) (said-whole a b q rest whole so_far none)
+    (some-after a b c [] q so_far.text ending so_far.said some)
+
+-- all was said, and what still waited failed
+pub some-flushed :
+    (a b c d : Option Bytes) (q r rest whole ending : Bytes) → HasSaid a [] b q rest whole → rest ≡ [] → Says b q c r ending
+    → AppendsSome c d r → AppendsSome a d (whole ++ ending)
+some-flushed a b c d q r rest whole ending so_far none said some =
+    let all = says-both a b c [] q r so_far.text ending so_far.said said in
+    subst (λ text. AppendsSome a d (text ++ ending)) (said-whole a b q rest whole so_far none)
+    record {
+      out = all.out ++ some.out;
+      missing = some.missing;
+      are = append_assoc all.out some.out some.missing ∙ ap (λ bytes. all.out ++ bytes) some.are ∙ sym all.is;
+      appended = Appends-trans a c d all.out some.out all.appended some.appended;
+    }
+
 -- ---- items, each with its text
 
 module _ {X : Type 0} (f : X → Bytes) (xs : List X) where
+  pub texts-at : (i : ℕ) (x : X) → i < length xs → flat_map f (drop i xs) ≡ f (get_or xs i x) ++ flat_map f (drop (i + 1) xs)
+  texts-at i x below = ap (flat_map f) (drop-cons xs i x below) ∙ ap (λ n. f (get_or xs i x) ++ flat_map f (drop n xs)) (sym (add-one i))
+
   pub texts-next : (i : ℕ) (x : X) → i < length xs → x ≡ get_or xs i x → flat_map f (drop i xs) ≡ f x ++ flat_map f (drop (i + 1) xs)
   texts-next i x below is =
       ap (flat_map f) (drop-cons xs i x below ∙ ap (λ y. y ∷ drop (suc i) xs) (sym is))
       ∙ ap (λ n. f x ++ flat_map f (drop n xs)) (sym (add-one i))
 
--- ---- the texts of the program
-
-pub says-line :
-    (a b c d e : Option Bytes) (p q r s t : Bytes) (w : ℕ) (answer : Answer) → Says a p b q (decimal w) → Says b q c r (codes " ")
-    → Says c r d s (answer_text answer) → Says d s e t (codes "\n") → Says a p e t (answer_line w answer)
-says-line a b c d e p q r s t w answer number blank reply over =
-    let word = codes " " in
-    says-both a d e p s t (decimal w ++ word ++ answer_text answer) (codes "\n")
-    (says-both a c d p r s (decimal w ++ word) (answer_text answer) (says-both a b c p q r (decimal w) word number blank) reply) over
-
-pub says-entry :
-    (a b c d e : Option Bytes) (p q r s t : Bytes) (key number : ℕ) (entry : ℕ × ℕ) → key ≡ entry.0 → number ≡ entry.1
-    → Says a p b q (decimal key) → Says b q c r (codes " ") → Says c r d s (decimal number) → Says d s e t (codes "\n")
-    → Says a p e t (entry_line entry)
-says-entry a b c d e p q r s t key number entry is_key is_number first blank second over =
-    let word = codes " " in
-    let line : Says a p e t (decimal key ++ word ++ decimal number ++ codes "\n") =
-    says-both a d e p s t (decimal key ++ word ++ decimal number) (codes "\n")
-    (says-both a c d p r s (decimal key ++ word) (decimal number) (says-both a b c p q r (decimal key) word first blank) second) over in
-    subst₂ (λ k n. Says a p e t (decimal k ++ word ++ decimal n ++ codes "\n")) is_key is_number line
-
-pub says-ending :
-    (a b c d e : Option Bytes) (p q r s t : Bytes) (size : ℕ) (entries : List (ℕ × ℕ)) → Says a p b q (codes "size ") → Says b q c r (decimal size)
-    → Says c r d s (codes "\n") → Says d s e t (flat_map entry_line entries) → Says a p e t (ending_of size entries)
-says-ending a b c d e p q r s t size entries word number over rest =
-    says-both a d e p s t (codes "size " ++ decimal size ++ codes "\n") (flat_map entry_line entries)
-    (says-both a c d p r s (codes "size " ++ decimal size) (codes "\n") (says-both a b c p q r (codes "size ") (decimal size) word number) over)
-    rest
+-- what holds whatever the error is
+pub on-err : {T E X : Type 0} (r : Result T E) → X → IfErr r (λ e. X)
+on-err (Ok x) so = tt
+on-err (Err e) so = so

@@ -3,20 +3,40 @@ use Rattle.std.specs.Prelude.{◌≡◌, List, Option}
 use Rattle.std.specs.Io.KnownBytes.{Appends}
 use Rattle.nb_core.specs.Plans.{Plan}
 use Rattle.nb_core.specs.declared.events.Event.{Event}
-use Rattle.nb_script.specs.Inputs.{HasReadScript}
+use Rattle.nb_script.specs.Inputs.{HasReadScript, IsFaultOf}
 use Rattle.nb_script.specs.Script.{Bytes, Phase}
+use Rattle.nb_script.specs.Streams.{AppendsSome}
+use Rattle.nb_script.specs.declared.faults.RunFault.{RunFault}
+use Rattle.nb_script.specs.declared.faults.RunFault.TheVariants as fault
 use Rattle.nb_run.specs.Told.{IsLoneText, IsToldBy}
 
 -- All this speaks of the bytes of a reader and of a writer that tell theirs. Of one that doesn't, it says no more than that
 -- there are such bytes.
 
--- The input was read whole and is a script without a fault. What was written is told by a legal history. With one worker it
--- is the plain map's text but for commands that were refused for want of room.
-pub record HasRun (p : Plan) (unread unread' written written' : Option Bytes) : Type 0 where
+-- The input was read whole and is a script without a fault, and a legal history of its commands tells this text. With one
+-- worker it is the plain map's text but for commands that were refused for want of room.
+pub record TellsOf (p : Plan) (unread unread' : Option Bytes) (text : Bytes) : Type 0 where
   pub phases : List Phase
   pub script : HasReadScript p.seats unread unread' phases
-  pub text : Bytes
   pub history : List Event
   pub told : IsToldBy p phases history text
   pub lone : p.seats ≡ 1 → IsLoneText p phases text
+
+-- The script was run, and its text was written.
+pub record HasRun (p : Plan) (unread unread' written written' : Option Bytes) : Type 0 where
+  pub text : Bytes
+  pub tells : TellsOf p unread unread' text
   pub output : Appends written written' text
+
+-- The script was run, and then the writer failed: what went out is a beginning of the text.
+pub record HasBrokenOff (p : Plan) (unread unread' written written' : Option Bytes) : Type 0 where
+  pub text : Bytes
+  pub tells : TellsOf p unread unread' text
+  pub output : AppendsSome written written' text
+
+-- When a fault comes of a run: in writing, or in reading. Memory may also run out once the script was read.
+abbrev pub IsRunFaultOf : Plan → (unread unread' written written' : Option Bytes) → RunFault → Type 0
+IsRunFaultOf p unread unread' written written' fault.Write = HasBrokenOff p unread unread' written written'
+IsRunFaultOf p unread unread' written written' fault.Read = IsFaultOf p.seats unread unread' fault.Read
+IsRunFaultOf p unread unread' written written' (fault.Line n cause) = IsFaultOf p.seats unread unread' (fault.Line n cause)
+IsRunFaultOf p unread unread' written written' fault.OutOfMemory = IsFaultOf p.seats unread unread' fault.OutOfMemory

@@ -1,5 +1,5 @@
 -- What the program has done for the words of its command line.
-use Rattle.std.specs.Prelude.{◌≡◌, ◌≢◌, ◌↔◌, ◌⊎◌, ℕ, Bool, false, IsTrue, map, Option, Result, Ok, Err, string_bytes}
+use Rattle.std.specs.Prelude.{◌≡◌, ◌↔◌, ◌⊎◌, ℕ, Bool, false, IsTrue, map, Option, Result, Ok, Err, string_bytes}
 use Rattle.std.specs.Io.KnownBytes.{Appends}
 use Rattle.std.specs.declared.string.String.{String}
 use Rattle.std.specs.declared.vec.Vec.{Vec}
@@ -7,9 +7,9 @@ use Rattle.std.specs.declared.alloc.Global.{Global}
 use Rattle.nb_core.specs.Plans.{Plan}
 use Rattle.nb_script.specs.Faults.{complaint_of, status_of}
 use Rattle.nb_script.specs.Options.{AreGiven, IsDue}
-use Rattle.nb_run.specs.Runs.{HasRun}
-use Rattle.nb_script.specs.Inputs.{IsFaultOf}
+use Rattle.nb_run.specs.Runs.{HasRun, IsRunFaultOf}
 use Rattle.nb_script.specs.Script.{Bytes}
+use Rattle.nb_script.specs.Streams.{AppendsSome}
 use Rattle.nb_script.specs.declared.options.OptionFault.{OptionFault}
 use Rattle.nb_script.specs.declared.options.OptionFault.TheVariants as option
 use Rattle.nb_script.specs.declared.faults.RunFault.{RunFault}
@@ -45,31 +45,54 @@ pub record HasShownHelp (words : Words) (unread unread' written written' : Optio
   pub told : Appends written written' (string_bytes text)
 
 -- The words give options, and this came of the script.
-pub record HasFault (words : Words) (unread unread' : Option Bytes) (f : RunFault) : Type 0 where
+pub record HasFault (words : Words) (unread unread' written written' : Option Bytes) (f : RunFault) : Type 0 where
   pub plan : Plan
   pub given : GiveOptions words plan
-  pub due : IsFaultOf plan.seats unread unread' f
+  pub due : IsRunFaultOf plan unread unread' written written' f
 
--- The words ask for help, and it is the writer that failed. Nothing was read.
-abbrev pub IsHelpFault : Words → Option Bytes → Option Bytes → RunFault → Type 0
-IsHelpFault words unread unread' f =
-    (f ≡ run.Write) × (unread' ≡ unread) × ((text : String Global) × GiveNone words (option.Help text))
+-- The words ask for help, and the writer failed: what went out is a beginning of its text. Nothing was read.
+pub record HasBrokenHelp (words : Words) (unread unread' written written' : Option Bytes) : Type 0 where
+  pub text : String Global
+  pub asked : GiveNone words (option.Help text)
+  pub unread_kept : unread' ≡ unread
+  pub told : AppendsSome written written' (string_bytes text)
 
--- When a fault comes: of words that give no options, of the script, of writing the help, or of the memory.
-abbrev pub IsServeFaultOf : Words → Option Bytes → Option Bytes → ServeFault → Type 0
-IsServeFaultOf words unread unread' serve.Usage = GiveNone words option.Usage × (unread' ≡ unread)
-IsServeFaultOf words unread unread' (serve.Run run.OutOfMemory) = Unit {0}
-IsServeFaultOf words unread unread' (serve.Run f) = HasFault words unread unread' f ⊎ IsHelpFault words unread unread' f
+-- When a fault comes: of words that give no options, of the script, of writing the help, or of the memory for the options.
+-- Where the words give none, nothing is read.
+abbrev pub IsServeFaultOf : Words → (unread unread' written written' : Option Bytes) → ServeFault → Type 0
+IsServeFaultOf words unread unread' written written' serve.Usage = GiveNone words option.Usage × (unread' ≡ unread)
+IsServeFaultOf words unread unread' written written' (serve.Run run.Read) = HasFault words unread unread' written written' run.Read
+IsServeFaultOf words unread unread' written written' (serve.Run run.Write) =
+    HasFault words unread unread' written written' run.Write ⊎ HasBrokenHelp words unread unread' written written'
+IsServeFaultOf words unread unread' written written' (serve.Run (run.Line n cause)) =
+    HasFault words unread unread' written written' (run.Line n cause)
+IsServeFaultOf words unread unread' written written' (serve.Run run.OutOfMemory) =
+    HasFault words unread unread' written written' run.OutOfMemory ⊎ (GiveNone words option.OutOfMemory × (unread' ≡ unread))
 
--- The program ended by a fault: its status, what came of it, and what was said. Another fault than a failed write
--- leaves the writer as it was.
-pub record HasFailed {W : Type 0}
-    (words : Words) (unread unread' : Option Bytes) (writer writer' : W) (said said' : Option Bytes)
-    (reader_failed writer_failed errors_failed : Bool) (status : ℕ) : Type 0 where
+-- What the program's streams hold, where that is known, and whether they have failed.
+pub record Streams : Type 0 where
+  pub unread : Option Bytes
+  pub written : Option Bytes
+  pub said : Option Bytes
+  pub reader_failed : Bool
+  pub writer_failed : Bool
+  pub errors_failed : Bool
+
+abbrev pub streams : (unread written said : Option Bytes) (reader_failed writer_failed errors_failed : Bool) → Streams
+streams unread written said reader_failed writer_failed errors_failed = record {
+  unread = unread;
+  written = written;
+  said = said;
+  reader_failed = reader_failed;
+  writer_failed = writer_failed;
+  errors_failed = errors_failed;
+}
+
+-- The program ended by a fault: its status, what came of it, and what was said.
+pub record HasFailed (words : Words) (before after : Streams) (status : ℕ) : Type 0 where
   pub fault : ServeFault
   pub status_is : status ≡ status_of fault
-  pub due : IsServeFaultOf words unread unread' fault
-  pub read : (fault ≡ serve.Run run.Read) ↔ IsTrue reader_failed
-  pub write : (fault ≡ serve.Run run.Write) ↔ IsTrue writer_failed
-  pub silent : fault ≢ serve.Run run.Write → writer' ≡ writer
-  pub told : errors_failed ≡ false → Appends said said' (complaint_of fault)
+  pub due : IsServeFaultOf words before.unread after.unread before.written after.written fault
+  pub read : (fault ≡ serve.Run run.Read) ↔ IsTrue after.reader_failed
+  pub write : (fault ≡ serve.Run run.Write) ↔ IsTrue after.writer_failed
+  pub told : after.errors_failed ≡ false → Appends before.said after.said (complaint_of fault)

@@ -1,7 +1,8 @@
 //! The program's output, written from the answers through a buffer of fixed size. It takes no memory.
-ghost use Rattle.std.specs.Prelude.{◌≡◌, ◌<◌, ◌≤◌, ◌+◌, ◌||◌, ◌++◌, ℕ, [], List, Some, decimal, is_err, length, map, OnOk, slice_get, slice_index};
+ghost use Rattle.std.specs.Prelude.{◌≡◌, ◌<◌, ◌≤◌, ◌+◌, ◌++◌, ℕ, [], List, Some, false, is_err, length, map, IfErr, OnOk, slice_get, slice_index};
 ghost use Rattle.std.specs.Io.KnownBytes.{Appends};
 ghost use Rattle.std.specs.List.{flat_map};
+ghost use Rattle.nb_script.specs.Streams.{AppendsSome};
 ghost use Rattle.nb_run.specs.Output.{AreAnswersOf, Says, all_lines, left, phase_lines};
 ghost use Rattle.nb_run.specs.Text.{answer_line, answer_text, ending_of, entry_line};
 ghost use Rattle.nb_run.specs.Working.{commands_of};
@@ -22,9 +23,11 @@ type Waiting = ArrayVec<u8, ROOM>;
 
 /// Writes the bytes that wait.
 fn flush<W: Sink>(writer: &mut W, waiting: &mut Waiting) -> Result<(), Failed>
+    requires unfailed { W.failed writer.old ≡ false }
     ensures written { OnOk result (Appends (W.contents writer.old) (W.contents writer.new) waiting.old.items) }
     ensures empty { OnOk result (waiting.new.items ≡ []) }
-    ensures marks { W.failed writer.new ≡ (is_err result || W.failed writer.old) }
+    ensures begun { IfErr result (λ _. AppendsSome (W.contents writer.old) (W.contents writer.new) waiting.old.items) }
+    ensures marks { W.failed writer.new ≡ is_err result }
 {
     write_all(writer, waiting.as_slice())?;
     waiting.clear();
@@ -33,8 +36,10 @@ fn flush<W: Sink>(writer: &mut W, waiting: &mut Waiting) -> Result<(), Failed>
 
 /// Puts the bytes behind those that wait. Where there is no room, it writes those first.
 fn say<W: Sink>(writer: &mut W, waiting: &mut Waiting, bytes: &[u8]) -> Result<(), Failed>
+    requires unfailed { W.failed writer.old ≡ false }
     ensures said { OnOk result (Says (W.contents writer.old) waiting.old.items (W.contents writer.new) waiting.new.items bytes.now) }
-    ensures marks { W.failed writer.new ≡ (is_err result || W.failed writer.old) }
+    ensures begun { IfErr result (λ _. AppendsSome (W.contents writer.old) (W.contents writer.new) (waiting.old.items ++ bytes.now)) }
+    ensures marks { W.failed writer.new ≡ is_err result }
 {
     if waiting.try_extend_from_slice(bytes).is_ok() {
         return Ok(());
@@ -47,24 +52,30 @@ fn say<W: Sink>(writer: &mut W, waiting: &mut Waiting, bytes: &[u8]) -> Result<(
     }
 }
 
-fn say_number<W: Sink>(writer: &mut W, waiting: &mut Waiting, number: u64) -> Result<(), Failed>
-    ensures said { OnOk result (Says (W.contents writer.old) waiting.old.items (W.contents writer.new) waiting.new.items (decimal number)) }
-    ensures marks { W.failed writer.new ≡ (is_err result || W.failed writer.old) }
+/// Says the pieces of a line.
+fn say_all<W: Sink>(writer: &mut W, waiting: &mut Waiting, pieces: &[&[u8]]) -> Result<(), Failed>
+    requires unfailed { W.failed writer.old ≡ false }
+    ensures said { OnOk result (Says (W.contents writer.old) waiting.old.items (W.contents writer.new) waiting.new.items (flat_map (λ piece. piece.now) pieces.now)) }
+    ensures begun { IfErr result (λ _. AppendsSome (W.contents writer.old) (W.contents writer.new) (waiting.old.items ++ (flat_map (λ piece. piece.now) pieces.now))) }
+    ensures marks { W.failed writer.new ≡ is_err result }
 {
-    say(writer, waiting, Buffer::new().format(number).as_bytes())
+    for piece in pieces {
+        say(writer, waiting, *piece)?;
+    }
+    Ok(())
 }
 
-fn say_answer<W: Sink>(writer: &mut W, waiting: &mut Waiting, answer: &Answer) -> Result<(), Failed>
-    ensures said { OnOk result (Says (W.contents writer.old) waiting.old.items (W.contents writer.new) waiting.new.items (answer_text answer.now)) }
-    ensures marks { W.failed writer.new ≡ (is_err result || W.failed writer.old) }
+/// The text of an answer, whose digits stand in `digits`, if it has any.
+fn text_of<'a>(answer: &Answer, digits: &'a mut Buffer) -> &'a [u8]
+    ensures { result.now ≡ answer_text answer.now }
 {
     match answer {
-        Answer::Nothing => say(writer, waiting, b"-"),
-        Answer::Value(number) => say_number(writer, waiting, number.get()),
-        Answer::Matched(true) => say(writer, waiting, b"true"),
-        Answer::Matched(false) => say(writer, waiting, b"false"),
-        Answer::Full => say(writer, waiting, b"full"),
-        Answer::Range => say(writer, waiting, b"range"),
+        Answer::Nothing => b"-",
+        Answer::Value(number) => digits.format(number.get()).as_bytes(),
+        Answer::Matched(true) => b"true",
+        Answer::Matched(false) => b"false",
+        Answer::Full => b"full",
+        Answer::Range => b"range",
     }
 }
 
@@ -75,13 +86,15 @@ fn say_line<W: Sink>(
     worker: usize,
     answer: &Answer,
 ) -> Result<(), Failed>
+    requires unfailed { W.failed writer.old ≡ false }
     ensures said { OnOk result (Says (W.contents writer.old) waiting.old.items (W.contents writer.new) waiting.new.items (answer_line worker answer.now)) }
-    ensures marks { W.failed writer.new ≡ (is_err result || W.failed writer.old) }
+    ensures begun { IfErr result (λ _. AppendsSome (W.contents writer.old) (W.contents writer.new) (waiting.old.items ++ (answer_line worker answer.now))) }
+    ensures marks { W.failed writer.new ≡ is_err result }
 {
-    say_number(writer, waiting, worker as u64)?;
-    say(writer, waiting, b" ")?;
-    say_answer(writer, waiting, answer)?;
-    say(writer, waiting, b"\n")
+    let (mut number, mut digits) = (Buffer::new(), Buffer::new());
+    let number = number.format(worker as u64).as_bytes();
+    let text = text_of(answer, &mut digits);
+    say_all(writer, waiting, &[number, b" ", text, b"\n"])
 }
 
 /// Says one worker's answers.
@@ -91,8 +104,10 @@ fn say_lines<W: Sink>(
     worker: usize,
     answers: &[Answer],
 ) -> Result<(), Failed>
+    requires unfailed { W.failed writer.old ≡ false }
     ensures said { OnOk result (Says (W.contents writer.old) waiting.old.items (W.contents writer.new) waiting.new.items (flat_map (answer_line worker) answers.now)) }
-    ensures marks { W.failed writer.new ≡ (is_err result || W.failed writer.old) }
+    ensures begun { IfErr result (λ _. AppendsSome (W.contents writer.old) (W.contents writer.new) (waiting.old.items ++ (flat_map (answer_line worker) answers.now))) }
+    ensures marks { W.failed writer.new ≡ is_err result }
 {
     for answer in answers {
         say_line(writer, waiting, worker, answer)?;
@@ -115,6 +130,7 @@ fn say_phase<W: Sink>(
     answers: &[Vec<Answer>],
     done: &mut [usize; MAX_SEATS],
 ) -> Result<(), Failed>
+    requires unfailed { W.failed writer.old ≡ false }
     requires few { length answers.now ≤ 8 }
     requires enough { (w : ℕ) (mine : List Answer) → slice_get (map (λ list. list.items) answers.now) w ≡ Some mine
         → slice_index done.old w + length (commands_of w phase.now) ≤ length mine }
@@ -122,7 +138,9 @@ fn say_phase<W: Sink>(
         (phase_lines phase.now 0 (left done.old 0 (map (λ list. list.items) answers.now)))) }
     ensures done { OnOk result ((w : ℕ) → w < length answers.now
         → slice_index done.new w ≡ slice_index done.old w + length (commands_of w phase.now)) }
-    ensures marks { W.failed writer.new ≡ (is_err result || W.failed writer.old) }
+    ensures begun { IfErr result (λ _. AppendsSome (W.contents writer.old) (W.contents writer.new) (waiting.old.items
+        ++ (phase_lines phase.now 0 (left done.old 0 (map (λ list. list.items) answers.now))))) }
+    ensures marks { W.failed writer.new ≡ is_err result }
 {
     for (worker, list) in answers.iter().enumerate() {
         let first = done[worker];
@@ -140,12 +158,14 @@ fn say_ending<W: Sink>(
     size: u64,
     entries: &[(Key, Num)],
 ) -> Result<(), Failed>
+    requires unfailed { W.failed writer.old ≡ false }
     ensures said { OnOk result (Says (W.contents writer.old) waiting.old.items (W.contents writer.new) waiting.new.items (ending_of size entries.now)) }
-    ensures marks { W.failed writer.new ≡ (is_err result || W.failed writer.old) }
+    ensures begun { IfErr result (λ _. AppendsSome (W.contents writer.old) (W.contents writer.new) (waiting.old.items ++ (ending_of size entries.now))) }
+    ensures marks { W.failed writer.new ≡ is_err result }
 {
-    say(writer, waiting, b"size ")?;
-    say_number(writer, waiting, size)?;
-    say(writer, waiting, b"\n")?;
+    let mut digits = Buffer::new();
+    let size = digits.format(size).as_bytes();
+    say_all(writer, waiting, &[b"size ", size, b"\n"])?;
     say_entries(writer, waiting, entries)
 }
 
@@ -155,14 +175,16 @@ fn say_entries<W: Sink>(
     waiting: &mut Waiting,
     entries: &[(Key, Num)],
 ) -> Result<(), Failed>
+    requires unfailed { W.failed writer.old ≡ false }
     ensures said { OnOk result (Says (W.contents writer.old) waiting.old.items (W.contents writer.new) waiting.new.items (flat_map entry_line entries.now)) }
-    ensures marks { W.failed writer.new ≡ (is_err result || W.failed writer.old) }
+    ensures begun { IfErr result (λ _. AppendsSome (W.contents writer.old) (W.contents writer.new) (waiting.old.items ++ (flat_map entry_line entries.now))) }
+    ensures marks { W.failed writer.new ≡ is_err result }
 {
+    let (mut key_digits, mut digits) = (Buffer::new(), Buffer::new());
     for (key, number) in entries {
-        say_number(writer, waiting, key.get())?;
-        say(writer, waiting, b" ")?;
-        say_number(writer, waiting, number.get())?;
-        say(writer, waiting, b"\n")?;
+        let key = key_digits.format(key.get()).as_bytes();
+        let number = digits.format(number.get()).as_bytes();
+        say_all(writer, waiting, &[key, b" ", number, b"\n"])?;
     }
     Ok(())
 }
@@ -176,11 +198,14 @@ pub(crate) fn tell<W: Sink>(
     size: u64,
     entries: &[(Key, Num)],
 ) -> Result<(), Failed>
+    requires unfailed { W.failed writer.old ≡ false }
     requires few { length answers.now ≤ 8 }
     requires enough { AreAnswersOf (map (λ phase. phase.items) phases.now) 0 (map (λ list. list.items) answers.now) }
     ensures told { OnOk result (Appends (W.contents writer.old) (W.contents writer.new)
         (all_lines (map (λ phase. phase.items) phases.now) (map (λ list. list.items) answers.now) ++ ending_of size entries.now)) }
-    ensures marks { W.failed writer.new ≡ (is_err result || W.failed writer.old) }
+    ensures begun { IfErr result (λ _. AppendsSome (W.contents writer.old) (W.contents writer.new)
+        (all_lines (map (λ phase. phase.items) phases.now) (map (λ list. list.items) answers.now) ++ ending_of size entries.now)) }
+    ensures marks { W.failed writer.new ≡ is_err result }
 {
     let mut waiting = ArrayVec::new();
     let mut done = [0; MAX_SEATS];

@@ -1,7 +1,6 @@
 //! Runs a script, from the bytes in to the bytes out.
 ghost use Rattle.std.specs.Prelude.{◌≡◌, ◌≢◌, ◌↔◌, false, IsTrue, IfErr, IsErrOf, OnOk};
-ghost use Rattle.nb_run.specs.Runs.{HasRun};
-ghost use Rattle.nb_script.specs.Inputs.{IsFaultOf};
+ghost use Rattle.nb_run.specs.Runs.{HasRun, IsRunFaultOf};
 
 use crate::gate::{Gate, Open};
 use crate::outcome::perform;
@@ -26,10 +25,11 @@ pub fn run<H: Threads + Wait + AllocGlobal + Sync, R: Source, W: Sink>(
     writer: &mut W,
 ) -> Result<(), RunFault>
     requires reader { R.failed reader.old ≡ false }
+    requires more { R.ended reader.old ≡ false }
     requires writer { W.failed writer.old ≡ false }
 
     ensures ok { OnOk result (HasRun options.now.shape (R.remaining reader.old) (R.remaining reader.new) (W.contents writer.old) (W.contents writer.new)) }
-    ensures fault { IfErr result (IsFaultOf options.now.shape.seats (R.remaining reader.old) (R.remaining reader.new)) }
+    ensures fault { IfErr result (IsRunFaultOf options.now.shape (R.remaining reader.old) (R.remaining reader.new) (W.contents writer.old) (W.contents writer.new)) }
 
     // These two say that the reader, or the writer, failed while this ran.
     ensures read { IsErrOf result RunFault.Read ↔ IsTrue (R.failed reader.new) }
@@ -50,10 +50,11 @@ pub fn run_gated<H: Threads + Wait + AllocGlobal + Sync, G: Gate + Sync, R: Sour
     writer: &mut W,
 ) -> Result<(), RunFault>
     requires reader { R.failed reader.old ≡ false }
+    requires more { R.ended reader.old ≡ false }
     requires writer { W.failed writer.old ≡ false }
 
     ensures ok { OnOk result (HasRun options.now.shape (R.remaining reader.old) (R.remaining reader.new) (W.contents writer.old) (W.contents writer.new)) }
-    ensures fault { IfErr result (IsFaultOf options.now.shape.seats (R.remaining reader.old) (R.remaining reader.new)) }
+    ensures fault { IfErr result (IsRunFaultOf options.now.shape (R.remaining reader.old) (R.remaining reader.new) (W.contents writer.old) (W.contents writer.new)) }
     ensures read { IsErrOf result RunFault.Read ↔ IsTrue (R.failed reader.new) }
     ensures write { IsErrOf result RunFault.Write ↔ IsTrue (W.failed writer.new) }
     ensures silent { IfErr result (λ fault. fault ≢ RunFault.Write → writer.new ≡ writer.old) }

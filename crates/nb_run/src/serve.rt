@@ -1,6 +1,6 @@
 //! The program: options, a script, and what is said of a fault.
 ghost use Rattle.std.specs.Prelude.{◌≡◌, ◌≢◌, ◌⊎◌, ◌↔◌, false, IsTrue, IfOk, IfErr, IsErrOf, OnOk, Result};
-ghost use Rattle.nb_run.specs.Serving.{GiveNone, GiveOptions, HasFailed, HasShownHelp, HasRunAsAsked, IsServeFaultOf};
+ghost use Rattle.nb_run.specs.Serving.{GiveNone, GiveOptions, HasFailed, HasShownHelp, HasRunAsAsked, IsServeFaultOf, streams};
 
 use crate::run::run;
 use nb_script::faults::{RunFault, ServeFault};
@@ -30,11 +30,12 @@ fn attend<H: Threads + Wait + AllocGlobal + Sync, R: Source, W: Sink>(
     writer: &mut W,
 ) -> Result<(), ServeFault>
     requires reader { R.failed reader.old ≡ false }
+    requires more { R.ended reader.old ≡ false }
     requires writer { W.failed writer.old ≡ false }
 
     ensures ok { OnOk result (HasRunAsAsked words (R.remaining reader.old) (R.remaining reader.new) (W.contents writer.old) (W.contents writer.new)
         ⊎ HasShownHelp words (R.remaining reader.old) (R.remaining reader.new) (W.contents writer.old) (W.contents writer.new)) }
-    ensures fault { IfErr result (IsServeFaultOf words (R.remaining reader.old) (R.remaining reader.new)) }
+    ensures fault { IfErr result (IsServeFaultOf words (R.remaining reader.old) (R.remaining reader.new) (W.contents writer.old) (W.contents writer.new)) }
     ensures read { IsErrOf result (ServeFault.Run RunFault.Read) ↔ IsTrue (R.failed reader.new) }
     ensures write { IsErrOf result (ServeFault.Run RunFault.Write) ↔ IsTrue (W.failed writer.new) }
     ensures silent { IfErr result (λ fault. fault ≢ ServeFault.Run RunFault.Write → writer.new ≡ writer.old) }
@@ -62,6 +63,7 @@ pub fn serve<H: Threads + Wait + AllocGlobal + Sync, R: Source, W: Sink, E: Sink
     errors: &mut E,
 ) -> u8
     requires reader { R.failed reader.old ≡ false }
+    requires more { R.ended reader.old ≡ false }
     requires writer { W.failed writer.old ≡ false }
     requires errors { E.failed errors.old ≡ false }
 
@@ -70,8 +72,13 @@ pub fn serve<H: Threads + Wait + AllocGlobal + Sync, R: Source, W: Sink, E: Sink
     ensures whole { result ≡ 0 → (R.failed reader.new ≡ false) × (W.failed writer.new ≡ false) }
     ensures quiet { result ≡ 0 → errors.new ≡ errors.old }
 
-    ensures failed { result ≢ 0 → HasFailed words (R.remaining reader.old) (R.remaining reader.new) writer.old writer.new
-        (E.contents errors.old) (E.contents errors.new) (R.failed reader.new) (W.failed writer.new) (E.failed errors.new) result }
+    ensures failed { result ≢ 0 → HasFailed words
+        (streams (R.remaining reader.old) (W.contents writer.old) (E.contents errors.old) (R.failed reader.old) (W.failed writer.old) (E.failed errors.old))
+        (streams (R.remaining reader.new) (W.contents writer.new) (E.contents errors.new) (R.failed reader.new) (W.failed writer.new) (E.failed errors.new))
+        result }
+
+    // Another fault than a failed write leaves the writer as it was.
+    ensures silent { result ≢ 0 → W.failed writer.new ≡ false → writer.new ≡ writer.old }
 {
     match attend(rt, words, reader, writer) {
         Ok(()) => 0,

@@ -2,6 +2,7 @@
 ghost use Rattle.std.specs.Prelude.{◌≡◌, false};
 
 mod ends;
+mod words;
 mod workers;
 
 use crate::run::run;
@@ -51,7 +52,8 @@ fn assert_runs<H: Abort + AllocGlobal + Threads + Wait + Sync, R: Source>(
     answer: Result<(), RunFault>,
     text: &str,
 ) -> Result<(), Fail>
-    requires { R.failed reader.old ≡ false }
+    requires unfailed { R.failed reader.old ≡ false }
+    requires more { R.ended reader.old ≡ false }
 {
     let options = plain_options()?;
     let mut output = Vec::new(rt.alloc());

@@ -25,6 +25,11 @@ pub(crate) struct Worker {
 }
 
 impl Worker {
+    /// Whether a command of the phase is the worker's.
+    fn is_busy(&self, phase: &[(usize, Command)]) -> bool {
+        phase.iter().any(|task| task.0 == self.number)
+    }
+
     /// Runs the worker's commands of a phase.
     fn run<R: Wait, G: Gate>(
         self,
@@ -73,12 +78,14 @@ impl<'a> Promise<Worker> for Runs<'a> {
 }
 
 /// Runs the commands of a phase, those of all workers at the same time: a thread of its own runs those of the last worker,
-/// while this one goes on with the others in the same way.
+/// while this one goes on with the others in the same way. Of the workers so many have commands in the phase; no thread is
+/// started for one that has none, nor for the last one that has some.
 fn run_together<R: Threads + Wait + Sync, G: Gate + Sync>(
     rt: &R,
     gate: &G,
     map: &Map,
     phase: &[(usize, Command)],
+    busy: usize,
     workers: Vec<Worker>,
 ) -> Result<Vec<Worker>, OutOfMemory>
     requires ready { All (IsReady map.now phase.now) workers.items }
@@ -89,10 +96,13 @@ fn run_together<R: Threads + Wait + Sync, G: Gate + Sync>(
     let Some(last) = workers.pop() else {
         return Ok(workers);
     };
-    if workers.is_empty() {
-        workers.push_reserved(last.run(rt, gate, map, phase));
+    if busy < 2 || !last.is_busy(phase) {
+        let ran = last.run(rt, gate, map, phase);
+        let mut workers = run_together(rt, gate, map, phase, busy, workers)?;
+        workers.push_reserved(ran);
         return Ok(workers);
     }
+    let busy = busy - 1;
     thread::scope(
         thread::scope_env(),
         rt,
@@ -118,14 +128,17 @@ fn run_together<R: Threads + Wait + Sync, G: Gate + Sync>(
                 { last.run(rt, gate, map, phase) },
             );
             let child = spawned.map_err(|_| OutOfMemory)?;
-            let mut workers = run_together(rt, gate, map, phase, workers)?;
-            workers.push_reserved(child.join(rt));
+            let others = run_together(rt, gate, map, phase, busy, workers);
+            // The thread ends before anything else, and what it gives back isn't lost where the others ran out of memory.
+            let ran = child.join(rt);
+            let mut workers = others?;
+            workers.push_reserved(ran);
             Ok(workers)
         },
     )
 }
 
-/// Runs the commands of a phase. Where there are none, no thread is started.
+/// Runs the commands of a phase.
 fn run_phase<R: Threads + Wait + Sync, G: Gate + Sync>(
     rt: &R,
     gate: &G,
@@ -136,10 +149,11 @@ fn run_phase<R: Threads + Wait + Sync, G: Gate + Sync>(
     requires ready { All (IsReady map.now phase.now) workers.items }
     ensures ran { IfOk result (λ ran. AllZip (IsRun map.now phase.now) workers.items ran.items) }
 {
-    if phase.is_empty() {
-        return Ok(workers);
-    }
-    run_together(rt, gate, map, phase, workers)
+    let busy = workers
+        .iter()
+        .filter(|worker| worker.is_busy(phase))
+        .count();
+    run_together(rt, gate, map, phase, busy, workers)
 }
 
 /// Lets a seat and each of these workers meet.

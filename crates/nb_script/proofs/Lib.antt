@@ -2,6 +2,7 @@ mod FaultLemmas
 mod FoundLemmas
 mod Numbers
 mod PlanLemmas
+mod Open
 mod Reading
 mod RuleLemmas
 mod Taken

@@ -3,3 +3,4 @@ pub mod Inputs
 pub mod Options
 pub mod Reading
 pub mod Script
+pub mod Streams

@@ -1,5 +1,5 @@
 //! Why a run or the program ends early, and what is said of it.
-ghost use Rattle.std.specs.Prelude.{◌≡◌, ◌||◌, is_err, OnOk};
+ghost use Rattle.std.specs.Prelude.{◌≡◌, false, is_err, OnOk};
 ghost use Rattle.std.specs.Io.KnownBytes.{Appends};
 ghost use Rattle.nb_script.specs.Faults.{complaint_of, fault_text, status_of};
 
@@ -46,8 +46,9 @@ impl ServeFault {
 
     /// Says what is wrong, on a line of its own. It takes no memory.
     pub fn complain<E: Sink>(self, errors: &mut E) -> Result<(), Failed>
+        requires unfailed { E.failed errors.old ≡ false }
         ensures said { OnOk result (Appends (E.contents errors.old) (E.contents errors.new) (complaint_of self)) }
-        ensures marks { E.failed errors.new ≡ (is_err result || E.failed errors.old) }
+        ensures marks { E.failed errors.new ≡ is_err result }
     {
         write_all(errors, b"nbrun: ")?;
         self.say(errors)?;
@@ -55,8 +56,9 @@ impl ServeFault {
     }
 
     fn say<E: Sink>(self, errors: &mut E) -> Result<(), Failed>
+        requires unfailed { E.failed errors.old ≡ false }
         ensures said { OnOk result (Appends (E.contents errors.old) (E.contents errors.new) (fault_text self)) }
-        ensures marks { E.failed errors.new ≡ (is_err result || E.failed errors.old) }
+        ensures marks { E.failed errors.new ≡ is_err result }
     {
         match self {
             ServeFault::Usage => write_all(errors, b"bad usage"),

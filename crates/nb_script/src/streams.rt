@@ -1,7 +1,8 @@
 //! What the runner reads from and writes to.
-ghost use Rattle.std.specs.Prelude.{◌≡◌, ◌<◌, ◌≤◌, ◌||◌, Option, List, ℕ, Bool, false, is_err, IfOk, OnOk, length};
+ghost use Rattle.std.specs.Prelude.{◌≡◌, ◌<◌, ◌≤◌, Option, List, ℕ, Bool, false, is_err, IfErr, IfOk, OnOk, length};
 ghost use Rattle.std.specs.Io.KnownBytes.{Appends, ReadConsumes, WriteAppends};
 ghost use Rattle.std.specs.Io.{ReadsAtMost, WritesAtMost};
+ghost use Rattle.nb_script.specs.Streams.{AppendsSome, gave_end};
 
 use std::io::{Read, Write};
 use thiserror::Error;
@@ -11,7 +12,8 @@ use thiserror::Error;
 #[error("read or write failed")]
 pub struct Failed;
 
-/// Where a script comes from. It tells what is left to read, where that is known, and whether a read has failed.
+/// Where a script comes from. It tells what is left to read, where that is known, and whether a read has failed or has
+/// found the end: nothing is read after that.
 pub trait Source {
     /// The bytes that reads will give from here on, where they are known.
     ghost remaining: { Self → Option (List ℕ) };
@@ -19,14 +21,21 @@ pub trait Source {
     /// Whether a read has failed.
     ghost failed: { Self → Bool };
 
+    /// Whether a read has found the end.
+    ghost ended: { Self → Bool };
+
     /// Reads some bytes into the front of `buffer`. No bytes are the end, unless the buffer has no room.
     fn read(&mut self, buffer: &mut [u8]) -> Result<usize, Failed>
+        requires unfailed { failed self.old ≡ false }
+        requires more { ended self.old ≡ false }
         ensures bound { IfOk result (λ count. count ≤ length buffer.new) }
         ensures bytes { ReadConsumes (remaining self.old) (remaining self.new) result buffer.new }
-        ensures marks { failed self.new ≡ (is_err result || failed self.old) };
+        ensures marks { failed self.new ≡ is_err result }
+        ensures ends { ended self.new ≡ gave_end result buffer.new };
 }
 
-/// Where output goes. It tells what it holds, where that is known, and whether a write has failed.
+/// Where output goes. It tells what it holds, where that is known, and whether a write has failed: nothing is written after
+/// that.
 pub trait Sink {
     /// The bytes that were written, where they are known.
     ghost contents: { Self → Option (List ℕ) };
@@ -36,10 +45,11 @@ pub trait Sink {
 
     /// Writes some bytes from the front of `bytes`: at least one, if there is one.
     fn write(&mut self, bytes: &[u8]) -> Result<usize, Failed>
+        requires unfailed { failed self.old ≡ false }
         ensures bound { IfOk result (λ count. count ≤ length bytes.now) }
         ensures some { IfOk result (λ count. 0 < length bytes.now → 0 < count) }
         ensures bytes { WriteAppends (contents self.old) (contents self.new) result bytes.now }
-        ensures marks { failed self.new ≡ (is_err result || failed self.old) };
+        ensures marks { failed self.new ≡ is_err result };
 }
 
 /// A reader of std as a source. Each of its errors, an interruption too, is a failure.
@@ -47,6 +57,7 @@ pub trait Sink {
 pub struct FromRead<R: Read> {
     reader: R,
     failed: bool,
+    ended: bool,
 }
 
 impl<R: Read> FromRead<R> {
@@ -54,10 +65,12 @@ impl<R: Read> FromRead<R> {
     pub fn new(reader: R) -> FromRead<R>
         ensures same_bytes { ⟦<FromRead<R> as Source>⟧.remaining result ≡ R.remaining reader }
         ensures unfailed { ⟦<FromRead<R> as Source>⟧.failed result ≡ false }
+        ensures more { ⟦<FromRead<R> as Source>⟧.ended result ≡ false }
     {
         FromRead {
             reader,
             failed: false,
+            ended: false,
         }
     }
 }
@@ -67,9 +80,14 @@ impl<R: Read> Source for FromRead<R> {
 
     ghost failed = { λ source. source.failed };
 
+    ghost ended = { λ source. source.ended };
+
     fn read(&mut self, buffer: &mut [u8]) -> Result<usize, Failed> {
         match self.reader.read(buffer) {
-            Ok(count) => Ok(count),
+            Ok(count) => {
+                self.ended = count == 0 && !buffer.is_empty();
+                Ok(count)
+            }
             Err(_) => {
                 self.failed = true;
                 Err(Failed)
@@ -115,10 +133,12 @@ impl<W: Write> Sink for FromWrite<W> {
     }
 }
 
-/// Writes all of the bytes. It stops at the first failure, and doesn't tell how much went out before.
+/// Writes all of the bytes. It stops at the first failure: then a beginning of them went out, and how long that is isn't told.
 pub fn write_all<W: Sink>(writer: &mut W, bytes: &[u8]) -> Result<(), Failed>
+    requires unfailed { W.failed writer.old ≡ false }
     ensures written { OnOk result (Appends (W.contents writer.old) (W.contents writer.new) bytes.now) }
-    ensures marks { W.failed writer.new ≡ (is_err result || W.failed writer.old) }
+    ensures begun { IfErr result (λ _. AppendsSome (W.contents writer.old) (W.contents writer.new) bytes.now) }
+    ensures marks { W.failed writer.new ≡ is_err result }
 {
     let mut rest = bytes;
     while !rest.is_empty() {

@@ -18,12 +18,15 @@ struct SlowSource<'a> {
     unread: &'a [u8],
     reads_left: usize,
     failed: bool,
+    ended: bool,
 }
 
 impl Source for SlowSource<'_> {
     ghost remaining = { λ _. None };
 
     ghost failed = { λ source. source.failed };
+
+    ghost ended = { λ source. source.ended };
 
     fn read(&mut self, buffer: &mut [u8]) -> Result<usize, Failed> {
         if self.reads_left == 0 {
@@ -35,6 +38,7 @@ impl Source for SlowSource<'_> {
         let (given, unread) = self.unread.split_at(count);
         buffer[..count].copy_from_slice(given);
         self.unread = unread;
+        self.ended = count == 0 && !buffer.is_empty();
         Ok(count)
     }
 }
@@ -70,6 +74,7 @@ impl Sink for SlowSink {
 struct Repeated {
     byte: u8,
     left: usize,
+    ended: bool,
 }
 
 impl Source for Repeated {
@@ -77,10 +82,13 @@ impl Source for Repeated {
 
     ghost failed = { λ _. false };
 
+    ghost ended = { λ source. source.ended };
+
     fn read(&mut self, buffer: &mut [u8]) -> Result<usize, Failed> {
         let count = buffer.len().min(self.left);
         buffer[..count].fill(self.byte);
         self.left -= count;
+        self.ended = count == 0 && !buffer.is_empty();
         Ok(count)
     }
 }
@@ -98,6 +106,42 @@ impl Read for Interrupted {
 impl Write for Interrupted {
     fn write(&mut self, _bytes: &[u8]) -> io::Result<usize> {
         Err(io::Error::from(ErrorKind::Interrupted))
+    }
+
+    fn flush(&mut self) -> io::Result<()> {
+        Ok(())
+    }
+}
+
+/// A reader and a writer of std whose first call fails, and whose later ones work.
+#[derive(Drop)]
+struct FailsOnce {
+    has_failed: bool,
+}
+
+impl FailsOnce {
+    fn fails(&mut self) -> bool {
+        let has_failed = self.has_failed;
+        self.has_failed = true;
+        !has_failed
+    }
+}
+
+impl Read for FailsOnce {
+    fn read(&mut self, _buffer: &mut [u8]) -> io::Result<usize> {
+        if self.fails() {
+            return Err(io::Error::from(ErrorKind::Interrupted));
+        }
+        Ok(0)
+    }
+}
+
+impl Write for FailsOnce {
+    fn write(&mut self, bytes: &[u8]) -> io::Result<usize> {
+        if self.fails() {
+            return Err(io::Error::from(ErrorKind::Interrupted));
+        }
+        Ok(bytes.len())
     }
 
     fn flush(&mut self) -> io::Result<()> {
@@ -128,19 +172,30 @@ fn endless_input(rt: HostRuntime) -> Result<(), Fail> {
         (b'\n', 1_048_576, Ok(()), "size 0\n"),
     ];
     for (byte, left, answer, text) in cases {
-        assert_runs(&rt, &mut Repeated { byte, left }, answer, text)?;
+        assert_runs(
+            &rt,
+            &mut Repeated {
+                byte,
+                left,
+                ended: false,
+            },
+            answer,
+            text,
+        )?;
     }
     Ok(())
 }
 
 /// A source of the script of conditional writes.
 fn slow_source(reads_left: usize) -> SlowSource<'static>
-    ensures { result.failed ≡ false }
+    ensures unfailed { result.failed ≡ false }
+    ensures more { result.ended ≡ false }
 {
     SlowSource {
         unread: CONDITIONAL_WRITES.as_bytes(),
         reads_left,
         failed: false,
+        ended: false,
     }
 }
 
@@ -164,6 +219,7 @@ fn broken_line_before_a_failed_read(rt: HostRuntime) -> Result<(), Fail> {
         unread: script.as_slice(),
         reads_left: script.len(),
         failed: false,
+        ended: false,
     };
     let fault = RunFault::Line(1, Cause::Op);
     assert_runs(&rt, &mut reader, Err(fault), "")
@@ -203,11 +259,26 @@ fn interruptions_are_failures(rt: HostRuntime) -> Result<(), Fail> {
     let mut stuck = FromWrite::new(Stuck);
     let result = run(&rt, &options, &mut reader, &mut stuck);
     assert_eq!(rt; result, Err(RunFault::Write));
-    assert_eq!(rt; stuck.write(b"-"), Err(Failed));
+    let mut stuck = FromWrite::new(Stuck);
     assert_eq!(rt; stuck.write(b""), Ok(0));
+    assert_eq!(rt; stuck.write(b"-"), Err(Failed));
 
     let mut reader = slow_source(usize::MAX);
     let mut writer = FromWrite::new(Interrupted);
+    let result = run(&rt, &options, &mut reader, &mut writer);
+    assert_eq!(rt; result, Err(RunFault::Write));
+    Ok(())
+}
+
+/// The first failure is told: nothing is tried again.
+#[test]
+fn first_failure_ends_the_run(rt: HostRuntime) -> Result<(), Fail> {
+    let mut reader = FromRead::new(FailsOnce { has_failed: false });
+    assert_runs(&rt, &mut reader, Err(RunFault::Read), "")?;
+
+    let options = plain_options()?;
+    let mut reader = slow_source(usize::MAX);
+    let mut writer = FromWrite::new(FailsOnce { has_failed: false });
     let result = run(&rt, &options, &mut reader, &mut writer);
     assert_eq!(rt; result, Err(RunFault::Write));
     Ok(())

@@ -1,11 +1,13 @@
 //! Scripts of several workers, and such as fill the map.
 ghost use Rattle.std.specs.Prelude.{◌≡◌, false};
 
-use super::{CONDITIONAL_ANSWERS, CONDITIONAL_WRITES, assert_serves, words_of};
+use super::{CONDITIONAL_ANSWERS, CONDITIONAL_WRITES, assert_serves, plain_options, words_of};
 use crate::gate::Gate;
 use crate::run::{run, run_gated};
 use nb_core::Shape;
+use nb_script::faults::RunFault;
 use nb_script::options::Options;
+use nb_script::script::Cause;
 use nb_script::streams::{FromRead, FromWrite};
 use std::sync::atomic::{AtomicBool, AtomicU64, Ordering};
 use std::test::Fail;
@@ -187,48 +189,139 @@ fn two_workers_at_once(rt: HostRuntime) -> Result<(), Fail> {
     Ok(())
 }
 
-/// Adds up what it is called with, before and after commands.
+/// Sees that it is called before and after each command of two workers, by turns, and that the commands' numbers count from 0
+/// in each phase.
 #[derive(Drop)]
-struct Sums {
-    before: AtomicU64,
-    after: AtomicU64,
+struct Turns {
+    /// What each worker's next call is, if it isn't the first of a phase: twice the command's number before it, one more after it.
+    next: [AtomicU64; 2],
+    calls: AtomicU64,
+    wrong: AtomicBool,
 }
 
-/// A number for a worker's command, which differs for each worker and number below ten.
-fn place(worker: usize, number: usize) -> u64 {
-    (worker as u64)
-        .wrapping_mul(10)
-        .wrapping_add((number as u64).wrapping_mul(100))
-        .wrapping_add(1)
+impl Turns {
+    /// A gate that wasn't called yet.
+    fn new() -> Turns {
+        Turns {
+            next: [AtomicU64::new(0), AtomicU64::new(0)],
+            calls: AtomicU64::new(0),
+            wrong: AtomicBool::new(false),
+        }
+    }
+
+    fn called(&self, worker: usize, turn: u64) {
+        self.calls.fetch_add(1, Ordering::SeqCst);
+        if worker > 1 {
+            self.wrong.store(true, Ordering::SeqCst);
+            return;
+        }
+        let due = self.next[worker].swap(turn.wrapping_add(1), Ordering::SeqCst);
+        let begins = turn == 0 && due % 2 == 0;
+        if turn != due && !begins {
+            self.wrong.store(true, Ordering::SeqCst);
+        }
+    }
 }
 
-impl Gate for Sums {
+/// Twice the number.
+fn turn_before(number: usize) -> u64 {
+    (number as u64).wrapping_mul(2)
+}
+
+impl Gate for Turns {
     fn before(&self, worker: usize, number: usize) {
-        self.before
-            .fetch_add(place(worker, number), Ordering::SeqCst);
+        self.called(worker, turn_before(number));
     }
 
     fn after(&self, worker: usize, number: usize) {
-        self.after
-            .fetch_add(place(worker, number), Ordering::SeqCst);
+        self.called(worker, turn_before(number).wrapping_add(1));
     }
 }
 
-/// The gate is called round each command, whose number counts from 0 in each phase.
 #[test]
 fn gate_round_each_command(rt: HostRuntime) -> Result<(), Fail> {
     let shape = Shape::new(4, 4, 2, 1)?;
-    let gate = Sums {
-        before: AtomicU64::new(0),
-        after: AtomicU64::new(0),
-    };
-    let script = b"0 put 1 1\n1 put 2 2\n0 get 1\n--\n0 get 1\n1 get 2\n".as_slice();
+    let gate = Turns::new();
+    let script = b"0 put 1 1\n1 put 2 2\n0 get 1\n--\n0 get 1\n1 get 2\n1 get 1\n".as_slice();
     let mut output = Vec::new(rt.alloc());
     let mut reader = FromRead::new(script);
     let mut writer = FromWrite::new(&mut output);
     let result = run_gated(&rt, &gate, &Options { shape }, &mut reader, &mut writer);
     assert_eq!(rt; result, Ok(()));
-    assert_eq!(rt; gate.before.load(Ordering::SeqCst), 125);
-    assert_eq!(rt; gate.after.load(Ordering::SeqCst), 125);
+    assert!(rt; !gate.wrong.load(Ordering::SeqCst));
+    assert_eq!(rt; gate.calls.load(Ordering::SeqCst), 12);
+    Ok(())
+}
+
+/// No command comes before all of the script was read and found to be without a fault.
+#[test]
+fn no_gate_before_a_fault(rt: HostRuntime) -> Result<(), Fail> {
+    let mut script = Vec::new(rt.alloc());
+    for _line in 0..1000 {
+        script.extend_from_slice(b"0 put 1 1\n")?;
+    }
+    script.extend_from_slice(b"0 put 1 x\n")?;
+    let gate = Turns::new();
+    let mut output = Vec::new(rt.alloc());
+    let mut reader = FromRead::new(script.as_slice());
+    let mut writer = FromWrite::new(&mut output);
+    let options = plain_options()?;
+    let result = run_gated(&rt, &gate, &options, &mut reader, &mut writer);
+    assert_eq!(rt; result, Err(RunFault::Line(1001, Cause::Number)));
+    assert_eq!(rt; gate.calls.load(Ordering::SeqCst), 0);
+    Ok(())
+}
+
+/// Holds worker 1 up before its command until worker 0's is over, and worker 0 after its command until worker 1's is over.
+#[derive(Drop)]
+struct OneAfterAnother {
+    over: [AtomicBool; 2],
+    late: AtomicBool,
+}
+
+impl OneAfterAnother {
+    fn wait_for(&self, worker: usize) {
+        for _turn in 0..(1 << 28) {
+            if worker > 1 || self.over[worker].load(Ordering::SeqCst) {
+                return;
+            }
+        }
+        self.late.store(true, Ordering::SeqCst);
+    }
+}
+
+impl Gate for OneAfterAnother {
+    fn before(&self, worker: usize, _number: usize) {
+        if worker == 1 {
+            self.wait_for(0);
+        }
+    }
+
+    fn after(&self, worker: usize, _number: usize) {
+        if worker > 1 {
+            return;
+        }
+        self.over[worker].store(true, Ordering::SeqCst);
+        if worker == 0 {
+            self.wait_for(1);
+        }
+    }
+}
+
+/// A command is made between the two calls of its gate: worker 1 finds what worker 0 puts.
+#[test]
+fn command_between_its_gates(rt: HostRuntime) -> Result<(), Fail> {
+    let shape = Shape::new(4, 4, 2, 1)?;
+    let gate = OneAfterAnother {
+        over: [AtomicBool::new(false), AtomicBool::new(false)],
+        late: AtomicBool::new(false),
+    };
+    let mut output = Vec::new(rt.alloc());
+    let mut reader = FromRead::new(b"0 put 1 5\n1 get 1\n".as_slice());
+    let mut writer = FromWrite::new(&mut output);
+    let result = run_gated(&rt, &gate, &Options { shape }, &mut reader, &mut writer);
+    assert_eq!(rt; result, Ok(()));
+    assert!(rt; !gate.late.load(Ordering::SeqCst));
+    assert_eq!(rt; output.as_slice(), b"0 -\n1 5\nsize 1\n1 5\n".as_slice());
     Ok(())
 }

@@ -37,6 +37,20 @@ pub(super) fn taken<R: Abort>(rt: &R, set: &LongSet, seats: &mut Vec<Seat>) -> S
     seat
 }
 
+/// Gives a seat back to those that it was taken from.
+pub(super) fn given_back(
+    set: &LongSet,
+    seats: &mut Vec<Seat>,
+    seat: Seat,
+) -> Result<(), OutOfMemory>
+    requires own { AreMine set.now seats.old.items }
+    requires given { IsMine set.now seat }
+    ensures own { IfOk result (λ done. AreMine set.now seats.new.items) }
+{
+    seats.push(seat)?;
+    Ok(())
+}
+
 /// A set with one seat.
 pub(super) fn with_one<R: Abort>(
     rt: &R,

@@ -1,7 +1,8 @@
-use Rattle.std.proofs.Common.{rules, ◌∙◌, ◌∷◌, ◌++◌, [], arith, subst, sym}
+use Rattle.std.proofs.Common.{rules, ◌≡◌, subst₂, ◌∙◌, ◌∷◌, ◌++◌, [], arith, subst, sym}
 use Rattle.std.proofs.lemmas.List.Elements.{length_all_zip}
 use Rattle.std.specs.List.{AllZip}
 use Rattle.nb_run.specs.Working.{IsRun}
+use Rattle.nb_run.specs.declared.workers.Worker.{Worker}
 use Rattle.nb_run.proofs.Together.{all-zip-push}
 use Rattle.nb_run.proofs.workers.+fn-run_together-scope+run_together.Goals as goal
 
@@ -13,11 +14,19 @@ scope-push_reserved-requires g t c =
 
 pub scope-returns : goal.scope-returns
 scope-returns g t c =
-    let ran : IsRun c.captures.map.now c.captures.phase.now c.captures.last c.join.result = search rules in record {
+    let ran : IsRun c.captures.map.now c.captures.phase.now c.captures.last c.join-ran.result = search rules in record {
       room = c.push_reserved.ensures.capacity ∙ c.in_ok-workers.ensures.room;
       ran =
           subst (AllZip (IsRun c.captures.map.now c.captures.phase.now) (c.captures.workers.items ++ c.captures.last ∷ []))
           (sym c.push_reserved.ensures.items)
           (all-zip-push (IsRun c.captures.map.now c.captures.phase.now) c.captures.workers.items c.in_ok-workers.workers.items
-          c.captures.last c.join.result c.in_ok-workers.ensures.ran ran);
+          c.captures.last c.join-ran.result c.in_ok-workers.ensures.ran ran);
     }
+
+pub returns-then-busy-lt2-clause-ran : goal.returns-then-busy-lt2-clause-ran
+returns-then-busy-lt2-clause-ran g t c =
+    let R : Worker → Worker → Type 0 = IsRun c.args.map.now c.args.phase.now in
+    let whole : c.args.workers.items ≡ c.pop.new.self.items ++ c.in-Some.last ∷ [] = search rules in
+    subst₂ (AllZip R) (sym whole) (sym c.push_reserved.ensures.items)
+    (all-zip-push R c.pop.new.self.items c.in_ok-workers.workers.items c.in-Some.last c.run-ran.result c.in_ok-workers.ensures.ran
+    (c.run-ran.ensures.own, c.run-ran.ensures.ran))

@@ -14,5 +14,5 @@ loop-rest-preserved g c =
             ∙ ap (λ bs. before.written ++ bs) (take-append-drop n rest) ∙ before.all;
         appended = Appends-trans _ _ _ before.written (take n rest) before.appended c.in_ok-count.ensures.bytes;
       },
-      c.in_ok-count.ensures.marks ∙ c.loop-rest.invariant.1,
+      c.in_ok-count.ensures.marks,
     )

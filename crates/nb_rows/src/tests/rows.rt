@@ -1,0 +1,365 @@
+//! Calls one after another, with the replies and the slots that they leave.
+ghost use Rattle.nb_table.specs.Chains.{IsOwn};
+
+use super::on_chain::*;
+use nb_map::PutFault;
+use nb_map::steps::{Pause, put_if_match_in};
+use nb_core::{Change, Key, KeyState, NotAll, Num, OutOfMemory, Reply, Shape, Want};
+use nb_table::{Chain, ChainSeat};
+use std::alloc::Global;
+use std::process::Abort;
+use std::test::Fail;
+
+/// A seat fills a table of four slots. There is no room for a fifth key.
+fn fills_one_table<R: Abort>(rt: &R, chain: &Chain, seat: &mut ChainSeat)
+    requires own { IsOwn chain.now seat.old }
+    ensures own { IsOwn chain.now seat.new }
+{
+    puts(rt, chain, seat, &[(0, 10), (1, 11), (2, 12), (3, 13)]);
+    assert_eq!(rt; put(rt, chain, seat, 4, 14), Err(PutFault::Full));
+}
+
+/// The answer of a write whose condition doesn't hold of an absent key.
+fn unmatched() -> Result<Reply, PutFault> {
+    Ok(Reply {
+        before: None,
+        matched: false,
+    })
+}
+
+/// Closing without the seat gives the chain back, and with it what is in it.
+#[test]
+fn one_table_by_hand(rt: HostRuntime) -> Result<(), Fail> {
+    let (chain, mut seat) = with_one(&rt, rt.alloc(), Shape::new(2, 1, 1, 1))?;
+    fills_one_table(&rt, &chain, &mut seat);
+    let change = Change::Put(number(&rt, 14));
+    let answer = writes(&rt, &chain, &mut seat, 4, Want::Present, change);
+    assert_eq!(rt; answer, unmatched());
+    assert_eq!(rt; put(&rt, &chain, &mut seat, 0, 20), Ok(Some(10)));
+    let Err(NotAll { whole, mut seats }) = chain.close(Vec::new(rt.alloc())) else {
+        panic!(rt; "the seat is missing")
+    };
+    assert!(rt; seats.is_empty());
+    seats.push(seat)?;
+    let closed = closes(&rt, whole, seats);
+    lists(
+        &rt,
+        rt.alloc(),
+        &closed,
+        &[(0, 20), (1, 11), (2, 12), (3, 13)],
+    )?;
+    assert_eq!(rt; closed.get(key(&rt, 4)), None);
+    Ok(())
+}
+
+/// A seat puts four keys whose home is one slot: the fourth doesn't fit, and they are copied.
+fn grows_when_crowded<R: Abort>(rt: &R, chain: &Chain, seat: &mut ChainSeat)
+    requires own { IsOwn chain.now seat.old }
+    ensures own { IsOwn chain.now seat.new }
+{
+    puts(rt, chain, seat, &[(0, 10), (4, 14), (8, 18), (12, 22)]);
+    assert_eq!(rt; chain.load_top(seat), 1);
+    has_finished(rt, chain, seat, 0, &[10, 14, 18]);
+    has_no_keys(rt, chain, seat, 0, &[3], KeyState::Dead);
+    has_live(
+        rt,
+        chain,
+        seat,
+        1,
+        &[(0, 0, 10), (1, 8, 18), (4, 4, 14), (5, 12, 22)],
+    );
+    has_no_keys(rt, chain, seat, 1, &[2, 3, 6, 7], KeyState::Empty);
+}
+
+#[test]
+fn grows_when_a_path_is_crowded(rt: HostRuntime) -> Result<(), Fail> {
+    let (chain, mut seat) = with_one(&rt, rt.alloc(), Shape::new(2, 3, 1, 1))?;
+    grows_when_crowded(&rt, &chain, &mut seat);
+    let left = [(0, 10), (4, 14), (8, 18), (12, 22)];
+    one_leaves(&rt, rt.alloc(), chain, seat, &left)?;
+    Ok(())
+}
+
+/// A seat removes a key before the table is copied.
+fn removes_before_copy<R: Abort>(rt: &R, chain: &Chain, seat: &mut ChainSeat)
+    requires own { IsOwn chain.now seat.old }
+    ensures own { IsOwn chain.now seat.new }
+{
+    puts(rt, chain, seat, &[(0, 10), (4, 14), (8, 18)]);
+    assert_eq!(rt; remove(rt, chain, seat, 4), Ok(Some(14)));
+    puts(rt, chain, seat, &[(12, 22)]);
+    has_live(rt, chain, seat, 1, &[(0, 0, 10), (1, 8, 18), (4, 12, 22)]);
+    has_no_keys(rt, chain, seat, 1, &[2, 3, 5, 6, 7], KeyState::Empty);
+}
+
+#[test]
+fn a_removal_is_not_copied(rt: HostRuntime) -> Result<(), Fail> {
+    let (chain, mut seat) = with_one(&rt, rt.alloc(), Shape::new(2, 3, 1, 1))?;
+    removes_before_copy(&rt, &chain, &mut seat);
+    let left = [(0, 10), (8, 18), (12, 22)];
+    one_leaves(&rt, rt.alloc(), chain, seat, &left)?;
+    Ok(())
+}
+
+/// In a full table a removed key keeps its slot: no other key gets it, and the key can come back.
+fn keeps_slots<R: Abort>(rt: &R, chain: &Chain, seat: &mut ChainSeat)
+    requires own { IsOwn chain.now seat.old }
+    ensures own { IsOwn chain.now seat.new }
+{
+    fills_one_table(rt, chain, seat);
+    assert_eq!(rt; put(rt, chain, seat, 0, 20), Ok(Some(10)));
+    assert_eq!(rt; remove(rt, chain, seat, 0), Ok(Some(20)));
+    assert_eq!(rt; put(rt, chain, seat, 4, 14), Err(PutFault::Full));
+    let put_14 = Change::Put(number(rt, 14));
+    let if_absent = writes(rt, chain, seat, 4, Want::Absent, put_14);
+    assert_eq!(rt; if_absent, Err(PutFault::Full));
+    let put_1 = Change::Put(number(rt, 1));
+    let replaced = writes(rt, chain, seat, 4, Want::Present, put_1);
+    assert_eq!(rt; replaced, unmatched());
+    assert_eq!(rt; put(rt, chain, seat, 0, 30), Ok(None));
+}
+
+#[test]
+fn full_and_kept_keys(rt: HostRuntime) -> Result<(), Fail> {
+    let (chain, mut seat) = with_one(&rt, rt.alloc(), Shape::new(2, 1, 1, 1))?;
+    keeps_slots(&rt, &chain, &mut seat);
+    let left = [(0, 30), (1, 11), (2, 12), (3, 13)];
+    one_leaves(&rt, rt.alloc(), chain, seat, &left)?;
+    Ok(())
+}
+
+/// A seat that puts a number at a key once, before the first exchange of another seat's write. It counts the pauses.
+#[derive(Drop)]
+struct PutsOnce {
+    seat: ChainSeat,
+    key: Key,
+    number: Num,
+    answer: Option<Result<Reply, PutFault>>,
+    pauses: u64,
+}
+
+impl Pause for PutsOnce {
+    ghost use Rattle.nb_table.specs.Chains.{IsOwn};
+
+    ghost serves = { λ pause chain. IsOwn chain pause.seat };
+
+    fn before_exchange(&mut self, chain: &Chain) {
+        self.pauses = self.pauses.wrapping_add(1);
+        if self.answer.is_none() {
+            let change = Change::Put(self.number);
+            let answer = makes_write(chain, &mut self.seat, self.key, Want::Any, change, 1);
+            self.answer = Some(answer);
+        }
+    }
+}
+
+/// The answer of a write of key 7 with so many tries, before whose first exchange another seat puts 6 there, and what is there
+/// afterwards. It pauses once before each exchange, of which it makes as many as it has tries.
+fn contends<R: Abort>(
+    rt: &R,
+    alloc: Global,
+    change: Change,
+    tries: u32,
+) -> Result<(Result<Option<u64>, PutFault>, Option<u64>), OutOfMemory> {
+    let (chain, mut seats) = chain_of(rt, alloc, Shape::new(2, 1, 2, 1))?;
+    let seat = taken(rt, &chain, &mut seats);
+    let mut a = taken(rt, &chain, &mut seats);
+    assert!(rt; tries > 0);
+    let seven = key(rt, 7);
+    let mut pause = PutsOnce {
+        seat,
+        key: seven,
+        number: number(rt, 6),
+        answer: None,
+        pauses: 0,
+    };
+    let answer = put_if_match_in(&chain, &mut a, seven, Want::Any, change, tries, &mut pause);
+    assert_eq!(rt; pause.pauses, u64::from(tries));
+    let by_other = pause.answer.expect(rt, "the other seat put its number");
+    assert_eq!(rt; found(rt, by_other), Ok(None));
+    let left = get(rt, &chain, &mut pause.seat, 7);
+    Ok((found(rt, answer), left))
+}
+
+/// The same with a put of 5.
+fn put_contends<R: Abort>(
+    rt: &R,
+    alloc: Global,
+    tries: u32,
+) -> Result<(Result<Option<u64>, PutFault>, Option<u64>), OutOfMemory> {
+    let change = Change::Put(number(rt, 5));
+    contends(rt, alloc, change, tries)
+}
+
+#[test]
+fn contended_once(rt: HostRuntime) -> Result<(), Fail> {
+    let (by_once, after_once) = put_contends(&rt, rt.alloc(), 1)?;
+    assert_eq!(rt; by_once, Err(PutFault::Contended));
+    assert_eq!(rt; after_once, Some(6));
+    let (by_twice, after_twice) = put_contends(&rt, rt.alloc(), 2)?;
+    assert_eq!(rt; by_twice, Ok(Some(6)));
+    assert_eq!(rt; after_twice, Some(5));
+    Ok(())
+}
+
+#[test]
+fn add_contended_once(rt: HostRuntime) -> Result<(), Fail> {
+    let change = Change::Add(number(&rt, 5));
+    let (by_twice, after_twice) = contends(&rt, rt.alloc(), change, 2)?;
+    assert_eq!(rt; by_twice, Ok(Some(6)));
+    assert_eq!(rt; after_twice, Some(11));
+    Ok(())
+}
+
+/// A seat fills a table, removes all keys, and fills the next one with them and with others.
+fn refills<R: Abort>(rt: &R, chain: &Chain, seat: &mut ChainSeat)
+    requires own { IsOwn chain.now seat.old }
+    ensures own { IsOwn chain.now seat.new }
+{
+    let first = [(0, 10), (1, 11), (2, 12), (3, 13)];
+    puts(rt, chain, seat, &first);
+    removes(rt, chain, seat, &first);
+    puts(rt, chain, seat, &[(4, 14), (5, 15), (6, 16), (7, 17)]);
+    puts(rt, chain, seat, &first);
+    assert_eq!(rt; put(rt, chain, seat, 8, 1), Err(PutFault::Full));
+    assert_eq!(rt; chain.load_top(seat), 1);
+}
+
+#[test]
+fn filled_removed_refilled(rt: HostRuntime) -> Result<(), Fail> {
+    let (chain, mut seat) = with_one(&rt, rt.alloc(), Shape::new(2, 2, 1, 1))?;
+    refills(&rt, &chain, &mut seat);
+    let left = [
+        (0, 10),
+        (1, 11),
+        (2, 12),
+        (3, 13),
+        (4, 14),
+        (5, 15),
+        (6, 16),
+        (7, 17),
+    ];
+    one_leaves(&rt, rt.alloc(), chain, seat, &left)?;
+    Ok(())
+}
+
+/// A seat puts four keys whose home is one slot. The second table is as crowded as the first, and the third takes them.
+fn grows_twice<R: Abort>(rt: &R, chain: &Chain, seat: &mut ChainSeat)
+    requires own { IsOwn chain.now seat.old }
+    ensures own { IsOwn chain.now seat.new }
+{
+    puts(rt, chain, seat, &[(0, 10), (4, 14), (8, 18), (12, 22)]);
+    assert_eq!(rt; chain.load_top(seat), 2);
+    has_finished(rt, chain, seat, 1, &[10, 14, 18]);
+    has_no_keys(rt, chain, seat, 1, &[3], KeyState::Dead);
+    has_live(
+        rt,
+        chain,
+        seat,
+        2,
+        &[(0, 0, 10), (1, 8, 18), (4, 4, 14), (5, 12, 22)],
+    );
+}
+
+#[test]
+fn plan_of_three(rt: HostRuntime) -> Result<(), Fail> {
+    let shape = Shape::with_plan(&[2, 2, 3], 1, 1);
+    let (chain, mut seat) = with_one(&rt, rt.alloc(), shape)?;
+    grows_twice(&rt, &chain, &mut seat);
+    let left = [(0, 10), (4, 14), (8, 18), (12, 22)];
+    one_leaves(&rt, rt.alloc(), chain, seat, &left)?;
+    Ok(())
+}
+
+/// A seat crowds a table with keys that it removes, and fills the next one, which is as large.
+fn makes_room<R: Abort>(rt: &R, chain: &Chain, seat: &mut ChainSeat)
+    requires own { IsOwn chain.now seat.old }
+    ensures own { IsOwn chain.now seat.new }
+{
+    let first = [(0, 10), (4, 14), (8, 18)];
+    puts(rt, chain, seat, &first);
+    removes(rt, chain, seat, &first);
+    puts(rt, chain, seat, &[(12, 22), (16, 26), (20, 30), (24, 34)]);
+    assert_eq!(rt; put(rt, chain, seat, 28, 38), Err(PutFault::Full));
+}
+
+#[test]
+fn same_size_successor(rt: HostRuntime) -> Result<(), Fail> {
+    let shape = Shape::with_plan(&[2, 2], 1, 1);
+    let (chain, mut seat) = with_one(&rt, rt.alloc(), shape)?;
+    makes_room(&rt, &chain, &mut seat);
+    let left = [(12, 22), (16, 26), (20, 30), (24, 34)];
+    one_leaves(&rt, rt.alloc(), chain, seat, &left)?;
+    Ok(())
+}
+
+/// A seat puts one key more than the second table takes, which is no larger than the first.
+fn fills_both<R: Abort>(rt: &R, chain: &Chain, seat: &mut ChainSeat)
+    requires own { IsOwn chain.now seat.old }
+    ensures own { IsOwn chain.now seat.new }
+{
+    puts(rt, chain, seat, &[(0, 10), (4, 14), (8, 18), (12, 22)]);
+    assert_eq!(rt; put(rt, chain, seat, 16, 26), Err(PutFault::Full));
+}
+
+#[test]
+fn same_size_full(rt: HostRuntime) -> Result<(), Fail> {
+    let shape = Shape::with_plan(&[2, 2], 1, 1);
+    let (chain, mut seat) = with_one(&rt, rt.alloc(), shape)?;
+    fills_both(&rt, &chain, &mut seat);
+    let left = [(0, 10), (4, 14), (8, 18), (12, 22)];
+    one_leaves(&rt, rt.alloc(), chain, seat, &left)?;
+    Ok(())
+}
+
+/// A seat adds up to the greatest number and no further, and adds nothing.
+fn adds_in_turn<R: Abort>(rt: &R, chain: &Chain, seat: &mut ChainSeat)
+    requires own { IsOwn chain.now seat.old }
+    ensures own { IsOwn chain.now seat.new }
+{
+    assert_eq!(rt; add(rt, chain, seat, 1, 5), Ok(None));
+    assert_eq!(rt; add(rt, chain, seat, 1, 6), Ok(Some(5)));
+    assert_eq!(rt; get(rt, chain, seat, 1), Some(11));
+    let most = add(rt, chain, seat, 1, 1_152_921_504_606_846_964);
+    assert_eq!(rt; most, Ok(Some(11)));
+    let past = add(rt, chain, seat, 1, 1);
+    assert_eq!(rt; past, Err(PutFault::ValueRange));
+    let none = add(rt, chain, seat, 1, 0);
+    assert_eq!(rt; none, Ok(Some(1_152_921_504_606_846_975)));
+    assert_eq!(rt; add(rt, chain, seat, 2, 0), Ok(None));
+}
+
+#[test]
+fn adds(rt: HostRuntime) -> Result<(), Fail> {
+    let (chain, mut seat) = with_one(&rt, rt.alloc(), Shape::new(2, 1, 1, 1))?;
+    adds_in_turn(&rt, &chain, &mut seat);
+    let left = [(1, 1_152_921_504_606_846_975), (2, 0)];
+    one_leaves(&rt, rt.alloc(), chain, seat, &left)?;
+    Ok(())
+}
+
+/// A puts three keys, B grows the chain for a fourth and copies them, and A finds all four.
+fn finds_copies<R: Abort>(rt: &R, chain: &Chain, a: &mut ChainSeat, b: &mut ChainSeat)
+    requires a { IsOwn chain.now a.old }
+    requires b { IsOwn chain.now b.old }
+    ensures a { IsOwn chain.now a.new }
+    ensures b { IsOwn chain.now b.new }
+{
+    puts(rt, chain, a, &[(0, 10), (4, 14), (8, 18)]);
+    puts(rt, chain, b, &[(12, 22)]);
+    assert_eq!(rt; chain.load_top(b), 1);
+    gets(rt, chain, a, &[(0, 10), (4, 14), (8, 18), (12, 22)]);
+}
+
+#[test]
+fn finds_what_another_copied(rt: HostRuntime) -> Result<(), Fail> {
+    let (chain, mut seats) = chain_of(&rt, rt.alloc(), Shape::new(2, 3, 2, 1))?;
+    let mut b = taken(&rt, &chain, &mut seats);
+    let mut a = taken(&rt, &chain, &mut seats);
+    finds_copies(&rt, &chain, &mut a, &mut b);
+    seats.push(a)?;
+    seats.push(b)?;
+    let left = [(0, 10), (4, 14), (8, 18), (12, 22)];
+    leaves(&rt, rt.alloc(), chain, seats, &left)?;
+    Ok(())
+}

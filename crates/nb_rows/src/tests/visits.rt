@@ -1,0 +1,68 @@
+//! Two threads count visits of pages in one map.
+ghost use Rattle.nb_map.specs.Maps.{IsMine};
+
+use super::on_map::taken;
+use nb_map::{Map, Seat};
+use nb_core::{Key, Num, Shape};
+use std::process::Abort;
+use std::sync::Wait;
+use std::test::Fail;
+use std::thread;
+use std::thread::Threads;
+
+/// Counts a visit of the page, and hands the seat back.
+fn visit<R: Wait>(rt: &R, map: &Map, seat: Seat, page: Key, once: Num) -> Seat
+    requires { IsMine map.now seat }
+    ensures { IsMine map.now result }
+{
+    let mut seat = seat;
+    let _ = map.add(rt, &mut seat, page, once);
+    seat
+}
+
+/// Two threads visit the page, each with its own seat.
+fn visits<R: Threads + Sync + Wait>(
+    rt: &R,
+    map: &Map,
+    a: Seat,
+    b: Seat,
+    page: Key,
+    once: Num,
+) -> (Seat, Seat)
+    requires a { IsMine map.now a }
+    requires b { IsMine map.now b }
+    ensures { IsMine map.now result.0 × IsMine map.now result.1 }
+{
+    thread::join(
+        rt,
+        move || -> Seat
+            requires { IsMine map.now a }
+            ensures { IsMine map.entry.now result }
+        { visit(rt, map, a, page, once) },
+        move || -> Seat
+            requires { IsMine map.now b }
+            ensures { IsMine map.entry.now result }
+        { visit(rt, map, b, page, once) },
+    )
+}
+
+/// Up to four tables, the first of 16 slots, and a seat for each thread.
+#[test]
+fn two_visits(rt: HostRuntime) -> Result<(), Fail> {
+    let page = Key::new(7)?;
+    let once = Num::new(1)?;
+    let (map, mut seats) = Map::new(rt.alloc(), Shape::new(4, 4, 2, 1)?)?;
+    let b = taken(&rt, &map, &mut seats);
+    let a = taken(&rt, &map, &mut seats);
+    let (mut a, b) = visits(&rt, &map, a, b, page, once);
+    assert!(rt; map.get(&mut a, page).is_some());
+    let mut seats = Vec::new(rt.alloc());
+    seats.push(a)?;
+    seats.push(b)?;
+    let Ok(ended) = map.finish(seats) else {
+        panic!(rt; "both seats are here")
+    };
+    assert_eq!(rt; ended.size(), 1);
+    assert_eq!(rt; ended.get(page).map(Num::get), Some(2));
+    Ok(())
+}
