@@ -57,7 +57,9 @@ fn puts_if_absent<R: Wait + Abort>(rt: &R, map: &LongMap<u64>, seat: &mut Seat)
 {
     let done = match had_memory(rt, map.put_if_absent(rt, seat, key(rt, 1), VALUE)) {
         Ok(done) => done,
-        Err(_) => had_memory(rt, map.put_if_absent(rt, seat, key(rt, 1), VALUE)).expect(rt, "memory"),
+        Err(_) => had_memory(rt, map.put_if_absent(rt, seat, key(rt, 1), VALUE)).expect(
+            rt, "memory",
+        ),
     };
     assert!(rt; done);
 }
@@ -79,7 +81,9 @@ fn replaces_if<R: Wait + Abort>(rt: &R, map: &LongMap<u64>, seat: &mut Seat)
 {
     let done = match had_memory(rt, map.replace_if(rt, seat, key(rt, 1), &VALUE, VALUE)) {
         Ok(done) => done,
-        Err(_) => had_memory(rt, map.replace_if(rt, seat, key(rt, 1), &VALUE, VALUE)).expect(rt, "memory"),
+        Err(_) => had_memory(rt, map.replace_if(rt, seat, key(rt, 1), &VALUE, VALUE)).expect(
+            rt, "memory",
+        ),
     };
     assert!(rt; !done);
 }

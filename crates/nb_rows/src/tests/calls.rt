@@ -3,8 +3,8 @@ ghost use Rattle.nb_map.specs.Maps.{IsMine};
 
 use super::on_chain::number;
 use super::on_map::*;
-use nb_map::{AddFault, Full, Map, PutFault, Seat};
 use nb_core::{Change, NotAll, Reply, VALUE_MAX, Want};
+use nb_map::{AddFault, Full, Map, PutFault, Seat};
 use std::process::Abort;
 use std::sync::Wait;
 use std::test::Fail;

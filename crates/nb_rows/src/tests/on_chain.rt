@@ -4,11 +4,11 @@ ghost use Rattle.nb_core.specs.Tables.{IsSlot};
 ghost use Rattle.nb_table.specs.Chains.{IsOwn};
 ghost use Rattle.nb_table.specs.Chains.{AreOwn};
 
-use nb_map::PutFault;
-use nb_map::steps::{NoPause, get_in, put_if_match_in};
 use nb_core::{
     Change, Key, KeyState, Num, OutOfMemory, Reply, Shape, ShapeFault, ValueState, Want,
 };
+use nb_map::PutFault;
+use nb_map::steps::{NoPause, get_in, put_if_match_in};
 use nb_table::{Chain, ChainSeat, Closed};
 use std::alloc::Global;
 use std::process::Abort;

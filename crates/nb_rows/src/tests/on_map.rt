@@ -3,8 +3,8 @@ ghost use Rattle.std.specs.Prelude.{◌≡◌, IfOk};
 ghost use Rattle.nb_map.specs.Maps.{AreMine, IsMine};
 
 use super::on_chain::{key, number};
-use nb_map::{AddFault, Ended, Full, Map, PutFault, Seat};
 use nb_core::{Change, Num, OutOfMemory, Reply, Shape, Want};
+use nb_map::{AddFault, Ended, Full, Map, PutFault, Seat};
 use std::alloc::Global;
 use std::process::Abort;
 use std::sync::Wait;
@@ -36,11 +36,7 @@ pub(super) fn taken<R: Abort>(rt: &R, map: &Map, seats: &mut Vec<Seat>) -> Seat
 }
 
 /// Gives a seat back to those that it was taken from.
-pub(super) fn given_back(
-    map: &Map,
-    seats: &mut Vec<Seat>,
-    seat: Seat,
-) -> Result<(), OutOfMemory>
+pub(super) fn given_back(map: &Map, seats: &mut Vec<Seat>, seat: Seat) -> Result<(), OutOfMemory>
     requires own { AreMine map.now seats.old.items }
     requires given { IsMine map.now seat }
     ensures own { IfOk result (λ done. AreMine map.now seats.new.items) }

@@ -2,9 +2,9 @@
 ghost use Rattle.nb_table.specs.Chains.{IsOwn};
 
 use super::on_chain::*;
+use nb_core::{Change, Key, KeyState, NotAll, Num, OutOfMemory, Reply, Shape, Want};
 use nb_map::PutFault;
 use nb_map::steps::{Pause, put_if_match_in};
-use nb_core::{Change, Key, KeyState, NotAll, Num, OutOfMemory, Reply, Shape, Want};
 use nb_table::{Chain, ChainSeat};
 use std::alloc::Global;
 use std::process::Abort;

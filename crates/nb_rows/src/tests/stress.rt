@@ -4,8 +4,8 @@ ghost use Rattle.nb_map.specs.Maps.{AreMine, IsMine};
 
 use super::on_chain::{key, number};
 use super::on_map::*;
-use nb_map::{Ended, Map, Seat};
 use nb_core::OutOfMemory;
+use nb_map::{Ended, Map, Seat};
 use std::alloc::Global;
 use std::process::Abort;
 use std::sync::Wait;

@@ -2,8 +2,8 @@
 ghost use Rattle.nb_map.specs.Maps.{IsMine};
 
 use super::on_map::taken;
-use nb_map::{Map, Seat};
 use nb_core::{Key, Num, Shape};
+use nb_map::{Map, Seat};
 use std::process::Abort;
 use std::sync::Wait;
 use std::test::Fail;

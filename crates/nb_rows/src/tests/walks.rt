@@ -5,8 +5,8 @@ ghost use Rattle.nb_map.specs.Walks.{IsWalkOf, slots_from};
 
 use super::on_chain::{key, number};
 use super::on_map::*;
-use nb_map::{Map, Seat, Walk};
 use nb_core::OutOfMemory;
+use nb_map::{Map, Seat, Walk};
 use std::alloc::Global;
 use std::process::Abort;
 use std::sync::Wait;
