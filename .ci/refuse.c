@@ -1,6 +1,7 @@
 /* Loaded before a program's libraries, it refuses the program's Nth request for memory or for a thread, and at the end of the
-   program says how many such requests there were and how many blocks of memory were left. N stands in REFUSE, and the number
-   of the descriptor to say it on in REFUSED. */
+   program says how many such requests there were and how many blocks of memory were left. Blocks that the C library takes to
+   start a thread aren't counted, since it keeps them for the next one. N stands in REFUSE, and the number of the descriptor to
+   say it on in REFUSED. */
 #define _GNU_SOURCE
 #include <dlfcn.h>
 #include <errno.h>
@@ -21,6 +22,9 @@ static unsigned long refuse;
 static unsigned long asked;
 static long left;
 static int told = -1;
+
+static __thread int starts_thread;
+static void *kept[64];
 
 __attribute__((constructor)) static void begin(void)
 {
@@ -52,9 +56,23 @@ static int is_refused(void)
     return __atomic_add_fetch(&asked, 1, __ATOMIC_SEQ_CST) == refuse;
 }
 
+static int is_exchanged(void **place, void *old, void *new)
+{
+    return __atomic_compare_exchange_n(place, &old, new, 0, __ATOMIC_SEQ_CST, __ATOMIC_SEQ_CST);
+}
+
+/* Puts a block in place of another among those that are kept, and says whether it was there. */
+static int is_kept(void *old, void *new)
+{
+    for (size_t i = 0; i < sizeof kept / sizeof *kept; i++)
+        if (is_exchanged(&kept[i], old, new))
+            return 1;
+    return 0;
+}
+
 static void *taken(void *block)
 {
-    if (block != NULL)
+    if (block != NULL && !(starts_thread && is_kept(NULL, block)))
         __atomic_add_fetch(&left, 1, __ATOMIC_SEQ_CST);
     return block;
 }
@@ -85,12 +103,17 @@ void *realloc(void *block, size_t size)
 
 void free(void *block)
 {
-    if (block != NULL)
+    if (block != NULL && !is_kept(block, NULL))
         __atomic_sub_fetch(&left, 1, __ATOMIC_SEQ_CST);
     __libc_free(block);
 }
 
 int pthread_create(pthread_t *thread, const pthread_attr_t *attributes, void *(*start)(void *), void *argument)
 {
-    return is_refused() ? EAGAIN : create(thread, attributes, start, argument);
+    if (is_refused())
+        return EAGAIN;
+    starts_thread = 1;
+    int error = create(thread, attributes, start, argument);
+    starts_thread = 0;
+    return error;
 }
