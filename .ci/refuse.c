@@ -1,5 +1,5 @@
 /* Loaded before a program's libraries, it refuses the program's Nth request for memory or for a thread, and at the end of the
-   program says how many such requests there were and how many blocks of memory were left. Blocks that the C library takes to
+   program says how many such requests there were, how many blocks of memory were left, and how many threads began. Blocks that the C library takes to
    start a thread aren't counted, since it keeps them for the next one. N stands in REFUSE, and the number of the descriptor to
    say it on in REFUSED. */
 #define _GNU_SOURCE
@@ -21,6 +21,7 @@ static int (*create)(pthread_t *, const pthread_attr_t *, void *(*)(void *), voi
 static unsigned long refuse;
 static unsigned long asked;
 static long left;
+static unsigned long begun;
 static int told = -1;
 
 static __thread int starts_thread;
@@ -33,12 +34,13 @@ __attribute__((constructor)) static void begin(void)
     told = atoi(getenv("REFUSED"));
     asked = 0;
     left = 0;
+    begun = 0;
 }
 
 __attribute__((destructor)) static void end(void)
 {
-    char text[64];
-    int length = snprintf(text, sizeof text, "%lu %ld\n", asked, left);
+    char text[96];
+    int length = snprintf(text, sizeof text, "%lu %ld %lu\n", asked, left, begun);
     if (told >= 0 && write(told, text, (size_t)length) != length)
         abort();
     told = -1;
@@ -115,5 +117,7 @@ int pthread_create(pthread_t *thread, const pthread_attr_t *attributes, void *(*
     starts_thread = 1;
     int error = create(thread, attributes, start, argument);
     starts_thread = 0;
+    if (error == 0)
+        __atomic_add_fetch(&begun, 1, __ATOMIC_SEQ_CST);
     return error;
 }
