@@ -118,7 +118,7 @@ fn copy_chunks(chain: &Chain, seat: &mut ChainSeat, g: u32)
     ensures copied { (slots : List ℕ) × (chunks : ℕ) × (chunks ≤ size_of chain.now.shape g / chunk_of chain.now.shape g)
         × HasCopied chain.now.shape g seat.old seat.new slots chunks (length slots) (size_of chain.now.shape g * (slot_steps chain.now.shape g + 1)) }
 {
-    let chunks = chain.shape().size_of(g) / chain.shape().chunk_of(g);
+    let chunks = chain.shape().chunks_of(g);
     for _taken in 0..chunks {
         if copy_chunk(chain, seat, g).is_none() {
             return;

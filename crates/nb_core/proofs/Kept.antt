@@ -11,16 +11,17 @@ use Rattle.nb_core.specs.Places.{IsInside, inside_of, kept_bases, plan_of}
 pub plan-kept : (a : Inside) (p : Plan) → IsInside a → plan_of a ≡ p → IsPlan p
 plan-kept a p h e = subst IsPlan e h.plan
 
--- the exponent of a table is a small one
+-- a table's exponent stands where the plan has it
+pub exponents-at : (a : Inside) (p : Plan) (g : ℕ) → plan_of a ≡ p → g < generations_of p → slice_index p.exponents g ≡ slice_index a.exponents g
+exponents-at a p g e within =
+    let in_table : g < a.generations = omega (arith, length-take a.generations a.exponents, ap (λ q. generations_of q) e) in
+    ap (λ q. slice_index q.exponents g) (sym e) ∙ get_or-take a.generations a.exponents g 0 in_table
+
+-- and is a small one
 pub exponents-few : (a : Inside) (p : Plan) (g : ℕ) → IsInside a → plan_of a ≡ p → g < generations_of p → slice_index a.exponents g ≤ 19
 exponents-few a p g h e within =
     let all = (plan-kept a p h e).sizes in
-    let at : slice_index p.exponents g ≡ slice_index a.exponents g
-    = ap (λ q. slice_index q.exponents g) (sym e) ∙ get_or-take a.generations a.exponents g 0 (in-table a p g e within) in
-    subst (λ n. n ≤ 19) at (All-get_or (λ n. (2 ≤ n) × (n ≤ 19)) p.exponents g 0 within all).1
-  where
-    in-table : (a : Inside) (p : Plan) (g : ℕ) → plan_of a ≡ p → g < generations_of p → g < a.generations
-    in-table a p g e within = omega (arith, length-take a.generations a.exponents, ap (λ q. generations_of q) e)
+    subst (λ n. n ≤ 19) (exponents-at a p g e within) (All-get_or (λ n. (2 ≤ n) × (n ≤ 19)) p.exponents g 0 within all).1
 
 kept_bases-at : (p : Plan) (g : ℕ) → IsPlan p → g < generations_of p → slice_index (kept_bases p) g ≡ base_of p g
 unfolding kept_bases

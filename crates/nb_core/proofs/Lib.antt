@@ -21,6 +21,7 @@ mod Others
 mod Passing
 mod Paths
 mod Places
+mod Powers
 mod Refused
 mod Replayed
 mod Replies

@@ -2,6 +2,8 @@
 use Rattle.std.specs.Prelude.{◌≡◌, ℕ, ◌+◌, ◌*◌, ◌/◌, ◌^◌, ◌<◌, ◌≤◌, suc, zero, ◌==◌, ◌&&◌, Bool, true, not, nat_le, if◌then◌else◌, List, [], ◌∷◌, length, take, sum_by, slice_index, Result, Ok, Err, All}
 use Rattle.std.specs.List.{list_all}
 use Rattle.std.specs.List.Sorted.{IsNonDecreasing}
+use Rattle.nb_core.specs.declared.shapes.HeaderWord.{HeaderWord}
+use Rattle.nb_core.specs.declared.shapes.HeaderWord.TheVariants as header
 use Rattle.nb_core.specs.declared.shapes.ShapeFault.{ShapeFault}
 use Rattle.nb_core.specs.declared.shapes.ShapeFault.TheVariants as fault
 
@@ -44,6 +46,12 @@ base_of p g = 1 + sum_by table_words (take g p.exponents)
 -- how many words the chain has
 abbrev pub word_count : Plan → ℕ
 word_count p = base_of p (generations_of p)
+
+-- which of a table's header words it is
+abbrev pub header_index : HeaderWord → ℕ
+header_index header.Next = 0
+header_index header.Take = 1
+header_index header.Done = 2
 
 -- where header word h of table g lies
 abbrev pub header_place : Plan → ℕ → ℕ → ℕ

@@ -21,7 +21,7 @@ pub use events::Event;
 pub use numbers::{KEY_MAX, Key, Num, RangeFault, VALUE_MAX};
 pub use plain::{PlainFault, PlainMap};
 pub use seats::NotAll;
-pub use shapes::{MAX_GENERATIONS, MAX_SEATS, MAX_STRIPES, Shape, ShapeFault};
+pub use shapes::{HeaderWord, MAX_GENERATIONS, MAX_SEATS, MAX_STRIPES, Shape, ShapeFault};
 pub use states::{
     KeyState, ValueState, decode_key, decode_lawful_value, decode_value, encode_key, encode_value,
 };

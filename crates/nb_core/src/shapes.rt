@@ -1,7 +1,7 @@
 //! The shape of a chain of tables.
-ghost use Rattle.std.specs.Prelude.{◌≡◌, ◌^◌, ◌<◌, ◌≤◌, All, length};
+ghost use Rattle.std.specs.Prelude.{◌≡◌, ◌/◌, ◌^◌, ◌<◌, ◌≤◌, All, length};
 ghost use Rattle.std.specs.List.Sorted.{IsNonDecreasing};
-ghost use Rattle.nb_core.specs.Plans.{IsPlan, base_of, checked_plan, checked_shape, generations_of, header_place, key_place, limit_of, seated, size_of, value_place, word_count};
+ghost use Rattle.nb_core.specs.Plans.{IsPlan, base_of, checked_plan, checked_shape, generations_of, header_index, header_place, key_place, limit_of, seated, size_of, value_place, word_count};
 ghost use Rattle.nb_core.specs.Tables.{chunk_of, path_slot};
 
 use crate::numbers::Key;
@@ -32,8 +32,19 @@ pub const MAX_SEATS: usize = 8;
 /// The most stripes of a counter.
 pub const MAX_STRIPES: usize = 8;
 
-/// The most slots that are handed out for copying at once.
-const CHUNK: usize = 8;
+/// The most slots that are handed out for copying at once, as a power of two.
+const CHUNK_EXPONENT: u8 = 3;
+
+/// The words that a table begins with, by what they tell.
+#[derive(Clone, Copy, Debug, PartialEq, Eq, Hash)]
+pub enum HeaderWord {
+    /// Whether there is a table above: 1, or else 0.
+    Next,
+    /// How many of its slots were handed out for copying.
+    Take,
+    /// How many of its slots were counted as finished.
+    Done,
+}
 
 /// The shape of a chain of tables: how many slots each table has, how many seats may call, and over how many
 /// stripes a size is counted. A contract sees its plan. It takes no memory, and it answers in a few instructions:
@@ -174,7 +185,15 @@ impl Shape {
         requires { g < generations_of self.now }
         ensures { result ≡ chunk_of self.now g }
     {
-        self.size_of(g).min(CHUNK)
+        1 << self.exponents[g as usize].min(CHUNK_EXPONENT)
+    }
+
+    /// How many chunks table `g` is handed out in.
+    pub fn chunks_of(&self, g: u32) -> usize
+        requires { g < generations_of self.now }
+        ensures { result ≡ size_of self.now g / chunk_of self.now g }
+    {
+        1 << self.exponents[g as usize].saturating_sub(CHUNK_EXPONENT)
     }
 
     /// How many slots of its path in table `g` a key that has no slot in the table below may be claimed in: `2 + size / 4`,
@@ -203,13 +222,12 @@ impl Shape {
         (key.get() as usize).wrapping_add(distance) & last
     }
 
-    /// The place of a header word: `h` is 0 for next, 1 for take, 2 for done.
-    pub fn header_place(&self, g: u32, h: usize) -> usize
-        requires table { g < generations_of self.now }
-        requires header { h < 3 }
-        ensures { result ≡ header_place self.now g h }
+    /// The place of a header word of table `g`.
+    pub fn header_place(&self, g: u32, word: HeaderWord) -> usize
+        requires { g < generations_of self.now }
+        ensures { result ≡ header_place self.now g (header_index word) }
     {
-        self.bases[g as usize] as usize + h
+        self.bases[g as usize] as usize + word as usize
     }
 
     /// The place of the key word of slot `i` of table `g`.

@@ -1,5 +1,5 @@
 -- What a run of a script has done, by the bytes that were read and written.
-use Rattle.std.specs.Prelude.{◌≡◌, List, Option}
+use Rattle.std.specs.Prelude.{◌≡◌, ◌↔◌, Bool, IfErr, IsErrOf, IsTrue, List, OnOk, Option, Result}
 use Rattle.std.specs.Io.KnownBytes.{Appends}
 use Rattle.nb_core.specs.Plans.{Plan}
 use Rattle.nb_core.specs.declared.events.Event.{Event}
@@ -40,3 +40,21 @@ IsRunFaultOf p unread unread' written written' fault.Write = HasBrokenOff p unre
 IsRunFaultOf p unread unread' written written' fault.Read = IsFaultOf p.seats unread unread' fault.Read
 IsRunFaultOf p unread unread' written written' (fault.Line n cause) = IsFaultOf p.seats unread unread' (fault.Line n cause)
 IsRunFaultOf p unread unread' written written' fault.OutOfMemory = IsFaultOf p.seats unread unread' fault.OutOfMemory
+
+-- A run's two ends: what there is to read and what is written, where that is known, and whether a read or a write has failed.
+pub record Ends : Type 0 where
+  pub unread : Option Bytes
+  pub written : Option Bytes
+  pub reader_failed : Bool
+  pub writer_failed : Bool
+
+abbrev pub ends : (unread written : Option Bytes) (reader_failed writer_failed : Bool) → Ends
+ends unread written reader_failed writer_failed =
+    record { unread = unread; written = written; reader_failed = reader_failed; writer_failed = writer_failed }
+
+-- What has come of a run, whose two ends hadn't failed before it.
+pub record HasEnded (p : Plan) (before after : Ends) (result : Result (Unit {0}) RunFault) : Type 0 where
+  pub ok : OnOk result (HasRun p before.unread after.unread before.written after.written)
+  pub due : IfErr result (IsRunFaultOf p before.unread after.unread before.written after.written)
+  pub read : IsErrOf result fault.Read ↔ IsTrue after.reader_failed
+  pub write : IsErrOf result fault.Write ↔ IsTrue after.writer_failed

@@ -1,6 +1,6 @@
 //! Runs a script, from the bytes in to the bytes out.
-ghost use Rattle.std.specs.Prelude.{◌≡◌, ◌≢◌, ◌↔◌, false, IsTrue, IfErr, IsErrOf, OnOk};
-ghost use Rattle.nb_run.specs.Runs.{HasRun, IsRunFaultOf};
+ghost use Rattle.std.specs.Prelude.{◌≡◌, ◌≢◌, false, IfErr};
+ghost use Rattle.nb_run.specs.Runs.{HasEnded, ends};
 
 use crate::gate::{Gate, Open};
 use crate::outcome::perform;
@@ -28,12 +28,10 @@ pub fn run<H: Threads + Wait + AllocGlobal + Sync, R: Source, W: Sink>(
     requires more { R.ended reader.old ≡ false }
     requires writer { W.failed writer.old ≡ false }
 
-    ensures ok { OnOk result (HasRun options.now.shape (R.remaining reader.old) (R.remaining reader.new) (W.contents writer.old) (W.contents writer.new)) }
-    ensures fault { IfErr result (IsRunFaultOf options.now.shape (R.remaining reader.old) (R.remaining reader.new) (W.contents writer.old) (W.contents writer.new)) }
-
-    // These two say that the reader, or the writer, failed while this ran.
-    ensures read { IsErrOf result RunFault.Read ↔ IsTrue (R.failed reader.new) }
-    ensures write { IsErrOf result RunFault.Write ↔ IsTrue (W.failed writer.new) }
+    ensures ended { HasEnded options.now.shape
+        (ends (R.remaining reader.old) (W.contents writer.old) (R.failed reader.old) (W.failed writer.old))
+        (ends (R.remaining reader.new) (W.contents writer.new) (R.failed reader.new) (W.failed writer.new))
+        result }
 
     // Nothing is written before another fault.
     ensures silent { IfErr result (λ fault. fault ≢ RunFault.Write → writer.new ≡ writer.old) }
@@ -53,10 +51,10 @@ pub fn run_gated<H: Threads + Wait + AllocGlobal + Sync, G: Gate + Sync, R: Sour
     requires more { R.ended reader.old ≡ false }
     requires writer { W.failed writer.old ≡ false }
 
-    ensures ok { OnOk result (HasRun options.now.shape (R.remaining reader.old) (R.remaining reader.new) (W.contents writer.old) (W.contents writer.new)) }
-    ensures fault { IfErr result (IsRunFaultOf options.now.shape (R.remaining reader.old) (R.remaining reader.new) (W.contents writer.old) (W.contents writer.new)) }
-    ensures read { IsErrOf result RunFault.Read ↔ IsTrue (R.failed reader.new) }
-    ensures write { IsErrOf result RunFault.Write ↔ IsTrue (W.failed writer.new) }
+    ensures ended { HasEnded options.now.shape
+        (ends (R.remaining reader.old) (W.contents writer.old) (R.failed reader.old) (W.failed writer.old))
+        (ends (R.remaining reader.new) (W.contents writer.new) (R.failed reader.new) (W.failed writer.new))
+        result }
     ensures silent { IfErr result (λ fault. fault ≢ RunFault.Write → writer.new ≡ writer.old) }
 {
     let phases = read_script(rt.alloc(), options.shape.seats(), reader)?;

@@ -9,10 +9,7 @@ ghost use Rattle.nb_table.specs.Left.{IsLeft, tables_left};
 ghost use Rattle.nb_table.specs.Listing.{IsListing};
 
 use crate::chain::ChainSeat;
-use nb_core::{
-    Change, Key, KeyState, Num, OutOfMemory, PlainMap, Shape, ValueState, Want, decode_key,
-    decode_lawful_value,
-};
+use nb_core::{Change, HeaderWord, Key, KeyState, Num, OutOfMemory, PlainMap, Shape, ValueState, Want, decode_key, decode_lawful_value};
 use std::alloc::Global;
 use std::marker::Model;
 use std::snapshot::Snapshot;
@@ -151,7 +148,7 @@ impl Closed {
         requires { g < generations_of self.now.shape }
         ensures { result ≡ is_installed (tables_left self.now) g }
     {
-        g == 0 || self.word(self.shape.header_place(g - 1, 0)) == 1
+        g == 0 || self.word(self.shape.header_place(g - 1, HeaderWord::Next)) == 1
     }
 
     fn key_at(&self, g: u32, i: usize) -> KeyState

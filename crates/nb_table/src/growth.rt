@@ -1,14 +1,13 @@
 //! The steps that grow a chain and copy its tables.
-ghost use Rattle.std.specs.Prelude.{◌≡◌, ◌≢◌, ◌+◌, ◌<◌, ◌≤◌, suc, [], ◌∷◌, IsTrue, false};
+ghost use Rattle.std.specs.Prelude.{◌≡◌, ◌+◌, ◌<◌, ◌≤◌, suc, [], ◌∷◌, IsTrue, false};
 ghost use Rattle.nb_core.specs.Plans.{generations_of, limit_of};
-ghost use Rattle.nb_core.specs.Tables.{AreOthers, IsComplete, IsInstalled, IsReady, IsSlot};
-ghost use Rattle.nb_core.specs.History.{HasWay, counted_by, turned_by};
+ghost use Rattle.nb_core.specs.Tables.{AreOthers, IsComplete, IsInstalled, IsReady};
+ghost use Rattle.nb_core.specs.History.{counted_by, turned_by};
 ghost use Rattle.nb_core.specs.declared.events.Event.TheVariants as event;
-ghost use Rattle.nb_core.specs.declared.states.KeyState.TheVariants as key_is;
 ghost use Rattle.nb_table.specs.Chains.{Extended, IsOwn, seen_before, seen_by};
 
 use crate::chain::{Chain, ChainSeat, Spot};
-use nb_core::{Key, KeyState, decode_key, encode_key};
+use nb_core::{HeaderWord, Key};
 use std::marker::Brand;
 
 impl Chain {
@@ -21,7 +20,7 @@ impl Chain {
         ensures grows { Extended self.now.shape seat.old seat.new (event.Take seat.old.number g ∷ []) 1 }
         ensures found { (seen_before self.now.shape seat.new).taken g ≡ result }
     {
-        let place = self.shape.header_place(g, 1);
+        let place = self.shape.header_place(g, HeaderWord::Take);
         let chunk = self.shape.chunk_of(g) as u64;
         self.adds::<Brand>(seat, place, chunk, g)
     }
@@ -37,7 +36,7 @@ impl Chain {
         ensures grows { Extended self.now.shape seat.old seat.new (event.Count seat.old.number g slots ∷ []) 1 }
         ensures found { (seen_by self.now.shape seat.new).counted g ≡ result + slots }
     {
-        let place = self.shape.header_place(g, 2);
+        let place = self.shape.header_place(g, HeaderWord::Done);
         self.adds::<Brand>(seat, place, slots, g)
     }
 
@@ -66,7 +65,7 @@ impl Chain {
         ensures installed { IsInstalled (seen_by self.now.shape seat.new) (suc g) }
     {
         key.known();
-        let place = self.shape.header_place(g, 0);
+        let place = self.shape.header_place(g, HeaderWord::Next);
         let spot = Spot {
             g,
             i: 0,
@@ -74,47 +73,5 @@ impl Chain {
             number: None,
         };
         self.exchanges::<Brand>(seat, place, 0, 1, spot, None) == 0
-    }
-
-    /// Closes the slot to keys if it is empty, by one compare-exchange, and answers what its key word held.
-    pub fn kill_key(&self, seat: &mut ChainSeat, g: u32, i: usize) -> KeyState
-        requires own { IsOwn self.now seat.old }
-        requires slot { IsSlot self.now.shape g i }
-        requires growing { IsInstalled (seen_by self.now.shape seat.old) (suc g) }
-        ensures won { result ≡ key_is.Empty
-            → Extended self.now.shape seat.old seat.new (event.Kill seat.old.number g i ∷ []) 1
-            × ((seen_by self.now.shape seat.new).key g i ≡ key_is.Dead) }
-        ensures lost { result ≢ key_is.Empty → Extended self.now.shape seat.old seat.new [] 1 × ((seen_by self.now.shape seat.new).key g i ≡ result) }
-    {
-        let place = self.shape.key_place(g, i);
-        let spot = Spot {
-            g,
-            i,
-            key: None,
-            number: None,
-        };
-        decode_key(self.exchanges::<Brand>(seat, place, 0, 1, spot, None))
-    }
-
-    /// Claims the slot for a key if it is empty, by one compare-exchange, and answers what its key word held.
-    pub fn claim_key(&self, seat: &mut ChainSeat, g: u32, i: usize, key: Key) -> KeyState
-        requires own { IsOwn self.now seat.old }
-        requires slot { IsSlot self.now.shape g i }
-        requires installed { IsInstalled (seen_by self.now.shape seat.old) g }
-        requires way { HasWay self.now.shape (seen_by self.now.shape seat.old) g i key }
-        ensures won { result ≡ key_is.Empty
-            → Extended self.now.shape seat.old seat.new (event.Claim seat.old.number g i key ∷ []) 1
-            × ((seen_by self.now.shape seat.new).key g i ≡ key_is.Claimed key) }
-        ensures lost { result ≢ key_is.Empty → Extended self.now.shape seat.old seat.new [] 1 × ((seen_by self.now.shape seat.new).key g i ≡ result) }
-    {
-        let place = self.shape.key_place(g, i);
-        let word = encode_key(KeyState::Claimed(key));
-        let spot = Spot {
-            g,
-            i,
-            key: Some(key),
-            number: None,
-        };
-        decode_key(self.exchanges::<Brand>(seat, place, 0, word, spot, None))
     }
 }

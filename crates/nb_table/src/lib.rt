@@ -3,6 +3,7 @@
 
 mod calls;
 mod chain;
+mod claims;
 mod closed;
 mod copying;
 mod growth;

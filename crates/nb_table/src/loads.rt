@@ -10,7 +10,7 @@ ghost use Rattle.nb_table.specs.Events.{reads, shown_by_key, shown_by_next, show
 
 use crate::calls::known;
 use crate::chain::{Chain, ChainSeat, Spot};
-use nb_core::{Call, KeyState, ValueState, decode_key, decode_lawful_value};
+use nb_core::{Call, HeaderWord, KeyState, ValueState, decode_key, decode_lawful_value};
 use std::marker::Brand;
 
 /// Reminds a proof of the ranges of a load's call, if it has one. It does nothing.
@@ -83,7 +83,7 @@ impl Chain {
         ensures installed { (result ≡ true) ↔ IsInstalled (seen_by self.now.shape seat.new) (suc g) }
     {
         known_if_some(&call);
-        let place = self.shape.header_place(g, 0);
+        let place = self.shape.header_place(g, HeaderWord::Next);
         let spot = Spot {
             g,
             i: 0,

@@ -5,7 +5,7 @@ use std::test::Fail;
 fn assert_places(rt: &impl Abort, shape: &Shape, bases: &[usize], words: usize) {
     assert_eq!(rt; shape.generations() as usize, bases.len());
     for g in 0..shape.generations() {
-        assert_eq!(rt; shape.header_place(g, 0), bases[g as usize], "of table {g}");
+        assert_eq!(rt; shape.header_place(g, HeaderWord::Next), bases[g as usize], "of table {g}");
     }
     assert_eq!(rt; shape.words(), words);
 }
@@ -28,7 +28,7 @@ fn plan_places(rt: HostRuntime) -> Result<(), Fail> {
 
     let largest = Shape::new(12, 8, 8, 8)?;
     assert_eq!(rt; largest.generations(), 8);
-    assert_eq!(rt; largest.header_place(0, 0), 1);
+    assert_eq!(rt; largest.header_place(0, HeaderWord::Next), 1);
     assert_eq!(rt; largest.words(), 2088985);
     assert_eq!(rt; (largest.seats(), largest.stripes()), (8, 8));
     Ok(())

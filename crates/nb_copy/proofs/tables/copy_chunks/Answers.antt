@@ -25,7 +25,7 @@ pub returns-then-is_none : goal.returns-then-is_none
 returns-then-is_none c =
     let chain = c.args.chain.now in
     let next = next-in-plan chain c.args.seat.now c.requires.own c.args.g c.requires.growing in
-    let chunks : c.size_of.result / c.chunk_of.result ≡ size_of chain.shape c.args.g / chunk_of chain.shape c.args.g = search rules in
+    let chunks : c.chunks_of-chunks.result ≡ size_of chain.shape c.args.g / chunk_of chain.shape c.args.g = search rules in
     record {
       copied = helped-all chain c.args.g (omega (arith, next)) (c.loop-taken._taken + 1) c.requires.own
           (omega (arith, chunks, c.loop-taken-test.true))
@@ -44,7 +44,7 @@ pub returns : goal.returns
 returns c =
     let chain = c.args.chain.now in
     let next = next-in-plan chain c.args.seat.now c.requires.own c.args.g c.requires.growing in
-    let chunks : c.size_of.result / c.chunk_of.result ≡ size_of chain.shape c.args.g / chunk_of chain.shape c.args.g = search rules in
+    let chunks : c.chunks_of-chunks.result ≡ size_of chain.shape c.args.g / chunk_of chain.shape c.args.g = search rules in
     record {
       copied = helped-all chain c.args.g (omega (arith, next)) c.loop-taken._taken c.requires.own
           (omega (arith, chunks, c.loop-taken.auto._taken-end)) c.loop-taken.invariant;

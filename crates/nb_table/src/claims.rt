@@ -1,0 +1,55 @@
+//! The steps on the keys of slots.
+ghost use Rattle.std.specs.Prelude.{◌≡◌, ◌≢◌, suc, [], ◌∷◌};
+ghost use Rattle.nb_core.specs.Tables.{IsInstalled, IsSlot};
+ghost use Rattle.nb_core.specs.History.{HasWay};
+ghost use Rattle.nb_core.specs.declared.events.Event.TheVariants as event;
+ghost use Rattle.nb_core.specs.declared.states.KeyState.TheVariants as key_is;
+ghost use Rattle.nb_table.specs.Chains.{Extended, IsOwn, seen_by};
+
+use crate::chain::{Chain, ChainSeat, Spot};
+use nb_core::{Key, KeyState, decode_key, encode_key};
+use std::marker::Brand;
+
+impl Chain {
+    /// Claims the slot for a key if it is empty, by one compare-exchange, and answers what its key word held.
+    pub fn claim_key(&self, seat: &mut ChainSeat, g: u32, i: usize, key: Key) -> KeyState
+        requires own { IsOwn self.now seat.old }
+        requires slot { IsSlot self.now.shape g i }
+        requires installed { IsInstalled (seen_by self.now.shape seat.old) g }
+        requires way { HasWay self.now.shape (seen_by self.now.shape seat.old) g i key }
+        ensures won { result ≡ key_is.Empty
+            → Extended self.now.shape seat.old seat.new (event.Claim seat.old.number g i key ∷ []) 1
+            × ((seen_by self.now.shape seat.new).key g i ≡ key_is.Claimed key) }
+        ensures lost { result ≢ key_is.Empty → Extended self.now.shape seat.old seat.new [] 1 × ((seen_by self.now.shape seat.new).key g i ≡ result) }
+    {
+        let place = self.shape.key_place(g, i);
+        let word = encode_key(KeyState::Claimed(key));
+        let spot = Spot {
+            g,
+            i,
+            key: Some(key),
+            number: None,
+        };
+        decode_key(self.exchanges::<Brand>(seat, place, 0, word, spot, None))
+    }
+
+    /// Closes the slot to keys if it is empty, by one compare-exchange, and answers what its key word held.
+    pub fn kill_key(&self, seat: &mut ChainSeat, g: u32, i: usize) -> KeyState
+        requires own { IsOwn self.now seat.old }
+        requires slot { IsSlot self.now.shape g i }
+        requires growing { IsInstalled (seen_by self.now.shape seat.old) (suc g) }
+        ensures won { result ≡ key_is.Empty
+            → Extended self.now.shape seat.old seat.new (event.Kill seat.old.number g i ∷ []) 1
+            × ((seen_by self.now.shape seat.new).key g i ≡ key_is.Dead) }
+        ensures lost { result ≢ key_is.Empty → Extended self.now.shape seat.old seat.new [] 1 × ((seen_by self.now.shape seat.new).key g i ≡ result) }
+    {
+        let place = self.shape.key_place(g, i);
+        let spot = Spot {
+            g,
+            i,
+            key: None,
+            number: None,
+        };
+        decode_key(self.exchanges::<Brand>(seat, place, 0, 1, spot, None))
+    }
+}
