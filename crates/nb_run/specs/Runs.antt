@@ -53,7 +53,7 @@ ends unread written reader_failed writer_failed =
     record { unread = unread; written = written; reader_failed = reader_failed; writer_failed = writer_failed }
 
 -- What has come of a run, whose two ends hadn't failed before it.
-pub record HasEnded (p : Plan) (before after : Ends) (result : Result (Unit {0}) RunFault) : Type 0 where
+pub record IsRunResult (p : Plan) (before after : Ends) (result : Result (Unit {0}) RunFault) : Type 0 where
   pub ok : OnOk result (HasRun p before.unread after.unread before.written after.written)
   pub due : IfErr result (IsRunFaultOf p before.unread after.unread before.written after.written)
   pub read : IsErrOf result fault.Read ↔ IsTrue after.reader_failed

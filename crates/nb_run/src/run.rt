@@ -1,6 +1,6 @@
 //! Runs a script, from the bytes in to the bytes out.
 ghost use Rattle.std.specs.Prelude.{◌≡◌, ◌≢◌, false, IfErr};
-ghost use Rattle.nb_run.specs.Runs.{HasEnded, ends};
+ghost use Rattle.nb_run.specs.Runs.{IsRunResult, ends};
 
 use crate::gate::{Gate, Open};
 use crate::outcome::perform;
@@ -28,7 +28,7 @@ pub fn run<H: Threads + Wait + AllocGlobal + Sync, R: Source, W: Sink>(
     requires more { R.ended reader.old ≡ false }
     requires writer { W.failed writer.old ≡ false }
 
-    ensures ended { HasEnded options.now.shape
+    ensures ended { IsRunResult options.now.shape
         (ends (R.remaining reader.old) (W.contents writer.old) (R.failed reader.old) (W.failed writer.old))
         (ends (R.remaining reader.new) (W.contents writer.new) (R.failed reader.new) (W.failed writer.new))
         result }
@@ -51,7 +51,7 @@ pub fn run_gated<H: Threads + Wait + AllocGlobal + Sync, G: Gate + Sync, R: Sour
     requires more { R.ended reader.old ≡ false }
     requires writer { W.failed writer.old ≡ false }
 
-    ensures ended { HasEnded options.now.shape
+    ensures ended { IsRunResult options.now.shape
         (ends (R.remaining reader.old) (W.contents writer.old) (R.failed reader.old) (W.failed writer.old))
         (ends (R.remaining reader.new) (W.contents writer.new) (R.failed reader.new) (W.failed writer.new))
         result }
