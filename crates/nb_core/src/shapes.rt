@@ -185,7 +185,8 @@ impl Shape {
         requires { g < generations_of self.now }
         ensures { result ≡ chunk_of self.now g }
     {
-        1 << self.exponents[g as usize].min(CHUNK_EXPONENT)
+        let exponent = self.exponents[g as usize].min(CHUNK_EXPONENT);
+        1 << exponent
     }
 
     /// How many chunks table `g` is handed out in.
@@ -193,7 +194,8 @@ impl Shape {
         requires { g < generations_of self.now }
         ensures { result ≡ size_of self.now g / chunk_of self.now g }
     {
-        1 << self.exponents[g as usize].saturating_sub(CHUNK_EXPONENT)
+        let exponent = self.exponents[g as usize].saturating_sub(CHUNK_EXPONENT);
+        1 << exponent
     }
 
     /// How many slots of its path in table `g` a key that has no slot in the table below may be claimed in: `2 + size / 4`,

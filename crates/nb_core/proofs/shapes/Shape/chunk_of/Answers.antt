@@ -7,7 +7,7 @@ use Rattle.nb_core.proofs.shapes.Shape.chunk_of.Goals as goal
 pub returns : goal.returns
 returns c =
     let e = slice_index c.self.inside.exponents c.args.g in
-    let small : 2 ^ c.min.result ≡ min (2 ^ e) 8 = ap (λ n. 2 ^ n) c.min.ensures ∙ smaller-power e 3 in
-    let once : 1 * 2 ^ c.min.result ≡ 2 ^ c.min.result = omega arith in
+    let small : 2 ^ c.min-exponent.result ≡ min (2 ^ e) 8 = ap (λ n. 2 ^ n) c.min-exponent.ensures ∙ smaller-power e 3 in
+    let once : 1 * 2 ^ c.min-exponent.result ≡ 2 ^ c.min-exponent.result = omega arith in
     mod-eq_of_lt (omega (arith, once, small, min-le_right (2 ^ e) 8)) ∙ once ∙ small
     ∙ ap (λ n. min (2 ^ n) 8) (sym (exponents-at c.self.inside _ c.args.g c.self.view_is c.requires))

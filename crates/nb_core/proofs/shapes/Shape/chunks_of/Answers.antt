@@ -10,7 +10,7 @@ returns c =
     let e = slice_index c.self.inside.exponents c.args.g in
     let few : 2 ^ (e - 3) ≤ 2 ^ 19 =
         pow_mono {j = 19} (omega (arith, exponents-few _ _ c.args.g c.self.invariant c.self.view_is c.requires)) in
-    let chunks : 2 ^ c.saturating_sub.result ≡ 2 ^ (e - 3) = ap (λ n. 2 ^ n) c.saturating_sub.ensures in
-    let once : 1 * 2 ^ c.saturating_sub.result ≡ 2 ^ c.saturating_sub.result = omega arith in
+    let chunks : 2 ^ c.saturating_sub-exponent.result ≡ 2 ^ (e - 3) = ap (λ n. 2 ^ n) c.saturating_sub-exponent.ensures in
+    let once : 1 * 2 ^ c.saturating_sub-exponent.result ≡ 2 ^ c.saturating_sub-exponent.result = omega arith in
     mod-eq_of_lt (omega (arith, once, chunks, few)) ∙ once ∙ chunks ∙ by-smaller-power e 3
     ∙ ap (λ n. 2 ^ n / min (2 ^ n) 8) (sym (exponents-at c.self.inside _ c.args.g c.self.view_is c.requires))
