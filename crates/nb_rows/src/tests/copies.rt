@@ -80,6 +80,7 @@ fn copies_table<R: Abort>(rt: &R, chain: &Chain, b: &mut ChainSeat)
     requires own { IsOwn chain.now b.old }
     ensures own { IsOwn chain.now b.new }
 {
+    assert_eq!(rt; chain.load_top(b), 0);
     completes(rt, chain, b);
     assert_eq!(rt; chain.load_top(b), 1);
     has_finished(rt, chain, b, 0, &THREE);
@@ -95,6 +96,7 @@ fn crowds_next<R: Abort>(rt: &R, chain: &Chain, b: &mut ChainSeat)
     ensures own { IsOwn chain.now b.new }
 {
     puts(rt, chain, b, &[(16, 26), (24, 34)]);
+    has_live(rt, chain, b, 1, &[(2, 16, 26), (3, 24, 34)]);
     assert_eq!(rt; chain.load_top(b), 1);
     puts(rt, chain, b, &[(32, 42)]);
     assert_eq!(rt; chain.load_top(b), 2);
