@@ -12,6 +12,3 @@ mod view;
 
 pub use chain::{Chain, ChainSeat};
 pub use closed::Closed;
-
-#[cfg(test)]
-mod tests;
