@@ -192,7 +192,7 @@ fn eight_call<R: Threads + Sync + Wait + Abort>(rt: &R, alloc: Global) -> Result
     let (mut seats, told) = seats_of_all(alloc, &map, callers)?;
     let mut seat = taken(rt, &map, &mut seats);
     assert_eq!(rt; generation(&map, &mut seat), 3);
-    seats.push(seat)?;
+    given_back(&map, &mut seats, seat)?;
     let ended = ended(rt, map, seats);
     has_just(rt, alloc, &ended, &told)
 }

@@ -232,7 +232,7 @@ fn with_kept<R: Wait + Abort>(rt: &R, alloc: Global) -> Result<(Map, Vec<Seat>),
         (5, 5000),
     ];
     puts(rt, &map, &mut seat, &kept);
-    seats.push(seat)?;
+    given_back(&map, &mut seats, seat)?;
     Ok((map, seats))
 }
 
