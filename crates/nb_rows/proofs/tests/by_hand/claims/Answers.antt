@@ -11,5 +11,6 @@ claim_key-requires-clause-installed g c =
 pub claim_key-requires-clause-way : goal.claim_key-requires-clause-way
 claim_key-requires-clause-way g c =
     let slot = c.slot_on_path-j in
-    way-home c.args.chain.now.shape (seen_by c.args.chain.now.shape c.sees_key.new.seat) slot.result c.args.key
+    let p = c.args.chain.now.shape in
+    way-home p (seen_by p c.sees_key.new.seat) slot.result c.args.key
     slot.ensures.distance slot.ensures.path c.sees_key.ensures.slot.1 c.sees_key.ensures.claimed
