@@ -1,5 +1,5 @@
-//! Steps of a copy from table 0 to table 1, each made by hand, so that a copier may stop after it.
-//! A helper first looks, by loads, at what its step asks for.
+//! Steps of a copy from table 0 to table 1 that are made by hand, so that a copier may stop between
+//! them, and the calls that copy. A helper first looks, by loads, at what its step asks for.
 ghost use Rattle.std.specs.Prelude.{◌≡◌, ◌<◌, []};
 ghost use Rattle.nb_core.specs.History.{HasValue};
 ghost use Rattle.nb_core.specs.Plans.{generations_of, size_of};
@@ -204,8 +204,7 @@ pub(super) fn copies_in<R: Abort>(
     chain.copy_in(seat, 1, 0, key, number)
 }
 
-/// Marks the number in the key's slot, the first of table 0, as copied, and answers what the value
-/// was.
+/// Marks the number in the key's slot, the first of table 0, as copied. Answers what the value was.
 pub(super) fn finishes(chain: &Chain, seat: &mut ChainSeat, key: Key, number: Num) -> ValueState
     requires own { IsOwn chain.now seat.old }
     requires slot { IsSlot chain.now.shape 0 0 }

@@ -15,8 +15,7 @@ use std::test::Fail;
 use std::thread;
 use std::thread::Threads;
 
-/// A chain with so many seats, one of which has filled a table 0 of two chunks and installed table
-/// 1.
+/// A chain with so many seats. One has filled a table 0 of two chunks, and installed table 1.
 fn filled<R: Abort>(
     rt: &R,
     alloc: Global,
@@ -44,8 +43,7 @@ fn is_complete<R: Abort>(rt: &R, chain: &Chain, seat: &mut ChainSeat)
 }
 
 /// Sees that table 0 is complete, that the top word says so, and that table 1 has the six keys: the
-/// three of each home lie side by side from there on, in some order. Nobody is handed another
-/// chunk.
+/// three of each home side by side, in some order. Nobody is handed another chunk.
 fn is_copied<R: Abort>(rt: &R, chain: &Chain, seat: &mut ChainSeat)
     requires own { IsOwn chain.now seat.old }
     ensures own { IsOwn chain.now seat.new }
@@ -117,8 +115,7 @@ fn many_complete_one_table(rt: HostRuntime) -> Result<(), Fail> {
     Ok(())
 }
 
-/// Copies slot `i` of table 0, and counts it if `counted` says so. Answers whether this turned it
-/// finished.
+/// Copies slot `i` of table 0, and counts it if it is to. Answers whether this turned it finished.
 fn turns_slot(chain: &Chain, seat: &mut ChainSeat, i: usize, counted: bool) -> bool
     requires own { IsOwn chain.now seat.old }
     requires slot { IsSlot chain.now.shape 0 i }

@@ -26,8 +26,7 @@ fn begins<R: Abort>(rt: &R, chain: &Chain, seat: &mut ChainSeat)
     assert!(rt; installs(rt, chain, seat, 12));
 }
 
-/// A primes a slot, B copies it and reads its key, and A then finds it copied, and table 1
-/// installed.
+/// A primes a slot, B copies it and reads its key, and A finds it copied, and table 1 installed.
 fn two_copy_one_slot<R: Abort>(rt: &R, chain: &Chain, a: &mut ChainSeat, b: &mut ChainSeat)
     requires a { IsOwn chain.now a.old }
     requires b { IsOwn chain.now b.old }
@@ -89,8 +88,7 @@ fn copies_table<R: Abort>(rt: &R, chain: &Chain, b: &mut ChainSeat)
     assert_eq!(rt; remove(rt, chain, b, 0), Ok(Some(10)));
 }
 
-/// A seat puts keys into table 1 until that is crowded, and then it copies it, and puts one into
-/// table 2.
+/// A seat puts keys into table 1 until that is crowded, copies it, and puts one into table 2.
 fn crowds_next<R: Abort>(rt: &R, chain: &Chain, b: &mut ChainSeat)
     requires own { IsOwn chain.now b.old }
     ensures own { IsOwn chain.now b.new }
@@ -233,8 +231,7 @@ pub(super) fn fills_two_chunks<R: Abort>(rt: &R, chain: &Chain, seat: &mut Chain
     assert!(rt; installs(rt, chain, seat, 96));
 }
 
-/// A, B and C ask for a chunk each of a table of two. C is handed the third, which lies past the
-/// end.
+/// A, B and C ask for a chunk each of a table of two. What C is handed lies past the table's end.
 fn three_help<R: Abort>(
     rt: &R,
     chain: &Chain,
