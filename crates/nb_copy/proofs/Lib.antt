@@ -1,4 +1,3 @@
-mod ByHand
 mod Copied
 mod SlotsFinished
 mod SlotsInNext

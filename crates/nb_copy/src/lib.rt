@@ -6,6 +6,3 @@ mod tables;
 
 pub use slots::copy_slot;
 pub use tables::{complete, copy_and_count, help};
-
-#[cfg(test)]
-mod tests;

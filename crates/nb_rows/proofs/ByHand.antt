@@ -1,12 +1,71 @@
--- What is so of the seats that the tests call with.
-use Rattle.std.proofs.Common.{◌≡◌, List, [], ◌∷◌, ◌++◌, Some}
-use Rattle.std.specs.List.{All}
-use Rattle.std.proofs.lemmas.List.Elements.{All-pop, All-push, All-same}
+-- What is so of the steps that the tests make by hand.
+use Rattle.std.proofs.Common.{◌≡◌, ◌≢◌, ◌<◌, ◌⊎◌, ℕ, ◌+◌, List, []}
+use Rattle.std.proofs.Common.{ap, inl, inr, sym, subst, refl, arith}
+use Rattle.std.proofs.lemmas.Bool.Decides.{eqb_tells}
+use Rattle.nb_core.specs.Plans.{Plan, size_of}
+use Rattle.nb_core.specs.History.{HasWay}
+use Rattle.nb_core.specs.Tables.{AreOthers, IsOther, Tables, path_slot}
+use Rattle.nb_core.specs.declared.events.Event.{Event}
+use Rattle.nb_core.specs.declared.states.KeyState.TheVariants.{Claimed}
+use Rattle.nb_core.specs.declared.states.ValueState.{ValueState}
+use Rattle.nb_core.specs.declared.states.ValueState.TheVariants.{Null, Tombstone, Live}
+use Rattle.nb_core.specs.declared.states.ValueState.TheVariants.{PrimedNull, PrimedTombstone, Primed, Finished}
+use Rattle.nb_table.specs.Chains.{Extended, SeenBy}
 
--- where the last of one list goes to the end of another, what is so of all stays so
-pub moved-one :
-    {X Y : Type 0} (P : X → Type 0) (Q : Y → Type 0) (xs left : List X) (x : X) (ys more : List Y) (y : Y) → All P xs × All Q ys
-    → xs ≡ left ++ x ∷ [] → (P x → Q y) → more ≡ ys ++ y ∷ [] → All P left × All Q more
-moved-one P Q xs left x ys more y all is so more_is =
-    let both = All-pop P xs left (Some x) is all.0 in
-    (both.0, All-same Q more (ys ++ y ∷ []) more_is (All-push Q ys y all.1 (so both.1)))
+-- one more slot of a path that is another key's
+pub one-more :
+    (p : Plan) (t : Tables) (k d : ℕ) → AreOthers p t 0 k d
+    → IsOther (t.key 0 (path_slot p 0 k d)) k → AreOthers p t 0 k (d + 1)
+one-more p t k d before here = λ e below. elim (last-or-before e d below) [
+  | inl last ↦ subst (λ x. IsOther (t.key 0 (path_slot p 0 k x)) k) (sym last) here
+  | inr less ↦ before e less
+]
+  where
+    last-or-before : (e d : ℕ) → e < d + 1 → (e ≡ d) ⊎ (e < d)
+    last-or-before e d below = grind arith
+
+-- the way to the home slot in table 1, for a key with the first slot of table 0
+pub way-home :
+    (p : Plan) (t : Tables) (j k : ℕ) → 0 < size_of p 1 → j ≡ path_slot p 1 k 0
+    → 0 < size_of p 0 → t.key 0 0 ≡ Claimed k → HasWay p t 1 j k
+way-home p t j k in_table at below claimed = record {
+  path = record {
+    distance = 0;
+    in_table = in_table;
+    at = sym at;
+    passed = λ e less. absurd (omega (arith, less));
+  };
+  reason = inl (record { slot = 0; in_table = below; is = claimed });
+}
+
+module _ {p : Plan} {before after : SeenBy} where
+  -- a step that was to copy a number was one, and left a value, also where one was there already
+  pub copied-step :
+      (x v : ValueState) {n : ℕ} {own : List Event}
+      → (v ≡ Null → Extended p before after own 1 × (x ≡ Live n))
+      → (v ≢ Null → Extended p before after [] 1 × (x ≡ v))
+      → ((es : List Event) × Extended p before after es 1) × (x ≢ Null)
+  copied-step x Null won lost = let it = won refl in ((_, it.0), λ null. cc)
+  copied-step x Tombstone won lost = let it = lost (λ e. cc) in ((_, it.0), λ null. cc)
+  copied-step x (Live m) won lost = let it = lost (λ e. cc) in ((_, it.0), λ null. cc)
+  copied-step x PrimedNull won lost = let it = lost (λ e. cc) in ((_, it.0), λ null. cc)
+  copied-step x PrimedTombstone won lost = let it = lost (λ e. cc) in ((_, it.0), λ null. cc)
+  copied-step x (Primed m) won lost = let it = lost (λ e. cc) in ((_, it.0), λ null. cc)
+  copied-step x (Finished m) won lost = let it = lost (λ e. cc) in ((_, it.0), λ null. cc)
+
+  -- a step that was to finish a number was one, whether or not it was finished already
+  pub finished-step :
+      (v : ValueState) (n : ℕ) {own : List Event} {now stays found : Type 0}
+      → (v ≡ Primed n → Extended p before after own 1 × now)
+      → (v ≢ Primed n → Extended p before after [] 1 × stays × found)
+      → (es : List Event) × Extended p before after es 1
+  finished-step (Primed m) n won lost = elim (eqb_tells m n) [
+    | inl same ↦ (_, (won (ap Primed same.1)).0)
+    | inr other ↦ (_, (lost (λ e. other.1 (cc))).0)
+  ]
+  finished-step Null n won lost = (_, (lost (λ e. cc)).0)
+  finished-step Tombstone n won lost = (_, (lost (λ e. cc)).0)
+  finished-step (Live m) n won lost = (_, (lost (λ e. cc)).0)
+  finished-step PrimedNull n won lost = (_, (lost (λ e. cc)).0)
+  finished-step PrimedTombstone n won lost = (_, (lost (λ e. cc)).0)
+  finished-step (Finished m) n won lost = (_, (lost (λ e. cc)).0)

@@ -1,4 +1,5 @@
-//! Worked rows of the map, and threads on it: nothing but tests, so that the gate tries the map's edits beside them.
+//! Worked rows of a chain of tables: calls on it, and copiers that stop between their steps. It is
+//! nothing but tests, which stand on all crates of the chain at once.
 #![tactic(auto)]
 
 #[cfg(test)]

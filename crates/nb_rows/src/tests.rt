@@ -1,9 +1,8 @@
-//! Calls of the map, and the same calls over a chain of tables alone.
-mod calls;
+//! Calls over a chain of tables, one after another and by several threads, and steps of copiers
+//! that are made by hand.
+mod by_hand;
+mod copiers;
+mod copies;
 mod on_chain;
-mod on_map;
 mod rows;
-mod stress;
-mod threads;
-mod visits;
-mod walks;
+mod writers;

@@ -1,4 +1,3 @@
-mod ByHand
 mod Counts
 mod Dealt
 mod Events

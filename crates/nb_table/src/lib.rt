@@ -13,6 +13,3 @@ mod view;
 
 pub use chain::{Chain, ChainSeat};
 pub use closed::Closed;
-
-#[cfg(test)]
-mod tests;

@@ -1,5 +1,6 @@
-//! The map's calls over a chain of tables alone, with small numbers, and looks at what they leave in the slots.
-ghost use Rattle.std.specs.Prelude.{All, IfOk, ◌≤◌};
+//! The map's calls over a chain of tables alone, with small numbers, and looks at what they leave
+//! in the slots.
+ghost use Rattle.std.specs.Prelude.{All, IfOk, ◌≡◌, ◌≤◌};
 ghost use Rattle.nb_core.specs.Tables.{IsSlot};
 ghost use Rattle.nb_table.specs.Chains.{IsOwn};
 ghost use Rattle.nb_table.specs.Chains.{AreOwn};
@@ -50,13 +51,31 @@ pub(super) fn with_one<R: Abort>(
     Ok((chain, seat))
 }
 
+/// A chain of this shape, which has two seats.
+pub(super) fn with_two<R: Abort>(
+    rt: &R,
+    alloc: Global,
+    shape: Result<Shape, ShapeFault>,
+) -> Result<(Chain, ChainSeat, ChainSeat), OutOfMemory>
+    ensures { IfOk result (λ made. IsOwn made.0 made.1 × IsOwn made.0 made.2) }
+{
+    let (chain, mut seats) = chain_of(rt, alloc, shape)?;
+    let b = taken(rt, &chain, &mut seats);
+    let a = taken(rt, &chain, &mut seats);
+    Ok((chain, a, b))
+}
+
 /// The key, which is a small one.
-pub(super) fn key<R: Abort>(rt: &R, key: u64) -> Key {
+pub(super) fn key<R: Abort>(rt: &R, key: u64) -> Key
+    ensures { result ≡ key }
+{
     Key::new(key).expect(rt, "a key")
 }
 
 /// The number, which is in range.
-pub(super) fn number<R: Abort>(rt: &R, number: u64) -> Num {
+pub(super) fn number<R: Abort>(rt: &R, number: u64) -> Num
+    ensures { result ≡ number }
+{
     Num::new(number).expect(rt, "a number")
 }
 
@@ -120,22 +139,6 @@ pub(super) fn put<R: Abort>(
     found(rt, answer)
 }
 
-/// Adds the number to what is at the key.
-pub(super) fn add<R: Abort>(
-    rt: &R,
-    chain: &Chain,
-    seat: &mut ChainSeat,
-    k: u64,
-    n: u64,
-) -> Result<Option<u64>, PutFault>
-    requires own { IsOwn chain.now seat.old }
-    ensures own { IsOwn chain.now seat.new }
-{
-    let change = Change::Add(number(rt, n));
-    let answer = writes(rt, chain, seat, k, Want::Any, change);
-    found(rt, answer)
-}
-
 /// Removes the key.
 pub(super) fn remove<R: Abort>(
     rt: &R,
@@ -190,7 +193,7 @@ pub(super) fn gets<R: Abort>(rt: &R, chain: &Chain, seat: &mut ChainSeat, pairs:
 }
 
 /// Asks that the table has the slot.
-fn is_slot<R: Abort>(rt: &R, chain: &Chain, g: u32, i: usize)
+pub(super) fn is_slot<R: Abort>(rt: &R, chain: &Chain, g: u32, i: usize)
     ensures { IsSlot chain.now.shape g i }
 {
     assert!(rt; g < chain.shape().generations());
@@ -198,7 +201,13 @@ fn is_slot<R: Abort>(rt: &R, chain: &Chain, g: u32, i: usize)
 }
 
 /// What the slot's key word holds.
-fn key_in<R: Abort>(rt: &R, chain: &Chain, seat: &mut ChainSeat, g: u32, i: usize) -> KeyState
+pub(super) fn key_in<R: Abort>(
+    rt: &R,
+    chain: &Chain,
+    seat: &mut ChainSeat,
+    g: u32,
+    i: usize,
+) -> KeyState
     requires own { IsOwn chain.now seat.old }
     ensures own { IsOwn chain.now seat.new }
 {
@@ -207,12 +216,36 @@ fn key_in<R: Abort>(rt: &R, chain: &Chain, seat: &mut ChainSeat, g: u32, i: usiz
 }
 
 /// What the slot's value word holds.
-fn value_in<R: Abort>(rt: &R, chain: &Chain, seat: &mut ChainSeat, g: u32, i: usize) -> ValueState
+pub(super) fn value_in<R: Abort>(
+    rt: &R,
+    chain: &Chain,
+    seat: &mut ChainSeat,
+    g: u32,
+    i: usize,
+) -> ValueState
     requires own { IsOwn chain.now seat.old }
     ensures own { IsOwn chain.now seat.new }
 {
     is_slot(rt, chain, g, i);
     chain.load_value(seat, g, i, None)
+}
+
+/// Sees that the slot of table `g` has this key, and this value.
+fn has_slot<R: Abort>(
+    rt: &R,
+    chain: &Chain,
+    seat: &mut ChainSeat,
+    g: u32,
+    i: usize,
+    k: u64,
+    value: ValueState,
+)
+    requires own { IsOwn chain.now seat.old }
+    ensures own { IsOwn chain.now seat.new }
+{
+    let claimed = KeyState::Claimed(key(rt, k));
+    assert_eq!(rt; key_in(rt, chain, seat, g, i), claimed, "slot {i}");
+    assert_eq!(rt; value_in(rt, chain, seat, g, i), value, "slot {i}");
 }
 
 /// Sees that these slots of table `g` have these keys and live numbers.
@@ -227,27 +260,25 @@ pub(super) fn has_live<R: Abort>(
     ensures own { IsOwn chain.now seat.new }
 {
     for (i, k, n) in slots {
-        let claimed = KeyState::Claimed(key(rt, *k));
         let live = ValueState::Live(number(rt, *n));
-        assert_eq!(rt; key_in(rt, chain, seat, g, *i), claimed, "slot {i}");
-        assert_eq!(rt; value_in(rt, chain, seat, g, *i), live, "slot {i}");
+        has_slot(rt, chain, seat, g, *i, *k, live);
     }
 }
 
-/// Sees that the first slots of table `g` have these numbers, which are copied.
+/// Sees that the first slots of table `g` have these keys, and their numbers, which are copied.
 pub(super) fn has_finished<R: Abort>(
     rt: &R,
     chain: &Chain,
     seat: &mut ChainSeat,
     g: u32,
-    numbers: &[u64],
+    pairs: &[(u64, u64)],
 )
     requires own { IsOwn chain.now seat.old }
     ensures own { IsOwn chain.now seat.new }
 {
-    for (i, n) in numbers.iter().enumerate() {
+    for (i, (k, n)) in pairs.iter().enumerate() {
         let finished = ValueState::Finished(number(rt, *n));
-        assert_eq!(rt; value_in(rt, chain, seat, g, i), finished, "slot {i}");
+        has_slot(rt, chain, seat, g, i, *k, finished);
     }
 }
 
@@ -278,7 +309,7 @@ pub(super) fn closes<R: Abort>(rt: &R, chain: Chain, seats: Vec<ChainSeat>) -> C
     closed
 }
 
-/// Sees that these keys are left, each with its number.
+/// Sees that these keys are left, each with its number, and key 1000 isn't.
 pub(super) fn lists<R: Abort>(
     rt: &R,
     alloc: Global,
@@ -289,7 +320,9 @@ pub(super) fn lists<R: Abort>(
     assert_eq!(rt; entries.len(), pairs.len());
     for (entry, (k, n)) in entries.iter().zip(pairs) {
         assert_eq!(rt; *entry, (key(rt, *k), number(rt, *n)));
+        assert_eq!(rt; closed.get(entry.0), Some(entry.1));
     }
+    assert_eq!(rt; closed.get(key(rt, 1000)), None);
     Ok(())
 }
 
@@ -319,5 +352,23 @@ pub(super) fn one_leaves<R: Abort>(
 {
     let mut seats = Vec::new(alloc);
     seats.push(seat)?;
+    leaves(rt, alloc, chain, seats, pairs)
+}
+
+/// Closes a chain of two seats. These keys are left, each with its number.
+pub(super) fn two_leave<R: Abort>(
+    rt: &R,
+    alloc: Global,
+    chain: Chain,
+    a: ChainSeat,
+    b: ChainSeat,
+    pairs: &[(u64, u64)],
+) -> Result<(), OutOfMemory>
+    requires a { IsOwn chain a }
+    requires b { IsOwn chain b }
+{
+    let mut seats = Vec::new(alloc);
+    seats.push(a)?;
+    seats.push(b)?;
     leaves(rt, alloc, chain, seats, pairs)
 }

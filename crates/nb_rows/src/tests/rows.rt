@@ -59,7 +59,7 @@ fn grows_when_crowded<R: Abort>(rt: &R, chain: &Chain, seat: &mut ChainSeat)
 {
     puts(rt, chain, seat, &[(0, 10), (4, 14), (8, 18), (12, 22)]);
     assert_eq!(rt; chain.load_top(seat), 1);
-    has_finished(rt, chain, seat, 0, &[10, 14, 18]);
+    has_finished(rt, chain, seat, 0, &[(0, 10), (4, 14), (8, 18)]);
     has_no_keys(rt, chain, seat, 0, &[3], KeyState::Dead);
     has_live(
         rt,
@@ -101,34 +101,8 @@ fn a_removal_is_not_copied(rt: HostRuntime) -> Result<(), Fail> {
     Ok(())
 }
 
-/// In a full table a removed key keeps its slot: no other key gets it, and the key can come back.
-fn keeps_slots<R: Abort>(rt: &R, chain: &Chain, seat: &mut ChainSeat)
-    requires own { IsOwn chain.now seat.old }
-    ensures own { IsOwn chain.now seat.new }
-{
-    fills_one_table(rt, chain, seat);
-    assert_eq!(rt; put(rt, chain, seat, 0, 20), Ok(Some(10)));
-    assert_eq!(rt; remove(rt, chain, seat, 0), Ok(Some(20)));
-    assert_eq!(rt; put(rt, chain, seat, 4, 14), Err(PutFault::Full));
-    let put_14 = Change::Put(number(rt, 14));
-    let if_absent = writes(rt, chain, seat, 4, Want::Absent, put_14);
-    assert_eq!(rt; if_absent, Err(PutFault::Full));
-    let put_1 = Change::Put(number(rt, 1));
-    let replaced = writes(rt, chain, seat, 4, Want::Present, put_1);
-    assert_eq!(rt; replaced, unmatched());
-    assert_eq!(rt; put(rt, chain, seat, 0, 30), Ok(None));
-}
-
-#[test]
-fn full_and_kept_keys(rt: HostRuntime) -> Result<(), Fail> {
-    let (chain, mut seat) = with_one(&rt, rt.alloc(), Shape::new(2, 1, 1, 1))?;
-    keeps_slots(&rt, &chain, &mut seat);
-    let left = [(0, 30), (1, 11), (2, 12), (3, 13)];
-    one_leaves(&rt, rt.alloc(), chain, seat, &left)?;
-    Ok(())
-}
-
-/// A seat that puts a number at a key once, before the first exchange of another seat's write. It counts the pauses.
+/// A seat that puts a number at a key once, before the first exchange of another seat's write. It
+/// counts the pauses.
 #[derive(Drop)]
 struct PutsOnce {
     seat: ChainSeat,
@@ -153,17 +127,16 @@ impl Pause for PutsOnce {
     }
 }
 
-/// The answer of a write of key 7 with so many tries, before whose first exchange another seat puts 6 there, and what is there
-/// afterwards. It pauses once before each exchange, of which it makes as many as it has tries.
+/// The answer of a write of key 7 with so many tries, before whose first exchange another seat puts
+/// 6 there, and what is there afterwards. It pauses once before each exchange, of which it makes as
+/// many as it has tries.
 fn contends<R: Abort>(
     rt: &R,
     alloc: Global,
     change: Change,
     tries: u32,
 ) -> Result<(Result<Option<u64>, PutFault>, Option<u64>), OutOfMemory> {
-    let (chain, mut seats) = chain_of(rt, alloc, Shape::new(2, 1, 2, 1))?;
-    let seat = taken(rt, &chain, &mut seats);
-    let mut a = taken(rt, &chain, &mut seats);
+    let (chain, mut a, seat) = with_two(rt, alloc, Shape::new(2, 1, 2, 1))?;
     assert!(rt; tries > 0);
     let seven = key(rt, 7);
     let mut pause = PutsOnce {
@@ -211,46 +184,15 @@ fn add_contended_once(rt: HostRuntime) -> Result<(), Fail> {
     Ok(())
 }
 
-/// A seat fills a table, removes all keys, and fills the next one with them and with others.
-fn refills<R: Abort>(rt: &R, chain: &Chain, seat: &mut ChainSeat)
-    requires own { IsOwn chain.now seat.old }
-    ensures own { IsOwn chain.now seat.new }
-{
-    let first = [(0, 10), (1, 11), (2, 12), (3, 13)];
-    puts(rt, chain, seat, &first);
-    removes(rt, chain, seat, &first);
-    puts(rt, chain, seat, &[(4, 14), (5, 15), (6, 16), (7, 17)]);
-    puts(rt, chain, seat, &first);
-    assert_eq!(rt; put(rt, chain, seat, 8, 1), Err(PutFault::Full));
-    assert_eq!(rt; chain.load_top(seat), 1);
-}
-
-#[test]
-fn filled_removed_refilled(rt: HostRuntime) -> Result<(), Fail> {
-    let (chain, mut seat) = with_one(&rt, rt.alloc(), Shape::new(2, 2, 1, 1))?;
-    refills(&rt, &chain, &mut seat);
-    let left = [
-        (0, 10),
-        (1, 11),
-        (2, 12),
-        (3, 13),
-        (4, 14),
-        (5, 15),
-        (6, 16),
-        (7, 17),
-    ];
-    one_leaves(&rt, rt.alloc(), chain, seat, &left)?;
-    Ok(())
-}
-
-/// A seat puts four keys whose home is one slot. The second table is as crowded as the first, and the third takes them.
+/// A seat puts four keys whose home is one slot. The second table is as crowded as the first, and
+/// the third takes them.
 fn grows_twice<R: Abort>(rt: &R, chain: &Chain, seat: &mut ChainSeat)
     requires own { IsOwn chain.now seat.old }
     ensures own { IsOwn chain.now seat.new }
 {
     puts(rt, chain, seat, &[(0, 10), (4, 14), (8, 18), (12, 22)]);
     assert_eq!(rt; chain.load_top(seat), 2);
-    has_finished(rt, chain, seat, 1, &[10, 14, 18]);
+    has_finished(rt, chain, seat, 1, &[(0, 10), (4, 14), (8, 18)]);
     has_no_keys(rt, chain, seat, 1, &[3], KeyState::Dead);
     has_live(
         rt,
@@ -271,7 +213,8 @@ fn plan_of_three(rt: HostRuntime) -> Result<(), Fail> {
     Ok(())
 }
 
-/// A seat crowds a table with keys that it removes, and fills the next one, which is as large.
+/// A seat crowds a table with keys that it removes, and fills the next one, which is as large. None
+/// of them is copied there.
 fn makes_room<R: Abort>(rt: &R, chain: &Chain, seat: &mut ChainSeat)
     requires own { IsOwn chain.now seat.old }
     ensures own { IsOwn chain.now seat.new }
@@ -279,7 +222,16 @@ fn makes_room<R: Abort>(rt: &R, chain: &Chain, seat: &mut ChainSeat)
     let first = [(0, 10), (4, 14), (8, 18)];
     puts(rt, chain, seat, &first);
     removes(rt, chain, seat, &first);
-    puts(rt, chain, seat, &[(12, 22), (16, 26), (20, 30), (24, 34)]);
+    let others = [(12, 22), (16, 26), (20, 30), (24, 34)];
+    puts(rt, chain, seat, &others);
+    gets(rt, chain, seat, &others);
+    has_live(
+        rt,
+        chain,
+        seat,
+        1,
+        &[(0, 12, 22), (1, 16, 26), (2, 20, 30), (3, 24, 34)],
+    );
     assert_eq!(rt; put(rt, chain, seat, 28, 38), Err(PutFault::Full));
 }
 
@@ -299,6 +251,13 @@ fn fills_both<R: Abort>(rt: &R, chain: &Chain, seat: &mut ChainSeat)
     ensures own { IsOwn chain.now seat.new }
 {
     puts(rt, chain, seat, &[(0, 10), (4, 14), (8, 18), (12, 22)]);
+    has_live(
+        rt,
+        chain,
+        seat,
+        1,
+        &[(0, 0, 10), (1, 4, 14), (2, 8, 18), (3, 12, 22)],
+    );
     assert_eq!(rt; put(rt, chain, seat, 16, 26), Err(PutFault::Full));
 }
 
@@ -308,32 +267,6 @@ fn same_size_full(rt: HostRuntime) -> Result<(), Fail> {
     let (chain, mut seat) = with_one(&rt, rt.alloc(), shape)?;
     fills_both(&rt, &chain, &mut seat);
     let left = [(0, 10), (4, 14), (8, 18), (12, 22)];
-    one_leaves(&rt, rt.alloc(), chain, seat, &left)?;
-    Ok(())
-}
-
-/// A seat adds up to the greatest number and no further, and adds nothing.
-fn adds_in_turn<R: Abort>(rt: &R, chain: &Chain, seat: &mut ChainSeat)
-    requires own { IsOwn chain.now seat.old }
-    ensures own { IsOwn chain.now seat.new }
-{
-    assert_eq!(rt; add(rt, chain, seat, 1, 5), Ok(None));
-    assert_eq!(rt; add(rt, chain, seat, 1, 6), Ok(Some(5)));
-    assert_eq!(rt; get(rt, chain, seat, 1), Some(11));
-    let most = add(rt, chain, seat, 1, 1_152_921_504_606_846_964);
-    assert_eq!(rt; most, Ok(Some(11)));
-    let past = add(rt, chain, seat, 1, 1);
-    assert_eq!(rt; past, Err(PutFault::ValueRange));
-    let none = add(rt, chain, seat, 1, 0);
-    assert_eq!(rt; none, Ok(Some(1_152_921_504_606_846_975)));
-    assert_eq!(rt; add(rt, chain, seat, 2, 0), Ok(None));
-}
-
-#[test]
-fn adds(rt: HostRuntime) -> Result<(), Fail> {
-    let (chain, mut seat) = with_one(&rt, rt.alloc(), Shape::new(2, 1, 1, 1))?;
-    adds_in_turn(&rt, &chain, &mut seat);
-    let left = [(1, 1_152_921_504_606_846_975), (2, 0)];
     one_leaves(&rt, rt.alloc(), chain, seat, &left)?;
     Ok(())
 }
@@ -353,13 +286,9 @@ fn finds_copies<R: Abort>(rt: &R, chain: &Chain, a: &mut ChainSeat, b: &mut Chai
 
 #[test]
 fn finds_what_another_copied(rt: HostRuntime) -> Result<(), Fail> {
-    let (chain, mut seats) = chain_of(&rt, rt.alloc(), Shape::new(2, 3, 2, 1))?;
-    let mut b = taken(&rt, &chain, &mut seats);
-    let mut a = taken(&rt, &chain, &mut seats);
+    let (chain, mut a, mut b) = with_two(&rt, rt.alloc(), Shape::new(2, 3, 2, 1))?;
     finds_copies(&rt, &chain, &mut a, &mut b);
-    seats.push(a)?;
-    seats.push(b)?;
     let left = [(0, 10), (4, 14), (8, 18), (12, 22)];
-    leaves(&rt, rt.alloc(), chain, seats, &left)?;
+    two_leave(&rt, rt.alloc(), chain, a, b, &left)?;
     Ok(())
 }

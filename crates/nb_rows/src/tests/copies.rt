@@ -1,0 +1,309 @@
+//! Copies by several seats in one thread, with calls between them and copiers that stop.
+ghost use Rattle.std.specs.Prelude.{◌≡◌};
+ghost use Rattle.nb_core.specs.Tables.{IsPrimedOrFinished, IsSlot};
+ghost use Rattle.nb_core.specs.declared.states.KeyState.TheVariants as key_is;
+ghost use Rattle.nb_table.specs.Chains.{IsOwn, seen_by};
+
+use super::by_hand::*;
+use super::on_chain::*;
+use nb_core::{Key, KeyState, Num, Shape, ValueState};
+use nb_table::{Chain, ChainSeat};
+use std::process::Abort;
+use std::test::Fail;
+
+/// Keys that crowd a first table of four slots, and their numbers.
+const THREE: [(u64, u64); 3] = [(0, 10), (4, 14), (8, 18)];
+
+/// Keys that crowd a first table of sixteen slots, which are two chunks, and their numbers.
+pub(super) const SIX: [(u64, u64); 6] = [(0, 10), (16, 26), (32, 42), (48, 58), (64, 74), (80, 90)];
+
+/// A seat puts three keys into table 0, and installs table 1 for a fourth.
+fn begins<R: Abort>(rt: &R, chain: &Chain, seat: &mut ChainSeat)
+    requires own { IsOwn chain.now seat.old }
+    ensures own { IsOwn chain.now seat.new }
+{
+    puts(rt, chain, seat, &THREE);
+    assert!(rt; installs(rt, chain, seat, 12));
+}
+
+/// A primes a slot, B copies it and reads its key, and A finds it copied, and table 1 installed.
+fn two_copy_one_slot<R: Abort>(rt: &R, chain: &Chain, a: &mut ChainSeat, b: &mut ChainSeat)
+    requires a { IsOwn chain.now a.old }
+    requires b { IsOwn chain.now b.old }
+    ensures a { IsOwn chain.now a.new }
+    ensures b { IsOwn chain.now b.new }
+{
+    let first = key(rt, 0);
+    let ten = number(rt, 10);
+    begins(rt, chain, a);
+    primes(rt, chain, a, first, ValueState::Live(ten));
+    assert!(rt; copies(rt, chain, b, 0));
+    has_live(rt, chain, b, 1, &[(0, 0, 10)]);
+    assert_eq!(rt; get(rt, chain, b, 0), Some(10));
+    primes(rt, chain, a, first, ValueState::Finished(ten));
+    assert!(rt; !copies(rt, chain, a, 0));
+    assert!(rt; !installs(rt, chain, a, 12));
+}
+
+#[test]
+fn copy_of_one_slot(rt: HostRuntime) -> Result<(), Fail> {
+    let (chain, mut a, mut b) = with_two(&rt, rt.alloc(), Shape::new(2, 2, 2, 1))?;
+    two_copy_one_slot(&rt, &chain, &mut a, &mut b);
+    two_leave(&rt, rt.alloc(), chain, a, b, &THREE)?;
+    Ok(())
+}
+
+/// A seat copies the slots one after another, and counts each. The last one raises the top word.
+fn counts_all<R: Abort>(rt: &R, chain: &Chain, seat: &mut ChainSeat)
+    requires own { IsOwn chain.now seat.old }
+    ensures own { IsOwn chain.now seat.new }
+{
+    begins(rt, chain, seat);
+    for i in 0..4 {
+        assert_eq!(rt; chain.load_top(seat), 0);
+        assert!(rt; counts(rt, chain, seat, i));
+    }
+    assert_eq!(rt; chain.load_top(seat), 1);
+}
+
+#[test]
+fn counted_slots_raise_the_top(rt: HostRuntime) -> Result<(), Fail> {
+    let (chain, mut seat) = with_one(&rt, rt.alloc(), Shape::new(2, 2, 1, 1))?;
+    counts_all(&rt, &chain, &mut seat);
+    one_leaves(&rt, rt.alloc(), chain, seat, &THREE)?;
+    Ok(())
+}
+
+/// A seat copies table 0, and removes its first key from table 1.
+fn copies_table<R: Abort>(rt: &R, chain: &Chain, b: &mut ChainSeat)
+    requires own { IsOwn chain.now b.old }
+    ensures own { IsOwn chain.now b.new }
+{
+    assert_eq!(rt; chain.load_top(b), 0);
+    completes(rt, chain, b);
+    assert_eq!(rt; chain.load_top(b), 1);
+    has_finished(rt, chain, b, 0, &THREE);
+    has_no_keys(rt, chain, b, 0, &[3], KeyState::Dead);
+    has_live(rt, chain, b, 1, &[(0, 0, 10), (1, 8, 18), (4, 4, 14)]);
+    assert_eq!(rt; remove(rt, chain, b, 0), Ok(Some(10)));
+}
+
+/// A seat puts keys into table 1 until that is crowded, copies it, and puts one into table 2.
+fn crowds_next<R: Abort>(rt: &R, chain: &Chain, b: &mut ChainSeat)
+    requires own { IsOwn chain.now b.old }
+    ensures own { IsOwn chain.now b.new }
+{
+    puts(rt, chain, b, &[(16, 26), (24, 34)]);
+    has_live(rt, chain, b, 1, &[(2, 16, 26), (3, 24, 34)]);
+    assert_eq!(rt; chain.load_top(b), 1);
+    puts(rt, chain, b, &[(32, 42)]);
+    assert_eq!(rt; chain.load_top(b), 2);
+    has_live(
+        rt,
+        chain,
+        b,
+        2,
+        &[
+            (0, 16, 26),
+            (1, 32, 42),
+            (4, 4, 14),
+            (8, 8, 18),
+            (9, 24, 34),
+        ],
+    );
+}
+
+/// What a seat leaves that copies both tables so.
+const LEFT: [(u64, u64); 5] = [(4, 14), (8, 18), (16, 26), (24, 34), (32, 42)];
+
+/// A seat goes on late with a copy of the first slot, resting on what it saw of it before. The copy
+/// is made already, and its key was removed since: this is what is left of it in table 1.
+fn comes_late<R: Abort>(
+    rt: &R,
+    chain: &Chain,
+    a: &mut ChainSeat,
+    first: Key,
+    ten: Num,
+    above: ValueState,
+)
+    requires own { IsOwn chain.now a.old }
+    requires slot { IsSlot chain.now.shape 0 0 }
+    requires claimed { (seen_by chain.now.shape a.old).key 0 0 ≡ key_is.Claimed first }
+    requires held { IsPrimedOrFinished (seen_by chain.now.shape a.old) 0 0 ten }
+    ensures own { IsOwn chain.now a.new }
+    ensures claimed { (seen_by chain.now.shape a.new).key 0 0 ≡ key_is.Claimed first }
+    ensures held { IsPrimedOrFinished (seen_by chain.now.shape a.new) 0 0 ten }
+{
+    assert_eq!(rt; copies_in(rt, chain, a, first, ten), above);
+    let below = finishes(chain, a, first, ten);
+    assert_eq!(rt; below, ValueState::Finished(ten));
+}
+
+/// A stops after it primed a slot. It goes on once B has copied the table, and once more when B has
+/// copied the next one, too, and changes nothing any more.
+fn stops_and_goes_on<R: Abort>(rt: &R, chain: &Chain, a: &mut ChainSeat, b: &mut ChainSeat)
+    requires a { IsOwn chain.now a.old }
+    requires b { IsOwn chain.now b.old }
+    ensures a { IsOwn chain.now a.new }
+    ensures b { IsOwn chain.now b.new }
+{
+    let first = key(rt, 0);
+    let ten = number(rt, 10);
+    begins(rt, chain, a);
+    primes(rt, chain, a, first, ValueState::Live(ten));
+    sees_source(rt, chain, a, first, ten);
+    copies_table(rt, chain, b);
+    comes_late(rt, chain, a, first, ten, ValueState::Tombstone);
+    crowds_next(rt, chain, b);
+    comes_late(rt, chain, a, first, ten, ValueState::PrimedTombstone);
+}
+
+#[test]
+fn stopped_copier(rt: HostRuntime) -> Result<(), Fail> {
+    let (chain, mut a, mut b) = with_two(&rt, rt.alloc(), Shape::new(2, 3, 2, 1))?;
+    stops_and_goes_on(&rt, &chain, &mut a, &mut b);
+    two_leave(&rt, rt.alloc(), chain, a, b, &LEFT)?;
+    Ok(())
+}
+
+/// One step of a copy of the first slot of table 0 to that of table 1, which nobody else copies.
+fn steps_once<R: Abort>(rt: &R, chain: &Chain, a: &mut ChainSeat, step: usize)
+    requires own { IsOwn chain.now a.old }
+    ensures own { IsOwn chain.now a.new }
+{
+    let first = key(rt, 0);
+    let ten = number(rt, 10);
+    match step {
+        0 => assert_eq!(rt; key_in(rt, chain, a, 0, 0), KeyState::Claimed(first)),
+        1 => assert_eq!(rt; value_in(rt, chain, a, 0, 0), ValueState::Live(ten)),
+        2 => primes(rt, chain, a, first, ValueState::Live(ten)),
+        3 => assert_eq!(rt; key_in(rt, chain, a, 1, 0), KeyState::Empty),
+        4 => claims(rt, chain, a, first),
+        5 => {
+            sees_source(rt, chain, a, first, ten);
+            let above = copies_in(rt, chain, a, first, ten);
+            assert_eq!(rt; above, ValueState::Null);
+        }
+        6 => assert_eq!(rt; value_in(rt, chain, a, 1, 0), ValueState::Live(ten)),
+        _ => {
+            sees_source(rt, chain, a, first, ten);
+            let above = copies_in(rt, chain, a, first, ten);
+            assert_eq!(rt; above, ValueState::Live(ten));
+            let below = finishes(chain, a, first, ten);
+            assert_eq!(rt; below, ValueState::Primed(ten));
+        }
+    }
+}
+
+/// A makes so many steps of a copy of the first slot, and stops. B goes on for two tables. A then
+/// finds the slot copied.
+fn stops_after<R: Abort>(rt: &R, chain: &Chain, a: &mut ChainSeat, b: &mut ChainSeat, steps: usize)
+    requires a { IsOwn chain.now a.old }
+    requires b { IsOwn chain.now b.old }
+    ensures a { IsOwn chain.now a.new }
+    ensures b { IsOwn chain.now b.new }
+{
+    begins(rt, chain, a);
+    for step in 0..steps {
+        steps_once(rt, chain, a, step);
+    }
+    copies_table(rt, chain, b);
+    crowds_next(rt, chain, b);
+    assert!(rt; !copies(rt, chain, a, 0));
+}
+
+#[test]
+fn stopped_after_each_step(rt: HostRuntime) -> Result<(), Fail> {
+    for steps in 0..9 {
+        let (chain, mut a, mut b) = with_two(&rt, rt.alloc(), Shape::new(2, 3, 2, 1))?;
+        stops_after(&rt, &chain, &mut a, &mut b, steps);
+        two_leave(&rt, rt.alloc(), chain, a, b, &LEFT)?;
+    }
+    Ok(())
+}
+
+/// A seat puts six keys into a table 0 of two chunks, and installs table 1 for a seventh.
+pub(super) fn fills_two_chunks<R: Abort>(rt: &R, chain: &Chain, seat: &mut ChainSeat)
+    requires own { IsOwn chain.now seat.old }
+    ensures own { IsOwn chain.now seat.new }
+{
+    puts(rt, chain, seat, &SIX);
+    assert!(rt; installs(rt, chain, seat, 96));
+}
+
+/// A, B and C ask for a chunk each of a table of two. What C is handed lies past the table's end.
+fn three_help<R: Abort>(
+    rt: &R,
+    chain: &Chain,
+    a: &mut ChainSeat,
+    b: &mut ChainSeat,
+    c: &mut ChainSeat,
+)
+    requires a { IsOwn chain.now a.old }
+    requires b { IsOwn chain.now b.old }
+    requires c { IsOwn chain.now c.old }
+    ensures a { IsOwn chain.now a.new }
+    ensures b { IsOwn chain.now b.new }
+    ensures c { IsOwn chain.now c.new }
+{
+    fills_two_chunks(rt, chain, a);
+    assert_eq!(rt; helps(rt, chain, a), 8);
+    assert_eq!(rt; chain.load_top(c), 0);
+    assert_eq!(rt; helps(rt, chain, b), 8);
+    assert_eq!(rt; helps(rt, chain, c), 0);
+    assert_eq!(rt; takes(rt, chain, c), 24);
+    assert_eq!(rt; chain.load_top(c), 1);
+    let without = [6, 7, 8, 9, 10, 11, 12, 13, 14, 15];
+    has_no_keys(rt, chain, c, 0, &without, KeyState::Dead);
+    let copied = [
+        (0, 0, 10),
+        (1, 32, 42),
+        (2, 64, 74),
+        (16, 16, 26),
+        (17, 48, 58),
+        (18, 80, 90),
+    ];
+    has_live(rt, chain, c, 1, &copied);
+}
+
+#[test]
+fn three_helpers(rt: HostRuntime) -> Result<(), Fail> {
+    let (chain, mut seats) = chain_of(&rt, rt.alloc(), Shape::new(4, 2, 3, 1))?;
+    let mut c = taken(&rt, &chain, &mut seats);
+    let mut b = taken(&rt, &chain, &mut seats);
+    let mut a = taken(&rt, &chain, &mut seats);
+    three_help(&rt, &chain, &mut a, &mut b, &mut c);
+    seats.push(c)?;
+    seats.push(a)?;
+    seats.push(b)?;
+    leaves(&rt, rt.alloc(), chain, seats, &SIX)?;
+    Ok(())
+}
+
+/// A takes a chunk and stops. B copies the other one, then what A left, and A finds each slot of
+/// its chunk copied.
+fn one_finishes_for_another<R: Abort>(rt: &R, chain: &Chain, a: &mut ChainSeat, b: &mut ChainSeat)
+    requires a { IsOwn chain.now a.old }
+    requires b { IsOwn chain.now b.old }
+    ensures a { IsOwn chain.now a.new }
+    ensures b { IsOwn chain.now b.new }
+{
+    fills_two_chunks(rt, chain, a);
+    assert_eq!(rt; takes(rt, chain, a), 0);
+    assert_eq!(rt; helps(rt, chain, b), 8);
+    assert_eq!(rt; takes(rt, chain, a), 16);
+    assert_eq!(rt; chain.load_top(b), 0);
+    completes(rt, chain, b);
+    assert_eq!(rt; chain.load_top(b), 1);
+    for i in 0..8 {
+        assert!(rt; !copies(rt, chain, a, i));
+    }
+}
+
+#[test]
+fn finished_by_another(rt: HostRuntime) -> Result<(), Fail> {
+    let (chain, mut a, mut b) = with_two(&rt, rt.alloc(), Shape::new(4, 2, 2, 1))?;
+    one_finishes_for_another(&rt, &chain, &mut a, &mut b);
+    two_leave(&rt, rt.alloc(), chain, a, b, &SIX)?;
+    Ok(())
+}
