@@ -28,6 +28,7 @@ mod Replying
 mod Rising
 mod Room
 mod Searches
+pub mod Seating
 mod Shown
 mod Slots
 mod Sound

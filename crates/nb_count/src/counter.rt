@@ -1,6 +1,6 @@
 //! The counter and its seats.
 ghost use Rattle.std.specs.Prelude.{◌≡◌, ◌*◌, ◌%◌, ◌^◌, ◌<◌, ◌≤◌, ◌↔◌, [], length, IfOk, IfErr, true, is_ok};
-ghost use Rattle.nb_count.specs.Counts.{AreOwn, IsOwn, seats_of, total_of, with_added, with_looks};
+ghost use Rattle.nb_count.specs.Counts.{AreOwn, IsOwn, new_seats, total_of, with_added, with_looks};
 ghost use Rattle.nb_count.specs.Gathered.{HasGathered};
 ghost use Rattle.nb_count.specs.Tallies.{sum_of_stripes, wrapped};
 ghost use Rattle.std.specs.Mem.Slots.{IsFull, slots_items, slots_len};
@@ -60,7 +60,7 @@ impl Counter {
         requires stripes { (1 ≤ stripes) × (stripes ≤ 8) }
         requires seats { (1 ≤ seats) × (seats ≤ 8) }
         ensures counter { IfOk result (λ made. (made.0.stripes ≡ stripes) × (made.0.seats ≡ seats)) }
-        ensures seats { IfOk result (λ made. made.1.items ≡ seats_of made.0.id 0 seats) }
+        ensures seats { IfOk result (λ made. made.1.items ≡ new_seats made.0.id seats) }
         ensures own { IfOk result (λ made. AreOwn made.0 made.1.items) }
     {
         let size = Size { stripes, seats };

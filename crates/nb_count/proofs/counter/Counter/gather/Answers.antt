@@ -1,24 +1,25 @@
 use Rattle.std.specs.Option.{option_to_list}
-use Rattle.std.proofs.Common.{◌∙◌, ◌++◌, subst, ap, sym, arith}
-use Rattle.nb_count.proofs.Gathered.{gathered-first, gathered-more, none-left, own-last, own-left}
+use Rattle.std.proofs.Common.{◌∙◌, ◌++◌, Some, subst, ap, sym, arith}
+use Rattle.std.proofs.lemmas.List.Elements.{All-pop}
+use Rattle.nb_core.proofs.Seating.{none-left}
+use Rattle.nb_count.specs.Counts.{IsOwn}
 use Rattle.nb_count.specs.Gathered.{HasGathered}
+use Rattle.nb_count.proofs.Gathered.{gathered-first, gathered-more}
 use Rattle.nb_count.proofs.Keeping.{joins}
 use Rattle.nb_count.proofs.counter.Counter.gather.Goals as goal
 
 pub loop-other-init : goal.loop-other-init
 loop-other-init c =
-    let items = c.pop.ensures.items ∙ ap (λ o. c.pop.new.self.items ++ option_to_list o) c.unwrap-last.ensures in (
-      gathered-first c.args.self.now.id c.last.inside _ _ _ c.last.invariant c.last.view_is items (own-last c.args.self.now _ _ _ items c.requires.own),
-      own-left c.args.self.now _ _ _ items c.requires.own,
-    )
+    let items = c.pop.ensures.items ∙ ap (λ o. c.pop.new.self.items ++ option_to_list o) c.unwrap-last.ensures in
+    let own = All-pop (IsOwn c.args.self.now) _ _ (Some _) items c.requires.own in
+    (gathered-first c.args.self.now.id c.last.inside _ _ _ c.last.invariant c.last.view_is items own.1, own.0)
 
 pub join_seat-requires : goal.join_seat-requires
 join_seat-requires c =
     let table = ap (λ v. v.id) c.self.view_is in
-    let is = c.in-Some.ensures.items in
-    let other = ap (λ v. v.counter) c.other.view_is ∙ own-last c.args.self.now _ _ _ is c.loop-other.invariant.1 in (
+    let own = All-pop (IsOwn c.args.self.now) _ _ (Some _) c.in-Some.ensures.items c.loop-other.invariant.1 in (
       c.loop-other.invariant.0.own ∙ sym table,
-      other ∙ sym table,
+      ap (λ v. v.counter) c.other.view_is ∙ own.1 ∙ sym table,
       ap (λ m. m.1) c.other.invariant.one,
       omega (arith, c.self.invariant.words, c.self.invariant.some),
       joins _ _ _ _ _,
@@ -26,10 +27,13 @@ join_seat-requires c =
 
 pub loop-other-preserved : goal.loop-other-preserved
 loop-other-preserved c =
-    let is = c.in-Some.ensures.items in (
-      gathered-more c.args.self.now.id c.loop-other.seat _ c.other.inside _ _ _ _ c.loop-other.invariant.0 c.other.invariant c.other.view_is is c.join_seat.ensures.0 c.join_seat.ensures.2,
-      own-left c.args.self.now _ _ _ is c.loop-other.invariant.1,
+    let own = All-pop (IsOwn c.args.self.now) _ _ (Some _) c.in-Some.ensures.items c.loop-other.invariant.1 in (
+      gathered-more c.args.self.now.id c.loop-other.seat _ c.other.inside _ _ _ _ c.loop-other.invariant.0 c.other.invariant
+          c.other.view_is c.in-Some.ensures.items own.1 c.join_seat.ensures.0 c.join_seat.ensures.2,
+      own.0,
     )
 
 pub returns : goal.returns
-returns c = subst (λ left. HasGathered c.args.self.now.id c.loop-other.seat left c.args.seats.items) (none-left _ (λ some. c.in_default.ensures.variant.1 (omega (arith, c.loop-other.seats.ok)))) c.loop-other.invariant.0
+returns c =
+    subst (λ left. HasGathered c.args.self.now.id c.loop-other.seat left c.args.seats.items)
+    (none-left _ (λ some. c.in_default.ensures.variant.1 (omega (arith, c.loop-other.seats.ok)))) c.loop-other.invariant.0
