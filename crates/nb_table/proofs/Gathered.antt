@@ -26,25 +26,7 @@ use Rattle.nb_table.specs.Views.{HasSeen, IsChained, all_parts, joined}
 use Rattle.nb_table.specs.declared.chain.ChainSeat.TheInside as seat
 use Rattle.nb_table.specs.declared.view.Part.{Part}
 use Rattle.nb_table.specs.declared.view.View.{View}
-use Rattle.nb_table.proofs.Parted.{All-left, All-right, All-unmap, apart, times-cons, times_among}
-
--- ---- lists whose last was taken
-
-pub own-left :
-    (chain : ChainOf) (seats left : List SeenBy) (s : SeenBy) → seats ≡ left ++ s ∷ [] → AreOwn chain seats → AreOwn chain left
-own-left chain seats left s is own =
-    All-left (IsOwn chain) left (s ∷ []) (All-same (IsOwn chain) (left ++ s ∷ []) seats (sym is) own)
-
-pub own-last :
-    (chain : ChainOf) (seats left : List SeenBy) (s : SeenBy) → seats ≡ left ++ s ∷ [] → AreOwn chain seats → IsOwn chain s
-own-last chain seats left s is own =
-    All-head (IsOwn chain) s [] (All-right (IsOwn chain) left (s ∷ [])
-    (All-same (IsOwn chain) (left ++ s ∷ []) seats (sym is) own))
-
--- a list from which nothing can be taken is empty
-pub none-left : (left : List SeenBy) → (0 < length left → false ≡ true) → left ≡ []
-none-left [] none = refl
-none-left (x ∷ left) none = absurd (let e : false ≡ true = none (omega arith) in cc)
+use Rattle.nb_core.proofs.Seating.{All-unmap, all-there as has-all, and_then, back, count-map, gathered-first as first_gathered, gathered-more as more_gathered}
 
 -- ---- gathering
 
@@ -64,9 +46,7 @@ pub gathered-first :
 gathered-first chain s last left seats is_seat view is own = record {
   own = ap (λ v. v.chain) view ∙ own;
   free = is_seat.free;
-  are =
-      subst₂ IsPermutation (ap (λ parts. parts ++ left) (sym (one-seat chain s last is_seat view own))) (sym is)
-      (IsPermutation-append_comm (last ∷ []) left);
+  are = first_gathered (seat_with chain) s.seat.me.0.parts last left seats (one-seat chain s last is_seat view own) is;
 }
 
 -- one seat's token more
@@ -79,14 +59,8 @@ gathered-more chain token token' s next left left' seats g is_seat view is own t
   own = table ∙ g.own;
   free = ap (λ m. m.1) me ∙ g.free;
   are =
-      let knows = map (seat_with chain) in
-      let before = knows token.me.0.parts in
-      let parts = ap (λ m. knows m.0.parts) me ∙ map-append (seat_with chain) token.me.0.parts s.seat.me.0.parts
-      ∙ ap (λ seats. before ++ seats) (one-seat chain s next is_seat view own) in
-      let joined = ap (λ seats. seats ++ left) parts ∙ append_assoc before (next ∷ []) left in
-      let moved = IsPermutation-append_right before (next ∷ left) (left ++ next ∷ []) (IsPermutation-append_comm (next ∷ []) left) in
-      IsPermutation-trans (knows token'.me.0.parts ++ left) (before ++ left') seats
-      (subst₂ IsPermutation (sym joined) (ap (λ seats. before ++ seats) (sym is)) moved) g.are;
+      more_gathered (seat_with chain) token.me.0.parts token'.me.0.parts s.seat.me.0.parts next left left' seats g.are
+      (one-seat chain s next is_seat view own) is (ap (λ m. m.0.parts) me);
 }
 
 -- ---- the history
@@ -150,21 +124,12 @@ module _ (p : Plan) (s : State (Unit {0}) View) (rule : IsChained p s) (token : 
   -- the token has all parts
   all-there : IsPermutation (map knows (all_parts s.views)) seats
   all-there =
-      let there = apart s.views token.id token.me.0 at in
       let parts = token.me.0.parts in
       let known = subst (λ known. IsPermutation known seats) (append-nil (map knows parts)) gathered.are in
-      let none = nil_from_length there.rest (omega (
-        arith,
-        length_permutation (all_parts s.views) (parts ++ there.rest) there.is,
-        length-append parts there.rest,
-        length_permutation (map knows parts) seats known,
-        length-map parts knows,
-        rule.count,
-        all,
-      )) in
-      let are = subst (IsPermutation (all_parts s.views)) (ap (λ rest. parts ++ rest) none ∙ append-nil parts) there.is in
-      IsPermutation-trans (map knows (all_parts s.views)) (map knows parts) seats
-      (IsPermutation-map knows (all_parts s.views) parts are) known
+      let many : length (all_parts s.views) ≡ length parts
+      = rule.count ∙ sym all ∙ length_permutation (map knows parts) seats known ∙ length-map parts knows in
+      and_then (IsPermutation-map knows (all_parts s.views) parts (has-all (λ view. view.parts) s.views token.id token.me.0 at many))
+      known
 
   -- each seat fits the history
   all-fit : All (FitsSeat rule.history) seats
@@ -178,7 +143,7 @@ module _ (p : Plan) (s : State (Unit {0}) View) (rule : IsChained p s) (token : 
       let P : SeenBy → Type 0 = λ seat. length seat.seen ≤ length (most_seen seats) in
       All-unmap P knows (all_parts s.views)
       (All-permutation P seats (map knows (all_parts s.views))
-      (IsPermutation-sym (map knows (all_parts s.views)) seats all-there) (most seats))
+      (back all-there) (most seats))
 
   -- who made the last step has seen all
   length-most : length rule.history ≤ length (most_seen seats)
@@ -192,14 +157,8 @@ module _ (p : Plan) (s : State (Unit {0}) View) (rule : IsChained p s) (token : 
 
   times-there : (n : ℕ) → n < p.seats → count_by (λ seat. seat.number == n) seats ≡ 1
   times-there n below =
-      let one = λ (seat : SeenBy). cond (seat.number == n) 1 0 in
-      sum_by-IsPermutation one (map knows (all_parts s.views)) seats all-there ∙ mapped (all_parts s.views) ∙ rule.once n below
-    where
-      mapped : (parts : List Part) → count_by (λ seat. seat.number == n) (map knows parts) ≡ times_among n parts
-      mapped [] = refl
-      mapped (part ∷ parts) =
-          sum_by-cons (λ seat. cond (seat.number == n) 1 0) (knows part) (map knows parts)
-          ∙ ap (λ m. cond (part.number == n) 1 0 + m) (mapped parts) ∙ sym (times-cons n part parts)
+      sum_by-IsPermutation (λ (seat : SeenBy). cond (seat.number == n) 1 0) (map knows (all_parts s.views)) seats all-there
+      ∙ count-map (λ seat. seat.number == n) knows (all_parts s.views) ∙ rule.once n below
 
 -- what is left of a chain, where one token has gathered all seats
 pub closed-with :
