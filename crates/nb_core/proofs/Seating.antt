@@ -6,7 +6,7 @@ use lib.ListN.{get_elem?}
 use Rattle.std.specs.List.{flat_map, range_with_len}
 use Rattle.std.specs.List.Sorted.{IsPermutation}
 use Rattle.std.proofs.lemmas.Bool.{cases_lt, eq-eqb, ne_eqb}
-use Rattle.std.proofs.lemmas.List.{append-nil, append_assoc, map-append, nil_from_length, set_comm}
+use Rattle.std.proofs.lemmas.List.{append-nil, append_assoc, length-map, map-append, nil_from_length, set_comm}
 use Rattle.std.proofs.lemmas.List.Concat.{flat_map-append}
 use Rattle.std.proofs.lemmas.List.Elements.{All-cons, All-head, All-nil, All-tail}
 use Rattle.std.proofs.lemmas.List.FromFn.{length-map-range_with_len, map-range_with_len_more}
@@ -145,6 +145,42 @@ module _ {Part Seen : Type 0} {new_part : ℕ → Part} {new_seat : ℕ → Seen
     pub dealing-done : seats ≤ number → number ≤ seats → dealt ≡ map new_seat (range_with_len 0 seats)
     dealing-done low high =
         let all : number ≡ seats = omega arith in d.so_far ∙ ap (λ n. map new_seat (range_with_len 0 n)) all
+
+-- ---- parting
+
+-- Seats are moved from one list to another, one after another: of all these some are moved, and the others are of what is left.
+pub record AreMoved {A B : Type 0} (f : A → B) (all moved : List B) (left : List A) : Type 0 where
+  pub is : all ≡ moved ++ map f left
+
+-- none is moved yet
+pub none-moved :
+    {A B : Type 0} {f : A → B} {all moved : List B} {left : List A} → all ≡ map f left → moved ≡ [] → AreMoved f all moved left
+none-moved {f = f} {left = left} are none = record { is = are ∙ ap (λ ys. ys ++ map f left) (sym none) }
+
+module _ {A B : Type 0} {f : A → B} {all moved : List B} {left : List A} where
+  pub moved-count : AreMoved f all moved left → length moved + length left ≡ length all
+  moved-count are = omega (arith, ap length are.is, length-append moved (map f left), length-map left f)
+
+  -- the first that is left is moved
+  pub moved-more :
+      {moved' : List B} {left' : List A} {x : A} {y : B} → AreMoved f all moved left → left ≡ x ∷ left' → f x ≡ y
+      → moved' ≡ moved ++ y ∷ [] → AreMoved f all moved' left'
+  moved-more {moved'} {left'} {x} {y} are next is more = record {
+    is =
+        are.is ∙ ap (λ xs. moved ++ map f xs) next ∙ ap (λ z. moved ++ z ∷ map f left') is
+        ∙ sym (append_assoc moved (y ∷ []) (map f left')) ∙ ap (λ ys. ys ++ map f left') (sym more);
+  }
+
+  -- the last that is moved is taken back
+  pub moved-back :
+      {moved' : List B} {x : A} → AreMoved f all moved left → moved ≡ moved' ++ f x ∷ [] → AreMoved f all moved' (x ∷ left)
+  moved-back {moved'} {x} are last = record {
+    is = are.is ∙ ap (λ ys. ys ++ map f left) last ∙ append_assoc moved' (f x ∷ []) (map f left);
+  }
+
+  -- where none is left, all are moved
+  pub all-moved : AreMoved f all moved left → length left ≡ 0 → moved ≡ all
+  all-moved are none = sym (are.is ∙ ap (λ xs. moved ++ map f xs) (nil_from_length left none) ∙ append-nil moved)
 
 -- ---- the same in another order
 

@@ -13,7 +13,7 @@ use Rattle.nb_core.specs.declared.events.Event.{Event}
 use Rattle.nb_table.specs.Chains.{Extended, SeenBy}
 use Rattle.nb_table.specs.Inside.{IsSeat, part_of, seat_of}
 use Rattle.nb_core.specs.Log.{IsBeginning}
-use Rattle.nb_table.specs.Views.{HasMoved, IsChained, Moves, all_parts, joined, moved, noted, parts_at, spent_view}
+use Rattle.nb_table.specs.Views.{HasMoved, IsChained, Moves, joined, moved, noted, spent_view}
 use Rattle.nb_table.specs.declared.chain.ChainSeat.TheInside as seat
 use Rattle.nb_table.specs.declared.view.Part.{Part}
 use Rattle.nb_table.specs.declared.view.View.{View}
