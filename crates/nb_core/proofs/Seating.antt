@@ -19,7 +19,9 @@ module _ {X : Type 0} (P : X → Type 0) where
   -- what holds of each element of two lists holds of each of the first
   pub All-left : (xs ys : List X) → All P (xs ++ ys) → All P xs
   All-left [] ys every = All-nil P
-  All-left (x ∷ xs) ys every = All-cons P x xs (All-head P x (xs ++ ys) every) (All-left xs ys (All-tail P x (xs ++ ys) every))
+  All-left (x ∷ xs) ys every =
+      All-cons P x xs (All-head P x (xs ++ ys) every)
+      (All-left xs ys (All-tail P x (xs ++ ys) every))
 
   -- and of the second
   pub All-right : (xs ys : List X) → All P (xs ++ ys) → All P ys
