@@ -13,10 +13,12 @@ use Rattle.nb_count.specs.declared.counter.CountSeat.TheInside as seat
 
 -- the seat that is dealt next
 module _ (s : seat.Inside) (number : ℕ) (me : s.seat.me ≡ (new_tally number ∷ [], [])) where
-  pub dealt-is_seat : (stripes : ℕ) → s.place ≡ stripe_of stripes number → s.seat.table_id.words ≡ SPREAD * stripes → IsSeat s
+  pub dealt-is_seat : (stripes : ℕ) → s.place ≡ stripe_of stripes number
+      → s.seat.table_id.words ≡ SPREAD * stripes → IsSeat s
   dealt-is_seat stripes place words =
       let tally : tally_of s.seat.me.0 ≡ new_tally number = ap (λ m. tally_of m.0) me in
-      let count : s.seat.table_id.words / SPREAD ≡ stripes = ap (λ n. n / SPREAD) words ∙ omega arith in
+      let count : s.seat.table_id.words / SPREAD ≡ stripes
+      = ap (λ n. n / SPREAD) words ∙ omega arith in
       record {
         one = me ∙ ap (λ t. (t ∷ [], [])) (sym tally);
         place = place ∙ (λ i. stripe_of (sym count i) (sym tally i).number);
@@ -26,7 +28,8 @@ module _ (s : seat.Inside) (number : ℕ) (me : s.seat.me ≡ (new_tally number 
   dealt-seat_of = ap (λ m. seat_with s.seat.table_id (tally_of m.0)) me
 
 -- the new seats of a counter are its own
-pub dealt-own : (counter : CounterOf) (dealt : List CountSeatOf) (count : ℕ) → dealt ≡ new_seats counter.id count → AreOwn counter dealt
+pub dealt-own : (counter : CounterOf) (dealt : List CountSeatOf) (count : ℕ)
+    → dealt ≡ new_seats counter.id count → AreOwn counter dealt
 dealt-own counter dealt count are =
     All-same (IsOwn counter) dealt (new_seats counter.id count) are
     (All-numbered (IsOwn counter) (new_seat counter.id) 0 count (λ n low high. refl))
@@ -42,5 +45,6 @@ zeros-at (suc n) zero i = refl
 zeros-at (suc n) (suc k) zero = refl
 zeros-at (suc n) (suc k) (suc i) = zeros-at n k i
 
-pub opens-zeros : (z : Size) → z.stripes ≤ 8 → AreSums z (opening (take (SPREAD * z.stripes) (replicate 64 0)) [] (new_tallies z.seats))
+pub opens-zeros : (z : Size) → z.stripes ≤ 8
+    → AreSums z (opening (take (SPREAD * z.stripes) (replicate 64 0)) [] (new_tallies z.seats))
 opens-zeros z few = opens z (take (SPREAD * z.stripes) (replicate 64 0)) (count-words z few) (zeros-at (SPREAD * z.stripes) 64)

@@ -9,9 +9,8 @@ use Rattle.std.specs.List.Sorted.{IsPermutation}
 use Rattle.atomic_table.specs.Seated.{TableId}
 use Rattle.atomic_table.specs.Table.{Final, Seen, State}
 use Rattle.atomic_table.specs.declared.shared.Seat.{Seat}
-use Rattle.nb_core.proofs.Seating.{all-there, gathered-first as first_gathered, gathered-more as more_gathered}
+use Rattle.nb_core.proofs.Seating.{all-there}
 use Rattle.nb_count.specs.Counts.{CountSeatOf, total_of}
-use Rattle.nb_count.specs.Gathered.{HasGathered}
 use Rattle.nb_count.specs.Inside.{IsSeat, seat_of, seat_with, tally_of}
 use Rattle.nb_count.specs.Tallies.{AreSums, StripesAreFree, StripesAreTheSum, added_by, all_of, served, sum_of_stripes, total, wrapped}
 use Rattle.nb_count.specs.declared.counter.CountSeat.TheInside as seat
@@ -23,49 +22,25 @@ use Rattle.nb_count.proofs.Sums.{all_served, over_stripes, total-map, total-perm
 -- ---- gathering
 
 -- what a counter's seat knows is the seat
-one-seat :
-    (counter : TableId) (s : seat.Inside) (next : CountSeatOf) → IsSeat s → seat_of s ≡ next → next.counter ≡ counter
-    → map (seat_with counter) s.seat.me.0 ≡ next ∷ []
+pub one-seat :
+    (counter : TableId) (s : seat.Inside) (next : CountSeatOf) → IsSeat s → seat_of s ≡ next
+    → next.counter ≡ counter → map (seat_with counter) s.seat.me.0 ≡ next ∷ []
 one-seat counter s next is_seat view own =
     let table : counter ≡ s.seat.table_id = sym (ap (λ v. v.counter) view ∙ own) in
-    ap (λ m. map (seat_with counter) m.0) is_seat.one ∙ ap (λ id. seat_with id (tally_of s.seat.me.0) ∷ []) table
+    ap (λ m. map (seat_with counter) m.0) is_seat.one
+    ∙ ap (λ id. seat_with id (tally_of s.seat.me.0) ∷ []) table
     ∙ ap (λ v. v ∷ []) view
 
--- one seat's token, where the others are left
-pub gathered-first :
-    (counter : TableId) (s : seat.Inside) (last : CountSeatOf) (left seats : List CountSeatOf) → IsSeat s → seat_of s ≡ last
-    → seats ≡ left ++ last ∷ [] → last.counter ≡ counter → HasGathered counter s.seat left seats
-gathered-first counter s last left seats is_seat view is own = record {
-  own = ap (λ v. v.counter) view ∙ own;
-  free = ap (λ m. m.1) is_seat.one;
-  are = first_gathered (seat_with counter) s.seat.me.0 last left seats (one-seat counter s last is_seat view own) is;
-}
-
--- one seat's token more
-pub gathered-more :
-    (counter : TableId) (token token' : Seat (Unit {0}) (List Tally)) (s : seat.Inside) (next : CountSeatOf)
-    (left left' seats : List CountSeatOf)
-    → HasGathered counter token left' seats → IsSeat s → seat_of s ≡ next → left' ≡ left ++ next ∷ [] → next.counter ≡ counter
-    → token'.table_id ≡ token.table_id → token'.me ≡ (token.me.0 ++ s.seat.me.0, token.me.1)
-    → HasGathered counter token' left seats
-gathered-more counter token token' s next left left' seats g is_seat view is own table me = record {
-  own = table ∙ g.own;
-  free = ap (λ m. m.1) me ∙ g.free;
-  are =
-      more_gathered (seat_with counter) token.me.0 token'.me.0 s.seat.me.0 next left left' seats g.are
-      (one-seat counter s next is_seat view own) is (ap (λ m. m.0) me);
-}
-
--- a token that has gathered all seats has as many tallies, and they have added as much
+-- a token that has the tallies of these seats has as many, and they have added as much
 pub gathered-all :
-    (counter : TableId) (token : Seat (Unit {0}) (List Tally)) (seats : List CountSeatOf) → HasGathered counter token [] seats
-    → (length token.me.0 ≡ length seats) × (added_by token.me.0 ≡ total_of seats)
-gathered-all counter token seats g =
-    let known = map (seat_with counter) token.me.0 in
-    let are = subst (λ k. IsPermutation k seats) (append-nil known) g.are in (
-      sym (length-map token.me.0 (seat_with counter)) ∙ sym (length_permutation known seats are),
-      sym (total-map (λ seat. seat.added) (seat_with counter) token.me.0)
-          ∙ total-permutation (λ seat. seat.added) known seats are,
+    (counter : TableId) (ts : List Tally) (seats : List CountSeatOf)
+    → IsPermutation (map (seat_with counter) ts) seats
+    → (length ts ≡ length seats) × (added_by ts ≡ total_of seats)
+gathered-all counter ts seats are =
+    let f : CountSeatOf → ℤ = λ seat. seat.added in
+    let known = map (seat_with counter) ts in (
+      sym (length-map ts (seat_with counter)) ∙ sym (length_permutation known seats are),
+      sym (total-map f (seat_with counter) ts) ∙ total-permutation f known seats are,
     )
 
 -- ---- the words
@@ -108,7 +83,8 @@ stripes_are_free y z s t y_positive z_positive y_rule z_rule same =
 whole-sum : (z : Size) (s : State (Unit {0}) (List Tally)) (id : ℕ) (ts : List Tally) → 1 ≤ z.stripes → AreSums z s → get_elem? s.views id ≡ some ts → length ts ≡ z.seats → sum_of_stripes s.words z.stripes % 2 ^ 64 ≡ wrapped (added_by ts)
 whole-sum z s id ts positive rule at all =
     let whole = all-there (λ ts. ts) s.views id ts at (rule.seats ∙ sym all) in
-    stripes_are_the_sum z s positive rule ∙ ap wrapped (total-permutation (λ t. t.added) (all_of s.views) ts whole)
+    stripes_are_the_sum z s positive rule
+    ∙ ap wrapped (total-permutation (λ t. t.added) (all_of s.views) ts whole)
 
 pub final-sum : (z : Size) (words : List ℕ) (slots : List (Unit {0})) (id : ℕ) (ts : List Tally) → 1 ≤ z.stripes → Final (Seen (AreSums z) id ts) words slots → length ts ≡ z.seats → sum_of_stripes words z.stripes % 2 ^ 64 ≡ wrapped (added_by ts)
 final-sum z words slots id ts positive final all =

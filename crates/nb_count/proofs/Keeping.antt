@@ -89,25 +89,29 @@ allows-look z slots id me t place one =
     subst (λ m. Allows (AreSums z) slots id m place (λ n. n) (HasLooked (step slots place 0 0 none) m)) (sym one)
     (λ s rule homes at word. (after_look t ∷ [], keeps, tt, look-keeps z s rule id t at place, refl))
 
--- The rule doesn't see which token has a tally: it is kept where all tokens together have the same tallies.
+-- The rule doesn't see which token has a tally, but all tokens' tallies together.
 kept :
     (z : Size) (s : State (Unit {0}) (List Tally)) (views : List (List Tally)) → AreSums z s
-    → IsPermutation (all_of s.views) (all_of views) → AreSums z record { words = s.words; homes = s.homes; views = views }
+    → IsPermutation (all_of s.views) (all_of views)
+    → AreSums z record { words = s.words; homes = s.homes; views = views }
 kept z s views rule are = record {
   words = rule.words;
-  sums = λ i below. rule.sums i below ∙ ap wrapped (total-permutation (served z.stripes i) (all_of s.views) (all_of views) are);
+  sums = λ i below. rule.sums i below
+      ∙ ap wrapped (total-permutation (served z.stripes i) (all_of s.views) (all_of views) are);
   seats = length_permutation (all_of s.views) (all_of views) are ∙ rule.seats;
 }
 
 -- a token gives its first tally away
 pub splits : (z : Size) (id : ℕ) (v : List Tally) → Splits (AreSums z) id v (drop 1 v) (take 1 v)
 splits z id v s rule at =
-    kept z s _ rule (all-split (λ ts. ts) s.views id v (drop 1 v) (take 1 v) at (sym (take-append-drop 1 v)))
+    kept z s _ rule
+    (all-split (λ ts. ts) s.views id v (drop 1 v) (take 1 v) at (sym (take-append-drop 1 v)))
 
 -- a token takes in those of another
 pub joins : (z : Size) (id : ℕ) (v : List Tally) (other : ℕ) (w : List Tally) → Joins (AreSums z) id v other w (v ++ w) []
 joins z id v other w s rule at differs other_at =
-    kept z s _ rule (all-joined (λ ts. ts) s.views id v other w (v ++ w) [] at differs other_at refl refl)
+    kept z s _ rule
+    (all-joined (λ ts. ts) s.views id v other w (v ++ w) [] at differs other_at refl refl)
 
 -- ---- the start
 
@@ -115,20 +119,26 @@ same-choice : (b : Bool) (x : ℤ) → cond b x x ≡ x
 same-choice true x = refl
 same-choice false x = refl
 
-total-new : (stripes i first count : ℕ) → total (served stripes i) (map new_tally (range_with_len first count)) ≡ pos 0
+total-new : (stripes i first count : ℕ)
+    → total (served stripes i) (map new_tally (range_with_len first count)) ≡ pos 0
 total-new stripes i first zero = refl
 total-new stripes i first (suc count) =
-    omega (arith, ints, same-choice (eqb (stripe_of stripes first) i) (pos 0), total-new stripes i (first + 1) count)
+    let none = same-choice (eqb (stripe_of stripes first) i) (pos 0) in
+    omega (arith, ints, none, total-new stripes i (first + 1) count)
 
 -- all words 0, and nothing added
 pub opens :
-    (z : Size) (words : List ℕ) → length words ≡ SPREAD * z.stripes → ((i : ℕ) → slice_index words i ≡ 0)
+    (z : Size) (words : List ℕ) → length words ≡ SPREAD * z.stripes
+    → ((i : ℕ) → slice_index words i ≡ 0)
     → AreSums z (opening words [] (new_tallies z.seats))
 opens z words count zeros =
-    let all : all_of (new_tallies z.seats ∷ []) ≡ new_tallies z.seats = append-nil (new_tallies z.seats) in
+    let all : all_of (new_tallies z.seats ∷ []) ≡ new_tallies z.seats
+    = append-nil (new_tallies z.seats) in
     record {
       words = count;
-      sums = λ i below. zeros i ∙ ap wrapped (sym (ap (total (served z.stripes i)) all ∙ total-new z.stripes i 0 z.seats));
+      sums = λ i below.
+          let none = ap (total (served z.stripes i)) all ∙ total-new z.stripes i 0 z.seats in
+          zeros i ∙ ap wrapped (sym none);
       seats = ap length all ∙ length-map-range_with_len new_tally 0 z.seats;
     }
 

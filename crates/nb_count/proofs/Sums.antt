@@ -35,11 +35,13 @@ module _ {X : Type 0} (f : X → ℤ) where
   total-append [] ys = omega (arith, ints)
   total-append (x ∷ xs) ys = omega (arith, ints, total-append xs ys)
 
-  pub total-map : {Y : Type 0} (g : Y → X) (ys : List Y) → total f (map g ys) ≡ total (λ y. f (g y)) ys
+  pub total-map : {Y : Type 0} (g : Y → X) (ys : List Y)
+      → total f (map g ys) ≡ total (λ y. f (g y)) ys
   total-map g [] = refl
   total-map g (y ∷ ys) = ap (λ z. f (g y) +ℤ z) (total-map g ys)
 
-  total-difference : (xs : List X) → total f xs +ℤ pos (sum_by (λ x. below (f x)) xs) ≡ pos (sum_by (λ x. above (f x)) xs)
+  total-difference : (xs : List X)
+      → total f xs +ℤ pos (sum_by (λ x. below (f x)) xs) ≡ pos (sum_by (λ x. above (f x)) xs)
   total-difference [] = refl
   total-difference (x ∷ xs) =
       omega (
@@ -65,7 +67,8 @@ module _ {X : Type 0} (f : X → ℤ) where
 
 -- what one token's tallies make of the sum over all tokens
 pub total-set :
-    (f : Tally → ℤ) (views : List (List Tally)) (id : ℕ) (v w : List Tally) → get_elem? views id ≡ some v
+    (f : Tally → ℤ) (views : List (List Tally)) (id : ℕ) (v w : List Tally)
+    → get_elem? views id ≡ some v
     → total f (all_of (slice_set views id w)) +ℤ total f v ≡ total f (all_of views) +ℤ total f w
 total-set f views id v w at =
     let there = apart (λ ts. ts) views id v at in

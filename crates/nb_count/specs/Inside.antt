@@ -27,7 +27,8 @@ tally_of (t ∷ ts) = t
 
 -- a counter's seat of which this tally is known
 abbrev pub seat_with : TableId → Tally → CountSeatOf
-seat_with counter t = record { counter = counter; number = t.number; added = t.added; adds = t.adds; steps = t.steps }
+seat_with counter t =
+    record { counter = counter; number = t.number; added = t.added; adds = t.adds; steps = t.steps }
 
 abbrev pub seat_of : seat.Inside → CountSeatOf
 seat_of c = seat_with c.seat.table_id (tally_of c.seat.me.0)

@@ -1,7 +1,7 @@
 //! The counter and its seats.
-ghost use Rattle.std.specs.Prelude.{◌≡◌, ◌*◌, ◌%◌, ◌^◌, ◌<◌, ◌≤◌, ◌↔◌, [], length, IfOk, IfErr, true, is_ok};
+ghost use Rattle.std.specs.Prelude.{◌≡◌, ◌*◌, ◌%◌, ◌^◌, ◌<◌, ◌≤◌, ◌↔◌, [], length, map, IsPermutation, IfOk, IfErr, true, is_ok};
 ghost use Rattle.nb_count.specs.Counts.{AreOwn, IsOwn, new_seats, total_of, with_added, with_looks};
-ghost use Rattle.nb_count.specs.Gathered.{HasGathered};
+ghost use Rattle.nb_count.specs.Inside.{seat_with};
 ghost use Rattle.nb_count.specs.Tallies.{sum_of_stripes, wrapped};
 ghost use Rattle.std.specs.Mem.Slots.{IsFull, slots_items, slots_len};
 
@@ -133,7 +133,9 @@ impl Counter {
     fn gather(&self, seats: Vec<CountSeat>) -> Seat<(), Tallies>
         requires own { AreOwn self.now seats.items }
         requires some { 0 < length seats.items }
-        ensures { HasGathered self.now.id result [] seats.items }
+        ensures own { result.table_id ≡ self.now.id }
+        ensures free { result.me.1 ≡ [] }
+        ensures all { IsPermutation (map (seat_with self.now.id) result.me.0) seats.items }
     {
         let mut seats = seats;
         let last = seats.pop().unwrap();

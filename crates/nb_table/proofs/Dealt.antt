@@ -17,15 +17,18 @@ module _
   parts = ap (λ m. m.0.parts) me ∙ next
 
   pub dealt-is_seat : IsSeat s
-  dealt-is_seat = record { one = parts ∙ ap (λ ps. part_of ps ∷ []) (sym parts); free = ap (λ m. m.1) me }
+  dealt-is_seat =
+      record { one = parts ∙ ap (λ ps. part_of ps ∷ []) (sym parts); free = ap (λ m. m.1) me }
 
   pub dealt-seat_of : seat_of s ≡ new_seat s.seat.table_id number
   dealt-seat_of = ap (λ ps. seat_with s.seat.table_id (part_of ps)) parts
 
 -- the new seats of a chain are its own
 pub dealt-own :
-    (chain : ChainOf) → IsPlan chain.shape → (dealt : List SeenBy) (count : ℕ) → dealt ≡ new_seats chain.id count
+    (chain : ChainOf) → IsPlan chain.shape → (dealt : List SeenBy) (count : ℕ)
+    → dealt ≡ new_seats chain.id count
     → AreOwn chain dealt
 dealt-own chain plan dealt count are =
     All-same (IsOwn chain) dealt (new_seats chain.id count) are
-    (All-numbered (IsOwn chain) (new_seat chain.id) 0 count (λ n low high. record { at = refl; plan = plan; legal = tt }))
+    (All-numbered (IsOwn chain) (new_seat chain.id) 0 count
+    (λ n low high. record { at = refl; plan = plan; legal = tt }))

@@ -17,7 +17,7 @@ use Rattle.nb_core.specs.Tables.{words_of}
 use Rattle.nb_core.specs.declared.events.Event.{Event}
 use Rattle.nb_table.specs.Chains.{SeenBy}
 use Rattle.nb_table.specs.Closing.{most_seen}
-use Rattle.nb_table.specs.Gathered.{ClosedWith, HasGathered}
+use Rattle.nb_table.specs.Gathered.{ClosedWith}
 use Rattle.nb_table.specs.Inside.{IsSeat, part_of, seat_of, seat_with}
 use Rattle.nb_table.specs.Left.{ClosedOf}
 use Rattle.nb_core.specs.Log.{IsBeginning}
@@ -25,42 +25,18 @@ use Rattle.nb_table.specs.Views.{HasSeen, IsChained, all_parts, joined}
 use Rattle.nb_table.specs.declared.chain.ChainSeat.TheInside as seat
 use Rattle.nb_table.specs.declared.view.Part.{Part}
 use Rattle.nb_table.specs.declared.view.View.{View}
-use Rattle.nb_core.proofs.Seating.{All-unmap, all-there as has-all, and_then, back, count-map, gathered-first as first_gathered, gathered-more as more_gathered}
+use Rattle.nb_core.proofs.Seating.{All-unmap, all-there as has-all, and_then, back, count-map}
 
 -- ---- gathering
 
 -- what a token of a chain's seat knows is the seat
-one-seat :
+pub one-seat :
     (chain : TableId) (s : seat.Inside) (next : SeenBy) → IsSeat s → seat_of s ≡ next → next.chain ≡ chain
     → map (seat_with chain) s.seat.me.0.parts ≡ next ∷ []
 one-seat chain s next is_seat view own =
     let part = part_of s.seat.me.0.parts in
     let table : chain ≡ s.seat.table_id = sym (ap (λ v. v.chain) view ∙ own) in
     ap (map (seat_with chain)) is_seat.one ∙ ap (λ id. seat_with id part ∷ []) table ∙ ap (λ v. v ∷ []) view
-
--- one seat's token, where the others are left
-pub gathered-first :
-    (chain : TableId) (s : seat.Inside) (last : SeenBy) (left seats : List SeenBy) → IsSeat s → seat_of s ≡ last
-    → seats ≡ left ++ last ∷ [] → last.chain ≡ chain → HasGathered chain s.seat left seats
-gathered-first chain s last left seats is_seat view is own = record {
-  own = ap (λ v. v.chain) view ∙ own;
-  free = is_seat.free;
-  are = first_gathered (seat_with chain) s.seat.me.0.parts last left seats (one-seat chain s last is_seat view own) is;
-}
-
--- one seat's token more
-pub gathered-more :
-    (chain : TableId) (token token' : Seat (Unit {0}) View) (s : seat.Inside) (next : SeenBy) (left left' seats : List SeenBy)
-    → HasGathered chain token left' seats → IsSeat s → seat_of s ≡ next → left' ≡ left ++ next ∷ [] → next.chain ≡ chain
-    → token'.table_id ≡ token.table_id → token'.me ≡ (joined token.me.0 s.seat.me.0, token.me.1)
-    → HasGathered chain token' left seats
-gathered-more chain token token' s next left left' seats g is_seat view is own table me = record {
-  own = table ∙ g.own;
-  free = ap (λ m. m.1) me ∙ g.free;
-  are =
-      more_gathered (seat_with chain) token.me.0.parts token'.me.0.parts s.seat.me.0.parts next left left' seats g.are
-      (one-seat chain s next is_seat view own) is (ap (λ m. m.0.parts) me);
-}
 
 -- ---- the history
 
@@ -116,7 +92,7 @@ whole-beginning seen h b long =
 
 module _ (p : Plan) (s : State (Unit {0}) View) (rule : IsChained p s) (token : Seat (Unit {0}) View)
     (at : get_elem? s.views token.id ≡ some token.me.0) (chain : TableId) (seats : List SeenBy)
-    (gathered : HasGathered chain token [] seats) (all : length seats ≡ p.seats) where
+    (known : IsPermutation (map (seat_with chain) token.me.0.parts) seats) (all : length seats ≡ p.seats) where
   abbrev knows : Part → SeenBy
   knows = seat_with chain
 
@@ -124,11 +100,11 @@ module _ (p : Plan) (s : State (Unit {0}) View) (rule : IsChained p s) (token : 
   all-there : IsPermutation (map knows (all_parts s.views)) seats
   all-there =
       let parts = token.me.0.parts in
-      let known = subst (λ known. IsPermutation known seats) (append-nil (map knows parts)) gathered.are in
       let many : length (all_parts s.views) ≡ length parts
-      = rule.count ∙ sym all ∙ length_permutation (map knows parts) seats known ∙ length-map parts knows in
-      and_then (IsPermutation-map knows (all_parts s.views) parts (has-all (λ view. view.parts) s.views token.id token.me.0 at many))
-      known
+      = rule.count ∙ sym all ∙ length_permutation (map knows parts) seats known
+      ∙ length-map parts knows in
+      let are = has-all (λ view. view.parts) s.views token.id token.me.0 at many in
+      and_then (IsPermutation-map knows (all_parts s.views) parts are) known
 
   -- each seat fits the history
   all-fit : All (FitsSeat rule.history) seats
@@ -156,13 +132,15 @@ module _ (p : Plan) (s : State (Unit {0}) View) (rule : IsChained p s) (token : 
 
   times-there : (n : ℕ) → n < p.seats → count_by (λ seat. seat.number == n) seats ≡ 1
   times-there n below =
-      sum_by-IsPermutation (λ (seat : SeenBy). cond (seat.number == n) 1 0) (map knows (all_parts s.views)) seats all-there
+      sum_by-IsPermutation (λ (seat : SeenBy). cond (seat.number == n) 1 0)
+      (map knows (all_parts s.views)) seats all-there
       ∙ count-map (λ seat. seat.number == n) knows (all_parts s.views) ∙ rule.once n below
 
 -- what is left of a chain, where one token has gathered all seats
 pub closed-with :
     (closed : ClosedOf) → IsPlan closed.shape → (key : Plan) → key ≡ closed.shape → (chain : TableId) (token : Seat (Unit {0}) View)
-    (seats : List SeenBy) (slots : List (Unit {0})) → HasGathered chain token [] seats → length seats ≡ closed.shape.seats
+    (seats : List SeenBy) (slots : List (Unit {0}))
+    → IsPermutation (map (seat_with chain) token.me.0.parts) seats → length seats ≡ closed.shape.seats
     → closed.history ≡ most_seen seats
     → Final (Seen (IsChained key) token.id token.me.0) closed.words slots → ClosedWith seats closed
 closed-with closed plan key same chain token seats slots g all history final =

@@ -41,7 +41,8 @@ notes p id v = split-keeps p id v v (noted v) refl (λ h fits told. (told, noted
 pub joins : (p : Plan) (id : ℕ) (v : View) (other : ℕ) (w : View) → Joins (IsChained p) id v other w (joined v w) spent_view
 joins p id v other w s rule at differs other_at =
     kept p s (slice_set (slice_set s.views id (joined v w)) other spent_view) rule
-    (all-joined (λ view. view.parts) s.views id v other w (joined v w) spent_view at differs other_at refl refl)
+    (all-joined (λ view. view.parts) s.views id v other w (joined v w) spent_view at differs
+    other_at refl refl)
     (All-set (IsTold rule.history) (slice_set s.views id (joined v w)) other spent_view
     (All-nil (λ seen. IsBeginning seen rule.history)) (All-set (IsTold rule.history) s.views id (joined v w) told rule.told))
   where

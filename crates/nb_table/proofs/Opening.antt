@@ -29,7 +29,8 @@ none-made first zero = refl
 none-made first (suc count) =
     omega (
       arith,
-      sum_by-cons (λ part. part.steps) (new_part first) (map new_part (range_with_len (first + 1) count)),
+      sum_by-cons (λ part. part.steps) (new_part first)
+      (map new_part (range_with_len (first + 1) count)),
       none-made (first + 1) count,
     )
 
@@ -43,22 +44,26 @@ pub opens :
     (p : Plan) (words : List ℕ) → 1 ≤ p.seats → words ≡ replicate (word_count p) 0
     → IsChained p (opening words [] (first_view p.seats))
 opens p words some zeros =
-    let parts : all_parts (first_view p.seats ∷ []) ≡ new_parts p.seats = append-nil (new_parts p.seats) in
+    let parts : all_parts (first_view p.seats ∷ []) ≡ new_parts p.seats
+    = append-nil (new_parts p.seats) in
     let made : all_steps (all_parts (first_view p.seats ∷ [])) ≡ 0 = ap all_steps parts ∙ none-made 0 p.seats in
-    let all : (P : Part → Type 0) → ((n : ℕ) → n < p.seats → P (new_part n)) → All P (all_parts (first_view p.seats ∷ []))
-    = λ P each. All-same P _ _ parts (All-numbered P new_part 0 p.seats (λ n low high. each n (omega arith))) in
+    let all : (P : Part → Type 0) → ((n : ℕ) → n < p.seats → P (new_part n))
+    → All P (all_parts (first_view p.seats ∷ []))
+    = λ P each. All-same P _ _ parts
+    (All-numbered P new_part 0 p.seats (λ n low high. each n (omega arith))) in
     record {
       history = [];
       legal = tt;
       words = zeros;
       seen = all (Fits []) (λ n within. fits-none n);
       told = All-cons (IsTold []) (first_view p.seats) [] (All-nil (λ seen. IsBeginning seen [])) (All-nil (IsTold []));
-      steps = all (λ part. part.last_step ≤ all_steps (all_parts (first_view p.seats ∷ []))) (λ n within. omega arith);
+      steps = all (λ part. part.last_step ≤ all_steps (all_parts (first_view p.seats ∷ [])))
+          (λ n within. omega arith);
       last = (new_part 0, subst (λ all. Contains all (new_part 0)) (sym parts) (has-first p.seats some), sym made, refl);
       numbers = all (λ part. part.number < p.seats) (λ n within. within);
       once = λ n within.
           ap (times_among n) parts
-          ∙ numbered-once new_part (λ part. part.number) (λ m. refl) n 0 p.seats (omega arith) (omega arith);
+          ∙ numbered-once new_part (λ part. part.number) (λ m. refl) n p.seats within;
       count = ap length parts ∙ length-map-range_with_len new_part 0 p.seats;
     }
 
@@ -104,9 +109,11 @@ pub split-keeps :
     → Splits (IsChained p) id v left right
 split-keeps p id v left right parts hears s rule at =
     let views = slice_set s.views id left in
-    let told = hears rule.history (All-of-one (λ view. view.parts) (Fits rule.history) s.views id v at rule.seen)
+    let told = hears rule.history
+    (All-of-one (λ view. view.parts) (Fits rule.history) s.views id v at rule.seen)
     (All-at (IsTold rule.history) s.views id v at rule.told) in
-    kept p s (views ++ right ∷ []) rule (all-split (λ view. view.parts) s.views id v left right at parts)
+    kept p s (views ++ right ∷ []) rule
+    (all-split (λ view. view.parts) s.views id v left right at parts)
     (All-push (IsTold rule.history) views right (All-set (IsTold rule.history) s.views id left told.0 rule.told) told.1)
 
 -- the first part goes to a new token

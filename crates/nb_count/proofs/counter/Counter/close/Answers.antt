@@ -10,7 +10,7 @@ gather-all-requires-clause-some c = omega (arith, c.self.invariant.seated, c.len
 pub returns-clause-sum : goal.returns-clause-sum
 returns-clause-sum c =
     let key = c.self.invariant.key in
-    let given = gathered-all _ _ _ c.gather-all.ensures in
+    let given = gathered-all _ _ _ c.gather-all.ensures.all in
     let count : length c.gather-all.result.me.0 ≡ c.self.inside.table.shared.key.seats
     = omega (arith, given.0, c.len.ensures, ap (λ z. z.seats) key) in
     let positive : 1 ≤ c.self.inside.table.shared.key.stripes = omega (arith, c.self.invariant.some, ap (λ z. z.stripes) key) in

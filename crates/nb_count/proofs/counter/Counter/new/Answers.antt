@@ -20,37 +20,47 @@ loop-number-init c = (
 pub split_seat-seat-requires : goal.split_seat-seat-requires
 split_seat-seat-requires c =
     let count = count-words (record { stripes = c.args.stripes; seats = c.args.seats }) c.requires.stripes.1 in
-    (c.loop-number.invariant.0, omega (arith, c.in_ok-table.ensures.0, count, c.requires.stripes.0), splits _ _ _)
+    let words = c.in_ok-table.ensures.0 in
+    (c.loop-number.invariant.0, omega (arith, words, count, c.requires.stripes.0), splits _ _ _)
 
 pub invariant_of-push_reserved : goal.invariant_of-push_reserved
 invariant_of-push_reserved c =
     let s : Inside = record { place = SPREAD * (c.loop-number.number % c.args.stripes); seat = c.split_seat-seat.result } in
     let next = dealing-next c.loop-number.invariant.1 c.loop-number-test.true in
-    let count = count-words (record { stripes = c.args.stripes; seats = c.args.seats }) c.requires.stripes.1 in
+    let count = count-words (record { stripes = c.args.stripes; seats = c.args.seats })
+    c.requires.stripes.1 in
     let table = c.split_seat-seat.ensures.3 ∙ c.loop-number.invariant.0 in
-    dealt-is_seat s c.loop-number.number (c.split_seat-seat.ensures.4 ∙ ap (λ ts. (ts, [])) next) c.args.stripes refl
+    dealt-is_seat s c.loop-number.number (c.split_seat-seat.ensures.4 ∙ ap (λ ts. (ts, [])) next)
+    c.args.stripes refl
     (ap (λ t. t.words) table ∙ c.in_ok-table.ensures.0 ∙ count)
 
 pub push_reserved-requires : goal.push_reserved-requires
 push_reserved-requires c =
-    omega (arith, dealing-count c.loop-number.invariant.1, c.loop-number.invariant.2, c.loop-number-test.true)
+    let count = dealing-count c.loop-number.invariant.1 in
+    omega (arith, count, c.loop-number.invariant.2, c.loop-number-test.true)
 
 pub loop-number-preserved : goal.loop-number-preserved
 loop-number-preserved c =
-    let s : Inside = record { place = SPREAD * (c.loop-number.number % c.args.stripes); seat = c.split_seat-seat.result } in
+    let place = SPREAD * (c.loop-number.number % c.args.stripes) in
+    let s : Inside = record { place = place; seat = c.split_seat-seat.result } in
     let dealing = c.loop-number.invariant.1 in
     let next = dealing-next dealing c.loop-number-test.true in
-    let seat = dealt-seat_of s c.loop-number.number (c.split_seat-seat.ensures.4 ∙ ap (λ ts. (ts, [])) next)
-    ∙ ap (λ id. new_seat id c.loop-number.number) (c.split_seat-seat.ensures.3 ∙ c.loop-number.invariant.0) in (
-      c.split_seat-seat.ensures.0 ∙ c.loop-number.invariant.0,
-      dealing-more dealing c.loop-number-test.true (ap (λ m. m.0) c.split_seat-seat.ensures.2) c.push_reserved.ensures.items seat,
+    let number = c.loop-number.number in
+    let own = c.loop-number.invariant.0 in
+    let seat = dealt-seat_of s number (c.split_seat-seat.ensures.4 ∙ ap (λ ts. (ts, [])) next)
+    ∙ ap (λ id. new_seat id number) (c.split_seat-seat.ensures.3 ∙ own) in (
+      c.split_seat-seat.ensures.0 ∙ own,
+      dealing-more dealing c.loop-number-test.true (ap (λ m. m.0) c.split_seat-seat.ensures.2)
+          c.push_reserved.ensures.items seat,
       omega (arith, c.loop-number.invariant.2, c.push_reserved.ensures.capacity),
     )
 
 pub returns-clause-seats : goal.returns-clause-seats
-returns-clause-seats c = dealing-done c.loop-number.invariant.1 c.loop-number-test.false c.loop-number.auto.number-end
+returns-clause-seats c =
+    dealing-done c.loop-number.invariant.1 c.loop-number-test.false c.loop-number.auto.number-end
 
 pub returns-clause-own : goal.returns-clause-own
 returns-clause-own c =
-    let are = dealing-done c.loop-number.invariant.1 c.loop-number-test.false c.loop-number.auto.number-end in
-    dealt-own (record { id = c.in_ok-table.table.shared.table_id; stripes = c.args.stripes; seats = c.args.seats }) _ c.args.seats are
+    let id = c.in_ok-table.table.shared.table_id in
+    dealt-own (record { id = id; stripes = c.args.stripes; seats = c.args.seats }) _ c.args.seats
+    (returns-clause-seats c)

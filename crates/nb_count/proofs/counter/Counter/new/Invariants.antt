@@ -8,5 +8,6 @@ use Rattle.nb_count.proofs.counter.Counter.new.Given as goal
 abbrev pub invariant-loop-number : goal.invariant-loop-number
 invariant-loop-number l =
     let id = l.counter-inside.table.shared.table_id in
-    (l.rest.table_id ≡ id) × IsDealing new_tally (new_seat id) l.seats l.rest.me.0 l.dealt.items l.number
+    (l.rest.table_id ≡ id)
+    × IsDealing new_tally (new_seat id) l.seats l.rest.me.0 l.dealt.items l.number
     × (l.seats ≤ vec_capacity l.dealt)

@@ -1,6 +1,6 @@
 use Rattle.std.proofs.Common.{◌∙◌, ◌<◌, ap, arith, replicate}
 use Rattle.nb_core.proofs.Seating.{dealing-count, dealing-done, dealing-first, dealing-more, dealing-next}
-use Rattle.nb_table.specs.Chains.{new_seat}
+use Rattle.nb_table.specs.Chains.{ChainOf, new_seat}
 use Rattle.nb_table.specs.declared.chain.ChainSeat.TheInside.{Inside}
 use Rattle.nb_table.proofs.Opening.{count-words, deals, opens, some-words}
 use Rattle.nb_table.proofs.Dealt.{dealt-is_seat, dealt-own, dealt-seat_of}
@@ -48,8 +48,8 @@ pub invariant_of-push_reserved : goal.invariant_of-push_reserved
 invariant_of-push_reserved c =
     let below : c.loop-number._number < c.args.shape.seats
     = omega (arith, c.loop-number-test.true, c.seats-number-end.ensures.number) in
-    dealt-is_seat (record { seat = c.split_seat-seat.result }) c.loop-number.rest.me.0 c.loop-number._number
-    c.split_seat-seat.ensures.4 (dealing-next c.loop-number.invariant.1 below)
+    dealt-is_seat (record { seat = c.split_seat-seat.result }) c.loop-number.rest.me.0
+    c.loop-number._number c.split_seat-seat.ensures.4 (dealing-next c.loop-number.invariant.1 below)
 
 pub push_reserved-requires : goal.push_reserved-requires
 push_reserved-requires c =
@@ -65,21 +65,26 @@ pub loop-number-preserved : goal.loop-number-preserved
 loop-number-preserved c =
     let number = c.loop-number._number in
     let dealing = c.loop-number.invariant.1 in
-    let below : number < c.args.shape.seats = omega (arith, c.loop-number-test.true, c.seats-number-end.ensures.number) in
+    let below : number < c.args.shape.seats
+    = omega (arith, c.loop-number-test.true, c.seats-number-end.ensures.number) in
     let s : Inside = record { seat = c.split_seat-seat.result } in
-    let seat = dealt-seat_of s c.loop-number.rest.me.0 number c.split_seat-seat.ensures.4 (dealing-next dealing below)
+    let seat = dealt-seat_of s c.loop-number.rest.me.0 number c.split_seat-seat.ensures.4
+    (dealing-next dealing below)
     ∙ ap (λ id. new_seat id number) (c.split_seat-seat.ensures.3 ∙ c.loop-number.invariant.0) in (
       c.split_seat-seat.ensures.0 ∙ c.loop-number.invariant.0,
-      dealing-more dealing below (ap (λ m. m.0.parts) c.split_seat-seat.ensures.2) c.push_reserved.ensures.items seat,
+      dealing-more dealing below (ap (λ m. m.0.parts) c.split_seat-seat.ensures.2)
+          c.push_reserved.ensures.items seat,
       omega (arith, c.loop-number.invariant.2, c.push_reserved.ensures.capacity),
     )
 
 pub returns-clause-seats : goal.returns-clause-seats
 returns-clause-seats c =
-    dealing-done c.loop-number.invariant.1 (omega (arith, c.loop-number-test.false, c.seats-number-end.ensures.number))
+    dealing-done c.loop-number.invariant.1
+    (omega (arith, c.loop-number-test.false, c.seats-number-end.ensures.number))
     (omega (arith, c.loop-number.auto._number-end, c.seats-number-end.ensures.number))
 
 pub returns-clause-own : goal.returns-clause-own
 returns-clause-own c =
     let p = c.args.shape in
-    dealt-own (record { id = c.in_ok-table.table.shared.table_id; shape = p }) c.seats.ensures.plan _ p.seats (returns-clause-seats c)
+    let chain : ChainOf = record { id = c.in_ok-table.table.shared.table_id; shape = p } in
+    dealt-own chain c.seats.ensures.plan _ p.seats (returns-clause-seats c)

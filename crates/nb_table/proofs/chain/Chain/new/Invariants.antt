@@ -8,5 +8,7 @@ use Rattle.nb_table.proofs.chain.Chain.new.Given as goal
 abbrev pub invariant-loop-number : goal.invariant-loop-number
 invariant-loop-number l =
     let id = l.chain-inside.table.shared.table_id in
-    (l.rest.table_id ≡ id) × IsDealing new_part (new_seat id) l.chain-inside.shape.seats l.rest.me.0.parts l.dealt.items l._number
-    × (l.chain-inside.shape.seats ≤ vec_capacity l.dealt)
+    let seats = l.chain-inside.shape.seats in
+    (l.rest.table_id ≡ id)
+    × IsDealing new_part (new_seat id) seats l.rest.me.0.parts l.dealt.items l._number
+    × (seats ≤ vec_capacity l.dealt)
