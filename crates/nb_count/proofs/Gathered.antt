@@ -1,14 +1,13 @@
 -- One token gathers the tallies of all seats, and the words that are left stand for their sum.
-use Rattle.std.proofs.Common.{◌≡◌, ◌∙◌, ℕ, zero, suc, ◌+◌, ◌*◌, ◌%◌, ◌^◌, ◌<◌, ◌≤◌, ap, sym, subst, List, [], ◌∷◌, ◌++◌, map, length, get_or, slice_index, ℤ, ◌+ℤ◌, add-one, refl, arith}
+use Rattle.std.proofs.Common.{◌≡◌, ◌∙◌, ℕ, zero, suc, ◌+◌, ◌*◌, ◌%◌, ◌^◌, ◌<◌, ◌≤◌, ap, sym, List, [], ◌∷◌, map, length, get_or, slice_index, ℤ, ◌+ℤ◌, add-one, refl, arith}
 use lib.ListN.{get_elem?}
 use mathlib.Core.Option.{some, some-injective, some-ne-none}
 use Rattle.std.proofs.Math.Nat.{add-mod, mod-add-mod, mod-eq_of_lt}
-use Rattle.std.proofs.lemmas.List.{append-nil, length-map}
+use Rattle.std.proofs.lemmas.List.{length-map}
 use Rattle.std.proofs.lemmas.List.Sorted.{length_permutation}
 use Rattle.std.specs.List.Sorted.{IsPermutation}
 use Rattle.atomic_table.specs.Seated.{TableId}
 use Rattle.atomic_table.specs.Table.{Final, Seen, State}
-use Rattle.atomic_table.specs.declared.shared.Seat.{Seat}
 use Rattle.nb_core.proofs.Seating.{all-there}
 use Rattle.nb_count.specs.Counts.{CountSeatOf, total_of}
 use Rattle.nb_count.specs.Inside.{IsSeat, seat_of, seat_with, tally_of}

@@ -21,7 +21,7 @@ use Rattle.nb_table.specs.Gathered.{ClosedWith}
 use Rattle.nb_table.specs.Inside.{IsSeat, part_of, seat_of, seat_with}
 use Rattle.nb_table.specs.Left.{ClosedOf}
 use Rattle.nb_core.specs.Log.{IsBeginning}
-use Rattle.nb_table.specs.Views.{HasSeen, IsChained, all_parts, joined}
+use Rattle.nb_table.specs.Views.{HasSeen, IsChained, all_parts}
 use Rattle.nb_table.specs.declared.chain.ChainSeat.TheInside as seat
 use Rattle.nb_table.specs.declared.view.Part.{Part}
 use Rattle.nb_table.specs.declared.view.View.{View}
@@ -92,7 +92,8 @@ whole-beginning seen h b long =
 
 module _ (p : Plan) (s : State (Unit {0}) View) (rule : IsChained p s) (token : Seat (Unit {0}) View)
     (at : get_elem? s.views token.id ≡ some token.me.0) (chain : TableId) (seats : List SeenBy)
-    (known : IsPermutation (map (seat_with chain) token.me.0.parts) seats) (all : length seats ≡ p.seats) where
+    (known : IsPermutation (map (seat_with chain) token.me.0.parts) seats)
+    (all : length seats ≡ p.seats) where
   abbrev knows : Part → SeenBy
   knows = seat_with chain
 
@@ -140,8 +141,8 @@ module _ (p : Plan) (s : State (Unit {0}) View) (rule : IsChained p s) (token : 
 pub closed-with :
     (closed : ClosedOf) → IsPlan closed.shape → (key : Plan) → key ≡ closed.shape → (chain : TableId) (token : Seat (Unit {0}) View)
     (seats : List SeenBy) (slots : List (Unit {0}))
-    → IsPermutation (map (seat_with chain) token.me.0.parts) seats → length seats ≡ closed.shape.seats
-    → closed.history ≡ most_seen seats
+    → IsPermutation (map (seat_with chain) token.me.0.parts) seats
+    → length seats ≡ closed.shape.seats → closed.history ≡ most_seen seats
     → Final (Seen (IsChained key) token.id token.me.0) closed.words slots → ClosedWith seats closed
 closed-with closed plan key same chain token seats slots g all history final =
     let p = closed.shape in

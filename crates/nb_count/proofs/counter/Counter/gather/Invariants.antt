@@ -7,9 +7,9 @@ use Rattle.nb_count.proofs.counter.Counter.gather.Given as goal
 -- the token has the tallies of all seats but those that are left
 abbrev pub invariant-loop-other : goal.invariant-loop-other
 invariant-loop-other l =
+    let known = map (seat_with l.fn.self.id) l.seat.me.0 in
     (l.seat.table_id ≡ l.fn.self.id) × (l.seat.me.1 ≡ [])
-    × IsPermutation (map (seat_with l.fn.self.id) l.seat.me.0 ++ l.seats.items) l.fn.seats.items
-    × AreOwn l.fn.self l.seats.items
+    × IsPermutation (known ++ l.seats.items) l.fn.seats.items × AreOwn l.fn.self l.seats.items
 
 abbrev pub decreases-loop-other : goal.decreases-loop-other
 decreases-loop-other l = goal.left-loop-other l
