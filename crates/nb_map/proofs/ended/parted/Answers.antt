@@ -19,7 +19,8 @@ loop-seat-preserved c =
     let next = c.in-Some.ensures.steps.0 in (
       tt,
       tt,
-      moved-more c.loop-seat.invariant.2 next (ap (λ seat. seat.chain) (sym c.seat.view_is)) c.push_reserved.ensures.items,
+      moved-more c.loop-seat.invariant.2 next (ap (λ seat. seat.chain) (sym c.seat.view_is))
+          c.push_reserved.ensures.items,
       moved-more c.loop-seat.invariant.3 next (ap (λ seat. seat.count) (sym c.seat.view_is))
           c.push_reserved-in-loop-seat.ensures.items,
       omega (arith, c.loop-seat.invariant.4, c.push_reserved.ensures.capacity),

@@ -4,7 +4,7 @@ use Rattle.nb_core.specs.Plans.{IsPlan}
 use Rattle.nb_count.specs.Counts as counts
 use Rattle.nb_table.specs.Chains as chains
 use Rattle.nb_table.specs.Inside.{chain_of}
-use Rattle.nb_map.specs.Maps.{new_seats}
+use Rattle.nb_map.specs.Maps.{MapOf, new_seats}
 use Rattle.nb_map.proofs.Paired.{dealing-count, dealing-done, dealing-first, dealing-more, new-mine}
 use Rattle.nb_map.proofs.map.Map.new.Goals as goal
 
@@ -12,11 +12,12 @@ pub loop-chain-init : goal.loop-chain-init
 loop-chain-init c =
     let shape = ap (λ v. v.shape) c.chain.view_is ∙ c.in_ok-chain.ensures.chain in
     let seats = ap (λ q. q.seats) (sym shape) in
-    let chains = c.in_ok-chain.ensures.seats ∙ ap₂ chains.new_seats (ap (λ v. v.id) (sym c.chain.view_is)) seats in
+    let chains = c.in_ok-chain.ensures.seats
+    ∙ ap₂ chains.new_seats (ap (λ v. v.id) (sym c.chain.view_is)) seats in
     let counts = c.in_ok-counter.ensures.seats
     ∙ ap (counts.new_seats c.in_ok-counter.counter.id) (c.seats-2.ensures.number ∙ seats) in
-    let d = dealing-first (record { chain = chain_of c.chain.inside; counter = c.in_ok-counter.counter }) _ _ _ chains counts
-    c.in_ok-seats.ensures.items in
+    let m : MapOf = record { chain = chain_of c.chain.inside; counter = c.in_ok-counter.counter } in
+    let d = dealing-first m _ _ _ chains counts c.in_ok-seats.ensures.items in
     let many = dealing-count d in (
       d,
       omega (arith, many, seats, c.in_ok-seats.ensures.len, c.in_ok-chain.chain_seats.ok),
@@ -35,7 +36,8 @@ loop-chain-smaller-in-Some-pop c = omega (arith, c.in-Some.ensures.len)
 
 pub loop-chain-preserved-in-Some-pop : goal.loop-chain-preserved-in-Some-pop
 loop-chain-preserved-in-Some-pop c = (
-  dealing-more c.loop-chain.invariant.0 _ _ _ _ _ c.in-Some.ensures.items c.in-Some-pop.ensures.items c.push_reserved.ensures.items,
+  dealing-more c.loop-chain.invariant.0 _ _ _ _ _ c.in-Some.ensures.items
+      c.in-Some-pop.ensures.items c.push_reserved.ensures.items,
   omega (arith, c.loop-chain.invariant, c.in-Some.ensures.capacity),
   omega (arith, c.loop-chain.invariant, c.in-Some-pop.ensures.capacity),
   omega (arith, c.loop-chain.invariant, c.push_reserved.ensures.capacity),
@@ -60,8 +62,10 @@ returns-clause-seats c =
     let none = nil_from_length c.loop-chain.chain_seats.items (omega (arith, c.in_default.ensures)) in
     let counter = c.in_ok-counter.counter in
     c.reverse.ensures.items ∙ dealing-done c.loop-chain.invariant.0 none
-    ∙ ap (λ chain. new_seats (record { chain = chain; counter = counter }) chain.shape.seats) c.chain.view_is
-    ∙ ap (λ q. new_seats (record { chain = c.in_ok-chain.chain; counter = counter }) q.seats) c.in_ok-chain.ensures.chain
+    ∙ ap (λ chain. new_seats (record { chain = chain; counter = counter }) chain.shape.seats)
+    c.chain.view_is
+    ∙ ap (λ q. new_seats (record { chain = c.in_ok-chain.chain; counter = counter }) q.seats)
+    c.in_ok-chain.ensures.chain
 
 pub returns-clause-own : goal.returns-clause-own
 returns-clause-own c =
