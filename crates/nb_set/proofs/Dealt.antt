@@ -21,7 +21,8 @@ as_set seat = record { map = seat }
 abbrev pub in-map : List SeatOf → List maps.SeatOf
 in-map = map (λ seat. seat.map)
 
-pub dealt : (set : SetOf) (count : ℕ) → map as_set (maps.new_seats set.map count) ≡ new_seats set count
+pub dealt : (set : SetOf) (count : ℕ)
+    → map as_set (maps.new_seats set.map count) ≡ new_seats set count
 dealt set count = map-map as_set (maps.new_seat set.map) (range_with_len 0 count)
 
 -- they are the set's where they are the map's
@@ -44,9 +45,11 @@ has-all whole seat has = record {
 pub ended-with : (seats : List SeatOf) (ended : EndedOf) → of_map.EndedWith (in-map seats) ended.map → EndedWith seats ended
 ended-with seats ended with = record {
   replayed = (read (of_map.log_left ended.map) with.replayed).0;
-  logs = All-weaker (λ seat. of_map.HasAll (of_map.log_left ended.map) seat.map) (HasAll (log_left ended)) (has-all (of_map.log_left ended.map)) seats
+  logs = All-weaker (λ seat. of_map.HasAll (of_map.log_left ended.map) seat.map)
+      (HasAll (log_left ended)) (has-all (of_map.log_left ended.map)) seats
       (All-unmap (of_map.HasAll (of_map.log_left ended.map)) (λ seat. seat.map) seats with.logs);
-  once = λ n below. sym (count-map (λ seat. seat.chain.number == n) (λ seat. seat.map) seats) ∙ with.once n (subst (λ m. n < m) (sym many) below);
+  once = λ n below. sym (count-map (λ seat. seat.chain.number == n) (λ seat. seat.map) seats)
+      ∙ with.once n (subst (λ m. n < m) (sym many) below);
   made = All-map (λ entry. entry.seat < length seats) entry_as (of_map.log_left ended.map)
       (subst (λ m. All (λ (entry : map_log.Entry). entry.seat < m) (of_map.log_left ended.map)) many with.made);
 }

@@ -19,7 +19,8 @@ pub push_reserved-requires : goal.push_reserved-requires
 push_reserved-requires c =
     let all = into_iter_items c.into_iter-key-iterator.result in
     let many = moved-count c.loop-key.invariant.2 ∙ length-map all (λ entry. entry.0) in
-    omega (arith, many, ap length c.in-Some.ensures.steps.0, c.loop-key.invariant, c.loop-key.keys.ok)
+    let next = ap length c.in-Some.ensures.steps.0 in
+    omega (arith, many, next, c.loop-key.invariant, c.loop-key.keys.ok)
 
 pub loop-key-preserved : goal.loop-key-preserved
 loop-key-preserved c = (

@@ -19,8 +19,10 @@ loop-seat-init c =
 
 pub push_reserved-requires : goal.push_reserved-requires
 push_reserved-requires c =
-    let many = moved-count c.loop-seat.invariant.2 ∙ length-map (into_iter_items c.into_iter-seat-iterator.result) as_set in
-    omega (arith, many, ap length c.in-Some.ensures.steps.0, c.loop-seat.invariant, c.loop-seat.seats.ok)
+    let many = moved-count c.loop-seat.invariant.2
+    ∙ length-map (into_iter_items c.into_iter-seat-iterator.result) as_set in
+    let next = ap length c.in-Some.ensures.steps.0 in
+    omega (arith, many, next, c.loop-seat.invariant, c.loop-seat.seats.ok)
 
 pub loop-seat-preserved : goal.loop-seat-preserved
 loop-seat-preserved c = (
@@ -38,7 +40,8 @@ seats-are c =
 
 pub returns-clause-seats : goal.returns-clause-seats
 returns-clause-seats c =
-    seats-are c ∙ ap (map as_set) c.in_ok-map.ensures.seats ∙ dealt (record { map = c.in_ok-map.map }) c.args.shape.seats
+    seats-are c ∙ ap (map as_set) c.in_ok-map.ensures.seats
+        ∙ dealt (record { map = c.in_ok-map.map }) c.args.shape.seats
 
 pub returns-clause-own : goal.returns-clause-own
 returns-clause-own c =

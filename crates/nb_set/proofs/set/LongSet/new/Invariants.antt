@@ -8,5 +8,6 @@ abbrev pub invariant-loop-seat : goal.invariant-loop-seat
 invariant-loop-seat l =
     (goal.iterator-loop-seat).can_next l.seat-iterator
     × (goal.iterator-loop-seat).is_finite l.seat-iterator
-    × AreMoved as_set (map as_set (into_iter_items l.initial.seat-iterator)) l.seats.items (into_iter_items l.seat-iterator)
+    × AreMoved as_set (map as_set (into_iter_items l.initial.seat-iterator)) l.seats.items
+        (into_iter_items l.seat-iterator)
     × (length (into_iter_items l.initial.seat-iterator) ≤ vec_capacity l.seats)
