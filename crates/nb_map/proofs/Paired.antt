@@ -36,11 +36,11 @@ paired-new m (s ∷ seats) (n ∷ numbers) chains counts =
 pub record IsDealing (m : MapOf) (chains : List SeenBy) (counts : List CountSeatOf)
     (seats : List SeatOf) : Type 0 where
   pub in_chain :
-    let all = chained.new_seats m.chain.id m.chain.shape.seats in
-    AreMoved (λ seat. seat.chain) all chains (reverse seats)
+      let all = chained.new_seats m.chain.id m.chain.shape.seats in
+      AreMoved (λ seat. seat.chain) all chains (reverse seats)
   pub in_counter :
-    let all = counted.new_seats m.counter.id m.chain.shape.seats in
-    AreMoved (λ seat. seat.count) all counts (reverse seats)
+      let all = counted.new_seats m.counter.id m.chain.shape.seats in
+      AreMoved (λ seat. seat.count) all counts (reverse seats)
 
 pub dealing-first :
     (m : MapOf) (chains : List SeenBy) (counts : List CountSeatOf) (seats : List SeatOf)

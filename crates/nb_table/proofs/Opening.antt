@@ -30,7 +30,7 @@ none-made first (suc count) =
     omega (
       arith,
       sum_by-cons (λ part. part.steps) (new_part first)
-      (map new_part (range_with_len (first + 1) count)),
+          (map new_part (range_with_len (first + 1) count)),
       none-made (first + 1) count,
     )
 

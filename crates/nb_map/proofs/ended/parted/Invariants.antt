@@ -8,8 +8,8 @@ invariant-loop-seat l =
     (goal.iterator-loop-seat).can_next l.seat-iterator
     × (goal.iterator-loop-seat).is_finite l.seat-iterator
     × AreMoved (λ seat. seat.chain) (map (λ seat. seat.chain) l.fn.seats.items) l.chain_seats.items
-        (into_iter_items l.seat-iterator)
+    (into_iter_items l.seat-iterator)
     × AreMoved (λ seat. seat.count) (map (λ seat. seat.count) l.fn.seats.items) l.count_seats.items
-        (into_iter_items l.seat-iterator)
+    (into_iter_items l.seat-iterator)
     × (length l.fn.seats.items ≤ vec_capacity l.chain_seats)
     × (length l.fn.seats.items ≤ vec_capacity l.count_seats)

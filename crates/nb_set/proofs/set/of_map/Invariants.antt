@@ -8,5 +8,5 @@ invariant-loop-seat l =
     (goal.iterator-loop-seat).can_next l.seat-iterator
     × (goal.iterator-loop-seat).is_finite l.seat-iterator
     × AreMoved (λ seat. seat.map) (map (λ seat. seat.map) l.fn.seats.items) l.map_seats.items
-        (into_iter_items l.seat-iterator)
+    (into_iter_items l.seat-iterator)
     × (length l.fn.seats.items ≤ vec_capacity l.map_seats)

@@ -8,6 +8,6 @@ invariant-loop-key l =
     (goal.iterator-loop-key).can_next l.key-iterator
     × (goal.iterator-loop-key).is_finite l.key-iterator
     × AreMoved (λ (entry : ℕ × ℕ). entry.0)
-        (map (λ entry. entry.0) (into_iter_items l.initial.key-iterator)) l.keys.items
-        (into_iter_items l.key-iterator)
+    (map (λ entry. entry.0) (into_iter_items l.initial.key-iterator)) l.keys.items
+    (into_iter_items l.key-iterator)
     × (length (into_iter_items l.initial.key-iterator) ≤ vec_capacity l.keys)

@@ -41,7 +41,7 @@ seats-are c =
 pub returns-clause-seats : goal.returns-clause-seats
 returns-clause-seats c =
     seats-are c ∙ ap (map as_set) c.in_ok-map.ensures.seats
-        ∙ dealt (record { map = c.in_ok-map.map }) c.args.shape.seats
+    ∙ dealt (record { map = c.in_ok-map.map }) c.args.shape.seats
 
 pub returns-clause-own : goal.returns-clause-own
 returns-clause-own c =

@@ -9,5 +9,5 @@ invariant-loop-seat l =
     (goal.iterator-loop-seat).can_next l.seat-iterator
     × (goal.iterator-loop-seat).is_finite l.seat-iterator
     × AreMoved as_set (map as_set (into_iter_items l.initial.seat-iterator)) l.seats.items
-        (into_iter_items l.seat-iterator)
+    (into_iter_items l.seat-iterator)
     × (length (into_iter_items l.initial.seat-iterator) ≤ vec_capacity l.seats)
