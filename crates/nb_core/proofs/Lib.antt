@@ -29,6 +29,7 @@ mod Replying
 mod Rising
 mod Room
 mod Searches
+pub mod Seating
 mod Shown
 mod Slots
 mod Sound

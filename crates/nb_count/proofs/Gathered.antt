@@ -1,71 +1,46 @@
 -- One token gathers the tallies of all seats, and the words that are left stand for their sum.
-use Rattle.std.proofs.Common.{◌≡◌, ◌∙◌, ℕ, zero, suc, ◌+◌, ◌*◌, ◌%◌, ◌^◌, ◌<◌, ◌≤◌, ap, sym, List, [], ◌∷◌, ◌++◌, length, length-append, get_or, true, false, slice_index, ℤ, ◌+ℤ◌, pos, add-one, refl, arith}
+use Rattle.std.proofs.Common.{◌≡◌, ◌∙◌, ℕ, zero, suc, ◌+◌, ◌*◌, ◌%◌, ◌^◌, ◌<◌, ◌≤◌, ap, sym, List, [], ◌∷◌, map, length, get_or, slice_index, ℤ, ◌+ℤ◌, add-one, refl, arith}
 use lib.ListN.{get_elem?}
 use mathlib.Core.Option.{some, some-injective, some-ne-none}
-use Rattle.std.proofs.Math.ListN.{get_or-append}
 use Rattle.std.proofs.Math.Nat.{add-mod, mod-add-mod, mod-eq_of_lt}
-use Rattle.std.proofs.Math.Seq.{get_or-append_seam}
-use Rattle.std.proofs.lemmas.Int.{ints}
+use Rattle.std.proofs.lemmas.List.{length-map}
+use Rattle.std.proofs.lemmas.List.Sorted.{length_permutation}
+use Rattle.std.specs.List.Sorted.{IsPermutation}
 use Rattle.atomic_table.specs.Seated.{TableId}
 use Rattle.atomic_table.specs.Table.{Final, Seen, State}
-use Rattle.atomic_table.specs.declared.shared.Seat.{Seat}
-use Rattle.nb_count.specs.Counts.{AreOwn, CountSeatOf, CounterOf, IsOwn, total_of}
-use Rattle.nb_count.specs.Gathered.{HasGathered}
-use Rattle.nb_count.specs.Inside.{IsSeat, seat_of}
+use Rattle.nb_core.proofs.Seating.{all-there}
+use Rattle.nb_count.specs.Counts.{CountSeatOf, total_of}
+use Rattle.nb_count.specs.Inside.{IsSeat, seat_of, seat_with, tally_of}
 use Rattle.nb_count.specs.Tallies.{AreSums, StripesAreFree, StripesAreTheSum, added_by, all_of, served, sum_of_stripes, total, wrapped}
 use Rattle.nb_count.specs.declared.counter.CountSeat.TheInside as seat
 use Rattle.nb_count.specs.declared.tally.TheConstants.{SPREAD}
 use Rattle.nb_count.specs.declared.tally.Size.{Size}
 use Rattle.nb_count.specs.declared.tally.Tally.{Tally}
-use Rattle.nb_count.proofs.Sums.{all_served, over_stripes, total-append, total-whole, wrapped-lt, wrapped-sum}
-
--- ---- lists whose last was taken
-
-pub own-left : (counter : CounterOf) (seats left : List CountSeatOf) (s : CountSeatOf) → seats ≡ left ++ s ∷ [] → AreOwn counter seats → AreOwn counter left
-own-left counter seats left s is own k d below =
-    ap (λ x. x.counter) (sym (get_or-append left (s ∷ []) d k below) ∙ ap (λ xs. get_or xs k d) (sym is))
-    ∙ own k d (omega (arith, ap length is, length-append left (s ∷ [])))
-
-pub own-last : (counter : CounterOf) (seats left : List CountSeatOf) (s : CountSeatOf) → seats ≡ left ++ s ∷ [] → AreOwn counter seats → IsOwn counter s
-own-last counter seats left s is own =
-    ap (λ x. x.counter) (sym (get_or-append_seam left s [] s) ∙ ap (λ xs. get_or xs (length left) s) (sym is))
-    ∙ own (length left) s (omega (arith, ap length is, length-append left (s ∷ [])))
-
-total_of-append : (left : List CountSeatOf) (s : CountSeatOf) → total_of (left ++ s ∷ []) ≡ total_of left +ℤ s.added
-total_of-append [] s = omega (arith, ints)
-total_of-append (x ∷ left) s = omega (arith, ints, total_of-append left s)
-
--- a list from which nothing can be taken is empty
-pub none-left : (left : List CountSeatOf) → (0 < length left → false ≡ true) → left ≡ []
-none-left [] none = refl
-none-left (x ∷ left) none = absurd (let e : false ≡ true = none (omega arith) in cc)
+use Rattle.nb_count.proofs.Sums.{all_served, over_stripes, total-map, total-permutation, wrapped-lt, wrapped-sum}
 
 -- ---- gathering
 
--- one seat's token, where the others are left
-pub gathered-first : (counter : TableId) (s : seat.Inside) (last : CountSeatOf) (left seats : List CountSeatOf) → IsSeat s → seat_of s ≡ last → seats ≡ left ++ last ∷ [] → last.counter ≡ counter → HasGathered counter s.seat left seats
-gathered-first counter s last left seats is_seat view is own = record {
-  own = ap (λ v. v.counter) view ∙ own;
-  free = ap (λ m. m.1) is_seat.one;
-  count = omega (arith, ap (λ m. length m.0) is_seat.one, ap length is, length-append left (last ∷ []));
-  sum =
-      let here : added_by s.seat.me.0 ≡ last.added +ℤ pos 0 = ap (λ m. added_by m.0) is_seat.one ∙ ap (λ v. v.added +ℤ pos 0) view in
-      omega (arith, ints, ap total_of is, total_of-append left last);
-}
+-- what a counter's seat knows is the seat
+pub one-seat :
+    (counter : TableId) (s : seat.Inside) (next : CountSeatOf) → IsSeat s → seat_of s ≡ next
+    → next.counter ≡ counter → map (seat_with counter) s.seat.me.0 ≡ next ∷ []
+one-seat counter s next is_seat view own =
+    let table : counter ≡ s.seat.table_id = sym (ap (λ v. v.counter) view ∙ own) in
+    ap (λ m. map (seat_with counter) m.0) is_seat.one
+    ∙ ap (λ id. seat_with id (tally_of s.seat.me.0) ∷ []) table
+    ∙ ap (λ v. v ∷ []) view
 
--- one seat's token more
-pub gathered-more : (counter : TableId) (token token' : Seat (Unit {0}) (List Tally)) (s : seat.Inside) (next : CountSeatOf) (left left' seats : List CountSeatOf) → HasGathered counter token left' seats → IsSeat s → seat_of s ≡ next → left' ≡ left ++ next ∷ [] → token'.table_id ≡ token.table_id → token'.me ≡ (token.me.0 ++ s.seat.me.0, token.me.1) → HasGathered counter token' left seats
-gathered-more counter token token' s next left left' seats g is_seat view is table me = record {
-  own = table ∙ g.own;
-  free = ap (λ m. m.1) me ∙ g.free;
-  count =
-      let first = g.count in
-      omega (arith, ap (λ m. length m.0) me, length-append token.me.0 s.seat.me.0, ap (λ m. length m.0) is_seat.one, ap length is, length-append left (next ∷ []));
-  sum =
-      let here : added_by s.seat.me.0 ≡ next.added +ℤ pos 0 = ap (λ m. added_by m.0) is_seat.one ∙ ap (λ v. v.added +ℤ pos 0) view in
-      let first = g.sum in
-      omega (arith, ints, ap (λ m. added_by m.0) me, total-append (λ t. t.added) token.me.0 s.seat.me.0, ap total_of is, total_of-append left next);
-}
+-- a token that has the tallies of these seats has as many, and they have added as much
+pub gathered-all :
+    (counter : TableId) (ts : List Tally) (seats : List CountSeatOf)
+    → IsPermutation (map (seat_with counter) ts) seats
+    → (length ts ≡ length seats) × (added_by ts ≡ total_of seats)
+gathered-all counter ts seats are =
+    let f : CountSeatOf → ℤ = λ seat. seat.added in
+    let known = map (seat_with counter) ts in (
+      sym (length-map ts (seat_with counter)) ∙ sym (length_permutation known seats are),
+      sym (total-map f (seat_with counter) ts) ∙ total-permutation f known seats are,
+    )
 
 -- ---- the words
 
@@ -106,8 +81,9 @@ stripes_are_free y z s t y_positive z_positive y_rule z_rule same =
 -- where one token has all tallies, the stripes' sum is what they have added
 whole-sum : (z : Size) (s : State (Unit {0}) (List Tally)) (id : ℕ) (ts : List Tally) → 1 ≤ z.stripes → AreSums z s → get_elem? s.views id ≡ some ts → length ts ≡ z.seats → sum_of_stripes s.words z.stripes % 2 ^ 64 ≡ wrapped (added_by ts)
 whole-sum z s id ts positive rule at all =
-    let whole : length (all_of s.views) ≡ length ts = rule.seats ∙ sym all in
-    stripes_are_the_sum z s positive rule ∙ ap wrapped (total-whole (λ t. t.added) s.views id ts at whole)
+    let whole = all-there (λ ts. ts) s.views id ts at (rule.seats ∙ sym all) in
+    stripes_are_the_sum z s positive rule
+    ∙ ap wrapped (total-permutation (λ t. t.added) (all_of s.views) ts whole)
 
 pub final-sum : (z : Size) (words : List ℕ) (slots : List (Unit {0})) (id : ℕ) (ts : List Tally) → 1 ≤ z.stripes → Final (Seen (AreSums z) id ts) words slots → length ts ≡ z.seats → sum_of_stripes words z.stripes % 2 ^ 64 ≡ wrapped (added_by ts)
 final-sum z words slots id ts positive final all =

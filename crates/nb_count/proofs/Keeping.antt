@@ -1,18 +1,23 @@
 -- Each move keeps the rule of the stripes.
-use Rattle.std.proofs.Common.{◌≡◌, ◌≢◌, ◌∙◌, ℕ, zero, suc, ◌+◌, ◌*◌, ◌%◌, ◌^◌, ◌<◌, ap, sym, subst, refl, inl, inr, Bool, true, false, cond, eqb, List, [], ◌∷◌, ◌++◌, map, length, ℤ, ◌+ℤ◌, pos, length-append, slice_index, slice_set, take, drop, arith}
+use Rattle.std.proofs.Common.{◌≡◌, ◌≢◌, ◌∙◌, ℕ, zero, suc, ◌+◌, ◌*◌, ◌%◌, ◌^◌, ◌<◌, ap, sym, subst, refl, inl, inr, Bool, true, false, cond, eqb, List, [], ◌∷◌, ◌++◌, map, length, ℤ, ◌+ℤ◌, pos, slice_index, slice_set, take, drop, arith}
 use mathlib.Core.Option.{some, none}
 use lib.ListN.{get_elem?}
 use Rattle.std.proofs.lemmas.Bool.{eq-eqb, ne_eqb}
 use Rattle.std.proofs.lemmas.Bool.Decides.{eqb_tells}
 use Rattle.std.proofs.lemmas.Int.{ints}
-use Rattle.std.proofs.lemmas.List.{ext_get_or, get_or-set_other, get_or-set_same, length-set, set-get_or, take-append-drop}
+use Rattle.std.proofs.lemmas.List.{append-nil, ext_get_or, get_or-set_other, get_or-set_same, length-set, set-get_or, take-append-drop}
+use Rattle.std.proofs.lemmas.List.FromFn.{length-map-range_with_len}
+use Rattle.std.proofs.lemmas.List.Sorted.{length_permutation}
 use Rattle.std.specs.Int.{cast_signed, w64}
+use Rattle.std.specs.List.{range_with_len}
+use Rattle.std.specs.List.Sorted.{IsPermutation}
 use Rattle.atomic_table.specs.Table.{Allows, Joins, Me, Splits, State, keeps, opening, step, stepped}
-use Rattle.nb_count.specs.Tallies.{AreSums, HasAdded, HasLooked, LooksChangeNoWord, after_add, after_look, all_of, fresh, served, stripe_of, total, wrapped}
+use Rattle.nb_core.proofs.Seating.{all-joined, all-split}
+use Rattle.nb_count.specs.Tallies.{AreSums, HasAdded, HasLooked, LooksChangeNoWord, after_add, after_look, all_of, new_tallies, new_tally, served, stripe_of, total, wrapped}
 use Rattle.nb_count.specs.declared.tally.TheConstants.{SPREAD}
 use Rattle.nb_count.specs.declared.tally.Size.{Size}
 use Rattle.nb_count.specs.declared.tally.Tally.{Tally}
-use Rattle.nb_count.proofs.Sums.{length-all_more, length-all_set, total-append, total-more, total-set, wrapped-add}
+use Rattle.nb_count.proofs.Sums.{length-all_set, total-permutation, total-set, wrapped-add}
 
 -- what a word has gained by an add
 gained : (stripes i : ℕ) (t : Tally) (amount : ℤ) → total (served stripes i) (after_add amount t ∷ []) ≡ total (served stripes i) (t ∷ []) +ℤ cond (eqb (stripe_of stripes t.number) i) amount (pos 0)
@@ -84,27 +89,29 @@ allows-look z slots id me t place one =
     subst (λ m. Allows (AreSums z) slots id m place (λ n. n) (HasLooked (step slots place 0 0 none) m)) (sym one)
     (λ s rule homes at word. (after_look t ∷ [], keeps, tt, look-keeps z s rule id t at place, refl))
 
--- all tallies together are the same when one token gives its first one away
-pub splits : (z : Size) (id : ℕ) (v : List Tally) → Splits (AreSums z) id v (drop 1 v) (take 1 v)
-splits z id v s rule at = record {
+-- The rule doesn't see which token has a tally, but all tokens' tallies together.
+kept :
+    (z : Size) (s : State (Unit {0}) (List Tally)) (views : List (List Tally)) → AreSums z s
+    → IsPermutation (all_of s.views) (all_of views)
+    → AreSums z record { words = s.words; homes = s.homes; views = views }
+kept z s views rule are = record {
   words = rule.words;
-  sums = λ i below. rule.sums i below ∙ ap wrapped (sym (same_total (served z.stripes i)));
-  seats = omega (arith, length-all_more (slice_set s.views id (drop 1 v)) (take 1 v), length-all_set s.views id v (drop 1 v) at, ap length (take-append-drop 1 v), length-append (take 1 v) (drop 1 v), rule.seats);
+  sums = λ i below. rule.sums i below
+      ∙ ap wrapped (total-permutation (served z.stripes i) (all_of s.views) (all_of views) are);
+  seats = length_permutation (all_of s.views) (all_of views) are ∙ rule.seats;
 }
-  where
-    same_total : (f : Tally → ℤ) → total f (all_of (slice_set s.views id (drop 1 v) ++ take 1 v ∷ [])) ≡ total f (all_of s.views)
-    same_total f = omega (arith, ints, total-more f (slice_set s.views id (drop 1 v)) (take 1 v), total-set f s.views id v (drop 1 v) at, ap (total f) (take-append-drop 1 v), total-append f (take 1 v) (drop 1 v))
 
--- and when one token takes in those of another
+-- a token gives its first tally away
+pub splits : (z : Size) (id : ℕ) (v : List Tally) → Splits (AreSums z) id v (drop 1 v) (take 1 v)
+splits z id v s rule at =
+    kept z s _ rule
+    (all-split (λ ts. ts) s.views id v (drop 1 v) (take 1 v) at (sym (take-append-drop 1 v)))
+
+-- a token takes in those of another
 pub joins : (z : Size) (id : ℕ) (v : List Tally) (other : ℕ) (w : List Tally) → Joins (AreSums z) id v other w (v ++ w) []
-joins z id v other w s rule at differs other_at = record {
-  words = rule.words;
-  sums = λ i below. rule.sums i below ∙ ap wrapped (sym (same_total (served z.stripes i)));
-  seats = omega (arith, length-all_set (slice_set s.views id (v ++ w)) other w [] other_at, length-all_set s.views id v (v ++ w) at, length-append v w, rule.seats);
-}
-  where
-    same_total : (f : Tally → ℤ) → total f (all_of (slice_set (slice_set s.views id (v ++ w)) other [])) ≡ total f (all_of s.views)
-    same_total f = omega (arith, ints, total-set f (slice_set s.views id (v ++ w)) other w [] other_at, total-set f s.views id v (v ++ w) at, total-append f v w)
+joins z id v other w s rule at differs other_at =
+    kept z s _ rule
+    (all-joined (λ ts. ts) s.views id v other w (v ++ w) [] at differs other_at refl refl)
 
 -- ---- the start
 
@@ -112,22 +119,28 @@ same-choice : (b : Bool) (x : ℤ) → cond b x x ≡ x
 same-choice true x = refl
 same-choice false x = refl
 
-total-fresh : (stripes i number count : ℕ) → total (served stripes i) (fresh number count ++ []) ≡ pos 0
-total-fresh stripes i number zero = refl
-total-fresh stripes i number (suc count) =
-    omega (arith, ints, same-choice (eqb (stripe_of stripes number) i) (pos 0), total-fresh stripes i (suc number) count)
-
-length-fresh : (number count : ℕ) → length (fresh number count ++ []) ≡ count
-length-fresh number zero = refl
-length-fresh number (suc count) = omega (arith, length-fresh (suc number) count)
+total-new : (stripes i first count : ℕ)
+    → total (served stripes i) (map new_tally (range_with_len first count)) ≡ pos 0
+total-new stripes i first zero = refl
+total-new stripes i first (suc count) =
+    let none = same-choice (eqb (stripe_of stripes first) i) (pos 0) in
+    omega (arith, ints, none, total-new stripes i (first + 1) count)
 
 -- all words 0, and nothing added
-pub opens : (z : Size) (words : List ℕ) → length words ≡ SPREAD * z.stripes → ((i : ℕ) → slice_index words i ≡ 0) → AreSums z (opening words [] (fresh 0 z.seats))
-opens z words count zeros = record {
-  words = count;
-  sums = λ i below. zeros i ∙ ap wrapped (sym (total-fresh z.stripes i 0 z.seats));
-  seats = length-fresh 0 z.seats;
-}
+pub opens :
+    (z : Size) (words : List ℕ) → length words ≡ SPREAD * z.stripes
+    → ((i : ℕ) → slice_index words i ≡ 0)
+    → AreSums z (opening words [] (new_tallies z.seats))
+opens z words count zeros =
+    let all : all_of (new_tallies z.seats ∷ []) ≡ new_tallies z.seats
+    = append-nil (new_tallies z.seats) in
+    record {
+      words = count;
+      sums = λ i below.
+          let none = ap (total (served z.stripes i)) all ∙ total-new z.stripes i 0 z.seats in
+          zeros i ∙ ap wrapped (sym none);
+      seats = ap length all ∙ length-map-range_with_len new_tally 0 z.seats;
+    }
 
 -- ---- looks
 

@@ -1,54 +1,99 @@
 -- Sums over tallies, and sums modulo 2^64.
-use Rattle.std.proofs.Common.{◌≡◌, ◌∙◌, ℕ, zero, suc, ◌+◌, ◌*◌, ◌%◌, ◌^◌, ◌<◌, ◌≤◌, ap, sym, refl, inl, inr, cond, List, [], ◌∷◌, ◌++◌, length, ℤ, ◌+ℤ◌, pos, negsuc, length-append, slice_set, arith}
-use mathlib.Core.Option.{some, some-injective, some-ne-none}
+use Rattle.std.proofs.Common.{◌≡◌, ◌∙◌, ℕ, zero, suc, ◌+◌, ◌*◌, ◌%◌, ◌^◌, ◌<◌, ◌≤◌, ap, sym, refl, inl, inr, cond, List, [], ◌∷◌, ◌++◌, map, length, ℤ, ◌+ℤ◌, pos, negsuc, length-append, slice_set, arith}
+use mathlib.Core.Option.{some}
 use Rattle.std.proofs.Math.Nat.{mod-lt}
-use Rattle.std.proofs.lemmas.List.{nil_from_length}
 use Rattle.std.proofs.lemmas.Bool.{cases_lt, eq-eqb, ne_eqb}
 use lib.ListN.{get_elem?}
 use Rattle.std.proofs.lemmas.Int.{ints, int_wrap-add_left, int_wrap-add_right, of_z-to_z, wrapping_add-bits}
+use Rattle.std.proofs.lemmas.List.Sorted.{length_permutation, sum_by-IsPermutation}
+use Rattle.std.proofs.lemmas.List.Sums.{sum_by-cons}
 use Rattle.std.specs.Int.{cast_signed, cast_unsigned, int_wrap, w64}
+use Rattle.std.specs.List.{sum_by}
+use Rattle.std.specs.List.Sorted.{IsPermutation}
+use Rattle.nb_core.proofs.Seating.{apart}
 use Rattle.nb_count.specs.Tallies.{all_of, served, stripe_of, total, wrapped}
 use Rattle.nb_count.specs.declared.tally.TheConstants.{SPREAD}
 use Rattle.nb_count.specs.declared.tally.Tally.{Tally}
 
--- ---- sums over tallies
+-- ---- sums over a list
 
-pub total-append : (f : Tally → ℤ) (ts us : List Tally) → total f (ts ++ us) ≡ total f ts +ℤ total f us
-total-append f [] us = omega (arith, ints)
-total-append f (t ∷ ts) us = omega (arith, ints, total-append f ts us)
+-- a number is what it is above 0, less what it is below
+abbrev above : ℤ → ℕ
+above (pos n) = n
+above (negsuc n) = 0
+
+abbrev below : ℤ → ℕ
+below (pos n) = 0
+below (negsuc n) = suc n
+
+difference : (z : ℤ) → z +ℤ pos (below z) ≡ pos (above z)
+difference (pos n) = omega (arith, ints)
+difference (negsuc n) = omega (arith, ints)
+
+module _ {X : Type 0} (f : X → ℤ) where
+  pub total-append : (xs ys : List X) → total f (xs ++ ys) ≡ total f xs +ℤ total f ys
+  total-append [] ys = omega (arith, ints)
+  total-append (x ∷ xs) ys = omega (arith, ints, total-append xs ys)
+
+  pub total-map : {Y : Type 0} (g : Y → X) (ys : List Y)
+      → total f (map g ys) ≡ total (λ y. f (g y)) ys
+  total-map g [] = refl
+  total-map g (y ∷ ys) = ap (λ z. f (g y) +ℤ z) (total-map g ys)
+
+  total-difference : (xs : List X)
+      → total f xs +ℤ pos (sum_by (λ x. below (f x)) xs) ≡ pos (sum_by (λ x. above (f x)) xs)
+  total-difference [] = refl
+  total-difference (x ∷ xs) =
+      omega (
+        arith,
+        ints,
+        sum_by-cons (λ x. below (f x)) x xs,
+        sum_by-cons (λ x. above (f x)) x xs,
+        difference (f x),
+        total-difference xs,
+      )
+
+  -- the order makes no difference
+  pub total-permutation : (xs ys : List X) → IsPermutation xs ys → total f xs ≡ total f ys
+  total-permutation xs ys are =
+      omega (
+        arith,
+        ints,
+        sum_by-IsPermutation (λ x. below (f x)) xs ys are,
+        sum_by-IsPermutation (λ x. above (f x)) xs ys are,
+        total-difference xs,
+        total-difference ys,
+      )
 
 -- what one token's tallies make of the sum over all tokens
-pub total-set : (f : Tally → ℤ) (views : List (List Tally)) (id : ℕ) (v w : List Tally) → get_elem? views id ≡ some v → total f (all_of (slice_set views id w)) +ℤ total f v ≡ total f (all_of views) +ℤ total f w
-total-set f [] id v w at = absurd (some-ne-none v (sym at))
-total-set f (x ∷ views) zero v w at =
-    let same : total f x ≡ total f v = ap (total f) (some-injective x v at) in
-    omega (arith, ints, total-append f w (all_of views), total-append f x (all_of views))
-total-set f (x ∷ views) (suc id) v w at =
-    omega (arith, ints, total-append f x (all_of (slice_set views id w)), total-append f x (all_of views), total-set f views id v w at)
+pub total-set :
+    (f : Tally → ℤ) (views : List (List Tally)) (id : ℕ) (v w : List Tally)
+    → get_elem? views id ≡ some v
+    → total f (all_of (slice_set views id w)) +ℤ total f v ≡ total f (all_of views) +ℤ total f w
+total-set f views id v w at =
+    let there = apart (λ ts. ts) views id v at in
+    omega (
+      arith,
+      ints,
+      total-permutation f (all_of views) (v ++ there.rest) there.is,
+      total-permutation f (all_of (slice_set views id w)) (w ++ there.rest) (there.after w),
+      total-append f v there.rest,
+      total-append f w there.rest,
+    )
 
-pub length-all_set : (views : List (List Tally)) (id : ℕ) (v w : List Tally) → get_elem? views id ≡ some v → length (all_of (slice_set views id w)) + length v ≡ length (all_of views) + length w
-length-all_set [] id v w at = absurd (some-ne-none v (sym at))
-length-all_set (x ∷ views) zero v w at =
-    let same : length x ≡ length v = ap length (some-injective x v at) in
-    omega (arith, length-append w (all_of views), length-append x (all_of views))
-length-all_set (x ∷ views) (suc id) v w at =
-    omega (arith, length-append x (all_of (slice_set views id w)), length-append x (all_of views), length-all_set views id v w at)
-
--- one token more
-pub total-more : (f : Tally → ℤ) (views : List (List Tally)) (w : List Tally) → total f (all_of (views ++ w ∷ [])) ≡ total f (all_of views) +ℤ total f w
-total-more f [] w = total-append f w [] ∙ omega (arith, ints)
-total-more f (x ∷ views) w = omega (arith, ints, total-append f x (all_of (views ++ w ∷ [])), total-append f x (all_of views), total-more f views w)
-
-pub length-all_more : (views : List (List Tally)) (w : List Tally) → length (all_of (views ++ w ∷ [])) ≡ length (all_of views) + length w
-length-all_more [] w = omega (arith, length-append w [])
-length-all_more (x ∷ views) w = omega (arith, length-append x (all_of (views ++ w ∷ [])), length-append x (all_of views), length-all_more views w)
-
--- the sum where one token has all tallies that there are
-pub total-whole : (f : Tally → ℤ) (views : List (List Tally)) (id : ℕ) (v : List Tally) → get_elem? views id ≡ some v → length (all_of views) ≡ length v → total f (all_of views) ≡ total f v
-total-whole f views id v at whole =
-    let rest : length (all_of (slice_set views id [])) ≡ 0 = omega (arith, length-all_set views id v [] at) in
-    let none : total f (all_of (slice_set views id [])) ≡ pos 0 = ap (total f) (nil_from_length _ rest) in
-    omega (arith, ints, total-set f views id v [] at)
+-- and of how many tallies there are
+pub length-all_set :
+    (views : List (List Tally)) (id : ℕ) (v w : List Tally) → get_elem? views id ≡ some v
+    → length (all_of (slice_set views id w)) + length v ≡ length (all_of views) + length w
+length-all_set views id v w at =
+    let there = apart (λ ts. ts) views id v at in
+    omega (
+      arith,
+      length_permutation (all_of views) (v ++ there.rest) there.is,
+      length_permutation (all_of (slice_set views id w)) (w ++ there.rest) (there.after w),
+      length-append v there.rest,
+      length-append w there.rest,
+    )
 
 -- ---- modulo 2^64
 

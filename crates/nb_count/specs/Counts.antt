@@ -1,6 +1,8 @@
 -- How contracts see a counter and its seats.
-use Rattle.std.specs.Prelude.{◌≡◌, ℕ, zero, suc, ◌+◌, ℤ, pos, ◌+ℤ◌, List, [], ◌∷◌, All}
+use Rattle.std.specs.Prelude.{◌≡◌, ℕ, ◌+◌, ℤ, pos, ◌+ℤ◌, List, map, All}
+use Rattle.std.specs.List.{range_with_len}
 use Rattle.atomic_table.specs.Seated.{TableId}
+use Rattle.nb_count.specs.Tallies.{total}
 
 -- a counter: which one it is, and how many stripes and seats it was made with
 pub record CounterOf : Type 0 where
@@ -29,10 +31,9 @@ AreOwn counter seats = All (IsOwn counter) seats
 abbrev pub new_seat : TableId → ℕ → CountSeatOf
 new_seat id number = record { counter = id; number = number; added = pos 0; adds = 0; steps = 0 }
 
--- so many seats of a counter from a number on, which have made no step
-abbrev pub seats_of : TableId → ℕ → ℕ → List CountSeatOf
-seats_of id number zero = []
-seats_of id number (suc count) = new_seat id number ∷ seats_of id (suc number) count
+-- so many of them, numbered by their places
+abbrev pub new_seats : TableId → ℕ → List CountSeatOf
+new_seats id count = map (new_seat id) (range_with_len 0 count)
 
 -- the seat after one adding step
 abbrev pub with_added : ℤ → CountSeatOf → CountSeatOf
@@ -44,5 +45,4 @@ with_looks count seat = record seat { steps = seat.steps + count }
 
 -- what the seats have added in all
 abbrev pub total_of : List CountSeatOf → ℤ
-total_of [] = pos 0
-total_of (seat ∷ seats) = seat.added +ℤ total_of seats
+total_of seats = total (λ seat. seat.added) seats

@@ -1,5 +1,6 @@
 -- What is in a counter and its seats, and how it is seen.
 use Rattle.std.specs.Prelude.{◌≡◌, ◌*◌, ◌/◌, ◌≤◌, List, [], ◌∷◌}
+use Rattle.atomic_table.specs.Seated.{TableId}
 use Rattle.nb_count.specs.Counts.{CountSeatOf, CounterOf}
 use Rattle.nb_count.specs.Tallies.{new_tally, stripe_of}
 use Rattle.nb_count.specs.declared.counter.Counter.TheInside as counter
@@ -24,10 +25,13 @@ abbrev pub tally_of : List Tally → Tally
 tally_of [] = new_tally 0
 tally_of (t ∷ ts) = t
 
+-- a counter's seat of which this tally is known
+abbrev pub seat_with : TableId → Tally → CountSeatOf
+seat_with counter t =
+    record { counter = counter; number = t.number; added = t.added; adds = t.adds; steps = t.steps }
+
 abbrev pub seat_of : seat.Inside → CountSeatOf
-seat_of c =
-    let t = tally_of c.seat.me.0 in
-    record { counter = c.seat.table_id; number = t.number; added = t.added; adds = t.adds; steps = t.steps }
+seat_of c = seat_with c.seat.table_id (tally_of c.seat.me.0)
 
 -- the seat knows one tally, and the place of its stripe
 pub record IsSeat (c : seat.Inside) : Type 0 where

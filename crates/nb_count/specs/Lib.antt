@@ -1,4 +1,3 @@
 pub mod Counts
-pub mod Gathered
 pub mod Inside
 pub mod Tallies

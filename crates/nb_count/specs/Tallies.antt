@@ -1,9 +1,10 @@
 -- What the stripes of a counter stand for.
-use Rattle.std.specs.Prelude.{◌≡◌, ℕ, zero, suc, ◌+◌, ◌*◌, ◌%◌, ◌^◌, ◌<◌, ◌≤◌, ◌==◌, if◌then◌else◌, ℤ, pos, ◌+ℤ◌, List, [], ◌∷◌, ◌++◌, map, length, slice_index, slice_set}
+use Rattle.std.specs.Prelude.{◌≡◌, ℕ, zero, suc, ◌+◌, ◌*◌, ◌%◌, ◌^◌, ◌<◌, ◌≤◌, ◌==◌, if◌then◌else◌, ℤ, pos, ◌+ℤ◌, List, [], ◌∷◌, map, flat_map, length, slice_index, slice_set}
 use mathlib.Core.Option.{some}
 use lib.ListN.{get_elem?}
 use Rattle.std.specs.Int.{cast_signed, int_rem_euclid, w64}
 use Rattle.std.specs.Int.RustNames.{unsigned_abs}
+use Rattle.std.specs.List.{range_with_len}
 use Rattle.atomic_table.specs.Table.{State, Me, Step}
 use Rattle.nb_count.specs.declared.tally.TheConstants.{SPREAD}
 use Rattle.nb_count.specs.declared.tally.Size.{Size}
@@ -13,10 +14,10 @@ use Rattle.nb_count.specs.declared.tally.Tally.{Tally}
 abbrev pub wrapped : ℤ → ℕ
 wrapped z = unsigned_abs (int_rem_euclid z (pos (2 ^ 64)))
 
--- the sum of a number over tallies
-abbrev pub total : (Tally → ℤ) → List Tally → ℤ
+-- the sum of a number over a list
+abbrev pub total : {X : Type 0} → (X → ℤ) → List X → ℤ
 total f [] = pos 0
-total f (t ∷ ts) = f t +ℤ total f ts
+total f (x ∷ xs) = f x +ℤ total f xs
 
 -- the place of the stripe of a seat with this number, of so many stripes
 abbrev pub stripe_of : ℕ → ℕ → ℕ
@@ -30,15 +31,13 @@ served stripes place t = if stripe_of stripes t.number == place then t.added els
 abbrev pub new_tally : ℕ → Tally
 new_tally number = record { number = number; added = pos 0; adds = 0; steps = 0 }
 
--- so many seats that have made no step, from a number on
-abbrev pub fresh : ℕ → ℕ → List Tally
-fresh number zero = []
-fresh number (suc count) = new_tally number ∷ fresh (suc number) count
+-- those of so many such seats, numbered by their places
+abbrev pub new_tallies : ℕ → List Tally
+new_tallies count = map new_tally (range_with_len 0 count)
 
 -- the tallies of all tokens
 abbrev pub all_of : List (List Tally) → List Tally
-all_of [] = []
-all_of (v ∷ views) = v ++ all_of views
+all_of = flat_map (λ tallies. tallies)
 
 -- Each word is the sum, modulo 2^64, of what the seats whose stripe it is have added: so a word between two stripes is 0. And
 -- no seat's tally is lost.

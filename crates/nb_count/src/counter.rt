@@ -1,7 +1,7 @@
 //! The counter and its seats.
-ghost use Rattle.std.specs.Prelude.{◌≡◌, ◌*◌, ◌%◌, ◌^◌, ◌<◌, ◌≤◌, ◌↔◌, [], length, IfOk, IfErr, true, is_ok};
-ghost use Rattle.nb_count.specs.Counts.{AreOwn, IsOwn, seats_of, total_of, with_added, with_looks};
-ghost use Rattle.nb_count.specs.Gathered.{HasGathered};
+ghost use Rattle.std.specs.Prelude.{◌≡◌, ◌*◌, ◌%◌, ◌^◌, ◌<◌, ◌≤◌, ◌↔◌, [], length, map, IsPermutation, IfOk, IfErr, true, is_ok};
+ghost use Rattle.nb_count.specs.Counts.{AreOwn, IsOwn, new_seats, total_of, with_added, with_looks};
+ghost use Rattle.nb_count.specs.Inside.{seat_with};
 ghost use Rattle.nb_count.specs.Tallies.{sum_of_stripes, wrapped};
 ghost use Rattle.std.specs.Mem.Slots.{IsFull, slots_items, slots_len};
 
@@ -60,7 +60,7 @@ impl Counter {
         requires stripes { (1 ≤ stripes) × (stripes ≤ 8) }
         requires seats { (1 ≤ seats) × (seats ≤ 8) }
         ensures counter { IfOk result (λ made. (made.0.stripes ≡ stripes) × (made.0.seats ≡ seats)) }
-        ensures seats { IfOk result (λ made. made.1.items ≡ seats_of made.0.id 0 seats) }
+        ensures seats { IfOk result (λ made. made.1.items ≡ new_seats made.0.id seats) }
         ensures own { IfOk result (λ made. AreOwn made.0 made.1.items) }
     {
         let size = Size { stripes, seats };
@@ -133,7 +133,9 @@ impl Counter {
     fn gather(&self, seats: Vec<CountSeat>) -> Seat<(), Tallies>
         requires own { AreOwn self.now seats.items }
         requires some { 0 < length seats.items }
-        ensures { HasGathered self.now.id result [] seats.items }
+        ensures own { result.table_id ≡ self.now.id }
+        ensures free { result.me.1 ≡ [] }
+        ensures all { IsPermutation (map (seat_with self.now.id) result.me.0) seats.items }
     {
         let mut seats = seats;
         let last = seats.pop().unwrap();

@@ -31,11 +31,11 @@ pub struct Size {
 pub(crate) struct Stripes;
 
 impl TableRule<(), Tallies, Size> for Stripes {
-    ghost use Rattle.nb_count.specs.Tallies.{AreSums, fresh};
+    ghost use Rattle.nb_count.specs.Tallies.{AreSums, new_tallies};
 
     ghost holds = { AreSums };
 
-    ghost first = { λ size. fresh 0 size.seats };
+    ghost first = { λ size. new_tallies size.seats };
 }
 
 /// A step that adds to a stripe.

@@ -9,7 +9,7 @@ ghost use Rattle.nb_core.specs.declared.calls.Want.TheVariants as want;
 ghost use Rattle.nb_map.specs.Ending.{EndedWith};
 ghost use Rattle.nb_map.specs.Logs.{HasFound, HasLogged, HasReplied, log};
 ghost use Rattle.nb_map.specs.Looking.{IsSeenAtHome, get_steps};
-ghost use Rattle.nb_map.specs.Maps.{AreMine, HasWorked, IsMine, seats_of};
+ghost use Rattle.nb_map.specs.Maps.{AreMine, HasWorked, IsMine, new_seats};
 ghost use Rattle.nb_map.specs.Refusing.{IsLockFree};
 ghost use Rattle.nb_long.specs.Stores.{HasStored};
 ghost use Rattle.nb_long.specs.Typed.{HasChangedIf, HasIdled, HasWritten, IsFound, IsRefused, IsRefusedIf, IsUnshown};
@@ -98,7 +98,7 @@ impl<V: Drop> LongMap<V> {
     pub fn new(alloc: Global, shape: Shape) -> Result<(LongMap<V>, Vec<Seat>), OutOfMemory>
         ensures shape { IfOk result (λ made. made.0.map.chain.shape ≡ shape) }
         ensures plan { IfOk result (λ made. IsPlan made.0.map.chain.shape) }
-        ensures seats { IfOk result (λ made. made.1.items ≡ seats_of made.0.map 0 shape.seats) }
+        ensures seats { IfOk result (λ made. made.1.items ≡ new_seats made.0.map shape.seats) }
         ensures own { IfOk result (λ made. AreMine made.0.map made.1.items) }
     {
         let store = Store::new(alloc)?;

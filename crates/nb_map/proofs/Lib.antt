@@ -2,13 +2,12 @@ mod Bounds
 mod Claimed
 mod Counted
 mod Crowding
-mod Dealt
 mod Earlier
 mod Exchanged
 mod Home
 mod Logged
 mod Made
-mod Parted
+mod Paired
 mod Passing
 mod Replied
 mod Rounds

@@ -9,6 +9,7 @@ use Rattle.std.proofs.lemmas.Bool.{eqb-true, ne_eqb}
 use Rattle.std.proofs.lemmas.Int.{ints}
 use Rattle.std.proofs.lemmas.List.Elements.{All-cons, All-head, All-nil, All-tail, filter_map-append}
 use Rattle.std.proofs.lemmas.List.Sums.{sum_by-append, sum_by-cons}
+use Rattle.nb_core.proofs.Seating.{count-map}
 use Rattle.nb_core.proofs.Theorems.{calls_append, few_keys, log_is_replayed, size_is_net}
 use Rattle.nb_core.specs.History.{map_of}
 use Rattle.nb_core.specs.Laws.{HasLog}
@@ -45,10 +46,7 @@ times-middle n front s back =
 
 -- as many of their seats of the chain have it
 times-chains : (n : ℕ) (seats : List SeatOf) → count_by (λ seat. seat.number == n) (map (λ seat. seat.chain) seats) ≡ times n seats
-times-chains n [] = refl
-times-chains n (s ∷ seats) =
-    let f : SeenBy → ℕ = λ seat. cond (seat.number == n) 1 0 in
-    omega (arith, times-cons n s seats, sum_by-cons f s.chain (map (λ seat. seat.chain) seats), times-chains n seats)
+times-chains n = count-map (λ seat. seat.number == n) (λ seat. seat.chain)
 
 -- a seat of this number, and those before and behind it
 record IsAmong (n : ℕ) (seats : List SeatOf) : Type 0 where

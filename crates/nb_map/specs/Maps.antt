@@ -1,5 +1,6 @@
 -- How contracts see a map and its seats.
-use Rattle.std.specs.Prelude.{◌≡◌, ℕ, zero, suc, ◌+◌, ℤ, pos, ◌+ℤ◌, List, [], ◌∷◌, All}
+use Rattle.std.specs.Prelude.{◌≡◌, ℕ, zero, ◌+◌, ℤ, pos, ◌+ℤ◌, List, map, All}
+use Rattle.std.specs.List.{range_with_len}
 use Rattle.nb_core.specs.Log.{calls_of, log_of}
 use Rattle.nb_core.specs.Meaning.{net_of}
 use Rattle.nb_core.specs.declared.calls.Call.{Call}
@@ -40,10 +41,9 @@ new_seat map number = record {
   count = counts.new_seat map.counter.id number;
 }
 
--- so many seats of a map from a number on, which have seen and counted nothing
-abbrev pub seats_of : MapOf → ℕ → ℕ → List SeatOf
-seats_of map number zero = []
-seats_of map number (suc count) = new_seat map number ∷ seats_of map (suc number) count
+-- so many of them, numbered by their places
+abbrev pub new_seats : MapOf → ℕ → List SeatOf
+new_seats m count = map (new_seat m) (range_with_len 0 count)
 
 -- how many steps it takes to count this: one, or none where it is nothing
 abbrev pub count_steps : ℤ → ℕ

@@ -10,7 +10,7 @@ ghost use Rattle.nb_table.specs.Chains.{Extended, seen_by};
 ghost use Rattle.nb_map.specs.Looking.{IsSeenAtHome, get_steps};
 ghost use Rattle.nb_map.specs.Ending.{EndedWith, HasTablesLeft};
 ghost use Rattle.nb_map.specs.Logs.{HasLogged, HasReplied, log};
-ghost use Rattle.nb_map.specs.Maps.{AreMine, HasWorked, IsMine, accounted, seats_of};
+ghost use Rattle.nb_map.specs.Maps.{AreMine, HasWorked, IsMine, accounted, new_seats};
 ghost use Rattle.nb_map.specs.Refusing.{IsJust, put_steps};
 ghost use Rattle.nb_map.specs.Walks.{HasRead, HasWalked, IsWalkOf, begun_by, passing_steps, slots_from};
 ghost use Rattle.nb_map.specs.Writing.{IsSeenAlone, passed_since};
@@ -76,7 +76,7 @@ impl Map {
         ensures map { IfOk result (λ made. made.0.chain.shape ≡ shape) }
         ensures plan { IfOk result (λ made. IsPlan made.0.chain.shape) }
         ensures counter { IfOk result (λ made. (made.0.counter.stripes ≡ shape.stripes) × (made.0.counter.seats ≡ shape.seats)) }
-        ensures seats { IfOk result (λ made. made.1.items ≡ seats_of made.0 0 shape.seats) }
+        ensures seats { IfOk result (λ made. made.1.items ≡ new_seats made.0 shape.seats) }
         ensures own { IfOk result (λ made. AreMine made.0 made.1.items) }
     {
         let mut seats = Vec::with_capacity(alloc, shape.seats())?;

@@ -1,17 +1,18 @@
 -- What the seats of a run have claimed: keys that their commands may put, so that a full map has as many of these.
-use Rattle.std.proofs.Common.{◌≡◌, ◌∙◌, ◌==◌, not, Bool, true, false, cond, ℕ, zero, suc, List, [], ◌∷◌, ◌++◌, map, filter, ap, sym, subst, refl, inl, inr}
+use Rattle.std.proofs.Common.{◌≡◌, ◌∙◌, ◌==◌, not, Bool, true, false, cond, ℕ, suc, List, [], ◌∷◌, ◌++◌, map, filter, ap, sym, subst, refl, inl, inr}
 use Rattle.std.specs.List.{All, AllZip}
 use Rattle.std.specs.Set.{distinct_count}
 use Rattle.std.proofs.lemmas.Bool.{eq-eqb}
 use Rattle.std.proofs.lemmas.List.{append-nil, map-append}
 use Rattle.std.proofs.lemmas.List.Elements.{All-cons, All-head, All-nil, All-tail, All-weaker, filter-append}
+use Rattle.nb_core.proofs.Seating.{All-left, All-numbered, All-right}
 use Rattle.nb_core.specs.History.{key_of_call}
 use Rattle.nb_core.specs.Plans.{IsPlan, Plan}
 use Rattle.nb_core.specs.declared.calls.Call.{Call}
 use Rattle.nb_table.specs.Chains.{SeenBy}
 use Rattle.nb_map.proofs.Theorems.{asks_add_up}
 use Rattle.nb_map.specs.Crowding.{HasAsked, IsFilled, fills, others_filled}
-use Rattle.nb_map.specs.Maps.{MapOf, SeatOf, new_seat, seats_of}
+use Rattle.nb_map.specs.Maps.{MapOf, SeatOf, new_seat, new_seats}
 use Rattle.nb_script.specs.Script.{Phase}
 use Rattle.nb_run.specs.Text.{call_of}
 use Rattle.nb_run.specs.Told.{all_commands, key_of_command}
@@ -73,17 +74,7 @@ among-all (c ∷ cs) =
     (All-weaker (λ d. fills (call_of d) ≡ true → IsPut cs (key_of_command d)) (λ d. fills (call_of d) ≡ true → IsPut (c ∷ cs) (key_of_command d))
     (λ d put may. inr (put may)) cs (among-all cs))
 
-module _ {X : Type 0} (P : X → Type 0) where
-  -- what holds of all elements holds of the first ones, and of the last ones
-  all-left : (xs ys : List X) → All P (xs ++ ys) → All P xs
-  all-left [] ys all = All-nil P
-  all-left (x ∷ xs) ys all = All-cons P x xs (All-head P x (xs ++ ys) all) (all-left xs ys (All-tail P x (xs ++ ys) all))
-
-  all-right : (xs ys : List X) → All P (xs ++ ys) → All P ys
-  all-right [] ys all = all
-  all-right (x ∷ xs) ys all = all-right xs ys (All-tail P x (xs ++ ys) all)
-
--- and of those that are one worker's
+-- what holds of all of a phase's commands holds of one worker's
 all-of-worker :
     (P : Command → Type 0) (w : ℕ) (phase : Phase) → All P (map (λ task. task.1) phase) → All P (commands_of w phase)
 all-of-worker P w [] all = All-nil P
@@ -155,16 +146,14 @@ module _ (m : MapOf) (plan : IsPlan m.chain.shape) where
     claimed-run [] (first ∷ answers) before after among ran all = absurd ran
     claimed-run (phase ∷ phases) [] before after among ran all = absurd ran
     claimed-run (phase ∷ phases) (first ∷ answers) before after among ran all =
-        claimed-run phases answers ran.1 after (all-right Q (map (λ task. task.1) phase) (all_commands phases) among) ran.4
+        claimed-run phases answers ran.1 after (All-right Q (map (λ task. task.1) phase) (all_commands phases) among) ran.4
         (claimed-meeting ran.0 ran.0 ran.1 ran.3
-        (claimed-phase phase 0 first before ran.0 (all-left Q (map (λ task. task.1) phase) (all_commands phases) among) ran.2 all))
+        (claimed-phase phase 0 first before ran.0 (All-left Q (map (λ task. task.1) phase) (all_commands phases) among) ran.2 all))
       where
         Q : Command → Type 0
         Q c = fills (call_of c) ≡ true → IsPut cs (key_of_command c)
 
     -- new seats have claimed nothing
-    pub claimed-new : (number count : ℕ) → All Claimed (seats_of m number count)
-    claimed-new number zero = All-nil Claimed
-    claimed-new number (suc count) =
-        All-cons Claimed (new_seat m number) (seats_of m (suc number) count)
-        (asks_add_up.none refl) (claimed-new (suc number) count)
+    pub claimed-new : (count : ℕ) → All Claimed (new_seats m count)
+    claimed-new count =
+        All-numbered Claimed (new_seat m) 0 count (λ n low high. asks_add_up.none refl)

@@ -15,7 +15,7 @@ use Rattle.nb_table.specs.Views.{HasSeen}
 use Rattle.nb_map.proofs.Theorems.{crowded_by_calls}
 use Rattle.nb_map.specs.Crowding.{HasAskedIn, others_filled}
 use Rattle.nb_map.specs.Ending.{EndedOf, EndedWith, HasTablesLeft}
-use Rattle.nb_map.specs.Maps.{MapOf, SeatOf, new_seat, seats_of}
+use Rattle.nb_map.specs.Maps.{MapOf, SeatOf, new_seat, new_seats}
 use Rattle.std.proofs.lemmas.List.{map-append}
 use Rattle.nb_script.specs.Script.{Phase}
 use Rattle.nb_run.specs.Text.{call_of}
@@ -102,7 +102,7 @@ seat-numbered P n (seat ∷ seats) once all =
 -- A key is crowded at a moment of an ended map's history only by as many others as the commands may put.
 pub crowd-ended :
     (m : MapOf) → IsPlan m.chain.shape → (phases : List Phase) (answers : List (List (List Answer))) (after : List SeatOf) (ended : EndedOf)
-    → HaveRun m phases answers (seats_of m 0 m.chain.shape.seats) after → length after ≡ m.chain.shape.seats → EndedWith after ended
+    → HaveRun m phases answers (new_seats m m.chain.shape.seats) after → length after ≡ m.chain.shape.seats → EndedWith after ended
     → HasTablesLeft m.chain.shape after ended → (k : ℕ) (h : List Event) → IsBeginning h ended.tables.history → IsCrowded m.chain.shape h k
     → size_of m.chain.shape (generations_of m.chain.shape - 1) ≤ others_filled k (map call_of (all_commands phases))
 crowd-ended m plan phases answers after ended ran count end left k h beginning crowded =
@@ -118,7 +118,7 @@ crowd-ended m plan phases answers after ended ran count end left k h beginning c
     history = ended.tables.history
 
     claimed : All (λ seat. HasClaimed p cs seat.chain) after
-    claimed = claimed-run m plan cs phases answers (seats_of m 0 p.seats) after (among-all cs) ran (claimed-new m plan cs 0 p.seats)
+    claimed = claimed-run m plan cs phases answers (new_seats m p.seats) after (among-all cs) ran (claimed-new m plan cs p.seats)
 
     asked : (n : ℕ) → n < p.seats → HasAskedIn p (map call_of cs) history n
     asked n less =
@@ -139,7 +139,7 @@ module _ (m : MapOf) (plan : IsPlan m.chain.shape) where
 
   -- a new seat, with no commands so far
   pub lone-new : IsLone p [] (new_seat m 0).chain
-  lone-new = record { claimed = claimed-new m plan [] 0 1 0 (new_seat m 0) (omega arith); number = refl }
+  lone-new = record { claimed = claimed-new m plan [] 1 0 (new_seat m 0) (omega arith); number = refl }
 
   -- after one command more
   pub lone-answered :

@@ -22,7 +22,7 @@ use Rattle.nb_core.proofs.Theorems.{crowded_absent, log_is_replayed, map_in_rang
 use Rattle.nb_map.specs.Ending.{EndedOf, EndedWith, HasAll, log_left}
 use Rattle.nb_map.specs.Ending.{map_left as ended_map}
 use Rattle.nb_map.specs.Logs.{HasLogged, log}
-use Rattle.nb_map.specs.Maps.{MapOf, SeatOf, new_seat, seats_of}
+use Rattle.nb_map.specs.Maps.{MapOf, SeatOf, new_seat, new_seats}
 use Rattle.nb_script.specs.Script.{Bytes, Phase}
 use Rattle.nb_run.specs.Text.{answer_line, answer_of, call_of, ending, map_behind, map_left, shown, text_from}
 use Rattle.nb_run.specs.Told.{IsLoneText, MayCrowd, all_commands, key_of_command, phase_text}
@@ -420,7 +420,7 @@ module _
 pub lone-text :
     (m : MapOf) → IsPlan m.chain.shape
     → m.chain.shape.seats ≡ 1 → (phases : List Phase) (answers : List (List (List Answer))) (after : List SeatOf) (ended : EndedOf)
-    → All (λ phase. All (λ task. task.0 < 1) phase) phases → HaveRun m phases answers (seats_of m 0 m.chain.shape.seats) after
+    → All (λ phase. All (λ task. task.0 < 1) phase) phases → HaveRun m phases answers (new_seats m m.chain.shape.seats) after
     → EndedWith after ended
     → IsLoneText m.chain.shape phases (flat_map (phase_text 0) answers ++ ending (ended_map ended))
 lone-text m plan single phases answers after ended below ran end = record {
@@ -445,7 +445,7 @@ lone-text m plan single phases answers after ended below ran end = record {
     same = commands-lone phases below
 
     from_new : HaveRun m phases answers (new_seat m 0 ∷ []) after
-    from_new = subst (λ n. HaveRun m phases answers (seats_of m 0 n) after) single ran
+    from_new = subst (λ n. HaveRun m phases answers (new_seats m n) after) single ran
 
     done : HasRunPlain m plan single phases answers (new_seat m 0) after
     done = run-plain m plan single phases answers (new_seat m 0) after (record { number = refl }) from_new

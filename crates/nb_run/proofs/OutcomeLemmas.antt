@@ -2,16 +2,17 @@
 use Rattle.std.proofs.Common.{◌≡◌, ◌∙◌, ◌<◌, ◌≤◌, ◌+◌, ℕ, zero, suc, List, [], ◌∷◌, ◌++◌, length, replicate, vec_capacity, ap, ap₂, sym, subst, refl, arith}
 use Rattle.std.proofs.lemmas.List.{append_assoc, length-append, length-map, length-replicate}
 use Rattle.std.proofs.lemmas.List.Elements.{All-cons, All-head, All-map, All-nil, All-push, All-same, All-tail}
+use Rattle.std.proofs.lemmas.List.FromFn.{length-map-range_with_len}
 use Rattle.std.specs.List.{All, flat_map}
 use Rattle.std.specs.FinMap.{entries, len-entries}
 use Rattle.std.specs.declared.alloc.Global.{Global}
 use Rattle.std.specs.declared.vec.Vec.{Vec}
+use Rattle.nb_core.proofs.Seating.{All-unmap}
 use Rattle.nb_core.specs.Log.{Numbers}
 use Rattle.nb_core.specs.History.{IsLegal}
 use Rattle.nb_core.specs.Plans.{IsPlan, Plan}
 use Rattle.nb_map.specs.Ending.{EndedOf, EndedWith, HasTablesLeft, log_left, map_left}
-use Rattle.nb_map.specs.Maps.{AreMine, IsMine, MapOf, SeatOf, new_seat}
-use Rattle.nb_map.specs.Maps as maps
+use Rattle.nb_map.specs.Maps.{AreMine, IsMine, MapOf, SeatOf, new_seat, new_seats}
 use Rattle.nb_run.specs.Outcomes.{HaveWorkers, IsOutcome, lists_in, text_of_outcome}
 use Rattle.nb_script.specs.Script.{Phase}
 use Rattle.nb_run.specs.Text.{ending, ending_of}
@@ -199,32 +200,23 @@ run-count m phases before after ran =
 
 -- ---- the map's seats
 
-count-seats : (m : MapOf) (first count : ℕ) → length (maps.seats_of m first count) ≡ count
-count-seats m first zero = refl
-count-seats m first (suc count) = ap suc (count-seats m (suc first) count)
-
--- what is so of all seats is so of each worker's
-seats-each : (P : SeatOf → Type 0) (workers : List Worker) → All P (seats_of workers) → All (λ worker. P worker.seat) workers
-seats-each P [] all = All-nil (λ worker. P worker.seat)
-seats-each P (w ∷ workers) all =
-    All-cons (λ worker. P worker.seat) w workers (All-head P w.seat (seats_of workers) all)
-    (seats-each P workers (All-tail P w.seat (seats_of workers) all))
-
 -- the seats that a map is made with are its own, and so the workers'
 pub workers-mine :
     (m : MapOf) (seats : List SeatOf) (workers : List Worker) → seats_of workers ≡ seats → AreMine m seats → All (λ worker. IsMine m worker.seat) workers
-workers-mine m seats workers are mine = seats-each (IsMine m) workers (All-same (IsMine m) (seats_of workers) seats are mine)
+workers-mine m seats workers are mine =
+    All-unmap (IsMine m) (λ worker. worker.seat) workers
+    (All-same (IsMine m) (seats_of workers) seats are mine)
 
 -- and all of them, after the run
 pub run-mine : (m : MapOf) (phases : List Phase) (before after : List Worker) → HaveRunAll m phases before after → AreMine m (seats_of after)
 run-mine m phases before after ran = All-map (IsMine m) (λ worker. worker.seat) after ran.own
 
 pub run-all :
-    (m : MapOf) (phases : List Phase) (before after : List Worker) (count : ℕ) → seats_of before ≡ maps.seats_of m 0 count
+    (m : MapOf) (phases : List Phase) (before after : List Worker) (count : ℕ) → seats_of before ≡ new_seats m count
     → HaveRunAll m phases before after → length (seats_of after) ≡ count
 run-all m phases before after count are ran =
     length-map after (λ worker. worker.seat) ∙ run-count m phases before after ran ∙ sym (length-map before (λ worker. worker.seat))
-    ∙ ap length are ∙ count-seats m 0 count
+    ∙ ap length are ∙ length-map-range_with_len (new_seat m) 0 count
 
 -- ---- the text
 
@@ -234,7 +226,7 @@ ending-same m size es count are = ap₂ ending_of (count ∙ sym (len-entries m)
 -- What the workers did on a new map, and what was left of it, are what a text may tell.
 pub is-outcome :
     (m : MapOf) → IsPlan m.chain.shape → (phases : List Phase)
-    (before after : List Worker) (ended : EndedOf) (o : Outcome) → seats_of before ≡ maps.seats_of m 0 m.chain.shape.seats → All IsFresh before
+    (before after : List Worker) (ended : EndedOf) (o : Outcome) → seats_of before ≡ new_seats m m.chain.shape.seats → All IsFresh before
     → HaveRunAll m phases before after → EndedWith (seats_of after) ended → HasTablesLeft m.chain.shape (seats_of after) ended
     → lists_in o.answers.items ≡ answers_of after → o.size ≡ length (entries (map_left ended))
     → o.entries.items ≡ entries (map_left ended) → IsOutcome m.chain.shape phases o
@@ -269,7 +261,7 @@ is-outcome m plan phases before after ended o are fresh ran end left answers siz
     p : Plan
     p = m.chain.shape
 
-    from_new : HaveRun m phases ran.answers (maps.seats_of m 0 p.seats) (seats_of after)
+    from_new : HaveRun m phases ran.answers (new_seats m p.seats) (seats_of after)
     from_new = subst (λ seats. HaveRun m phases ran.answers seats (seats_of after)) are ran.ran
 
     in_lists : AreJoined phases ran.answers (lists_in o.answers.items)

@@ -1,9 +1,10 @@
 -- From what the workers did to what the text tells.
-use Rattle.std.proofs.Common.{◌≡◌, ◌∙◌, ◌==◌, inl, inr, Bool, true, false, cond, ℕ, zero, suc, ◌+◌, ◌-◌, ◌<◌, ◌≤◌, not, List, [], ◌∷◌, ◌++◌, length, map, ap, sym, subst, refl, arith}
+use Rattle.std.proofs.Common.{◌≡◌, ◌∙◌, ◌==◌, inl, inr, Bool, true, false, add-one, cond, ℕ, zero, suc, ◌+◌, ◌-◌, ◌<◌, ◌≤◌, not, List, [], ◌∷◌, ◌++◌, length, map, ap, sym, subst, refl, arith}
 use Rattle.std.proofs.lemmas.Bool.{cases_eq, eq-eqb}
 use Rattle.std.proofs.lemmas.List.{append-nil, append_cancel_right}
-use Rattle.std.specs.List.{All, AllZip}
+use Rattle.std.specs.List.{All, AllZip, range_with_len}
 use Rattle.std.proofs.lemmas.List.Elements.{All-cons, All-head, All-nil, All-tail, All-weaker}
+use Rattle.std.proofs.lemmas.List.FromFn.{length-map-range_with_len}
 use Rattle.nb_core.specs.Log.{Entry, IsBeginning, calls_of, log_of}
 use Rattle.nb_core.specs.Meaning.{IsCrowded}
 use Rattle.nb_core.specs.Plans.{Plan, generations_of, size_of}
@@ -12,7 +13,7 @@ use Rattle.nb_core.proofs.Theorems.{calls_append}
 use Rattle.nb_map.specs.Crowding.{others_filled}
 use Rattle.nb_map.specs.Ending.{EndedOf, EndedWith, HasAll, HasTablesLeft, log_left}
 use Rattle.nb_map.specs.Logs.{HasLogged, log}
-use Rattle.nb_map.specs.Maps.{MapOf, SeatOf, seats_of}
+use Rattle.nb_map.specs.Maps.{MapOf, SeatOf, new_seat, new_seats}
 use Rattle.nb_script.specs.Script.{Phase}
 use Rattle.nb_run.specs.Text.{call_of}
 use Rattle.nb_run.specs.Told.{ArePhasesTold, AreTold, HasDone, IsPhaseTold, IsTold, Refusals, WasCrowded, key_of_command}
@@ -359,24 +360,26 @@ module _ (m : MapOf) (script : List Command) (history : List Event) (crowded : M
 
   -- ---- from new seats
 
-  new-quiet : (w n : ℕ) → AreQuietSince [] w (seats_of m w n)
+  new-quiet : (w n : ℕ) → AreQuietSince [] w (map (new_seat m) (range_with_len w n))
   new-quiet w zero = tt
-  new-quiet w (suc n) = (record { is = record { number = refl }; rested = done-none w [] }, new-quiet (suc w) n)
-
-  new-count : (w n : ℕ) → length (seats_of m w n) ≡ n
-  new-count w zero = refl
-  new-count w (suc n) = ap suc (new-count (suc w) n)
+  new-quiet w (suc n) =
+      let later = new-quiet (w + 1) n in (
+        record { is = record { number = refl }; rested = done-none w [] },
+        subst (λ v. AreQuietSince [] v (map (new_seat m) (range_with_len (w + 1) n))) (add-one w)
+            later,
+      )
 
   from-new :
-      (phases : List Phase) (answers : List (List (List Answer))) (after : List SeatOf) → HaveRun m phases answers (seats_of m 0 p.seats) after
+      (phases : List Phase) (answers : List (List (List Answer))) (after : List SeatOf) → HaveRun m phases answers (new_seats m p.seats) after
       → All IsDone after → All (λ entry. entry.seat < p.seats) whole → ArePhasesTold full phases answers [] whole × All IsEach answers
-  from-new phases answers after = run-told [] (beginning-none whole) phases answers (seats_of m 0 p.seats) after (new-quiet 0 p.seats) (new-count 0 p.seats)
+  from-new phases answers after = run-told [] (beginning-none whole) phases answers (new_seats m p.seats) after (new-quiet 0 p.seats)
+      (length-map-range_with_len (new_seat m) 0 p.seats)
 
 -- What the workers answered is what a text may tell of the ended map's log, if commands were refused for want of room only where
 -- the script puts enough keys.
 pub told-phases :
     (m : MapOf) (phases : List Phase) (answers : List (List (List Answer))) (after : List SeatOf) (ended : EndedOf) (script : List Command)
-    → HaveRun m phases answers (seats_of m 0 m.chain.shape.seats) after → EndedWith after ended → HasTablesLeft m.chain.shape after ended
+    → HaveRun m phases answers (new_seats m m.chain.shape.seats) after → EndedWith after ended → HasTablesLeft m.chain.shape after ended
     → All (λ entry. entry.seat < m.chain.shape.seats) (log_left ended) → MayFill m.chain.shape script ended.tables.history
     → ArePhasesTold (WasCrowded m.chain.shape ended.tables.history script) phases answers [] (log_left ended)
     × All (λ phase. length phase ≡ m.chain.shape.seats) answers

@@ -1,5 +1,6 @@
 -- How contracts see a set and its seats, and what a call of the set does, told by the log of all calls.
-use Rattle.std.specs.Prelude.{◌≡◌, ℕ, zero, suc, ◌≤◌, ◌+◌, Bool, List, [], ◌∷◌, ◌++◌, All}
+use Rattle.std.specs.Prelude.{◌≡◌, ℕ, ◌≤◌, ◌+◌, Bool, List, [], ◌∷◌, ◌++◌, map, All}
+use Rattle.std.specs.List.{range_with_len}
 use Rattle.nb_core.specs.Meaning.{IsCrowded}
 use Rattle.nb_core.specs.Plans.{Plan}
 use Rattle.nb_core.specs.Tables.{tables_at}
@@ -68,10 +69,13 @@ IsMine set seat = maps.IsMine set.map seat.map
 abbrev pub AreMine : SetOf → List SeatOf → Type 0
 AreMine set seats = All (IsMine set) seats
 
--- so many seats of a set from a number on, which have seen nothing
-abbrev pub seats_of : SetOf → ℕ → ℕ → List SeatOf
-seats_of set number zero = []
-seats_of set number (suc count) = record { map = maps.new_seat set.map number } ∷ seats_of set (suc number) count
+-- a set's seat that has seen nothing
+abbrev pub new_seat : SetOf → ℕ → SeatOf
+new_seat set number = record { map = maps.new_seat set.map number }
+
+-- so many of them, numbered by their places
+abbrev pub new_seats : SetOf → ℕ → List SeatOf
+new_seats set count = map (new_seat set) (range_with_len 0 count)
 
 -- ---- how long a call works
 

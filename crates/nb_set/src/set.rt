@@ -5,7 +5,7 @@ ghost use Rattle.nb_core.specs.Plans.{IsPlan};
 ghost use Rattle.nb_map.specs.Looking.{get_steps};
 ghost use Rattle.nb_set.specs.Ending.{EndedWith};
 ghost use Rattle.nb_set.specs.Log as call;
-ghost use Rattle.nb_set.specs.Sets.{AreMine, HasLogged, HasNoRoom, HasReplied, HasStepped, HasWorked, IsAloneAtHome, IsAtHome, IsLockFree, IsMine, generation_of, log, seats_of, shape_of};
+ghost use Rattle.nb_set.specs.Sets.{AreMine, HasLogged, HasNoRoom, HasReplied, HasStepped, HasWorked, IsAloneAtHome, IsAtHome, IsLockFree, IsMine, generation_of, log, new_seats, shape_of};
 ghost use Rattle.nb_set.specs.Walks.{HasAsked, HasEnded, HasShown, IsLater, IsWalkOf, slots_before, walking_steps, with_shown};
 
 use crate::ended::SetEnded;
@@ -75,7 +75,7 @@ impl LongSet {
     pub fn new(alloc: Global, shape: Shape) -> Result<(LongSet, Vec<Seat>), OutOfMemory>
         ensures shape { IfOk result (λ made. shape_of made.0 ≡ shape) }
         ensures plan { IfOk result (λ made. IsPlan (shape_of made.0)) }
-        ensures seats { IfOk result (λ made. made.1.items ≡ seats_of made.0 0 shape.seats) }
+        ensures seats { IfOk result (λ made. made.1.items ≡ new_seats made.0 shape.seats) }
         ensures own { IfOk result (λ made. AreMine made.0 made.1.items) }
     {
         let mut seats = Vec::with_capacity(alloc, shape.seats())?;

@@ -1,14 +1,13 @@
 -- One token gathers the parts of all seats, and what it knows fits the words that are left.
-use Rattle.std.proofs.Common.{◌≡◌, ◌∙◌, ◌⊎◌, ℕ, ◌+◌, ◌<◌, ◌≤◌, ◌==◌, cond, ap, sym, subst, subst₂, refl, inl, inr, true, false, List, [], ◌∷◌, ◌++◌, length, length-append, map, All, arith}
+use Rattle.std.proofs.Common.{◌≡◌, ◌∙◌, ◌⊎◌, ℕ, ◌<◌, ◌≤◌, ◌==◌, cond, ap, sym, subst, inl, inr, List, [], ◌∷◌, ◌++◌, length, length-append, map, All, arith}
 use mathlib.Core.Option.{some}
 use lib.ListN.{get_elem?}
 use Rattle.std.specs.List.{count_by}
 use Rattle.std.specs.List.Sorted.{IsPermutation}
 use Rattle.std.proofs.lemmas.Bool.{cases_lt, le-ltb, lt-ltb}
-use Rattle.std.proofs.lemmas.List.{append-nil, append_assoc, length-map, map-append, nil_from_length}
-use Rattle.std.proofs.lemmas.List.Elements.{All-cons, All-contains, All-head, All-map, All-nil, All-same, All-tail, All-weaker}
-use Rattle.std.proofs.lemmas.List.Sorted.{All-permutation, IsPermutation-append_comm, IsPermutation-append_right, IsPermutation-map, IsPermutation-sym, IsPermutation-trans, length_permutation, sum_by-IsPermutation}
-use Rattle.std.proofs.lemmas.List.Sums.{sum_by-cons}
+use Rattle.std.proofs.lemmas.List.{append-nil, length-map, nil_from_length}
+use Rattle.std.proofs.lemmas.List.Elements.{All-cons, All-contains, All-head, All-map, All-nil, All-tail, All-weaker}
+use Rattle.std.proofs.lemmas.List.Sorted.{All-permutation, IsPermutation-map, length_permutation, sum_by-IsPermutation}
 use Rattle.atomic_table.specs.Seated.{TableId}
 use Rattle.atomic_table.specs.Table.{Final, Seen, State}
 use Rattle.atomic_table.specs.declared.shared.Seat.{Seat}
@@ -16,78 +15,28 @@ use Rattle.nb_core.specs.History.{IsLegal}
 use Rattle.nb_core.specs.Plans.{IsPlan, Plan}
 use Rattle.nb_core.specs.Tables.{words_of}
 use Rattle.nb_core.specs.declared.events.Event.{Event}
-use Rattle.nb_table.specs.Chains.{AreOwn, ChainOf, IsOwn, SeenBy}
+use Rattle.nb_table.specs.Chains.{SeenBy}
 use Rattle.nb_table.specs.Closing.{most_seen}
-use Rattle.nb_table.specs.Gathered.{ClosedWith, HasGathered}
+use Rattle.nb_table.specs.Gathered.{ClosedWith}
 use Rattle.nb_table.specs.Inside.{IsSeat, part_of, seat_of, seat_with}
 use Rattle.nb_table.specs.Left.{ClosedOf}
 use Rattle.nb_core.specs.Log.{IsBeginning}
-use Rattle.nb_table.specs.Views.{HasSeen, IsChained, all_parts, joined}
+use Rattle.nb_table.specs.Views.{HasSeen, IsChained, all_parts}
 use Rattle.nb_table.specs.declared.chain.ChainSeat.TheInside as seat
 use Rattle.nb_table.specs.declared.view.Part.{Part}
 use Rattle.nb_table.specs.declared.view.View.{View}
-use Rattle.nb_table.proofs.Parted.{All-left, All-right, All-unmap, apart, times-cons, times_among}
-
--- ---- lists whose last was taken
-
-pub own-left :
-    (chain : ChainOf) (seats left : List SeenBy) (s : SeenBy) → seats ≡ left ++ s ∷ [] → AreOwn chain seats → AreOwn chain left
-own-left chain seats left s is own =
-    All-left (IsOwn chain) left (s ∷ []) (All-same (IsOwn chain) (left ++ s ∷ []) seats (sym is) own)
-
-pub own-last :
-    (chain : ChainOf) (seats left : List SeenBy) (s : SeenBy) → seats ≡ left ++ s ∷ [] → AreOwn chain seats → IsOwn chain s
-own-last chain seats left s is own =
-    All-head (IsOwn chain) s [] (All-right (IsOwn chain) left (s ∷ [])
-    (All-same (IsOwn chain) (left ++ s ∷ []) seats (sym is) own))
-
--- a list from which nothing can be taken is empty
-pub none-left : (left : List SeenBy) → (0 < length left → false ≡ true) → left ≡ []
-none-left [] none = refl
-none-left (x ∷ left) none = absurd (let e : false ≡ true = none (omega arith) in cc)
+use Rattle.nb_core.proofs.Seating.{All-unmap, all-there as has-all, and_then, back, count-map}
 
 -- ---- gathering
 
 -- what a token of a chain's seat knows is the seat
-one-seat :
+pub one-seat :
     (chain : TableId) (s : seat.Inside) (next : SeenBy) → IsSeat s → seat_of s ≡ next → next.chain ≡ chain
     → map (seat_with chain) s.seat.me.0.parts ≡ next ∷ []
 one-seat chain s next is_seat view own =
     let part = part_of s.seat.me.0.parts in
     let table : chain ≡ s.seat.table_id = sym (ap (λ v. v.chain) view ∙ own) in
     ap (map (seat_with chain)) is_seat.one ∙ ap (λ id. seat_with id part ∷ []) table ∙ ap (λ v. v ∷ []) view
-
--- one seat's token, where the others are left
-pub gathered-first :
-    (chain : TableId) (s : seat.Inside) (last : SeenBy) (left seats : List SeenBy) → IsSeat s → seat_of s ≡ last
-    → seats ≡ left ++ last ∷ [] → last.chain ≡ chain → HasGathered chain s.seat left seats
-gathered-first chain s last left seats is_seat view is own = record {
-  own = ap (λ v. v.chain) view ∙ own;
-  free = is_seat.free;
-  are =
-      subst₂ IsPermutation (ap (λ parts. parts ++ left) (sym (one-seat chain s last is_seat view own))) (sym is)
-      (IsPermutation-append_comm (last ∷ []) left);
-}
-
--- one seat's token more
-pub gathered-more :
-    (chain : TableId) (token token' : Seat (Unit {0}) View) (s : seat.Inside) (next : SeenBy) (left left' seats : List SeenBy)
-    → HasGathered chain token left' seats → IsSeat s → seat_of s ≡ next → left' ≡ left ++ next ∷ [] → next.chain ≡ chain
-    → token'.table_id ≡ token.table_id → token'.me ≡ (joined token.me.0 s.seat.me.0, token.me.1)
-    → HasGathered chain token' left seats
-gathered-more chain token token' s next left left' seats g is_seat view is own table me = record {
-  own = table ∙ g.own;
-  free = ap (λ m. m.1) me ∙ g.free;
-  are =
-      let knows = map (seat_with chain) in
-      let before = knows token.me.0.parts in
-      let parts = ap (λ m. knows m.0.parts) me ∙ map-append (seat_with chain) token.me.0.parts s.seat.me.0.parts
-      ∙ ap (λ seats. before ++ seats) (one-seat chain s next is_seat view own) in
-      let joined = ap (λ seats. seats ++ left) parts ∙ append_assoc before (next ∷ []) left in
-      let moved = IsPermutation-append_right before (next ∷ left) (left ++ next ∷ []) (IsPermutation-append_comm (next ∷ []) left) in
-      IsPermutation-trans (knows token'.me.0.parts ++ left) (before ++ left') seats
-      (subst₂ IsPermutation (sym joined) (ap (λ seats. before ++ seats) (sym is)) moved) g.are;
-}
 
 -- ---- the history
 
@@ -143,28 +92,20 @@ whole-beginning seen h b long =
 
 module _ (p : Plan) (s : State (Unit {0}) View) (rule : IsChained p s) (token : Seat (Unit {0}) View)
     (at : get_elem? s.views token.id ≡ some token.me.0) (chain : TableId) (seats : List SeenBy)
-    (gathered : HasGathered chain token [] seats) (all : length seats ≡ p.seats) where
+    (known : IsPermutation (map (seat_with chain) token.me.0.parts) seats)
+    (all : length seats ≡ p.seats) where
   abbrev knows : Part → SeenBy
   knows = seat_with chain
 
   -- the token has all parts
   all-there : IsPermutation (map knows (all_parts s.views)) seats
   all-there =
-      let there = apart s.views token.id token.me.0 at in
       let parts = token.me.0.parts in
-      let known = subst (λ known. IsPermutation known seats) (append-nil (map knows parts)) gathered.are in
-      let none = nil_from_length there.rest (omega (
-        arith,
-        length_permutation (all_parts s.views) (parts ++ there.rest) there.is,
-        length-append parts there.rest,
-        length_permutation (map knows parts) seats known,
-        length-map parts knows,
-        rule.count,
-        all,
-      )) in
-      let are = subst (IsPermutation (all_parts s.views)) (ap (λ rest. parts ++ rest) none ∙ append-nil parts) there.is in
-      IsPermutation-trans (map knows (all_parts s.views)) (map knows parts) seats
-      (IsPermutation-map knows (all_parts s.views) parts are) known
+      let many : length (all_parts s.views) ≡ length parts
+      = rule.count ∙ sym all ∙ length_permutation (map knows parts) seats known
+      ∙ length-map parts knows in
+      let are = has-all (λ view. view.parts) s.views token.id token.me.0 at many in
+      and_then (IsPermutation-map knows (all_parts s.views) parts are) known
 
   -- each seat fits the history
   all-fit : All (FitsSeat rule.history) seats
@@ -178,7 +119,7 @@ module _ (p : Plan) (s : State (Unit {0}) View) (rule : IsChained p s) (token : 
       let P : SeenBy → Type 0 = λ seat. length seat.seen ≤ length (most_seen seats) in
       All-unmap P knows (all_parts s.views)
       (All-permutation P seats (map knows (all_parts s.views))
-      (IsPermutation-sym (map knows (all_parts s.views)) seats all-there) (most seats))
+      (back all-there) (most seats))
 
   -- who made the last step has seen all
   length-most : length rule.history ≤ length (most_seen seats)
@@ -192,20 +133,16 @@ module _ (p : Plan) (s : State (Unit {0}) View) (rule : IsChained p s) (token : 
 
   times-there : (n : ℕ) → n < p.seats → count_by (λ seat. seat.number == n) seats ≡ 1
   times-there n below =
-      let one = λ (seat : SeenBy). cond (seat.number == n) 1 0 in
-      sum_by-IsPermutation one (map knows (all_parts s.views)) seats all-there ∙ mapped (all_parts s.views) ∙ rule.once n below
-    where
-      mapped : (parts : List Part) → count_by (λ seat. seat.number == n) (map knows parts) ≡ times_among n parts
-      mapped [] = refl
-      mapped (part ∷ parts) =
-          sum_by-cons (λ seat. cond (seat.number == n) 1 0) (knows part) (map knows parts)
-          ∙ ap (λ m. cond (part.number == n) 1 0 + m) (mapped parts) ∙ sym (times-cons n part parts)
+      sum_by-IsPermutation (λ (seat : SeenBy). cond (seat.number == n) 1 0)
+      (map knows (all_parts s.views)) seats all-there
+      ∙ count-map (λ seat. seat.number == n) knows (all_parts s.views) ∙ rule.once n below
 
 -- what is left of a chain, where one token has gathered all seats
 pub closed-with :
     (closed : ClosedOf) → IsPlan closed.shape → (key : Plan) → key ≡ closed.shape → (chain : TableId) (token : Seat (Unit {0}) View)
-    (seats : List SeenBy) (slots : List (Unit {0})) → HasGathered chain token [] seats → length seats ≡ closed.shape.seats
-    → closed.history ≡ most_seen seats
+    (seats : List SeenBy) (slots : List (Unit {0}))
+    → IsPermutation (map (seat_with chain) token.me.0.parts) seats
+    → length seats ≡ closed.shape.seats → closed.history ≡ most_seen seats
     → Final (Seen (IsChained key) token.id token.me.0) closed.words slots → ClosedWith seats closed
 closed-with closed plan key same chain token seats slots g all history final =
     let p = closed.shape in

@@ -10,6 +10,7 @@ use Rattle.std.proofs.lemmas.List.Elements.{All-append, All-cons, All-head, All-
 use Rattle.std.proofs.lemmas.List.Sorted.{All-permutation, Contains-permutation, length_permutation, sum_by-IsPermutation}
 use Rattle.std.proofs.lemmas.List.Sums.{sum_by-cons}
 use Rattle.atomic_table.specs.Table.{Allows, Me, keeps, stepped}
+use Rattle.nb_core.proofs.Seating.{All-at, Apart, apart, back}
 use Rattle.nb_core.specs.Plans.{Plan, IsPlan}
 use Rattle.nb_core.specs.Tables.{words_of}
 use Rattle.nb_core.specs.History.{IsLegal, seat_of_event}
@@ -20,7 +21,7 @@ use Rattle.nb_core.specs.Log.{IsBeginning}
 use Rattle.nb_table.specs.Views.{HasMoved, IsChained, Moment, Moves, all_parts, all_steps, moved, parts_at, steps_at}
 use Rattle.nb_table.specs.declared.view.Part.{Part}
 use Rattle.nb_table.specs.declared.view.View.{View}
-use Rattle.nb_table.proofs.Parted.{All-at, Apart, Fits, IsTold, apart, back, times-cons, times_among}
+use Rattle.nb_table.proofs.Parted.{Fits, IsTold, times-cons, times_among}
 
 -- ---- one part among others
 
@@ -70,8 +71,8 @@ module _
     (p : Plan) (s : Moment) (rule : IsChained p s) (id : ℕ) (v : View) (part : Part)
     (at : get_elem? s.views id ≡ some v) (one : v.parts ≡ part ∷ []) where
   -- the token's part, and all others
-  there : Apart s.views id v
-  there = apart s.views id v at
+  there : Apart (λ view. view.parts) s.views id v
+  there = apart (λ view. view.parts) s.views id v at
 
   are : IsPermutation (parts_at s) (part ∷ there.rest)
   are = subst (λ parts. IsPermutation (parts_at s) (parts ++ there.rest)) one there.is

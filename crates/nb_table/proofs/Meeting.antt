@@ -2,23 +2,23 @@
 use Rattle.std.proofs.Common.{◌≡◌, ◌∙◌, ℕ, ap, sym, subst, refl, List, [], ◌∷◌, ◌++◌, map, slice_set, All}
 use mathlib.Core.Option.{some}
 use lib.ListN.{get_elem?}
-use Rattle.std.specs.List.Sorted.{IsPermutation}
-use Rattle.std.proofs.lemmas.List.{append-nil, append_assoc, set_comm}
+use Rattle.std.proofs.lemmas.List.{append-nil}
 use Rattle.std.proofs.lemmas.List.Elements.{All-append, All-head, All-map, All-nil, All-set, All-weaker}
 use Rattle.atomic_table.proofs.Lists.{set_else}
 use Rattle.atomic_table.specs.Table.{Joins, Me, Splits}
+use Rattle.nb_core.proofs.Seating.{All-at, All-right, all-joined}
 use Rattle.nb_core.specs.Plans.{Plan}
 use Rattle.nb_core.specs.History.{IsLegal}
 use Rattle.nb_core.specs.declared.events.Event.{Event}
 use Rattle.nb_table.specs.Chains.{Extended, SeenBy}
 use Rattle.nb_table.specs.Inside.{IsSeat, part_of, seat_of}
 use Rattle.nb_core.specs.Log.{IsBeginning}
-use Rattle.nb_table.specs.Views.{HasMoved, IsChained, Moves, all_parts, joined, moved, noted, parts_at, spent_view}
+use Rattle.nb_table.specs.Views.{HasMoved, IsChained, Moves, joined, moved, noted, spent_view}
 use Rattle.nb_table.specs.declared.chain.ChainSeat.TheInside as seat
 use Rattle.nb_table.specs.declared.view.Part.{Part}
 use Rattle.nb_table.specs.declared.view.View.{View}
 use Rattle.nb_table.proofs.Opening.{kept, split-keeps}
-use Rattle.nb_table.proofs.Parted.{All-at, All-right, Fits, IsTold, and_then, apart, back, exchanged, in_front}
+use Rattle.nb_table.proofs.Parted.{Fits, IsTold}
 
 -- ---- notes
 
@@ -40,7 +40,9 @@ notes p id v = split-keeps p id v v (noted v) refl (λ h fits told. (told, noted
 -- one token takes in what another knows
 pub joins : (p : Plan) (id : ℕ) (v : View) (other : ℕ) (w : View) → Joins (IsChained p) id v other w (joined v w) spent_view
 joins p id v other w s rule at differs other_at =
-    kept p s (slice_set (slice_set s.views id (joined v w)) other spent_view) rule are
+    kept p s (slice_set (slice_set s.views id (joined v w)) other spent_view) rule
+    (all-joined (λ view. view.parts) s.views id v other w (joined v w) spent_view at differs
+    other_at refl refl)
     (All-set (IsTold rule.history) (slice_set s.views id (joined v w)) other spent_view
     (All-nil (λ seen. IsBeginning seen rule.history)) (All-set (IsTold rule.history) s.views id (joined v w) told rule.told))
   where
@@ -51,19 +53,6 @@ joins p id v other w s rule at differs other_at =
     told =
         All-append (λ seen. IsBeginning seen rule.history) v.told w.told
         (All-at (IsTold rule.history) s.views id v at rule.told) (All-at (IsTold rule.history) s.views other w before rule.told)
-
-    -- the other's parts go, and then come to the token's
-    are : IsPermutation (parts_at s) (all_parts (slice_set (slice_set s.views id (joined v w)) other spent_view))
-    are =
-        let apart_w = apart s.views other w before in
-        let without = slice_set s.views other spent_view in
-        let apart_v = apart without id v (set_else s.views other id spent_view (λ same. differs (sym same)) ∙ at) in
-        let gone = and_then apart_w.is (in_front w.parts (and_then (back (apart_w.after spent_view)) apart_v.is)) in
-        let come = subst (λ parts. IsPermutation parts (all_parts (slice_set without id (joined v w))))
-        (append_assoc v.parts w.parts apart_v.rest) (back (apart_v.after (joined v w))) in
-        subst (λ views. IsPermutation (parts_at s) (all_parts views))
-        (sym (set_comm s.views id other (joined v w) spent_view (λ same. differs (sym same))))
-        (and_then gone (and_then (exchanged w.parts v.parts apart_v.rest) come))
 
 -- ---- after the meeting
 

@@ -1,5 +1,6 @@
 -- How contracts see a chain and its seats.
-use Rattle.std.specs.Prelude.{◌≡◌, ◌≢◌, ℕ, zero, suc, ◌+◌, ◌==◌, List, [], ◌∷◌, ◌++◌, drop, filter, All}
+use Rattle.std.specs.Prelude.{◌≡◌, ◌≢◌, ℕ, ◌+◌, ◌==◌, List, [], ◌++◌, drop, filter, map, All}
+use Rattle.std.specs.List.{range_with_len}
 use Rattle.atomic_table.specs.Seated.{TableId}
 use Rattle.nb_core.specs.Plans.{IsPlan, Plan}
 use Rattle.nb_core.specs.Tables.{Tables, tables_at}
@@ -40,10 +41,9 @@ seen_before p seat = tables_at p (drop 1 seat.seen)
 abbrev pub new_seat : TableId → ℕ → SeenBy
 new_seat id number = record { chain = id; number = number; seen = []; steps = 0 }
 
--- so many seats of a chain from a number on, which have seen nothing
-abbrev pub seats_of : TableId → ℕ → ℕ → List SeenBy
-seats_of id number zero = []
-seats_of id number (suc count) = new_seat id number ∷ seats_of id (suc number) count
+-- so many of them, numbered by their places
+abbrev pub new_seats : TableId → ℕ → List SeenBy
+new_seats id count = map (new_seat id) (range_with_len 0 count)
 
 -- After a step the seat has seen more: events of other seats, and then these of its own, in this order. All that it has
 -- seen is a legal history, and it made so many steps.

@@ -1,5 +1,6 @@
 -- What the tokens of a chain's table know, and the rule that its words keep.
-use Rattle.std.specs.Prelude.{◌≡◌, ◌≢◌, ℕ, zero, suc, ◌+◌, ◌<◌, ◌≤◌, ◌==◌, List, [], ◌∷◌, ◌++◌, length, map, take, drop, count_by, sum_by, All, Contains, slice_index}
+use Rattle.std.specs.Prelude.{◌≡◌, ◌≢◌, ℕ, ◌+◌, ◌<◌, ◌≤◌, ◌==◌, List, [], ◌∷◌, ◌++◌, length, map, flat_map, take, drop, count_by, sum_by, All, Contains, slice_index}
+use Rattle.std.specs.List.{range_with_len}
 use Rattle.atomic_table.specs.Table.{State, Me}
 use Rattle.nb_core.specs.Plans.{Plan}
 use Rattle.nb_core.specs.Tables.{words_of}
@@ -21,8 +22,7 @@ pub record HasSeen (history : List Event) (number : ℕ) (seen : List Event) : T
 
 -- the parts of all tokens, one for each seat
 abbrev pub all_parts : List View → List Part
-all_parts [] = []
-all_parts (v ∷ views) = v.parts ++ all_parts views
+all_parts = flat_map (λ view. view.parts)
 
 -- how many steps these seats have made in all
 abbrev pub all_steps : List Part → ℕ
@@ -39,14 +39,13 @@ steps_at s = all_steps (parts_at s)
 abbrev pub new_part : ℕ → Part
 new_part number = record { number = number; seen = []; steps = 0; last_step = 0 }
 
--- those of so many such seats from a number on
-abbrev pub new_parts : ℕ → ℕ → List Part
-new_parts number zero = []
-new_parts number (suc count) = new_part number ∷ new_parts (suc number) count
+-- those of so many such seats, numbered by their places
+abbrev pub new_parts : ℕ → List Part
+new_parts count = map new_part (range_with_len 0 count)
 
 -- the first token knows all seats
 abbrev pub first_view : ℕ → View
-first_view seats = record { parts = new_parts 0 seats; told = [] }
+first_view seats = record { parts = new_parts seats; told = [] }
 
 -- the first part alone
 abbrev pub first_part : View → View

@@ -1,9 +1,9 @@
 //! The chain and its seats.
-ghost use Rattle.std.specs.Prelude.{◌≡◌, ◌+◌, ◌%◌, ◌^◌, ◌<◌, ◌==◌, ◌↔◌, if◌then◌else◌, [], ◌∷◌, bit_or, max, length, IfOk, IfErr, true, is_ok};
+ghost use Rattle.std.specs.Prelude.{◌≡◌, ◌+◌, ◌%◌, ◌^◌, ◌<◌, ◌==◌, ◌↔◌, if◌then◌else◌, [], ◌∷◌, bit_or, max, length, map, IsPermutation, IfOk, IfErr, true, is_ok};
 ghost use Rattle.nb_core.specs.Plans.{word_count};
-ghost use Rattle.nb_table.specs.Chains.{AreOwn, Extended, IsOwn, seats_of};
-ghost use Rattle.nb_table.specs.Gathered.{ClosedWith, HasGathered};
-ghost use Rattle.nb_table.specs.Inside.{part_of};
+ghost use Rattle.nb_table.specs.Chains.{AreOwn, Extended, IsOwn, new_seats};
+ghost use Rattle.nb_table.specs.Gathered.{ClosedWith};
+ghost use Rattle.nb_table.specs.Inside.{part_of, seat_with};
 ghost use Rattle.nb_table.specs.Steps.{Can, Stepped};
 ghost use Rattle.nb_core.specs.Log.{IsBeginning};
 ghost use Rattle.nb_table.specs.Views.{Moves};
@@ -67,7 +67,7 @@ impl Chain {
     /// A chain with all words 0, and its seats. It takes memory for the words and for the vector of seats.
     pub fn new(alloc: Global, shape: Shape) -> Result<(Chain, Vec<ChainSeat>), OutOfMemory>
         ensures chain { IfOk result (λ made. made.0.shape ≡ shape) }
-        ensures seats { IfOk result (λ made. made.1.items ≡ seats_of made.0.id 0 shape.seats) }
+        ensures seats { IfOk result (λ made. made.1.items ≡ new_seats made.0.id shape.seats) }
         ensures own { IfOk result (λ made. AreOwn made.0 made.1.items) }
     {
         let mut dealt = Vec::with_capacity(alloc, shape.seats())?;
@@ -238,7 +238,9 @@ impl Chain {
     fn gather(&self, seats: Vec<ChainSeat>) -> Seat<(), View>
         requires own { AreOwn self.now seats.items }
         requires some { 0 < length seats.items }
-        ensures { HasGathered self.now.id result [] seats.items }
+        ensures own { result.table_id ≡ self.now.id }
+        ensures free { result.me.1 ≡ [] }
+        ensures all { IsPermutation (map (seat_with self.now.id) result.me.0.parts) seats.items }
     {
         let mut seats = seats;
         let last = seats.pop().unwrap();

@@ -34,7 +34,7 @@ returns g c =
     let phases = phases_in c.args.phases.now in
     let shape = c.in_ok-map.ensures.map in
     let o : Outcome = record { answers = c.in_ok-seats.answers; size = c.size-size.result; entries = c.in_ok-entries.entries } in
-    let seats = c.in_ok-workers.ensures.seats ∙ c.in_ok-map.ensures.seats ∙ ap (λ p. maps.seats_of m 0 p.seats) (sym shape) in
+    let seats = c.in_ok-workers.ensures.seats ∙ c.in_ok-map.ensures.seats ∙ ap (λ p. maps.new_seats m p.seats) (sym shape) in
     let ended = subst (λ seats. EndedWith seats c.in-Ok.ended) c.in_ok-seats.ensures.seats c.in-Ok.ensures.ended in
     let left = subst (λ seats. HasTablesLeft m.chain.shape seats c.in-Ok.ended) c.in_ok-seats.ensures.seats c.in-Ok.ensures.tables in
     subst (λ p. IsOutcome p phases o) shape

@@ -1,28 +1,30 @@
-use Rattle.std.proofs.Common.{ap, arith, subst, sym}
-use Rattle.std.specs.Vec.Iter.{into_iter_items}
-use Rattle.nb_set.proofs.Moved.{AreMoved, all-moved, moved-more, none-moved, some-left}
+use Rattle.std.proofs.Common.{◌∙◌, ap, arith, length, map, sym}
+use Rattle.std.proofs.lemmas.List.{length-map}
+use Rattle.nb_core.proofs.Seating.{all-moved, moved-count, moved-more, none-moved}
 use Rattle.nb_set.proofs.set.of_map.Goals as goal
 
 pub loop-seat-init : goal.loop-seat-init
 loop-seat-init c = (
   tt,
   tt,
-  subst (λ left. AreMoved (λ seat. seat.map) c.args.seats.items left c.args.room.items) (sym c.into_iter-seat-iterator.ensures.into_iter_gives.0)
-      (none-moved c.requires.empty),
+  none-moved (ap (map (λ seat. seat.map)) (sym c.into_iter-seat-iterator.ensures.into_iter_gives.0))
+      c.requires.empty,
   c.requires.room,
 )
 
 pub push_reserved-requires : goal.push_reserved-requires
 push_reserved-requires c =
-    let fewer = some-left c.loop-seat.invariant.2 c.in-Some.ensures.steps.0 in
-    omega (arith, fewer, c.loop-seat.invariant, c.loop-seat.map_seats.ok)
+    let many = moved-count c.loop-seat.invariant.2
+    ∙ length-map c.args.seats.items (λ seat. seat.map) in
+    let next = ap length c.in-Some.ensures.steps.0 in
+    omega (arith, many, next, c.loop-seat.invariant, c.loop-seat.map_seats.ok)
 
 pub loop-seat-preserved : goal.loop-seat-preserved
 loop-seat-preserved c = (
   tt,
   tt,
-  subst (AreMoved (λ seat. seat.map) c.args.seats.items (into_iter_items c.next.new.self)) (sym c.push_reserved.ensures.items)
-      (moved-more c.loop-seat.invariant.2 c.in-Some.ensures.steps.0 (ap (λ seat. seat.map) (sym c.seat.view_is))),
+  moved-more c.loop-seat.invariant.2 c.in-Some.ensures.steps.0
+      (ap (λ seat. seat.map) (sym c.seat.view_is)) c.push_reserved.ensures.items,
   omega (arith, c.loop-seat.invariant.3, c.push_reserved.ensures.capacity),
 )
 

@@ -1,9 +1,15 @@
+use Rattle.std.proofs.Common.{◌≡◌, [], ◌++◌, map}
+use Rattle.std.specs.List.Sorted.{IsPermutation}
 use Rattle.nb_count.specs.Counts.{AreOwn}
-use Rattle.nb_count.specs.Gathered.{HasGathered}
+use Rattle.nb_count.specs.Inside.{seat_with}
 use Rattle.nb_count.proofs.counter.Counter.gather.Given as goal
 
+-- the token has the tallies of all seats but those that are left
 abbrev pub invariant-loop-other : goal.invariant-loop-other
-invariant-loop-other l = HasGathered l.fn.self.id l.seat l.seats.items l.fn.seats.items × AreOwn l.fn.self l.seats.items
+invariant-loop-other l =
+    let known = map (seat_with l.fn.self.id) l.seat.me.0 in
+    (l.seat.table_id ≡ l.fn.self.id) × (l.seat.me.1 ≡ [])
+    × IsPermutation (known ++ l.seats.items) l.fn.seats.items × AreOwn l.fn.self l.seats.items
 
 abbrev pub decreases-loop-other : goal.decreases-loop-other
 decreases-loop-other l = goal.left-loop-other l

@@ -1,7 +1,7 @@
 use Rattle.std.proofs.Common.{◌∙◌, ap, length, refl, subst, sym}
 use Rattle.std.proofs.lemmas.List.{length-map}
 use Rattle.std.proofs.lemmas.List.Elements.{All-weaker}
-use Rattle.nb_map.proofs.Parted.{own-chains, own-counts}
+use Rattle.nb_map.proofs.Paired.{own-chains, own-counts}
 use Rattle.nb_map.proofs.Sizes.{AreGathered, ended-with, is-ended, seen}
 use Rattle.nb_map.specs.Inside.{map_of}
 use Rattle.nb_map.specs.Maps.{AreMine, HasCounted, IsMine}

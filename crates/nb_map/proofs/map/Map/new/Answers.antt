@@ -1,21 +1,24 @@
-use Rattle.std.proofs.Common.{◌∙◌, ap, sym, subst, arith}
+use Rattle.std.proofs.Common.{◌∙◌, ap, ap₂, sym, subst, arith}
 use Rattle.std.proofs.lemmas.List.{nil_from_length}
 use Rattle.nb_core.specs.Plans.{IsPlan}
 use Rattle.nb_count.specs.Counts as counts
 use Rattle.nb_table.specs.Chains as chains
-use Rattle.nb_map.specs.Maps.{seats_of}
-use Rattle.nb_map.proofs.Dealt.{dealing-as_many, dealing-done, dealing-first, dealing-more, dealt-mine}
+use Rattle.nb_table.specs.Inside.{chain_of}
+use Rattle.nb_map.specs.Maps.{MapOf, new_seats}
+use Rattle.nb_map.proofs.Paired.{dealing-count, dealing-done, dealing-first, dealing-more, new-mine}
 use Rattle.nb_map.proofs.map.Map.new.Goals as goal
 
 pub loop-chain-init : goal.loop-chain-init
 loop-chain-init c =
-    let p = c.args.shape in
-    let chains = c.in_ok-chain.ensures.seats ∙ ap (λ v. chains.seats_of v.id 0 p.seats) (sym c.chain.view_is) in
-    let counts = c.in_ok-counter.ensures.seats ∙ ap (λ n. counts.seats_of c.in_ok-counter.counter.id 0 n) c.seats-2.ensures.number in
     let shape = ap (λ v. v.shape) c.chain.view_is ∙ c.in_ok-chain.ensures.chain in
-    let d = dealing-first _ _ _ _ p shape chains counts c.in_ok-seats.ensures.items in
-    let many = dealing-as_many d in
-    let seats = ap (λ q. q.seats) shape in (
+    let seats = ap (λ q. q.seats) (sym shape) in
+    let chains = c.in_ok-chain.ensures.seats
+    ∙ ap₂ chains.new_seats (ap (λ v. v.id) (sym c.chain.view_is)) seats in
+    let counts = c.in_ok-counter.ensures.seats
+    ∙ ap (counts.new_seats c.in_ok-counter.counter.id) (c.seats-2.ensures.number ∙ seats) in
+    let m : MapOf = record { chain = chain_of c.chain.inside; counter = c.in_ok-counter.counter } in
+    let d = dealing-first m _ _ _ chains counts c.in_ok-seats.ensures.items in
+    let many = dealing-count d in (
       d,
       omega (arith, many, seats, c.in_ok-seats.ensures.len, c.in_ok-chain.chain_seats.ok),
       omega (arith, many, seats, c.in_ok-seats.ensures.len, c.in_ok-counter.count_seats.ok),
@@ -24,7 +27,7 @@ loop-chain-init c =
 
 pub push_reserved-requires : goal.push_reserved-requires
 push_reserved-requires c =
-    let many = dealing-as_many c.loop-chain.invariant.0 in
+    let many = dealing-count c.loop-chain.invariant.0 in
     let shape = ap (λ v. v.shape.seats) c.chain.view_is ∙ ap (λ q. q.seats) c.in_ok-chain.ensures.chain in
     omega (arith, many, shape, c.loop-chain.invariant, c.in-Some.ensures, c.pop.ensures)
 
@@ -33,7 +36,8 @@ loop-chain-smaller-in-Some-pop c = omega (arith, c.in-Some.ensures.len)
 
 pub loop-chain-preserved-in-Some-pop : goal.loop-chain-preserved-in-Some-pop
 loop-chain-preserved-in-Some-pop c = (
-  dealing-more _ _ _ _ _ _ _ _ _ c.loop-chain.invariant.0 c.in-Some.ensures.items c.in-Some-pop.ensures.items c.push_reserved.ensures.items,
+  dealing-more c.loop-chain.invariant.0 _ _ _ _ _ c.in-Some.ensures.items
+      c.in-Some-pop.ensures.items c.push_reserved.ensures.items,
   omega (arith, c.loop-chain.invariant, c.in-Some.ensures.capacity),
   omega (arith, c.loop-chain.invariant, c.in-Some-pop.ensures.capacity),
   omega (arith, c.loop-chain.invariant, c.push_reserved.ensures.capacity),
@@ -44,7 +48,7 @@ loop-chain-smaller c = omega (arith, c.in-Some.ensures.len)
 
 pub loop-chain-preserved : goal.loop-chain-preserved
 loop-chain-preserved c =
-    let many = dealing-as_many c.loop-chain.invariant.0 in
+    let many = dealing-count c.loop-chain.invariant.0 in
     absurd (omega (arith, many, c.in-Some.ensures.len, c.in_default-pop.ensures))
 
 pub invariant_of-map : goal.invariant_of-map
@@ -57,13 +61,15 @@ pub returns-clause-seats : goal.returns-clause-seats
 returns-clause-seats c =
     let none = nil_from_length c.loop-chain.chain_seats.items (omega (arith, c.in_default.ensures)) in
     let counter = c.in_ok-counter.counter in
-    c.reverse.ensures.items ∙ (dealing-done c.loop-chain.invariant.0 none).1
-    ∙ ap (λ chain. seats_of (record { chain = chain; counter = counter }) 0 chain.shape.seats) c.chain.view_is
-    ∙ ap (λ q. seats_of (record { chain = c.in_ok-chain.chain; counter = counter }) 0 q.seats) c.in_ok-chain.ensures.chain
+    c.reverse.ensures.items ∙ dealing-done c.loop-chain.invariant.0 none
+    ∙ ap (λ chain. new_seats (record { chain = chain; counter = counter }) chain.shape.seats)
+    c.chain.view_is
+    ∙ ap (λ q. new_seats (record { chain = c.in_ok-chain.chain; counter = counter }) q.seats)
+    c.in_ok-chain.ensures.chain
 
 pub returns-clause-own : goal.returns-clause-own
 returns-clause-own c =
-    dealt-mine (record { chain = c.in_ok-chain.chain; counter = c.in_ok-counter.counter })
+    new-mine (record { chain = c.in_ok-chain.chain; counter = c.in_ok-counter.counter })
     (subst IsPlan (sym c.in_ok-chain.ensures.chain) c.seats.ensures.plan) _ _ (returns-clause-seats c)
 
 pub returns-clause-plan : goal.returns-clause-plan

@@ -1,6 +1,6 @@
 use Rattle.std.proofs.Common.{◌≤◌, length, vec_capacity}
 use Rattle.nb_table.specs.Inside.{chain_of}
-use Rattle.nb_map.proofs.Dealt.{IsDealing}
+use Rattle.nb_map.proofs.Paired.{IsDealing}
 use Rattle.nb_map.proofs.map.Map.new.Given as goal
 
 abbrev pub invariant-loop-chain : goal.invariant-loop-chain

@@ -1,30 +1,32 @@
-use Rattle.std.proofs.Common.{◌≡◌, ◌∙◌, ℕ, ap, arith, length, map, refl, subst, sym}
+use Rattle.std.proofs.Common.{◌≡◌, ◌∙◌, ap, arith, length, map, refl, subst, sym}
+use Rattle.std.proofs.lemmas.List.{length-map}
 use Rattle.std.specs.FinMap as numbers
 use Rattle.std.specs.Vec.Iter.{into_iter_items}
+use Rattle.nb_core.proofs.Seating.{all-moved, moved-count, moved-more, none-moved}
 use Rattle.nb_set.specs.Ending.{set_left}
 use Rattle.nb_set.proofs.Items.{keys-left}
-use Rattle.nb_set.proofs.Moved.{AreMoved, all-moved, moved-more, none-moved, some-left}
 use Rattle.nb_set.proofs.ended.SetEnded.entries.Goals as goal
 
 pub loop-key-init : goal.loop-key-init
 loop-key-init c = (
   tt,
   tt,
-  none-moved c.in_ok-keys.ensures.items,
+  none-moved refl c.in_ok-keys.ensures.items,
   omega (arith, c.len.ensures, c.in_ok-keys.ensures.capacity, ap length c.into_iter-key-iterator.ensures.into_iter_gives.0, c.in_ok-entries.entries.ok),
 )
 
 pub push_reserved-requires : goal.push_reserved-requires
 push_reserved-requires c =
-    let fewer = some-left c.loop-key.invariant.2 c.in-Some.ensures.steps.0 in
-    omega (arith, fewer, c.loop-key.invariant, c.loop-key.keys.ok)
+    let all = into_iter_items c.into_iter-key-iterator.result in
+    let many = moved-count c.loop-key.invariant.2 ∙ length-map all (λ entry. entry.0) in
+    let next = ap length c.in-Some.ensures.steps.0 in
+    omega (arith, many, next, c.loop-key.invariant, c.loop-key.keys.ok)
 
 pub loop-key-preserved : goal.loop-key-preserved
 loop-key-preserved c = (
   tt,
   tt,
-  subst (AreMoved (λ (entry : ℕ × ℕ). entry.0) (into_iter_items c.into_iter-key-iterator.result) (into_iter_items c.next.new.self))
-      (sym c.push_reserved.ensures.items) (moved-more c.loop-key.invariant.2 c.in-Some.ensures.steps.0 refl),
+  moved-more c.loop-key.invariant.2 c.in-Some.ensures.steps.0 refl c.push_reserved.ensures.items,
   omega (arith, c.loop-key.invariant.3, c.push_reserved.ensures.capacity),
 )
 

@@ -1,30 +1,34 @@
 use Rattle.std.proofs.Common.{◌≡◌, ◌∙◌, ap, arith, length, map, refl, subst, sym}
+use Rattle.std.proofs.lemmas.List.{length-map}
+use Rattle.std.proofs.lemmas.List.FromFn.{length-map-range_with_len}
 use Rattle.std.specs.Vec.Iter.{into_iter_items}
+use Rattle.nb_core.proofs.Seating.{all-moved, moved-count, moved-more, none-moved}
+use Rattle.nb_map.specs.Maps as maps
 use Rattle.nb_set.specs.Sets.{AreMine}
-use Rattle.nb_set.proofs.Dealt.{as_set, dealt, length-seats, mine-as}
-use Rattle.nb_set.proofs.Moved.{AreMoved, all-moved, moved-more, none-moved, some-left}
+use Rattle.nb_set.proofs.Dealt.{as_set, dealt, mine-as}
 use Rattle.nb_set.proofs.set.LongSet.new.Goals as goal
 
 pub loop-seat-init : goal.loop-seat-init
 loop-seat-init c =
-    let many = length-seats c.in_ok-map.map 0 c.args.shape.seats in (
+    let many = length-map-range_with_len (maps.new_seat c.in_ok-map.map) 0 c.args.shape.seats in (
       tt,
       tt,
-      none-moved c.in_ok-seats.ensures.items,
+      none-moved refl c.in_ok-seats.ensures.items,
       omega (arith, many, ap length c.in_ok-map.ensures.seats, c.in_ok-seats.ensures.capacity, c.seats.ensures.number, ap length c.into_iter-seat-iterator.ensures.into_iter_gives.0),
     )
 
 pub push_reserved-requires : goal.push_reserved-requires
 push_reserved-requires c =
-    let fewer = some-left c.loop-seat.invariant.2 c.in-Some.ensures.steps.0 in
-    omega (arith, fewer, c.loop-seat.invariant, c.loop-seat.seats.ok)
+    let many = moved-count c.loop-seat.invariant.2
+    ∙ length-map (into_iter_items c.into_iter-seat-iterator.result) as_set in
+    let next = ap length c.in-Some.ensures.steps.0 in
+    omega (arith, many, next, c.loop-seat.invariant, c.loop-seat.seats.ok)
 
 pub loop-seat-preserved : goal.loop-seat-preserved
 loop-seat-preserved c = (
   tt,
   tt,
-  subst (AreMoved as_set (into_iter_items c.into_iter-seat-iterator.result) (into_iter_items c.next.new.self)) (sym c.push_reserved.ensures.items)
-      (moved-more c.loop-seat.invariant.2 c.in-Some.ensures.steps.0 refl),
+  moved-more c.loop-seat.invariant.2 c.in-Some.ensures.steps.0 refl c.push_reserved.ensures.items,
   omega (arith, c.loop-seat.invariant.3, c.push_reserved.ensures.capacity),
 )
 
@@ -36,7 +40,8 @@ seats-are c =
 
 pub returns-clause-seats : goal.returns-clause-seats
 returns-clause-seats c =
-    seats-are c ∙ ap (map as_set) c.in_ok-map.ensures.seats ∙ dealt (record { map = c.in_ok-map.map }) 0 c.args.shape.seats
+    seats-are c ∙ ap (map as_set) c.in_ok-map.ensures.seats
+    ∙ dealt (record { map = c.in_ok-map.map }) c.args.shape.seats
 
 pub returns-clause-own : goal.returns-clause-own
 returns-clause-own c =

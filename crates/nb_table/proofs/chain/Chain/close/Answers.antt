@@ -13,7 +13,8 @@ closes : (c : goal.After-close_with-table) → ClosedWith c.args.seats.items (cl
 closes c =
     let all : length c.args.seats.items ≡ c.self.inside.shape.seats
     = omega (arith, c.len.ensures, c.if-len-seats.false, c.seats.ensures.number) in
-    closed-with (closed_of (left c)) c.self.invariant.plan _ c.self.invariant.key _ c.gather-all.result _ _ c.gather-all.ensures all
+    closed-with (closed_of (left c)) c.self.invariant.plan _ c.self.invariant.key _
+    c.gather-all.result _ _ c.gather-all.ensures.all all
     (ap (λ seats. most_seen seats.items) c.of-seen.ensures) c.close_with-table.ensures.values.2
 
 pub invariant_of-result : goal.invariant_of-result

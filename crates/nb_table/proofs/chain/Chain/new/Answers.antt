@@ -1,7 +1,9 @@
-use Rattle.std.proofs.Common.{◌∙◌, ap, arith, replicate}
+use Rattle.std.proofs.Common.{◌∙◌, ◌<◌, ap, arith, replicate}
+use Rattle.nb_core.proofs.Seating.{dealing-count, dealing-done, dealing-first, dealing-more, dealing-next}
+use Rattle.nb_table.specs.Chains.{ChainOf, new_seat}
 use Rattle.nb_table.specs.declared.chain.ChainSeat.TheInside.{Inside}
 use Rattle.nb_table.proofs.Opening.{count-words, deals, opens, some-words}
-use Rattle.nb_table.proofs.Dealt.{dealt-own, dealing-count, dealing-done, dealing-first, dealing-more, dealt-is_seat}
+use Rattle.nb_table.proofs.Dealt.{dealt-is_seat, dealt-own, dealt-seat_of}
 use Rattle.nb_table.proofs.chain.Chain.new.Goals as goal
 
 pub of_words-requires : goal.of_words-requires
@@ -23,7 +25,8 @@ invariant_of-chain c =
 
 pub loop-number-init : goal.loop-number-init
 loop-number-init c = (
-  dealing-first _ _ _ _ c.in_ok-table.ensures.2 c.in_ok-table.ensures.4 c.in_ok-dealt.ensures.items,
+  c.in_ok-table.ensures.2,
+  dealing-first (ap (λ m. m.0.parts) c.in_ok-table.ensures.4) c.in_ok-dealt.ensures.items,
   omega (arith, c.in_ok-dealt.ensures.capacity, c.seats.ensures.number),
 )
 
@@ -31,7 +34,7 @@ pub split_seat-seat-requires : goal.split_seat-seat-requires
 split_seat-seat-requires c =
     let zeros = c.as_slice.ensures.value ∙ c.in_ok-words.ensures.items_if_clones_equal (λ y e. e)
     ∙ ap (λ n. replicate n 0) c.words.ensures in (
-      c.loop-number.invariant.0.own,
+      c.loop-number.invariant.0,
       omega (
         arith,
         c.in_ok-table.ensures.0,
@@ -43,39 +46,45 @@ split_seat-seat-requires c =
 
 pub invariant_of-push_reserved : goal.invariant_of-push_reserved
 invariant_of-push_reserved c =
-    dealt-is_seat c.loop-number.rest.me.0 c.loop-number._number c.args.shape.seats
-    (record { seat = c.split_seat-seat.result })
-    (omega (arith, c.loop-number-test.true, c.seats-number-end.ensures.number)) c.loop-number.invariant.0.left
-    c.split_seat-seat.ensures.4
+    let below : c.loop-number._number < c.args.shape.seats
+    = omega (arith, c.loop-number-test.true, c.seats-number-end.ensures.number) in
+    dealt-is_seat (record { seat = c.split_seat-seat.result }) c.loop-number.rest.me.0
+    c.loop-number._number c.split_seat-seat.ensures.4 (dealing-next c.loop-number.invariant.1 below)
 
 pub push_reserved-requires : goal.push_reserved-requires
 push_reserved-requires c =
     omega (
       arith,
-      dealing-count c.loop-number.invariant.0,
-      c.loop-number.invariant.1,
+      dealing-count c.loop-number.invariant.1,
+      c.loop-number.invariant.2,
       c.loop-number-test.true,
       c.seats-number-end.ensures.number,
     )
 
 pub loop-number-preserved : goal.loop-number-preserved
 loop-number-preserved c =
-    let s : Inside = record { seat = c.split_seat-seat.result } in (
-      dealing-more _ c.args.shape c.loop-number.rest _ c.loop-number.dealt.items _ s c.loop-number._number
-          (omega (arith, c.loop-number-test.true, c.seats-number-end.ensures.number)) c.loop-number.invariant.0
-          c.split_seat-seat.ensures.0 c.split_seat-seat.ensures.2 c.split_seat-seat.ensures.3 c.split_seat-seat.ensures.4
-          c.push_reserved.ensures.items,
-      omega (arith, c.loop-number.invariant.1, c.push_reserved.ensures.capacity),
+    let number = c.loop-number._number in
+    let dealing = c.loop-number.invariant.1 in
+    let below : number < c.args.shape.seats
+    = omega (arith, c.loop-number-test.true, c.seats-number-end.ensures.number) in
+    let s : Inside = record { seat = c.split_seat-seat.result } in
+    let seat = dealt-seat_of s c.loop-number.rest.me.0 number c.split_seat-seat.ensures.4
+    (dealing-next dealing below)
+    ∙ ap (λ id. new_seat id number) (c.split_seat-seat.ensures.3 ∙ c.loop-number.invariant.0) in (
+      c.split_seat-seat.ensures.0 ∙ c.loop-number.invariant.0,
+      dealing-more dealing below (ap (λ m. m.0.parts) c.split_seat-seat.ensures.2)
+          c.push_reserved.ensures.items seat,
+      omega (arith, c.loop-number.invariant.2, c.push_reserved.ensures.capacity),
     )
 
 pub returns-clause-seats : goal.returns-clause-seats
 returns-clause-seats c =
-    dealing-done _ c.args.shape _ _ c.loop-number._number (omega (arith, c.loop-number-test.false, c.seats-number-end.ensures.number))
-    (omega (arith, c.loop-number.auto._number-end, c.seats-number-end.ensures.number)) c.loop-number.invariant.0
+    dealing-done c.loop-number.invariant.1
+    (omega (arith, c.loop-number-test.false, c.seats-number-end.ensures.number))
+    (omega (arith, c.loop-number.auto._number-end, c.seats-number-end.ensures.number))
 
 pub returns-clause-own : goal.returns-clause-own
 returns-clause-own c =
     let p = c.args.shape in
-    let are = dealing-done _ p _ _ c.loop-number._number (omega (arith, c.loop-number-test.false, c.seats-number-end.ensures.number))
-    (omega (arith, c.loop-number.auto._number-end, c.seats-number-end.ensures.number)) c.loop-number.invariant.0 in
-    dealt-own (record { id = c.in_ok-table.table.shared.table_id; shape = p }) c.seats.ensures.plan _ p.seats are
+    let chain : ChainOf = record { id = c.in_ok-table.table.shared.table_id; shape = p } in
+    dealt-own chain c.seats.ensures.plan _ p.seats (returns-clause-seats c)
