@@ -5,7 +5,7 @@ use Rattle.std.specs.List.Sorted.{IsNonDecreasing}
 use Rattle.std.proofs.lemmas.Bool.{leb-true}
 use Rattle.std.proofs.lemmas.List.Sums.{AllPass-from_list_all}
 use Rattle.nb_core.specs.declared.shapes.ShapeFault.{ShapeFault}
-use Rattle.nb_core.specs.Plans.{Plan, IsPlan, checked_plan, is_within, never_falls}
+use Rattle.nb_core.specs.Plans.{Plan, IsPlan, checked_plan, is_within, never_falls, plan}
 use Rattle.nb_core.proofs.Passing.{both}
 
 -- what isn't refused passed the test, and goes on
@@ -34,21 +34,26 @@ never_falls-true (e ∷ f ∷ es) holds zero (suc j) d order within =
 never_falls-true (e ∷ f ∷ es) holds (suc i) (suc j) d order within =
     never_falls-true (f ∷ es) (both (leb e f) (never_falls (f ∷ es)) holds).1 i j d (omega arith) (omega arith)
 
--- a plan that passes the checks is one that a shape may be
-pub accepted-plan : (p : Plan) → checked_plan p.exponents p.seats p.stripes ≡ Ok p → IsPlan p
-accepted-plan p accepted =
-    let tables = not_refused (is_within 1 16 (length p.exponents)) _ _ p accepted in
-    let sizes = not_refused (list_all (is_within 2 19) p.exponents) _ _ p tables.1 in
-    let rising = not_refused (never_falls p.exponents) _ _ p sizes.1 in
-    let seats = not_refused (is_within 1 8 p.seats) _ _ p rising.1 in
-    let stripes = not_refused (is_within 1 8 p.stripes) _ _ p seats.1 in
-    let few = is_within-true 1 16 (length p.exponents) tables.0 in
+-- exponents, seats and stripes that pass the checks make a plan that a shape may be
+pub accepted-plan :
+    (exponents : List ℕ) (seats stripes : ℕ) → checked_plan exponents seats stripes ≡ Ok (plan exponents seats stripes)
+    → IsPlan (plan exponents seats stripes)
+accepted-plan exponents seats stripes accepted =
+    let p = plan exponents seats stripes in
+    let tables = not_refused (is_within 1 16 (length exponents)) _ _ p accepted in
+    let sizes = not_refused (list_all (is_within 2 19) exponents) _ _ p tables.1 in
+    let rising = not_refused (never_falls exponents) _ _ p sizes.1 in
+    let seated = not_refused (is_within 1 8 seats) _ _ p rising.1 in
+    let striped = not_refused (is_within 1 8 stripes) _ _ p seated.1 in
+    let few = is_within-true 1 16 (length exponents) tables.0 in
     record {
       some_tables = few.0;
       few_tables = few.1;
       sizes = λ k d within.
-          is_within-true 2 19 (get_or p.exponents k d) (AllPass-from_list_all (is_within 2 19) p.exponents sizes.0 k d within);
-      never_fall = never_falls-true p.exponents rising.0;
-      seats = is_within-true 1 8 p.seats seats.0;
-      stripes = is_within-true 1 8 p.stripes stripes.0;
+          is_within-true 2 19 (get_or exponents k d) (AllPass-from_list_all (is_within 2 19) exponents sizes.0 k d within);
+      never_fall = never_falls-true exponents rising.0;
+      seats = is_within-true 1 8 seats seated.0;
+      stripes = is_within-true 1 8 stripes striped.0;
+      reprobes = (omega arith, omega arith);
+      chunk = (3, omega arith, omega arith, refl);
     }

@@ -7,15 +7,17 @@ use Rattle.std.proofs.lemmas.Bool.Decides.{nat_tests}
 use Rattle.std.proofs.lemmas.List.Sorted.{IsNonDecreasingBy-drop}
 use Rattle.std.proofs.lemmas.List.Sums.{list_all-from_AllPass}
 use Rattle.nb_core.specs.declared.shapes.ShapeFault.TheVariants as fault
-use Rattle.nb_core.specs.Plans.{Plan, IsPlan, checked_plan, is_within, never_falls, seated}
+use Rattle.nb_core.specs.Plans.{IsPlan, checked_plan, is_within, never_falls, plan, seated}
 
 is_within-true : (low high n : ℕ) → (low ≤ n) × (n ≤ high) → is_within low high n ≡ true
 is_within-true low high n h = grind (arith, nat_tests)
 
 -- seats and stripes of a plan are not refused
-pub seated-plan : (p : Plan) → IsPlan p → seated p.exponents p.seats p.stripes ≡ Ok p
-seated-plan p plan =
-    rw (is_within-true 1 8 p.seats plan.seats, is_within-true 1 8 p.stripes plan.stripes)
+pub seated-plan :
+    (exponents : List ℕ) (seats stripes : ℕ) → IsPlan (plan exponents seats stripes)
+    → seated exponents seats stripes ≡ Ok (plan exponents seats stripes)
+seated-plan exponents seats stripes is =
+    rw (is_within-true 1 8 seats is.seats, is_within-true 1 8 stripes is.stripes)
 
 never_falls-true : (es : List ℕ) → IsNonDecreasing es → never_falls es ≡ true
 never_falls-true [] h = refl

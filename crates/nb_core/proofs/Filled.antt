@@ -79,7 +79,16 @@ take-filled exponents xs h few =
 
 -- the fields of a shape whose tables are all laid out
 abbrev laid : Plan → List ℕ → List ℕ → ℕ → Inside
-laid p xs ys end = record { exponents = xs; bases = ys; words = end; generations = generations_of p; seats = p.seats; stripes = p.stripes }
+laid p xs ys end = record {
+  exponents = xs;
+  bases = ys;
+  words = end;
+  reprobes = p.reprobes;
+  chunk = p.chunk;
+  generations = generations_of p;
+  seats = p.seats;
+  stripes = p.stripes;
+}
 
 pub plan_of-laid : (p : Plan) (xs ys : List ℕ) (end n : ℕ) → IsPlan p → n ≡ generations_of p → AreLaid p.exponents xs ys end n → plan_of (laid p xs ys end) ≡ p
 plan_of-laid p xs ys end n plan all h =

@@ -1,15 +1,34 @@
 -- What the fields of a shape say of its plan.
-use Rattle.std.proofs.Common.{◌≡◌, ◌∙◌, ℕ, ◌<◌, ◌≤◌, ap, sym, subst, cond, ltb, slice_index, arith}
+use Rattle.std.proofs.Common.{◌≡◌, ◌∙◌, ℕ, ◌^◌, ◌<◌, ◌≤◌, ap, sym, subst, cond, ltb, slice_index, arith}
 use Rattle.std.proofs.lemmas.Bool.{lt-ltb}
 use Rattle.std.proofs.lemmas.List.{get_or-take, length-take}
 use Rattle.std.proofs.lemmas.List.Elements.{All-get_or}
 use Rattle.std.proofs.lemmas.List.FromFn.{get_or-map-range_with_len}
 use Rattle.nb_core.specs.declared.shapes.Shape.TheInside.{Inside}
-use Rattle.nb_core.specs.Plans.{Plan, IsPlan, base_of, generations_of}
-use Rattle.nb_core.specs.Places.{IsInside, inside_of, kept_bases, plan_of}
+use Rattle.nb_core.specs.Plans.{Plan, IsChunk, IsPlan, base_of, generations_of}
+use Rattle.nb_core.specs.Places.{IsInside, inside_of, kept_bases, kept_exponents, plan_of}
 
 pub plan-kept : (a : Inside) (p : Plan) → IsInside a → plan_of a ≡ p → IsPlan p
 plan-kept a p h e = subst IsPlan e h.plan
+
+-- the fields of a shape with another reprobe limit and chunk are those of a shape
+pub inside-tuned :
+    (a : Inside) (reprobes chunk : ℕ) → IsInside a → (1 ≤ reprobes) × (reprobes < 2 ^ 32) → IsChunk chunk
+    → IsInside (record a { reprobes = reprobes; chunk = chunk })
+unfolding kept_exponents kept_bases
+inside-tuned a reprobes chunk h some is = record {
+  plan = record {
+    some_tables = h.plan.some_tables;
+    few_tables = h.plan.few_tables;
+    sizes = h.plan.sizes;
+    never_fall = h.plan.never_fall;
+    seats = h.plan.seats;
+    stripes = h.plan.stripes;
+    reprobes = some;
+    chunk = is;
+  };
+  fields = ap (λ (b : Inside). record b { reprobes = reprobes; chunk = chunk }) h.fields;
+}
 
 -- a table's exponent stands where the plan has it
 pub exponents-at : (a : Inside) (p : Plan) (g : ℕ) → plan_of a ≡ p → g < generations_of p → slice_index p.exponents g ≡ slice_index a.exponents g

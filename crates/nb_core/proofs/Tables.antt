@@ -1,6 +1,7 @@
 -- The tables of a chain: how large they are, and where they lie, one after another.
-use Rattle.std.proofs.Common.{◌≡◌, ℕ, ◌+◌, ◌*◌, ◌/◌, ◌^◌, ◌<◌, ◌≤◌, suc, take, ap, refl, arith, inl, inr, eqb, cond, Bool, true, false, add-one}
+use Rattle.std.proofs.Common.{◌≡◌, ℕ, ◌+◌, ◌*◌, ◌/◌, ◌^◌, ◌<◌, ◌≤◌, min, suc, take, ap, refl, arith, inl, inr, eqb, cond, Bool, true, false, add-one}
 use Rattle.std.specs.List.{sum_by}
+use Rattle.std.proofs.Math.Nat.{le-min, le_trans, min-le_right}
 use Rattle.std.proofs.Math.Pow.{pow_mono}
 use Rattle.std.proofs.lemmas.Bool.{cases_order}
 use Rattle.std.proofs.lemmas.List.{take-take}
@@ -77,10 +78,15 @@ four-le-size_of p g plan within =
     let sizes = plan.sizes g 0 within in
     let least : 2 ^ 2 ≤ size_of p g = pow_mono sizes.0 in omega arith
 
-limit-fits : (last : Bool) (n : ℕ) → 4 ≤ n → (1 ≤ cond last n (2 + n / 4)) × (cond last n (2 + n / 4) ≤ n)
-limit-fits true n least = (omega arith, omega arith)
-limit-fits false n least = (omega arith, omega arith)
+limit-fits :
+    (last : Bool) (reprobes n : ℕ) → 1 ≤ reprobes → 4 ≤ n
+    → (1 ≤ cond last n (min reprobes (2 + n / 4))) × (cond last n (min reprobes (2 + n / 4)) ≤ n)
+limit-fits true reprobes n some least = (omega arith, omega arith)
+limit-fits false reprobes n some least = (
+  le-min some (omega arith),
+  le_trans (min-le_right reprobes (2 + n / 4)) (omega (arith, least)),
+)
 
 pub limits_fit : LimitsFit
 limits_fit p plan g within =
-    limit-fits (eqb (suc g) (generations_of p)) (size_of p g) (four-le-size_of p g plan within)
+    limit-fits (eqb (suc g) (generations_of p)) p.reprobes (size_of p g) plan.reprobes.0 (four-le-size_of p g plan within)

@@ -1,7 +1,7 @@
 -- Worked histories, the newest event first. They are examples: each is proved legal.
 use Rattle.std.specs.Prelude.{◌≡◌, ℕ, suc, zero, Bool, true, false, if◌then◌else◌, List, [], ◌∷◌, All, Option, Some, None}
 use Rattle.std.specs.FinMap as map
-use Rattle.nb_core.specs.Plans.{Plan, size_of}
+use Rattle.nb_core.specs.Plans.{Plan, plan, size_of}
 use Rattle.nb_core.specs.Tables.{Tables, tables_at}
 use Rattle.nb_core.specs.History.{map_of}
 use Rattle.nb_core.specs.declared.calls.Call.TheVariants as call
@@ -19,10 +19,6 @@ use Rattle.nb_core.specs.declared.states.ValueState.{ValueState}
 pub record Worked : Type 0 where
   pub plan : Plan
   pub events : List Event
-
--- the plan of tables with these exponents
-abbrev pub plan : List ℕ → ℕ → ℕ → Plan
-plan exponents seats stripes = record { exponents = exponents; seats = seats; stripes = stripes }
 
 -- the reply with this earlier number, which says whether the condition held
 abbrev pub replied : Option ℕ → Bool → Reply

@@ -6,7 +6,7 @@ use Rattle.nb_core.specs.Plans.{Plan, IsPlan, base_of, generations_of, word_coun
 
 -- the plan that the fields keep
 abbrev pub plan_of : Inside → Plan
-plan_of a = record { exponents = take a.generations a.exponents; seats = a.seats; stripes = a.stripes }
+plan_of a = record { exponents = take a.generations a.exponents; seats = a.seats; stripes = a.stripes; reprobes = a.reprobes; chunk = a.chunk }
 
 -- the exponents, and 0 at each place past the last table
 unfoldable pub kept_exponents : Plan → List ℕ
@@ -25,6 +25,8 @@ inside_of p = record {
   generations = generations_of p;
   seats = p.seats;
   stripes = p.stripes;
+  reprobes = p.reprobes;
+  chunk = p.chunk;
 }
 
 -- the fields are those of the shape of a plan

@@ -1,5 +1,6 @@
 -- The shape of a chain of tables: how many tables, how large each is, and where each word of it lies.
-use Rattle.std.specs.Prelude.{◌≡◌, ℕ, ◌+◌, ◌*◌, ◌/◌, ◌^◌, ◌<◌, ◌≤◌, suc, zero, ◌==◌, ◌&&◌, Bool, true, not, nat_le, if◌then◌else◌, List, [], ◌∷◌, length, take, sum_by, slice_index, Result, Ok, Err, All}
+use Rattle.std.specs.Prelude.{◌≡◌, ℕ, ◌+◌, ◌*◌, ◌/◌, ◌-◌, ◌^◌, ◌<◌, ◌≤◌, min, suc, zero, ◌==◌, ◌&&◌, Bool, true, not, nat_le, if◌then◌else◌, List, [], ◌∷◌, length, take, sum_by, slice_index, Result, Ok, Err, All}
+use Rattle.std.specs.Int.{is_power_of_two}
 use Rattle.std.specs.List.{list_all}
 use Rattle.std.specs.List.Sorted.{IsNonDecreasing}
 use Rattle.nb_core.specs.declared.shapes.HeaderWord.{HeaderWord}
@@ -8,11 +9,18 @@ use Rattle.nb_core.specs.declared.shapes.ShapeFault.{ShapeFault}
 use Rattle.nb_core.specs.declared.shapes.ShapeFault.TheVariants as fault
 
 -- Table g has 2 to the power exponents[g] slots. There are seats for so many callers, and a size is counted over so many
--- stripes.
+-- stripes. No table but the last takes a new key past so many slots of the key's path, and at most so many slots are handed
+-- out for copying at once.
 pub record Plan : Type 0 where
   pub exponents : List ℕ
   pub seats : ℕ
   pub stripes : ℕ
+  pub reprobes : ℕ
+  pub chunk : ℕ
+
+-- a power of two from 4 to 1024
+abbrev pub IsChunk : ℕ → Type 0
+IsChunk n = (e : ℕ) × (2 ≤ e) × (e ≤ 10) × (n ≡ 2 ^ e)
 
 -- what a shape may be
 pub record IsPlan (p : Plan) : Type 0 where
@@ -22,6 +30,8 @@ pub record IsPlan (p : Plan) : Type 0 where
   pub never_fall : IsNonDecreasing p.exponents
   pub seats : (1 ≤ p.seats) × (p.seats ≤ 8)
   pub stripes : (1 ≤ p.stripes) × (p.stripes ≤ 8)
+  pub reprobes : (1 ≤ p.reprobes) × (p.reprobes < 2 ^ 32)
+  pub chunk : IsChunk p.chunk
 
 -- how many tables there are
 abbrev pub generations_of : Plan → ℕ
@@ -33,7 +43,7 @@ size_of p g = 2 ^ slice_index p.exponents g
 
 -- how many slots of its path a key may be claimed in by a fresh writer; in the last table, all
 abbrev pub limit_of : Plan → ℕ → ℕ
-limit_of p g = if suc g == generations_of p then size_of p g else 2 + size_of p g / 4
+limit_of p g = if suc g == generations_of p then size_of p g else min p.reprobes (2 + size_of p g / 4)
 
 -- how many words a table has: three header words (next, take, done), and a key word and a value word for each slot
 abbrev pub table_words : ℕ → ℕ
@@ -113,12 +123,17 @@ never_falls [] = true
 never_falls (e ∷ []) = true
 never_falls (e ∷ f ∷ es) = nat_le e f && never_falls (f ∷ es)
 
+-- the plan of these tables, seats and stripes, with no reprobe limit beside that of each table's size and chunks of 8 slots
+abbrev pub plan : List ℕ → ℕ → ℕ → Plan
+plan exponents seats stripes =
+    record { exponents = exponents; seats = seats; stripes = stripes; reprobes = 2 ^ 32 - 1; chunk = 8 }
+
 -- the plan, or the first thing that is wrong with its seats and stripes
 abbrev pub seated : List ℕ → ℕ → ℕ → Result Plan ShapeFault
 seated exponents seats stripes =
     if not (is_within 1 8 seats) then Err fault.Seats
     else if not (is_within 1 8 stripes) then Err fault.Stripes
-    else Ok (record { exponents = exponents; seats = seats; stripes = stripes })
+    else Ok (plan exponents seats stripes)
 
 -- the plan of these exponents, or the first thing that is wrong with it
 abbrev pub checked_plan : List ℕ → ℕ → ℕ → Result Plan ShapeFault
@@ -139,3 +154,12 @@ checked_shape bits generations seats stripes =
     if not (is_within 2 12 bits) then Err fault.Bits
     else if not (is_within 1 8 generations) then Err fault.Generations
     else seated (rising bits generations) seats stripes
+
+-- the plan with this reprobe limit, which is a slot at least
+abbrev pub checked_reprobes : Plan → ℕ → Result Plan ShapeFault
+checked_reprobes p reprobes = if nat_le 1 reprobes then Ok (record p { reprobes = reprobes }) else Err fault.Reprobes
+
+-- the plan with chunks of so many slots, a power of two from 4 to 1024
+abbrev pub checked_chunk : Plan → ℕ → Result Plan ShapeFault
+checked_chunk p slots =
+    if is_within 4 1024 slots && is_power_of_two slots then Ok (record p { chunk = slots }) else Err fault.Chunk

@@ -1,6 +1,6 @@
 -- Events that may not follow a legal history: what wrong code would do. They are examples: each is proved refused.
 use Rattle.std.specs.Prelude.{List, [], ◌∷◌, true, Some, None}
-use Rattle.nb_core.specs.Plans.{Plan}
+use Rattle.nb_core.specs.Plans.{Plan, plan}
 use Rattle.nb_core.specs.declared.calls.Call.TheVariants as call
 use Rattle.nb_core.specs.declared.calls.Change.TheVariants as change
 use Rattle.nb_core.specs.declared.calls.Want.TheVariants.{Any}
@@ -8,7 +8,7 @@ use Rattle.nb_core.specs.declared.events.Event.{Event}
 use Rattle.nb_core.specs.declared.events.Event.TheVariants.{Claim, Kill, Won, CopyIn, Prime, Finish, Install, Take, Count, Promote, Read}
 use Rattle.nb_core.specs.declared.states.ValueState.TheVariants.{Null, Tombstone, Live}
 use Rattle.nb_core.specs.History.{MayFollow, Replies, map_of}
-use Rattle.nb_core.specs.Histories.{plan, replied}
+use Rattle.nb_core.specs.Histories.{replied}
 
 -- a legal history, and an event that may not follow it
 pub record Wrong : Type 0 where

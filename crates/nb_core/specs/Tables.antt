@@ -13,7 +13,7 @@ use Rattle.nb_core.specs.declared.states.ValueState.TheVariants.{Null, Tombstone
 
 -- how many slots are handed out at once
 abbrev pub chunk_of : Plan → ℕ → ℕ
-chunk_of p g = min (size_of p g) 8
+chunk_of p g = min (size_of p g) p.chunk
 
 -- the words with one changed by what it was
 abbrev pub changed_at : List ℕ → ℕ → (ℕ → ℕ) → List ℕ

@@ -3,10 +3,10 @@
 //! The histories are written out in this crate's `specs/Histories.antt`, and what wrong code would do in
 //! `specs/Refusals.antt`.
 ghost use Rattle.std.specs.Prelude.{◌≡◌, pos, List, [], ◌∷◌, Some, None, map, replicate};
-ghost use Rattle.nb_core.specs.Plans.{IsPlan, base_of, key_place, limit_of, value_place, word_count};
+ghost use Rattle.nb_core.specs.Plans.{IsPlan, base_of, key_place, limit_of, plan, value_place, word_count};
 ghost use Rattle.nb_core.specs.States.{key_word, value_state, value_word};
 ghost use Rattle.nb_core.specs.Tables.{chunk_of, tables_at};
-ghost use Rattle.nb_core.specs.Histories.{HasNumbers, headers_at, plan, slots_at, top_at, grows_when_a_path_is_crowded, a_removal_is_not_copied, copy_of_one_slot, stopped_copier, three_helpers, contended_once, contended_once_with_two_tries, filled_removed_refilled, plan_of_three, same_size_successor, add_contended_once, adds, full_in_the_middle, half_copied};
+ghost use Rattle.nb_core.specs.Histories.{HasNumbers, headers_at, slots_at, top_at, grows_when_a_path_is_crowded, a_removal_is_not_copied, copy_of_one_slot, stopped_copier, three_helpers, contended_once, contended_once_with_two_tries, filled_removed_refilled, plan_of_three, same_size_successor, add_contended_once, adds, full_in_the_middle, half_copied};
 ghost use Rattle.nb_core.specs.History.{IsLegal};
 ghost use Rattle.nb_core.specs.Log.{log_of};
 ghost use Rattle.nb_core.specs.Tables.{finished_among};

@@ -1,7 +1,7 @@
 //! The shape of a chain of tables.
 ghost use Rattle.std.specs.Prelude.{◌≡◌, ◌/◌, ◌^◌, ◌<◌, ◌≤◌, All, length};
 ghost use Rattle.std.specs.List.Sorted.{IsNonDecreasing};
-ghost use Rattle.nb_core.specs.Plans.{IsPlan, base_of, checked_plan, checked_shape, generations_of, header_index, header_place, key_place, limit_of, seated, size_of, value_place, word_count};
+ghost use Rattle.nb_core.specs.Plans.{IsChunk, IsPlan, base_of, checked_chunk, checked_plan, checked_reprobes, checked_shape, generations_of, header_index, header_place, key_place, limit_of, seated, size_of, value_place, word_count};
 ghost use Rattle.nb_core.specs.Tables.{chunk_of, path_slot};
 
 use crate::numbers::Key;
@@ -21,6 +21,10 @@ pub enum ShapeFault {
     Stripes,
     #[error("a table smaller than the one before it")]
     Plan,
+    #[error("reprobe limit out of range")]
+    Reprobes,
+    #[error("chunk out of range")]
+    Chunk,
 }
 
 /// The most tables of a chain.
@@ -32,8 +36,11 @@ pub const MAX_SEATS: usize = 8;
 /// The most stripes of a counter.
 pub const MAX_STRIPES: usize = 8;
 
-/// The most slots that are handed out for copying at once, as a power of two.
-const CHUNK_EXPONENT: u8 = 3;
+/// The most slots that are handed out for copying at once, where a shape asks for nothing else.
+const CHUNK: u16 = 8;
+
+/// The most slots that a shape may ask for.
+const MAX_CHUNK: u32 = 1024;
 
 /// The words that a table begins with, by what they tell.
 #[derive(Clone, Copy, Debug, PartialEq, Eq, Hash)]
@@ -54,6 +61,8 @@ pub struct Shape {
     exponents: [u8; MAX_GENERATIONS],
     bases: [u32; MAX_GENERATIONS],
     words: u32,
+    reprobes: u32,
+    chunk: u16,
     generations: u8,
     seats: u8,
     stripes: u8,
@@ -126,6 +135,8 @@ impl Shape {
             exponents: kept,
             bases,
             words,
+            reprobes: u32::MAX,
+            chunk: CHUNK,
             generations: exponents.len() as u8,
             seats: seats as u8,
             stripes: stripes as u8,
@@ -147,6 +158,33 @@ impl Shape {
             return Err(ShapeFault::Plan);
         }
         Self::seated(exponents, seats, stripes)
+    }
+
+    /// The same with a reprobe limit: a table that isn't the last takes no new key past so many slots of the key's path, nor
+    /// past `2 + size / 4` of them; it grows instead. The limit is 1 at least. A small one keeps paths short, and has tables
+    /// grow while they are still half empty. The idea is `reprobe_limit` of high-scale-lib.
+    pub fn with_reprobe_limit(self, reprobes: u32) -> Result<Shape, ShapeFault>
+        ensures { result ≡ checked_reprobes self reprobes }
+    {
+        if reprobes < 1 {
+            return Err(ShapeFault::Reprobes);
+        }
+        Ok(Shape { reprobes, ..self })
+    }
+
+    /// The same with larger or smaller chunks: at most so many slots are handed out for copying at once, a power of two from
+    /// 4 to 1024. Who writes while a table grows copies a chunk first, so large chunks make growth cheaper, and single calls
+    /// dearer.
+    pub fn with_chunk(self, slots: u32) -> Result<Shape, ShapeFault>
+        ensures { result ≡ checked_chunk self slots }
+    {
+        if !(4..=MAX_CHUNK).contains(&slots) || !slots.is_power_of_two() {
+            return Err(ShapeFault::Chunk);
+        }
+        Ok(Shape {
+            chunk: slots as u16,
+            ..self
+        })
     }
 
     /// How many tables there are.
@@ -180,13 +218,13 @@ impl Shape {
         1 << self.exponents[g as usize]
     }
 
-    /// How many slots of table `g` are handed out for copying at once: 8, or all of a smaller table.
+    /// How many slots of table `g` are handed out for copying at once: a chunk, or all of a smaller table.
     pub fn chunk_of(&self, g: u32) -> usize
         requires { g < generations_of self.now }
-        ensures { result ≡ chunk_of self.now g }
+        ensures chunk { result ≡ chunk_of self.now g }
+        ensures power { IsChunk result }
     {
-        let exponent = self.exponents[g as usize].min(CHUNK_EXPONENT);
-        1 << exponent
+        self.size_of(g).min(usize::from(self.chunk))
     }
 
     /// How many chunks table `g` is handed out in.
@@ -194,12 +232,11 @@ impl Shape {
         requires { g < generations_of self.now }
         ensures { result ≡ size_of self.now g / chunk_of self.now g }
     {
-        let exponent = self.exponents[g as usize].saturating_sub(CHUNK_EXPONENT);
-        1 << exponent
+        self.size_of(g) >> self.chunk_of(g).trailing_zeros()
     }
 
-    /// How many slots of its path in table `g` a key that has no slot in the table below may be claimed in: `2 + size / 4`,
-    /// and in the last table all. The idea is `reprobe_limit` of high-scale-lib.
+    /// How many slots of its path in table `g` a key that has no slot in the table below may be claimed in: `2 + size / 4`
+    /// or the reprobe limit, whichever is smaller, and in the last table all.
     pub fn limit_of(&self, g: u32) -> usize
         requires { g < generations_of self.now }
         ensures { result ≡ limit_of self.now g }
@@ -209,7 +246,7 @@ impl Shape {
         if g + 1 == generations {
             size
         } else {
-            2 + size / 4
+            (2 + size / 4).min(self.reprobes as usize)
         }
     }
 

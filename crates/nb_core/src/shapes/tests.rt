@@ -5,7 +5,11 @@ use std::test::Fail;
 fn assert_places(rt: &impl Abort, shape: &Shape, bases: &[usize], words: usize) {
     assert_eq!(rt; shape.generations() as usize, bases.len());
     for g in 0..shape.generations() {
-        assert_eq!(rt; shape.header_place(g, HeaderWord::Next), bases[g as usize], "of table {g}");
+        assert_eq!(rt;
+            shape.header_place(g, HeaderWord::Next),
+            bases[g as usize],
+            "of table {g}"
+        );
     }
     assert_eq!(rt; shape.words(), words);
 }
@@ -78,6 +82,40 @@ fn shape_refusals(rt: HostRuntime) {
 }
 
 #[test]
+fn tuned_plans(rt: HostRuntime) -> Result<(), Fail> {
+    let plain = Shape::with_plan(&[2, 4, 6, 8, 10], 1, 1)?;
+    let tuned = plain.with_reprobe_limit(5)?.with_chunk(64)?;
+    let limits = [(3, 3), (6, 5), (18, 5), (66, 5), (1024, 1024)];
+    let chunks = [(4, 4), (8, 16), (8, 64), (8, 64), (8, 64)];
+    for g in 0..5 {
+        let at = g as usize;
+        assert_eq!(rt; (plain.limit_of(g), tuned.limit_of(g)), limits[at]);
+        assert_eq!(rt; (plain.chunk_of(g), tuned.chunk_of(g)), chunks[at]);
+        assert_eq!(rt; tuned.chunks_of(g), tuned.size_of(g) / tuned.chunk_of(g));
+    }
+    assert_eq!(rt; (tuned.words(), tuned.seats()), (plain.words(), 1));
+    assert_eq!(rt;
+        plain.with_reprobe_limit(u32::MAX)?.with_chunk(8),
+        Ok(plain)
+    );
+    assert_eq!(rt; plain.with_reprobe_limit(1)?.limit_of(2), 1);
+    Ok(())
+}
+
+#[test]
+fn tuning_refusals(rt: HostRuntime) -> Result<(), Fail> {
+    let plain = Shape::new(2, 2, 1, 1)?;
+    assert_eq!(rt; plain.with_reprobe_limit(0), Err(ShapeFault::Reprobes));
+    for slots in [0, 1, 2, 3, 5, 6, 12, 1023, 1025, 2048, u32::MAX] {
+        assert_eq!(rt; plain.with_chunk(slots), Err(ShapeFault::Chunk));
+    }
+    for slots in [4, 8, 16, 32, 64, 128, 256, 512, 1024] {
+        assert!(rt; plain.with_chunk(slots).is_ok());
+    }
+    Ok(())
+}
+
+#[test]
 fn fault_texts(rt: HostRuntime) -> Result<(), Fail> {
     for (fault, text) in [
         (ShapeFault::Bits, "bits out of range"),
@@ -85,6 +123,8 @@ fn fault_texts(rt: HostRuntime) -> Result<(), Fail> {
         (ShapeFault::Seats, "number of seats out of range"),
         (ShapeFault::Stripes, "number of stripes out of range"),
         (ShapeFault::Plan, "a table smaller than the one before it"),
+        (ShapeFault::Reprobes, "reprobe limit out of range"),
+        (ShapeFault::Chunk, "chunk out of range"),
     ] {
         assert_eq!(rt; fault.to_string(rt.alloc())?.as_str(), text);
     }

@@ -1,16 +1,20 @@
-use Rattle.std.proofs.Common.{◌≡◌, ◌∙◌, ◌-◌, ◌*◌, ◌/◌, ◌^◌, ◌≤◌, min, ap, sym, slice_index, arith}
-use Rattle.std.proofs.Math.Nat.{mod-eq_of_lt}
-use Rattle.std.proofs.Math.Pow.{pow_mono}
-use Rattle.nb_core.proofs.Kept.{exponents-at, exponents-few}
-use Rattle.nb_core.proofs.Powers.{by-smaller-power}
+use Rattle.std.proofs.Common.{◌≡◌, ◌∙◌, ◌≤◌, ◌^◌, ◌/◌, ℕ, ap, arith, sym, w64}
+use Rattle.std.specs.Int.{trailing_zeros}
+use Rattle.nb_core.specs.Plans.{IsChunk, size_of}
+use Rattle.nb_core.proofs.Powers.{trailing-power}
 use Rattle.nb_core.proofs.shapes.Shape.chunks_of.Goals as goal
+
+exponent-is : (chunk : ℕ) (power : IsChunk chunk) → trailing_zeros w64 chunk ≡ power.0
+exponent-is chunk power = ap (trailing_zeros w64) power.3 ∙ trailing-power power.0 (omega (arith, power.2))
+
+pub overflow_shr-result : goal.overflow_shr-result
+overflow_shr-result c =
+    let power = c.chunk_of.ensures.power in
+    omega (arith, exponent-is c.chunk_of.result power, power.2)
 
 pub returns : goal.returns
 returns c =
-    let e = slice_index c.self.inside.exponents c.args.g in
-    let few : 2 ^ (e - 3) ≤ 2 ^ 19 =
-        pow_mono {j = 19} (omega (arith, exponents-few _ _ c.args.g c.self.invariant c.self.view_is c.requires)) in
-    let chunks : 2 ^ c.saturating_sub-exponent.result ≡ 2 ^ (e - 3) = ap (λ n. 2 ^ n) c.saturating_sub-exponent.ensures in
-    let once : 1 * 2 ^ c.saturating_sub-exponent.result ≡ 2 ^ c.saturating_sub-exponent.result = omega arith in
-    mod-eq_of_lt (omega (arith, once, chunks, few)) ∙ once ∙ chunks ∙ by-smaller-power e 3
-    ∙ ap (λ n. 2 ^ n / min (2 ^ n) 8) (sym (exponents-at c.self.inside _ c.args.g c.self.view_is c.requires))
+    let power = c.chunk_of.ensures.power in
+    let zeros = exponent-is c.chunk_of.result power in
+    (λ i. c.size_of.ensures.size i / 2 ^ zeros i)
+    ∙ ap (λ n. size_of c.args.self.now c.args.g / n) (sym power.3 ∙ c.chunk_of.ensures.chunk)

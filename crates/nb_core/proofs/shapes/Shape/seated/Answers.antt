@@ -1,7 +1,7 @@
-use Rattle.std.proofs.Common.{◌∙◌, Ok, ap, arith, rules, sym}
+use Rattle.std.proofs.Common.{◌∙◌, Ok, ap, arith, refl, rules, sym}
 use Rattle.nb_core.proofs.Checks.{seated-plan}
 use Rattle.nb_core.proofs.Filled.{AreLaid-more, end_of-le, IsInside-laid, plan_of-laid, table-fits}
-use Rattle.nb_core.specs.Plans.{IsPlan, Plan}
+use Rattle.nb_core.specs.Plans.{IsPlan, Plan, plan}
 use Rattle.nb_core.proofs.shapes.Shape.seated.Goals as goal
 
 pub overflow_add-words : goal.overflow_add-words
@@ -16,10 +16,10 @@ pub loop-g-preserved : goal.loop-g-preserved
 loop-g-preserved c =
     AreLaid-more _ _ _ _ _ _ c.loop-g.invariant c.loop-g-test.true c.requires.few_tables (omega (arith, table-fits c.args.exponents.now c.loop-g.g c.requires.sizes c.loop-g-test.true))
 
-abbrev plan : goal.After-loop-g → Plan
-plan c = record { exponents = c.args.exponents.now; seats = c.args.seats; stripes = c.args.stripes }
+abbrev seated_plan : goal.After-loop-g → Plan
+seated_plan c = plan c.args.exponents.now c.args.seats c.args.stripes
 
-plan_is : (c : goal.After-loop-g) → IsPlan (plan c)
+plan_is : (c : goal.After-loop-g) → IsPlan (seated_plan c)
 plan_is c = record {
   some_tables = c.requires.some_tables;
   few_tables = c.requires.few_tables;
@@ -27,11 +27,13 @@ plan_is c = record {
   never_fall = c.requires.never_fall;
   seats = search rules;
   stripes = search rules;
+  reprobes = (omega arith, omega arith);
+  chunk = (3, omega arith, omega arith, refl);
 }
 
 pub invariant_of-result : goal.invariant_of-result
-invariant_of-result c = IsInside-laid (plan c) _ _ _ _ (plan_is c) (omega arith) c.loop-g.invariant
+invariant_of-result c = IsInside-laid (seated_plan c) _ _ _ _ (plan_is c) (omega arith) c.loop-g.invariant
 
 pub returns : goal.returns
 returns c =
-    ap (λ (p : Plan). Ok p) (plan_of-laid (plan c) _ _ _ _ (plan_is c) (omega arith) c.loop-g.invariant) ∙ sym (seated-plan (plan c) (plan_is c))
+    ap (λ (p : Plan). Ok p) (plan_of-laid (seated_plan c) _ _ _ _ (plan_is c) (omega arith) c.loop-g.invariant) ∙ sym (seated-plan c.args.exponents.now c.args.seats c.args.stripes (plan_is c))

@@ -10,7 +10,7 @@ adds-requires-clause-can c =
     can-take c.args.self.now.shape c.args.seat.now.number c.args.g c.args.seat.now.seen c.requires.table
     c.requires.growing
     c.header_place-place.result c.chunk_of-chunk.result (c.header_place-place.ensures ∙ ap (λ p. header_place p c.args.g 1) shape)
-    (c.chunk_of-chunk.ensures ∙ ap (λ p. chunk_of p c.args.g) shape)
+    (c.chunk_of-chunk.ensures.chunk ∙ ap (λ p. chunk_of p c.args.g) shape)
 
 pub returns-clause-found : goal.returns-clause-found
 returns-clause-found c =
