@@ -9,6 +9,7 @@ pub(crate) mod draws;
 pub(crate) mod faults;
 pub(crate) mod growth;
 pub(crate) mod keys;
+pub(crate) mod kinds;
 pub(crate) mod options;
 pub(crate) mod random;
 pub(crate) mod runs;

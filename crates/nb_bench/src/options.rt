@@ -56,7 +56,7 @@ fn with_words<'a>(alloc: Global, command: Command<'a>) -> Result<Command<'a>, Al
     let workload = Arg::new(alloc, "WORKLOAD")
         .required(true)
         .action(ArgAction::Set)
-        .help("A gets, B 90% gets, C 50% gets, D growth, E one key; or check");
+        .help("A gets, B 90% gets, C 50% gets, D growth, E one key; kinds, check");
     let threads = Arg::new(alloc, "THREADS")
         .action(ArgAction::Set)
         .value_parser(value_parser!(u32).range(1..=8))

@@ -2,8 +2,11 @@
 
 use crate::checks::{check_adds, check_puts};
 use crate::faults::Fault;
+use crate::keys::KEY_COUNT;
+use crate::kinds;
+use crate::kinds::Kind;
 use crate::options::{Options, read_options};
-use crate::runs::measure;
+use crate::runs::{Measured, measure};
 use crate::workloads::Workload;
 use std::alloc::Global;
 use std::env;
@@ -21,27 +24,55 @@ fn words<R: Env + AllocGlobal>(rt: &R) -> Result<Vec<String>, Fault> {
     Ok(words)
 }
 
-/// Runs what the options ask for, and prints its line.
-pub(crate) fn run<R: Threads + Sync + Wait + Clock + Print>(
+/// Runs the checks, and prints their line.
+fn run_checks<R: Threads + Sync + Wait + Clock + Print>(
+    rt: &R,
+    alloc: Global,
+    options: &Options,
+) -> Result<(), Fault> {
+    let threads = options.threads;
+    let puts = check_puts(rt, alloc, options)?;
+    let adds = check_adds(rt, alloc, options)?;
+    println!(rt; "nb check {threads} {puts} puts {adds} adds ok").map_err(|_| Fault::Write)
+}
+
+/// Times calls of each kind, and prints a line for each.
+fn run_kinds<R: Wait + Clock + Print>(
+    rt: &R,
+    alloc: Global,
+    options: &Options,
+) -> Result<(), Fault> {
+    let times = kinds::measure(rt, alloc, options)?;
+    for (kind, nanoseconds) in Kind::ALL.iter().zip(times.iter()) {
+        let name = kind.name();
+        println!(rt; "nb {name} 1 {KEY_COUNT} {nanoseconds}").map_err(|_| Fault::Write)?;
+    }
+    Ok(())
+}
+
+/// Runs a workload for its time, and prints its line.
+fn run_timed<R: Threads + Sync + Wait + Clock + Print>(
     rt: &R,
     alloc: Global,
     options: &Options,
 ) -> Result<(), Fault> {
     let name = options.workload.name();
     let threads = options.threads;
-    let printed = match options.workload {
-        Workload::Check => {
-            let puts = check_puts(rt, alloc, options)?;
-            let adds = check_adds(rt, alloc, options)?;
-            println!(rt; "nb {name} {threads} {puts} puts {adds} adds ok")
-        }
-        _ => {
-            let measured = measure(rt, alloc, options)?;
-            let (calls, nanoseconds) = (measured.calls, measured.nanoseconds);
-            println!(rt; "nb {name} {threads} {calls} {nanoseconds}")
-        }
-    };
-    printed.map_err(|_| Fault::Write)
+    let Measured { calls, nanoseconds } = measure(rt, alloc, options)?;
+    println!(rt; "nb {name} {threads} {calls} {nanoseconds}").map_err(|_| Fault::Write)
+}
+
+/// Runs what the options ask for.
+fn run<R: Threads + Sync + Wait + Clock + Print>(
+    rt: &R,
+    alloc: Global,
+    options: &Options,
+) -> Result<(), Fault> {
+    match options.workload {
+        Workload::Check => run_checks(rt, alloc, options),
+        Workload::Kinds => run_kinds(rt, alloc, options),
+        _ => run_timed(rt, alloc, options),
+    }
 }
 
 /// Reads the options and runs what they ask for.

@@ -3,6 +3,7 @@
 use crate::checks::{check_adds, check_puts};
 use crate::faults::Fault;
 use crate::keys::{KEY_COUNT, Spacing, shuffled};
+use crate::kinds;
 use crate::options::{Options, read_options};
 use crate::runs::{Measured, measure};
 use crate::workloads::Workload;
@@ -43,6 +44,14 @@ fn each_workload_runs(rt: HostRuntime) -> Result<(), Fail> {
             assert!(rt; measured.nanoseconds > 0, "{name}");
         }
     }
+    Ok(())
+}
+
+#[test]
+fn each_kind_is_timed(rt: HostRuntime) -> Result<(), Fail> {
+    let options = options(rt.alloc(), &["kinds", "1", "0"])?;
+    let times = kinds::measure(&rt, rt.alloc(), &options)?;
+    assert!(rt; times.iter().all(|time| *time > 0 && *time < u64::MAX));
     Ok(())
 }
 

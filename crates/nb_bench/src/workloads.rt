@@ -13,6 +13,8 @@ pub(crate) enum Workload {
     Growth,
     /// `E`: puts at one key.
     OneKey,
+    /// `kinds`: calls of one kind after another, by one thread.
+    Kinds,
     /// `check`: what is told under load is compared with what there is in the end.
     Check,
 }
@@ -26,6 +28,7 @@ impl Workload {
             "C" => Some(Workload::Changes),
             "D" => Some(Workload::Growth),
             "E" => Some(Workload::OneKey),
+            "kinds" => Some(Workload::Kinds),
             "check" => Some(Workload::Check),
             _ => None,
         }
@@ -39,6 +42,7 @@ impl Workload {
             Workload::Changes => "C",
             Workload::Growth => "D",
             Workload::OneKey => "E",
+            Workload::Kinds => "kinds",
             Workload::Check => "check",
         }
     }
