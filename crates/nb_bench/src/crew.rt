@@ -5,7 +5,7 @@ ghost use Rattle.nb_map.specs.Maps.{AreMine, IsMine};
 use crate::faults::{Fault, WorkFault, Wrong};
 use crate::keys::{Spacing, number};
 use nb_core::{OutOfMemory, Shape};
-use nb_map::{Ended, Full, Map, Seat};
+use nb_map::{Ended, Map, Seat};
 use std::alloc::Global;
 use std::rt::Clock;
 use std::sync::Wait;
@@ -91,7 +91,7 @@ pub(crate) fn put_all<R: Wait>(
 {
     for place in places {
         let before = map.put(rt, seat, spacing.key(*place), number(*place));
-        if let Err(Full) = before {
+        if before.is_err() {
             return Err(WorkFault::Full);
         }
     }

@@ -66,8 +66,8 @@ impl Job for Draws {
     }
 }
 
-/// Makes calls until the job's time is up, or its batches are made, and counts them in place of what
-/// was counted before.
+/// Makes calls until the job's time is up, or its batches are made, and counts them in place of
+/// what was counted before.
 fn call_on<R: Wait + Clock>(
     rt: &R,
     map: &Map,
@@ -128,10 +128,8 @@ fn draw_batch<R: Wait>(
         if percent < writes_from {
             sum = sum.wrapping_add(map.get(seat, key).map_or(0, Num::get));
         } else if percent < removals_from {
-            if map
-                .put(rt, seat, key, number((drawn >> 32) as u32))
-                .is_err()
-            {
+            let before = map.put(rt, seat, key, number((drawn >> 32) as u32));
+            if before.is_err() {
                 return Err(WorkFault::Full);
             }
         } else {
@@ -153,7 +151,8 @@ fn put_batch<R: Wait>(
 {
     let key = spacing.key(ONE_PLACE);
     for round in 0..BATCH {
-        if map.put(rt, seat, key, number((round % 2) as u32)).is_err() {
+        let before = map.put(rt, seat, key, number((round % 2) as u32));
+        if before.is_err() {
             return Err(WorkFault::Full);
         }
     }

@@ -1,4 +1,5 @@
-//! Calls of one kind, one after another, each at its key's home slot: what a call of each kind takes.
+//! Calls of one kind, one after another, each at its key's home slot: what a call of each kind
+//! takes.
 ghost use Rattle.std.specs.Prelude.{IfOk};
 ghost use Rattle.nb_map.specs.Maps.{IsMine};
 
@@ -14,7 +15,7 @@ use std::rt::Clock;
 use std::sync::Wait;
 use std::time::Instant;
 
-/// The sum of the places of all keys, which are the numbers that are put at them.
+/// The sum of the places of all keys, and so of the numbers that are put at them.
 const PLACES_SUM: u64 = 2_147_450_880;
 
 /// A kind of call, at a key in a state.
@@ -56,6 +57,28 @@ impl Kind {
             Kind::GetNone => "get-none",
         }
     }
+}
+
+/// Puts at each of the keys the number of its neighbour. A put of the number that is there would
+/// change nothing.
+#[inline(never)]
+fn put_other<R: Wait>(
+    rt: &R,
+    map: &Map,
+    seat: &mut Seat,
+    spacing: Spacing,
+    places: &[u32],
+) -> Result<(), WorkFault>
+    requires own { IsMine map.now seat.old }
+    ensures own { IsMine map.now seat.new }
+{
+    for place in places {
+        let before = map.put(rt, seat, spacing.key(*place), number(*place ^ 1));
+        if before.is_err() {
+            return Err(WorkFault::Full);
+        }
+    }
+    Ok(())
 }
 
 /// Gets each of the keys, and answers the sum of what they have.
@@ -103,8 +126,8 @@ fn remove_all<R: Wait>(rt: &R, map: &Map, seat: &mut Seat, spacing: Spacing, pla
     }
 }
 
-/// Makes a call of the kind at each of the keys, and answers how long they took together, and the sum
-/// of what they read.
+/// Makes a call of the kind at each of the keys, and answers how long they took together, and the
+/// sum of what they read.
 fn time_all<R: Wait + Clock>(
     rt: &R,
     map: &Map,
@@ -119,7 +142,8 @@ fn time_all<R: Wait + Clock>(
     let start = Instant::now(rt)?;
     let mut sum = 0u64;
     match kind {
-        Kind::PutNew | Kind::Put => put_all(rt, map, seat, spacing, places)?,
+        Kind::PutNew => put_all(rt, map, seat, spacing, places)?,
+        Kind::Put => put_other(rt, map, seat, spacing, places)?,
         Kind::Get | Kind::GetNone => sum = get_all(map, seat, spacing, places),
         Kind::Add => add_all(rt, map, seat, spacing, places)?,
         Kind::Remove => remove_all(rt, map, seat, spacing, places),
@@ -168,8 +192,8 @@ fn time_once<R: Wait + Clock>(
     }
 }
 
-/// Makes calls of all kinds at all keys in new maps, again and again until the time is up. It answers
-/// the shortest time of each kind.
+/// Makes calls of all kinds at all keys in new maps, again and again until the time is up. It
+/// answers the shortest time of each kind.
 pub(crate) fn measure<R: Wait + Clock>(
     rt: &R,
     alloc: Global,

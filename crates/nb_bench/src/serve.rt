@@ -84,9 +84,9 @@ fn attend<R: Env + Threads + Sync + Wait + Clock + Print + AllocGlobal>(
     run(rt, rt.alloc(), &options)
 }
 
-/// Serves a process, and answers its exit status: 0 where it ran well or help was asked for, 1 where
-/// nothing could be written, 2 where a check found something wrong, 3 for wrong words, 4 where a
-/// worker stopped early.
+/// Serves a process, and answers its exit status: 0 where it ran well or help was asked for, 1
+/// where nothing could be written, 2 where a check found something wrong, 3 for wrong words, 4
+/// where a worker stopped early.
 pub(crate) fn serve<R>(rt: &R) -> u8
 where
     R: Env + Threads + Sync + Wait + Clock + Print + Eprint + AllocGlobal,
