@@ -173,20 +173,34 @@ fn add_drawn<R: Wait>(
     }
 }
 
+/// Makes the puts.
+pub(crate) fn do_puts<R: Threads + Sync + Wait + Clock>(
+    rt: &R,
+    alloc: Global,
+    options: &Options,
+) -> Result<Done, Fault> {
+    let job = Puts {
+        spacing: options.spacing,
+        count: options.puts,
+    };
+    do_job(rt, alloc, options.shape()?, options.spacing, &[], &job)
+}
+
 /// Sees that each number that was put at the few keys was told once: to the call that took its
-/// place, or in the end.
-fn are_told_once(alloc: Global, done: Done, spacing: Spacing, count: u64) -> Result<(), Fault> {
+/// place, or in the end. It answers how many there were.
+pub(crate) fn are_told_once(alloc: Global, options: &Options, done: Done) -> Result<u64, Fault> {
     let Done {
         ended,
         mut told,
         ..
     } = done;
     for place in 0..FEW as u32 {
-        if let Some(value) = ended.get(spacing.key(place)) {
+        if let Some(value) = ended.get(options.spacing.key(place)) {
             told.push(value.get())?;
         }
     }
     told.sort()?;
+    let count = (options.threads as u64).wrapping_mul(u64::from(options.puts));
     let are_all = told.len() as u64 == count;
     let mut numbers = told.iter().zip(1..=count);
     if !are_all || !numbers.all(|(value, wanted)| *value == wanted) {
@@ -196,11 +210,26 @@ fn are_told_once(alloc: Global, done: Done, spacing: Spacing, count: u64) -> Res
     if entries.len() as u64 != ended.size() {
         return Err(Fault::Wrong(Wrong::Size));
     }
-    Ok(())
+    Ok(count)
 }
 
-/// Sees that the numbers in the map are the sum of what was added.
-fn are_summed(alloc: Global, done: &Done) -> Result<(), Fault> {
+/// Makes the adds.
+pub(crate) fn do_adds<R: Threads + Sync + Wait + Clock>(
+    rt: &R,
+    alloc: Global,
+    options: &Options,
+) -> Result<Done, Fault> {
+    let job = Adds {
+        spacing: options.spacing,
+        count: options.adds,
+        threads: options.threads as u64,
+    };
+    do_job(rt, alloc, options.shape()?, options.spacing, &[], &job)
+}
+
+/// Sees that the numbers in the map are the sum of what was added. It answers how many adds there
+/// were.
+pub(crate) fn are_summed(alloc: Global, done: &Done) -> Result<u64, Fault> {
     let entries = done.ended.entries(alloc)?;
     let mut sum = 0u64;
     for (_key, value) in entries.iter() {
@@ -212,37 +241,5 @@ fn are_summed(alloc: Global, done: &Done) -> Result<(), Fault> {
     if entries.len() as u64 != done.ended.size() {
         return Err(Fault::Wrong(Wrong::Size));
     }
-    Ok(())
-}
-
-/// Makes the puts and sees what they were told. It answers how many there were.
-pub(crate) fn check_puts<R: Threads + Sync + Wait + Clock>(
-    rt: &R,
-    alloc: Global,
-    options: &Options,
-) -> Result<u64, Fault> {
-    let job = Puts {
-        spacing: options.spacing,
-        count: options.puts,
-    };
-    let count = (options.threads as u64).wrapping_mul(u64::from(options.puts));
-    let done = do_job(rt, alloc, options.shape()?, options.spacing, &[], &job)?;
-    are_told_once(alloc, done, options.spacing, count)?;
-    Ok(count)
-}
-
-/// Makes the adds and sees what they come to. It answers how many there were.
-pub(crate) fn check_adds<R: Threads + Sync + Wait + Clock>(
-    rt: &R,
-    alloc: Global,
-    options: &Options,
-) -> Result<u64, Fault> {
-    let job = Adds {
-        spacing: options.spacing,
-        count: options.adds,
-        threads: options.threads as u64,
-    };
-    let done = do_job(rt, alloc, options.shape()?, options.spacing, &[], &job)?;
-    are_summed(alloc, &done)?;
     Ok(done.tally.calls)
 }

@@ -1,6 +1,6 @@
 //! The program: its words, what it prints, and its exit status.
 
-use crate::checks::{check_adds, check_puts};
+use crate::checks::{are_summed, are_told_once, do_adds, do_puts};
 use crate::faults::Fault;
 use crate::keys::KEY_COUNT;
 use crate::kinds;
@@ -31,8 +31,8 @@ fn run_checks<R: Threads + Sync + Wait + Clock + Print>(
     options: &Options,
 ) -> Result<(), Fault> {
     let threads = options.threads;
-    let puts = check_puts(rt, alloc, options)?;
-    let adds = check_adds(rt, alloc, options)?;
+    let puts = are_told_once(alloc, options, do_puts(rt, alloc, options)?)?;
+    let adds = are_summed(alloc, &do_adds(rt, alloc, options)?)?;
     println!(rt; "nb check {threads} {puts} puts {adds} adds ok").map_err(|_| Fault::Write)
 }
 

@@ -1,7 +1,7 @@
 //! Each workload is run with few calls.
 
-use crate::checks::{check_adds, check_puts};
-use crate::faults::Fault;
+use crate::checks::{are_summed, are_told_once, do_adds, do_puts};
+use crate::faults::{Fault, Wrong};
 use crate::keys::{KEY_COUNT, Spacing, shuffled};
 use crate::kinds;
 use crate::options::{Options, read_options};
@@ -55,16 +55,21 @@ fn each_kind_is_timed(rt: HostRuntime) -> Result<(), Fail> {
     Ok(())
 }
 
-/// Runs both checks with few calls, and answers how many there were.
+/// The options of checks with few calls.
+fn few(alloc: Global, threads: &str) -> Result<Options, Fault> {
+    let words = ["check", threads, "--puts", "2000", "--adds", "10001"];
+    options(alloc, words.as_slice())
+}
+
+/// Makes few puts and adds with these threads, and checks them.
 fn check_few<R: Threads + Sync + Wait + Clock>(
     rt: &R,
     alloc: Global,
     threads: &str,
 ) -> Result<(u64, u64), Fault> {
-    let words = ["check", threads, "--puts", "2000", "--adds", "10001"];
-    let options = options(alloc, words.as_slice())?;
-    let puts = check_puts(rt, alloc, &options)?;
-    let adds = check_adds(rt, alloc, &options)?;
+    let options = few(alloc, threads)?;
+    let puts = are_told_once(alloc, &options, do_puts(rt, alloc, &options)?)?;
+    let adds = are_summed(alloc, &do_adds(rt, alloc, &options)?)?;
     Ok((puts, adds))
 }
 
@@ -75,6 +80,31 @@ fn checks_find_nothing_wrong(rt: HostRuntime) -> Result<(), Fail> {
         assert_eq!(rt; counts, (puts, 10_001), "{threads} threads");
     }
     Ok(())
+}
+
+/// What a check says where a put was told the number 1 once more than it was.
+fn check_told_twice<R: Threads + Sync + Wait + Clock>(rt: &R, alloc: Global) -> Result<u64, Fault> {
+    let options = few(alloc, "2")?;
+    let mut done = do_puts(rt, alloc, &options)?;
+    let _ = done.told.pop();
+    done.told.push(1)?;
+    are_told_once(alloc, &options, done)
+}
+
+/// What a check says where one more was added than there is.
+fn check_lost<R: Threads + Sync + Wait + Clock>(rt: &R, alloc: Global) -> Result<u64, Fault> {
+    let options = few(alloc, "2")?;
+    let mut done = do_adds(rt, alloc, &options)?;
+    done.tally.sum = done.tally.sum.wrapping_add(1);
+    are_summed(alloc, &done)
+}
+
+#[test]
+fn checks_find_what_is_wrong(rt: HostRuntime) {
+    let told = check_told_twice(&rt, rt.alloc());
+    assert!(rt; matches!(&told, Err(Fault::Wrong(Wrong::Told))));
+    let lost = check_lost(&rt, rt.alloc());
+    assert!(rt; matches!(&lost, Err(Fault::Wrong(Wrong::Sum))));
 }
 
 #[test]
