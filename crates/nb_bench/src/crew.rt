@@ -4,16 +4,13 @@ ghost use Rattle.nb_map.specs.Maps.{AreMine, IsMine};
 
 use crate::faults::{Fault, WorkFault, Wrong};
 use crate::keys::{Spacing, number};
-use nb_core::{OutOfMemory, Shape};
+use nb_core::{MAX_SEATS, OutOfMemory, Shape};
 use nb_map::{Ended, Map, Seat};
 use std::alloc::Global;
 use std::rt::Clock;
 use std::sync::Wait;
 use std::thread;
 use std::thread::Threads;
-
-/// The most threads that work at once.
-pub(crate) const MAX_THREADS: usize = 8;
 
 /// What a worker counted.
 #[derive(Clone, Copy, Debug, PartialEq, Eq)]
@@ -159,7 +156,7 @@ fn all_work<R: Threads + Sync + Wait + Clock, J: Job + Sync>(
     thread::for_each_mut(
         rt,
         workers,
-        MAX_THREADS,
+        MAX_SEATS,
         &|number: usize, worker: &mut Worker|
             requires { IsMine map.now worker.now.seat }
             ensures { IsMine map.entry.now worker.exit.now.seat }

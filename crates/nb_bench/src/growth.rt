@@ -21,6 +21,10 @@ const PUT_COUNT: u32 = 32_768;
 /// How often a worker looks whether the others have come, before it begins without them.
 const MAX_LOOKS: u64 = 1_000_000;
 
+/// After how many looks it lets others run, as is needed where there are fewer processors than
+/// threads.
+const BUSY_LOOKS: u64 = 2000;
+
 /// The job to put at the keys with these places, each worker at a part of them.
 #[derive(Drop)]
 struct Growth<'a> {
@@ -49,8 +53,7 @@ impl<'a> Growth<'a> {
             if self.arrived.load(Ordering::SeqCst) >= self.threads as u64 {
                 return;
             }
-            // Where there are fewer processors than threads.
-            if look > 2000 {
+            if look >= BUSY_LOOKS {
                 yield_now();
             }
         }
