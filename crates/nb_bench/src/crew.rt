@@ -1,0 +1,224 @@
+//! Workers: threads that call one map, each with a seat of its own.
+ghost use Rattle.std.specs.Prelude.{All, IfOk};
+ghost use Rattle.nb_map.specs.Maps.{AreMine, IsMine};
+
+use crate::faults::{Fault, WorkFault, Wrong};
+use crate::keys::{Spacing, number};
+use nb_core::{MAX_SEATS, OutOfMemory, Shape};
+use nb_map::{Ended, Map, Seat};
+use std::alloc::Global;
+use std::rt::Clock;
+use std::sync::Wait;
+use std::thread;
+use std::thread::Threads;
+
+/// What a worker counted.
+#[derive(Clone, Copy, Debug, PartialEq, Eq)]
+pub(crate) struct Tally {
+    /// The calls that were measured.
+    pub(crate) calls: u64,
+    /// How long they took.
+    pub(crate) nanoseconds: u64,
+    /// The sum of what was read or added, modulo 2^64.
+    pub(crate) sum: u64,
+}
+
+impl Tally {
+    /// Nothing is counted.
+    const NOTHING: Tally = Tally {
+        calls: 0,
+        nanoseconds: 0,
+        sum: 0,
+    };
+
+    /// What two workers counted who worked at the same time.
+    fn beside(self, other: Tally) -> Tally {
+        Tally {
+            calls: self.calls.wrapping_add(other.calls),
+            nanoseconds: self.nanoseconds.max(other.nanoseconds),
+            sum: self.sum.wrapping_add(other.sum),
+        }
+    }
+}
+
+/// A worker: its seat of the map, and what came of its work.
+#[derive(Drop)]
+pub(crate) struct Worker {
+    pub(crate) seat: Seat,
+    pub(crate) tally: Tally,
+    /// Numbers that it was told, where its job is to keep them.
+    pub(crate) told: Vec<u64>,
+    /// Why it stopped early.
+    pub(crate) fault: Option<WorkFault>,
+}
+
+/// What each worker of a crew does, in a thread of its own.
+pub(crate) trait Job {
+    /// Does the part of the worker with this number.
+    fn work<R: Wait + Clock>(
+        &self,
+        rt: &R,
+        map: &Map,
+        worker: &mut Worker,
+        number: usize,
+    ) -> Result<(), WorkFault>
+        requires own { IsMine map.now worker.old.seat }
+        ensures own { IsMine map.now worker.new.seat };
+}
+
+/// What came of a job.
+#[derive(Drop)]
+pub(crate) struct Done {
+    /// What is left of the map.
+    pub(crate) ended: Ended,
+    pub(crate) tally: Tally,
+    pub(crate) told: Vec<u64>,
+}
+
+/// Puts numbers at the keys with these places.
+pub(crate) fn put_all<R: Wait>(
+    rt: &R,
+    map: &Map,
+    seat: &mut Seat,
+    spacing: Spacing,
+    places: &[u32],
+) -> Result<(), WorkFault>
+    requires own { IsMine map.now seat.old }
+    ensures own { IsMine map.now seat.new }
+{
+    for place in places {
+        let before = map.put(rt, seat, spacing.key(*place), number(*place));
+        if before.is_err() {
+            return Err(WorkFault::Full);
+        }
+    }
+    Ok(())
+}
+
+/// Puts numbers at the keys with these places, by the last of the seats.
+fn filled<R: Wait>(
+    rt: &R,
+    map: &Map,
+    seats: Vec<Seat>,
+    spacing: Spacing,
+    places: &[u32],
+) -> Result<Vec<Seat>, Fault>
+    requires own { AreMine map.now seats.items }
+    ensures own { IfOk result (λ seats. AreMine map.now seats.items) }
+{
+    let mut seats = seats;
+    let Some(mut seat) = seats.pop() else {
+        return Ok(seats);
+    };
+    put_all(rt, map, &mut seat, spacing, places)?;
+    seats.push(seat)?;
+    Ok(seats)
+}
+
+/// A worker for each of the seats.
+fn hired(alloc: Global, map: &Map, seats: Vec<Seat>) -> Result<Vec<Worker>, OutOfMemory>
+    requires own { AreMine map.now seats.items }
+    ensures own { IfOk result (λ workers. All (λ w. IsMine map.now w.seat) workers.items) }
+{
+    let mut seats = seats;
+    let mut workers = Vec::new(alloc);
+    while let Some(seat) = seats.pop() {
+        workers.push(Worker {
+            seat,
+            tally: Tally::NOTHING,
+            told: Vec::new(alloc),
+            fault: None,
+        })?;
+    }
+    Ok(workers)
+}
+
+/// Does a worker's part of a job, and keeps why it stopped early.
+fn works<R: Wait + Clock, J: Job>(rt: &R, map: &Map, job: &J, worker: &mut Worker, number: usize)
+    requires own { IsMine map.now worker.old.seat }
+    ensures own { IsMine map.now worker.new.seat }
+{
+    if let Err(fault) = job.work(rt, map, worker, number) {
+        worker.fault = Some(fault);
+    }
+}
+
+/// All workers work at the same time, each in a thread of its own.
+fn all_work<R: Threads + Sync + Wait + Clock, J: Job + Sync>(
+    rt: &R,
+    map: &Map,
+    job: &J,
+    workers: &mut [Worker],
+)
+    requires own { All (λ w. IsMine map.now w.seat) workers.old }
+    ensures own { All (λ w. IsMine map.now w.seat) workers.new }
+{
+    thread::for_each_mut(
+        rt,
+        workers,
+        MAX_SEATS,
+        &|number: usize, worker: &mut Worker|
+            requires { IsMine map.now worker.now.seat }
+            ensures { IsMine map.entry.now worker.exit.now.seat }
+        { works(rt, map, job, worker, number) },
+    );
+}
+
+/// Puts numbers behind others.
+fn append(all: &mut Vec<u64>, more: &Vec<u64>) -> Result<(), OutOfMemory> {
+    for number in more.iter() {
+        all.push(*number)?;
+    }
+    Ok(())
+}
+
+/// The workers' seats, and what they counted and were told in all. Where one of them stopped early,
+/// why it did.
+fn parted(
+    alloc: Global,
+    map: &Map,
+    workers: Vec<Worker>,
+) -> Result<(Vec<Seat>, Tally, Vec<u64>), Fault>
+    requires own { All (λ w. IsMine map.now w.seat) workers.items }
+    ensures own { IfOk result (λ parts. AreMine map.now parts.0.items) }
+{
+    let mut workers = workers;
+    let mut seats = Vec::new(alloc);
+    let mut all = Tally::NOTHING;
+    let mut told = Vec::new(alloc);
+    while let Some(worker) = workers.pop() {
+        let Worker {
+            seat,
+            tally,
+            told: told_one,
+            fault,
+        } = worker;
+        if let Some(fault) = fault {
+            return Err(Fault::Work(fault));
+        }
+        all = all.beside(tally);
+        append(&mut told, &told_one)?;
+        seats.push(seat)?;
+    }
+    Ok((seats, all, told))
+}
+
+/// Does a job on a new map, which has numbers at the keys with these places from the start.
+pub(crate) fn do_job<R: Threads + Sync + Wait + Clock, J: Job + Sync>(
+    rt: &R,
+    alloc: Global,
+    shape: Shape,
+    spacing: Spacing,
+    places: &[u32],
+    job: &J,
+) -> Result<Done, Fault> {
+    let (map, seats) = Map::new(alloc, shape)?;
+    let seats = filled(rt, &map, seats, spacing, places)?;
+    let mut workers = hired(alloc, &map, seats)?;
+    all_work(rt, &map, job, workers.as_mut_slice());
+    let (seats, tally, told) = parted(alloc, &map, workers)?;
+    match map.finish(seats) {
+        Ok(ended) => Ok(Done { ended, tally, told }),
+        Err(_) => Err(Fault::Wrong(Wrong::Seats)),
+    }
+}

@@ -1,0 +1,103 @@
+//! Why the program ends early, and what is said of it.
+
+use nb_core::{OutOfMemory, RangeFault};
+use std::alloc::AllocFailed;
+use std::io;
+use thiserror::Error;
+
+/// Why a worker stopped.
+#[derive(Clone, Copy, Debug, PartialEq, Eq, Error)]
+pub(crate) enum WorkFault {
+    #[error("the map is full: the plan has too few slots")]
+    Full,
+    #[error("the clock can't be read")]
+    Clock,
+    #[error("a number is too large")]
+    Range,
+    #[error("out of memory")]
+    OutOfMemory,
+}
+
+impl<T: Drop> From<AllocFailed<T>> for WorkFault {
+    fn from(_refused: AllocFailed<T>) -> WorkFault {
+        WorkFault::OutOfMemory
+    }
+}
+
+impl From<RangeFault> for WorkFault {
+    fn from(_error: RangeFault) -> WorkFault {
+        WorkFault::Range
+    }
+}
+
+impl From<io::Error> for WorkFault {
+    fn from(_error: io::Error) -> WorkFault {
+        WorkFault::Clock
+    }
+}
+
+/// What a check found to be wrong.
+#[derive(Clone, Copy, Debug, PartialEq, Eq, Error)]
+pub(crate) enum Wrong {
+    #[error("a number was told twice, or never")]
+    Told,
+    #[error("the sum isn't what was added")]
+    Sum,
+    #[error("the size isn't the number of keys")]
+    Size,
+    #[error("the map can't be ended with its seats")]
+    Seats,
+}
+
+/// Why nothing was measured.
+#[derive(Debug, Drop, Error)]
+pub(crate) enum Fault {
+    #[error("bad usage; --help tells more")]
+    Usage,
+    /// The words ask for help, and this is its text.
+    #[error("{0}")]
+    Help(String),
+    #[error("{0}")]
+    Work(WorkFault),
+    #[error("{0}")]
+    Wrong(Wrong),
+    #[error("write failed")]
+    Write,
+}
+
+impl Fault {
+    /// The exit status.
+    pub(crate) fn status(&self) -> u8 {
+        match self {
+            Fault::Help(_) => 0,
+            Fault::Write => 1,
+            Fault::Wrong(_) => 2,
+            Fault::Usage => 3,
+            Fault::Work(_) => 4,
+        }
+    }
+}
+
+impl From<OutOfMemory> for Fault {
+    fn from(_error: OutOfMemory) -> Fault {
+        Fault::Work(WorkFault::OutOfMemory)
+    }
+}
+
+impl<T: Drop> From<AllocFailed<T>> for Fault {
+    fn from(_refused: AllocFailed<T>) -> Fault {
+        Fault::Work(WorkFault::OutOfMemory)
+    }
+}
+
+impl From<WorkFault> for Fault {
+    fn from(fault: WorkFault) -> Fault {
+        Fault::Work(fault)
+    }
+}
+
+impl From<Wrong> for Fault {
+    fn from(wrong: Wrong) -> Fault {
+        Fault::Wrong(wrong)
+    }
+}

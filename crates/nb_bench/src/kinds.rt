@@ -1,0 +1,213 @@
+//! Calls of one kind, one after another, each at its key's home slot: what a call of each kind
+//! takes.
+ghost use Rattle.std.specs.Prelude.{IfOk};
+ghost use Rattle.nb_map.specs.Maps.{IsMine};
+
+use crate::crew::put_all;
+use crate::draws::nanoseconds_of;
+use crate::faults::{Fault, WorkFault, Wrong};
+use crate::keys::{KEY_COUNT, Spacing, number, shuffled};
+use crate::options::Options;
+use nb_core::Num;
+use nb_map::{Map, Seat};
+use std::alloc::Global;
+use std::rt::Clock;
+use std::sync::Wait;
+use std::time::Instant;
+
+/// The sum of the places of all keys, and so of the numbers that are put at them.
+const PLACES_SUM: u64 = 2_147_450_880;
+
+/// A kind of call, at a key in a state.
+#[derive(Clone, Copy, Debug, PartialEq, Eq)]
+pub(crate) enum Kind {
+    /// A put at a key that has no slot yet.
+    PutNew,
+    /// A put at a key that has a number.
+    Put,
+    /// A get of a key that has a number.
+    Get,
+    /// An add at a key that has a number.
+    Add,
+    /// A removal of a key that has a number.
+    Remove,
+    /// A get of a key that was removed.
+    GetNone,
+}
+
+impl Kind {
+    /// All kinds, in an order in which each leaves the keys as the next one wants them.
+    pub(crate) const ALL: [Kind; 6] = [
+        Kind::PutNew,
+        Kind::Put,
+        Kind::Get,
+        Kind::Add,
+        Kind::Remove,
+        Kind::GetNone,
+    ];
+
+    /// Its name in what is printed.
+    pub(crate) fn name(self) -> &'static str {
+        match self {
+            Kind::PutNew => "put-new",
+            Kind::Put => "put",
+            Kind::Get => "get",
+            Kind::Add => "add",
+            Kind::Remove => "remove",
+            Kind::GetNone => "get-none",
+        }
+    }
+}
+
+/// Puts at each of the keys the number of its neighbour. A put of the number that is there would
+/// change nothing.
+#[inline(never)]
+fn put_other<R: Wait>(
+    rt: &R,
+    map: &Map,
+    seat: &mut Seat,
+    spacing: Spacing,
+    places: &[u32],
+) -> Result<(), WorkFault>
+    requires own { IsMine map.now seat.old }
+    ensures own { IsMine map.now seat.new }
+{
+    for place in places {
+        let before = map.put(rt, seat, spacing.key(*place), number(*place ^ 1));
+        if before.is_err() {
+            return Err(WorkFault::Full);
+        }
+    }
+    Ok(())
+}
+
+/// Gets each of the keys, and answers the sum of what they have.
+#[inline(never)]
+fn get_all(map: &Map, seat: &mut Seat, spacing: Spacing, places: &[u32]) -> u64
+    requires own { IsMine map.now seat.old }
+    ensures own { IsMine map.now seat.new }
+{
+    let mut sum = 0u64;
+    for place in places {
+        let found = map.get(seat, spacing.key(*place));
+        sum = sum.wrapping_add(found.map_or(0, Num::get));
+    }
+    sum
+}
+
+/// Adds at each of the keys.
+#[inline(never)]
+fn add_all<R: Wait>(
+    rt: &R,
+    map: &Map,
+    seat: &mut Seat,
+    spacing: Spacing,
+    places: &[u32],
+) -> Result<(), WorkFault>
+    requires own { IsMine map.now seat.old }
+    ensures own { IsMine map.now seat.new }
+{
+    for place in places {
+        if map.add(rt, seat, spacing.key(*place), number(1)).is_err() {
+            return Err(WorkFault::Full);
+        }
+    }
+    Ok(())
+}
+
+/// Takes out each of the keys.
+#[inline(never)]
+fn remove_all<R: Wait>(rt: &R, map: &Map, seat: &mut Seat, spacing: Spacing, places: &[u32])
+    requires own { IsMine map.now seat.old }
+    ensures own { IsMine map.now seat.new }
+{
+    for place in places {
+        map.remove(rt, seat, spacing.key(*place));
+    }
+}
+
+/// Makes a call of the kind at each of the keys, and answers how long they took together, and the
+/// sum of what they read.
+fn time_all<R: Wait + Clock>(
+    rt: &R,
+    map: &Map,
+    seat: &mut Seat,
+    spacing: Spacing,
+    places: &[u32],
+    kind: Kind,
+) -> Result<(u64, u64), WorkFault>
+    requires own { IsMine map.now seat.old }
+    ensures own { IsMine map.now seat.new }
+{
+    let start = Instant::now(rt)?;
+    let mut sum = 0u64;
+    match kind {
+        Kind::PutNew => put_all(rt, map, seat, spacing, places)?,
+        Kind::Put => put_other(rt, map, seat, spacing, places)?,
+        Kind::Get | Kind::GetNone => sum = get_all(map, seat, spacing, places),
+        Kind::Add => add_all(rt, map, seat, spacing, places)?,
+        Kind::Remove => remove_all(rt, map, seat, spacing, places),
+    }
+    Ok((nanoseconds_of(start.elapsed(rt)?), sum))
+}
+
+/// Makes calls of all kinds. Where a kind took less time than before, that is its time.
+fn time_kinds<R: Wait + Clock>(
+    rt: &R,
+    map: &Map,
+    seat: &mut Seat,
+    spacing: Spacing,
+    places: &[u32],
+    times: &mut [u64; 6],
+) -> Result<(), Fault>
+    requires own { IsMine map.now seat.old }
+    ensures own { IsMine map.now seat.new }
+{
+    for (kind, time) in Kind::ALL.iter().zip(times.iter_mut()) {
+        let (taken, sum) = time_all(rt, map, seat, spacing, places, *kind)?;
+        let wanted = match kind {
+            Kind::Get => PLACES_SUM,
+            _ => 0,
+        };
+        if sum != wanted {
+            return Err(Fault::Wrong(Wrong::Sum));
+        }
+        *time = taken.min(*time);
+    }
+    Ok(())
+}
+
+/// Makes calls of all kinds on a new map, by one of its seats.
+fn time_once<R: Wait + Clock>(
+    rt: &R,
+    alloc: Global,
+    options: &Options,
+    places: &[u32],
+    times: &mut [u64; 6],
+) -> Result<(), Fault> {
+    let (map, mut seats) = Map::new(alloc, options.shape()?)?;
+    match seats.pop() {
+        Some(mut seat) => time_kinds(rt, &map, &mut seat, options.spacing, places, times),
+        None => Err(Fault::Wrong(Wrong::Seats)),
+    }
+}
+
+/// Makes calls of all kinds at all keys in new maps, again and again until the time is up. It
+/// answers the shortest time of each kind.
+pub(crate) fn measure<R: Wait + Clock>(
+    rt: &R,
+    alloc: Global,
+    options: &Options,
+) -> Result<[u64; 6], Fault> {
+    let places = shuffled(alloc, KEY_COUNT)?;
+    let start = Instant::now(rt).map_err(WorkFault::from)?;
+    let mut times = [u64::MAX; 6];
+    for _round in 0..u64::MAX {
+        time_once(rt, alloc, options, places.as_slice(), &mut times)?;
+        let spent = start.elapsed(rt).map_err(WorkFault::from)?;
+        if spent >= options.time {
+            break;
+        }
+    }
+    Ok(times)
+}

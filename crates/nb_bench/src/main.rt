@@ -1,0 +1,26 @@
+//! `nb_bench` measures the map: how many calls it answers in a time, under workloads that its
+//! peers are measured with too. And it checks, under load, that no number is lost and none is told
+//! twice.
+#![tactic(auto)]
+
+pub(crate) mod checks;
+pub(crate) mod crew;
+pub(crate) mod draws;
+pub(crate) mod faults;
+pub(crate) mod growth;
+pub(crate) mod keys;
+pub(crate) mod kinds;
+pub(crate) mod options;
+pub(crate) mod random;
+pub(crate) mod runs;
+pub(crate) mod serve;
+pub(crate) mod workloads;
+
+use std::process::ExitCode;
+
+fn main(rt: HostRuntime) -> ExitCode {
+    ExitCode::from(serve::serve(&rt))
+}
+
+#[cfg(test)]
+mod tests;

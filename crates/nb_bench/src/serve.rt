@@ -1,0 +1,105 @@
+//! The program: its words, what it prints, and its exit status.
+
+use crate::checks::{are_summed, are_told_once, do_adds, do_puts};
+use crate::faults::Fault;
+use crate::keys::KEY_COUNT;
+use crate::kinds;
+use crate::kinds::Kind;
+use crate::options::{Options, read_options};
+use crate::runs::{Measured, measure};
+use crate::workloads::Workload;
+use std::alloc::Global;
+use std::env;
+use std::rt::{Clock, Env};
+use std::sync::Wait;
+use std::thread::Threads;
+
+/// The words of the command line.
+fn words<R: Env + AllocGlobal>(rt: &R) -> Result<Vec<String>, Fault> {
+    let given = env::args(rt).map_err(|_| Fault::Usage)?;
+    let mut words = Vec::new(rt.alloc());
+    for word in given {
+        words.push(word)?;
+    }
+    Ok(words)
+}
+
+/// Runs the checks, and prints their line.
+fn run_checks<R: Threads + Sync + Wait + Clock + Print>(
+    rt: &R,
+    alloc: Global,
+    options: &Options,
+) -> Result<(), Fault> {
+    let threads = options.threads;
+    let puts = are_told_once(alloc, options, do_puts(rt, alloc, options)?)?;
+    let adds = are_summed(alloc, &do_adds(rt, alloc, options)?)?;
+    println!(rt; "nb check {threads} {puts} puts {adds} adds ok").map_err(|_| Fault::Write)
+}
+
+/// Times calls of each kind, and prints a line for each.
+fn run_kinds<R: Wait + Clock + Print>(
+    rt: &R,
+    alloc: Global,
+    options: &Options,
+) -> Result<(), Fault> {
+    let times = kinds::measure(rt, alloc, options)?;
+    for (kind, nanoseconds) in Kind::ALL.iter().zip(times.iter()) {
+        let name = kind.name();
+        println!(rt; "nb {name} 1 {KEY_COUNT} {nanoseconds}").map_err(|_| Fault::Write)?;
+    }
+    Ok(())
+}
+
+/// Runs a workload for its time, and prints its line.
+fn run_timed<R: Threads + Sync + Wait + Clock + Print>(
+    rt: &R,
+    alloc: Global,
+    options: &Options,
+) -> Result<(), Fault> {
+    let name = options.workload.name();
+    let threads = options.threads;
+    let Measured { calls, nanoseconds } = measure(rt, alloc, options)?;
+    println!(rt; "nb {name} {threads} {calls} {nanoseconds}").map_err(|_| Fault::Write)
+}
+
+/// Runs what the options ask for.
+fn run<R: Threads + Sync + Wait + Clock + Print>(
+    rt: &R,
+    alloc: Global,
+    options: &Options,
+) -> Result<(), Fault> {
+    match options.workload {
+        Workload::Check => run_checks(rt, alloc, options),
+        Workload::Kinds => run_kinds(rt, alloc, options),
+        _ => run_timed(rt, alloc, options),
+    }
+}
+
+/// Reads the options and runs what they ask for.
+fn attend<R: Env + Threads + Sync + Wait + Clock + Print + AllocGlobal>(
+    rt: &R,
+) -> Result<(), Fault> {
+    let words = words(rt)?;
+    let options = read_options(rt.alloc(), words.as_slice())?;
+    run(rt, rt.alloc(), &options)
+}
+
+/// Serves a process, and answers its exit status: 0 where it ran well or help was asked for, 1
+/// where nothing could be written, 2 where a check found something wrong, 3 for wrong words, 4
+/// where a worker stopped early.
+pub(crate) fn serve<R>(rt: &R) -> u8
+where
+    R: Env + Threads + Sync + Wait + Clock + Print + Eprint + AllocGlobal,
+{
+    match attend(rt) {
+        Ok(()) => 0,
+        Err(fault) => {
+            let status = fault.status();
+            let _ = match fault {
+                Fault::Help(text) => println!(rt; "{text}"),
+                other => eprintln!(rt; "nb_bench: {other}"),
+            };
+            status
+        }
+    }
+}

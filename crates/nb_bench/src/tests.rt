@@ -1,0 +1,172 @@
+//! Each workload is run with few calls.
+
+use crate::checks::{are_summed, are_told_once, do_adds, do_puts};
+use crate::faults::{Fault, Wrong};
+use crate::keys::{KEY_COUNT, Spacing, shuffled};
+use crate::kinds;
+use crate::options::{Options, read_options};
+use crate::runs::{Measured, measure};
+use crate::workloads::Workload;
+use std::alloc::Global;
+use std::rt::Clock;
+use std::sync::Wait;
+use std::test::Fail;
+use std::thread::Threads;
+use std::time::Duration;
+
+/// The options that these words give after the program's name.
+fn options(alloc: Global, words: &[&str]) -> Result<Options, Fault> {
+    let mut texts = Vec::new(alloc);
+    for word in ["nb_bench"].iter().chain(words) {
+        texts.push(String::from_str(alloc, *word)?)?;
+    }
+    read_options(alloc, texts.as_slice())
+}
+
+/// Runs a workload for a short time.
+fn run_short<R: Threads + Sync + Wait + Clock>(
+    rt: &R,
+    alloc: Global,
+    name: &str,
+    threads: &str,
+) -> Result<Measured, Fault> {
+    let words = [name, threads, "5", "--calls", "40000", "--keys", "spread"];
+    let options = options(alloc, words.as_slice())?;
+    measure(rt, alloc, &options)
+}
+
+#[test]
+fn each_workload_runs(rt: HostRuntime) -> Result<(), Fail> {
+    for name in ["A", "B", "C", "D", "E"] {
+        for threads in ["1", "3"] {
+            let measured = run_short(&rt, rt.alloc(), name, threads)?;
+            assert!(rt; measured.calls >= 32_768, "{name}");
+            assert!(rt; measured.nanoseconds > 0, "{name}");
+        }
+    }
+    Ok(())
+}
+
+#[test]
+fn each_kind_is_timed(rt: HostRuntime) -> Result<(), Fail> {
+    let options = options(rt.alloc(), &["kinds", "1", "0"])?;
+    let times = kinds::measure(&rt, rt.alloc(), &options)?;
+    assert!(rt; times.iter().all(|time| *time > 0 && *time < u64::MAX));
+    Ok(())
+}
+
+/// The options of checks with few calls.
+fn few(alloc: Global, threads: &str) -> Result<Options, Fault> {
+    let words = ["check", threads, "--puts", "2000", "--adds", "10001"];
+    options(alloc, words.as_slice())
+}
+
+/// Makes few puts and adds with these threads, and checks them.
+fn check_few<R: Threads + Sync + Wait + Clock>(
+    rt: &R,
+    alloc: Global,
+    threads: &str,
+) -> Result<(u64, u64), Fault> {
+    let options = few(alloc, threads)?;
+    let puts = are_told_once(alloc, &options, do_puts(rt, alloc, &options)?)?;
+    let adds = are_summed(alloc, &do_adds(rt, alloc, &options)?)?;
+    Ok((puts, adds))
+}
+
+#[test]
+fn checks_find_nothing_wrong(rt: HostRuntime) -> Result<(), Fail> {
+    for (threads, puts) in [("1", 2000), ("3", 6000), ("8", 16_000)] {
+        let counts = check_few(&rt, rt.alloc(), threads)?;
+        assert_eq!(rt; counts, (puts, 10_001), "{threads} threads");
+    }
+    Ok(())
+}
+
+/// What a check says where a put was told the number 1 once more than it was.
+fn check_told_twice<R: Threads + Sync + Wait + Clock>(rt: &R, alloc: Global) -> Result<u64, Fault> {
+    let options = few(alloc, "2")?;
+    let mut done = do_puts(rt, alloc, &options)?;
+    let _ = done.told.pop();
+    done.told.push(1)?;
+    are_told_once(alloc, &options, done)
+}
+
+/// What a check says where one more was added than there is.
+fn check_lost<R: Threads + Sync + Wait + Clock>(rt: &R, alloc: Global) -> Result<u64, Fault> {
+    let options = few(alloc, "2")?;
+    let mut done = do_adds(rt, alloc, &options)?;
+    done.tally.sum = done.tally.sum.wrapping_add(1);
+    are_summed(alloc, &done)
+}
+
+#[test]
+fn checks_find_what_is_wrong(rt: HostRuntime) {
+    let told = check_told_twice(&rt, rt.alloc());
+    assert!(rt; matches!(&told, Err(Fault::Wrong(Wrong::Told))));
+    let lost = check_lost(&rt, rt.alloc());
+    assert!(rt; matches!(&lost, Err(Fault::Wrong(Wrong::Sum))));
+}
+
+#[test]
+fn keys_are_distinct(rt: HostRuntime) -> Result<(), Fail> {
+    let places = shuffled(rt.alloc(), KEY_COUNT)?;
+    assert_eq!(rt; places.len(), 65_536);
+    for spacing in [Spacing::Dense, Spacing::Spread] {
+        let mut numbers = Vec::new(rt.alloc());
+        for place in places.iter() {
+            numbers.push(spacing.key(*place).get())?;
+        }
+        numbers.sort()?;
+        numbers.dedup();
+        assert_eq!(rt; numbers.len(), 65_536);
+    }
+    Ok(())
+}
+
+#[test]
+fn words_give_options(rt: HostRuntime) -> Result<(), Fail> {
+    let plain = options(rt.alloc(), &["A"])?;
+    assert_eq!(rt; plain.workload, Workload::Gets);
+    assert_eq!(rt; (plain.threads, plain.stripes), (1, 1));
+    assert_eq!(rt; plain.time, Duration::from_millis(1000));
+    assert_eq!(rt; plain.exponents.as_slice(), [17].as_slice());
+    assert_eq!(rt; plain.spacing, Spacing::Dense);
+    let words = [
+        "D",
+        "4",
+        "0.25",
+        "--plan",
+        "3,5",
+        "--stripes",
+        "2",
+        "--keys",
+        "spread",
+    ];
+    let given = options(rt.alloc(), words.as_slice())?;
+    assert_eq!(rt; given.workload, Workload::Growth);
+    assert_eq!(rt; (given.threads, given.stripes), (4, 2));
+    assert_eq!(rt; given.time, Duration::from_millis(250));
+    assert_eq!(rt; given.exponents.as_slice(), [3, 5].as_slice());
+    assert_eq!(rt; given.spacing, Spacing::Spread);
+    Ok(())
+}
+
+#[test]
+fn refuses_other_words(rt: HostRuntime) {
+    let refused: [&[&str]; 10] = [
+        &[],
+        &["F"],
+        &["A", "0"],
+        &["A", "9"],
+        &["A", "1", "soon"],
+        &["A", "1", "-1"],
+        &["A", "1", "1", "1"],
+        &["A", "--plan", "3,2"],
+        &["A", "--plan", "2,"],
+        &["A", "--keys", "few"],
+    ];
+    for words in refused {
+        let result = options(rt.alloc(), words);
+        assert!(rt; matches!(&result, Err(Fault::Usage)), "{words:?}");
+    }
+}
