@@ -12,7 +12,7 @@ use Rattle.nb_core.specs.declared.calls.Want.TheVariants as want
 use Rattle.nb_map.proofs.Theorems.{logs_add_up, replies_fit}
 use Rattle.nb_map.specs.Logs.{HasLogged, HasMatched, HasReplied}
 use Rattle.nb_map.specs.Maps.{IsMine, MapOf, SeatOf}
-use Rattle.nb_long.specs.Typed.{HasChangedIf, HasIdled, HasMadeLast, IsFound, IsIdle, IsUnshown, LongMapOf}
+use Rattle.nb_long.specs.Typed.{HasChangedIf, HasIdled, HasMadeLast, IsShown, IsIdle, IsUnshown, LongMapOf}
 
 -- ---- one round
 
@@ -27,7 +27,7 @@ equal-where false same = sym same
 -- what a read found
 abbrev pub HasRead : {V : Type 0} → Shelves → (key : ℕ) → (before after : SeatOf) → Where V → Type 0
 HasRead store key before after found =
-    (number : Option ℕ) × IsFound store number (Ok (Some found)) × HasReplied (call.Get key) before after (reply_at (call.Get key) number)
+    (number : Option ℕ) × IsShown store number (Ok (Some found)) × HasReplied (call.Get key) before after (reply_at (call.Get key) number)
 
 -- it is a read of what the store shows, under this number
 read-of :

@@ -31,10 +31,10 @@ pub record LongMapOf : Type 0 where
 
 -- What is found where the map has this number at a key, or none: nothing where it has none; else what the store shows under the
 -- number, if it shows anything.
-abbrev pub IsFound : {V : Type 0} → Shelves → Option ℕ → Result (Option (Where V)) Unshown → Type 0
-IsFound store number (Ok None) = number ≡ None
-IsFound store number (Ok (Some found)) = Shows store found × (number ≡ Some found.index)
-IsFound store number (Err unshown) = (n : ℕ) × (number ≡ Some n)
+abbrev pub IsShown : {V : Type 0} → Shelves → Option ℕ → Result (Option (Where V)) Unshown → Type 0
+IsShown store number (Ok None) = number ≡ None
+IsShown store number (Ok (Some found)) = Shows store found × (number ≡ Some found.index)
+IsShown store number (Err unshown) = (n : ℕ) × (number ≡ Some n)
 
 -- ---- writes
 
@@ -56,13 +56,13 @@ as_fault (store_fault.ValueRange placed) = fault.ValueRange placed
 
 -- What is given back where a value isn't written: the value itself, or a token by which the store gives it. Only where it was
 -- stored was the map called, and its call was refused.
-abbrev pub IsRefused : {V : Type 0} → LongMapOf → (key : ℕ) → Want → V → (before after : SeatOf) → LongFault V → Type 0
-IsRefused m key want value before after (fault.OutOfMemory back) = GivesBack m.store value (store_fault.OutOfMemory back) × (after ≡ before)
-IsRefused m key want value before after (fault.ValueRange placed) = GivesBack m.store value (store_fault.ValueRange placed) × (after ≡ before)
-IsRefused m key want value before after (fault.Full receipt) =
+abbrev pub IsWriteRefused : {V : Type 0} → LongMapOf → (key : ℕ) → Want → V → (before after : SeatOf) → LongFault V → Type 0
+IsWriteRefused m key want value before after (fault.OutOfMemory back) = GivesBack m.store value (store_fault.OutOfMemory back) × (after ≡ before)
+IsWriteRefused m key want value before after (fault.ValueRange placed) = GivesBack m.store value (store_fault.ValueRange placed) × (after ≡ before)
+IsWriteRefused m key want value before after (fault.Full receipt) =
     HasStored m.store value receipt × HasRefused m.map (put_of key want receipt) before after add_fault.Full
     × IsLockFree m.map (put_of key want receipt) before after
-IsRefused m key want value before after (fault.Unshown receipt) = ⊥
+IsWriteRefused m key want value before after (fault.Unshown receipt) = ⊥
 
 -- ---- writes where an equal value stands
 

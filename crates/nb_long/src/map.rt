@@ -12,7 +12,7 @@ ghost use Rattle.nb_map.specs.Looking.{IsSeenAtHome, get_steps};
 ghost use Rattle.nb_map.specs.Maps.{AreMine, HasWorked, IsMine, new_seats};
 ghost use Rattle.nb_map.specs.Refusing.{IsLockFree};
 ghost use Rattle.nb_long.specs.Stores.{HasStored};
-ghost use Rattle.nb_long.specs.Typed.{HasChangedIf, HasIdled, HasWritten, IsFound, IsRefused, IsRefusedIf, IsUnshown};
+ghost use Rattle.nb_long.specs.Typed.{HasChangedIf, HasIdled, HasWritten, IsShown, IsWriteRefused, IsRefusedIf, IsUnshown};
 
 use crate::store::{Found, Placed, Receipt, Store, StoreFault};
 use nb_core::{Change, Key, NotAll, Num, OutOfMemory, Shape, Want};
@@ -119,7 +119,7 @@ impl<V: Drop> LongMap<V> {
     ) -> Result<Stored<V>, LongFault<V>>
         requires own { IsMine self.now.map seat.old }
         ensures written { IfOk result (HasWritten self.now key want.Any value seat.old seat.new) }
-        ensures refused { IfErr result (IsRefused self.now key want.Any value seat.old seat.new) }
+        ensures refused { IfErr result (IsWriteRefused self.now key want.Any value seat.old seat.new) }
         ensures own { IsMine self.now.map seat.new }
     {
         let receipt = self.store.push(rt, value)?;
@@ -144,7 +144,7 @@ impl<V: Drop> LongMap<V> {
     ) -> Result<Stored<V>, LongFault<V>>
         requires own { IsMine self.now.map seat.old }
         ensures written { IfOk result (HasWritten self.now key want.Absent value seat.old seat.new) }
-        ensures refused { IfErr result (IsRefused self.now key want.Absent value seat.old seat.new) }
+        ensures refused { IfErr result (IsWriteRefused self.now key want.Absent value seat.old seat.new) }
         ensures own { IsMine self.now.map seat.new }
     {
         let receipt = self.store.push(rt, value)?;
@@ -169,7 +169,7 @@ impl<V: Drop> LongMap<V> {
     ) -> Result<Stored<V>, LongFault<V>>
         requires own { IsMine self.now.map seat.old }
         ensures written { IfOk result (HasWritten self.now key want.Present value seat.old seat.new) }
-        ensures refused { IfErr result (IsRefused self.now key want.Present value seat.old seat.new) }
+        ensures refused { IfErr result (IsWriteRefused self.now key want.Present value seat.old seat.new) }
         ensures own { IsMine self.now.map seat.new }
     {
         let receipt = self.store.push(rt, value)?;
@@ -227,7 +227,7 @@ impl<V> LongMap<V> {
     /// What the map has at a key. It is a `get` of the map of numbers, and a look at the store; it waits for nobody.
     pub fn get(&self, seat: &mut Seat, key: Key) -> Result<Option<Found<'_, V>>, Unshown>
         requires own { IsMine self.now.map seat.old }
-        ensures found { (number : Option ℕ) × IsFound self.now.store number result × HasReplied (call.Get key) seat.old seat.new (reply_at (call.Get key) number) }
+        ensures found { (number : Option ℕ) × IsShown self.now.store number result × HasReplied (call.Get key) seat.old seat.new (reply_at (call.Get key) number) }
         ensures worked { HasWorked self.now.map (call.Get key) seat.old seat.new (get_steps self.now.map.chain.shape) }
         ensures three_steps { IsSeenAtHome self.now.map.chain.shape seat.old.chain seat.new.chain key
             → seat.new.chain.steps ≤ seat.old.chain.steps + 3 }

@@ -15,7 +15,7 @@ use Rattle.nb_core.specs.declared.states.KeyState.TheVariants.{Claimed, Dead, Em
 use Rattle.nb_table.specs.Chains.{ChainOf, Extended, IsOwn, SeenBy, seen_by}
 use Rattle.nb_copy.specs.Handing.{HasCompleted, table_steps}
 use Rattle.nb_map.proofs.Made.{made-copied, made-more, made-none, made-quiet, made-step, made-within, slot-below-lasts}
-use Rattle.nb_map.specs.Calling.{HasMade, IsBeforeNext, replied}
+use Rattle.nb_map.specs.Calling.{HasMade, IsBeforeNext, as_replied}
 use Rattle.nb_map.specs.Searching.{read_at, probe_steps}
 use Rattle.nb_map.specs.Writing.{HasBelow, IsFound, find_steps, grow_steps, owed_below, steps_below}
 use Rattle.nb_map.specs.declared.claim.Below.{Below}
@@ -170,10 +170,10 @@ behind-fits p plan g d table near =
 -- a walk of a call that puts a number at an absent key is no read
 read-never : (p : Plan) (g : ℕ) (call : Call) (end : PathEnd) → leaves_alone call None ≡ false → read_at p g call end ≡ []
 read-never p g call (ends.Slot i) acts = refl
-read-never p g call (ends.Empty d) acts = ap (λ b. cond b (replied call None) []) acts
+read-never p g call (ends.Empty d) acts = ap (λ b. cond b (as_replied call None) []) acts
 read-never p g call ends.Closed acts = refl
 read-never p g call ends.Whole acts =
-    ap (λ b. cond (suc g == generations_of p) (cond b (replied call None) []) []) acts ∙ none (suc g == generations_of p)
+    ap (λ b. cond (suc g == generations_of p) (cond b (as_replied call None) []) []) acts ∙ none (suc g == generations_of p)
   where
     none : (b : Bool) → cond {A = List (Call × Reply)} b [] [] ≡ []
     none true = refl

@@ -25,7 +25,7 @@ use Rattle.nb_core.proofs.Theorems.{lawful_changes, one_slot, seen_lasts}
 use Rattle.nb_table.specs.Chains.{Grown, SeenBy, own_events}
 use Rattle.nb_map.proofs.Made.{slot-below-lasts}
 use Rattle.nb_map.specs.Calling.{HasStepped, MayMake}
-use Rattle.nb_map.specs.Crowding.{AsksAddUp, CrowdedByCalls, HasAsked, HasAskedIn, IsClaimOf, IsFilled, fills, others_filled}
+use Rattle.nb_map.specs.Crowding.{AsksAddUp, CrowdedByCalls, HasAskedFor, HasAskedIn, IsClaimOf, IsFilled, fills, others_filled}
 
 -- ---- keys that calls fill
 
@@ -314,7 +314,7 @@ module _ (p : Plan) (plan : IsPlan p) where
   -- a seat that has seen more, with claims of its own that are so
   asked-grown :
       {before after : SeenBy} {own : List Event} {count : ℕ} (cs cs' : List Call) → ((k : ℕ) → IsFilled cs k → IsFilled cs' k)
-      → HasAsked p cs before → Grown p before after own count → All (IsClaimOf p (tables_at p after.seen) cs') own → HasAsked p cs' after
+      → HasAskedFor p cs before → Grown p before after own count → All (IsClaimOf p (tables_at p after.seen) cs') own → HasAskedFor p cs' after
   asked-grown {before} {after} {own} cs cs' more asked grown new = record {
     own = All-same Q _ _ parts (All-append Q own _ new old);
   }
@@ -337,7 +337,7 @@ module _ (p : Plan) (plan : IsPlan p) where
   -- after the steps of a call
   asked-stepped :
       {call : Call} {before after : SeenBy} {most : ℕ} (cs cs' : List Call) → ((k : ℕ) → IsFilled cs k → IsFilled cs' k)
-      → (fills call ≡ true → IsFilled cs' (key_of_call call)) → HasAsked p cs before → HasStepped p call before after most → HasAsked p cs' after
+      → (fills call ≡ true → IsFilled cs' (key_of_call call)) → HasAskedFor p cs before → HasStepped p call before after most → HasAskedFor p cs' after
   asked-stepped {call} {before} {after} cs cs' more adds asked stepped =
       let made = stepped.1 in
       asked-grown cs cs' more asked made.grown
@@ -361,7 +361,7 @@ module _ (p : Plan) (plan : IsPlan p) where
           ∙ ap (λ s. own_events s is.seat.seen) (sym is.number)
 
 -- a seat that has seen nothing
-asked-new : (p : Plan) (cs : List Call) (seat : SeenBy) → seat.seen ≡ [] → HasAsked p cs seat
+asked-new : (p : Plan) (cs : List Call) (seat : SeenBy) → seat.seen ≡ [] → HasAskedFor p cs seat
 asked-new p cs seat new = record {
   own = subst (λ seen. All (IsClaimOf p (tables_at p seen) cs) (own_events seat.number seen)) (sym new) (All-nil (IsClaimOf p (tables_at p []) cs));
 }

@@ -14,9 +14,9 @@ use Rattle.nb_core.specs.declared.states.ValueState.TheVariants.{Null}
 use Rattle.nb_core.proofs.Theorems.{complete_passed, installed_after, lawful_words, linked, on_path, place_is, room}
 use Rattle.nb_table.specs.Chains.{ChainOf, IsOwn, SeenBy, seen_by}
 use Rattle.nb_table.specs.Conditions.{IsReached}
-use Rattle.nb_map.specs.Calling.{replied}
+use Rattle.nb_map.specs.Calling.{as_replied}
 use Rattle.nb_map.specs.Searching.{EndsAt, probe_steps, read_at}
-use Rattle.nb_map.specs.Walks.{IsAway, IsEarlier, IsFirst}
+use Rattle.nb_map.specs.Walks.{IsAway, IsEarlier, IsFirstTable}
 use Rattle.nb_map.specs.declared.search.PathEnd.{PathEnd}
 use Rattle.nb_map.specs.declared.search.PathEnd.TheVariants as ends
 use Rattle.nb_map.proofs.Walked.{installed-under}
@@ -103,7 +103,7 @@ module _ (chain : ChainOf) (seat : SeenBy) (own : IsOwn chain seat) where
 
   -- a search for the key may come to a table that has a slot of it, where the key is away from the walk's tables before
   pub earlier-reached :
-      (first g k : ℕ) → IsFirst p seat first → g < generations_of p → HasSlot p t g k → (f : ℕ) → f ≤ g → IsEarlier p t first f k false
+      (first g k : ℕ) → IsFirstTable p seat first → g < generations_of p → HasSlot p t g k → (f : ℕ) → f ≤ g → IsEarlier p t first f k false
       → IsReached p t f k
   earlier-reached first g k is_first table has f below away = record {
     installed = installed-under chain t links f g below (links.claimed g has.slot k (table, has.in_table) has.is);
@@ -163,7 +163,7 @@ module _ (chain : ChainOf) (seat : SeenBy) (own : IsOwn chain seat) where
   ends-unread f g k before table has (ends.Empty d) at = absurd (no-empty f g k d before table has at.1 at.2)
   ends-unread f g k before table has ends.Closed at = refl
   ends-unread f g k before table has ends.Whole at =
-      ap (λ b. cond b (replied (Get k) None) []) (ne_eqb (suc f) (generations_of p) (λ e. omega (arith, e, before, table)))
+      ap (λ b. cond b (as_replied (Get k) None) []) (ne_eqb (suc f) (generations_of p) (λ e. omega (arith, e, before, table)))
 
 -- a probe from the first slot on takes no more steps than the table has slots
 pub probe-few : (p : Plan) (t : Tables) (g k : ℕ) (end : PathEnd) → EndsAt p t g k end → probe_steps p g 0 end ≤ size_of p g

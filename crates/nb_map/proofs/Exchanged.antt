@@ -24,7 +24,7 @@ use Rattle.nb_table.specs.Conditions.{IsReached}
 use Rattle.nb_table.specs.Events.{read, shown_by_value}
 use Rattle.nb_map.proofs.Made.{made-read, made-stays, made-step, read_shown}
 use Rattle.nb_map.proofs.Searched.{made-then, reached-lasts}
-use Rattle.nb_map.specs.Calling.{HasMade, replied}
+use Rattle.nb_map.specs.Calling.{HasMade, as_replied}
 use Rattle.nb_map.specs.Writing.{passed_since}
 use Rattle.nb_core.proofs.Theorems.{decided, log_is_replayed, lost_exchange, passed_over_adds, passed_settled}
 use Rattle.nb_table.proofs.Theorems.{steps_add_up}
@@ -90,12 +90,12 @@ pub read-left :
     (call : Call) (v : ValueState) (number : Option ℕ) (reply : Reply) → shown_by_value v ≡ Some number → leaves_alone call number ≡ true
     → reply ≡ reply_at call number → read_shown call (shown_by_value v) ≡ (call, reply) ∷ []
 read-left call v number reply shows alone is =
-    ap (read_shown call) shows ∙ ap (λ b. cond b (replied call number) []) alone ∙ ap (λ r. (call, r) ∷ []) (sym is)
+    ap (read_shown call) shows ∙ ap (λ b. cond b (as_replied call number) []) alone ∙ ap (λ r. (call, r) ∷ []) (sym is)
 
 pub read-acting :
     (call : Call) (v : ValueState) (number : Option ℕ) → shown_by_value v ≡ Some number → leaves_alone call number ≡ false
     → read_shown call (shown_by_value v) ≡ []
-read-acting call v number shows acts = ap (read_shown call) shows ∙ ap (λ b. cond b (replied call number) []) acts
+read-acting call v number shows acts = ap (read_shown call) shows ∙ ap (λ b. cond b (as_replied call number) []) acts
 
 pub read-primed : (call : Call) (v : ValueState) → shown_by_value v ≡ None → read_shown call (shown_by_value v) ≡ []
 read-primed call v shows = ap (read_shown call) shows

@@ -18,7 +18,7 @@ use Rattle.nb_table.specs.Chains.{ChainOf, Extended, IsOwn, SeenBy, seen_by}
 use Rattle.nb_table.specs.Conditions.{IsReached}
 use Rattle.nb_table.specs.Events.{is_last_slot, read, shown_by_key, shown_by_value}
 use Rattle.nb_map.proofs.Made.{made-more, made-read, made-within, read_shown}
-use Rattle.nb_map.specs.Calling.{HasMade, read_of, replied}
+use Rattle.nb_map.specs.Calling.{HasMade, read_of, as_replied}
 use Rattle.nb_map.specs.Searching.{IsAbove, IsClosedTo}
 use Rattle.nb_core.proofs.Theorems.{complete_passed, linked, paths_are_distinct, top_complete}
 
@@ -146,7 +146,7 @@ pub read-start :
 read-start p g call from start = elim start [
   | inl near ↦ read-before p g call from near
   | inr acts ↦
-      ap (λ b. cond (suc g == generations_of p && from == size_of p g) (cond b (replied call None) []) []) acts
+      ap (λ b. cond (suc g == generations_of p && from == size_of p g) (cond b (as_replied call None) []) []) acts
       ∙ cond-none (suc g == generations_of p && from == size_of p g)
 ]
 
@@ -179,8 +179,8 @@ made-unless {p} {call} {before} {after} made b most most' is below steps =
     made-within most most' below (subst (λ x. HasMade p call before after (cond x made []) most) is steps)
 
 -- what a call reads that leaves the number alone
-pub read-alone : (call : Call) (number : Option ℕ) → leaves_alone call number ≡ true → read_of call number ≡ replied call number
-read-alone call number alone = ap (λ b. cond b (replied call number) []) alone
+pub read-alone : (call : Call) (number : Option ℕ) → leaves_alone call number ≡ true → read_of call number ≡ as_replied call number
+read-alone call number alone = ap (λ b. cond b (as_replied call number) []) alone
 
 -- ---- one slot more
 

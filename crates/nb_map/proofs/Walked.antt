@@ -18,8 +18,8 @@ use Rattle.nb_core.specs.declared.events.Event.TheVariants.{Claim, Install}
 use Rattle.nb_core.specs.declared.states.KeyState.TheVariants.{Claimed}
 use Rattle.nb_core.proofs.Theorems.{held_has_place, linked, log_is_replayed, one_place, place_is}
 use Rattle.nb_table.specs.Chains.{ChainOf, IsOwn, SeenBy, seen_by}
-use Rattle.nb_map.specs.Calling.{HasMade, MayMake, replied}
-use Rattle.nb_map.specs.Walks.{HasGone, HasPassed, IsBefore, IsBetween, IsFirst, IsMiss, IsPassedOver, hit}
+use Rattle.nb_map.specs.Calling.{HasMade, MayMake, as_replied}
+use Rattle.nb_map.specs.Walks.{HasGone, HasPassed, IsBefore, IsBetween, IsFirstTable, IsMiss, IsPassedOver, hit}
 use Rattle.nb_map.specs.declared.walk.Place.{Place}
 use Rattle.nb_map.specs.declared.walk.Place.TheVariants.{Slot, End}
 use Rattle.nb_map.proofs.Counted.{calls-later}
@@ -86,7 +86,7 @@ placed-later chain before after own begun first k at is =
 -- and has it at each moment at which the map has the key.
 pub placed-before :
     (chain : ChainOf) {before after : SeenBy} → IsOwn chain before → IsOwn chain after → IsBeginning before.seen after.seen
-    → (first : ℕ) → IsFirst chain.shape before first → (k n g i : ℕ) → get (map_of_log (log_of before.seen)) k ≡ Some n
+    → (first : ℕ) → IsFirstTable chain.shape before first → (k n g i : ℕ) → get (map_of_log (log_of before.seen)) k ≡ Some n
     → place_of chain.shape after.seen first k ≡ Some (g, i) → place_of chain.shape before.seen first k ≡ Some (g, i)
 placed-before chain {before} {after} own own' begun first is_first k n g i held is =
     let p = chain.shape in
@@ -117,7 +117,7 @@ module _ (chain : ChainOf) where
 
   pub passed-more :
       {before then after : SeenBy} → IsOwn chain then → IsOwn chain after → IsBeginning before.seen then.seen
-      → IsBeginning then.seen after.seen → (first : ℕ) → IsFirst p then first → (from mid to : Place) (shown : Option (ℕ × ℕ))
+      → IsBeginning then.seen after.seen → (first : ℕ) → IsFirstTable p then first → (from mid to : Place) (shown : Option (ℕ × ℕ))
       → HasPassed p before then first from mid None → HasPassed p then after first mid to shown → HasPassed p before after first from to shown
   passed-more {before} {then} {after} own own' begun begun' first is_first from mid to shown a b = record {
     onward = onward-more from mid to a.onward b.onward;
@@ -137,7 +137,7 @@ module _ (chain : ChainOf) where
   -- the same, where the first of two ways shows a key, and the second none
   passed-then :
       {before then after : SeenBy} → IsOwn chain then → IsOwn chain after → IsBeginning before.seen then.seen
-      → IsBeginning then.seen after.seen → (first : ℕ) → IsFirst p then first → (from mid to : Place) (shown : Option (ℕ × ℕ))
+      → IsBeginning then.seen after.seen → (first : ℕ) → IsFirstTable p then first → (from mid to : Place) (shown : Option (ℕ × ℕ))
       → HasPassed p before then first from mid shown → HasPassed p then after first mid to None → HasPassed p before after first from to shown
   passed-then {before} {then} {after} own own' begun begun' first is_first from mid to shown a b = record {
     onward = onward-more from mid to a.onward b.onward;
@@ -231,7 +231,7 @@ module _ (chain : ChainOf) where
   -- the first place of a key that was read and not found
   pub passed-missed :
       {before after : SeenBy} {most : ℕ} → IsOwn chain before → IsOwn chain after → (first g i k : ℕ) → place_of p after.seen first k ≡ Some (g, i)
-      → HasMade p (Get k) before after (replied (Get k) None) most → HasPassed p before after first (Slot g i) (Slot g (i + 1)) None
+      → HasMade p (Get k) before after (as_replied (Get k) None) most → HasPassed p before after first (Slot g i) (Slot g (i + 1)) None
   passed-missed {before} {after} own own' first g i k is read = record {
     onward = λ early. grind (arith, early);
     shows = tt;
@@ -360,8 +360,8 @@ module _ (chain : ChainOf) where
 
   -- the tables below the first one are complete still
   pub first-still :
-      {before after : SeenBy} {first : ℕ} {call : Call} {made : List (Call × Reply)} {most : ℕ} → IsOwn chain before → IsFirst p before first
-      → HasMade p call before after made most → IsFirst p after first
+      {before after : SeenBy} {first : ℕ} {call : Call} {made : List (Call × Reply)} {most : ℕ} → IsOwn chain before → IsFirstTable p before first
+      → HasMade p call before after made most → IsFirstTable p after first
   first-still own is_first made = record {
     table = is_first.table;
     complete = λ g low. (made-stays chain own made).complete g (omega (arith, low, is_first.table)) (is_first.complete g low);
@@ -370,7 +370,7 @@ module _ (chain : ChainOf) where
   -- some steps after others
   pub gone-more :
       {before then after : SeenBy} {first : ℕ} {from mid to : Place} {shown : Option (ℕ × ℕ)} {most most' : ℕ} → IsOwn chain before
-      → IsFirst p before first → HasGone p before then first from mid None most → HasGone p then after first mid to shown most'
+      → IsFirstTable p before first → HasGone p before then first from mid None most → HasGone p then after first mid to shown most'
       → HasGone p before after first from to shown (most + most')
   gone-more {before} {then} {after} {first} {from} {mid} {to} {shown} {most} {most'} own is_first a b =
       let own' = made-own chain own (a.made 0) in
@@ -388,7 +388,7 @@ module _ (chain : ChainOf) where
   -- steps that make no read, and show nothing, after others that may have shown a key
   pub gone-then :
       {before then after : SeenBy} {first : ℕ} {from mid to : Place} {shown : Option (ℕ × ℕ)} {most most' : ℕ} → IsOwn chain before
-      → IsFirst p before first → HasGone p before then first from mid shown most → ((k : ℕ) → HasMade p (Get k) then after [] most')
+      → IsFirstTable p before first → HasGone p before then first from mid shown most → ((k : ℕ) → HasMade p (Get k) then after [] most')
       → HasPassed p then after first mid to None → HasGone p before after first from to shown (most + most')
   gone-then {before} {then} {after} {first} {from} {mid} {to} {shown} own is_first a made passed =
       let own' = made-own chain own (a.made 0) in

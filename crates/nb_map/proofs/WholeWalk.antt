@@ -22,7 +22,7 @@ use Rattle.nb_core.proofs.Theorems.{held_has_place, linked, log_is_replayed, pla
 use Rattle.nb_table.specs.Chains.{seen_by}
 use Rattle.nb_map.specs.Logs.{HasLogged, log}
 use Rattle.nb_map.specs.Maps.{IsMine, MapOf, SeatOf}
-use Rattle.nb_map.specs.Walks.{Begun, Ended, HasGone, HasPassed, HasRead, HasWalked, IsBefore, IsFirst, IsLater, IsMiss, IsPassedOver, IsPlace, IsShown, IsUnderway, IsWalkOf, Rested, Showed, WalkLasts, WalkOf, WholeWalk, begun_by, hit}
+use Rattle.nb_map.specs.Walks.{Begun, Ended, HasGone, HasPassed, HasRead, HasWalked, IsBefore, IsFirstTable, IsLater, IsMiss, IsPassedOver, IsPlace, IsShown, IsUnderway, IsWalkOf, Rested, Showed, WalkLasts, WalkOf, WholeWalk, begun_by, hit}
 use Rattle.nb_map.specs.declared.walk.Place.{Place}
 use Rattle.nb_map.specs.declared.walk.Place.TheVariants.{Slot, End}
 use Rattle.nb_map.proofs.Counted.{uncounted-mine}
@@ -53,7 +53,7 @@ read_of pair = (Get pair.0, reply_at (Get pair.0) (Some pair.1))
 -- What a walk has shown that has come to its place: what a whole one has shown, but for the keys that are still before it.
 record SoFar (m : MapOf) (seat : SeatOf) (walk : WalkOf) (shown : List (ℕ × ℕ)) : Type 0 where
   mine : IsMine m seat
-  first : IsFirst m.chain.shape seat.chain walk.first
+  first : IsFirstTable m.chain.shape seat.chain walk.first
   later : IsBeginning walk.begun.chain.seen seat.chain.seen
   once : IsDistinct (λ a b. a == b) (keys_of shown)
   made : List (Call × Reply)
@@ -101,7 +101,7 @@ module _ (m : MapOf) where
       (seen_lasts p mine.chain.plan later.seen.later before.chain.seen (subst (IsLegal p) later.seen.is mine.chain.legal))
 
   -- the tables below the first one are complete still
-  first-later : {before after : SeatOf} {first : ℕ} → IsMine m after → IsLater before after → IsFirst p before.chain first → IsFirst p after.chain first
+  first-later : {before after : SeatOf} {first : ℕ} → IsMine m after → IsLater before after → IsFirstTable p before.chain first → IsFirstTable p after.chain first
   first-later mine later is_first = record {
     table = is_first.table;
     complete = λ g low. (lasting mine later).complete g (omega (arith, low, is_first.table)) (is_first.complete g low);
@@ -139,7 +139,7 @@ module _ (m : MapOf) where
   -- and if the map had it at the earlier moment, it was so then, where it came before the place that the walk had
   behind-before :
       {before after : SeatOf} → IsMine m before → IsMine m after → IsLater before after → (walk walk' : WalkOf)
-      → walk'.first ≡ walk.first → IsFirst p before.chain walk.first → (k n : ℕ) → get (map_of_log (log before)) k ≡ Some n
+      → walk'.first ≡ walk.first → IsFirstTable p before.chain walk.first → (k n : ℕ) → get (map_of_log (log before)) k ≡ Some n
       → (behind : IsBehind p after walk' k) → IsBefore (Slot behind.0 behind.1) walk.place → IsBehind p before walk k
   behind-before {before} {after} mine mine' later walk walk' same is_first k n held behind early =
       let (g, i, is, _) = behind in (
@@ -209,7 +209,7 @@ module _ (m : MapOf) where
       → All (λ pair. Contains new (read_of pair)) (pairs found) → SoFar m after walk' (pairs found ++ shown)
   sofar-more {before} {after} {walk} {shown} walk' found {new} sofar mine later begun same passed logged read = record {
     mine = mine;
-    first = subst (IsFirst p after.chain) (sym same) (first-later mine later sofar.first);
+    first = subst (IsFirstTable p after.chain) (sym same) (first-later mine later sofar.first);
     later = subst (λ begun. IsBeginning begun.chain.seen after.chain.seen) (sym begun) (begins-more sofar.later later.seen);
     once = shown-once mine later walk walk' found passed.shows shown sofar.behind sofar.once;
     made = new ++ sofar.made;

@@ -56,9 +56,9 @@ abbrev pub HasStepped : Plan → Call → (before after : SeenBy) → (most : �
 HasStepped p call before after most = (made : List (Call × Reply)) × HasMade p call before after made most
 
 -- the call with its reply, where its key has this number, or none
-abbrev pub replied : Call → Option ℕ → List (Call × Reply)
-replied call number = (call, reply_at call number) ∷ []
+abbrev pub as_replied : Call → Option ℕ → List (Call × Reply)
+as_replied call number = (call, reply_at call number) ∷ []
 
 -- the same, if the call leaves the number as it is, so that a look at it is the call's read
 abbrev pub read_of : Call → Option ℕ → List (Call × Reply)
-read_of call number = if leaves_alone call number then replied call number else []
+read_of call number = if leaves_alone call number then as_replied call number else []

@@ -33,26 +33,26 @@ IsClaimOf p t calls (Claim s g i k) = (g < generations_of p) × (HasSlotBelow p 
 IsClaimOf p t calls _ = Unit {0}
 
 -- Whatever the seat was asked to do, of the keys that it claimed these calls fill each that is new to the tables.
-pub record HasAsked (p : Plan) (calls : List Call) (seat : SeenBy) : Type 0 where
+pub record HasAskedFor (p : Plan) (calls : List Call) (seat : SeenBy) : Type 0 where
   pub own : All (IsClaimOf p (tables_at p seat.seen) calls) (own_events seat.number seat.seen)
 
 -- so it is of the history's seat of this number
 pub record HasAskedIn (p : Plan) (calls : List Call) (history : List Event) (n : ℕ) : Type 0 where
   pub seat : SeenBy
   pub number : seat.number ≡ n
-  pub asked : HasAsked p calls seat
+  pub asked : HasAskedFor p calls seat
   pub seen : HasSeen history n seat.seen
 
 -- What seats are asked adds up: nothing, a call more, and steps that are no event.
 pub record AsksAddUp : Type 0 where
-  pub none : {p : Plan} {calls : List Call} {seat : SeenBy} → seat.seen ≡ [] → HasAsked p calls seat
+  pub none : {p : Plan} {calls : List Call} {seat : SeenBy} → seat.seen ≡ [] → HasAskedFor p calls seat
   pub more :
       {p : Plan} {calls calls' : List Call} {call : Call} {before after : SeenBy} {most : ℕ} → IsPlan p
-      → ((k : ℕ) → IsFilled calls k → IsFilled calls' k) → (fills call ≡ true → IsFilled calls' (key_of_call call)) → HasAsked p calls before
-      → HasStepped p call before after most → HasAsked p calls' after
+      → ((k : ℕ) → IsFilled calls k → IsFilled calls' k) → (fills call ≡ true → IsFilled calls' (key_of_call call)) → HasAskedFor p calls before
+      → HasStepped p call before after most → HasAskedFor p calls' after
   pub rested :
-      {p : Plan} {calls : List Call} {before after : SeenBy} {count : ℕ} → IsPlan p → HasAsked p calls before → Grown p before after [] count
-      → HasAsked p calls after
+      {p : Plan} {calls : List Call} {before after : SeenBy} {count : ℕ} → IsPlan p → HasAskedFor p calls before → Grown p before after [] count
+      → HasAskedFor p calls after
 
 -- Where all seats were asked for these calls alone, a key finds all slots of the last table taken only where the calls fill as
 -- many other keys.

@@ -8,8 +8,8 @@ use Rattle.nb_map.specs.declared.map.Seat.TheInside as seat
 use Rattle.nb_map.specs.declared.walk.Walk.TheInside as walk
 
 -- the map, as contracts see it
-abbrev pub map_of : map.Inside → MapOf
-map_of c = record { chain = c.chain; counter = c.counter }
+abbrev pub map_within : map.Inside → MapOf
+map_within c = record { chain = c.chain; counter = c.counter }
 
 -- the shape is a plan, and the counter has as many seats as the chain
 pub record IsMap (c : map.Inside) : Type 0 where

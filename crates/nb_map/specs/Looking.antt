@@ -6,7 +6,7 @@ use Rattle.nb_core.specs.declared.calls.Call.{Call}
 use Rattle.nb_core.specs.declared.calls.Reply.{Reply}
 use Rattle.nb_core.specs.declared.states.KeyState.TheVariants.{Claimed, Empty}
 use Rattle.nb_table.specs.Chains.{SeenBy, seen_by}
-use Rattle.nb_map.specs.Calling.{replied}
+use Rattle.nb_map.specs.Calling.{as_replied}
 use Rattle.nb_map.specs.Searching.{IsAbove, pass_steps, slots_below}
 use Rattle.nb_map.specs.declared.get.Glance.{Glance}
 use Rattle.nb_map.specs.declared.get.Glance.TheVariants as glance
@@ -20,7 +20,7 @@ IsLook p t g k Above = IsAbove p t g k
 
 -- the read that the look was, for a call that leaves alone what it shows
 abbrev pub read_by : Call → Look → List (Call × Reply)
-read_by call (Shows number) = replied call number
+read_by call (Shows number) = as_replied call number
 read_by call Above = []
 
 -- the key's home slot in the table is its own
@@ -43,7 +43,7 @@ IsGlance p t g k (glance.From d) = (d < size_of p g) × AreOthers p t g k d × (
 
 -- the read that the glance was, for a call that leaves alone what it shows
 abbrev pub glanced_by : Call → Glance → List (Call × Reply)
-glanced_by call (glance.Shows number) = replied call number
+glanced_by call (glance.Shows number) = as_replied call number
 glanced_by call (glance.From d) = []
 
 -- the most steps of a look at table g: a load for each slot and one of the next word or of a value, and the end of a copy

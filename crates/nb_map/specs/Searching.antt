@@ -6,7 +6,7 @@ use Rattle.nb_core.specs.declared.calls.Call.{Call}
 use Rattle.nb_core.specs.declared.calls.Reply.{Reply}
 use Rattle.nb_core.specs.declared.states.KeyState.TheVariants.{Claimed, Dead, Empty}
 use Rattle.nb_copy.specs.Handing.{slot_steps}
-use Rattle.nb_map.specs.Calling.{read_of, replied}
+use Rattle.nb_map.specs.Calling.{read_of, as_replied}
 use Rattle.nb_map.specs.declared.search.PathEnd.{PathEnd}
 use Rattle.nb_map.specs.declared.search.PathEnd.TheVariants as ends
 use Rattle.nb_map.specs.declared.search.Sought.{Sought}
@@ -54,7 +54,7 @@ IsSought p t g k sought.Above = IsAbove p t g k
 -- the read that the search was
 abbrev pub read_sought : Call → Sought → List (Call × Reply)
 read_sought call (sought.Slot i) = []
-read_sought call sought.Absent = replied call None
+read_sought call sought.Absent = as_replied call None
 read_sought call sought.Above = []
 
 -- the most steps to finish a slot and to count it

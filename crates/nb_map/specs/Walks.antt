@@ -10,7 +10,7 @@ use Rattle.nb_core.specs.declared.calls.Call.TheVariants.{Get}
 use Rattle.nb_core.specs.declared.calls.Reply.{Reply}
 use Rattle.nb_table.specs.Chains.{SeenBy, seen_by}
 use Rattle.nb_table.specs.Conditions.{IsReached}
-use Rattle.nb_map.specs.Calling.{HasMade, replied}
+use Rattle.nb_map.specs.Calling.{HasMade, as_replied}
 use Rattle.nb_map.specs.Logs.{HasLogged, log}
 use Rattle.nb_map.specs.Looking.{get_steps}
 use Rattle.nb_map.specs.Maps.{HasWorked, IsMine, MapOf, SeatOf}
@@ -32,9 +32,9 @@ abbrev pub IsBetween : (from to : Place) → (g i : ℕ) → Type 0
 IsBetween from to g i = (IsBefore (Slot g i) from → ⊥) × IsBefore (Slot g i) to
 
 -- how many slots there are from a place on
-abbrev pub slots_from : Plan → Place → ℕ
-slots_from p (Slot g i) = slots_below p (generations_of p) - (slots_below p g + i)
-slots_from p End = 0
+abbrev pub slots_ahead : Plan → Place → ℕ
+slots_ahead p (Slot g i) = slots_below p (generations_of p) - (slots_below p g + i)
+slots_ahead p End = 0
 
 -- ---- a walk
 
@@ -45,7 +45,7 @@ pub record WalkOf : Type 0 where
   pub place : Place
 
 -- A walk may have this table for its first: the seat has seen that all tables below it are complete.
-pub record IsFirst (p : Plan) (seat : SeenBy) (first : ℕ) : Type 0 where
+pub record IsFirstTable (p : Plan) (seat : SeenBy) (first : ℕ) : Type 0 where
   pub table : first < generations_of p
   pub complete : (g : ℕ) → g < first → IsComplete p (seen_by p seat) g
 
@@ -64,7 +64,7 @@ pub record IsLater (before after : SeatOf) : Type 0 where
 pub record IsWalkOf (m : MapOf) (seat : SeatOf) (walk : WalkOf) : Type 0 where
   pub chain : walk.begun.chain.chain ≡ m.chain.id
   pub later : IsLater walk.begun seat
-  pub first : IsFirst m.chain.shape seat.chain walk.first
+  pub first : IsFirstTable m.chain.shape seat.chain walk.first
   pub place : IsPlace m.chain.shape (seen_by m.chain.shape seat.chain) walk.first walk.place
 
 -- A walk begins in the top table, with its first slot.
@@ -104,7 +104,7 @@ pub record HasWalked (p : Plan) (before after : SeatOf) (walk walk' : WalkOf) (s
 -- the read of the pair that is shown
 abbrev pub hit : Option (ℕ × ℕ) → List (Call × Reply)
 hit None = []
-hit (Some pair) = replied (Get pair.0) (Some pair.1)
+hit (Some pair) = as_replied (Get pair.0) (Some pair.1)
 
 -- the call is a read of a key that the map hadn't
 abbrev pub IsMiss : Call × Reply → Type 0
@@ -119,7 +119,7 @@ pub record HasRead (before after : SeatOf) (shown : Option (ℕ × ℕ)) : Type 
 -- the most steps from one place of a walk to another, with T slots in all tables and B the bound of a read: T + B + 4 for each
 -- slot, so T (T + B + 4) for all calls of a walk together
 abbrev pub passing_steps : Plan → (from to : Place) → ℕ
-passing_steps p from to = (slots_from p from - slots_from p to) * (slots_below p (generations_of p) + get_steps p + 4)
+passing_steps p from to = (slots_ahead p from - slots_ahead p to) * (slots_below p (generations_of p) + get_steps p + 4)
 
 -- ---- a whole walk
 
@@ -179,8 +179,8 @@ IsFirstOf p seat first g i None = (k : ℕ) → place_of p seat.seen first k ≡
 IsFirstOf p seat first g i (Some k) = (place_of p seat.seen first k ≡ Some (g, i)) × IsReached p (seen_by p seat) g k
 
 -- the most steps at one slot: its key, a search for the key in the tables before, and a read of it
-abbrev pub slot_steps : Plan → ℕ
-slot_steps p = slots_below p (generations_of p) + get_steps p + 1
+abbrev pub visit_steps : Plan → ℕ
+visit_steps p = slots_below p (generations_of p) + get_steps p + 1
 
 -- A seat's steps took a walk from one place to another: with reads alone, at last the one of the pair that is shown, in at most
 -- so many steps.

@@ -6,7 +6,7 @@ ghost use Rattle.nb_core.specs.declared.calls.Call.TheVariants as call;
 ghost use Rattle.nb_core.specs.declared.states.KeyState.TheVariants as key_is;
 ghost use Rattle.nb_table.specs.Chains.{IsOwn, seen_by};
 ghost use Rattle.nb_table.specs.Conditions.{IsReached};
-ghost use Rattle.nb_map.specs.Calling.{HasMade, replied};
+ghost use Rattle.nb_map.specs.Calling.{HasMade, as_replied};
 ghost use Rattle.nb_map.specs.Looking.{IsGlance, IsLook, IsSeenAtHome, get_steps, glanced_by, look_steps, looked_below, read_by};
 ghost use Rattle.nb_map.specs.Searching.{pass_steps};
 
@@ -37,7 +37,7 @@ pub(crate) enum Glance {
 #[inline]
 pub fn get_in(chain: &Chain, seat: &mut ChainSeat, key: Key) -> Option<Num>
     requires own { IsOwn chain.now seat.old }
-    ensures made { HasMade chain.now.shape (call.Get key) seat.old seat.new (replied (call.Get key) result)
+    ensures made { HasMade chain.now.shape (call.Get key) seat.old seat.new (as_replied (call.Get key) result)
         (get_steps chain.now.shape) }
     ensures three_steps { IsSeenAtHome chain.now.shape seat.old seat.new key → seat.new.steps ≤ seat.old.steps + 3 }
 {
@@ -103,7 +103,7 @@ fn get_from(
     requires reached { IsReached chain.now.shape (seen_by chain.now.shape seat.old) first key }
     requires near { distance < size_of chain.now.shape first }
     requires others { AreOthers chain.now.shape (seen_by chain.now.shape seat.old) first key distance }
-    ensures made { HasMade chain.now.shape (call.Get key) seat.old seat.new (replied (call.Get key) result)
+    ensures made { HasMade chain.now.shape (call.Get key) seat.old seat.new (as_replied (call.Get key) result)
         (looked_below chain.now.shape (generations_of chain.now.shape)) }
 {
     let mut from = distance;
@@ -123,7 +123,7 @@ pub(crate) fn get_at(chain: &Chain, seat: &mut ChainSeat, g: u32, i: usize, key:
     requires slot { IsSlot chain.now.shape g i }
     requires claimed { (seen_by chain.now.shape seat.old).key g i ≡ key_is.Claimed key }
     requires reached { IsReached chain.now.shape (seen_by chain.now.shape seat.old) g key }
-    ensures made { HasMade chain.now.shape (call.Get key) seat.old seat.new (replied (call.Get key) result) (get_steps chain.now.shape) }
+    ensures made { HasMade chain.now.shape (call.Get key) seat.old seat.new (as_replied (call.Get key) result) (get_steps chain.now.shape) }
 {
     match look_at(chain, seat, g, i, key) {
         Look::Shows(number) => number,

@@ -12,7 +12,7 @@ ghost use Rattle.nb_map.specs.Ending.{EndedWith, HasTablesLeft};
 ghost use Rattle.nb_map.specs.Logs.{HasLogged, HasReplied, log};
 ghost use Rattle.nb_map.specs.Maps.{AreMine, HasWorked, IsMine, accounted, new_seats};
 ghost use Rattle.nb_map.specs.Refusing.{IsJust, put_steps};
-ghost use Rattle.nb_map.specs.Walks.{HasRead, HasWalked, IsWalkOf, begun_by, passing_steps, slots_from};
+ghost use Rattle.nb_map.specs.Walks.{HasRead, HasWalked, IsWalkOf, begun_by, passing_steps, slots_ahead};
 ghost use Rattle.nb_map.specs.Writing.{IsSeenAlone, passed_since};
 
 use crate::ended::{Ended, parted};
@@ -44,9 +44,9 @@ impl Model for Map {
 
     ghost Value = { MapOf };
 
-    ghost use Rattle.nb_map.specs.Inside.{IsMap, map_of};
+    ghost use Rattle.nb_map.specs.Inside.{IsMap, map_within};
 
-    ghost view = { map_of };
+    ghost view = { map_within };
 
     ghost invariant = { IsMap };
 }
@@ -250,7 +250,7 @@ impl Map {
         ensures walked { HasWalked self.now.chain.shape seat.old seat.new walk.old walk.new result }
         ensures worked { (key : ℕ) → HasWorked self.now (call.Get key) seat.old seat.new
             (passing_steps self.now.chain.shape walk.old.place walk.new.place) }
-        ensures ahead { IfSome result (λ pair. slots_from self.now.chain.shape walk.new.place < slots_from self.now.chain.shape walk.old.place) }
+        ensures ahead { IfSome result (λ pair. slots_ahead self.now.chain.shape walk.new.place < slots_ahead self.now.chain.shape walk.old.place) }
         ensures walk { IsWalkOf self.now seat.new walk.new }
         ensures own { IsMine self.now seat.new }
     {

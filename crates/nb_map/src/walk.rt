@@ -6,7 +6,7 @@ ghost use Rattle.nb_core.specs.declared.calls.Call.TheVariants as call;
 ghost use Rattle.nb_table.specs.Chains.{IsOwn, seen_by};
 ghost use Rattle.nb_map.specs.Calling.{HasMade};
 ghost use Rattle.nb_map.specs.Searching.{slots_below};
-ghost use Rattle.nb_map.specs.Walks.{HasGone, HasPassed, IsEarlier, IsFirst, IsFirstOf, IsPlace, passing_steps, slot_steps, slots_from};
+ghost use Rattle.nb_map.specs.Walks.{HasGone, HasPassed, IsEarlier, IsFirstTable, IsFirstOf, IsPlace, passing_steps, visit_steps, slots_ahead};
 ghost use Rattle.nb_map.specs.declared.walk.Place.TheVariants as walk_at;
 
 use crate::get::get_at;
@@ -64,12 +64,12 @@ pub(crate) fn next_from(
     place: &mut Place,
 ) -> Option<(Key, Num)>
     requires own { IsOwn chain.now seat.old }
-    requires first { IsFirst chain.now.shape seat.old first }
+    requires first { IsFirstTable chain.now.shape seat.old first }
     requires place { IsPlace chain.now.shape (seen_by chain.now.shape seat.old) first place.old }
     ensures gone { HasGone chain.now.shape seat.old seat.new first place.old place.new result
         (passing_steps chain.now.shape place.old place.new) }
     ensures place { IsPlace chain.now.shape (seen_by chain.now.shape seat.new) first place.new }
-    ensures ahead { IfSome result (λ pair. slots_from chain.now.shape place.new < slots_from chain.now.shape place.old) }
+    ensures ahead { IfSome result (λ pair. slots_ahead chain.now.shape place.new < slots_ahead chain.now.shape place.old) }
     ensures ended { result ≡ None → place.new ≡ walk_at.End }
 {
     while let Place::Slot(g, from) = *place {
@@ -91,7 +91,7 @@ fn place_from(chain: &Chain, seat: &mut ChainSeat, g: u32, i: usize) -> Place
     ensures made { (k : ℕ) → HasMade chain.now.shape (call.Get k) seat.old seat.new [] 1 }
     ensures passed { (first : ℕ) → HasPassed chain.now.shape seat.old seat.new first (walk_at.Slot g i) result None }
     ensures place { (first : ℕ) → first ≤ g → IsPlace chain.now.shape (seen_by chain.now.shape seat.new) first result }
-    ensures slots { slots_from chain.now.shape result ≤ slots_from chain.now.shape (walk_at.Slot g i) }
+    ensures slots { slots_ahead chain.now.shape result ≤ slots_ahead chain.now.shape (walk_at.Slot g i) }
 {
     if i < chain.shape().size_of(g) {
         return Place::Slot(g, i);
@@ -110,12 +110,12 @@ fn place_from(chain: &Chain, seat: &mut ChainSeat, g: u32, i: usize) -> Place
 /// slot, and one more for a number.
 fn next_in(chain: &Chain, seat: &mut ChainSeat, first: u32, g: u32, from: usize) -> Stretch
     requires own { IsOwn chain.now seat.old }
-    requires first { IsFirst chain.now.shape seat.old first }
+    requires first { IsFirstTable chain.now.shape seat.old first }
     requires table { g < generations_of chain.now.shape }
     requires behind { first ≤ g }
     requires within { from < size_of chain.now.shape g }
     ensures gone { HasGone chain.now.shape seat.old seat.new first (walk_at.Slot g from) (walk_at.Slot g result.to) result.shown
-        ((result.to - from) * slot_steps chain.now.shape) }
+        ((result.to - from) * visit_steps chain.now.shape) }
     ensures onward { from < result.to }
     ensures within { result.to ≤ size_of chain.now.shape g }
     ensures whole { result.shown ≡ None → result.to ≡ size_of chain.now.shape g }
@@ -141,7 +141,7 @@ fn next_in(chain: &Chain, seat: &mut ChainSeat, first: u32, g: u32, from: usize)
 #[inline]
 fn first_seen(chain: &Chain, seat: &mut ChainSeat, first: u32, g: u32, i: usize) -> Option<Key>
     requires own { IsOwn chain.now seat.old }
-    requires first { IsFirst chain.now.shape seat.old first }
+    requires first { IsFirstTable chain.now.shape seat.old first }
     requires slot { IsSlot chain.now.shape g i }
     requires behind { first ≤ g }
     ensures made { (k : ℕ) → HasMade chain.now.shape (call.Get k) seat.old seat.new [] (1 + slots_below chain.now.shape g) }
@@ -163,7 +163,7 @@ fn first_seen(chain: &Chain, seat: &mut ChainSeat, first: u32, g: u32, i: usize)
 #[tactic(auto, using(nb_core::proofs::Theorems::linked))]
 fn is_earlier(chain: &Chain, seat: &mut ChainSeat, first: u32, g: u32, key: Key) -> bool
     requires own { IsOwn chain.now seat.old }
-    requires first { IsFirst chain.now.shape seat.old first }
+    requires first { IsFirstTable chain.now.shape seat.old first }
     requires table { g < generations_of chain.now.shape }
     requires behind { first ≤ g }
     requires slot { HasSlot chain.now.shape (seen_by chain.now.shape seat.old) g key }

@@ -11,7 +11,7 @@ use Rattle.nb_core.specs.Plans.{IsPlan, Plan}
 use Rattle.nb_core.specs.declared.calls.Call.{Call}
 use Rattle.nb_table.specs.Chains.{SeenBy}
 use Rattle.nb_map.proofs.Theorems.{asks_add_up}
-use Rattle.nb_map.specs.Crowding.{HasAsked, IsFilled, fills, others_filled}
+use Rattle.nb_map.specs.Crowding.{HasAskedFor, IsFilled, fills, others_filled}
 use Rattle.nb_map.specs.Maps.{MapOf, SeatOf, new_seat, new_seats}
 use Rattle.nb_script.specs.Script.{Phase}
 use Rattle.nb_run.specs.Text.{call_of}
@@ -58,7 +58,7 @@ others-same k calls call key =
 
 -- the seat's own claims are of keys that these commands may put, or that have a slot in the table below
 abbrev pub HasClaimed : Plan → List Command → SeenBy → Type 0
-HasClaimed p cs seat = HasAsked p (map call_of cs) seat
+HasClaimed p cs seat = HasAskedFor p (map call_of cs) seat
 
 -- ---- a run
 

@@ -24,9 +24,9 @@ use Rattle.nb_map.specs.Ending.{map_left as ended_map}
 use Rattle.nb_map.specs.Logs.{HasLogged, log}
 use Rattle.nb_map.specs.Maps.{MapOf, SeatOf, new_seat, new_seats}
 use Rattle.nb_script.specs.Script.{Bytes, Phase}
-use Rattle.nb_run.specs.Text.{answer_line, answer_of, call_of, ending, map_behind, map_left, shown, text_from}
+use Rattle.nb_run.specs.Text.{answer_line, answer_of, call_of, ending, map_behind, map_after_command, shown, text_from}
 use Rattle.nb_run.specs.Told.{IsLoneText, MayCrowd, all_commands, key_of_command, phase_text}
-use Rattle.nb_run.specs.Working.{AreAnswered, HasAnswered, HasMet, HasShown, HaveMet, HaveRun, PhaseRan, commands_of}
+use Rattle.nb_run.specs.Working.{AreAnswered, HasAnswered, HasMet, HasShownReply, HaveMet, HaveRun, PhaseRan, commands_of}
 use Rattle.nb_run.specs.declared.answers.Answer.{Answer}
 use Rattle.nb_run.specs.declared.answers.Answer.TheVariants as answer
 use Rattle.nb_script.specs.declared.script.Command.{Command}
@@ -39,7 +39,7 @@ use Rattle.nb_run.proofs.Fullness.{AreJust, commands-lone, crowd-lone-run, just-
 -- the map; else it answers as on the map.
 abbrev pub IsPlain : Command → Answer → (before after : Numbers) → Type 0
 IsPlain c answer.Full before after = (get before (key_of_command c) ≡ None) × (after ≡ before)
-IsPlain c a before after = (a ≡ answer_of c before) × (after ≡ map_left c before)
+IsPlain c a before after = (a ≡ answer_of c before) × (after ≡ map_after_command c before)
 
 -- the same of one command after another
 abbrev pub ArePlain : List Command → List Answer → (before after : Numbers) → Type 0
@@ -82,7 +82,7 @@ full-at (a ∷ answers) zero is = ap Some (full-is a is)
 full-at (a ∷ answers) (suc n) is = full-at answers n is
 
 -- the map that a command with this answer leaves
-plain-left : (c : Command) (a : Answer) (m next : Numbers) → IsPlain c a m next → cond (is_full a) m (map_left c m) ≡ next
+plain-left : (c : Command) (a : Answer) (m next : Numbers) → IsPlain c a m next → cond (is_full a) m (map_after_command c m) ≡ next
 plain-left c answer.Full m next is = sym is.1
 plain-left c answer.Nothing m next is = sym is.1
 plain-left c (answer.Value n) m next is = sym is.1
@@ -109,11 +109,11 @@ absent-at (d ∷ cs) (a ∷ answers) m after plain (suc n) c full is =
 -- one line, and the text for the commands behind it
 line-plain :
     (task : ℕ × Command) (tasks : Phase) (a : Answer) (full : ℕ → Bool) (m next : Numbers) (rest : Bytes) → task.0 ≡ 0 → a ≡ answer_of task.1 m
-    → next ≡ map_left task.1 m → text_from full next tasks ≡ rest
-    → answer_line task.0 (answer_of task.1 m) ++ text_from full (map_left task.1 m) tasks ≡ answer_line 0 a ++ rest
+    → next ≡ map_after_command task.1 m → text_from full next tasks ≡ rest
+    → answer_line task.0 (answer_of task.1 m) ++ text_from full (map_after_command task.1 m) tasks ≡ answer_line 0 a ++ rest
 line-plain task tasks a full m next rest worker answer left told =
-    ap (λ w. answer_line w (answer_of task.1 m) ++ text_from full (map_left task.1 m) tasks) worker
-    ∙ ap (λ b. answer_line 0 b ++ text_from full (map_left task.1 m) tasks) (sym answer)
+    ap (λ w. answer_line w (answer_of task.1 m) ++ text_from full (map_after_command task.1 m) tasks) worker
+    ∙ ap (λ b. answer_line 0 b ++ text_from full (map_after_command task.1 m) tasks) (sym answer)
     ∙ ap (λ n. answer_line 0 a ++ text_from full n tasks) (sym left)
     ∙ ap (λ bytes. answer_line 0 a ++ bytes) told
 
@@ -259,8 +259,8 @@ module _
 
     -- The one call that was made answers as on the plain map.
     shown-plain :
-        (c : Command) (a : Answer) (before after : SeatOf) → IsFirst before → IsLegal p after.chain.seen → HasShown c a before after
-        → IsFirst after × ((a ≡ answer_of c (held before)) × (held after ≡ map_left c (held before)))
+        (c : Command) (a : Answer) (before after : SeatOf) → IsFirst before → IsLegal p after.chain.seen → HasShownReply c a before after
+        → IsFirst after × ((a ≡ answer_of c (held before)) × (held after ≡ map_after_command c (held before)))
     shown-plain c a before after first legal is = (more.first, (answered, left))
       where
         reply : Reply
@@ -285,7 +285,7 @@ module _
             sym is.1 ∙ ap (shown c) replies.0
             ∙ sym (ap (λ b. cond b answer.Range (shown c (reply_of (call_of c) (held before)))) acts)
 
-        left : held after ≡ map_left c (held before)
+        left : held after ≡ map_after_command c (held before)
         left = then ∙ sym (ap (λ b. cond b (held before) (map_after (call_of c) (held before))) acts)
 
     -- a refused call leaves the map
@@ -303,7 +303,7 @@ module _
     -- an add that is refused for its sum answers so on the plain map
     past-plain :
         (c : Command) (before after : SeatOf) → HasCalledMore [] before after → overflows (call_of c) (held after) ≡ true
-        → (answer.Range ≡ answer_of c (held before)) × (held after ≡ map_left c (held before))
+        → (answer.Range ≡ answer_of c (held before)) × (held after ≡ map_after_command c (held before))
     past-plain c before after more past = (
       sym (ap (λ b. cond b answer.Range (shown c (reply_of (call_of c) (held before)))) over),
       same ∙ sym (ap (λ b. cond b (held before) (map_after (call_of c) (held before))) over),

@@ -12,7 +12,7 @@ use Rattle.nb_map.specs.Maps.{IsMine, MapOf, SeatOf}
 use Rattle.nb_table.specs.Chains.{Extended}
 use Rattle.nb_table.proofs.Theorems.{steps_add_up}
 use Rattle.nb_core.specs.Log.{Entry, IsBeginning}
-use Rattle.nb_run.specs.Working.{HasMet, HasMetAs, seats_of}
+use Rattle.nb_run.specs.Working.{HasMet, HasMetAs, worker_seats}
 use Rattle.nb_run.specs.declared.workers.Worker.{Worker}
 use Rattle.nb_run.proofs.CallLemmas.{IsSeenBy, beginning-logged, beginning-more}
 use Rattle.nb_run.proofs.Together.{all-zip-push, all-zip-then}
@@ -109,16 +109,16 @@ module _ (m : MapOf) where
   pub each-more :
       (workers now : List Worker) (i : ℕ) (worker : Worker) (s t t' u : SeatOf) → i < length workers → i < length now
       → worker ≡ get_or workers i worker → drop i now ≡ drop i workers → IsMine m t' → IsMine m u
-      → HasMet m (seats_of (take i workers)) s t → AllZip (HasMetAs m (s ∷ [])) (take i workers) (take i now) → Meets m worker.seat t t'
+      → HasMet m (worker_seats (take i workers)) s t → AllZip (HasMetAs m (s ∷ [])) (take i workers) (take i now) → Meets m worker.seat t t'
       → Meets m t worker.seat u
-      → IsMine m t' × HasMet m (seats_of (take (i + 1) workers)) s t'
+      → IsMine m t' × HasMet m (worker_seats (take (i + 1) workers)) s t'
       × AllZip (HasMetAs m (s ∷ [])) (take (i + 1) workers) (take (i + 1) (set now i (seated worker u)))
       × (drop (i + 1) (set now i (seated worker u)) ≡ drop (i + 1) workers)
   each-more workers now i worker s t t' u below below' at rest own mine met all a b =
-      let met' = met-then (seats_of (take i workers)) (worker.seat ∷ []) s t t' met (met-one worker.seat t t' a) in (
+      let met' = met-then (worker_seats (take i workers)) (worker.seat ∷ []) s t t' met (met-one worker.seat t t' a) in (
         own,
         subst (λ seats. HasMet m seats s t')
-            (sym (map_more (λ w. w.seat) workers i worker below ∙ ap (λ w. seats_of (take i workers) ++ w.seat ∷ []) (sym at)))
+            (sym (map_more (λ w. w.seat) workers i worker below ∙ ap (λ w. worker_seats (take i workers) ++ w.seat ∷ []) (sym at)))
             met',
         subst (AllZip (HasMetAs m (s ∷ [])) (take (i + 1) workers)) (sym (take_more_set now i (seated worker u) below'))
             (all_zip_more (HasMetAs m (s ∷ [])) workers (take i now) i worker (seated worker u) below at all
@@ -133,41 +133,41 @@ module _ (m : MapOf) where
   -- who has heard of them later has heard of them as they were
   heard-earlier :
       (seats : List SeatOf) (h : List Entry) (before after : List Worker) → AllZip (HasMetAs m seats) before after
-      → All (IsSeenBy h) (seats_of after) → All (IsSeenBy h) (seats_of before)
+      → All (IsSeenBy h) (worker_seats after) → All (IsSeenBy h) (worker_seats before)
   heard-earlier seats h [] [] all heard = All-nil (IsSeenBy h)
   heard-earlier seats h [] (v ∷ after) all heard = absurd all
   heard-earlier seats h (w ∷ before) [] all heard = absurd all
   heard-earlier seats h (w ∷ before) (v ∷ after) all heard =
-      All-cons (IsSeenBy h) w.seat (seats_of before)
-      (beginning-more (beginning-logged all.0.met.logged) (All-head (IsSeenBy h) v.seat (seats_of after) heard))
-      (heard-earlier seats h before after all.1 (All-tail (IsSeenBy h) v.seat (seats_of after) heard))
+      All-cons (IsSeenBy h) w.seat (worker_seats before)
+      (beginning-more (beginning-logged all.0.met.logged) (All-head (IsSeenBy h) v.seat (worker_seats after) heard))
+      (heard-earlier seats h before after all.1 (All-tail (IsSeenBy h) v.seat (worker_seats after) heard))
 
   -- the last one has met the others, which meet then
   pub all-met :
       (before between after : List Worker) (last : Worker) (t : SeatOf) → IsMine m t
-      → HasMet m (seats_of before) last.seat t → AllZip (HasMetAs m (last.seat ∷ [])) before between
-      → AllZip (HasMetAs m (seats_of between)) between after
-      → AllZip (HasMetAs m (seats_of (before ++ last ∷ []))) (before ++ last ∷ []) (after ++ seated last t ∷ [])
+      → HasMet m (worker_seats before) last.seat t → AllZip (HasMetAs m (last.seat ∷ [])) before between
+      → AllZip (HasMetAs m (worker_seats between)) between after
+      → AllZip (HasMetAs m (worker_seats (before ++ last ∷ []))) (before ++ last ∷ []) (after ++ seated last t ∷ [])
   all-met before between after last t mine met each others =
-      let seats = seats_of before ++ last.seat ∷ [] in
+      let seats = worker_seats before ++ last.seat ∷ [] in
       subst (λ all. AllZip (HasMetAs m all) (before ++ last ∷ []) (after ++ seated last t ∷ []))
       (sym (map-append (λ w. w.seat) before (last ∷ [])))
       (all-zip-push (HasMetAs m seats) before after last (seated last t)
-      (all-zip-then (HasMetAs m (last.seat ∷ [])) (HasMetAs m (seats_of between)) (HasMetAs m seats) one before between after each others)
-      (met-as seats last t mine (met-itself (seats_of before) last.seat t met)))
+      (all-zip-then (HasMetAs m (last.seat ∷ [])) (HasMetAs m (worker_seats between)) (HasMetAs m seats) one before between after each others)
+      (met-as seats last t mine (met-itself (worker_seats before) last.seat t met)))
     where
-      one : (w v u : Worker) → HasMetAs m (last.seat ∷ []) w v → HasMetAs m (seats_of between) v u
-          → HasMetAs m (seats_of before ++ last.seat ∷ []) w u
+      one : (w v u : Worker) → HasMetAs m (last.seat ∷ []) w v → HasMetAs m (worker_seats between) v u
+          → HasMetAs m (worker_seats before ++ last.seat ∷ []) w u
       one w v u a b = record {
         number = b.number ∙ a.number;
         answers = b.answers ∙ a.answers;
         own = b.own;
         met =
-            let then = met-then (last.seat ∷ []) (seats_of between) w.seat v.seat u.seat a.met b.met in
+            let then = met-then (last.seat ∷ []) (worker_seats between) w.seat v.seat u.seat a.met b.met in
             let h = log u.seat in
-            met-less (seats_of before ++ last.seat ∷ []) (last.seat ∷ seats_of between) w.seat u.seat then
-            (All-push (IsSeenBy h) (seats_of before) last.seat (heard-earlier (last.seat ∷ []) h before between each b.met.heard)
-            (All-head (IsSeenBy h) last.seat (seats_of between) then.heard));
+            met-less (worker_seats before ++ last.seat ∷ []) (last.seat ∷ worker_seats between) w.seat u.seat then
+            (All-push (IsSeenBy h) (worker_seats before) last.seat (heard-earlier (last.seat ∷ []) h before between each b.met.heard)
+            (All-head (IsSeenBy h) last.seat (worker_seats between) then.heard));
       }
 
 -- a vector's workers, after each has met these seats

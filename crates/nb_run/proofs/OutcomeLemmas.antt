@@ -17,7 +17,7 @@ use Rattle.nb_run.specs.Outcomes.{HaveWorkers, IsOutcome, lists_in, text_of_outc
 use Rattle.nb_script.specs.Script.{Phase}
 use Rattle.nb_run.specs.Text.{ending, ending_of}
 use Rattle.nb_run.specs.Told.{ArePhasesTold, IsLoneText, WasCrowded, all_commands, phase_text}
-use Rattle.nb_run.specs.Working.{AreNumbered, HasRoom, HaveRun, HaveRunAll, all_answers, answers_of, commands_of, joined, seats_of}
+use Rattle.nb_run.specs.Working.{AreNumbered, HasRoomFor, HaveRun, HaveRunAll, all_answers, answers_of, commands_of, joined_answers, worker_seats}
 use Rattle.nb_run.specs.declared.answers.Answer.{Answer}
 use Rattle.nb_run.specs.declared.outcome.Outcome.{Outcome}
 use Rattle.nb_run.specs.declared.workers.Worker.{Worker}
@@ -40,9 +40,9 @@ IsFresh worker = worker.answers.items ≡ []
 
 -- there is a worker for each seat but those that are left
 pub record IsReadying (phases : List Phase) (seats left : List SeatOf) (workers : List Worker) : Type 0 where
-  pub seated : seats ≡ seats_of workers ++ left
+  pub seated : seats ≡ worker_seats workers ++ left
   pub numbered : AreNumbered 0 workers
-  pub room : All (HasRoom phases) workers
+  pub room : All (HasRoomFor phases) workers
   pub fresh : All IsFresh workers
 
 -- one worker more
@@ -52,16 +52,16 @@ pub readying-more :
     → length (flat_map (commands_of (length workers)) phases) ≤ vec_capacity w.answers → IsReadying phases seats left (workers ++ w ∷ [])
 readying-more phases seats left left' workers w so_far is number fresh room = record {
   seated =
-      so_far.seated ∙ ap (λ xs. seats_of workers ++ xs) is ∙ sym (append_assoc (seats_of workers) (w.seat ∷ []) left)
+      so_far.seated ∙ ap (λ xs. worker_seats workers ++ xs) is ∙ sym (append_assoc (worker_seats workers) (w.seat ∷ []) left)
       ∙ ap (λ xs. xs ++ left) (sym (map-push workers));
   numbered = numbered-push 0 workers w so_far.numbered (omega (arith, number));
   room =
-      All-push (HasRoom phases) workers w so_far.room
+      All-push (HasRoomFor phases) workers w so_far.room
       (omega (arith, room, ap length fresh, ap (λ n. length (flat_map (commands_of n) phases)) number));
   fresh = All-push IsFresh workers w so_far.fresh fresh;
 }
   where
-    map-push : (vs : List Worker) → seats_of (vs ++ w ∷ []) ≡ seats_of vs ++ w.seat ∷ []
+    map-push : (vs : List Worker) → worker_seats (vs ++ w ∷ []) ≡ worker_seats vs ++ w.seat ∷ []
     map-push [] = refl
     map-push (v ∷ vs) = ap (λ xs. v.seat ∷ xs) (map-push vs)
 
@@ -73,7 +73,7 @@ readying-left phases seats left left' s workers so_far is =
     omega (
       arith,
       ap length so_far.seated,
-      length-append (seats_of workers) left',
+      length-append (worker_seats workers) left',
       length-map workers (λ worker. worker.seat),
       ap length is,
     )
@@ -82,7 +82,7 @@ readying-left phases seats left left' s workers so_far is =
 
 -- the workers are parted but for those that are left
 pub record IsRetiring (workers left : List Worker) (seats : List SeatOf) (answers : List (Vec Answer Global)) : Type 0 where
-  pub seated : seats_of workers ≡ seats ++ seats_of left
+  pub seated : worker_seats workers ≡ seats ++ worker_seats left
   pub answered : answers_of workers ≡ lists_in answers ++ answers_of left
 
 pub retiring-more :
@@ -90,7 +90,7 @@ pub retiring-more :
     → IsRetiring workers left' seats answers → left' ≡ w ∷ left → IsRetiring workers left (seats ++ w.seat ∷ []) (answers ++ w.answers ∷ [])
 retiring-more workers left left' w seats answers so_far is = record {
   seated =
-      so_far.seated ∙ ap (λ ws. seats ++ seats_of ws) is ∙ sym (append_assoc seats (w.seat ∷ []) (seats_of left));
+      so_far.seated ∙ ap (λ ws. seats ++ worker_seats ws) is ∙ sym (append_assoc seats (w.seat ∷ []) (worker_seats left));
   answered =
       so_far.answered ∙ ap (λ ws. lists_in answers ++ answers_of ws) is
       ∙ sym (append_assoc (lists_in answers) (w.answers.items ∷ []) (answers_of left))
@@ -108,7 +108,7 @@ retiring-left workers left left' w seats answers so_far is = (
   omega (
     arith,
     ap length so_far.seated,
-    length-append seats (seats_of left'),
+    length-append seats (worker_seats left'),
     length-map workers (λ worker. worker.seat),
     length-map left' (λ worker. worker.seat),
     ap length is,
@@ -126,7 +126,7 @@ retiring-left workers left left' w seats answers so_far is = (
 
 -- ---- the answers of all phases
 
-count-joined : (xs ys : List (List Answer)) → length (joined xs ys) ≡ length xs
+count-joined : (xs ys : List (List Answer)) → length (joined_answers xs ys) ≡ length xs
 count-joined [] ys = refl
 count-joined (x ∷ xs) [] = refl
 count-joined (x ∷ xs) (y ∷ ys) = ap suc (count-joined xs ys)
@@ -142,7 +142,7 @@ count-all n (first ∷ answers) each = count-joined first (all_answers n answers
 -- the lists of a phase, with others behind them
 first-joined :
     (phase : Phase) (w : ℕ) (first rest : List (List Answer)) → PhaseFits phase w first → length first ≡ length rest
-    → AreFirst phase w first rest (joined first rest)
+    → AreFirst phase w first rest (joined_answers first rest)
 first-joined phase w [] [] fits many = tt
 first-joined phase w [] (others ∷ rest) fits many = absurd (omega (arith, many))
 first-joined phase w (mine ∷ first) [] fits many = absurd (omega (arith, many))
@@ -168,7 +168,7 @@ all-joined n (phase ∷ phases) (first ∷ answers) fit each =
 
 -- lists behind empty ones
 joined-fresh : (workers : List Worker) (lists : List (List Answer)) → All IsFresh workers → length lists ≡ length workers
-    → joined (answers_of workers) lists ≡ lists
+    → joined_answers (answers_of workers) lists ≡ lists
 joined-fresh [] [] fresh many = refl
 joined-fresh [] (mine ∷ lists) fresh many = absurd (omega (arith, many))
 joined-fresh (w ∷ workers) [] fresh many = absurd (omega (arith, many))
@@ -183,14 +183,14 @@ run-joined :
 run-joined m phases before after fresh ran =
     subst (AreJoined phases ran.answers)
     (sym (ran.kept ∙ joined-fresh before (all_answers n ran.answers) fresh (count-all n ran.answers each)))
-    (all-joined n phases ran.answers (answers-fit m phases ran.answers (seats_of before) (seats_of after) ran.ran) each)
+    (all-joined n phases ran.answers (answers-fit m phases ran.answers (worker_seats before) (worker_seats after) ran.ran) each)
   where
     n : ℕ
     n = length before
 
     each : All (IsEach n) ran.answers
     each = subst (λ k. All (IsEach k) ran.answers) (length-map before (λ worker. worker.seat))
-        (answers-workers m phases ran.answers (seats_of before) (seats_of after) ran.ran)
+        (answers-workers m phases ran.answers (worker_seats before) (worker_seats after) ran.ran)
 
 -- as many workers as before
 pub run-count : (m : MapOf) (phases : List Phase) (before after : List Worker) → HaveRunAll m phases before after → length after ≡ length before
@@ -202,18 +202,18 @@ run-count m phases before after ran =
 
 -- the seats that a map is made with are its own, and so the workers'
 pub workers-mine :
-    (m : MapOf) (seats : List SeatOf) (workers : List Worker) → seats_of workers ≡ seats → AreMine m seats → All (λ worker. IsMine m worker.seat) workers
+    (m : MapOf) (seats : List SeatOf) (workers : List Worker) → worker_seats workers ≡ seats → AreMine m seats → All (λ worker. IsMine m worker.seat) workers
 workers-mine m seats workers are mine =
     All-unmap (IsMine m) (λ worker. worker.seat) workers
-    (All-same (IsMine m) (seats_of workers) seats are mine)
+    (All-same (IsMine m) (worker_seats workers) seats are mine)
 
 -- and all of them, after the run
-pub run-mine : (m : MapOf) (phases : List Phase) (before after : List Worker) → HaveRunAll m phases before after → AreMine m (seats_of after)
+pub run-mine : (m : MapOf) (phases : List Phase) (before after : List Worker) → HaveRunAll m phases before after → AreMine m (worker_seats after)
 run-mine m phases before after ran = All-map (IsMine m) (λ worker. worker.seat) after ran.own
 
 pub run-all :
-    (m : MapOf) (phases : List Phase) (before after : List Worker) (count : ℕ) → seats_of before ≡ new_seats m count
-    → HaveRunAll m phases before after → length (seats_of after) ≡ count
+    (m : MapOf) (phases : List Phase) (before after : List Worker) (count : ℕ) → worker_seats before ≡ new_seats m count
+    → HaveRunAll m phases before after → length (worker_seats after) ≡ count
 run-all m phases before after count are ran =
     length-map after (λ worker. worker.seat) ∙ run-count m phases before after ran ∙ sym (length-map before (λ worker. worker.seat))
     ∙ ap length are ∙ length-map-range_with_len (new_seat m) 0 count
@@ -226,8 +226,8 @@ ending-same m size es count are = ap₂ ending_of (count ∙ sym (len-entries m)
 -- What the workers did on a new map, and what was left of it, are what a text may tell.
 pub is-outcome :
     (m : MapOf) → IsPlan m.chain.shape → (phases : List Phase)
-    (before after : List Worker) (ended : EndedOf) (o : Outcome) → seats_of before ≡ new_seats m m.chain.shape.seats → All IsFresh before
-    → HaveRunAll m phases before after → EndedWith (seats_of after) ended → HasTablesLeft m.chain.shape (seats_of after) ended
+    (before after : List Worker) (ended : EndedOf) (o : Outcome) → worker_seats before ≡ new_seats m m.chain.shape.seats → All IsFresh before
+    → HaveRunAll m phases before after → EndedWith (worker_seats after) ended → HasTablesLeft m.chain.shape (worker_seats after) ended
     → lists_in o.answers.items ≡ answers_of after → o.size ≡ length (entries (map_left ended))
     → o.entries.items ≡ entries (map_left ended) → IsOutcome m.chain.shape phases o
 is-outcome m plan phases before after ended o are fresh ran end left answers size kept = record {
@@ -254,30 +254,30 @@ is-outcome m plan phases before after ended o are fresh ran end left answers siz
   };
   lone = λ single below.
       subst (IsLoneText p phases) (sym text)
-      (lone-text m plan single phases ran.answers (seats_of after) ended
+      (lone-text m plan single phases ran.answers (worker_seats after) ended
       (subst (λ n. HaveWorkers n phases) single below) from_new end);
 }
   where
     p : Plan
     p = m.chain.shape
 
-    from_new : HaveRun m phases ran.answers (new_seats m p.seats) (seats_of after)
-    from_new = subst (λ seats. HaveRun m phases ran.answers seats (seats_of after)) are ran.ran
+    from_new : HaveRun m phases ran.answers (new_seats m p.seats) (worker_seats after)
+    from_new = subst (λ seats. HaveRun m phases ran.answers seats (worker_seats after)) are ran.ran
 
     in_lists : AreJoined phases ran.answers (lists_in o.answers.items)
     in_lists = subst (AreJoined phases ran.answers) (sym answers) (run-joined m phases before after fresh ran)
 
-    count : length (seats_of after) ≡ p.seats
+    count : length (worker_seats after) ≡ p.seats
     count = run-all m phases before after p.seats are ran
 
     made : All (λ entry. entry.seat < p.seats) (log_left ended)
     made = subst (λ n. All (λ entry. entry.seat < n) (log_left ended)) count end.made
 
     crowded : MayFill p (all_commands phases) ended.tables.history
-    crowded = crowd-ended m plan phases ran.answers (seats_of after) ended from_new count end left
+    crowded = crowd-ended m plan phases ran.answers (worker_seats after) ended from_new count end left
 
     told : ArePhasesTold (WasCrowded p ended.tables.history (all_commands phases)) phases ran.answers [] (log_left ended) × All (IsEach p.seats) ran.answers
-    told = told-phases m phases ran.answers (seats_of after) ended (all_commands phases) from_new end left made crowded
+    told = told-phases m phases ran.answers (worker_seats after) ended (all_commands phases) from_new end left made crowded
 
     text : text_of_outcome phases o ≡ flat_map (phase_text 0) ran.answers ++ ending (map_left ended)
     text =

@@ -7,7 +7,7 @@ use Rattle.std.specs.declared.alloc.Global.{Global}
 use Rattle.std.specs.declared.vec.Vec.{Vec}
 use Rattle.nb_map.specs.Maps.{IsMine, MapOf, SeatOf}
 use Rattle.nb_script.specs.Script.{Phase}
-use Rattle.nb_run.specs.Working.{AreAnswered, AreNumbered, HasMet, HasMetAs, HasRoom, HaveRun, HaveRunAll, IsReady, IsRun, PhaseRan, all_answers, answers_of, commands_of, joined, phases_in, seats_of}
+use Rattle.nb_run.specs.Working.{AreAnswered, AreNumbered, HasMet, HasMetAs, HasRoomFor, HaveRun, HaveRunAll, IsReadyFor, IsRun, PhaseRan, all_answers, answers_of, commands_of, joined_answers, phases_in, worker_seats}
 use Rattle.nb_run.specs.declared.answers.Answer.{Answer}
 use Rattle.nb_script.specs.declared.script.Command.{Command}
 use Rattle.nb_run.specs.declared.workers.Worker.{Worker}
@@ -79,22 +79,22 @@ answers-workers m (phase ∷ phases) (first ∷ answers) before after (apart, ne
     All-cons (λ first. length first ≡ length before) first answers many.0
     (subst (λ n. All (λ first. length first ≡ n) answers) same (answers-workers m phases answers next after later))
 
--- ---- answers joined
+-- ---- answers joined_answers
 
 pub joined-assoc :
-    (xs ys zs : List (List Answer)) → length ys ≡ length xs → joined (joined xs ys) zs ≡ joined xs (joined ys zs)
+    (xs ys zs : List (List Answer)) → length ys ≡ length xs → joined_answers (joined_answers xs ys) zs ≡ joined_answers xs (joined_answers ys zs)
 joined-assoc [] ys zs many = refl
 joined-assoc (x ∷ xs) [] zs many = absurd (omega (arith, many))
 joined-assoc (x ∷ xs) (y ∷ ys) [] many = refl
 joined-assoc (x ∷ xs) (y ∷ ys) (z ∷ zs) many =
-    ap (λ w. w ∷ joined (joined xs ys) zs) (append_assoc x y z)
+    ap (λ w. w ∷ joined_answers (joined_answers xs ys) zs) (append_assoc x y z)
     ∙ ap (λ ws. (x ++ (y ++ z)) ∷ ws) (joined-assoc xs ys zs (omega (arith, many)))
 
 -- no answers more
-pub joined-none : (xs : List (List Answer)) (n : ℕ) → joined xs (replicate n []) ≡ xs
+pub joined-none : (xs : List (List Answer)) (n : ℕ) → joined_answers xs (replicate n []) ≡ xs
 joined-none [] n = refl
 joined-none (x ∷ xs) zero = refl
-joined-none (x ∷ xs) (suc n) = ap (λ y. y ∷ joined xs (replicate n [])) (append-nil x) ∙ ap (λ ys. x ∷ ys) (joined-none xs n)
+joined-none (x ∷ xs) (suc n) = ap (λ y. y ∷ joined_answers xs (replicate n [])) (append-nil x) ∙ ap (λ ys. x ∷ ys) (joined-none xs n)
 
 -- ---- one phase
 
@@ -115,7 +115,7 @@ module _ (m : MapOf) (phase : Phase) where
 
   gathered-kept :
       (before after : List Worker) (all : AllZip (IsRun m phase) before after)
-      → answers_of after ≡ joined (answers_of before) (gathered before after all)
+      → answers_of after ≡ joined_answers (answers_of before) (gathered before after all)
   gathered-kept [] [] all = refl
   gathered-kept [] (v ∷ after) all = absurd all
   gathered-kept (w ∷ before) [] all = absurd all
@@ -125,7 +125,7 @@ module _ (m : MapOf) (phase : Phase) where
 
   gathered-ran :
       (n : ℕ) (before after : List Worker) (all : AllZip (IsRun m phase) before after) → AreNumbered n before
-      → PhaseRan m phase n (gathered before after all) (seats_of before) (seats_of after)
+      → PhaseRan m phase n (gathered before after all) (worker_seats before) (worker_seats after)
   gathered-ran n [] [] all numbered = tt
   gathered-ran n [] (v ∷ after) all numbered = absurd all
   gathered-ran n (w ∷ before) [] all numbered = absurd all
@@ -135,7 +135,7 @@ module _ (m : MapOf) (phase : Phase) where
   )
 
   -- the room that the phase takes
-  room-after : (phases : List Phase) (before after : Worker) → HasRoom (phase ∷ phases) before → IsRun m phase before after → HasRoom phases after
+  room-after : (phases : List Phase) (before after : Worker) → HasRoomFor (phase ∷ phases) before → IsRun m phase before after → HasRoomFor phases after
   room-after phases before after room run =
       let ran = run.1 in
       let many = as-many-answers m (commands_of before.number phase) ran.answers before.seat after.seat ran.answered in
@@ -152,8 +152,8 @@ module _ (m : MapOf) (phase : Phase) where
 
   -- they are ready for the phase
   pub ready-now :
-      (phases : List Phase) (workers : List Worker) → All (λ w. IsMine m w.seat) workers → All (HasRoom (phase ∷ phases)) workers
-      → All (IsReady m phase) workers
+      (phases : List Phase) (workers : List Worker) → All (λ w. IsMine m w.seat) workers → All (HasRoomFor (phase ∷ phases)) workers
+      → All (IsReadyFor m phase) workers
   ready-now phases workers own room k d below =
       let worker = get_or workers k d in (
         own k d below,
@@ -162,15 +162,15 @@ module _ (m : MapOf) (phase : Phase) where
 
 -- where a phase has no commands, the workers have run them
 pub idle-run :
-    (m : MapOf) (phase : Phase) (workers : List Worker) → length phase ≡ 0 → All (IsReady m phase) workers
+    (m : MapOf) (phase : Phase) (workers : List Worker) → length phase ≡ 0 → All (IsReadyFor m phase) workers
     → AllZip (IsRun m phase) workers workers
 idle-run m [] [] none ready = tt
 idle-run m [] (w ∷ workers) none ready = (
   (
-    (All-head (IsReady m []) w workers ready).0,
+    (All-head (IsReadyFor m []) w workers ready).0,
     record { number = refl; answers = []; kept = sym (append-nil w.answers.items); room = refl; answered = refl },
   ),
-  idle-run m [] workers none (All-tail (IsReady m []) w workers ready),
+  idle-run m [] workers none (All-tail (IsReadyFor m []) w workers ready),
 )
 idle-run m (task ∷ phase) workers none ready = absurd (omega (arith, none))
 
@@ -196,13 +196,13 @@ met-kept m seats (w ∷ before) (v ∷ after) all =
 
 met-seats :
     (m : MapOf) (seats : List SeatOf) (before after : List Worker) → AllZip (HasMetAs m seats) before after
-    → AllZip (HasMet m seats) (seats_of before) (seats_of after)
+    → AllZip (HasMet m seats) (worker_seats before) (worker_seats after)
 met-seats m seats [] [] all = tt
 met-seats m seats [] (v ∷ after) all = absurd all
 met-seats m seats (w ∷ before) [] all = absurd all
 met-seats m seats (w ∷ before) (v ∷ after) all = (all.0.met, met-seats m seats before after all.1)
 
-room-met : (m : MapOf) (seats : List SeatOf) (phases : List Phase) (w v : Worker) → HasRoom phases w → HasMetAs m seats w v → HasRoom phases v
+room-met : (m : MapOf) (seats : List SeatOf) (phases : List Phase) (w v : Worker) → HasRoomFor phases w → HasMetAs m seats w v → HasRoomFor phases v
 room-met m seats phases w v room met =
     omega (
       arith,
@@ -226,21 +226,21 @@ run-none m workers own = record {
 -- a phase before others
 pub run-phase :
     (m : MapOf) (phase : Phase) (phases : List Phase) (before apart next after : List Worker) → AreNumbered 0 before
-    → AllZip (IsRun m phase) before apart → AllZip (HasMetAs m (seats_of apart)) apart next → HaveRunAll m phases next after
+    → AllZip (IsRun m phase) before apart → AllZip (HasMetAs m (worker_seats apart)) apart next → HaveRunAll m phases next after
     → HaveRunAll m (phase ∷ phases) before after
 run-phase m phase phases before apart next after numbered run met later =
     let first = gathered m phase before apart run in
     let many = gathered-many m phase before apart run in
-    let count = sym (length_all_zip (HasMetAs m (seats_of apart)) apart next met) ∙ sym (length_all_zip (IsRun m phase) before apart run) in
+    let count = sym (length_all_zip (HasMetAs m (worker_seats apart)) apart next met) ∙ sym (length_all_zip (IsRun m phase) before apart run) in
     record {
       answers = first ∷ later.answers;
-      ran = (seats_of apart, seats_of next, gathered-ran m phase 0 before apart run numbered, met-seats m (seats_of apart) apart next met, later.ran);
+      ran = (worker_seats apart, worker_seats next, gathered-ran m phase 0 before apart run numbered, met-seats m (worker_seats apart) apart next met, later.ran);
       own = later.own;
       kept =
           later.kept
-          ∙ ap (λ answers. joined answers (all_answers (length next) later.answers))
-          (met-kept m (seats_of apart) apart next met ∙ gathered-kept m phase before apart run)
-          ∙ ap (λ n. joined (joined (answers_of before) first) (all_answers n later.answers)) count
+          ∙ ap (λ answers. joined_answers answers (all_answers (length next) later.answers))
+          (met-kept m (worker_seats apart) apart next met ∙ gathered-kept m phase before apart run)
+          ∙ ap (λ n. joined_answers (joined_answers (answers_of before) first) (all_answers n later.answers)) count
           ∙ joined-assoc (answers_of before) first (all_answers (length before) later.answers)
           (many ∙ sym (length-map before (λ w. w.answers.items)));
     }
@@ -249,7 +249,7 @@ run-phase m phase phases before apart next after numbered run met later =
 pub record HaveRunSome (m : MapOf) (phases : List Phase) (i : ℕ) (first now : List Worker) : Type 0 where
   pub own : All (λ w. IsMine m w.seat) now
   pub numbered : AreNumbered 0 now
-  pub room : All (HasRoom (drop i phases)) now
+  pub room : All (HasRoomFor (drop i phases)) now
   pub goes_on : (last : List Worker) → HaveRunAll m (drop i phases) now last → HaveRunAll m phases first last
 
 module _ (m : MapOf) (kept : List (Vec (ℕ × Command) Global)) where
@@ -264,17 +264,17 @@ module _ (m : MapOf) (kept : List (Vec (ℕ × Command) Global)) where
 
   pub some-ready :
       (i : ℕ) (phase : Vec (ℕ × Command) Global) (first now : List Worker) → i < length kept → phase ≡ get_or kept i phase
-      → HaveRunSome m (phases_in kept) i first now → All (IsReady m phase.items) now
+      → HaveRunSome m (phases_in kept) i first now → All (IsReadyFor m phase.items) now
   some-ready i phase first now below at so_far =
       ready-now m phase.items (drop (i + 1) (phases_in kept)) now so_far.own
-      (subst (λ phases. All (HasRoom phases) now) (phases-next i phase below at) so_far.room)
+      (subst (λ phases. All (HasRoomFor phases) now) (phases-next i phase below at) so_far.room)
 
   pub some-more :
       (i : ℕ) (phase : Vec (ℕ × Command) Global) (first now apart next : List Worker) → i < length kept → phase ≡ get_or kept i phase
-      → AllZip (IsRun m phase.items) now apart → AllZip (HasMetAs m (seats_of apart)) apart next
+      → AllZip (IsRun m phase.items) now apart → AllZip (HasMetAs m (worker_seats apart)) apart next
       → HaveRunSome m (phases_in kept) i first now → HaveRunSome m (phases_in kept) (i + 1) first next
   some-more i phase first now apart next below at run met so_far =
-      let seats = seats_of apart in
+      let seats = worker_seats apart in
       let later = drop (i + 1) (phases_in kept) in
       let is = phases-next i phase below at in
       record {
@@ -283,9 +283,9 @@ module _ (m : MapOf) (kept : List (Vec (ℕ × Command) Global)) where
             numbered-after (HasMetAs m seats) (λ w v met. met.number) 0 apart next met
             (numbered-after (IsRun m phase.items) (λ w v run. run.1.number) 0 now apart run so_far.numbered);
         room =
-            all-zip-all (HasMetAs m seats) (HasRoom later) (HasRoom later) (room-met m seats later) apart next met
-            (all-zip-all (IsRun m phase.items) (HasRoom (phase.items ∷ later)) (HasRoom later) (room-after m phase.items later) now apart
-            run (subst (λ phases. All (HasRoom phases) now) is so_far.room));
+            all-zip-all (HasMetAs m seats) (HasRoomFor later) (HasRoomFor later) (room-met m seats later) apart next met
+            (all-zip-all (IsRun m phase.items) (HasRoomFor (phase.items ∷ later)) (HasRoomFor later) (room-after m phase.items later) now apart
+            run (subst (λ phases. All (HasRoomFor phases) now) is so_far.room));
         goes_on = λ last rest.
             so_far.goes_on last
             (subst (λ phases. HaveRunAll m phases now last) (sym is)

@@ -4,7 +4,7 @@ use Rattle.std.specs.List.{All, onto_first}
 use Rattle.std.specs.Option.{ok_or}
 use Rattle.std.specs.Str.{bytes_eq}
 use Rattle.std.proofs.lemmas.List.Elements.{All-append, All-cons, All-head, All-nil, All-tail}
-use Rattle.nb_script.specs.Script.{Bytes, Fault, Phase, ◌>>=◌, at_line, below, command_of, line_of, lines_from, lines_of, number_of, numbered_line, op_of, phases_of, said_by, script_of, task_of, words_of, worker_of}
+use Rattle.nb_script.specs.Script.{Bytes, Fault, Phase, ◌>>=◌, at_line, below, command_of, line_of, lines_from, lines_of, number_spelled, numbered_line, op_of, phases_of, said_by, script_of, task_of, words_in, worker_of}
 use Rattle.nb_script.specs.declared.script.TheConstants.{LINE_MAX, LINES_MAX}
 use Rattle.nb_script.specs.declared.script.Cause.{Cause}
 use Rattle.nb_script.specs.declared.script.Cause.TheVariants as cause
@@ -46,7 +46,7 @@ task-worker seats first (name ∷ words) task is =
     let worker = both-made (worker_of seats first) (λ w. ok_or (op_of name) cause.Op >>= λ o. command_of o words >>= λ c. Ok (w, c)) task is in
     let op = both-made (ok_or (op_of name) cause.Op) (λ o. command_of o words >>= λ c. Ok (worker.0, c)) task worker.2 in
     let command = both-made (command_of op.0 words) (λ c. Ok (worker.0, c)) task op.2 in
-    made worker.0 command.0 command.2 (below-limit seats cause.Worker (number_of first) worker.0 worker.1)
+    made worker.0 command.0 command.2 (below-limit seats cause.Worker (number_spelled first) worker.0 worker.1)
   where
     made : (w : ℕ) (c : Command) → ◌≡◌ {A = Result (ℕ × Command) Cause} (Ok (w, c)) (Ok task) → w < seats → task.0 < seats
     made w c same less = let is : (w, c) ≡ task = cc in subst (λ n. n < seats) (ap (λ (t : ℕ × Command). t.0) is) less
@@ -91,7 +91,7 @@ module _
     numbered-tasks n bytes said is =
         let few = at-line n (cond (nat_lt LINES_MAX n) (Err cause.TooMany) (line_of seats bytes)) said is in
         let short = if-ok (nat_lt LINES_MAX n) cause.TooMany (line_of seats bytes) said few in
-        said-tasks (words_of bytes) said (if-ok (nat_lt LINE_MAX (length bytes)) cause.LongLine (said_by seats (words_of bytes)) said short)
+        said-tasks (words_in bytes) said (if-ok (nat_lt LINE_MAX (length bytes)) cause.LongLine (said_by seats (words_in bytes)) said short)
 
     lines-tasks : (n : ℕ) (texts : List Bytes) (lines : List Line) → lines_from seats n texts ≡ Ok lines → All IsLineOf lines
     lines-tasks n [] lines is = let same : [] ≡ lines = cc in subst (All IsLineOf) same (All-nil IsLineOf)

@@ -60,13 +60,13 @@ abbrev pub answer_of : Command → Numbers → Answer
 answer_of c m = if overflows (call_of c) m then answer.Range else shown c (reply_of (call_of c) m)
 
 -- the map that a command leaves
-abbrev pub map_left : Command → Numbers → Numbers
-map_left c m = if overflows (call_of c) m then m else map_after (call_of c) m
+abbrev pub map_after_command : Command → Numbers → Numbers
+map_after_command c m = if overflows (call_of c) m then m else map_after (call_of c) m
 
 -- the map that commands leave, one after another, where the one at place n is refused for want of room if full n is true
 abbrev pub map_behind : (ℕ → Bool) → Numbers → List Command → Numbers
 map_behind full m [] = m
-map_behind full m (c ∷ cs) = map_behind (λ n. full (suc n)) (if full 0 then m else map_left c m) cs
+map_behind full m (c ∷ cs) = map_behind (λ n. full (suc n)) (if full 0 then m else map_after_command c m) cs
 
 -- ---- the text
 
@@ -98,7 +98,7 @@ abbrev pub text_from : (ℕ → Bool) → Numbers → Phase → Bytes
 text_from full m [] = ending m
 text_from full m (task ∷ tasks) =
     if full 0 then answer_line task.0 answer.Full ++ text_from (λ n. full (suc n)) m tasks
-    else answer_line task.0 (answer_of task.1 m) ++ text_from (λ n. full (suc n)) (map_left task.1 m) tasks
+    else answer_line task.0 (answer_of task.1 m) ++ text_from (λ n. full (suc n)) (map_after_command task.1 m) tasks
 
 -- the text of a script for one worker, with these commands refused
 abbrev pub text_of : (ℕ → Bool) → List Phase → Bytes

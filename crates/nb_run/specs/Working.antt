@@ -19,14 +19,14 @@ use Rattle.nb_run.specs.declared.answers.Answer.TheVariants as answer
 use Rattle.nb_run.specs.declared.workers.Worker.{Worker}
 
 -- the seat made the command's call, and this is what is shown of its reply
-abbrev pub HasShown : Command → Answer → (before after : SeatOf) → Type 0
-HasShown c a before after = (reply : Reply) × (shown c reply ≡ a) × HasReplied (call_of c) before after reply
+abbrev pub HasShownReply : Command → Answer → (before after : SeatOf) → Type 0
+HasShownReply c a before after = (reply : Reply) × (shown c reply ≡ a) × HasReplied (call_of c) before after reply
 
 -- The command was answered so: its call was made, or justly refused.
 abbrev pub IsAnswered : MapOf → Command → Answer → (before after : SeatOf) → Type 0
-IsAnswered m c answer.Nothing before after = HasShown c answer.Nothing before after
-IsAnswered m c (answer.Value n) before after = HasShown c (answer.Value n) before after
-IsAnswered m c (answer.Matched b) before after = HasShown c (answer.Matched b) before after
+IsAnswered m c answer.Nothing before after = HasShownReply c answer.Nothing before after
+IsAnswered m c (answer.Value n) before after = HasShownReply c (answer.Value n) before after
+IsAnswered m c (answer.Matched b) before after = HasShownReply c (answer.Matched b) before after
 IsAnswered m c answer.Full before after = HasRefused m (call_of c) before after fault.Full
 IsAnswered m c answer.Range before after = HasRefused m (call_of c) before after fault.ValueRange
 
@@ -73,7 +73,7 @@ HaveRun m [] [] before after = after ≡ before
 HaveRun m [] (first ∷ answers) before after = ⊥
 HaveRun m (phase ∷ phases) [] before after = ⊥
 HaveRun m (phase ∷ phases) (first ∷ answers) before after =
-    (apart joined : List SeatOf) × PhaseRan m phase 0 first before apart × HaveMet m apart joined × HaveRun m phases answers joined after
+    (apart joined_answers : List SeatOf) × PhaseRan m phase 0 first before apart × HaveMet m apart joined_answers × HaveRun m phases answers joined_answers after
 
 -- ---- workers
 
@@ -82,8 +82,8 @@ abbrev pub phases_in : List (Vec (ℕ × Command) Global) → List Phase
 phases_in phases = map (λ phase. phase.items) phases
 
 -- the workers' seats
-abbrev pub seats_of : List Worker → List SeatOf
-seats_of workers = map (λ worker. worker.seat) workers
+abbrev pub worker_seats : List Worker → List SeatOf
+worker_seats workers = map (λ worker. worker.seat) workers
 
 -- A worker has run its commands of a phase, and has these answers more.
 pub record HasRunPhase (m : MapOf) (phase : Phase) (before after : Worker) : Type 0 where
@@ -94,8 +94,8 @@ pub record HasRunPhase (m : MapOf) (phase : Phase) (before after : Worker) : Typ
   pub answered : AreAnswered m (commands_of before.number phase) answers before.seat after.seat
 
 -- the worker's seat is the map's, and it has room for its answers of a phase
-abbrev pub IsReady : MapOf → Phase → Worker → Type 0
-IsReady m phase worker = IsMine m worker.seat × (length worker.answers.items + length (commands_of worker.number phase) ≤ vec_capacity worker.answers)
+abbrev pub IsReadyFor : MapOf → Phase → Worker → Type 0
+IsReadyFor m phase worker = IsMine m worker.seat × (length worker.answers.items + length (commands_of worker.number phase) ≤ vec_capacity worker.answers)
 
 -- the worker has run its commands of the phase, and its seat is the map's
 abbrev pub IsRun : MapOf → Phase → (before after : Worker) → Type 0
@@ -109,8 +109,8 @@ pub record HasMetAs (m : MapOf) (seats : List SeatOf) (before after : Worker) : 
   pub met : HasMet m seats before.seat after.seat
 
 -- a worker has room for its answers of the phases
-abbrev pub HasRoom : List Phase → Worker → Type 0
-HasRoom phases worker =
+abbrev pub HasRoomFor : List Phase → Worker → Type 0
+HasRoomFor phases worker =
     length worker.answers.items + length (flat_map (commands_of worker.number) phases) ≤ vec_capacity worker.answers
 
 -- the workers' numbers count from w
@@ -119,15 +119,15 @@ AreNumbered w [] = Unit {0}
 AreNumbered w (worker ∷ workers) = (worker.number ≡ w) × AreNumbered (suc w) workers
 
 -- each worker's answers, and behind them those that it has more
-abbrev pub joined : List (List Answer) → List (List Answer) → List (List Answer)
-joined [] more = []
-joined (mine ∷ others) [] = mine ∷ others
-joined (mine ∷ others) (first ∷ more) = (mine ++ first) ∷ joined others more
+abbrev pub joined_answers : List (List Answer) → List (List Answer) → List (List Answer)
+joined_answers [] more = []
+joined_answers (mine ∷ others) [] = mine ∷ others
+joined_answers (mine ∷ others) (first ∷ more) = (mine ++ first) ∷ joined_answers others more
 
 -- the answers of so many workers, each worker's of all phases
 abbrev pub all_answers : ℕ → List (List (List Answer)) → List (List Answer)
 all_answers n [] = replicate n []
-all_answers n (first ∷ later) = joined first (all_answers n later)
+all_answers n (first ∷ later) = joined_answers first (all_answers n later)
 
 -- what the workers' commands were answered so far
 abbrev pub answers_of : List Worker → List (List Answer)
@@ -136,6 +136,6 @@ answers_of workers = map (λ worker. worker.answers.items) workers
 -- The workers have run the phases, and each has its answers of all phases more.
 pub record HaveRunAll (m : MapOf) (phases : List Phase) (before after : List Worker) : Type 0 where
   pub answers : List (List (List Answer))
-  pub ran : HaveRun m phases answers (seats_of before) (seats_of after)
+  pub ran : HaveRun m phases answers (worker_seats before) (worker_seats after)
   pub own : All (λ worker. IsMine m worker.seat) after
-  pub kept : answers_of after ≡ joined (answers_of before) (all_answers (length before) answers)
+  pub kept : answers_of after ≡ joined_answers (answers_of before) (all_answers (length before) answers)

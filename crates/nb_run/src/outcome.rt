@@ -2,7 +2,7 @@
 ghost use Rattle.std.specs.Prelude.{◌≡◌, [], length, All, IfOk};
 ghost use Rattle.std.specs.List.{flat_map};
 ghost use Rattle.nb_run.specs.Outcomes.{IsOutcome, lists_in};
-ghost use Rattle.nb_run.specs.Working.{AreNumbered, HasRoom, answers_of, commands_of, phases_in, seats_of};
+ghost use Rattle.nb_run.specs.Working.{AreNumbered, HasRoomFor, answers_of, commands_of, phases_in, worker_seats};
 
 use crate::answers::Answer;
 use crate::gate::Gate;
@@ -38,9 +38,9 @@ fn room_for(worker: usize, phases: &[Phase]) -> Result<usize, OutOfMemory>
 
 /// The workers, one for each seat, numbered from 0. Each has room for all its answers.
 fn ready(alloc: Global, phases: &[Phase], seats: Vec<Seat>) -> Result<Vec<Worker>, OutOfMemory>
-    ensures seats { IfOk result (λ workers. seats_of workers.items ≡ seats.items) }
+    ensures seats { IfOk result (λ workers. worker_seats workers.items ≡ seats.items) }
     ensures numbered { IfOk result (λ workers. AreNumbered 0 workers.items) }
-    ensures room { IfOk result (λ workers. All (HasRoom (phases_in phases.now)) workers.items) }
+    ensures room { IfOk result (λ workers. All (HasRoomFor (phases_in phases.now)) workers.items) }
     ensures fresh { IfOk result (λ workers. All (λ worker. worker.answers.items ≡ []) workers.items) }
 {
     let mut workers = Vec::with_capacity(alloc, seats.len())?;
@@ -59,7 +59,7 @@ fn ready(alloc: Global, phases: &[Phase], seats: Vec<Seat>) -> Result<Vec<Worker
 
 /// The workers' seats, and their answers.
 fn retire(alloc: Global, workers: Vec<Worker>) -> Result<(Vec<Seat>, Vec<Vec<Answer>>), OutOfMemory>
-    ensures seats { IfOk result (λ parts. parts.0.items ≡ seats_of workers.items) }
+    ensures seats { IfOk result (λ parts. parts.0.items ≡ worker_seats workers.items) }
     ensures answers { IfOk result (λ parts. lists_in parts.1.items ≡ answers_of workers.items) }
 {
     let mut seats = Vec::with_capacity(alloc, workers.len())?;

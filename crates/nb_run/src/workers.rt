@@ -3,7 +3,7 @@ ghost use Rattle.std.specs.Prelude.{◌≡◌, ◌<◌, ◌∷◌, ◌++◌, [],
 ghost use Rattle.std.specs.Thread.{IsSync};
 ghost use Rattle.nb_map.specs.Maps.{IsMine};
 ghost use Rattle.std.specs.List.{AllZip};
-ghost use Rattle.nb_run.specs.Working.{AreNumbered, HasMet, HasMetAs, HasRoom, HasRunPhase, HasWorkedFor, HaveRunAll, IsAnswered, IsReady, IsRun, phases_in, seats_of};
+ghost use Rattle.nb_run.specs.Working.{AreNumbered, HasMet, HasMetAs, HasRoomFor, HasRunPhase, HasWorkedFor, HaveRunAll, IsAnswered, IsReadyFor, IsRun, phases_in, worker_seats};
 
 use crate::answers::Answer;
 use crate::gate::Gate;
@@ -38,7 +38,7 @@ impl Worker {
         map: &Map,
         phase: &[(usize, Command)],
     ) -> Worker
-        requires ready { IsReady map.now phase.now self }
+        requires ready { IsReadyFor map.now phase.now self }
         ensures own { IsMine map.now result.seat }
         ensures ran { HasRunPhase map.now phase.now self result }
     {
@@ -88,7 +88,7 @@ fn run_together<R: Threads + Wait + Sync, G: Gate + Sync>(
     busy: usize,
     workers: Vec<Worker>,
 ) -> Result<Vec<Worker>, OutOfMemory>
-    requires ready { All (IsReady map.now phase.now) workers.items }
+    requires ready { All (IsReadyFor map.now phase.now) workers.items }
     ensures room { IfOk result (λ ran. vec_capacity ran ≡ vec_capacity workers) }
     ensures ran { IfOk result (λ ran. AllZip (IsRun map.now phase.now) workers.items ran.items) }
 {
@@ -109,8 +109,8 @@ fn run_together<R: Threads + Wait + Sync, G: Gate + Sync>(
         move |scope| -> Result<Vec<Worker>, OutOfMemory>
             requires rt { IsSync R.row }
             requires gate { IsSync G.row }
-            requires last { IsReady map.now phase.now last }
-            requires others { All (IsReady map.now phase.now) workers.items }
+            requires last { IsReadyFor map.now phase.now last }
+            requires others { All (IsReadyFor map.now phase.now) workers.items }
             requires room { length workers.items < vec_capacity workers }
             ensures room { IfOk result (λ ran. vec_capacity ran ≡ vec_capacity workers) }
             ensures ran { IfOk result (λ ran. AllZip (IsRun map.entry.now phase.entry.now) (workers.items ++ last ∷ []) ran.items) }
@@ -123,7 +123,7 @@ fn run_together<R: Threads + Wait + Sync, G: Gate + Sync>(
             let spawned = scope.spawn_with(
                 runs,
                 move || -> Worker
-                    requires ready { IsReady map.now phase.now last }
+                    requires ready { IsReadyFor map.now phase.now last }
                     ensures { IsRun map.entry.now phase.entry.now last result }
                 { last.run(rt, gate, map, phase) },
             );
@@ -146,7 +146,7 @@ fn run_phase<R: Threads + Wait + Sync, G: Gate + Sync>(
     phase: &[(usize, Command)],
     workers: Vec<Worker>,
 ) -> Result<Vec<Worker>, OutOfMemory>
-    requires ready { All (IsReady map.now phase.now) workers.items }
+    requires ready { All (IsReadyFor map.now phase.now) workers.items }
     ensures ran { IfOk result (λ ran. AllZip (IsRun map.now phase.now) workers.items ran.items) }
 {
     let busy = workers
@@ -161,7 +161,7 @@ fn meet_each(map: &Map, seat: &mut Seat, others: &mut [Worker])
     requires own { IsMine map.now seat.old }
     requires others { All (λ worker. IsMine map.now worker.seat) others.old }
     ensures own { IsMine map.now seat.new }
-    ensures met { HasMet map.now (seats_of others.old) seat.old seat.new }
+    ensures met { HasMet map.now (worker_seats others.old) seat.old seat.new }
     ensures others { AllZip (HasMetAs map.now (seat.old ∷ [])) others.old others.new }
 {
     for other in others.iter_mut() {
@@ -173,7 +173,7 @@ fn meet_each(map: &Map, seat: &mut Seat, others: &mut [Worker])
 fn meet_all(map: &Map, workers: Vec<Worker>) -> Vec<Worker>
     requires own { All (λ worker. IsMine map.now worker.seat) workers.items }
     ensures room { vec_capacity result ≡ vec_capacity workers }
-    ensures met { AllZip (HasMetAs map.now (seats_of workers.items)) workers.items result.items }
+    ensures met { AllZip (HasMetAs map.now (worker_seats workers.items)) workers.items result.items }
 {
     let mut workers = workers;
     let Some(mut last) = workers.pop() else {
@@ -195,7 +195,7 @@ pub(crate) fn run_phases<R: Threads + Wait + Sync, G: Gate + Sync>(
 ) -> Result<Vec<Worker>, OutOfMemory>
     requires own { All (λ worker. IsMine map.now worker.seat) workers.items }
     requires numbered { AreNumbered 0 workers.items }
-    requires room { All (HasRoom (phases_in phases.now)) workers.items }
+    requires room { All (HasRoomFor (phases_in phases.now)) workers.items }
     ensures ran { IfOk result (λ ran. HaveRunAll map.now (phases_in phases.now) workers.items ran.items) }
 {
     let mut workers = workers;

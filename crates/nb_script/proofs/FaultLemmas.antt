@@ -8,7 +8,7 @@ use Rattle.clap.specs.declared.parser.matches.ArgMatches.{ArgMatches}
 use Rattle.nb_core.specs.Plans.{Plan}
 use Rattle.nb_script.specs.declared.options.OptionFault.{OptionFault}
 use Rattle.nb_script.specs.declared.options.OptionFault.TheVariants.{Usage, Help, OutOfMemory}
-use Rattle.nb_script.specs.Options.{AreGiven, ComesTo, GivesNone, IsDue, IsFound, IsRefused, nbrun}
+use Rattle.nb_script.specs.Options.{AreGiven, ComesTo, GivesNone, IsDue, AreOptionsOf, AreRefused, nbrun}
 
 -- the fault of an error of clap's
 pub is_due : (app : App) (words : List Text) (k : ErrorKind) (fault : OptionFault) → app ≡ nbrun
@@ -32,16 +32,16 @@ rows_are app words m is matched = (subst (λ (a : App). HasMatchesOf a words m) 
 
 -- what is found in the matches is what the words give
 pub are_given : (app : App) (words : List Text) (m : ArgMatches) (plan : Plan) → app ≡ nbrun → (is_simple_and_free app ≡ true → fault_of app words ≡ []) → HasMatchesOf app words m
-    → IsFound (rows_of (found_of m)) plan → AreGiven words plan
+    → AreOptionsOf (rows_of (found_of m)) plan → AreGiven words plan
 are_given app words m plan is kinds matched found = (
   is_taken app words is kinds,
-  subst (λ (rs : List Row). IsFound rs plan) (rows_are app words m is matched) found,
+  subst (λ (rs : List Row). AreOptionsOf rs plan) (rows_are app words m is matched) found,
 )
 
 -- the fault of words that clap takes
 pub is_none_due : (app : App) (words : List Text) (m : ArgMatches) → app ≡ nbrun → (is_simple_and_free app ≡ true → fault_of app words ≡ []) → HasMatchesOf app words m
-    → ((plan : Plan) → IsFound (rows_of (found_of m)) plan → ⊥) → IsRefused words ⊎ GivesNone words
+    → ((plan : Plan) → AreOptionsOf (rows_of (found_of m)) plan → ⊥) → AreRefused words ⊎ GivesNone words
 is_none_due app words m is kinds matched none = inr (
   is_taken app words is kinds,
-  subst (λ (rs : List Row). (plan : Plan) → IsFound rs plan → ⊥) (rows_are app words m is matched) none,
+  subst (λ (rs : List Row). (plan : Plan) → AreOptionsOf rs plan → ⊥) (rows_are app words m is matched) none,
 )

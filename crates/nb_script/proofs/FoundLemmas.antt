@@ -8,7 +8,7 @@ use Rattle.clap.specs.Matches.{ReadsOne}
 use Rattle.clap.specs.Words.{Text, first_of, first_value, one_text, rows_of}
 use Rattle.clap.proofs.WalkLemmas.{first_value-rows, one_text-rows}
 use Rattle.nb_core.specs.Plans.{Plan}
-use Rattle.nb_script.specs.Options.{IsFound, number_in, plan_of, u32_of}
+use Rattle.nb_script.specs.Options.{AreOptionsOf, number_in, plan_asked, u32_of}
 use Rattle.nb_script.proofs.TextLemmas.{u32_read, u32_refused}
 
 same_value : {X : Type 0} {a b : X} → Some a ≡ Some b → a ≡ b
@@ -39,7 +39,7 @@ number_missing f name value = go (one_text f name) refl
 
 -- where an option has no number there is no plan
 pub none_found : (f : Found) (name : Text) (r : Option Plan) → ((t : List ℕ) → one_text f name ≡ Some t → ReadsOne Gives t None)
-    → ((plan : Plan) → IsFound (rows_of f) plan → (n : ℕ) × (number_in name (rows_of f) ≡ Some n)) → IfNone r ((plan : Plan) → IsFound (rows_of f) plan → ⊥)
+    → ((plan : Plan) → AreOptionsOf (rows_of f) plan → (n : ℕ) × (number_in name (rows_of f) ≡ Some n)) → IfNone r ((plan : Plan) → AreOptionsOf (rows_of f) plan → ⊥)
 none_found f name (Some p) value has = tt
 none_found f name None value has = λ plan x.
     let bad : None ≡ Some (has plan x).0 = sym (number_missing f name value) ∙ (has plan x).1 in
@@ -52,7 +52,7 @@ module _ (f : Found) (bits generations seats stripes : ℕ) (given text : Option
   text_is : first_of (codes "plan") (rows_of f) ≡ text
   text_is = sym (first_value-rows f (codes "plan")) ∙ sym first ∙ is
 
-  found : (plan : Plan) → plan_of text bits generations seats stripes ≡ Some plan → IsFound (rows_of f) plan
+  found : (plan : Plan) → plan_asked text bits generations seats stripes ≡ Some plan → AreOptionsOf (rows_of f) plan
   found plan h = record {
     bits = bits;
     generations = generations;
@@ -62,10 +62,10 @@ module _ (f : Found) (bits generations seats stripes : ℕ) (given text : Option
     generations_found = has_generations;
     seats_found = has_seats;
     stripes_found = has_stripes;
-    plan_found = ap (λ t. plan_of t bits generations seats stripes) text_is ∙ h;
+    plan_found = ap (λ t. plan_asked t bits generations seats stripes) text_is ∙ h;
   }
 
-  found_is : (plan : Plan) → IsFound (rows_of f) plan → plan_of text bits generations seats stripes ≡ Some plan
+  found_is : (plan : Plan) → AreOptionsOf (rows_of f) plan → plan_asked text bits generations seats stripes ≡ Some plan
   found_is plan x =
       let same_bits : bits ≡ x.bits = same_value (sym has_bits ∙ x.bits_found) in
       let same_generations : generations ≡ x.generations = same_value (sym has_generations ∙ x.generations_found) in
@@ -74,7 +74,7 @@ module _ (f : Found) (bits generations seats stripes : ℕ) (given text : Option
       rw (same_bits, same_generations, same_seats, same_stripes, ← text_is) x.plan_found
 
   -- is found where it is made, and else none is
-  pub settled : (r : Option Plan) → (IfSome r (λ plan. plan_of text bits generations seats stripes ≡ Some plan) → IfSome r (IsFound (rows_of f)))
-      × (IfNone r (plan_of text bits generations seats stripes ≡ None) → IfNone r ((plan : Plan) → IsFound (rows_of f) plan → ⊥))
+  pub settled : (r : Option Plan) → (IfSome r (λ plan. plan_asked text bits generations seats stripes ≡ Some plan) → IfSome r (AreOptionsOf (rows_of f)))
+      × (IfNone r (plan_asked text bits generations seats stripes ≡ None) → IfNone r ((plan : Plan) → AreOptionsOf (rows_of f) plan → ⊥))
   settled (Some plan) = (found plan, λ h. h)
   settled None = (λ h. h, λ none plan x. let bad : None ≡ Some plan = sym none ∙ found_is plan x in cc)

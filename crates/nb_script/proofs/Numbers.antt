@@ -8,7 +8,7 @@ use Rattle.std.specs.Int.{IsInRange}
 use Rattle.std.proofs.lemmas.Bool.Decides.{nat_tests}
 use Rattle.std.proofs.lemmas.List.{drop_all}
 use Rattle.std.proofs.lemmas.Str.{digit_value_digit}
-use Rattle.nb_script.specs.Script.{Bytes, number_of}
+use Rattle.nb_script.specs.Script.{Bytes, number_spelled}
 
 -- the number that these digits spell behind the digits of n, if all are digits
 abbrev pub number_after : ℕ → Bytes → Option ℕ
@@ -47,16 +47,16 @@ one_read word i number digit new h in_word is_digit d n =
       same = digit_after h.value c (drop (i + 1) word) is_digit ∙ ap (number_after h.value) (sym (head_is word i in_word)) ∙ h.same;
     }
 
-number_of-some : (word : Bytes) → 0 < length word → number_of word ≡ number_after 0 word
+number_of-some : (word : Bytes) → 0 < length word → number_spelled word ≡ number_after 0 word
 number_of-some word some = rw (lt-ltb 0 (length word) some) refl
 
-pub not_read : (word : Bytes) (i number : ℕ) → HasRead word i number → i < length word → is_ascii_digit (get_or word i 0) ≡ false → None ≡ option_map (min (2 ^ 64 - 1)) (number_of word)
+pub not_read : (word : Bytes) (i number : ℕ) → HasRead word i number → i < length word → is_ascii_digit (get_or word i 0) ≡ false → None ≡ option_map (min (2 ^ 64 - 1)) (number_spelled word)
 not_read word i number h in_word no_digit =
     let none : number_after 0 word ≡ None =
     sym h.same ∙ ap (number_after h.value) (head_is word i in_word) ∙ no_digit_after h.value (get_or word i 0) (drop (i + 1) word) no_digit in
     sym (ap (option_map (min (2 ^ 64 - 1))) (number_of-some word (omega arith) ∙ none))
 
-pub all_read : (word : Bytes) (i number : ℕ) → HasRead word i number → length word ≤ i → 0 < length word → Some number ≡ option_map (min (2 ^ 64 - 1)) (number_of word)
+pub all_read : (word : Bytes) (i number : ℕ) → HasRead word i number → length word ≤ i → 0 < length word → Some number ≡ option_map (min (2 ^ 64 - 1)) (number_spelled word)
 all_read word i number h past some =
     let value_is : number_after 0 word ≡ Some h.value = sym h.same ∙ ap (number_after h.value) (drop_all i word past) in
     ap Some h.kept ∙ sym (ap (option_map (min (2 ^ 64 - 1))) (number_of-some word some ∙ value_is))

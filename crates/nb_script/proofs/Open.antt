@@ -7,7 +7,7 @@ use Rattle.std.specs.List.{list_any}
 use Rattle.std.specs.Option.{ok_or}
 use Rattle.std.specs.Str.{bytes_eq}
 use Rattle.std.proofs.lemmas.List.Folds.{list_any-append}
-use Rattle.nb_script.specs.Script.{Bytes, Fault, Phase, ◌>>=◌, arity, at_line, below, command_of, command_on, is_newline, key_at, key_of, line_of, lines_from, lines_of, number_of, numbered_line, op_of, said_by, task_of, value_at, value_of, words_of, worker_of}
+use Rattle.nb_script.specs.Script.{Bytes, Fault, Phase, ◌>>=◌, arity, at_line, below, command_of, command_on, is_newline, key_at, key_of, line_of, lines_from, lines_of, number_spelled, numbered_line, op_of, said_by, task_of, value_at, value_of, words_in, worker_of}
 use Rattle.nb_script.specs.declared.script.TheConstants.{LINE_MAX, LINES_MAX}
 use Rattle.nb_script.specs.declared.script.Cause.{Cause}
 use Rattle.nb_script.specs.declared.script.Cause.TheVariants as cause
@@ -41,12 +41,12 @@ short-below limit c (Some n) other = short-if (nat_lt n limit) (Ok n) (Err c) tt
 short-key : (words : List Bytes) (i : ℕ) → IsShort (key_at words i)
 short-key words i =
     short-bind (ok_or (slice_get words i) cause.Missing) key_of (short-or (slice_get words i) cause.Missing (λ e. cc))
-    (λ word. short-below _ cause.KeyRange (number_of word) (λ e. cc))
+    (λ word. short-below _ cause.KeyRange (number_spelled word) (λ e. cc))
 
 short-value : (words : List Bytes) (i : ℕ) → IsShort (value_at words i)
 short-value words i =
     short-bind (ok_or (slice_get words i) cause.Missing) value_of (short-or (slice_get words i) cause.Missing (λ e. cc))
-    (λ word. short-below _ cause.ValueRange (number_of word) (λ e. cc))
+    (λ word. short-below _ cause.ValueRange (number_spelled word) (λ e. cc))
 
 short-one : (words : List Bytes) (f : ℕ → Command) → IsShort (value_at words 1 >>= λ n. Ok (f n))
 short-one words f = short-bind (value_at words 1) (λ n. Ok (f n)) (short-value words 1) (λ n. tt)
@@ -73,9 +73,9 @@ short-command o words =
 
 short-task : (seats : ℕ) (first : Bytes) (words : List Bytes) → IsShort (task_of seats first words)
 unfolding task_of
-short-task seats first [] = short-bind (worker_of seats first) (λ w. Err cause.Missing) (short-below seats cause.Worker (number_of first) (λ e. cc)) (λ w e. cc)
+short-task seats first [] = short-bind (worker_of seats first) (λ w. Err cause.Missing) (short-below seats cause.Worker (number_spelled first) (λ e. cc)) (λ w e. cc)
 short-task seats first (name ∷ words) =
-    short-bind (worker_of seats first) _ (short-below seats cause.Worker (number_of first) (λ e. cc))
+    short-bind (worker_of seats first) _ (short-below seats cause.Worker (number_spelled first) (λ e. cc))
     (λ w. short-bind (ok_or (op_of name) cause.Op) _ (short-or (op_of name) cause.Op (λ e. cc))
     (λ o. short-bind (command_of o words) (λ c. Ok (w, c)) (short-command o words) (λ c. tt)))
 
@@ -116,11 +116,11 @@ module _ (seats n : ℕ) (f : List Line → List Phase) where
   open-line (b ∷ bs) short whole few k why settled =
       let line : Bytes = b ∷ bs in
       let some : 0 < length line = omega arith in
-      let said : numbered_line seats n line ≡ at_line n (said_by seats (words_of line)) =
+      let said : numbered_line seats n line ≡ at_line n (said_by seats (words_in line)) =
       rw (le-ltb LINES_MAX n (few some), le-ltb LINE_MAX (length line) short) refl in
       let here : Script (line ∷ []) ≡ Err (k, why) = ap Script (sym (lines_of-end line whole some)) ∙ settled [] in
       let other =
-      ended (said_by seats (words_of line)) (short-said seats (words_of line)) k why
+      ended (said_by seats (words_in line)) (short-said seats (words_in line)) k why
       (ap (λ (r : Result (Option Line) Fault). (r >>= λ first. Ok [] >>= λ lines. Ok (option_to_list first ++ lines)) >>= λ lines. Ok (f lines)) (sym said) ∙ here) in
       let more : Bytes = replicate LINE_MAX 48 in
       let past : LINE_MAX ≤ length (line ++ more) = omega (arith, length-append line more, length-replicate {A = ℕ} LINE_MAX 48) in

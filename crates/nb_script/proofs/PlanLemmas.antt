@@ -9,15 +9,15 @@ use Rattle.std.proofs.lemmas.List.Folds.{list_all_at}
 use Rattle.clap.specs.Words.{Text}
 use Rattle.nb_core.specs.Plans.{Plan, checked_plan, is_within}
 use Rattle.nb_script.specs.Options.{exponents_of, numbers_of, plan_of_text}
-use Rattle.nb_script.specs.Script.{number_of}
+use Rattle.nb_script.specs.Script.{number_spelled}
 
 -- the numbers of the first text and of the others
 numbers_of_parts : (t : Text) (ts : List Text) (es : List ℕ) → numbers_of (t ∷ ts) ≡ Some es
-    → (n : ℕ) × (ns : List ℕ) × (number_of t ≡ Some n) × (numbers_of ts ≡ Some ns) × (es ≡ n ∷ ns)
-numbers_of_parts t ts es is = go (number_of t) (numbers_of ts) refl refl
+    → (n : ℕ) × (ns : List ℕ) × (number_spelled t ≡ Some n) × (numbers_of ts ≡ Some ns) × (es ≡ n ∷ ns)
+numbers_of_parts t ts es is = go (number_spelled t) (numbers_of ts) refl refl
   where
-    go : (o : Option ℕ) (p : Option (List ℕ)) → number_of t ≡ o → numbers_of ts ≡ p
-        → (n : ℕ) × (ns : List ℕ) × (number_of t ≡ Some n) × (numbers_of ts ≡ Some ns) × (es ≡ n ∷ ns)
+    go : (o : Option ℕ) (p : Option (List ℕ)) → number_spelled t ≡ o → numbers_of ts ≡ p
+        → (n : ℕ) × (ns : List ℕ) × (number_spelled t ≡ Some n) × (numbers_of ts ≡ Some ns) × (es ≡ n ∷ ns)
     go None p e f =
         let bad : None ≡ Some es = rw e at is in
         cc
@@ -28,10 +28,10 @@ numbers_of_parts t ts es is = go (number_of t) (numbers_of ts) refl refl
         let whole : Some (n ∷ ns) ≡ Some es = rw (e, f) at is in
         (n, ns, e, f, cc)
 
-both_read : (t : Text) (ts : List Text) (n : ℕ) (ns : List ℕ) → number_of t ≡ Some n → numbers_of ts ≡ Some ns → numbers_of (t ∷ ts) ≡ Some (n ∷ ns)
+both_read : (t : Text) (ts : List Text) (n : ℕ) (ns : List ℕ) → number_spelled t ≡ Some n → numbers_of ts ≡ Some ns → numbers_of (t ∷ ts) ≡ Some (n ∷ ns)
 both_read t ts n ns one all = rw (one, all) refl
 
-numbers_of-push : (ts : List Text) (t : Text) (ns : List ℕ) (n : ℕ) → numbers_of ts ≡ Some ns → number_of t ≡ Some n → numbers_of (ts ++ t ∷ []) ≡ Some (ns ++ n ∷ [])
+numbers_of-push : (ts : List Text) (t : Text) (ns : List ℕ) (n : ℕ) → numbers_of ts ≡ Some ns → number_spelled t ≡ Some n → numbers_of (ts ++ t ∷ []) ≡ Some (ns ++ n ∷ [])
 numbers_of-push [] t ns n all one =
     let none : Some [] ≡ Some ns = all in
     let same : [] ≡ ns = cc in
@@ -43,7 +43,7 @@ numbers_of-push (x ∷ ts) t ns n all one =
 
 -- one more part is read
 pub part_read : (parts : List (Bor Text)) (part : Bor Text) (xs : List ℕ) (count n : ℕ) → count < length xs
-    → numbers_of (map (λ p. p.now) parts) ≡ Some (take count xs) → number_of part.now ≡ Some n
+    → numbers_of (map (λ p. p.now) parts) ≡ Some (take count xs) → number_spelled part.now ≡ Some n
     → numbers_of (map (λ p. p.now) (parts ++ part ∷ [])) ≡ Some (take (count + 1) (slice_set xs count n))
 part_read parts part xs count n room all one =
     ap numbers_of (map_push (λ p. p.now) parts part) ∙ numbers_of-push (map (λ p. p.now) parts) part.now (take count xs) n all one
@@ -58,7 +58,7 @@ length-numbers_of (t ∷ ts) es is =
     let parts = numbers_of_parts t ts es is in
     rw (parts.4, length-numbers_of ts parts.1 parts.3) refl
 
-number_at : (ts : List Text) (es : List ℕ) (k : ℕ) (d : Text) → numbers_of ts ≡ Some es → k < length ts → number_of (get_or ts k d) ≡ Some (get_or es k 0)
+number_at : (ts : List Text) (es : List ℕ) (k : ℕ) (d : Text) → numbers_of ts ≡ Some es → k < length ts → number_spelled (get_or ts k d) ≡ Some (get_or es k 0)
 number_at [] es k d is lt = absurd (omega arith)
 number_at (t ∷ ts) es zero d is lt =
     let parts = numbers_of_parts t ts es is in
@@ -86,7 +86,7 @@ too_many text seats stripes many = go (exponents_of text) refl
 
 -- and a part that is no small number makes none
 pub too_large : (text : Text) (seats stripes k : ℕ) (part : Text) (r : Option Plan) → k < length (slice_split (λ b. b == 44) text)
-    → part ≡ get_or (slice_split (λ b. b == 44) text) k part → ((n : ℕ) → number_of part ≡ Some n → 2 ^ 32 ≤ n)
+    → part ≡ get_or (slice_split (λ b. b == 44) text) k part → ((n : ℕ) → number_spelled part ≡ Some n → 2 ^ 32 ≤ n)
     → IfNone r (plan_of_text text seats stripes ≡ None)
 too_large text seats stripes k part (Some plan) inside is large = tt
 too_large text seats stripes k part None inside is large = go (exponents_of text) refl
@@ -98,7 +98,7 @@ too_large text seats stripes k part None inside is large = go (exponents_of text
     go : (o : Option (List ℕ)) → exponents_of text ≡ o → plan_of_text text seats stripes ≡ None
     go None e = rw e refl
     go (Some es) e =
-        let past = large (get_or es k 0) (ap number_of is ∙ number_at (slice_split (λ b. b == 44) text) es k part e inside) in
+        let past = large (get_or es k 0) (ap number_spelled is ∙ number_at (slice_split (λ b. b == 44) text) es k part e inside) in
         let count = length-numbers_of (slice_split (λ b. b == 44) text) es e in
         plan_of_exponents text es seats stripes e
         ∙ refused es (is_within 1 16 (length es)) refl (list_all_at (is_within 2 19) es k 0 (omega arith) (above 2 19 (get_or es k 0) (omega arith)))

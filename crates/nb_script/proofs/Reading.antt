@@ -5,7 +5,7 @@ use Rattle.std.proofs.lemmas.Bool.Decides.{nat_tests}
 use Rattle.std.proofs.lemmas.List.{map-append}
 use Rattle.std.proofs.lemmas.List.Folds.{list_any-append}
 use Rattle.nb_script.specs.Script.{Bytes, Fault, Phase, ◌>>=◌, is_newline, lines_from, lines_of, phases_of, without_empty_end}
-use Rattle.nb_script.specs.Reading.{IsFirst, joined}
+use Rattle.nb_script.specs.Reading.{IsFirstFault, joined_phases}
 use Rattle.nb_script.specs.declared.faults.RunFault.{RunFault}
 use Rattle.nb_script.specs.declared.faults.RunFault.TheVariants as fault
 use Rattle.nb_script.specs.declared.script.TheConstants.{LINE_MAX, LINES_MAX}
@@ -116,14 +116,14 @@ phases_some [] = record { first = []; later = []; is = refl }
 phases_some (line.PhaseEnd ∷ lines) = record { first = []; later = phases_of lines; is = refl }
 phases_some (line.Command w c ∷ lines) = onto_some (w, c) (phases_of lines)
 
-pub joined_nothing : (lines : List Line) → joined [] [] (phases_of lines) ≡ phases_of lines
+pub joined_nothing : (lines : List Line) → joined_phases [] [] (phases_of lines) ≡ phases_of lines
 joined_nothing lines = let p = phases_some lines in rw p.is refl
 
-pub joined_command : (over : List Phase) (current : Phase) (task : ℕ × Command) (phases : List Phase) → joined over (current ++ task ∷ []) phases ≡ joined over current (onto_first task phases)
+pub joined_command : (over : List Phase) (current : Phase) (task : ℕ × Command) (phases : List Phase) → joined_phases over (current ++ task ∷ []) phases ≡ joined_phases over current (onto_first task phases)
 joined_command over current task [] = refl
 joined_command over current task (p ∷ ps) = ap (λ q. over ++ q ∷ ps) (append_assoc current (task ∷ []) p)
 
-pub joined_end : (over : List Phase) (current : Phase) (lines : List Line) → joined (over ++ current ∷ []) [] (phases_of lines) ≡ joined over current ([] ∷ phases_of lines)
+pub joined_end : (over : List Phase) (current : Phase) (lines : List Line) → joined_phases (over ++ current ∷ []) [] (phases_of lines) ≡ joined_phases over current ([] ∷ phases_of lines)
 joined_end over current lines =
     let p = phases_some lines in
     rw p.is (append_assoc over (current ∷ []) (p.first ∷ p.later) ∙ ap (λ q. over ++ q ∷ p.first ∷ p.later) (sym (append-nil current)))
@@ -133,9 +133,9 @@ commands phase = phase.items
 
 -- the same where the current phase was pushed to those that are over
 pub joined_ended : (over : List (Vec (ℕ × Command) Global)) (phase : Vec (ℕ × Command) Global) (current : Phase) (lines : List Line) → phase.items ≡ current
-    → joined (map commands (over ++ phase ∷ [])) [] (phases_of lines) ≡ joined (map commands over) current ([] ∷ phases_of lines)
+    → joined_phases (map commands (over ++ phase ∷ [])) [] (phases_of lines) ≡ joined_phases (map commands over) current ([] ∷ phases_of lines)
 joined_ended over phase current lines e =
-    ap (λ ps. joined ps [] (phases_of lines)) (map-append commands over (phase ∷ []) ∙ ap (λ p. map commands over ++ p ∷ []) e)
+    ap (λ ps. joined_phases ps [] (phases_of lines)) (map-append commands over (phase ∷ []) ∙ ap (λ p. map commands over ++ p ∷ []) e)
     ∙ joined_end (map commands over) current lines
 
 -- what follows from a push that succeeded, where its error was mapped
@@ -150,7 +150,7 @@ on_ok_both (Ok x) p q f = f p q
 on_ok_both (Err e) p q f = tt
 
 -- A fault is first whatever follows: then it is so after each text that follows.
-pub first_along : {A B : Type 0} (f : A → Result (List Phase) Fault) (g : B → Result (List Phase) Fault) (h : B → A) → ((b : B) → g b ≡ f (h b)) → (fault : RunFault) → IsFirst f fault → IsFirst g fault
+pub first_along : {A B : Type 0} (f : A → Result (List Phase) Fault) (g : B → Result (List Phase) Fault) (h : B → A) → ((b : B) → g b ≡ f (h b)) → (fault : RunFault) → IsFirstFault f fault → IsFirstFault g fault
 first_along f g h e fault.Read first = first
 first_along f g h e fault.Write first = first
 first_along f g h e (fault.Line n cause) first = λ b. e b ∙ first (h b)

@@ -2,7 +2,7 @@
 use Rattle.std.proofs.Common.{◌≡◌, ◌∙◌, ℕ, ◌+◌, ◌≤◌, arith, sym, ap, refl, List, [], ◌++◌, length, take, drop, subst, inl, inr, append_assoc, append-nil, Option, Ok, Err}
 use Rattle.std.proofs.KnownBytes.{Consumes-kept, Consumes-trans}
 use Rattle.std.specs.Io.KnownBytes.{Consumes, IsAtEnd, Keeps}
-use Rattle.nb_script.specs.Reading.{IsFirst, room, with_bytes, with_lines}
+use Rattle.nb_script.specs.Reading.{IsFirstFault, room, with_bytes, with_lines}
 use Rattle.nb_script.specs.Inputs.{HasReadOn, IsFaultOf, IsOpen}
 use Rattle.nb_script.specs.Script.{Bytes, script_of}
 use Rattle.nb_script.specs.declared.faults.RunFault.{RunFault}
@@ -61,7 +61,7 @@ read_on seats unread unread' unread'' lines piece h consumed small = record {
 
 -- a fault of the lines is one of the bytes that were read
 pub fault_of_read : (seats : ℕ) (unread unread' unread'' : Option Bytes) (lines : Lines) (piece : Bytes) → HasRead seats unread unread' lines → Consumes unread' unread'' piece
-    → length piece ≤ PIECE → (fault : RunFault) → IsFirst (λ more. with_bytes lines (piece ++ more)) fault → IsFaultOf seats unread unread'' fault
+    → length piece ≤ PIECE → (fault : RunFault) → IsFirstFault (λ more. with_bytes lines (piece ++ more)) fault → IsFaultOf seats unread unread'' fault
 fault_of_read seats unread unread' unread'' lines piece h consumed small fault.Read first = absurd first
 fault_of_read seats unread unread' unread'' lines piece h consumed small fault.Write first = first
 fault_of_read seats unread unread' unread'' lines piece h consumed small (fault.Line n cause) first =
@@ -75,7 +75,7 @@ fault_of_read seats unread unread' unread'' lines piece h consumed small fault.O
     (h.read ++ piece, read_on seats unread unread' unread'' lines piece h consumed small)
 
 fault_of_nothing : (seats : ℕ) (unread unread' unread'' : Option Bytes) (lines : Lines) → HasRead seats unread unread' lines → Consumes unread' unread'' [] → IsAtEnd unread''
-    → (fault : RunFault) → IsFirst (λ (more : Bytes). with_bytes lines []) fault → IsFaultOf seats unread unread'' fault
+    → (fault : RunFault) → IsFirstFault (λ (more : Bytes). with_bytes lines []) fault → IsFaultOf seats unread unread'' fault
 fault_of_nothing seats unread unread' unread'' lines h consumed ended fault.Read first = absurd first
 fault_of_nothing seats unread unread' unread'' lines h consumed ended fault.Write first = first
 fault_of_nothing seats unread unread' unread'' lines h consumed ended (fault.Line n cause) first =
@@ -90,7 +90,7 @@ fault_of_nothing seats unread unread' unread'' lines h consumed ended fault.OutO
 
 -- the same at the end, where the last read gave nothing
 pub fault_of_end : (seats : ℕ) (unread unread' unread'' : Option Bytes) (lines : Lines) (bytes : Bytes) (count : ℕ) → HasRead seats unread unread' lines → Consumes unread' unread'' (take count bytes) → IsAtEnd unread'' → count ≡ 0
-    → (fault : RunFault) → IsFirst (λ (more : Bytes). with_bytes lines []) fault → IsFaultOf seats unread unread'' fault
+    → (fault : RunFault) → IsFirstFault (λ (more : Bytes). with_bytes lines []) fault → IsFaultOf seats unread unread'' fault
 fault_of_end seats unread unread' unread'' lines bytes count h consumed ended none fault first =
     let nothing : Consumes unread' unread'' [] = subst (λ n. Consumes unread' unread'' (take n bytes)) none consumed in
     fault_of_nothing seats unread unread' unread'' lines h nothing ended fault first

@@ -9,7 +9,7 @@ use Rattle.clap.specs.declared.error.kind.ErrorKind.TheVariants as kind
 use Rattle.clap.specs.declared.error.kind.ErrorKind.TheVariants.{DisplayHelp}
 use Rattle.nb_script.specs.declared.options.OptionFault.{OptionFault}
 use Rattle.nb_script.specs.declared.options.OptionFault.TheVariants.{Usage, Help, OutOfMemory}
-use Rattle.nb_script.specs.Script.{number_of}
+use Rattle.nb_script.specs.Script.{number_spelled}
 use Rattle.nb_core.specs.Plans.{Plan, checked_plan, checked_shape}
 use Rattle.clap.specs.declared.builder.ArgAction.TheVariants.{Set}
 use Rattle.clap.specs.declared.builder.value_parser.ValueParser.{ValueParser}
@@ -45,7 +45,7 @@ nbrun = with_rule (with_rule (with_rule (with_rule (with_rule (new_app (codes "n
 abbrev pub numbers_of : List Text → Option (List ℕ)
 numbers_of [] = Some []
 numbers_of (t ∷ ts) =
-    option_and_then (λ n. option_map (λ ns. n ∷ ns) (numbers_of ts)) (number_of t)
+    option_and_then (λ n. option_map (λ ns. n ∷ ns) (numbers_of ts)) (number_spelled t)
 
 -- the exponents of a plan: numbers, with one comma (44) between two
 abbrev pub exponents_of : Text → Option (List ℕ)
@@ -56,7 +56,7 @@ exponents_of text = numbers_of (slice_split (λ b. b == 44) text)
 -- the number that a text writes, as a `u32` is read: it has to fit, and a plus may precede it
 abbrev pub u32_of : Text → Option ℕ
 u32_of text = option_and_then (λ n. if nat_lt n (2 ^ 32) then Some n else None)
-    (number_of (without_leading_plus text))
+    (number_spelled (without_leading_plus text))
 
 -- the number that stands for an option in what clap found
 abbrev pub number_in : Text → List Row → Option ℕ
@@ -68,13 +68,13 @@ plan_of_text text seats stripes =
     option_and_then (λ es. result_ok (checked_plan es seats stripes)) (exponents_of text)
 
 -- the same, or where there is no text the plan of tables that double
-abbrev pub plan_of : Option Text → ℕ → ℕ → ℕ → ℕ → Option Plan
-plan_of (Some text) bits generations seats stripes = plan_of_text text seats stripes
-plan_of None bits generations seats stripes =
+abbrev pub plan_asked : Option Text → ℕ → ℕ → ℕ → ℕ → Option Plan
+plan_asked (Some text) bits generations seats stripes = plan_of_text text seats stripes
+plan_asked None bits generations seats stripes =
     result_ok (checked_shape bits generations seats stripes)
 
 -- the plan is of the text and the numbers that clap found
-pub record IsFound (rows : List Row) (plan : Plan) : Type 0 where
+pub record AreOptionsOf (rows : List Row) (plan : Plan) : Type 0 where
   pub bits : ℕ
   pub generations : ℕ
   pub seats : ℕ
@@ -84,25 +84,25 @@ pub record IsFound (rows : List Row) (plan : Plan) : Type 0 where
   pub seats_found : number_in (codes "seats") rows ≡ Some seats
   pub stripes_found : number_in (codes "stripes") rows ≡ Some stripes
   pub plan_found :
-      plan_of (first_of (codes "plan") rows) bits generations seats stripes ≡ Some plan
+      plan_asked (first_of (codes "plan") rows) bits generations seats stripes ≡ Some plan
 
 -- clap takes the words, and the plan is of what they give for each option, or its default
 abbrev pub AreGiven : List Text → Plan → Type 0
-AreGiven words plan = (fault_of nbrun words ≡ []) × IsFound (matches_of nbrun words) plan
+AreGiven words plan = (fault_of nbrun words ≡ []) × AreOptionsOf (matches_of nbrun words) plan
 
 -- ---- when there are no options
 
 -- clap refuses the words, and not by a request for help
-abbrev pub IsRefused : List Text → Type 0
-IsRefused words = (k : ErrorKind) × IsAmong k (fault_of nbrun words) × (k ≢ DisplayHelp)
+abbrev pub AreRefused : List Text → Type 0
+AreRefused words = (k : ErrorKind) × IsAmong k (fault_of nbrun words) × (k ≢ DisplayHelp)
 
 -- clap takes the words, but they give no plan
 abbrev pub GivesNone : List Text → Type 0
-GivesNone words = (fault_of nbrun words ≡ []) × ((plan : Plan) → IsFound (matches_of nbrun words) plan → ⊥)
+GivesNone words = (fault_of nbrun words ≡ []) × ((plan : Plan) → AreOptionsOf (matches_of nbrun words) plan → ⊥)
 
 -- when each fault comes
 abbrev pub IsDue : List Text → OptionFault → Type 0
-IsDue words Usage = IsRefused words ⊎ GivesNone words
+IsDue words Usage = AreRefused words ⊎ GivesNone words
 IsDue words (Help text) = IsAmong DisplayHelp (fault_of nbrun words)
 IsDue words OutOfMemory = Unit {0}
 

@@ -8,13 +8,13 @@ use Rattle.nb_script.specs.declared.faults.RunFault.TheVariants as fault
 use Rattle.nb_script.specs.declared.reader.Lines.{Lines}
 
 -- The phases that are over, then the current one, and what follows: the first of those goes on with the current one.
-abbrev pub joined : List Phase → Phase → List Phase → List Phase
-joined over current [] = over ++ current ∷ []
-joined over current (first ∷ later) = over ++ (current ++ first) ∷ later
+abbrev pub joined_phases : List Phase → Phase → List Phase → List Phase
+joined_phases over current [] = over ++ current ∷ []
+joined_phases over current (first ∷ later) = over ++ (current ++ first) ∷ later
 
 -- the phases so far, if these lines follow
 abbrev pub with_lines : Lines → List Line → List Phase
-with_lines l lines = joined (map (λ phase. phase.items) l.over.items) l.current.items (phases_of lines)
+with_lines l lines = joined_phases (map (λ phase. phase.items) l.over.items) l.current.items (phases_of lines)
 
 -- the whole script, if these lines follow
 abbrev pub with_texts : Lines → List Bytes → Result (List Phase) Fault
@@ -29,8 +29,8 @@ abbrev pub room : Lines → ℕ
 room l = (LINE_MAX + 1) * (LINES_MAX + 1 - l.number) + (LINE_MAX - length l.partial.items)
 
 -- the fault is the script's first one, whatever follows, or memory ran out
-abbrev pub IsFirst : {A : Type 0} → (A → Result (List Phase) Fault) → RunFault → Type 0
-IsFirst script fault.Read = ⊥
-IsFirst script fault.Write = ⊥
-IsFirst {A} script (fault.Line n cause) = (more : A) → script more ≡ Err (n, cause)
-IsFirst script fault.OutOfMemory = Unit {0}
+abbrev pub IsFirstFault : {A : Type 0} → (A → Result (List Phase) Fault) → RunFault → Type 0
+IsFirstFault script fault.Read = ⊥
+IsFirstFault script fault.Write = ⊥
+IsFirstFault {A} script (fault.Line n cause) = (more : A) → script more ≡ Err (n, cause)
+IsFirstFault script fault.OutOfMemory = Unit {0}

@@ -30,8 +30,8 @@ abbrev pub is_newline : ℕ → Bool
 is_newline b = b == 10
 
 -- a space, a tab or a carriage return
-abbrev pub is_blank : ℕ → Bool
-is_blank b = b == 32 || b == 9 || b == 13
+abbrev pub is_space : ℕ → Bool
+is_space b = b == 32 || b == 9 || b == 13
 
 abbrev pub without_empty_end : List Bytes → List Bytes
 without_empty_end [] = []
@@ -43,27 +43,27 @@ abbrev pub lines_of : Bytes → List Bytes
 lines_of bytes = without_empty_end (slice_split is_newline bytes)
 
 -- the longest runs of bytes that aren't blank
-abbrev pub words_of : Bytes → List Bytes
-words_of line = filter (λ word. nat_lt 0 (length word)) (slice_split is_blank line)
+abbrev pub words_in : Bytes → List Bytes
+words_in line = filter (λ word. nat_lt 0 (length word)) (slice_split is_space line)
 
 -- ---- numbers
 
 -- the number that a word spells: one or more digits, in base ten
-abbrev pub number_of : Bytes → Option ℕ
-number_of word = if nat_lt 0 (length word) && all_ascii_digits word then Some (digits_value 10 word) else None
+abbrev pub number_spelled : Bytes → Option ℕ
+number_spelled word = if nat_lt 0 (length word) && all_ascii_digits word then Some (digits_value 10 word) else None
 
 abbrev pub below : ℕ → Cause → Option ℕ → Result ℕ Cause
 below limit too_great None = Err cause.Number
 below limit too_great (Some n) = if nat_lt n limit then Ok n else Err too_great
 
 abbrev pub worker_of : ℕ → Bytes → Result ℕ Cause
-worker_of seats word = below seats cause.Worker (number_of word)
+worker_of seats word = below seats cause.Worker (number_spelled word)
 
 abbrev pub key_of : Bytes → Result ℕ Cause
-key_of word = below (suc KEY_MAX) cause.KeyRange (number_of word)
+key_of word = below (suc KEY_MAX) cause.KeyRange (number_spelled word)
 
 abbrev pub value_of : Bytes → Result ℕ Cause
-value_of word = below (suc VALUE_MAX) cause.ValueRange (number_of word)
+value_of word = below (suc VALUE_MAX) cause.ValueRange (number_spelled word)
 
 -- ---- commands
 
@@ -131,7 +131,7 @@ said_by seats (word ∷ words) =
     else task_of seats word words >>= λ task. Ok (Some (line.Command task.0 task.1))
 
 abbrev pub line_of : ℕ → Bytes → Result (Option Line) Cause
-line_of seats bytes = if nat_lt LINE_MAX (length bytes) then Err cause.LongLine else said_by seats (words_of bytes)
+line_of seats bytes = if nat_lt LINE_MAX (length bytes) then Err cause.LongLine else said_by seats (words_in bytes)
 
 -- the first fault of a script: the number of its line, counted from 1, and its cause
 abbrev pub Fault : Type 0

@@ -2,8 +2,8 @@
 ghost use Rattle.std.specs.Prelude.{◌≡◌, ◌≤◌, ◌^◌, false, ℕ, [], IfErr, IfNone, IfOk, IfSome, OnOk, map, string_bytes};
 ghost use Rattle.clap.specs.Words.{app_of, fault_of, found_of, kind_of, rows_of, rule_of};
 ghost use Rattle.nb_core.specs.Plans.{Plan};
-ghost use Rattle.nb_script.specs.Options.{AreGiven, ComesTo, IsDue, IsFound, nbrun, option_rule, plan_of_text};
-ghost use Rattle.nb_script.specs.Script.{number_of};
+ghost use Rattle.nb_script.specs.Options.{AreGiven, ComesTo, IsDue, AreOptionsOf, nbrun, option_rule, plan_of_text};
+ghost use Rattle.nb_script.specs.Script.{number_spelled};
 
 use clap::error::ErrorKind;
 use clap::{Arg, ArgAction, ArgMatches, Command, value_parser};
@@ -99,8 +99,8 @@ fn option_fault(alloc: Global, error: &clap::Error) -> OptionFault
 
 /// The number that a plan's part writes, where it fits. A plus before it is refused.
 fn read_exponent(part: &str) -> Option<u32>
-    ensures some { IfSome result (λ n. number_of part.now ≡ Some n) }
-    ensures none { IfNone result ((n : ℕ) → number_of part.now ≡ Some n → 2 ^ 32 ≤ n) }
+    ensures some { IfSome result (λ n. number_spelled part.now ≡ Some n) }
+    ensures none { IfNone result ((n : ℕ) → number_spelled part.now ≡ Some n → 2 ^ 32 ≤ n) }
 {
     if part.starts_with('+') {
         None
@@ -128,9 +128,9 @@ fn read_plan(text: &str, seats: usize, stripes: usize) -> Option<Shape>
 
 /// The shape that clap's matches ask for.
 fn read_shape(matches: &ArgMatches<'_>) -> Option<Shape>
-    ensures some { IfSome result (IsFound (rows_of (found_of matches.now))) }
+    ensures some { IfSome result (AreOptionsOf (rows_of (found_of matches.now))) }
     ensures none { IfNone result ((plan : Plan) →
-        ¬ (IsFound (rows_of (found_of matches.now)) plan)) }
+        ¬ (AreOptionsOf (rows_of (found_of matches.now)) plan)) }
 {
     let bits = matches.get_one::<u32>("bits")?;
     let generations = matches.get_one::<u32>("generations")?;

@@ -35,7 +35,7 @@ pub(crate) struct Lines {
 }
 
 impl Lines {
-    ghost use Rattle.nb_script.specs.Reading.{IsFirst, room, with_bytes, with_lines, with_texts};
+    ghost use Rattle.nb_script.specs.Reading.{IsFirstFault, room, with_bytes, with_lines, with_texts};
 
     fn new(alloc: Global, seats: usize) -> Lines
         requires { seats < 2 ^ 64 - 1 }
@@ -55,7 +55,7 @@ impl Lines {
         requires { self.old.number ≤ LINES_MAX }
         ensures ok { OnOk result ((rest : List Bytes) → with_texts self.new rest ≡ with_texts self.old (self.old.partial.items ∷ rest)) }
         ensures ended { OnOk result ((self.new.partial.items ≡ []) × (self.new.number ≡ self.old.number + 1)) }
-        ensures fault { IfErr result (λ fault. IsFirst (λ rest. with_texts self.old (self.old.partial.items ∷ rest)) fault) }
+        ensures fault { IfErr result (λ fault. IsFirstFault (λ rest. with_texts self.old (self.old.partial.items ∷ rest)) fault) }
     {
         match said_by(self.seats, self.partial.as_slice()) {
             Ok(Some(line)) => self.keep(line)?,
@@ -89,7 +89,7 @@ impl Lines {
     /// Takes the next byte.
     fn take(&mut self, byte: u8) -> Result<(), RunFault>
         ensures ok { OnOk result ((more : Bytes) → with_bytes self.new more ≡ with_bytes self.old (byte ∷ more)) }
-        ensures fault { IfErr result (λ fault. IsFirst (λ more. with_bytes self.old (byte ∷ more)) fault) }
+        ensures fault { IfErr result (λ fault. IsFirstFault (λ more. with_bytes self.old (byte ∷ more)) fault) }
         ensures room { OnOk result (room self.new + 1 ≤ room self.old) }
     {
         if self.number > LINES_MAX {
@@ -108,7 +108,7 @@ impl Lines {
     /// Takes the next bytes.
     fn take_all(&mut self, bytes: &[u8]) -> Result<(), RunFault>
         ensures ok { OnOk result ((more : Bytes) → with_bytes self.new more ≡ with_bytes self.old (bytes.now ++ more)) }
-        ensures fault { IfErr result (λ fault. IsFirst (λ more. with_bytes self.old (bytes.now ++ more)) fault) }
+        ensures fault { IfErr result (λ fault. IsFirstFault (λ more. with_bytes self.old (bytes.now ++ more)) fault) }
         ensures room { OnOk result (room self.new + length bytes.now ≤ room self.old) }
     {
         for byte in bytes {
@@ -120,7 +120,7 @@ impl Lines {
     /// Ends the last line, if it has begun.
     fn end_text(&mut self) -> Result<(), RunFault>
         ensures ok { OnOk result (with_texts self.new [] ≡ with_bytes self.old []) }
-        ensures fault { IfErr result (λ fault. IsFirst (λ (more : Bytes). with_bytes self.old []) fault) }
+        ensures fault { IfErr result (λ fault. IsFirstFault (λ (more : Bytes). with_bytes self.old []) fault) }
     {
         if self.partial.is_empty() {
             return Ok(());

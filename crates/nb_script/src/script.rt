@@ -1,6 +1,6 @@
 //! The lines of a script: what each says, or what is wrong with it.
 ghost use Rattle.std.specs.Prelude.{◌≡◌, ◌∷◌, [], ◌-◌, ◌^◌, length, ◌<◌, option_map, min, IfNone, IfSome, not, slice_get, take_while};
-ghost use Rattle.nb_script.specs.Script.{arity, command_of, command_on, is_blank, key_at, key_of, number_of, op_of, said_by, task_of, value_at, value_of, words_of, worker_of};
+ghost use Rattle.nb_script.specs.Script.{arity, command_of, command_on, is_space, key_at, key_of, number_spelled, op_of, said_by, task_of, value_at, value_of, words_in, worker_of};
 
 use nb_core::{Key, Num};
 use thiserror::Error;
@@ -110,27 +110,27 @@ impl Op {
 }
 
 fn is_blank(byte: u8) -> bool
-    ensures { result ≡ is_blank byte }
+    ensures { result ≡ is_space byte }
 {
     byte == b' ' || byte == b'\t' || byte == b'\r'
 }
 
 fn blanks_before_word(text: &[u8]) -> usize
-    ensures { result ≡ length (take_while is_blank text.now) }
+    ensures { result ≡ length (take_while is_space text.now) }
 {
     text.iter().take_while(|b| is_blank(**b)).count()
 }
 
 fn bytes_before_blank(text: &[u8]) -> usize
-    ensures { result ≡ length (take_while (λ b. not (is_blank b)) text.now) }
+    ensures { result ≡ length (take_while (λ b. not (is_space b)) text.now) }
 {
     text.iter().take_while(|b| !is_blank(**b)).count()
 }
 
 /// The first word of a text, and what follows it.
 fn next_word(text: &[u8]) -> Option<(&[u8], &[u8])>
-    ensures none { IfNone result (words_of text.now ≡ []) }
-    ensures some { IfSome result (λ found. words_of text.now ≡ found.0.now ∷ words_of found.1.now) }
+    ensures none { IfNone result (words_in text.now ≡ []) }
+    ensures some { IfSome result (λ found. words_in text.now ≡ found.0.now ∷ words_in found.1.now) }
     ensures shorter { IfSome result (λ found. length found.1.now < length text.now) }
 {
     let (_, from_word) = text.split_at(blanks_before_word(text));
@@ -141,7 +141,7 @@ fn next_word(text: &[u8]) -> Option<(&[u8], &[u8])>
 }
 
 fn word_count(text: &[u8]) -> usize
-    ensures { result ≡ length (words_of text.now) }
+    ensures { result ≡ length (words_in text.now) }
 {
     let mut count = 0;
     let mut rest = text;
@@ -153,7 +153,7 @@ fn word_count(text: &[u8]) -> usize
 }
 
 fn word_at(text: &[u8], place: usize) -> Option<&[u8]>
-    ensures { option_map (λ word. word.now) result ≡ slice_get (words_of text.now) place }
+    ensures { option_map (λ word. word.now) result ≡ slice_get (words_in text.now) place }
 {
     let mut rest = text;
     for _passed in 0..place {
@@ -166,7 +166,7 @@ fn word_at(text: &[u8], place: usize) -> Option<&[u8]>
 
 /// The number that a word spells, or the greatest `u64` where it is past that.
 fn number(word: &[u8]) -> Option<u64>
-    ensures { result ≡ option_map (min (2 ^ 64 - 1)) (number_of word.now) }
+    ensures { result ≡ option_map (min (2 ^ 64 - 1)) (number_spelled word.now) }
 {
     if word.is_empty() {
         return None;
@@ -209,14 +209,14 @@ fn value(word: &[u8]) -> Result<Num, Cause>
 }
 
 fn key_at(text: &[u8], place: usize) -> Result<Key, Cause>
-    ensures { result ≡ key_at (words_of text.now) place }
+    ensures { result ≡ key_at (words_in text.now) place }
 {
     let word = word_at(text, place).ok_or(Cause::Missing)?;
     key(word)
 }
 
 fn value_at(text: &[u8], place: usize) -> Result<Num, Cause>
-    ensures { result ≡ value_at (words_of text.now) place }
+    ensures { result ≡ value_at (words_in text.now) place }
 {
     let word = word_at(text, place).ok_or(Cause::Missing)?;
     value(word)
@@ -224,7 +224,7 @@ fn value_at(text: &[u8], place: usize) -> Result<Num, Cause>
 
 #[tactic(auto, unfolding(crate::specs::Script::command_on))]
 fn command_on(op: Op, key: Key, text: &[u8]) -> Result<Command, Cause>
-    ensures { result ≡ command_on op key (words_of text.now) }
+    ensures { result ≡ command_on op key (words_in text.now) }
 {
     Ok(match op {
         Op::Get => Command::Get(key),
@@ -241,7 +241,7 @@ fn command_on(op: Op, key: Key, text: &[u8]) -> Result<Command, Cause>
 /// The command of an op with its arguments.
 #[tactic(auto, unfolding(crate::specs::Script::command_of))]
 fn command_of(op: Op, text: &[u8]) -> Result<Command, Cause>
-    ensures { result ≡ command_of op (words_of text.now) }
+    ensures { result ≡ command_of op (words_in text.now) }
 {
     let count = word_count(text);
     if count < op.arity() {
@@ -258,7 +258,7 @@ fn command_of(op: Op, text: &[u8]) -> Result<Command, Cause>
 #[tactic(auto, unfolding(crate::specs::Script::task_of))]
 fn task_of(seats: usize, first: &[u8], text: &[u8]) -> Result<(usize, Command), Cause>
     requires { seats < 2 ^ 64 - 1 }
-    ensures { result ≡ task_of seats first.now (words_of text.now) }
+    ensures { result ≡ task_of seats first.now (words_in text.now) }
 {
     let worker = worker(first, seats)?;
     let (name, rest) = next_word(text).ok_or(Cause::Missing)?;
@@ -271,7 +271,7 @@ fn task_of(seats: usize, first: &[u8], text: &[u8]) -> Result<(usize, Command), 
 #[tactic(auto, unfolding(crate::specs::Script::said_by))]
 pub(crate) fn said_by(seats: usize, line: &[u8]) -> Result<Option<Line>, Cause>
     requires { seats < 2 ^ 64 - 1 }
-    ensures { result ≡ said_by seats (words_of line.now) }
+    ensures { result ≡ said_by seats (words_in line.now) }
 {
     let Some((first, rest)) = next_word(line) else {
         return Ok(None);

@@ -4,7 +4,7 @@ use Rattle.std.proofs.lemmas.List.Sums.{sum_by-cons}
 use Rattle.std.specs.FinMap.{contains_key, get-empty}
 use Rattle.std.specs.Ordering.{nat_cmp}
 use Rattle.std.specs.Cmp.{unsigned_tied}
-use Rattle.nb_set.specs.Laws.{KeysAddUp, adds, came, removes, went}
+use Rattle.nb_set.specs.Laws.{KeysAddUp, adds_key, came, removes, went}
 use Rattle.nb_set.specs.Log.{Add, Call, Contains, Keys, Remove, reply_of, set_after, set_of_log}
 use Rattle.nb_set.proofs.Read.{keys-left, keys-put, same-key}
 
@@ -30,7 +30,7 @@ went-sums false s t same = refl
 -- one call more
 step :
     (keys : Keys) (k : ℕ) (call : Call)
-    → cond (adds k call && reply_of call keys) 1 0 + one (contains_key keys k) ≡ cond (removes k call && reply_of call keys) 1 0 + one (contains_key (set_after call keys) k)
+    → cond (adds_key k call && reply_of call keys) 1 0 + one (contains_key keys k) ≡ cond (removes k call && reply_of call keys) 1 0 + one (contains_key (set_after call keys) k)
 step keys k (Add j) =
     came-sums (k == j) (contains_key keys j) (contains_key keys k) (λ same. same-key keys j k (unsigned_tied k j ∙ same))
     ∙ ap (λ b. 0 + one b) (sym (keys-put keys j tt k ∙ ap (λ b. b || contains_key keys k) (unsigned_tied k j)))
@@ -44,7 +44,7 @@ pub keys_add_up : KeysAddUp
 keys_add_up [] replayed k = ap (λ b. 0 + one b) (sym (ap is_some (get-empty nat_cmp k)))
 keys_add_up (entry ∷ log) (reply, replayed) k =
     let before = keys_add_up log replayed k in
-    let here = subst (λ r. cond (adds k entry.call && r) 1 0 + one (contains_key (set_of_log log) k) ≡ cond (removes k entry.call && r) 1 0 + one (contains_key (set_after entry.call (set_of_log log)) k)) (sym reply) (step (set_of_log log) k entry.call) in
+    let here = subst (λ r. cond (adds_key k entry.call && r) 1 0 + one (contains_key (set_of_log log) k) ≡ cond (removes k entry.call && r) 1 0 + one (contains_key (set_after entry.call (set_of_log log)) k)) (sym reply) (step (set_of_log log) k entry.call) in
     omega (
       arith,
       before,

@@ -10,7 +10,7 @@ use Rattle.nb_map.specs.Ending as of_map
 use Rattle.nb_map.specs.Maps as maps
 use Rattle.nb_set.specs.Ending.{EndedOf, EndedWith, HasAll, log_left}
 use Rattle.nb_set.specs.OfMap.{call_as, entry_as, log_as}
-use Rattle.nb_set.specs.Sets.{AreMine, IsMine, SeatOf, SetOf, new_seats, number_of}
+use Rattle.nb_set.specs.Sets.{AreMine, IsMine, SeatOf, SetOf, new_seats, seat_number}
 use Rattle.nb_set.proofs.Read.{calls-as, read}
 
 -- a seat of a map as one of the set
@@ -39,7 +39,7 @@ has-all : (whole : List map_log.Entry) (seat : SeatOf) → of_map.HasAll whole s
 has-all whole seat has = record {
   later = log_as has.later;
   is = ap log_as has.is ∙ map-append entry_as has.later (map_log.log_of seat.map.chain.seen);
-  others = calls-as (number_of seat) has.later ∙ ap (map call_as) has.others;
+  others = calls-as (seat_number seat) has.later ∙ ap (map call_as) has.others;
 }
 
 pub ended-with : (seats : List SeatOf) (ended : EndedOf) → of_map.EndedWith (in-map seats) ended.map → EndedWith seats ended

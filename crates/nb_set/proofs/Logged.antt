@@ -10,7 +10,7 @@ use Rattle.nb_map.proofs.Theorems as theorems
 use Rattle.nb_set.specs.Laws.{LogsAddUp}
 use Rattle.nb_set.specs.Log.{Add, Call, Contains, Entry, Remove, calls_of}
 use Rattle.nb_set.specs.OfMap.{call_as, call_for, entry_as, log_as}
-use Rattle.nb_set.specs.Sets.{HasLogged, HasReplied, SeatOf, log, number_of}
+use Rattle.nb_set.specs.Sets.{HasLogged, HasReplied, SeatOf, log, seat_number}
 use Rattle.nb_set.proofs.Read.{calls-as, read}
 
 -- the log of a seat after calls of the map
@@ -22,7 +22,7 @@ logged-as {before} {after} {made} logged = record {
   later = log_as logged.later;
   grown = ap log_as logged.grown ∙ map-append entry_as logged.later (of_map.log before.map);
   replayed = (read (of_map.log after.map) logged.replayed).0;
-  own = calls-as (number_of before) logged.later ∙ ap (map call_as) logged.own;
+  own = calls-as (seat_number before) logged.later ∙ ap (map call_as) logged.own;
 }
 
 -- after one call, with the reply that the map gives for what was at the key
@@ -92,7 +92,7 @@ logged-then {before} a b = record {
   grown = b.grown ∙ ap (λ log. b.later ++ log) a.grown ∙ sym (append_assoc b.later a.later (log before));
   replayed = b.replayed;
   own =
-      calls-append (number_of before) b.later a.later
+      calls-append (seat_number before) b.later a.later
       ∙ ap₂ (λ xs ys. xs ++ ys) (ap (λ n. calls_of n b.later) (sym a.number) ∙ b.own) a.own;
 }
 

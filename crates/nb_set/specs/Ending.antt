@@ -3,7 +3,7 @@ use Rattle.std.specs.Prelude.{◌≡◌, ◌<◌, ◌==◌, ℕ, List, [], ◌++
 use Rattle.nb_map.specs.Ending as of_map
 use Rattle.nb_set.specs.Log.{Entry, IsReplayed, Keys, calls_of, set_of_log}
 use Rattle.nb_set.specs.OfMap.{log_as}
-use Rattle.nb_set.specs.Sets.{SeatOf, log, number_of}
+use Rattle.nb_set.specs.Sets.{SeatOf, log, seat_number}
 
 -- an ended set: the ended map that it was kept in
 pub record EndedOf : Type 0 where
@@ -21,12 +21,12 @@ set_left ended = set_of_log (log_left ended)
 pub record HasAll (whole : List Entry) (seat : SeatOf) : Type 0 where
   pub later : List Entry
   pub is : whole ≡ later ++ log seat
-  pub others : calls_of (number_of seat) later ≡ []
+  pub others : calls_of (seat_number seat) later ≡ []
 
 -- There is one log of all calls, and it is replayed. Each seat's log is a beginning of it with all the seat's calls; each number
 -- is one seat's, and each call one seat's.
 pub record EndedWith (seats : List SeatOf) (ended : EndedOf) : Type 0 where
   pub replayed : IsReplayed (log_left ended)
   pub logs : All (HasAll (log_left ended)) seats
-  pub once : (n : ℕ) → n < length seats → count_by (λ seat. number_of seat == n) seats ≡ 1
+  pub once : (n : ℕ) → n < length seats → count_by (λ seat. seat_number seat == n) seats ≡ 1
   pub made : All (λ entry. entry.seat < length seats) (log_left ended)

@@ -11,11 +11,11 @@ pub record LogsAddUp : Type 0 where
       {before between after : SeatOf} {made made' : List (Call × Bool)} → HasLogged before between made → HasLogged between after made'
       → HasLogged before after (made' ++ made)
 
--- whether the call adds the key, or removes it
-abbrev pub adds : ℕ → Call → Bool
-adds k (Add j) = k == j
-adds k (Remove j) = false
-adds k (Contains j) = false
+-- whether the call adds_key the key, or removes it
+abbrev pub adds_key : ℕ → Call → Bool
+adds_key k (Add j) = k == j
+adds_key k (Remove j) = false
+adds_key k (Contains j) = false
 
 abbrev pub removes : ℕ → Call → Bool
 removes k (Add j) = false
@@ -24,7 +24,7 @@ removes k (Contains j) = false
 
 -- whether the key came by the entry, or went by it
 abbrev pub came : ℕ → Entry → Bool
-came k entry = adds k entry.call && entry.reply
+came k entry = adds_key k entry.call && entry.reply
 
 abbrev pub went : ℕ → Entry → Bool
 went k entry = removes k entry.call && entry.reply

@@ -26,8 +26,8 @@ abbrev pub shape_of : SetOf → Plan
 shape_of set = set.map.chain.shape
 
 -- the number of the seat
-abbrev pub number_of : SeatOf → ℕ
-number_of seat = seat.map.chain.number
+abbrev pub seat_number : SeatOf → ℕ
+seat_number seat = seat.map.chain.number
 
 -- how many steps it has made on the tables
 abbrev pub steps_of : SeatOf → ℕ
@@ -45,11 +45,11 @@ log seat = log_as (of_map.log seat.map)
 
 -- The log has gone on. All of it is replayed, and of what is new just these calls are the seat's.
 pub record HasLogged (before after : SeatOf) (made : List (Call × Bool)) : Type 0 where
-  pub number : number_of after ≡ number_of before
+  pub number : seat_number after ≡ seat_number before
   pub later : List Entry
   pub grown : log after ≡ later ++ log before
   pub replayed : IsReplayed (log after)
-  pub own : calls_of (number_of before) later ≡ made
+  pub own : calls_of (seat_number before) later ≡ made
 
 -- the seat has made this one call, with this reply
 abbrev pub HasReplied : Call → (before after : SeatOf) → Bool → Type 0

@@ -29,7 +29,7 @@ HasEnded walk = walk.map.place ≡ End
 
 -- how many slots of the tables are still before a walk
 abbrev pub slots_before : SetOf → WalkOf → ℕ
-slots_before set walk = walks.slots_from (shape_of set) walk.map.place
+slots_before set walk = walks.slots_ahead (shape_of set) walk.map.place
 
 -- the most steps that a walk makes on its way from one place to another
 abbrev pub walking_steps : SetOf → (from to : WalkOf) → ℕ

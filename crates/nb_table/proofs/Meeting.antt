@@ -13,7 +13,7 @@ use Rattle.nb_core.specs.declared.events.Event.{Event}
 use Rattle.nb_table.specs.Chains.{Extended, SeenBy}
 use Rattle.nb_table.specs.Inside.{IsSeat, part_of, seat_of}
 use Rattle.nb_core.specs.Log.{IsBeginning}
-use Rattle.nb_table.specs.Views.{HasMoved, IsChained, Moves, joined, moved, noted, spent_view}
+use Rattle.nb_table.specs.Views.{HasMoved, IsChained, Moves, joined_views, moved, noted, spent_view}
 use Rattle.nb_table.specs.declared.chain.ChainSeat.TheInside as seat
 use Rattle.nb_table.specs.declared.view.Part.{Part}
 use Rattle.nb_table.specs.declared.view.View.{View}
@@ -38,18 +38,18 @@ pub notes : (p : Plan) (id : ℕ) (v : View) → Splits (IsChained p) id v v (no
 notes p id v = split-keeps p id v v (noted v) refl (λ h fits told. (told, noted-told h v fits told))
 
 -- one token takes in what another knows
-pub joins : (p : Plan) (id : ℕ) (v : View) (other : ℕ) (w : View) → Joins (IsChained p) id v other w (joined v w) spent_view
+pub joins : (p : Plan) (id : ℕ) (v : View) (other : ℕ) (w : View) → Joins (IsChained p) id v other w (joined_views v w) spent_view
 joins p id v other w s rule at differs other_at =
-    kept p s (slice_set (slice_set s.views id (joined v w)) other spent_view) rule
-    (all-joined (λ view. view.parts) s.views id v other w (joined v w) spent_view at differs
+    kept p s (slice_set (slice_set s.views id (joined_views v w)) other spent_view) rule
+    (all-joined (λ view. view.parts) s.views id v other w (joined_views v w) spent_view at differs
     other_at refl refl)
-    (All-set (IsTold rule.history) (slice_set s.views id (joined v w)) other spent_view
-    (All-nil (λ seen. IsBeginning seen rule.history)) (All-set (IsTold rule.history) s.views id (joined v w) told rule.told))
+    (All-set (IsTold rule.history) (slice_set s.views id (joined_views v w)) other spent_view
+    (All-nil (λ seen. IsBeginning seen rule.history)) (All-set (IsTold rule.history) s.views id (joined_views v w) told rule.told))
   where
     before : get_elem? s.views other ≡ some w
-    before = sym (set_else s.views id other (joined v w) differs) ∙ other_at
+    before = sym (set_else s.views id other (joined_views v w) differs) ∙ other_at
 
-    told : IsTold rule.history (joined v w)
+    told : IsTold rule.history (joined_views v w)
     told =
         All-append (λ seen. IsBeginning seen rule.history) v.told w.told
         (All-at (IsTold rule.history) s.views id v at rule.told) (All-at (IsTold rule.history) s.views other w before rule.told)
@@ -65,13 +65,13 @@ pub record HasMet (p : Plan) (before other after : seat.Inside) : Type 0 where
 -- what the token knows that took in the other's note
 pub joined-me :
     (before other own note me : Me (Unit {0}) View) → own ≡ before → note ≡ (noted other.0, [])
-    → me ≡ (joined own.0 note.0, own.1) → me ≡ (joined before.0 (noted other.0), before.1)
-joined-me before other own note me own_is note_is me_is = me_is ∙ (λ i. (joined ((own_is i).0) ((note_is i).0), (own_is i).1))
+    → me ≡ (joined_views own.0 note.0, own.1) → me ≡ (joined_views before.0 (noted other.0), before.1)
+joined-me before other own note me own_is note_is me_is = me_is ∙ (λ i. (joined_views ((own_is i).0) ((note_is i).0), (own_is i).1))
 
 pub met :
     (p : Plan) (before other after : seat.Inside) (me : Me (Unit {0}) View) (found : ℕ) → IsSeat before → IsSeat other
     → after.seat.table_id ≡ before.seat.table_id
-    → me ≡ (joined before.seat.me.0 (noted other.seat.me.0), before.seat.me.1) → Moves p (λ _. []) 0 me found after.seat.me
+    → me ≡ (joined_views before.seat.me.0 (noted other.seat.me.0), before.seat.me.1) → Moves p (λ _. []) 0 me found after.seat.me
     → HasMet p before other after
 met p before other after me found is_seat other_seat table me_is heard = record {
   seat = record {

@@ -60,8 +60,8 @@ abbrev pub noted : View → View
 noted v = record { parts = []; told = map (λ part. part.seen) v.parts ++ v.told }
 
 -- what two tokens know together
-abbrev pub joined : View → View → View
-joined v w = record { parts = v.parts ++ w.parts; told = v.told ++ w.told }
+abbrev pub joined_views : View → View → View
+joined_views v w = record { parts = v.parts ++ w.parts; told = v.told ++ w.told }
 
 -- a token that knows nothing any more
 abbrev pub spent_view : View

@@ -82,9 +82,9 @@ impl Split<View> for Note {
 pub(crate) struct Learn;
 
 impl Join<View> for Learn {
-    ghost use Rattle.nb_table.specs.Views.{joined, spent_view};
+    ghost use Rattle.nb_table.specs.Views.{joined_views, spent_view};
 
-    ghost both = { joined };
+    ghost both = { joined_views };
 
     ghost spent = { spent_view };
 }

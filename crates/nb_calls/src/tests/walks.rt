@@ -1,7 +1,7 @@
 //! Walks: what they show while nothing else goes on, and beside threads that write.
 ghost use Rattle.std.specs.Prelude.{◌<◌, All, IfOk, IfSome};
 ghost use Rattle.nb_map.specs.Maps.{AreMine, IsMine};
-ghost use Rattle.nb_map.specs.Walks.{IsWalkOf, slots_from};
+ghost use Rattle.nb_map.specs.Walks.{IsWalkOf, slots_ahead};
 
 use super::on_map::*;
 use nb_core::OutOfMemory;
@@ -19,7 +19,7 @@ fn next(map: &Map, seat: &mut Seat, walk: &mut Walk) -> Option<(u64, u64)>
     requires walk { IsWalkOf map.now seat.old walk.old }
     ensures own { IsMine map.now seat.new }
     ensures walk { IsWalkOf map.now seat.new walk.new }
-    ensures ahead { IfSome result (λ pair. slots_from map.now.chain.shape walk.new.place < slots_from map.now.chain.shape walk.old.place) }
+    ensures ahead { IfSome result (λ pair. slots_ahead map.now.chain.shape walk.new.place < slots_ahead map.now.chain.shape walk.old.place) }
 {
     let (key, number) = map.next_key(seat, walk)?;
     Some((key.get(), number.get()))

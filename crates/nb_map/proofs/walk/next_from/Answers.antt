@@ -3,7 +3,7 @@ use Rattle.std.proofs.Math.Nat.{le_refl}
 use Rattle.std.specs.Option.{IfSome, is_some}
 use Rattle.nb_core.specs.Plans.{generations_of}
 use Rattle.nb_table.specs.Chains.{seen_by}
-use Rattle.nb_map.specs.Walks.{HasGone, IsPlace, passing_steps, slot_steps, slots_from}
+use Rattle.nb_map.specs.Walks.{HasGone, IsPlace, passing_steps, visit_steps, slots_ahead}
 use Rattle.nb_map.specs.declared.walk.Place.TheVariants.{Slot}
 use Rattle.nb_map.proofs.Made.{made-own, made-stays}
 use Rattle.nb_map.proofs.Passing.{slots-fall, stretch-steps, ways-add}
@@ -19,7 +19,7 @@ loop-place-init c =
       gone-within chain 0 (passing_steps p c.args.place.now c.args.place.now) (omega arith)
           (gone-none chain c.args.seat.now c.requires.own c.args.first c.args.place.now),
       c.requires.place,
-      le_refl (slots_from p c.args.place.now),
+      le_refl (slots_ahead p c.args.place.now),
     )
 
 pub next_in-to-requires-clause-own : goal.next_in-to-requires-clause-own
@@ -65,15 +65,15 @@ table c =
     table-within chain c.loop-place.seat (made-own chain c.requires.own (c.loop-place.invariant.0.made 0)) c.in-Slot.g (was c).1
 
 -- there are fewer slots before it now
-fewer : (c : After-place_from) → slots_from c.args.chain.now.shape c.place_from.result < slots_from c.args.chain.now.shape (Slot c.in-Slot.g c.in-Slot.from)
+fewer : (c : After-place_from) → slots_ahead c.args.chain.now.shape c.place_from.result < slots_ahead c.args.chain.now.shape (Slot c.in-Slot.g c.in-Slot.from)
 fewer c =
     let p = c.args.chain.now.shape in
     let fall = slots-fall p c.in-Slot.g c.in-Slot.from c.next_in-to.result.to (table c) c.next_in-to.ensures.onward c.next_in-to.ensures.within in
     omega (arith, fall, c.place_from.ensures.slots)
 
-no-more : (c : After-place_from) → slots_from c.args.chain.now.shape (Slot c.in-Slot.g c.in-Slot.from) ≤ slots_from c.args.chain.now.shape c.args.place.now
+no-more : (c : After-place_from) → slots_ahead c.args.chain.now.shape (Slot c.in-Slot.g c.in-Slot.from) ≤ slots_ahead c.args.chain.now.shape c.args.place.now
 no-more c =
-    let p = c.args.chain.now.shape in subst (λ place. slots_from p place ≤ slots_from p c.args.place.now) c.in-Slot.is c.loop-place.invariant.2
+    let p = c.args.chain.now.shape in subst (λ place. slots_ahead p place ≤ slots_ahead p c.args.place.now) c.in-Slot.is c.loop-place.invariant.2
 
 -- the way from where the call began
 gone : (c : After-place_from)
@@ -90,7 +90,7 @@ gone c =
     let is_first = first-still chain c.requires.own c.requires.first (c.loop-place.invariant.0.made 0) in
     let steps = stretch-steps p g from to place (table c) c.next_in-to.ensures.onward c.next_in-to.ensures.within c.place_from.ensures.slots in
     let stretch =
-    gone-within chain ((to - from) * slot_steps p + 1) (passing_steps p (Slot g from) place) steps
+    gone-within chain ((to - from) * visit_steps p + 1) (passing_steps p (Slot g from) place) steps
     (gone-then chain own is_first c.next_in-to.ensures.gone c.place_from.ensures.made (c.place_from.ensures.passed c.args.first)) in
     let so_far =
     subst (λ place. HasGone p c.args.seat.now c.loop-place.seat c.args.first c.args.place.now place None (passing_steps p c.args.place.now place))
@@ -122,7 +122,7 @@ returns-then-is_some-clause-ahead c =
 pub loop-place-smaller : goal.loop-place-smaller
 loop-place-smaller c =
     let p = c.args.chain.now.shape in
-    subst (λ place. slots_from p c.place_from.result < slots_from p place) (sym c.in-Slot.is) (fewer (goal.at.loop-place-smaller c).After-place_from)
+    subst (λ place. slots_ahead p c.place_from.result < slots_ahead p place) (sym c.in-Slot.is) (fewer (goal.at.loop-place-smaller c).After-place_from)
 
 -- what isn't some is none
 none-of : (shown : Option (ℕ × ℕ)) → is_some shown ≡ false → shown ≡ None

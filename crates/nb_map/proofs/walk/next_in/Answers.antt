@@ -1,9 +1,9 @@
 use Rattle.std.proofs.Common.{◌≡◌, ◌≢◌, ℕ, ◌+◌, ◌-◌, ◌*◌, Option, None, Some, refl, sym, subst, arith}
 use Rattle.nb_core.specs.declared.calls.Call.TheVariants as call
 use Rattle.nb_core.proofs.Theorems.{place_is}
-use Rattle.nb_map.specs.Calling.{HasMade, replied}
+use Rattle.nb_map.specs.Calling.{HasMade, as_replied}
 use Rattle.nb_map.specs.Looking.{get_steps}
-use Rattle.nb_map.specs.Walks.{HasGone, IsFirstOf, slot_steps}
+use Rattle.nb_map.specs.Walks.{HasGone, IsFirstOf, visit_steps}
 use Rattle.nb_map.specs.declared.walk.Place.TheVariants.{Slot}
 use Rattle.nb_map.proofs.Made.{made-own}
 use Rattle.nb_map.proofs.Passing.{gone-found, gone-missed, gone-on, gone-skipped}
@@ -13,7 +13,7 @@ use Rattle.nb_map.proofs.walk.next_in.Goals.{in-Some+in_default-get_at, in_defau
 
 pub loop-i-init : goal.loop-i-init
 loop-i-init c =
-    gone-within c.args.chain.now 0 ((c.args.from - c.args.from) * slot_steps c.args.chain.now.shape) (omega arith)
+    gone-within c.args.chain.now 0 ((c.args.from - c.args.from) * visit_steps c.args.chain.now.shape) (omega arith)
     (gone-none c.args.chain.now c.args.seat.now c.requires.own c.args.first (Slot c.args.g c.args.from))
 
 pub first_seen-requires-clause-own : goal.first_seen-requires-clause-own
@@ -56,9 +56,9 @@ loop-i-preserved c =
       | in-Some+in_default-get_at w ↦
           let none = none-of w.get_at.result w.in_default-get_at.not-Some in
           let read =
-          subst (λ number. HasMade p (call.Get w.in-Some.key) c.first_seen.new.seat w.get_at.new.seat (replied (call.Get w.in-Some.key) number) (get_steps p))
+          subst (λ number. HasMade p (call.Get w.in-Some.key) c.first_seen.new.seat w.get_at.new.seat (as_replied (call.Get w.in-Some.key) number) (get_steps p))
           none w.get_at.ensures.made in
-          subst (λ seat. HasGone p c.args.seat.now seat c.args.first (Slot c.args.g c.args.from) (Slot c.args.g (c.loop-i.i + 1)) None ((c.loop-i.i + 1 - c.args.from) * slot_steps p))
+          subst (λ seat. HasGone p c.args.seat.now seat c.args.first (Slot c.args.g c.args.from) (Slot c.args.g (c.loop-i.i + 1)) None ((c.loop-i.i + 1 - c.args.from) * visit_steps p))
           (sym w.seat-is)
           (gone-on chain c.args.first c.args.g c.loop-i.i c.requires.table c.args.from c.loop-i.auto.i c.requires.own c.requires.first
           c.loop-i.invariant
@@ -66,7 +66,7 @@ loop-i-preserved c =
       | in_default w ↦
           let none = none-of c.first_seen.result w.in_default.not-Some in
           let skipped = subst (IsFirstOf p c.first_seen.new.seat c.args.first c.args.g c.loop-i.i) none c.first_seen.ensures.first in
-          subst (λ seat. HasGone p c.args.seat.now seat c.args.first (Slot c.args.g c.args.from) (Slot c.args.g (c.loop-i.i + 1)) None ((c.loop-i.i + 1 - c.args.from) * slot_steps p))
+          subst (λ seat. HasGone p c.args.seat.now seat c.args.first (Slot c.args.g c.args.from) (Slot c.args.g (c.loop-i.i + 1)) None ((c.loop-i.i + 1 - c.args.from) * visit_steps p))
           (sym w.seat-is)
           (gone-on chain c.args.first c.args.g c.loop-i.i c.requires.table c.args.from c.loop-i.auto.i c.requires.own c.requires.first
           c.loop-i.invariant

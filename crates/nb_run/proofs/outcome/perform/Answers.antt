@@ -4,7 +4,7 @@ use Rattle.nb_map.specs.Ending.{EndedWith, HasTablesLeft}
 use Rattle.nb_map.specs.Maps.{IsMine}
 use Rattle.nb_map.specs.Maps as maps
 use Rattle.nb_run.specs.Outcomes.{IsOutcome}
-use Rattle.nb_run.specs.Working.{phases_in, seats_of}
+use Rattle.nb_run.specs.Working.{phases_in, worker_seats}
 use Rattle.nb_run.specs.declared.outcome.Outcome.{Outcome}
 use Rattle.nb_run.proofs.OutcomeLemmas.{is-outcome, run-all, run-mine, workers-mine}
 use Rattle.nb_run.proofs.outcome.perform.Goals as goal
@@ -16,7 +16,7 @@ run_phases-requires-clause-own g c κs within =
 pub finish-requires : goal.finish-requires
 finish-requires g c = record {
   own =
-      All-same (IsMine c.in_ok-map.map) c.in_ok-seats.seats.items (seats_of c.in_ok-ran.ran.items) c.in_ok-seats.ensures.seats
+      All-same (IsMine c.in_ok-map.map) c.in_ok-seats.seats.items (worker_seats c.in_ok-ran.ran.items) c.in_ok-seats.ensures.seats
       (run-mine c.in_ok-map.map (phases_in c.args.phases.now) c.in_ok-workers.workers.items c.in_ok-ran.ran.items c.in_ok-ran.ensures.ran);
 }
 

@@ -4,7 +4,7 @@ use Rattle.std.specs.Vec.{with_items}
 use Rattle.std.proofs.lemmas.List.{length-append}
 use Rattle.std.proofs.lemmas.List.Elements.{length_all_zip}
 use Rattle.nb_map.specs.Maps.{IsMine}
-use Rattle.nb_run.specs.Working.{HasMetAs, seats_of}
+use Rattle.nb_run.specs.Working.{HasMetAs, worker_seats}
 use Rattle.nb_run.proofs.Meeting.{all-met, kept-back}
 use Rattle.nb_run.proofs.Together.{all-zip-right}
 use Rattle.nb_run.proofs.workers.+meet_all.Goals as goal
@@ -41,7 +41,7 @@ push_reserved-requires t c =
       arith,
       ap length (kept-back m (last.seat ∷ []) c.pop.new.self before between c.as_mut_slice.ensures.len each),
       length_all_zip (HasMetAs m (last.seat ∷ [])) before between each,
-      length_all_zip (HasMetAs m (seats_of back)) back c.meet_all-workers.result.items c.meet_all-workers.ensures.met,
+      length_all_zip (HasMetAs m (worker_seats back)) back c.meet_all-workers.result.items c.meet_all-workers.ensures.met,
       c.as_mut_slice.ensures.len,
       ap length c.in-Some.ensures.items,
       length-append c.pop.new.self.items (last ∷ []),
@@ -62,8 +62,8 @@ returns-clause-met t c =
     let after = c.meet_all-workers.result.items in
     let each = c.meet_each.ensures.others in
     let items = c.in-Some.ensures.items ∙ ap (λ ws. ws ++ last ∷ []) (sym c.as_mut_slice.ensures.value) in
-    subst₂ (λ ws us. AllZip (HasMetAs m (seats_of ws)) ws us) (sym items) (sym c.push_reserved.ensures.items)
+    subst₂ (λ ws us. AllZip (HasMetAs m (worker_seats ws)) ws us) (sym items) (sym c.push_reserved.ensures.items)
     (all-met m before between after last c.meet_each.new.seat
     c.meet_each.ensures.own c.meet_each.ensures.met each
-    (subst (λ vs. AllZip (HasMetAs m (seats_of vs)) vs after)
+    (subst (λ vs. AllZip (HasMetAs m (worker_seats vs)) vs after)
     (kept-back m (last.seat ∷ []) c.pop.new.self before between c.as_mut_slice.ensures.len each) c.meet_all-workers.ensures.met))

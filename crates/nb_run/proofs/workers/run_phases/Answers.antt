@@ -1,14 +1,14 @@
 use Rattle.std.proofs.Common.{All, subst, sym}
 use Rattle.std.specs.List.{AllZip}
 use Rattle.nb_map.specs.Maps.{IsMine}
-use Rattle.nb_run.specs.Working.{IsReady, IsRun}
+use Rattle.nb_run.specs.Working.{IsReadyFor, IsRun}
 use Rattle.nb_run.proofs.PhaseLemmas.{some-done, some-more, some-ready}
 use Rattle.nb_run.proofs.Together.{all-zip-right}
 use Rattle.nb_run.proofs.workers.run_phases.Goals as goal
 
 pub run_phase-requires-clause-ready : goal.run_phase-requires-clause-ready
 run_phase-requires-clause-ready g c κs within =
-    subst (λ phase. All (IsReady c.args.map.now phase) c.loop-phase.workers.items) (sym c.as_slice.ensures.value)
+    subst (λ phase. All (IsReadyFor c.args.map.now phase) c.loop-phase.workers.items) (sym c.as_slice.ensures.value)
     (some-ready c.args.map.now c.args.phases.now c.loop-phase.phase-index c.phase-item.result c.args.workers.items
     c.loop-phase.workers.items c.loop-phase-test.true c.phase-item.is c.loop-phase.invariant)
 

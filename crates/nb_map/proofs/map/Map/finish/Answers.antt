@@ -3,19 +3,19 @@ use Rattle.std.proofs.lemmas.List.{length-map}
 use Rattle.std.proofs.lemmas.List.Elements.{All-weaker}
 use Rattle.nb_map.proofs.Paired.{own-chains, own-counts}
 use Rattle.nb_map.proofs.Sizes.{AreGathered, ended-with, is-ended, seen}
-use Rattle.nb_map.specs.Inside.{map_of}
+use Rattle.nb_map.specs.Inside.{map_within}
 use Rattle.nb_map.specs.Maps.{AreMine, HasCounted, IsMine}
 use Rattle.nb_map.proofs.map.Map.finish.Goals as goal
 
 pub close-requires : goal.close-requires
 close-requires c =
     let mine = subst (λ m. AreMine m c.args.seats.items) (sym c.self.view_is) c.requires.own in
-    record { own = own-chains (map_of c.self.inside) _ _ _ c.parted-chain_seats.ensures mine }
+    record { own = own-chains (map_within c.self.inside) _ _ _ c.parted-chain_seats.ensures mine }
 
 pub close-requires-2 : goal.close-requires-2
 close-requires-2 c =
     let mine = subst (λ m. AreMine m c.args.seats.items) (sym c.self.view_is) c.requires.own in
-    record { own = own-counts (map_of c.self.inside) _ _ _ c.parted-chain_seats.ensures mine }
+    record { own = own-counts (map_within c.self.inside) _ _ _ c.parted-chain_seats.ensures mine }
 
 -- what is known of the seats, once both are closed
 gathered :
