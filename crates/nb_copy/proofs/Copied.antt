@@ -24,10 +24,13 @@ slots-others :
 slots-others p number g [] h not_own = refl
 slots-others p number g (e ∷ others) h not_own =
     let P : Event → Type 0 = λ e. seat_of_event e ≢ number in
-    rw (ne_eqb (seat_of_event e) number (All-head P e others not_own)) (slots-others p number g others h (All-tail P e others not_own))
+    rw (ne_eqb (seat_of_event e) number (All-head P e others not_own))
+    (slots-others p number g others h (All-tail P e others not_own))
 
 -- no step
-pub copied-none : (chain : ChainOf) (g : ℕ) (seat : SeenBy) → IsOwn chain seat → HasCopied chain.shape g seat seat [] 0 0 0
+pub copied-none :
+    (chain : ChainOf) (g : ℕ) (seat : SeenBy) → IsOwn chain seat
+    → HasCopied chain.shape g seat seat [] 0 0 0
 copied-none chain g seat own = record {
   own = [];
   count = 0;
@@ -41,7 +44,8 @@ copied-none chain g seat own = record {
 
 module _ (p : Plan) (g : ℕ) where
   -- a step without an event
-  pub copied-quiet : (before after : SeenBy) → Extended p before after [] 1 → HasCopied p g before after [] 0 0 1
+  pub copied-quiet : (before after : SeenBy) → Extended p before after [] 1
+      → HasCopied p g before after [] 0 0 1
   copied-quiet before after step = record {
     own = [];
     count = 1;
@@ -60,30 +64,37 @@ module _ (p : Plan) (g : ℕ) where
 
   -- a step with an event
   pub copied-one :
-      (before after : SeenBy) (e : Event) (slots : List ℕ) (chunks adding : ℕ) → Extended p before after (e ∷ []) 1
-      → IsCopying p (seen_by p after) g e → slot_in g (turned_slot p (drop 1 after.seen) e) ≡ slots → length (filter is_take (e ∷ [])) ≡ chunks
+      (before after : SeenBy) (e : Event) (slots : List ℕ) (chunks adding : ℕ)
+      → Extended p before after (e ∷ []) 1
+      → IsCopying p (seen_by p after) g e → slot_in g (turned_slot p (drop 1 after.seen) e) ≡ slots
+      → length (filter is_take (e ∷ [])) ≡ chunks
       → counts e before.number g ≡ adding → HasCopied p g before after slots chunks adding 1
   copied-one before after e slots chunks adding step copying turned taken counted =
       let met = step.others ++ before.seen in
-      let mine : seat_of_event e ≡ before.number = All-head (λ x. seat_of_event x ≡ before.number) e [] step.mine in
+      let mine : seat_of_event e ≡ before.number =
+      All-head (λ x. seat_of_event x ≡ before.number) e [] step.mine in
       record {
         own = e ∷ [];
         count = 1;
         grown = steps_add_up.one step;
-        copying = All-cons (IsCopying p (seen_by p after) g) e [] copying (All-nil (IsCopying p (seen_by p after) g));
+        copying = All-cons (IsCopying p (seen_by p after) g) e [] copying
+            (All-nil (IsCopying p (seen_by p after) g));
         turned =
             ap (λ h. slots_turned p h before.number g) step.seen
-            ∙ ap (λ b. cond b (slot_in g (turned_slot p met e)) [] ++ slots_turned p met before.number g)
+            ∙ ap (λ b. cond b (slot_in g (turned_slot p met e)) []
+            ++ slots_turned p met before.number g)
             (eq-eqb (seat_of_event e) before.number mine)
             ∙ ap (λ here. here ++ slots_turned p met before.number g)
             (ap (λ h. slot_in g (turned_slot p (drop 1 h) e)) (sym step.seen) ∙ turned)
-            ∙ ap (λ rest. slots ++ rest) (slots-others p before.number g step.others before.seen step.not_own);
+            ∙ ap (λ rest. slots ++ rest) (slots-others p before.number g step.others before.seen
+            step.not_own);
         taken = taken;
         counted =
             ap (λ h. counted_by h before.number g) step.seen
             ∙ ap (λ n. n + counted_by met before.number g) counted
             ∙ swap adding (counted_by met before.number g)
-            ∙ ap (λ n. n + adding) ((own_lasts p step.others before.seen before.number step.not_own).counted g);
+            ∙ ap (λ n. n + adding)
+            ((own_lasts p step.others before.seen before.number step.not_own).counted g);
         few = omega arith;
       }
     where
@@ -94,8 +105,10 @@ module _ (p : Plan) (g : ℕ) where
 
 -- more steps may be allowed than were made
 pub copied-within :
-    {p : Plan} {g : ℕ} {before after : SeenBy} {slots : List ℕ} {chunks adding : ℕ} (most most' : ℕ) → most ≤ most'
-    → HasCopied p g before after slots chunks adding most → HasCopied p g before after slots chunks adding most'
+    {p : Plan} {g : ℕ} {before after : SeenBy} {slots : List ℕ} {chunks adding : ℕ} (most most' : ℕ)
+    → most ≤ most'
+    → HasCopied p g before after slots chunks adding most
+    → HasCopied p g before after slots chunks adding most'
 copied-within most most' below copied = record {
   own = copied.own;
   count = copied.count;
@@ -108,8 +121,11 @@ copied-within most most' below copied = record {
 }
 
 -- an event of copying is one still
-copying-lasts : (p : Plan) (g : ℕ) (t u : Tables) → g < generations_of p → Lasts p t u → (e : Event) → IsCopying p t g e → IsCopying p u g e
-copying-lasts p g t u table lasting (Claim s f i k) copying = (copying.0, lasting.has_slot g k table copying.1)
+copying-lasts :
+    (p : Plan) (g : ℕ) (t u : Tables) → g < generations_of p → Lasts p t u → (e : Event)
+    → IsCopying p t g e → IsCopying p u g e
+copying-lasts p g t u table lasting (Claim s f i k) copying =
+    (copying.0, lasting.has_slot g k table copying.1)
 copying-lasts p g t u table lasting (Kill s f i) copying = copying
 copying-lasts p g t u table lasting (Won s f i a b c r) copying = copying
 copying-lasts p g t u table lasting (CopyIn s f i k n) copying = copying
@@ -141,29 +157,37 @@ module _ (chain : ChainOf) (g : ℕ) (table : g < generations_of chain.shape) wh
 
   -- some copying after other
   pub copied-more :
-      {before then after : SeenBy} {slots slots' : List ℕ} {chunks chunks' adding adding' most most' : ℕ} → IsOwn chain then
-      → HasCopied p g before then slots chunks adding most → HasCopied p g then after slots' chunks' adding' most'
-      → HasCopied p g before after (slots' ++ slots) (chunks + chunks') (adding + adding') (most + most')
-  copied-more {before} {then} {after} {slots} {slots'} {chunks} {chunks'} {adding} {adding'} own a b = record {
-    own = b.own ++ a.own;
-    count = a.count + b.count;
-    grown = steps_add_up.more a.grown b.grown;
-    copying = All-append (IsCopying p (seen_by p after) g) b.own a.own b.copying
-        (All-weaker (IsCopying p (seen_by p then) g) (IsCopying p (seen_by p after) g)
-        (copying-lasts p g (seen_by p then) (seen_by p after) table (steps_add_up.stays own b.grown)) a.own a.copying);
-    turned =
-        ap (λ n. slots_turned p after.seen n g) (sym a.grown.number) ∙ b.turned
-        ∙ ap (λ n. slots' ++ slots_turned p then.seen n g) a.grown.number
-        ∙ ap (λ rest. slots' ++ rest) a.turned ∙ sym (append_assoc slots' slots (slots_turned p before.seen before.number g));
-    taken =
-        ap length (filter-append is_take b.own a.own) ∙ length-append (filter is_take b.own) (filter is_take a.own)
-        ∙ sums _ _ chunks chunks' a.taken b.taken;
-    counted =
-        ap (λ n. counted_by after.seen n g) (sym a.grown.number) ∙ b.counted
-        ∙ ap (λ n. counted_by then.seen n g + adding') a.grown.number ∙ ap (λ n. n + adding') a.counted
-        ∙ add-assoc (counted_by before.seen before.number g) adding adding';
-    few = omega (arith, a.few, b.few);
-  }
+      {before then after : SeenBy} {slots slots' : List ℕ}
+      {chunks chunks' adding adding' most most' : ℕ} → IsOwn chain then
+      → HasCopied p g before then slots chunks adding most
+      → HasCopied p g then after slots' chunks' adding' most'
+      → HasCopied p g before after (slots' ++ slots) (chunks + chunks') (adding + adding')
+      (most + most')
+  copied-more {before} {then} {after} {slots} {slots'} {chunks} {chunks'} {adding} {adding'}
+      own a b = record {
+        own = b.own ++ a.own;
+        count = a.count + b.count;
+        grown = steps_add_up.more a.grown b.grown;
+        copying = All-append (IsCopying p (seen_by p after) g) b.own a.own b.copying
+            (All-weaker (IsCopying p (seen_by p then) g) (IsCopying p (seen_by p after) g)
+            (copying-lasts p g (seen_by p then) (seen_by p after) table
+            (steps_add_up.stays own b.grown)) a.own a.copying);
+        turned =
+            ap (λ n. slots_turned p after.seen n g) (sym a.grown.number) ∙ b.turned
+            ∙ ap (λ n. slots' ++ slots_turned p then.seen n g) a.grown.number
+            ∙ ap (λ rest. slots' ++ rest) a.turned
+            ∙ sym (append_assoc slots' slots (slots_turned p before.seen before.number g));
+        taken =
+            ap length (filter-append is_take b.own a.own)
+            ∙ length-append (filter is_take b.own) (filter is_take a.own)
+            ∙ sums _ _ chunks chunks' a.taken b.taken;
+        counted =
+            ap (λ n. counted_by after.seen n g) (sym a.grown.number) ∙ b.counted
+            ∙ ap (λ n. counted_by then.seen n g + adding') a.grown.number
+            ∙ ap (λ n. n + adding') a.counted
+            ∙ add-assoc (counted_by before.seen before.number g) adding adding';
+        few = omega (arith, a.few, b.few);
+      }
     where
       add-assoc : (a b c : ℕ) → a + b + c ≡ a + (b + c)
       add-assoc a b c = omega arith
@@ -173,7 +197,10 @@ module _ (chain : ChainOf) (g : ℕ) (table : g < generations_of chain.shape) wh
 
   -- some copying after steps that turned no slot
   pub copied-then :
-      {before then after : SeenBy} {slots : List ℕ} {most most' : ℕ} → IsOwn chain before → HasCopied p g before then [] 0 0 most
-      → HasCopied p g then after slots 0 0 most' → HasCopied p g before after slots 0 0 (most + most')
+      {before then after : SeenBy} {slots : List ℕ} {most most' : ℕ} → IsOwn chain before
+      → HasCopied p g before then [] 0 0 most
+      → HasCopied p g then after slots 0 0 most'
+      → HasCopied p g before after slots 0 0 (most + most')
   copied-then {before} {then} {after} {slots} {most} {most'} own a b =
-      subst (λ all. HasCopied p g before after all 0 0 (most + most')) (append-nil slots) (copied-more (copied-own own a) a b)
+      subst (λ all. HasCopied p g before after all 0 0 (most + most')) (append-nil slots)
+      (copied-more (copied-own own a) a b)

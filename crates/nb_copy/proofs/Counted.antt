@@ -34,25 +34,31 @@ byte-small false = omega arith
 
 -- what a seat has turned, and not counted, it may count
 pub may-count :
-    (chain : ChainOf) {before after : SeenBy} {slots : List ℕ} {chunks most : ℕ} → IsOwn chain before → (g : ℕ) → g < generations_of chain.shape → HasCopied chain.shape g before after slots chunks 0 most
-    → counted_by after.seen after.number g + length slots ≤ turned_by chain.shape after.seen after.number g
+    (chain : ChainOf) {before after : SeenBy} {slots : List ℕ} {chunks most : ℕ}
+    → IsOwn chain before → (g : ℕ) → g < generations_of chain.shape
+    → HasCopied chain.shape g before after slots chunks 0 most
+    → counted_by after.seen after.number g + length slots
+    ≤ turned_by chain.shape after.seen after.number g
 may-count chain {before} {after} {slots} own g table copied =
     let p = chain.shape in
     let once = counted p own.plan before.seen own.legal g table in
-    let turned : turned_by p after.seen after.number g ≡ length slots + turned_by p before.seen before.number g
+    let turned : turned_by p after.seen after.number g
+    ≡ length slots + turned_by p before.seen before.number g
     = ap (λ n. turned_by p after.seen n g) copied.grown.number ∙ ap length copied.turned
     ∙ length-append slots (slots_turned p before.seen before.number g) in
     let now : counted_by after.seen after.number g ≡ counted_by before.seen before.number g + 0
     = ap (λ n. counted_by after.seen n g) copied.grown.number ∙ copied.counted in
     fits _ _ _ _ _ turned now (once.own before.number)
   where
-    fits : (now turned_now was turned_was new : ℕ) → turned_now ≡ new + turned_was → now ≡ was + 0 → was ≤ turned_was → now + new ≤ turned_now
+    fits : (now turned_now was turned_was new : ℕ) → turned_now ≡ new + turned_was → now ≡ was + 0
+        → was ≤ turned_was → now + new ≤ turned_now
     fits now turned_now was turned_was new is is' below = omega (arith, is, is', below)
 
 -- where the count has come to the size, all slots are finished
 pub all-counted :
     (chain : ChainOf) (seat : SeenBy) → IsOwn chain seat → (g : ℕ)
-    → g < generations_of chain.shape → (seen_by chain.shape seat).counted g ≡ size_of chain.shape g → IsComplete chain.shape (seen_by chain.shape seat) g
+    → g < generations_of chain.shape → (seen_by chain.shape seat).counted g ≡ size_of chain.shape g
+    → IsComplete chain.shape (seen_by chain.shape seat) g
 all-counted chain seat own g table =
     (counted chain.shape own.plan seat.seen own.legal g table).whole
 
@@ -60,25 +66,35 @@ all-counted chain seat own g table =
 
 module _ (p : Plan) (g : ℕ) where
   -- a step that takes a chunk
-  pub copied-take : (before after : SeenBy) → Extended p before after (Take before.number g ∷ []) 1 → HasCopied p g before after [] 1 0 1
-  copied-take before after step = copied-one p g before after (Take before.number g) [] 1 0 step refl refl refl refl
+  pub copied-take : (before after : SeenBy) → Extended p before after (Take before.number g ∷ []) 1
+      → HasCopied p g before after [] 1 0 1
+  copied-take before after step = copied-one p g before after (Take before.number g)
+      [] 1 0 step refl refl refl refl
 
   -- a step that counts
   pub copied-count :
-      (before after : SeenBy) (c : ℕ) → Extended p before after (Count before.number g c ∷ []) 1 → HasCopied p g before after [] 0 c 1
+      (before after : SeenBy) (c : ℕ) → Extended p before after (Count before.number g c ∷ []) 1
+      → HasCopied p g before after [] 0 c 1
   copied-count before after c step =
       copied-one p g before after (Count before.number g c) [] 0 c step refl refl refl
-      (ap (λ b. cond (b && (g == g)) c 0) (eq-eqb before.number before.number refl) ∙ ap (λ b. cond b c 0) (eq-eqb g g refl))
+      (ap (λ b. cond (b && (g == g)) c 0) (eq-eqb before.number before.number refl)
+      ∙ ap (λ b. cond b c 0) (eq-eqb g g refl))
 
   -- a step that raises the top word, or finds it high enough
   pub copied-promote :
-      (before after : SeenBy) (top : ℕ) → (top ≤ g → Extended p before after (Promote before.number g ∷ []) 1 × ((seen_by p after).top ≡ suc g))
-      → (g < top → Extended p before after [] 1 × ((seen_by p after).top ≡ top)) → HasCopied p g before after [] 0 0 1 × (g < (seen_by p after).top)
+      (before after : SeenBy) (top : ℕ) → (top ≤ g
+      → Extended p before after (Promote before.number g ∷ []) 1
+      × ((seen_by p after).top ≡ suc g))
+      → (g < top → Extended p before after [] 1 × ((seen_by p after).top ≡ top))
+      → HasCopied p g before after [] 0 0 1 × (g < (seen_by p after).top)
   copied-promote before after top raised higher = elim (low-or-high top g) [
     | inl low ↦
-        let step = raised low in
-        (copied-one p g before after (Promote before.number g) [] 0 0 step.0 refl refl refl refl, omega (arith, step.1))
-    | inr high ↦ let step = higher high in (copied-quiet p g before after step.0, omega (arith, step.1, high))
+        let step = raised low in (
+          copied-one p g before after (Promote before.number g) [] 0 0 step.0 refl refl refl refl,
+          omega (arith, step.1),
+        )
+    | inr high ↦ let step = higher high in
+        (copied-quiet p g before after step.0, omega (arith, step.1, high))
   ]
     where
       low-or-high : (a b : ℕ) → (a ≤ b) ⊎ (b < a)
@@ -92,7 +108,8 @@ module _ (chain : ChainOf) (g : ℕ) (table : g < generations_of chain.shape) wh
 
   -- the copy of one slot more, which a step of its own turned, or not
   pub copied-slot :
-      {start before after : SeenBy} (from i most number n : ℕ) (turned : Bool) → from ≤ i → IsOwn chain start → n ≡ bool_byte turned
+      {start before after : SeenBy} (from i most number n : ℕ) (turned : Bool) → from ≤ i
+      → IsOwn chain start → n ≡ bool_byte turned
       → (slots : List ℕ) × (length slots ≡ number) × All (λ j. (from ≤ j) × (j < i)) slots
       × HasCopied p g start before slots 0 0 ((i - from) * most)
       → HasCopied p g before after (cond turned (i ∷ []) []) 0 0 most
@@ -106,8 +123,10 @@ module _ (chain : ChainOf) (g : ℕ) (table : g < generations_of chain.shape) wh
         new ++ so_far.0,
         omega (arith, longer, is_new, so_far.1),
         All-append inside new so_far.0 (All-if inside turned i (first, omega arith))
-            (All-weaker (λ j. (from ≤ j) × (j < i)) inside (λ j at. (at.0, omega (arith, at.1))) so_far.0 so_far.2),
-        subst (HasCopied p g start after (new ++ so_far.0) 0 0) (one-more (i - from) (i + 1 - from) (omega (arith, first)))
+            (All-weaker (λ j. (from ≤ j) × (j < i)) inside (λ j at. (at.0, omega (arith, at.1)))
+            so_far.0 so_far.2),
+        subst (HasCopied p g start after (new ++ so_far.0) 0 0)
+            (one-more (i - from) (i + 1 - from) (omega (arith, first)))
             (copied-more chain g table (copied-own chain g table own so_far.3) so_far.3 slot),
       )
     where
@@ -119,34 +138,45 @@ module _ (chain : ChainOf) (g : ℕ) (table : g < generations_of chain.shape) wh
 
   -- one slot more is finished
   pub finished-slot :
-      {before after : SeenBy} {slots : List ℕ} {chunks adding most : ℕ} (from i : ℕ) → IsOwn chain before
+      {before after : SeenBy} {slots : List ℕ} {chunks adding most : ℕ} (from i : ℕ)
+      → IsOwn chain before
       → i < size_of p g → ((j : ℕ) → from ≤ j → j < i → IsFinished (seen_by p before) g j)
       → HasCopied p g before after slots chunks adding most → IsFinished (seen_by p after) g i
       → (j : ℕ) → from ≤ j → j < i + 1 → IsFinished (seen_by p after) g j
-  finished-slot {before} {after} from i own within so_far copied finished j after_from below = elim (below-or-same j i below) [
-    | inl lower ↦
-        (copied-stays chain g table own copied).finished g j (table, omega (arith, lower, within)) (so_far j after_from lower)
-    | inr same ↦ subst (λ k. IsFinished (seen_by p after) g k) (sym same) finished
-  ]
+  finished-slot {before} {after} from i own within so_far copied finished j after_from below =
+      elim (below-or-same j i below) [
+        | inl lower ↦
+            (copied-stays chain g table own copied).finished g j
+            (table, omega (arith, lower, within))
+            (so_far j after_from lower)
+        | inr same ↦ subst (λ k. IsFinished (seen_by p after) g k) (sym same) finished
+      ]
     where
       below-or-same : (a b : ℕ) → a < b + 1 → (a < b) ⊎ (a ≡ b)
       below-or-same a b below = grind (arith, below)
 
   -- more copying, which counted what it turned, as the copying before it did
   pub copied-counting :
-      {start before after : SeenBy} {slots slots' : List ℕ} {chunks chunks' adding most most' : ℕ} → IsOwn chain start
-      → HasCopied p g start before slots chunks (length slots) most → length slots' ≡ adding → HasCopied p g before after slots' chunks' adding most'
-      → HasCopied p g start after (slots' ++ slots) (chunks + chunks') (length (slots' ++ slots)) (most + most')
-  copied-counting {start} {before} {after} {slots} {slots'} {chunks} {chunks'} {adding} {most} {most'} own so_far number copied =
+      {start before after : SeenBy} {slots slots' : List ℕ} {chunks chunks' adding most most' : ℕ}
+      → IsOwn chain start
+      → HasCopied p g start before slots chunks (length slots) most → length slots' ≡ adding
+      → HasCopied p g before after slots' chunks' adding most'
+      → HasCopied p g start after (slots' ++ slots) (chunks + chunks') (length (slots' ++ slots))
+      (most + most')
+  copied-counting {start} {before} {after} {slots} {slots'} {chunks} {chunks'} {adding} {most}
+      {most'} own so_far number copied =
       let longer = length-append slots' slots in
       let all : length slots + adding ≡ length (slots' ++ slots) = omega (arith, longer, number) in
-      subst (λ n. HasCopied p g start after (slots' ++ slots) (chunks + chunks') n (most + most')) all
+      subst (λ n. HasCopied p g start after (slots' ++ slots) (chunks + chunks') n (most + most'))
+      all
       (copied-more chain g table (copied-own chain g table own so_far) so_far copied)
 
   -- copying, and then steps that neither turned a slot nor counted one
   pub copied-last :
-      {start before after : SeenBy} {slots : List ℕ} {chunks adding most most' : ℕ} → IsOwn chain start
-      → HasCopied p g start before slots chunks adding most → HasCopied p g before after [] 0 0 most'
+      {start before after : SeenBy} {slots : List ℕ} {chunks adding most most' : ℕ}
+      → IsOwn chain start
+      → HasCopied p g start before slots chunks adding most
+      → HasCopied p g before after [] 0 0 most'
       → HasCopied p g start after slots chunks adding (most + most')
   copied-last {start} {before} {after} {slots} {chunks} {adding} {most} {most'} own so_far last =
       subst₂ (λ c n. HasCopied p g start after slots c n (most + most')) (none chunks) (none adding)

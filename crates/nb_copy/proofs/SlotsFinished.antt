@@ -20,7 +20,8 @@ use Rattle.nb_copy.specs.Copying.{HasCopied}
 
 -- the plan has a next table that is there
 pub next-in-plan :
-    (chain : ChainOf) (seat : SeenBy) → IsOwn chain seat → (g : ℕ) → IsInstalled (seen_by chain.shape seat) (suc g)
+    (chain : ChainOf) (seat : SeenBy) → IsOwn chain seat → (g : ℕ)
+    → IsInstalled (seen_by chain.shape seat) (suc g)
     → suc g < generations_of chain.shape
 next-in-plan chain seat own g installed =
     (linked chain.shape own.plan seat.seen own.legal).within (suc g) installed
@@ -29,23 +30,32 @@ next-in-plan chain seat own g installed =
 pub passed-finished :
     (chain : ChainOf) (seat : SeenBy) → IsOwn chain seat
     → (g i key : ℕ) → suc g < generations_of chain.shape → i < size_of chain.shape g
-    → HasSlot chain.shape (seen_by chain.shape seat) g key → IsPassed chain.shape (seen_by chain.shape seat) (suc g) key
+    → HasSlot chain.shape (seen_by chain.shape seat) g key
+    → IsPassed chain.shape (seen_by chain.shape seat) (suc g) key
     → IsFinished (seen_by chain.shape seat) g i
 passed-finished chain seat own g i key table slot below passed =
     passed_above chain.shape own.plan seat.seen own.legal g key table below passed i slot
 
 -- a number in a key's slot is one to be copied to the next table
 pub number-source :
-    (p : Plan) (t u : Tables) → Lasts p t u → (g next i key n : ℕ) → next ≡ suc g → IsSlot p g i → t.key g i ≡ Claimed key
+    (p : Plan) (t u : Tables) → Lasts p t u → (g next i key n : ℕ) → next ≡ suc g → IsSlot p g i
+    → t.key g i ≡ Claimed key
     → IsPrimedOrFinished t g i n → HasSource p u next key n
 number-source p t u lasting g next i key n is slot claimed held =
-    let source : HasSource p u (suc g) key n = (i, slot.1, lasting.claimed g i key slot claimed, lasting.primed_or_finished g i n slot held) in
+    let source : HasSource p u (suc g) key n = (
+      i,
+      slot.1,
+      lasting.claimed g i key slot claimed,
+      lasting.primed_or_finished g i n slot held,
+    ) in
     subst (λ f. HasSource p u f key n) (sym is) source
 
 -- and it is copied once the key's slot in the next table has a value
 pub number-copied :
-    (p : Plan) (t u : Tables) → Lasts p t u → (g i j key n : ℕ) → IsSlot p g i → t.key g i ≡ Claimed key → IsPrimedOrFinished t g i n
-    → j < size_of p (suc g) → u.key (suc g) j ≡ Claimed key → u.value (suc g) j ≢ Null → IsCopied p u g i n
+    (p : Plan) (t u : Tables) → Lasts p t u → (g i j key n : ℕ) → IsSlot p g i
+    → t.key g i ≡ Claimed key → IsPrimedOrFinished t g i n
+    → j < size_of p (suc g) → u.key (suc g) j ≡ Claimed key → u.value (suc g) j ≢ Null
+    → IsCopied p u g i n
 number-copied p t u lasting g i j key n slot claimed held near above some = record {
   key = key;
   claimed = lasting.claimed g i key slot claimed;
@@ -65,7 +75,8 @@ null-or-not (Primed n) = inr (λ e. cc)
 null-or-not (Finished n) = inr (λ e. cc)
 
 -- a primed number is the only one that the slot may have
-primed-number : (v : ValueState) (m n : ℕ) → v ≡ Primed m → (v ≢ Primed n → v ≡ Finished n) → v ≡ Primed n
+primed-number :
+    (v : ValueState) (m n : ℕ) → v ≡ Primed m → (v ≢ Primed n → v ≡ Finished n) → v ≡ Primed n
 primed-number v m n is other = elim (same-or-not m n) [
   | inl same ↦ is ∙ ap Primed same
   | inr differs ↦ absurd (let finished : v ≡ Finished n = other (λ e. differs (cc)) in cc)
@@ -84,41 +95,50 @@ module _ (chain : ChainOf) (g : ℕ) (table : g < generations_of chain.shape) wh
   -- a copy of a number to the next table, which leaves a value there
   pub copied-in :
       {before after : SeenBy} (s f j key n : ℕ) (v : ValueState) → f ≡ suc g
-      → (v ≡ Null → Extended p before after (CopyIn s f j key n ∷ []) 1 × ((seen_by p after).value f j ≡ Live n))
+      → (v ≡ Null → Extended p before after (CopyIn s f j key n ∷ []) 1
+      × ((seen_by p after).value f j ≡ Live n))
       → (v ≢ Null → Extended p before after [] 1 × ((seen_by p after).value f j ≡ v))
       → HasCopied p g before after [] 0 0 1 × ((seen_by p after).value (suc g) j ≢ Null)
   copied-in {before} {after} s f j key n v is won lost = elim (null-or-not v) [
     | inl null ↦
         let w = won null in (
           copied-one p g before after (CopyIn s f j key n) [] 0 0 w.0 is refl refl refl,
-          λ e. let copied : Live n ≡ Null = sym w.1 ∙ ap (λ x. (seen_by p after).value x j) is ∙ e in cc,
+          λ e. let copied : Live n ≡ Null = sym w.1 ∙ ap (λ x. (seen_by p after).value x j) is
+              ∙ e in cc,
         )
     | inr some ↦
-        let l = lost some in
-        (copied-quiet p g before after l.0, λ e. some (sym l.1 ∙ ap (λ x. (seen_by p after).value x j) is ∙ e))
+        let l = lost some in (
+          copied-quiet p g before after l.0,
+          λ e. some (sym l.1 ∙ ap (λ x. (seen_by p after).value x j) is ∙ e),
+        )
   ]
 
   -- a step that closed the slot
-  pub copied-kill : {before after : SeenBy} (s i : ℕ) → Extended p before after (Kill s g i ∷ []) 1 → HasCopied p g before after (i ∷ []) 0 0 1
+  pub copied-kill : {before after : SeenBy} (s i : ℕ) → Extended p before after (Kill s g i ∷ []) 1
+      → HasCopied p g before after (i ∷ []) 0 0 1
   copied-kill {before} {after} s i step =
       copied-one p g before after (Kill s g i) (i ∷ []) 0 0 step refl (slot-of-table g i) refl refl
 
   -- a finish of a number that was primed
   pub finished-now :
       {before after : SeenBy} (s i n m : ℕ) (v : ValueState) → v ≡ Primed m
-      → (v ≡ Primed n → Extended p before after (Finish s g i ∷ []) 1 × ((seen_by p after).value g i ≡ Finished n))
-      → (v ≢ Primed n → Extended p before after [] 1 × ((seen_by p after).value g i ≡ v) × (v ≡ Finished n))
+      → (v ≡ Primed n → Extended p before after (Finish s g i ∷ []) 1
+      × ((seen_by p after).value g i ≡ Finished n))
+      → (v ≢ Primed n → Extended p before after [] 1 × ((seen_by p after).value g i ≡ v)
+      × (v ≡ Finished n))
       → HasCopied p g before after (i ∷ []) 0 0 1 × IsFinished (seen_by p after) g i
   finished-now {before} {after} s i n m v is won lost =
       let w = won (primed-number v m n is (λ differs. (lost differs).2)) in (
-        copied-one p g before after (Finish s g i) (i ∷ []) 0 0 w.0 refl (slot-of-table g i) refl refl,
+        copied-one p g before after (Finish s g i) (i ∷ []) 0 0 w.0 refl (slot-of-table g i)
+            refl refl,
         inr (subst IsFinishedValue (sym w.1) refl),
       )
 
   -- and of one that was finished already
   pub finished-before :
       {before after : SeenBy} (i n : ℕ) (v : ValueState) → v ≢ Primed n
-      → (v ≢ Primed n → Extended p before after [] 1 × ((seen_by p after).value g i ≡ v) × (v ≡ Finished n))
+      → (v ≢ Primed n → Extended p before after [] 1 × ((seen_by p after).value g i ≡ v)
+      × (v ≡ Finished n))
       → HasCopied p g before after [] 0 0 1 × IsFinished (seen_by p after) g i
   finished-before {before} {after} i n v differs lost =
       let l = lost differs in
@@ -126,19 +146,26 @@ module _ (chain : ChainOf) (g : ℕ) (table : g < generations_of chain.shape) wh
 
   -- a search, a copy, and a finish
   pub copied-three :
-      {start placed filled after : SeenBy} {slots : List ℕ} (most : ℕ) → IsOwn chain start → HasCopied p g start placed [] 0 0 most
-      → HasCopied p g placed filled [] 0 0 1 → HasCopied p g filled after slots 0 0 1 → HasCopied p g start after slots 0 0 (most + 2)
+      {start placed filled after : SeenBy} {slots : List ℕ} (most : ℕ) → IsOwn chain start
+      → HasCopied p g start placed [] 0 0 most
+      → HasCopied p g placed filled [] 0 0 1 → HasCopied p g filled after slots 0 0 1
+      → HasCopied p g start after slots 0 0 (most + 2)
   copied-three most own search copy finish =
       copied-within (most + 1 + 1) (most + 2) (omega arith)
       (copied-then chain g table own (copied-then chain g table own search copy) finish)
 
-  -- a step that primed an unprimed value, and so turned the slot finished if there is nothing to copy
+  -- a step that primed an unprimed value, and so turned the slot finished if there is nothing to
+  -- copy
   primed-now :
-      {before after : SeenBy} (s i : ℕ) (v : ValueState) → Extended p before after (Prime s g i ∷ []) 1
-      → (seen_before p after).value g i ≡ v → HasCopied p g before after (cond (is_finished_by_priming v) (i ∷ []) []) 0 0 1
+      {before after : SeenBy} (s i : ℕ) (v : ValueState)
+      → Extended p before after (Prime s g i ∷ []) 1
+      → (seen_before p after).value g i ≡ v
+      → HasCopied p g before after (cond (is_finished_by_priming v) (i ∷ []) []) 0 0 1
   primed-now {before} {after} s i v step was =
-      let slot : ValueState → List ℕ = λ x. slot_in g (cond (is_finished_by_priming x) (Some (g, i)) None) in
-      let turned : slot ((seen_before p after).value g i) ≡ cond (is_finished_by_priming v) (i ∷ []) [] =
+      let slot : ValueState → List ℕ = λ x. slot_in g
+      (cond (is_finished_by_priming x) (Some (g, i)) None) in
+      let turned : slot ((seen_before p after).value g i) ≡ cond (is_finished_by_priming v) (i ∷ [])
+      [] =
       ap slot was ∙ slot-if (is_finished_by_priming v) in
       copied-one p g before after (Prime s g i) _ 0 0 step refl turned refl refl
     where
@@ -149,7 +176,8 @@ module _ (chain : ChainOf) (g : ℕ) (table : g < generations_of chain.shape) wh
   -- a step that primes a value
   pub copied-prime :
       {before after : SeenBy} (s i : ℕ) (v : ValueState)
-      → (IsUnprimed v → Extended p before after (Prime s g i ∷ []) 1 × ((seen_before p after).value g i ≡ v) × ((seen_by p after).value g i ≡ primed v))
+      → (IsUnprimed v → Extended p before after (Prime s g i ∷ []) 1
+      × ((seen_before p after).value g i ≡ v) × ((seen_by p after).value g i ≡ primed v))
       → ((IsUnprimed v → ⊥) → Extended p before after [] 1 × ((seen_by p after).value g i ≡ v))
       → HasCopied p g before after (cond (is_finished_by_priming v) (i ∷ []) []) 0 0 1
   copied-prime s i Null won lost = let w = won tt in primed-now s i Null w.0 w.1
@@ -163,15 +191,20 @@ module _ (chain : ChainOf) (g : ℕ) (table : g < generations_of chain.shape) wh
   -- a step that primed a value with nothing to copy, or met a final one
   pub primed-last :
       {before after : SeenBy} (i most : ℕ) (turned turned' : Bool) → turned ≡ turned' → 1 ≤ most
-      → HasCopied p g before after (cond turned (i ∷ []) []) 0 0 1 → HasCopied p g before after (cond turned' (i ∷ []) []) 0 0 most
+      → HasCopied p g before after (cond turned (i ∷ []) []) 0 0 1
+      → HasCopied p g before after (cond turned' (i ∷ []) []) 0 0 most
   primed-last {before} {after} i most turned turned' same some prime =
-      copied-within 1 most some (subst (λ b. HasCopied p g before after (cond b (i ∷ []) []) 0 0 1) same prime)
+      copied-within 1 most some (subst (λ b. HasCopied p g before after (cond b (i ∷ []) []) 0 0 1)
+      same prime)
 
   -- a step that primed a number, or met a primed one, and the copying of the number
   pub primed-first :
-      {before then after : SeenBy} {slots : List ℕ} (i most : ℕ) (turned : Bool) → IsOwn chain before → turned ≡ false
-      → HasCopied p g before then (cond turned (i ∷ []) []) 0 0 1 → HasCopied p g then after slots 0 0 (most + 2)
+      {before then after : SeenBy} {slots : List ℕ} (i most : ℕ) (turned : Bool)
+      → IsOwn chain before → turned ≡ false
+      → HasCopied p g before then (cond turned (i ∷ []) []) 0 0 1
+      → HasCopied p g then after slots 0 0 (most + 2)
       → HasCopied p g before after slots 0 0 (most + 3)
   primed-first {before} {then} i most turned own not_turned prime copy =
       copied-within (1 + (most + 2)) (most + 3) (omega arith)
-      (copied-then chain g table own (subst (λ b. HasCopied p g before then (cond b (i ∷ []) []) 0 0 1) not_turned prime) copy)
+      (copied-then chain g table own (subst
+      (λ b. HasCopied p g before then (cond b (i ∷ []) []) 0 0 1) not_turned prime) copy)

@@ -9,7 +9,8 @@ use Rattle.nb_copy.specs.Copying.{HasCopied}
 
 -- ---- bounds of steps
 
--- the most steps for one slot of table g: the search for its key's slot in the next table makes two for each slot there
+-- the most steps for one slot of table g: the search for its key's slot in the next table makes two
+-- for each slot there
 abbrev pub slot_steps : Plan → ℕ → ℕ
 slot_steps p g = 2 * size_of p (suc g) + 6
 
@@ -23,7 +24,8 @@ table_steps p g = size_of p g * (2 * slot_steps p g + 3) + 1
 
 -- ---- what was done
 
--- where the seat's counting has brought the count to the size of the table, the top word is past the table
+-- where the seat's counting has brought the count to the size of the table, the top word is past
+-- the table
 abbrev pub IsRaised : Plan → ℕ → SeenBy → Type 0
 IsRaised p g seat = (seen_by p seat).counted g ≡ size_of p g → g < (seen_by p seat).top
 
@@ -31,9 +33,9 @@ IsRaised p g seat = (seen_by p seat).counted g ≡ size_of p g → g < (seen_by 
 abbrev pub IsHanded : Plan → (g start i : ℕ) → Type 0
 IsHanded p g start i = (start ≤ i) × (i < start + chunk_of p g) × (i < size_of p g)
 
--- The seat asked for one chunk, and was handed the one from where the table's take word stood: all slots of it are finished.
--- Its steps turned so many slots finished, all of them in this chunk, and it counted just these. Where no slot was left to hand
--- out, it made one step and turned none.
+-- The seat asked for one chunk, and was handed the one from where the table's take word stood: all
+-- slots of it are finished. Its steps turned so many slots finished, all of them in this chunk, and
+-- it counted just these. Where no slot was left to hand out, it made one step and turned none.
 pub record HasHelped (p : Plan) (g : ℕ) (before after : SeenBy) (turned : ℕ) : Type 0 where
   pub slots : List ℕ
   pub number : length slots ≡ turned
@@ -48,8 +50,9 @@ pub record HasHelped (p : Plan) (g : ℕ) (before after : SeenBy) (turned : ℕ)
   pub idle : size_of p g ≤ start → (turned ≡ 0) × (after.steps ≡ before.steps + 1)
   pub raised : 1 ≤ turned → IsRaised p g after
 
--- The seat copied the table: all its slots are finished, and the top word is past it. The seat asked for no more chunks than
--- the table has, and counted just the slots that its own steps turned finished.
+-- The seat copied the table: all its slots are finished, and the top word is past it. The seat
+-- asked for no more chunks than the table has, and counted just the slots that its own steps turned
+-- finished.
 pub record HasCompleted (p : Plan) (g : ℕ) (before after : SeenBy) : Type 0 where
   pub slots : List ℕ
   pub chunks : ℕ

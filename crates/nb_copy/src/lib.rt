@@ -1,4 +1,5 @@
-//! Copying a table to the next one, by any number of threads at once, none of which waits for another.
+//! Copying a table to the next one, by any number of threads at once, none of which waits for
+//! another.
 #![tactic(auto)]
 
 mod slots;

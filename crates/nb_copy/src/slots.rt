@@ -1,5 +1,17 @@
 //! Copying one slot.
-ghost use Rattle.std.specs.Prelude.{◌≡◌, ◌≢◌, ◌+◌, ◌*◌, ◌<◌, suc, [], ◌∷◌, if◌then◌else◌, IfSome, IfNone};
+ghost use Rattle.std.specs.Prelude.{
+  ◌≡◌,
+  ◌≢◌,
+  ◌+◌,
+  ◌*◌,
+  ◌<◌,
+  suc,
+  [],
+  ◌∷◌,
+  if◌then◌else◌,
+  IfSome,
+  IfNone,
+};
 ghost use Rattle.nb_core.specs.Tables.{IsPassed, IsPrimedOrFinished};
 ghost use Rattle.nb_core.specs.Plans.{generations_of, size_of};
 ghost use Rattle.nb_core.specs.Tables.{HasSlot, IsFinished, IsInstalled, IsOnPath, IsSlot};
@@ -11,15 +23,17 @@ ghost use Rattle.nb_copy.specs.Handing.{slot_steps};
 use nb_core::{Key, KeyState, Num, ValueState};
 use nb_table::{Chain, ChainSeat};
 
-/// Finishes slot `i` of table `g`, which has a next one, whatever others do to it meanwhile: an empty slot is closed, a value
-/// is primed, and a number is copied to the key's slot in the next table first. Answers whether a step of this call turned
-/// the slot finished. It counts nothing. It makes at most 2 n + 6 steps, where the next table has n slots. The idea is
-/// `copy_slot` of high-scale-lib.
+/// Finishes slot `i` of table `g`, which has a next one, whatever others do to it meanwhile: an
+/// empty slot is closed, a value is primed, and a number is copied to the key's slot in the next
+/// table first. Answers whether a step of this call turned the slot finished. It counts nothing. It
+/// makes at most 2 n + 6 steps, where the next table has n slots. The idea is `copy_slot` of
+/// high-scale-lib.
 pub fn copy_slot(chain: &Chain, seat: &mut ChainSeat, g: u32, i: usize) -> bool
     requires own { IsOwn chain.now seat.old }
     requires slot { IsSlot chain.now.shape g i }
     requires growing { IsInstalled (seen_by chain.now.shape seat.old) (suc g) }
-    ensures copied { HasCopied chain.now.shape g seat.old seat.new (if result then i ∷ [] else []) 0 0
+    ensures copied { HasCopied chain.now.shape g seat.old seat.new (if result then i ∷ [] else [])
+        0 0
         (slot_steps chain.now.shape g) }
     ensures finished { IsFinished (seen_by chain.now.shape seat.new) g i }
 {
@@ -30,15 +44,18 @@ pub fn copy_slot(chain: &Chain, seat: &mut ChainSeat, g: u32, i: usize) -> bool
     }
 }
 
-/// What the key word of a slot holds: an empty slot is closed to keys. `Empty` says that a step of this call closed it.
+/// What the key word of a slot holds: an empty slot is closed to keys. `Empty` says that a step of
+/// this call closed it.
 fn key_or_close(chain: &Chain, seat: &mut ChainSeat, g: u32, i: usize) -> KeyState
     requires own { IsOwn chain.now seat.old }
     requires slot { IsSlot chain.now.shape g i }
     requires growing { IsInstalled (seen_by chain.now.shape seat.old) (suc g) }
     ensures closed { result ≡ key_is.Empty
-        → HasCopied chain.now.shape g seat.old seat.new (i ∷ []) 0 0 2 × ((seen_by chain.now.shape seat.new).key g i ≡ key_is.Dead) }
+        → HasCopied chain.now.shape g seat.old seat.new (i ∷ []) 0 0 2
+        × ((seen_by chain.now.shape seat.new).key g i ≡ key_is.Dead) }
     ensures found { result ≢ key_is.Empty
-        → HasCopied chain.now.shape g seat.old seat.new [] 0 0 2 × ((seen_by chain.now.shape seat.new).key g i ≡ result) }
+        → HasCopied chain.now.shape g seat.old seat.new [] 0 0 2
+        × ((seen_by chain.now.shape seat.new).key g i ≡ result) }
 {
     match chain.load_key(seat, g, i, None) {
         KeyState::Empty => chain.kill_key(seat, g, i),
@@ -52,7 +69,8 @@ fn copy_value(chain: &Chain, seat: &mut ChainSeat, g: u32, i: usize, key: Key) -
     requires slot { IsSlot chain.now.shape g i }
     requires growing { IsInstalled (seen_by chain.now.shape seat.old) (suc g) }
     requires claimed { (seen_by chain.now.shape seat.old).key g i ≡ key_is.Claimed key }
-    ensures copied { HasCopied chain.now.shape g seat.old seat.new (if result then i ∷ [] else []) 0 0
+    ensures copied { HasCopied chain.now.shape g seat.old seat.new (if result then i ∷ [] else [])
+        0 0
         (2 * size_of chain.now.shape (suc g) + 4) }
     ensures finished { IsFinished (seen_by chain.now.shape seat.new) g i }
 {
@@ -68,7 +86,8 @@ fn prime_value(chain: &Chain, seat: &mut ChainSeat, g: u32, i: usize, key: Key) 
     requires slot { IsSlot chain.now.shape g i }
     requires growing { IsInstalled (seen_by chain.now.shape seat.old) (suc g) }
     requires claimed { (seen_by chain.now.shape seat.old).key g i ≡ key_is.Claimed key }
-    ensures copied { HasCopied chain.now.shape g seat.old seat.new (if result then i ∷ [] else []) 0 0
+    ensures copied { HasCopied chain.now.shape g seat.old seat.new (if result then i ∷ [] else [])
+        0 0
         (2 * size_of chain.now.shape (suc g) + 3) }
     ensures finished { IsFinished (seen_by chain.now.shape seat.new) g i }
 {
@@ -88,7 +107,8 @@ fn copy_number(chain: &Chain, seat: &mut ChainSeat, g: u32, i: usize, key: Key, 
     requires growing { IsInstalled (seen_by chain.now.shape seat.old) (suc g) }
     requires claimed { (seen_by chain.now.shape seat.old).key g i ≡ key_is.Claimed key }
     requires held { IsPrimedOrFinished (seen_by chain.now.shape seat.old) g i number }
-    ensures copied { HasCopied chain.now.shape g seat.old seat.new (if result then i ∷ [] else []) 0 0
+    ensures copied { HasCopied chain.now.shape g seat.old seat.new (if result then i ∷ [] else [])
+        0 0
         (2 * size_of chain.now.shape (suc g) + 2) }
     ensures finished { IsFinished (seen_by chain.now.shape seat.new) g i }
 {
@@ -99,16 +119,20 @@ fn copy_number(chain: &Chain, seat: &mut ChainSeat, g: u32, i: usize, key: Key, 
     matches!(chain.finish_slot(seat, g, i, number), ValueState::Primed(_))
 }
 
-/// The slot of a key of table `g` in the next table, which is claimed where the key has none yet. There is none where other
-/// keys have the key's path up to a closed slot, or whole: then the key's slot in table `g` is finished already.
+/// The slot of a key of table `g` in the next table, which is claimed where the key has none yet.
+/// There is none where other keys have the key's path up to a closed slot, or whole: then the key's
+/// slot in table `g` is finished already.
 fn place_in_next(chain: &Chain, seat: &mut ChainSeat, g: u32, key: Key) -> Option<usize>
     requires own { IsOwn chain.now seat.old }
     requires table { suc g < generations_of chain.now.shape }
     requires growing { IsInstalled (seen_by chain.now.shape seat.old) (suc g) }
     requires below { HasSlot chain.now.shape (seen_by chain.now.shape seat.old) g key }
-    ensures copied { HasCopied chain.now.shape g seat.old seat.new [] 0 0 (2 * size_of chain.now.shape (suc g)) }
-    ensures found { IfSome result (λ j. (j < size_of chain.now.shape (suc g)) × ((seen_by chain.now.shape seat.new).key (suc g) j ≡ key_is.Claimed key)) }
-    ensures passed { IfNone result (IsPassed chain.now.shape (seen_by chain.now.shape seat.new) (suc g) key) }
+    ensures copied { HasCopied chain.now.shape g seat.old seat.new [] 0 0
+        (2 * size_of chain.now.shape (suc g)) }
+    ensures found { IfSome result (λ j. (j < size_of chain.now.shape (suc g))
+        × ((seen_by chain.now.shape seat.new).key (suc g) j ≡ key_is.Claimed key)) }
+    ensures passed { IfNone result (IsPassed chain.now.shape (seen_by chain.now.shape seat.new)
+        (suc g) key) }
 {
     for distance in 0..chain.shape().size_of(g + 1) {
         let j = chain.shape().path_slot(g + 1, key, distance);
@@ -124,8 +148,8 @@ fn place_in_next(chain: &Chain, seat: &mut ChainSeat, g: u32, key: Key) -> Optio
     None
 }
 
-/// What the key word of slot `j` of the next table holds, on the path of a key of table `g`, behind slots of other keys: an
-/// empty slot is claimed for the key first.
+/// What the key word of slot `j` of the next table holds, on the path of a key of table `g`, behind
+/// slots of other keys: an empty slot is claimed for the key first.
 fn key_or_claim(chain: &Chain, seat: &mut ChainSeat, g: u32, key: Key, j: usize) -> KeyState
     requires own { IsOwn chain.now seat.old }
     requires slot { IsSlot chain.now.shape (suc g) j }

@@ -1,5 +1,23 @@
 //! Copying chunks and whole tables, and counting what was copied.
-ghost use Rattle.std.specs.Prelude.{◌≡◌, ℕ, ◌+◌, ◌-◌, ◌*◌, ◌/◌, ◌<◌, ◌≤◌, suc, [], ◌∷◌, List, length, All, if◌then◌else◌, unwrap_or, IsTrue};
+ghost use Rattle.std.specs.Prelude.{
+  ◌≡◌,
+  ℕ,
+  ◌+◌,
+  ◌-◌,
+  ◌*◌,
+  ◌/◌,
+  ◌<◌,
+  ◌≤◌,
+  suc,
+  [],
+  ◌∷◌,
+  List,
+  length,
+  All,
+  if◌then◌else◌,
+  unwrap_or,
+  IsTrue,
+};
 ghost use Rattle.nb_core.specs.History.{counted_by, turned_by};
 ghost use Rattle.nb_core.specs.Plans.{generations_of, size_of};
 ghost use Rattle.nb_core.specs.Tables.{IsFinished, IsInstalled, IsSlot, chunk_of};
@@ -10,10 +28,12 @@ ghost use Rattle.nb_copy.specs.Handing.{HasCompleted, HasHelped, IsRaised, slot_
 use crate::slots::copy_slot;
 use nb_table::{Chain, ChainSeat};
 
-/// Copies the next chunk of table `g` that nobody was handed: 8 slots, or the table if that is smaller. Answers how many slots
-/// its own steps turned finished, all of them in the chunk. It counts just these, by one add, and raises the top word if that
-/// brings the count to the size. It makes at most three steps beside those of `copy_slot` for each slot of the chunk. Once all
-/// chunks are handed out it makes one step and answers 0. The idea is `help_copy_impl` of high-scale-lib.
+/// Copies the next chunk of table `g` that nobody was handed: 8 slots, or the table if that is
+/// smaller. Answers how many slots its own steps turned finished, all of them in the chunk. It
+/// counts just these, by one add, and raises the top word if that brings the count to the size. It
+/// makes at most three steps beside those of `copy_slot` for each slot of the chunk. Once all
+/// chunks are handed out it makes one step and answers 0. The idea is `help_copy_impl` of
+/// high-scale-lib.
 pub fn help(chain: &Chain, seat: &mut ChainSeat, g: u32) -> usize
     requires own { IsOwn chain.now seat.old }
     requires growing { IsInstalled (seen_by chain.now.shape seat.old) (suc g) }
@@ -22,9 +42,10 @@ pub fn help(chain: &Chain, seat: &mut ChainSeat, g: u32) -> usize
     copy_chunk(chain, seat, g).unwrap_or(0)
 }
 
-/// Copies the whole of table `g`, which has a next one, together with whoever copies it too. It takes chunks while there are
-/// some, then goes through every slot itself, so that it waits for no other thread, and raises the top word. It costs at most
-/// a few steps for each pair of a slot of this table and one of the next.
+/// Copies the whole of table `g`, which has a next one, together with whoever copies it too. It
+/// takes chunks while there are some, then goes through every slot itself, so that it waits for no
+/// other thread, and raises the top word. It costs at most a few steps for each pair of a slot of
+/// this table and one of the next.
 #[tactic(auto, using(nb_core::proofs::Theorems::linked))]
 pub fn complete(chain: &Chain, seat: &mut ChainSeat, g: u32)
     requires own { IsOwn chain.now seat.old }
@@ -36,13 +57,15 @@ pub fn complete(chain: &Chain, seat: &mut ChainSeat, g: u32)
     chain.promote(seat, g);
 }
 
-/// Finishes slot `i` of table `g` as `copy_slot` does, and counts it if a step of this call turned it finished: then it
-/// answers true, and has raised the top word if that brought the count to the size. This takes at most two steps more.
+/// Finishes slot `i` of table `g` as `copy_slot` does, and counts it if a step of this call turned
+/// it finished: then it answers true, and has raised the top word if that brought the count to the
+/// size. This takes at most two steps more.
 pub fn copy_and_count(chain: &Chain, seat: &mut ChainSeat, g: u32, i: usize) -> bool
     requires own { IsOwn chain.now seat.old }
     requires slot { IsSlot chain.now.shape g i }
     requires growing { IsInstalled (seen_by chain.now.shape seat.old) (suc g) }
-    ensures copied { HasCopied chain.now.shape g seat.old seat.new (if result then i ∷ [] else []) 0 (if result then 1 else 0)
+    ensures copied { HasCopied chain.now.shape g seat.old seat.new (if result then i ∷ [] else []) 0
+        (if result then 1 else 0)
         (slot_steps chain.now.shape g + 2) }
     ensures finished { IsFinished (seen_by chain.now.shape seat.new) g i }
     ensures raised { IsTrue result → IsRaised chain.now.shape g seat.new }
@@ -54,8 +77,8 @@ pub fn copy_and_count(chain: &Chain, seat: &mut ChainSeat, g: u32, i: usize) -> 
     turned
 }
 
-/// Takes a chunk of table `g`, copies it and counts it, and answers how many slots its own steps turned finished. `None` says
-/// that there is no chunk left.
+/// Takes a chunk of table `g`, copies it and counts it, and answers how many slots its own steps
+/// turned finished. `None` says that there is no chunk left.
 #[tactic(auto, using(nb_core::proofs::Theorems::linked))]
 fn copy_chunk(chain: &Chain, seat: &mut ChainSeat, g: u32) -> Option<usize>
     requires own { IsOwn chain.now seat.old }
@@ -76,16 +99,19 @@ fn copy_chunk(chain: &Chain, seat: &mut ChainSeat, g: u32) -> Option<usize>
     Some(turned)
 }
 
-/// Finishes the slots of table `g` from one on, up to another. Answers how many of them its own steps turned. It turns no other
-/// slot, and counts nothing.
+/// Finishes the slots of table `g` from one on, up to another. Answers how many of them its own
+/// steps turned. It turns no other slot, and counts nothing.
 fn copy_slots(chain: &Chain, seat: &mut ChainSeat, g: u32, from: usize, to: usize) -> usize
     requires own { IsOwn chain.now seat.old }
     requires table { g < generations_of chain.now.shape }
     requires within { (from ≤ to) × (to ≤ size_of chain.now.shape g) }
     requires growing { IsInstalled (seen_by chain.now.shape seat.old) (suc g) }
-    ensures copied { (slots : List ℕ) × (length slots ≡ result) × All (λ i. (from ≤ i) × (i < to)) slots
-        × HasCopied chain.now.shape g seat.old seat.new slots 0 0 ((to - from) * slot_steps chain.now.shape g) }
-    ensures finished { (i : ℕ) → from ≤ i → i < to → IsFinished (seen_by chain.now.shape seat.new) g i }
+    ensures copied { (slots : List ℕ) × (length slots ≡ result)
+        × All (λ i. (from ≤ i) × (i < to)) slots
+        × HasCopied chain.now.shape g seat.old seat.new slots 0 0
+        ((to - from) * slot_steps chain.now.shape g) }
+    ensures finished { (i : ℕ) → from ≤ i → i < to
+        → IsFinished (seen_by chain.now.shape seat.new) g i }
 {
     let mut turned = 0;
     for i in from..to {
@@ -94,13 +120,14 @@ fn copy_slots(chain: &Chain, seat: &mut ChainSeat, g: u32, from: usize, to: usiz
     turned
 }
 
-/// Counts slots of table `g` that the seat's own steps turned and that it hasn't counted yet. If that brings the count to the
-/// size, it raises the top word.
+/// Counts slots of table `g` that the seat's own steps turned and that it hasn't counted yet. If
+/// that brings the count to the size, it raises the top word.
 fn count(chain: &Chain, seat: &mut ChainSeat, g: u32, slots: usize)
     requires own { IsOwn chain.now seat.old }
     requires table { g < generations_of chain.now.shape }
     requires some { 1 ≤ slots }
-    requires turned { counted_by seat.old.seen seat.old.number g + slots ≤ turned_by chain.now.shape seat.old.seen seat.old.number g }
+    requires turned { counted_by seat.old.seen seat.old.number g + slots
+        ≤ turned_by chain.now.shape seat.old.seen seat.old.number g }
     ensures counted { HasCopied chain.now.shape g seat.old seat.new [] 0 slots 2 }
     ensures raised { IsRaised chain.now.shape g seat.new }
 {
@@ -115,8 +142,10 @@ fn count(chain: &Chain, seat: &mut ChainSeat, g: u32, slots: usize)
 fn copy_chunks(chain: &Chain, seat: &mut ChainSeat, g: u32)
     requires own { IsOwn chain.now seat.old }
     requires growing { IsInstalled (seen_by chain.now.shape seat.old) (suc g) }
-    ensures copied { (slots : List ℕ) × (chunks : ℕ) × (chunks ≤ size_of chain.now.shape g / chunk_of chain.now.shape g)
-        × HasCopied chain.now.shape g seat.old seat.new slots chunks (length slots) (size_of chain.now.shape g * (slot_steps chain.now.shape g + 1)) }
+    ensures copied { (slots : List ℕ) × (chunks : ℕ)
+        × (chunks ≤ size_of chain.now.shape g / chunk_of chain.now.shape g)
+        × HasCopied chain.now.shape g seat.old seat.new slots chunks (length slots)
+        (size_of chain.now.shape g * (slot_steps chain.now.shape g + 1)) }
 {
     let chunks = chain.shape().chunks_of(g);
     for _taken in 0..chunks {
@@ -132,8 +161,10 @@ fn copy_all(chain: &Chain, seat: &mut ChainSeat, g: u32)
     requires table { g < generations_of chain.now.shape }
     requires growing { IsInstalled (seen_by chain.now.shape seat.old) (suc g) }
     ensures copied { (slots : List ℕ)
-        × HasCopied chain.now.shape g seat.old seat.new slots 0 (length slots) (size_of chain.now.shape g * (slot_steps chain.now.shape g + 2)) }
-    ensures complete { (i : ℕ) → i < size_of chain.now.shape g → IsFinished (seen_by chain.now.shape seat.new) g i }
+        × HasCopied chain.now.shape g seat.old seat.new slots 0 (length slots)
+        (size_of chain.now.shape g * (slot_steps chain.now.shape g + 2)) }
+    ensures complete { (i : ℕ) → i < size_of chain.now.shape g
+        → IsFinished (seen_by chain.now.shape seat.new) g i }
 {
     for i in 0..chain.shape().size_of(g) {
         copy_and_count(chain, seat, g, i);

@@ -23,30 +23,46 @@ never_falls-true : (es : List ℕ) → IsNonDecreasing es → never_falls es ≡
 never_falls-true [] h = refl
 never_falls-true (e ∷ []) h = refl
 never_falls-true (e ∷ f ∷ es) h =
-    and_from (leb e f) (never_falls (f ∷ es)) (le-leb e f (h 0 1 0 (omega arith) (omega arith))) (never_falls-true (f ∷ es) (IsNonDecreasingBy-drop (λ n. n) 1 (e ∷ f ∷ es) h))
+    and_from (leb e f) (never_falls (f ∷ es)) (le-leb e f (h 0 1 0 (omega arith) (omega arith)))
+    (never_falls-true (f ∷ es) (IsNonDecreasingBy-drop (λ n. n) 1 (e ∷ f ∷ es) h))
 
-never_falls-false : (es : List ℕ) (k : ℕ) → suc k < length es → get_or es (suc k) 0 < get_or es k 0 → never_falls es ≡ false
+never_falls-false :
+    (es : List ℕ) (k : ℕ) → suc k < length es → get_or es (suc k) 0 < get_or es k 0
+    → never_falls es ≡ false
 never_falls-false [] k within falls = absurd (omega arith)
 never_falls-false (e ∷ []) k within falls = absurd (omega arith)
-never_falls-false (e ∷ f ∷ es) zero within falls = and_left (leb e f) (never_falls (f ∷ es)) (lt-leb e f falls)
+never_falls-false (e ∷ f ∷ es) zero within falls =
+    and_left (leb e f) (never_falls (f ∷ es)) (lt-leb e f falls)
 never_falls-false (e ∷ f ∷ es) (suc k) within falls =
     and_right (leb e f) (never_falls (f ∷ es)) (never_falls-false (f ∷ es) k (omega arith) falls)
 
 -- a test of the exponents, by what `is_sorted` says of them
-pub never_falls-is : (es : List ℕ) (r : Bool) → MatchBool r (IsNonDecreasing es) ((k : ℕ) × (k + 1 < length es) × ((d : ℕ) → get_or es (k + 1) d < get_or es k d)) → never_falls es ≡ r
+pub never_falls-is :
+    (es : List ℕ) (r : Bool) → MatchBool r (IsNonDecreasing es)
+    ((k : ℕ) × (k + 1 < length es) × ((d : ℕ) → get_or es (k + 1) d < get_or es k d))
+    → never_falls es ≡ r
 never_falls-is es true h = never_falls-true es h
 never_falls-is es false h =
-    never_falls-false es h.0 (omega (arith, h.1)) (subst (λ n. get_or es n 0 < get_or es h.0 0) (add-one h.0) (h.2 0))
+    never_falls-false es h.0 (omega (arith, h.1))
+    (subst (λ n. get_or es n 0 < get_or es h.0 0) (add-one h.0) (h.2 0))
 
-list_all-is_within : (es : List ℕ) → All (λ e. (2 ≤ e) × (e ≤ 19)) es → list_all (is_within 2 19) es ≡ true
+list_all-is_within :
+    (es : List ℕ) → All (λ e. (2 ≤ e) × (e ≤ 19)) es → list_all (is_within 2 19) es ≡ true
 list_all-is_within es sizes =
-    list_all-from_AllPass (is_within 2 19) es (λ k d within. is_within-true 2 19 (get_or es k d) (sizes k d within))
+    list_all-from_AllPass (is_within 2 19) es
+    (λ k d within. is_within-true 2 19 (get_or es k d) (sizes k d within))
 
 -- with so many exponents of these sizes, only a fall is left to refuse
-pub checked_plan-rises : (es : List ℕ) (seats stripes : ℕ) → (1 ≤ length es) × (length es ≤ 16) → All (λ e. (2 ≤ e) × (e ≤ 19)) es → never_falls es ≡ true → checked_plan es seats stripes ≡ seated es seats stripes
+pub checked_plan-rises :
+    (es : List ℕ) (seats stripes : ℕ) → (1 ≤ length es) × (length es ≤ 16)
+    → All (λ e. (2 ≤ e) × (e ≤ 19)) es → never_falls es ≡ true
+    → checked_plan es seats stripes ≡ seated es seats stripes
 checked_plan-rises es seats stripes few sizes rises =
     rw (is_within-true 1 16 (length es) few, list_all-is_within es sizes, rises)
 
-pub checked_plan-falls : (es : List ℕ) (seats stripes : ℕ) → (1 ≤ length es) × (length es ≤ 16) → All (λ e. (2 ≤ e) × (e ≤ 19)) es → never_falls es ≡ false → checked_plan es seats stripes ≡ Err fault.Plan
+pub checked_plan-falls :
+    (es : List ℕ) (seats stripes : ℕ) → (1 ≤ length es) × (length es ≤ 16)
+    → All (λ e. (2 ≤ e) × (e ≤ 19)) es → never_falls es ≡ false
+    → checked_plan es seats stripes ≡ Err fault.Plan
 checked_plan-falls es seats stripes few sizes falls =
     rw (is_within-true 1 16 (length es) few, list_all-is_within es sizes, falls)

@@ -17,14 +17,18 @@ pub record IsFilled (f : ℕ → ℕ) (xs : List ℕ) (n : ℕ) : Type 0 where
   pub filled : (k : ℕ) → k < n → get_or xs k 0 ≡ f k
   pub empty : (k : ℕ) → n ≤ k → k < 16 → get_or xs k 0 ≡ 0
 
-IsFilled-more : (f : ℕ → ℕ) (xs : List ℕ) (n v : ℕ) → IsFilled f xs n → n < 16 → v ≡ f n → IsFilled f (set xs n v) (n + 1)
+IsFilled-more :
+    (f : ℕ → ℕ) (xs : List ℕ) (n v : ℕ) → IsFilled f xs n → n < 16 → v ≡ f n
+    → IsFilled f (set xs n v) (n + 1)
 IsFilled-more f xs n v h within e = record {
   size = length-set xs n v ∙ h.size;
   filled = λ k below. elim (cases_eq k n) [
-    | inl at ↦ ap (λ i. get_or (set xs n v) i 0) at ∙ get_or-set_same xs n v 0 (omega (arith, h.size)) ∙ e ∙ ap f (sym at)
+    | inl at ↦ ap (λ i. get_or (set xs n v) i 0) at
+        ∙ get_or-set_same xs n v 0 (omega (arith, h.size)) ∙ e ∙ ap f (sym at)
     | inr other ↦ get_or-set_other xs n k v 0 other ∙ h.filled k (omega (arith, other))
   ];
-  empty = λ k above inside. get_or-set_other xs n k v 0 (λ (at : k ≡ n). absurd (omega arith)) ∙ h.empty k (omega arith) inside;
+  empty = λ k above inside. get_or-set_other xs n k v 0 (λ (at : k ≡ n). absurd (omega arith))
+      ∙ h.empty k (omega arith) inside;
 }
 
 -- the place past the first n tables
@@ -38,7 +42,11 @@ pub record AreLaid (exponents xs ys : List ℕ) (end n : ℕ) : Type 0 where
   pub words : end ≡ end_of exponents n
 
 -- one more table, of so many words past its headers
-pub AreLaid-more : (exponents xs ys : List ℕ) (end n words : ℕ) → AreLaid exponents xs ys end n → n < length exponents → length exponents ≤ 16 → words ≡ 2 * 2 ^ slice_index exponents n → AreLaid exponents (set xs n (slice_index exponents n)) (set ys n end) (end + (3 + words)) (n + 1)
+pub AreLaid-more :
+    (exponents xs ys : List ℕ) (end n words : ℕ) → AreLaid exponents xs ys end n
+    → n < length exponents → length exponents ≤ 16 → words ≡ 2 * 2 ^ slice_index exponents n
+    → AreLaid exponents (set xs n (slice_index exponents n)) (set ys n end) (end + (3 + words))
+    (n + 1)
 AreLaid-more exponents xs ys end n words h within few e = record {
   kept = IsFilled-more _ xs n _ h.kept (omega arith) refl;
   bases = IsFilled-more _ ys n _ h.bases (omega arith) h.words;
@@ -46,33 +54,52 @@ AreLaid-more exponents xs ys end n words h within few e = record {
 }
 
 -- a table is small, and so are the first n
-pub table-fits : (exponents : List ℕ) (n : ℕ) → All (λ e. (2 ≤ e) × (e ≤ 19)) exponents → n < length exponents → 2 ^ slice_index exponents n ≤ 2 ^ 19
+pub table-fits :
+    (exponents : List ℕ) (n : ℕ) → All (λ e. (2 ≤ e) × (e ≤ 19)) exponents → n < length exponents
+    → 2 ^ slice_index exponents n ≤ 2 ^ 19
 table-fits exponents n sizes within = let bounds = sizes n 0 within in pow_mono bounds.1
 
-pub end_of-le : (exponents : List ℕ) (n : ℕ) → All (λ e. (2 ≤ e) × (e ≤ 19)) exponents → n ≤ length exponents → end_of exponents n ≤ 1 + n * 1048579
+pub end_of-le :
+    (exponents : List ℕ) (n : ℕ) → All (λ e. (2 ≤ e) × (e ≤ 19)) exponents → n ≤ length exponents
+    → end_of exponents n ≤ 1 + n * 1048579
 end_of-le exponents n sizes within =
-    let bound : All (λ e. table_words e ≤ 1048579) (take n exponents) = All-take (λ e. table_words e ≤ 1048579) n exponents (λ k d below.
+    let bound : All (λ e. table_words e ≤ 1048579) (take n exponents) =
+    All-take (λ e. table_words e ≤ 1048579) n exponents (λ k d below.
     let b = sizes k d below in
     let most : 2 ^ get_or exponents k d ≤ 2 ^ 19 = pow_mono b.1 in omega arith) in
-    omega (arith, sum_by-le table_words 1048579 (take n exponents) bound, ap (λ m. m * 1048579) (length-take-le n exponents within))
+    omega (
+      arith,
+      sum_by-le table_words 1048579 (take n exponents) bound,
+      ap (λ m. m * 1048579) (length-take-le n exponents within),
+    )
 
-kept_exponents-filled : (p : Plan) (xs : List ℕ) → IsFilled (slice_index p.exponents) xs (generations_of p) → xs ≡ kept_exponents p
+kept_exponents-filled :
+    (p : Plan) (xs : List ℕ) → IsFilled (slice_index p.exponents) xs (generations_of p)
+    → xs ≡ kept_exponents p
 unfolding kept_exponents
-kept_exponents-filled p xs h = fill_by_all (slice_index p.exponents) xs 16 0 h.size (λ k inside. elim (cases_lt k (generations_of p)) [
-  | inl below ↦ h.filled k below
-  | inr above ↦ h.empty k above inside ∙ sym (get_or_past p.exponents k 0 above)
-])
+kept_exponents-filled p xs h = fill_by_all (slice_index p.exponents) xs 16 0 h.size
+    (λ k inside. elim (cases_lt k (generations_of p)) [
+      | inl below ↦ h.filled k below
+      | inr above ↦ h.empty k above inside ∙ sym (get_or_past p.exponents k 0 above)
+    ])
 
-kept_bases-filled : (p : Plan) (xs : List ℕ) → IsFilled (base_of p) xs (generations_of p) → xs ≡ kept_bases p
+kept_bases-filled :
+    (p : Plan) (xs : List ℕ) → IsFilled (base_of p) xs (generations_of p) → xs ≡ kept_bases p
 unfolding kept_bases
-kept_bases-filled p xs h = fill_by_all (λ k. cond (ltb k (generations_of p)) (base_of p k) 0) xs 16 0 h.size (λ k inside. elim (cases_lt k (generations_of p)) [
-  | inl below ↦ h.filled k below ∙ ap (λ b. cond b (base_of p k) 0) (sym (lt-ltb k (generations_of p) below))
-  | inr above ↦ h.empty k above inside ∙ ap (λ b. cond b (base_of p k) 0) (sym (le-ltb k (generations_of p) above))
-])
+kept_bases-filled p xs h = fill_by_all (λ k. cond (ltb k (generations_of p)) (base_of p k) 0)
+    xs 16 0 h.size (λ k inside. elim (cases_lt k (generations_of p)) [
+      | inl below ↦ h.filled k below ∙ ap (λ b. cond b (base_of p k) 0)
+          (sym (lt-ltb k (generations_of p) below))
+      | inr above ↦ h.empty k above inside ∙ ap (λ b. cond b (base_of p k) 0)
+          (sym (le-ltb k (generations_of p) above))
+    ])
 
-take-filled : (exponents xs : List ℕ) → IsFilled (slice_index exponents) xs (length exponents) → length exponents ≤ 16 → take (length exponents) xs ≡ exponents
+take-filled :
+    (exponents xs : List ℕ) → IsFilled (slice_index exponents) xs (length exponents)
+    → length exponents ≤ 16 → take (length exponents) xs ≡ exponents
 take-filled exponents xs h few =
-    let size : length (take (length exponents) xs) ≡ length exponents = length-take-le (length exponents) xs (omega (arith, h.size)) in
+    let size : length (take (length exponents) xs) ≡ length exponents =
+    length-take-le (length exponents) xs (omega (arith, h.size)) in
     ext_get_or 0 _ _ size (λ i below.
     let within : i < length exponents = omega arith in
     get_or-take (length exponents) xs i 0 within ∙ h.filled i within)
@@ -90,14 +117,21 @@ laid p xs ys end = record {
   stripes = p.stripes;
 }
 
-pub plan_of-laid : (p : Plan) (xs ys : List ℕ) (end n : ℕ) → IsPlan p → n ≡ generations_of p → AreLaid p.exponents xs ys end n → plan_of (laid p xs ys end) ≡ p
+pub plan_of-laid :
+    (p : Plan) (xs ys : List ℕ) (end n : ℕ) → IsPlan p → n ≡ generations_of p
+    → AreLaid p.exponents xs ys end n → plan_of (laid p xs ys end) ≡ p
 plan_of-laid p xs ys end n plan all h =
-    ap (λ (es : List ℕ). record p { exponents = es }) (take-filled p.exponents xs (subst (IsFilled (slice_index p.exponents) xs) all h.kept) plan.few_tables)
+    ap (λ (es : List ℕ). record p { exponents = es })
+    (take-filled p.exponents xs (subst (IsFilled (slice_index p.exponents) xs) all h.kept)
+    plan.few_tables)
 
-pub IsInside-laid : (p : Plan) (xs ys : List ℕ) (end n : ℕ) → IsPlan p → n ≡ generations_of p → AreLaid p.exponents xs ys end n → IsInside (laid p xs ys end)
+pub IsInside-laid :
+    (p : Plan) (xs ys : List ℕ) (end n : ℕ) → IsPlan p → n ≡ generations_of p
+    → AreLaid p.exponents xs ys end n → IsInside (laid p xs ys end)
 IsInside-laid p xs ys end n plan all h =
     let same : plan_of (laid p xs ys end) ≡ p = plan_of-laid p xs ys end n plan all h in
-    let exponents = kept_exponents-filled p xs (subst (IsFilled (slice_index p.exponents) xs) all h.kept) in
+    let exponents = kept_exponents-filled p xs
+    (subst (IsFilled (slice_index p.exponents) xs) all h.kept) in
     let bases = kept_bases-filled p ys (subst (IsFilled (base_of p) ys) all h.bases) in
     let words : end ≡ word_count p = h.words ∙ ap (base_of p) all in
     let fields : laid p xs ys end ≡ inside_of p = cc in

@@ -41,7 +41,8 @@ has_room p plan h legal = incomplete-room p (tables_at p h) plan (sound p h plan
 
 pub one_place : OnePlace
 one_place p plan later h legal =
-    place_from-same p (tables_at p h) (tables_at p (later ++ h)) (sound p h plan (beginnings_are_legal p later h legal))
+    place_from-same p (tables_at p h) (tables_at p (later ++ h))
+    (sound p h plan (beginnings_are_legal p later h legal))
     (sound p (later ++ h) plan legal) (seen_lasts p plan later h legal)
 
 -- the tables below the top word are complete after a step too
@@ -51,17 +52,27 @@ top-right :
     → (g < generations_of p) × IsComplete p u g
 top-right p t u plan s step right g below =
     elim (step.top) [
-      | TopKept e ↦ (let before = right g (omega arith) in (before.0, complete-stays p t u step g before.0 before.1))
+      | TopKept e ↦ (let before = right g (omega arith) in
+          (before.0, complete-stays p t u step g before.0 before.1))
       | Promotes f within may e ↦
           let next : t.next f ≡ 1 = complete-growing p t plan s f within may.complete in
           elim (cases_lt g f) [
-            | inl lower ↦ (omega arith, complete-stays p t u step g (omega arith) (complete-below p t s (suc f) g (omega arith) next))
-            | inr upper ↦ (omega arith, complete-stays p t u step g (omega arith) (subst (IsComplete p t) (omega arith) may.complete))
+            | inl lower ↦ (
+              omega arith,
+              complete-stays p t u step g (omega arith)
+                  (complete-below p t s (suc f) g (omega arith) next),
+            )
+            | inr upper ↦ (
+              omega arith,
+              complete-stays p t u step g (omega arith)
+                  (subst (IsComplete p t) (omega arith) may.complete),
+            )
           ]
     ]
 
 pub top_complete : TopComplete
 top_complete p plan [] legal g below = absurd (omega (arith, word-first p plan Top tt))
 top_complete p plan (e ∷ h) legal g below =
-    top-right p (tables_at p h) (tables_at p (e ∷ h)) plan (sound p h plan legal.0) (step_of p e h plan legal)
+    top-right p (tables_at p h) (tables_at p (e ∷ h)) plan (sound p h plan legal.0)
+    (step_of p e h plan legal)
     (top_complete p plan h legal.0) g below

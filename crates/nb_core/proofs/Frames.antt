@@ -51,9 +51,12 @@ key_state-word Dead = refl
 key_state-word (Claimed k) = grind (arith, nat_tests)
 
 -- what a key's word stands for after an event
-key_state-word_after : (p : Plan) (e : Event) (g i x : ℕ) → key_state (word_after p e (Key g i) x) ≡ key_after e g i (key_state x)
+key_state-word_after :
+    (p : Plan) (e : Event) (g i x : ℕ) → key_state (word_after p e (Key g i) x)
+    ≡ key_after e g i (key_state x)
 key_state-word_after p (Claim s f j k) g i x =
-    at_slot (λ g i here. key_state (cond here (k + 2) x) ≡ cond here (Claimed k) (key_state x)) f j g i
+    at_slot (λ g i here. key_state (cond here (k + 2) x) ≡ cond here (Claimed k) (key_state x))
+    f j g i
     (key_state-word (Claimed k)) refl
 key_state-word_after p (Kill s f j) g i x =
     at_slot (λ g i here. key_state (cond here 1 x) ≡ cond here Dead (key_state x)) f j g i refl refl
@@ -63,7 +66,8 @@ key_state-word_after p _ g i x = refl
 pub key-frame :
     (p : Plan) (e : Event) (h : List Event) → IsPlan p → IsInRange p e → (g i : ℕ) → IsSlot p g i
     → (tables_at p (e ∷ h)).key g i ≡ key_after e g i ((tables_at p h).key g i)
-key-frame p e h plan range g i slot = ap key_state (word-frame p plan h (Key g i) slot e range) ∙ key_state-word_after p e g i _
+key-frame p e h plan range g i slot = ap key_state (word-frame p plan h (Key g i) slot e range)
+    ∙ key_state-word_after p e g i _
 
 -- ---- values
 
@@ -85,10 +89,15 @@ primed-range _ range = tt
 
 -- a value's word, primed
 primed-word_of : (x : ℕ) (v : ValueState) → IsWordOf x v → IsWordOf (bit_or x 1) (primed v)
-primed-word_of x v w = record { in_range = primed-range v w.in_range; is = ap (λ x. bit_or x 1) w.is ∙ primed-word v }
+primed-word_of x v w = record {
+  in_range = primed-range v w.in_range;
+  is = ap (λ x. bit_or x 1) w.is
+      ∙ primed-word v;
+}
 
 -- a primed number's word, finished
-finished-word_of : (x n : ℕ) (v : ValueState) → v ≡ Primed n → IsWordOf x v → IsWordOf (bit_or x 2) (finished v)
+finished-word_of :
+    (x n : ℕ) (v : ValueState) → v ≡ Primed n → IsWordOf x v → IsWordOf (bit_or x 2) (finished v)
 finished-word_of x n v primed =
     subst (λ v. IsWordOf x v → IsWordOf (bit_or x 2) (finished v)) (sym primed)
     (λ w. record { in_range = w.in_range; is = ap (λ x. bit_or x 2) w.is ∙ finished-word n })
@@ -106,64 +115,81 @@ value_word_at p h g i = slice_index (words_of p h) (value_place p g i)
 
 -- each value word is a state's: the one that the tables say
 abbrev AreValueWords : Plan → List Event → Type 0
-AreValueWords p h = (g i : ℕ) → IsSlot p g i → IsWordOf (value_word_at p h g i) ((tables_at p h).value g i)
+AreValueWords p h = (g i : ℕ) → IsSlot p g i
+    → IsWordOf (value_word_at p h g i) ((tables_at p h).value g i)
 
 -- what an event makes of a value word is the word of what it makes of the value
 word_after-value :
-    (p : Plan) (e : Event) (h : List Event) → IsLegal p (e ∷ h) → AreValueWords p h → (g i : ℕ) → IsSlot p g i
-    → IsWordOf (word_after p e (Value g i) (value_word_at p h g i)) (value_after e g i ((tables_at p h).value g i))
+    (p : Plan) (e : Event) (h : List Event) → IsLegal p (e ∷ h) → AreValueWords p h → (g i : ℕ)
+    → IsSlot p g i
+    → IsWordOf (word_after p e (Value g i) (value_word_at p h g i))
+    (value_after e g i ((tables_at p h).value g i))
 word_after-value p (Won s f j a b c r) h legal words g i =
     let word = value_word_at p h in
     let value = (tables_at p h).value in
-    at_slot (λ g i here. IsSlot p g i → IsWordOf (cond here (value_word b) (word g i)) (cond here b (value g i))) f j g i
+    at_slot (λ g i here. IsSlot p g i → IsWordOf (cond here (value_word b) (word g i))
+    (cond here b (value g i))) f j g i
     (λ slot. record { in_range = legal.1.3; is = refl }) (words g i)
 word_after-value p (CopyIn s f j k n) h legal words g i =
     let word = value_word_at p h in
     let value = (tables_at p h).value in
-    at_slot (λ g i here. IsSlot p g i → IsWordOf (cond here (value_word (Live n)) (word g i)) (cond here (Live n) (value g i))) f j g i
+    at_slot (λ g i here. IsSlot p g i → IsWordOf (cond here (value_word (Live n)) (word g i))
+    (cond here (Live n) (value g i))) f j g i
     (λ slot. record { in_range = legal.1.3; is = refl }) (words g i)
 word_after-value p (Prime s f j) h legal words g i =
     let word = value_word_at p h in
     let value = (tables_at p h).value in
     at_slot (λ g i here.
-    IsSlot p g i → IsWordOf (cond here (bit_or (word g i) 1) (word g i)) (cond here (primed (value g i)) (value g i))) f j g i
+    IsSlot p g i → IsWordOf (cond here (bit_or (word g i) 1) (word g i))
+    (cond here (primed (value g i)) (value g i))) f j g i
     (λ slot. primed-word_of _ _ (words f j slot)) (words g i)
 word_after-value p (Finish s f j) h legal words g i =
     let word = value_word_at p h in
     let value = (tables_at p h).value in
     at_slot (λ g i here.
-    IsSlot p g i → IsWordOf (cond here (bit_or (word g i) 2) (word g i)) (cond here (finished (value g i)) (value g i))) f j g i
+    IsSlot p g i → IsWordOf (cond here (bit_or (word g i) 2) (word g i))
+    (cond here (finished (value g i)) (value g i))) f j g i
     (λ slot. finished-word_of _ legal.2.number _ legal.2.primed (words f j slot)) (words g i)
 word_after-value p _ h legal words g i = words g i
 
 -- the same of the words after the event
 next-value_word :
-    (p : Plan) (e : Event) (h : List Event) → IsPlan p → IsLegal p (e ∷ h) → AreValueWords p h → (g i : ℕ) → IsSlot p g i
+    (p : Plan) (e : Event) (h : List Event) → IsPlan p → IsLegal p (e ∷ h) → AreValueWords p h
+    → (g i : ℕ) → IsSlot p g i
     → IsWordOf (value_word_at p (e ∷ h) g i) (value_after e g i ((tables_at p h).value g i))
 next-value_word p e h plan legal words g i slot =
-    subst (λ x. IsWordOf x (value_after e g i ((tables_at p h).value g i))) (sym (word-frame p plan h (Value g i) slot e legal.1))
+    subst (λ x. IsWordOf x (value_after e g i ((tables_at p h).value g i)))
+    (sym (word-frame p plan h (Value g i) slot e legal.1))
     (word_after-value p e h legal words g i slot)
 
 -- each value word of a legal history is a state's
 pub value_words : (p : Plan) (h : List Event) → IsPlan p → IsLegal p h → AreValueWords p h
-value_words p [] plan legal g i slot = says-itself _ Null (record { in_range = tt; is = word-first p plan (Value g i) slot })
-value_words p (e ∷ h) plan legal g i slot = says-itself _ _ (next-value_word p e h plan legal (value_words p h plan legal.0) g i slot)
+value_words p [] plan legal g i slot = says-itself _ Null
+    (record { in_range = tt; is = word-first p plan (Value g i) slot })
+value_words p (e ∷ h) plan legal g i slot =
+    says-itself _ _ (next-value_word p e h plan legal (value_words p h plan legal.0) g i slot)
 
 -- each value after an event of a legal history
 pub value-frame :
-    (p : Plan) (e : Event) (h : List Event) → IsPlan p → IsLegal p (e ∷ h) → (g i : ℕ) → IsSlot p g i
+    (p : Plan) (e : Event) (h : List Event) → IsPlan p → IsLegal p (e ∷ h) → (g i : ℕ)
+    → IsSlot p g i
     → (tables_at p (e ∷ h)).value g i ≡ value_after e g i ((tables_at p h).value g i)
-value-frame p e h plan legal g i slot = says _ _ (next-value_word p e h plan legal (value_words p h plan legal.0) g i slot)
+value-frame p e h plan legal g i slot = says _ _
+    (next-value_word p e h plan legal (value_words p h plan legal.0) g i slot)
 
 -- ---- next words
 
 -- past the last table there are no words
 next-past : (p : Plan) (h : List Event) (g : ℕ) → generations_of p ≤ g → (tables_at p h).next g ≡ 0
-next-past p h g past = get_or-eq_default (words_of p h) 0 (omega (arith, length-words_of p h, base_of-le p (generations_of p) g past))
+next-past p h g past = get_or-eq_default (words_of p h) 0
+    (omega (arith, length-words_of p h, base_of-le p (generations_of p) g past))
 
 -- no event is of a table that isn't there
-after-past : (p : Plan) (e : Event) → IsInRange p e → (g : ℕ) → generations_of p ≤ g → word_after p e (Header g 0) 0 ≡ 0
-after-past p (Install s f k) range g past = ap (λ b. cond b 1 0) (ne_eqb f g (λ same. omega (arith, range.1)))
+after-past :
+    (p : Plan) (e : Event) → IsInRange p e → (g : ℕ) → generations_of p ≤ g
+    → word_after p e (Header g 0) 0 ≡ 0
+after-past p (Install s f k) range g past =
+    ap (λ b. cond b 1 0) (ne_eqb f g (λ same. omega (arith, range.1)))
 after-past p _ range g past = refl
 
 -- each next word after an event
@@ -185,7 +211,8 @@ pub key-first : (p : Plan) → IsPlan p → (g i : ℕ) → IsSlot p g i → (ta
 key-first p plan g i slot = ap key_state (word-first p plan (Key g i) slot)
 
 -- each value is null,
-pub value-first : (p : Plan) → IsPlan p → (g i : ℕ) → IsSlot p g i → (tables_at p []).value g i ≡ Null
+pub value-first :
+    (p : Plan) → IsPlan p → (g i : ℕ) → IsSlot p g i → (tables_at p []).value g i ≡ Null
 value-first p plan g i slot = ap value_of (word-first p plan (Value g i) slot)
 
 -- and each next word is 0

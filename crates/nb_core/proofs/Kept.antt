@@ -13,7 +13,8 @@ plan-kept a p h e = subst IsPlan e h.plan
 
 -- the fields of a shape with another reprobe limit and chunk are those of a shape
 pub inside-tuned :
-    (a : Inside) (reprobes chunk : ℕ) → IsInside a → (1 ≤ reprobes) × (reprobes < 2 ^ 32) → IsChunk chunk
+    (a : Inside) (reprobes chunk : ℕ) → IsInside a → (1 ≤ reprobes) × (reprobes < 2 ^ 32)
+    → IsChunk chunk
     → IsInside (record a { reprobes = reprobes; chunk = chunk })
 unfolding kept_exponents kept_bases
 inside-tuned a reprobes chunk h some is = record {
@@ -31,24 +32,36 @@ inside-tuned a reprobes chunk h some is = record {
 }
 
 -- a table's exponent stands where the plan has it
-pub exponents-at : (a : Inside) (p : Plan) (g : ℕ) → plan_of a ≡ p → g < generations_of p → slice_index p.exponents g ≡ slice_index a.exponents g
+pub exponents-at :
+    (a : Inside) (p : Plan) (g : ℕ) → plan_of a ≡ p → g < generations_of p
+    → slice_index p.exponents g ≡ slice_index a.exponents g
 exponents-at a p g e within =
-    let in_table : g < a.generations = omega (arith, length-take a.generations a.exponents, ap (λ q. generations_of q) e) in
+    let in_table : g < a.generations = omega
+    (arith, length-take a.generations a.exponents, ap (λ q. generations_of q) e) in
     ap (λ q. slice_index q.exponents g) (sym e) ∙ get_or-take a.generations a.exponents g 0 in_table
 
 -- and is a small one
-pub exponents-few : (a : Inside) (p : Plan) (g : ℕ) → IsInside a → plan_of a ≡ p → g < generations_of p → slice_index a.exponents g ≤ 19
+pub exponents-few :
+    (a : Inside) (p : Plan) (g : ℕ) → IsInside a → plan_of a ≡ p → g < generations_of p
+    → slice_index a.exponents g ≤ 19
 exponents-few a p g h e within =
     let all = (plan-kept a p h e).sizes in
-    subst (λ n. n ≤ 19) (exponents-at a p g e within) (All-get_or (λ n. (2 ≤ n) × (n ≤ 19)) p.exponents g 0 within all).1
+    subst (λ n. n ≤ 19) (exponents-at a p g e within)
+    (All-get_or (λ n. (2 ≤ n) × (n ≤ 19)) p.exponents g 0 within all).1
 
-kept_bases-at : (p : Plan) (g : ℕ) → IsPlan p → g < generations_of p → slice_index (kept_bases p) g ≡ base_of p g
+kept_bases-at :
+    (p : Plan) (g : ℕ) → IsPlan p → g < generations_of p
+    → slice_index (kept_bases p) g ≡ base_of p g
 unfolding kept_bases
 kept_bases-at p g plan within =
-    get_or-map-range_with_len (λ k. cond (ltb k (generations_of p)) (base_of p k) 0) 0 16 g g 0 (omega (arith, plan.few_tables)) (omega arith)
+    get_or-map-range_with_len (λ k. cond (ltb k (generations_of p)) (base_of p k) 0) 0 16 g g 0
+    (omega (arith, plan.few_tables)) (omega arith)
     ∙ ap (λ b. cond b (base_of p g) 0) (lt-ltb g (generations_of p) within)
 
 -- a table begins where the shape keeps that it does
-pub bases-at : (a : Inside) (p : Plan) (g : ℕ) → IsInside a → plan_of a ≡ p → g < generations_of p → slice_index a.bases g ≡ base_of p g
+pub bases-at :
+    (a : Inside) (p : Plan) (g : ℕ) → IsInside a → plan_of a ≡ p → g < generations_of p
+    → slice_index a.bases g ≡ base_of p g
 bases-at a p g h e within =
-    ap (λ (b : Inside). slice_index b.bases g) (h.fields ∙ ap inside_of e) ∙ kept_bases-at p g (plan-kept a p h e) within
+    ap (λ (b : Inside). slice_index b.bases g) (h.fields ∙ ap inside_of e)
+    ∙ kept_bases-at p g (plan-kept a p h e) within

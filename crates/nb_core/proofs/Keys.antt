@@ -33,7 +33,8 @@ AreInRange k n = (k ≤ KEY_MAX) × (n ≤ VALUE_MAX)
 
 -- what an exchange leaves at its key is in range, where what stood there was
 number_left-range :
-    (b : ValueState) (before : Option ℕ) (k n : ℕ) → IsValueState b → k ≤ KEY_MAX → (before ≡ Some n → AreInRange k n)
+    (b : ValueState) (before : Option ℕ) (k n : ℕ) → IsValueState b → k ≤ KEY_MAX
+    → (before ≡ Some n → AreInRange k n)
     → number_left b before ≡ Some n → AreInRange k n
 number_left-range (Live m) before k n range key old is =
     let same : m ≡ n = cc in (key, subst (λ x. x ≤ VALUE_MAX) same range)
@@ -42,20 +43,25 @@ number_left-range _ before k n range key old is = old is
 
 -- so is what stands at each key after an exchange
 number_at-range_won :
-    (key : ℕ) (b : ValueState) (before : Option ℕ) (k n : ℕ) → IsValueState b → key ≤ KEY_MAX → (before ≡ Some n → AreInRange k n)
+    (key : ℕ) (b : ValueState) (before : Option ℕ) (k n : ℕ) → IsValueState b → key ≤ KEY_MAX
+    → (before ≡ Some n → AreInRange k n)
     → cond (eqb k key) (number_left b before) before ≡ Some n → AreInRange k n
 number_at-range_won key b before k n range fits old =
-    elim (eqb k key) as (λ t. eqb k key ≡ t → cond t (number_left b before) before ≡ Some n → AreInRange k n) [
-      | true ↦ λ same. number_left-range b before k n range (subst (λ x. x ≤ KEY_MAX) (sym (eqb-true k key same)) fits) old
+    elim (eqb k key) as (λ t. eqb k key ≡ t → cond t (number_left b before) before ≡ Some n
+    → AreInRange k n) [
+      | true ↦ λ same. number_left-range b before k n range
+          (subst (λ x. x ≤ KEY_MAX) (sym (eqb-true k key same)) fits) old
       | false ↦ λ other. old
     ] refl
 
 -- and at any moment
-number_at-range : (p : Plan) (h : List Event) → IsLegal p h → (k n : ℕ) → number_at h k ≡ Some n → AreInRange k n
+number_at-range :
+    (p : Plan) (h : List Event) → IsLegal p h → (k n : ℕ) → number_at h k ≡ Some n → AreInRange k n
 number_at-range p [] legal k n is = absurd cc
 number_at-range p (Won s g i a b c r ∷ h) legal k n is =
     let before = number_at-range p h legal.0 k n in
-    number_at-range_won (key_of_call c) b (number_at h k) k n legal.1.3 (key-range c legal.1.4) before is
+    number_at-range_won (key_of_call c) b (number_at h k) k n legal.1.3 (key-range c legal.1.4)
+    before is
 number_at-range p (e ∷ h) legal k n is = number_at-range p h legal.0 k n is
 
 pub map_in_range : MapInRange
@@ -71,7 +77,8 @@ T-both false b holds = absurd holds
 -- a number that compares below another is below it
 nat_cmp-lt : (a b : ℕ) → T (is_lt (nat_cmp a b)) → a < b
 nat_cmp-lt a b =
-    elim (ltb a b) as (λ t. ltb a b ≡ t → T (is_lt (cond t Less (cond (eqb a b) Equal Greater))) → a < b) [
+    elim (ltb a b) as (λ t. ltb a b ≡ t → T (is_lt (cond t Less (cond (eqb a b) Equal Greater)))
+    → a < b) [
       | true ↦ λ less holds. ltb-true a b less
       | false ↦ λ other holds. absurd (not_less (eqb a b) holds)
     ] refl
@@ -81,15 +88,20 @@ nat_cmp-lt a b =
     not_less false holds = holds
 
 -- what is found at a key in one entry more
-find-more : (e : ℕ × ℕ) (es : List (ℕ × ℕ)) (q : ℕ) → find nat_cmp q (e ∷ es) ≡ cond (eqb q e.0) (Some e.1) (find nat_cmp q es)
+find-more :
+    (e : ℕ × ℕ) (es : List (ℕ × ℕ)) (q : ℕ)
+    → find nat_cmp q (e ∷ es) ≡ cond (eqb q e.0) (Some e.1) (find nat_cmp q es)
 find-more e es q = ap (λ t. cond t (Some e.1) (find nat_cmp q es)) (same_key q e.0)
 
 -- each key that is found in entries above a key is above it
-found-above : (k : ℕ) (es : List (ℕ × ℕ)) → T (below_all nat_cmp k es) → (q v : ℕ) → find nat_cmp q es ≡ Some v → k < q
+found-above :
+    (k : ℕ) (es : List (ℕ × ℕ)) → T (below_all nat_cmp k es) → (q v : ℕ)
+    → find nat_cmp q es ≡ Some v → k < q
 found-above k [] above q v found = absurd cc
 found-above k (e ∷ es) above q v found =
     let parts = T-both (is_lt (nat_cmp k e.0)) (below_all nat_cmp k es) above in
-    (elim (eqb q e.0) as (λ t. eqb q e.0 ≡ t → cond t (Some e.1) (find nat_cmp q es) ≡ Some v → k < q) [
+    (elim (eqb q e.0) as (λ t. eqb q e.0 ≡ t → cond t (Some e.1) (find nat_cmp q es) ≡ Some v
+    → k < q) [
       | true ↦ λ here _. subst (λ x. k < x) (sym (eqb-true q e.0 here)) (nat_cmp-lt k e.0 parts.0)
       | false ↦ λ away rest. found-above k es parts.1 q v rest
     ]) refl (sym (find-more e es q) ∙ found)
@@ -100,13 +112,16 @@ AreBetween es low most = (q v : ℕ) → find nat_cmp q es ≡ Some v → (low �
 
 -- entries whose keys rise from low on, and are below most, are no more than the numbers between
 few-between :
-    (es : List (ℕ × ℕ)) (low most : ℕ) → low ≤ most → T (is_sorted nat_cmp es) → AreBetween es low most → low + length es ≤ most
+    (es : List (ℕ × ℕ)) (low most : ℕ) → low ≤ most → T (is_sorted nat_cmp es)
+    → AreBetween es low most → low + length es ≤ most
 few-between [] low most fits rise between = omega arith
 few-between (e ∷ es) low most fits rise between =
     let parts = T-both (below_all nat_cmp e.0 es) (is_sorted nat_cmp es) rise in
     let branch = λ (q : ℕ) (t : Bool). cond t (Some e.1) (find nat_cmp q es) in
-    let first : (low ≤ e.0) × (e.0 < most) = between e.0 e.1 (find-more e es e.0 ∙ ap (branch e.0) (eq-eqb e.0 e.0 refl)) in
-    let rest : suc e.0 + length es ≤ most = few-between es (suc e.0) most (omega arith) parts.1 (λ q v found.
+    let first : (low ≤ e.0) × (e.0 < most) =
+    between e.0 e.1 (find-more e es e.0 ∙ ap (branch e.0) (eq-eqb e.0 e.0 refl)) in
+    let rest : suc e.0 + length es ≤ most =
+    few-between es (suc e.0) most (omega arith) parts.1 (λ q v found.
     let above = found-above e.0 es parts.0 q v found in
     let other = ne_eqb q e.0 (λ same. absurd (omega arith)) in
     (omega arith, (between q v (find-more e es q ∙ ap (branch q) other ∙ found)).1)) in
@@ -116,5 +131,10 @@ pub few_keys : FewKeys
 few_keys p plan h legal =
     let m = map_of h in
     let between : AreBetween (map.entries m) 0 (KEY_MAX + 1) = λ q v found.
-    let range = map_in_range p plan h legal q v (map.get-entries m q ∙ found) in (omega arith, omega (arith, range.0)) in
-    omega (arith, few-between (map.entries m) 0 (KEY_MAX + 1) (omega arith) (map.entries_sorted m) between)
+    let range = map_in_range p plan h legal q v (map.get-entries m q ∙ found) in
+    (omega arith, omega (arith, range.0)) in
+    omega (
+      arith,
+      few-between (map.entries m) 0 (KEY_MAX + 1) (omega arith) (map.entries_sorted m)
+          between,
+    )

@@ -27,24 +27,30 @@ pub data Puts (a b : ValueState) : Type 0 where
 -- by what is put: a number or none
 exchange-of :
     (o : Option ℕ) (a b : ValueState) (P : ℕ → Type 0)
-    → MatchOption o ((b ≡ Tombstone) × ((n : ℕ) × (a ≡ Live n))) (λ n. (b ≡ Live n) × (b ≢ a) × P n) → Puts a b
+    → MatchOption o ((b ≡ Tombstone) × ((n : ℕ) × (a ≡ Live n))) (λ n. (b ≡ Live n) × (b ≢ a) × P n)
+    → Puts a b
 exchange-of None a b P e = PutsNone e.1.0 e.1.1 e.0
 exchange-of (Some n) a b P e = PutsNumber n e.0 e.1
 
 exchange-puts : (c : Call) (k : ℕ) (a b : ValueState) → IsExchange c k a b → Puts a b
 exchange-puts (call.Get key) k a b e = absurd e
-exchange-puts (call.Write key want change) k a b e = exchange-of (changed change (number_in_value a)) a b _ e.2
+exchange-puts (call.Write key want change) k a b e =
+    exchange-of (changed change (number_in_value a)) a b _ e.2
 
 exchange-key : (c : Call) (k : ℕ) (a b : ValueState) → IsExchange c k a b → key_of_call c ≡ k
 exchange-key (call.Get key) k a b e = absurd e
 exchange-key (call.Write key want change) k a b e = e.0
 
 -- a call that may win puts a number or a tombstone,
-pub win-puts : {p : Plan} {t : Tables} {g i : ℕ} {a b : ValueState} {c : Call} → MayWin p t g i a b c → Puts a b
+pub win-puts :
+    {p : Plan} {t : Tables} {g i : ℕ} {a b : ValueState} {c : Call} → MayWin p t g i a b c
+    → Puts a b
 win-puts {a = a} {b = b} {c = c} may = exchange-puts c may.key a b may.exchange
 
 -- at its key
-pub win-key : {p : Plan} {t : Tables} {g i : ℕ} {a b : ValueState} {c : Call} → (may : MayWin p t g i a b c) → key_of_call c ≡ may.key
+pub win-key :
+    {p : Plan} {t : Tables} {g i : ℕ} {a b : ValueState} {c : Call} → (may : MayWin p t g i a b c)
+    → key_of_call c ≡ may.key
 win-key {a = a} {b = b} {c = c} may = exchange-key c may.key a b may.exchange
 
 module _ {a b : ValueState} where
@@ -89,7 +95,8 @@ module _ {p : Plan} {t : Tables} {g i : ℕ} {to : ValueState} where
       ValueStep p t g i to → (IsUnprimed (t.value g i) → ⊥)
       → (to ≡ t.value g i) ⊎ ((n : ℕ) × (t.value g i ≡ Primed n) × (to ≡ Finished n))
   value-primed (ValueKept e) primed = inl e
-  value-primed (Wins a b c may e) primed = absurd (primed (subst IsUnprimed (sym may.stands) may.unprimed))
+  value-primed (Wins a b c may e) primed =
+      absurd (primed (subst IsUnprimed (sym may.stands) may.unprimed))
   value-primed (Copies k n may e) primed = absurd (primed (subst IsUnprimed (sym may.null) tt))
   value-primed (Primes may e) primed = absurd (primed may.unprimed)
   value-primed (Finishes may e) primed = inr (may.number, may.primed, e)
@@ -107,28 +114,34 @@ module _ {p : Plan} {t : Tables} {g i : ℕ} {to : ValueState} where
   value-still_final step final = subst IsFinishedValue (sym (value-final step final)) final
 
   -- a number that is primed stays, primed or finished
-  pub value-primed_or_finished : {n : ℕ} → ValueStep p t g i to → IsPrimedOrFinished t g i n → (to ≡ Primed n) ⊎ (to ≡ Finished n)
+  pub value-primed_or_finished : {n : ℕ} → ValueStep p t g i to → IsPrimedOrFinished t g i n
+      → (to ≡ Primed n) ⊎ (to ≡ Finished n)
   value-primed_or_finished {n} step (inl primed) =
       elim (value-primed step (λ unprimed. subst IsUnprimed primed unprimed)) [
         | inl e ↦ inl (e ∙ primed)
-        | inr finishes ↦ inr (let same : Primed finishes.0 ≡ Primed n = sym finishes.1 ∙ primed in let is = finishes.2 in cc)
+        | inr finishes ↦ inr (let same : Primed finishes.0 ≡ Primed n = sym finishes.1 ∙ primed in
+            let is = finishes.2 in cc)
       ]
-  value-primed_or_finished step (inr finished) = inr (value-final step (subst IsFinishedValue (sym finished) refl) ∙ finished)
+  value-primed_or_finished step (inr finished) =
+      inr (value-final step (subst IsFinishedValue (sym finished) refl) ∙ finished)
 
   -- no step makes a value null
   pub value-some : ValueStep p t g i to → t.value g i ≢ Null → to ≢ Null
   value-some (ValueKept e) some null = some (sym e ∙ null)
-  value-some (Wins a b c may e) some null = content-some b (put-content (win-puts may)) (sym e ∙ null)
+  value-some (Wins a b c may e) some null =
+      content-some b (put-content (win-puts may)) (sym e ∙ null)
   value-some (Copies k n may e) some null = (let same : Live n ≡ Null = sym e ∙ null in cc)
   value-some (Primes may e) some null = primed-some (t.value g i) (sym e ∙ null)
-  value-some (Finishes may e) some null = (let same : Finished may.number ≡ Null = sym e ∙ null in cc)
+  value-some (Finishes may e) some null =
+      (let same : Finished may.number ≡ Null = sym e ∙ null in cc)
 
   -- what has a content keeps one
   pub value-content : ValueStep p t g i to → HasContent (t.value g i) → HasContent to
   value-content (ValueKept e) content = subst HasContent (sym e) content
   value-content (Wins a b c may e) content = subst HasContent (sym e) (put-content (win-puts may))
   value-content (Copies k n may e) content = subst HasContent (sym e) tt
-  value-content (Primes may e) content = subst HasContent (sym e) (primed-content (t.value g i) content)
+  value-content (Primes may e) content = subst HasContent (sym e)
+      (primed-content (t.value g i) content)
   value-content (Finishes may e) content = subst HasContent (sym e) tt
 
   -- only a claimed slot's value changes
@@ -140,8 +153,10 @@ module _ {p : Plan} {t : Tables} {g i : ℕ} {to : ValueState} where
   value-unclaimed (Finishes may e) unclaimed = absurd (unclaimed may.key may.claimed)
 
   -- an empty slot's value is null after the step too
-  pub value-empty : IsSound p t → IsSlot p g i → ValueStep p t g i to → t.key g i ≡ Empty → to ≡ Null
-  value-empty s slot step empty = value-unclaimed step (empty-unclaimed empty) ∙ empty-null p t s g i slot empty
+  pub value-empty : IsSound p t → IsSlot p g i → ValueStep p t g i to → t.key g i ≡ Empty
+      → to ≡ Null
+  value-empty s slot step empty = value-unclaimed step (empty-unclaimed empty)
+      ∙ empty-null p t s g i slot empty
 
 -- ---- keys
 
@@ -161,10 +176,12 @@ module _ {p : Plan} {t : Tables} {g i : ℕ} {to : KeyState} where
   key-dead step is = key-stays step (λ empty. let e : Dead ≡ Empty = sym is ∙ empty in cc) ∙ is
 
   -- a claimed slot was the key's already, or was claimed just now
-  pub key-was : {k : ℕ} → KeyStep p t g i to → to ≡ Claimed k → (t.key g i ≡ Claimed k) ⊎ ((k ≤ KEY_MAX) × MayClaim p t g i k)
+  pub key-was : {k : ℕ} → KeyStep p t g i to → to ≡ Claimed k → (t.key g i ≡ Claimed k)
+      ⊎ ((k ≤ KEY_MAX) × MayClaim p t g i k)
   key-was (KeyKept e) is = inl (sym e ∙ is)
   key-was {k} (Claims j range may e) is =
-      let same : j ≡ k = claimed-same (sym e ∙ is) in inr (subst (λ x. x ≤ KEY_MAX) same range, subst (MayClaim p t g i) same may)
+      let same : j ≡ k = claimed-same (sym e ∙ is) in
+      inr (subst (λ x. x ≤ KEY_MAX) same range, subst (MayClaim p t g i) same may)
   key-was {k} (Kills may e) is = absurd (let same : Dead ≡ Claimed k = sym e ∙ is in cc)
 
   -- a dead slot was dead already, or was closed just now
@@ -196,13 +213,23 @@ module _ (p : Plan) (t u : Tables) (step : Step p t u) where
   complete-stays g within complete i below = finished-stays g i (within, below) (complete i below)
 
   -- slots of other keys such,
-  pub others-stay : IsPlan p → (g k d : ℕ) → g < generations_of p → AreOthers p t g k d → AreOthers p u g k d
+  pub others-stay : IsPlan p → (g k d : ℕ) → g < generations_of p → AreOthers p t g k d
+      → AreOthers p u g k d
   others-stay plan g k d within others e below =
       let other = others e below in
       let slot = path_slot-is_slot p plan g k e within in
-      record { other = other.other; is = key-claimed (step.key g (path_slot p g k e) slot) other.is; differs = other.differs }
+      record {
+        other = other.other;
+        is = key-claimed (step.key g (path_slot p g k e) slot) other.is;
+        differs = other.differs;
+      }
 
   -- and a key's slot the key's
   pub slot-stays : (g k : ℕ) → g < generations_of p → HasSlot p t g k → HasSlot p u g k
   slot-stays g k within has =
-      record { slot = has.slot; in_table = has.in_table; is = key-claimed (step.key g has.slot (within, has.in_table)) has.is }
+      record {
+        slot = has.slot;
+        in_table = has.in_table;
+        is =
+            key-claimed (step.key g has.slot (within, has.in_table)) has.is;
+      }

@@ -17,11 +17,14 @@ module _ (p : Plan) (t u : Tables) (plan : IsPlan p) (s : IsSound p t) (step : S
   -- a passed key stays passed,
   passed-stays : (g k : ℕ) → g < generations_of p → IsPassed p t g k → IsPassed p u g k
   passed-stays g k within (AtSlot i below is final) =
-      AtSlot i below (key-claimed (step.key g i (within, below)) is) (value-still_final (step.value g i (within, below)) final)
+      AtSlot i below (key-claimed (step.key g i (within, below)) is)
+      (value-still_final (step.value g i (within, below)) final)
   passed-stays g k within (UpToDead d below others dead) =
       let slot = path_slot-is_slot p plan g k d within in
-      UpToDead d below (others-stay p t u step plan g k d within others) (key-dead (step.key g (path_slot p g k d) slot) dead)
-  passed-stays g k within (Whole others) = Whole (others-stay p t u step plan g k (size_of p g) within others)
+      UpToDead d below (others-stay p t u step plan g k d within others)
+      (key-dead (step.key g (path_slot p g k d) slot) dead)
+  passed-stays g k within (Whole others) =
+      Whole (others-stay p t u step plan g k (size_of p g) within others)
 
   -- a key with a value keeps one,
   value-stays : (g k : ℕ) → g < generations_of p → HasValue p t g k → HasValue p u g k
@@ -38,7 +41,8 @@ module _ (p : Plan) (t u : Tables) (plan : IsPlan p) (s : IsSound p t) (step : S
   ready-stays (suc g) within ready = complete-stays p t u step g (omega arith) ready
 
   -- a key with a slot above gets none below, so what is settled is so for ever
-  settled-stays : (g k : ℕ) → g < generations_of p → HasSlot p t g k → IsSettledBelow p t g k → IsSettledBelow p u g k
+  settled-stays : (g k : ℕ) → g < generations_of p → HasSlot p t g k → IsSettledBelow p t g k
+      → IsSettledBelow p u g k
   settled-stays zero k within has settled = tt
   settled-stays (suc g) k within has settled = λ i below is.
       let slot : IsSlot p g i = (omega arith, below) in
@@ -111,12 +115,15 @@ lasts-then p t u v a b = record {
   has_value = λ g k within is. b.has_value g k within (a.has_value g k within is);
   not_null = λ g i slot is. b.not_null g i slot (a.not_null g i slot is);
   content = λ g i slot is. b.content g i slot (a.content g i slot is);
-  primed_or_finished = λ g i n slot is. b.primed_or_finished g i n slot (a.primed_or_finished g i n slot is);
-  final = λ g i slot is. let first = a.final g i slot is in b.final g i slot (subst IsFinishedValue (sym first) is) ∙ first;
+  primed_or_finished = λ g i n slot is. b.primed_or_finished g i n slot
+      (a.primed_or_finished g i n slot is);
+  final = λ g i slot is. let first = a.final g i slot is in
+      b.final g i slot (subst IsFinishedValue (sym first) is) ∙ first;
   finished = λ g i slot is. b.finished g i slot (a.finished g i slot is);
   complete = λ g within is. b.complete g within (a.complete g within is);
   ready = λ g within is. b.ready g within (a.ready g within is);
-  settled = λ g k within has is. b.settled g k within (a.has_slot g k within has) (a.settled g k within has is);
+  settled = λ g k within has is. b.settled g k within (a.has_slot g k within has)
+      (a.settled g k within has is);
   top = omega (arith, a.top, b.top);
 }
 
@@ -130,34 +137,42 @@ seen_lasts p plan (e ∷ later) h legal =
     let t = tables_at p (later ++ h) in
     let u = tables_at p (e ∷ later ++ h) in
     lasts-then p (tables_at p h) t u (seen_lasts p plan later h legal.0)
-    (lasts-step p t u plan (sound p (later ++ h) plan legal.0) (step_of p e (later ++ h) plan legal))
+    (lasts-step p t u plan (sound p (later ++ h) plan legal.0)
+    (step_of p e (later ++ h) plan legal))
 
 pub content_once : ContentOnce
-content_once p plan later h legal g i slot content = (seen_lasts p plan later h legal).content g i slot content
+content_once p plan later h legal g i slot content =
+    (seen_lasts p plan later h legal).content g i slot content
 
 -- ---- what stays in a slot
 
 -- a key that isn't empty is the same in later tables
 key-same :
-    (p : Plan) (t u : Tables) → Lasts p t u → (g i : ℕ) → IsSlot p g i → (s : KeyState) → t.key g i ≡ s → s ≢ Empty → u.key g i ≡ s
+    (p : Plan) (t u : Tables) → Lasts p t u → (g i : ℕ) → IsSlot p g i → (s : KeyState)
+    → t.key g i ≡ s → s ≢ Empty → u.key g i ≡ s
 key-same p t u a g i slot Empty is some = absurd (some refl)
 key-same p t u a g i slot Dead is some = a.dead g i slot is
 key-same p t u a g i slot (Claimed k) is some = a.claimed g i k slot is
 
 -- a slot's key stays, and a finished slot's value
-stays : (p : Plan) (t u : Tables) → IsSound p t → IsSound p u → Lasts p t u → (g i : ℕ) → IsSlot p g i → Stays t u g i
+stays :
+    (p : Plan) (t u : Tables) → IsSound p t → IsSound p u → Lasts p t u → (g i : ℕ) → IsSlot p g i
+    → Stays t u g i
 stays p t u s r a g i slot = record {
   key = key-same p t u a g i slot (t.key g i) refl;
   finished = λ finished. elim finished [
     | inl dead ↦
         let still = a.dead g i slot dead in
         (still ∙ sym dead, dead-null p u r g i slot still ∙ sym (dead-null p t s g i slot dead))
-    | inr final ↦
-        (key-same p t u a g i slot (t.key g i) refl (finished-not_empty p t s g i slot (inr final)), a.final g i slot final)
+    | inr final ↦ (
+      key-same p t u a g i slot (t.key g i) refl (finished-not_empty p t s g i slot (inr final)),
+      a.final g i slot final,
+    )
   ];
 }
 
 pub slots_stay : SlotsStay
 slots_stay p plan later h legal g i slot =
-    stays p (tables_at p h) (tables_at p (later ++ h)) (sound p h plan (beginnings_are_legal p later h legal))
+    stays p (tables_at p h) (tables_at p (later ++ h))
+    (sound p h plan (beginnings_are_legal p later h legal))
     (sound p (later ++ h) plan legal) (seen_lasts p plan later h legal) g i slot

@@ -24,7 +24,9 @@ use Rattle.nb_core.specs.declared.states.ValueState.TheVariants.{Null, Tombstone
 -- ---- what words hold
 
 -- a slot's key is a key of the map
-key-lawful : (p : Plan) (t : Tables) → IsSound p t → (g i : ℕ) → IsSlot p g i → (s : KeyState) → t.key g i ≡ s → IsKeyState s
+key-lawful :
+    (p : Plan) (t : Tables) → IsSound p t → (g i : ℕ) → IsSlot p g i → (s : KeyState)
+    → t.key g i ≡ s → IsKeyState s
 key-lawful p t s g i slot Empty is = tt
 key-lawful p t s g i slot Dead is = tt
 key-lawful p t s g i slot (Claimed k) is = (s.claimed g i k slot is).key
@@ -43,7 +45,8 @@ taken-kept :
     t.next g ≡ 0 → word_after p e (Header g 1) (t.taken g) ≡ t.taken g
 taken-kept p (Take s f) h legal g none =
     let t = tables_at p h in
-    at_table (λ g here. t.next g ≡ 0 → cond here ((t.taken g + chunk_of p f) % 2 ^ 64) (t.taken g) ≡ t.taken g) f g
+    at_table (λ g here. t.next g ≡ 0 → cond here ((t.taken g + chunk_of p f) % 2 ^ 64) (t.taken g)
+    ≡ t.taken g) f g
     (λ none. let some = legal.2 in omega arith) (λ none. refl) none
 taken-kept p _ h legal g none = refl
 
@@ -52,32 +55,45 @@ last-within : (p : Plan) → IsPlan p → generations_of p - 1 < generations_of 
 last-within p plan = omega (arith, plan.some_tables)
 
 -- no chunk of the last table is handed out
-last-taken : (p : Plan) (h : List Event) → IsPlan p → IsLegal p h → (tables_at p h).taken (generations_of p - 1) ≡ 0
-last-taken p [] plan legal = word-first p plan (Header (generations_of p - 1) 1) (last-within p plan, omega arith)
+last-taken :
+    (p : Plan) (h : List Event) → IsPlan p → IsLegal p h
+    → (tables_at p h).taken (generations_of p - 1) ≡ 0
+last-taken p [] plan legal = word-first p plan (Header (generations_of p - 1) 1)
+    (last-within p plan, omega arith)
 last-taken p (e ∷ h) plan legal =
     let last = generations_of p - 1 in
     word-frame p plan h (Header last 1) (last-within p plan, omega arith) e legal.1
-    ∙ taken-kept p e h legal last (last-next p (tables_at p h) (sound p h plan legal.0)) ∙ last-taken p h plan legal.0
+    ∙ taken-kept p e h legal last (last-next p (tables_at p h) (sound p h plan legal.0))
+    ∙ last-taken p h plan legal.0
 
 -- where there is no next table no slot is finished
 none-finished :
-    (p : Plan) (t : Tables) → IsSound p t → (g : ℕ) → g < generations_of p → t.next g ≡ 0 → (n : ℕ) → n ≤ size_of p g
+    (p : Plan) (t : Tables) → IsSound p t → (g : ℕ) → g < generations_of p → t.next g ≡ 0 → (n : ℕ)
+    → n ≤ size_of p g
     → finished_among t g n ≡ 0
 none-finished p t s g within none zero below = refl
 none-finished p t s g within none (suc n) below =
     let test = is_dead (t.key g n) || is_finished_value (t.value g n) in
     cond_both test 1 0 (λ bit. bit + finished_among t g n ≡ 0)
-    (λ e. absurd (let next = finished-growing p t s g n (within, below) (is_finished-true t g n e) in omega arith))
+    (λ e. absurd (let next = finished-growing p t s g n (within, below)
+    (is_finished-true t g n e) in omega arith))
     (λ e. omega (arith, none-finished p t s g within none n (omega arith)))
 
 -- no slot of the last table is counted
-last-counted : (p : Plan) (h : List Event) → IsPlan p → IsLegal p h → (tables_at p h).counted (generations_of p - 1) ≡ 0
+last-counted :
+    (p : Plan) (h : List Event) → IsPlan p → IsLegal p h
+    → (tables_at p h).counted (generations_of p - 1) ≡ 0
 last-counted p h plan legal =
     let last = generations_of p - 1 in
     let s = sound p h plan legal in
     let counts = counted_once p plan h legal last (last-within p plan) in
     let none = last-next p (tables_at p h) s in
-    omega (arith, counts.within, none-finished p (tables_at p h) s last (last-within p plan) none (size_of p last) (omega arith))
+    omega (
+      arith,
+      counts.within,
+      none-finished p (tables_at p h) s last (last-within p plan) none
+          (size_of p last) (omega arith),
+    )
 
 -- so the last table's header words are 0
 last-headers :
@@ -96,7 +112,11 @@ lawful_words p plan h legal =
       keys = λ g i slot. key-lawful p (tables_at p h) s g i slot _ refl;
       values = λ g i slot.
           let w = value_words p h plan legal g i slot in
-          record { state = (tables_at p h).value g i; decodes = ap value_state w.is ∙ value_state-word _ w.in_range };
+          record {
+            state = (tables_at p h).value g i;
+            decodes = ap value_state w.is
+                ∙ value_state-word _ w.in_range;
+          };
       empty_is_null = λ g i slot is. empty-null p (tables_at p h) s g i slot is;
       dead_is_null = λ g i slot is. dead-null p (tables_at p h) s g i slot is;
       last_headers = last-headers p h plan legal;
@@ -120,37 +140,46 @@ put-changes a b unprimed (PutsNumber n e differs) =
 -- an event changes a key only as its kind may
 key-change :
     (p : Plan) (e : Event) (h : List Event) → IsLegal p (e ∷ h) → (g i : ℕ)
-    → let x = (tables_at p h).key g i in (key_after e g i x ≡ x) ⊎ IsKeyChange e g i x (key_after e g i x)
+    → let x = (tables_at p h).key g i in (key_after e g i x ≡ x)
+    ⊎ IsKeyChange e g i x (key_after e g i x)
 key-change p (Claim s f j k) h legal g i =
     let x = (tables_at p h).key in
-    at_slot (λ g i here. let y = cond here (Claimed k) (x g i) in (y ≡ x g i) ⊎ IsKeyChange (Claim s f j k) g i (x g i) y) f j g i
+    at_slot (λ g i here. let y = cond here (Claimed k) (x g i) in
+    (y ≡ x g i) ⊎ IsKeyChange (Claim s f j k) g i (x g i) y) f j g i
     (inr (refl, refl, legal.2.empty, refl)) (inl refl)
 key-change p (Kill s f j) h legal g i =
     let x = (tables_at p h).key in
-    at_slot (λ g i here. let y = cond here Dead (x g i) in (y ≡ x g i) ⊎ IsKeyChange (Kill s f j) g i (x g i) y) f j g i
+    at_slot (λ g i here. let y = cond here Dead (x g i) in
+    (y ≡ x g i) ⊎ IsKeyChange (Kill s f j) g i (x g i) y) f j g i
     (inr (refl, refl, legal.2.empty, refl)) (inl refl)
 key-change p _ h legal g i = inl refl
 
 -- and a value
 value-change :
     (p : Plan) (e : Event) (h : List Event) → IsLegal p (e ∷ h) → (g i : ℕ)
-    → let x = (tables_at p h).value g i in (value_after e g i x ≡ x) ⊎ IsValueChange e g i x (value_after e g i x)
+    → let x = (tables_at p h).value g i in (value_after e g i x ≡ x)
+    ⊎ IsValueChange e g i x (value_after e g i x)
 value-change p (Won s f j a b c r) h legal g i =
     let x = (tables_at p h).value in
-    at_slot (λ g i here. let y = cond here b (x g i) in (y ≡ x g i) ⊎ IsValueChange (Won s f j a b c r) g i (x g i) y) f j g i
-    (inr (refl, refl, legal.2.stands, refl, put-changes a b legal.2.unprimed (win-puts legal.2))) (inl refl)
+    at_slot (λ g i here. let y = cond here b (x g i) in
+    (y ≡ x g i) ⊎ IsValueChange (Won s f j a b c r) g i (x g i) y) f j g i
+    (inr (refl, refl, legal.2.stands, refl, put-changes a b legal.2.unprimed (win-puts legal.2)))
+    (inl refl)
 value-change p (CopyIn s f j k n) h legal g i =
     let x = (tables_at p h).value in
-    at_slot (λ g i here. let y = cond here (Live n) (x g i) in (y ≡ x g i) ⊎ IsValueChange (CopyIn s f j k n) g i (x g i) y) f j g i
+    at_slot (λ g i here. let y = cond here (Live n) (x g i) in
+    (y ≡ x g i) ⊎ IsValueChange (CopyIn s f j k n) g i (x g i) y) f j g i
     (inr (refl, refl, legal.2.null, refl)) (inl refl)
 value-change p (Prime s f j) h legal g i =
     let x = (tables_at p h).value in
-    at_slot (λ g i here. let y = cond here (primed (x g i)) (x g i) in (y ≡ x g i) ⊎ IsValueChange (Prime s f j) g i (x g i) y) f j g i
+    at_slot (λ g i here. let y = cond here (primed (x g i)) (x g i) in
+    (y ≡ x g i) ⊎ IsValueChange (Prime s f j) g i (x g i) y) f j g i
     (inr (refl, refl, legal.2.unprimed, refl)) (inl refl)
 value-change p (Finish s f j) h legal g i =
     let x = (tables_at p h).value in
     at_slot
-    (λ g i here. let y = cond here (finished (x g i)) (x g i) in (y ≡ x g i) ⊎ IsValueChange (Finish s f j) g i (x g i) y) f j g i
+    (λ g i here. let y = cond here (finished (x g i)) (x g i) in
+    (y ≡ x g i) ⊎ IsValueChange (Finish s f j) g i (x g i) y) f j g i
     (inr (refl, refl, (legal.2.number, legal.2.primed, ap finished legal.2.primed))) (inl refl)
 value-change p _ h legal g i = inl refl
 
@@ -160,9 +189,11 @@ lawful_changes p plan e h legal =
     record {
       one = one_word p e (words_of p h);
       keys = λ g i slot.
-          subst (λ y. (y ≡ t.key g i) ⊎ IsKeyChange e g i (t.key g i) y) (sym (key-frame p e h plan legal.1 g i slot))
+          subst (λ y. (y ≡ t.key g i) ⊎ IsKeyChange e g i (t.key g i) y)
+          (sym (key-frame p e h plan legal.1 g i slot))
           (key-change p e h legal g i);
       values = λ g i slot.
-          subst (λ y. (y ≡ t.value g i) ⊎ IsValueChange e g i (t.value g i) y) (sym (value-frame p e h plan legal g i slot))
+          subst (λ y. (y ≡ t.value g i) ⊎ IsValueChange e g i (t.value g i) y)
+          (sym (value-frame p e h plan legal g i slot))
           (value-change p e h legal g i);
     }

@@ -1,4 +1,5 @@
--- A test of histories that computes: what passes it is legal (`passes_legal` in proofs/). It is there for examples.
+-- A test of histories that computes: what passes it is legal (`passes_legal` in proofs/). It is
+-- there for examples.
 use Rattle.std.specs.Prelude.{ℕ, suc, zero, ◌+◌, ◌-◌, ◌%◌, ◌==◌, ◌&&◌, ◌||◌, not, nat_lt, nat_le, Bool, true, false, if◌then◌else◌, List, [], ◌∷◌, Option, Some, None, is_some}
 use Rattle.nb_core.specs.Calls.{is_past_max, leaves_alone, same_number}
 use Rattle.nb_core.specs.Log.{changed, holds_of}
@@ -91,7 +92,8 @@ has_slot_below p t (suc g) k = is_some (slot_among t g k (size_of p g))
 
 abbrev pub settled_among : Tables → ℕ → ℕ → ℕ → Bool
 settled_among t g k zero = true
-settled_among t g k (suc n) = (not (is_claimed_by k (t.key g n)) || is_finished_value (t.value g n)) && settled_among t g k n
+settled_among t g k (suc n) = (not (is_claimed_by k (t.key g n)) || is_finished_value (t.value g n))
+    && settled_among t g k n
 
 abbrev pub is_settled_below : Plan → Tables → ℕ → ℕ → Bool
 is_settled_below p t zero k = true
@@ -105,7 +107,8 @@ distance_of p g k i = (i + size_of p g - k % size_of p g) % size_of p g
 
 abbrev pub may_claim_at : Plan → Tables → ℕ → ℕ → ℕ → ℕ → Bool
 may_claim_at p t g i k d =
-    is_installed t g && (is_empty (t.key g i) && (nat_lt d (size_of p g) && ((path_slot p g k d == i) && (are_others p t g k d
+    is_installed t g && (is_empty (t.key g i) &&
+    (nat_lt d (size_of p g) && ((path_slot p g k d == i) && (are_others p t g k d
     && (has_slot_below p t g k || (is_ready p t g && nat_lt d (limit_of p g)))))))
 
 abbrev pub exchanges_to : Option ℕ → ValueState → ValueState → Bool
@@ -114,11 +117,14 @@ exchanges_to (Some n) a b = same_value b (Live n) && (not (same_value b a) && na
 
 abbrev pub is_exchange : Call → ValueState → ValueState → Bool
 is_exchange (call.Get k) a b = false
-is_exchange (call.Write k want change) a b = holds_of want (number_in_value a) && exchanges_to (changed change (number_in_value a)) a b
+is_exchange (call.Write k want change) a b =
+    holds_of want (number_in_value a) && exchanges_to (changed change (number_in_value a)) a b
 
 abbrev pub may_win : Plan → Tables → ℕ → ℕ → ValueState → ValueState → Call → Bool
 may_win p t g i a b c =
-    is_claimed_by (key_of_call c) (t.key g i) && (same_value (t.value g i) a && (is_unprimed a && (is_settled_below p t g (key_of_call c) && is_exchange c a b)))
+    is_claimed_by (key_of_call c) (t.key g i) &&
+    (same_value (t.value g i) a && (is_unprimed a &&
+    (is_settled_below p t g (key_of_call c) && is_exchange c a b)))
 
 abbrev pub is_primed_at : Tables → ℕ → ℕ → Option ℕ → Bool
 is_primed_at t g n None = false
@@ -135,16 +141,21 @@ has_value_at t g (Some j) = not (is_null (t.value g j))
 abbrev pub may_finish_of : Plan → Tables → ℕ → Option ℕ → Option ℕ → Bool
 may_finish_of p t g None n = false
 may_finish_of p t g (Some k) None = false
-may_finish_of p t g (Some k) (Some n) = has_value_at t (suc g) (slot_among t (suc g) k (size_of p (suc g)))
+may_finish_of p t g (Some k) (Some n) = has_value_at t (suc g)
+    (slot_among t (suc g) k (size_of p (suc g)))
 
 abbrev pub may_follow : Plan → List Event → Tables → Event → Bool
 may_follow p h t (Claim s g i k) = may_claim_at p t g i k (distance_of p g k i)
 may_follow p h t (Kill s g i) = (t.next g == 1) && is_empty (t.key g i)
 may_follow p h t (Won s g i a b c r) = may_win p t g i a b c
-may_follow p h t (CopyIn s g i k n) = is_claimed_by k (t.key g i) && (is_null (t.value g i) && is_primed_below p t g k n)
-may_follow p h t (Prime s g i) = (t.next g == 1) && (is_some (claimed_key (t.key g i)) && is_unprimed (t.value g i))
-may_follow p h t (Finish s g i) = may_finish_of p t g (claimed_key (t.key g i)) (primed_number (t.value g i))
-may_follow p h t (Install s g k) = nat_lt (suc g) (generations_of p) && ((t.next g == 0) && (is_ready p t g && are_others p t g k (limit_of p g)))
+may_follow p h t (CopyIn s g i k n) = is_claimed_by k (t.key g i) &&
+    (is_null (t.value g i) && is_primed_below p t g k n)
+may_follow p h t (Prime s g i) = (t.next g == 1) &&
+    (is_some (claimed_key (t.key g i)) && is_unprimed (t.value g i))
+may_follow p h t (Finish s g i) = may_finish_of p t g (claimed_key (t.key g i))
+    (primed_number (t.value g i))
+may_follow p h t (Install s g k) = nat_lt (suc g) (generations_of p) &&
+    ((t.next g == 0) && (is_ready p t g && are_others p t g k (limit_of p g)))
 may_follow p h t (Take s g) = t.next g == 1
 may_follow p h t (Count s g c) = nat_le 1 c && nat_le (counted_by h s g + c) (turned_by p h s g)
 may_follow p h t (Promote s g) = is_complete p t g && nat_le t.top g
@@ -174,7 +185,8 @@ is_change_in_range (change.Add n) = nat_le n VALUE_MAX
 
 abbrev pub is_call_in_range : Call → Bool
 is_call_in_range (call.Get k) = nat_le k KEY_MAX
-is_call_in_range (call.Write k want change) = nat_le k KEY_MAX && (is_want_in_range want && is_change_in_range change)
+is_call_in_range (call.Write k want change) =
+    nat_le k KEY_MAX && (is_want_in_range want && is_change_in_range change)
 
 abbrev pub is_slot : Plan → ℕ → ℕ → Bool
 is_slot p g i = nat_lt g (generations_of p) && nat_lt i (size_of p g)
@@ -182,11 +194,14 @@ is_slot p g i = nat_lt g (generations_of p) && nat_lt i (size_of p g)
 abbrev pub is_in_range : Plan → Event → Bool
 is_in_range p (Claim s g i k) = nat_lt s p.seats && (is_slot p g i && nat_le k KEY_MAX)
 is_in_range p (Kill s g i) = nat_lt s p.seats && is_slot p g i
-is_in_range p (Won s g i a b c r) = nat_lt s p.seats && (is_slot p g i && (is_value_in_range a && (is_value_in_range b && is_call_in_range c)))
-is_in_range p (CopyIn s g i k n) = nat_lt s p.seats && (is_slot p g i && (nat_le k KEY_MAX && nat_le n VALUE_MAX))
+is_in_range p (Won s g i a b c r) = nat_lt s p.seats &&
+    (is_slot p g i && (is_value_in_range a && (is_value_in_range b && is_call_in_range c)))
+is_in_range p (CopyIn s g i k n) = nat_lt s p.seats &&
+    (is_slot p g i && (nat_le k KEY_MAX && nat_le n VALUE_MAX))
 is_in_range p (Prime s g i) = nat_lt s p.seats && is_slot p g i
 is_in_range p (Finish s g i) = nat_lt s p.seats && is_slot p g i
-is_in_range p (Install s g k) = nat_lt s p.seats && (nat_lt g (generations_of p) && nat_le k KEY_MAX)
+is_in_range p (Install s g k) = nat_lt s p.seats &&
+    (nat_lt g (generations_of p) && nat_le k KEY_MAX)
 is_in_range p (Take s g) = nat_lt s p.seats && nat_lt g (generations_of p)
 is_in_range p (Count s g c) = nat_lt s p.seats && nat_lt g (generations_of p)
 is_in_range p (Promote s g) = nat_lt s p.seats && nat_lt g (generations_of p)
@@ -201,7 +216,8 @@ number_left _ before = before
 
 abbrev pub number_at : List Event → ℕ → Option ℕ
 number_at [] k = None
-number_at (Won s g i a b c r ∷ h) k = if k == key_of_call c then number_left b (number_at h k) else number_at h k
+number_at (Won s g i a b c r ∷ h) k = if k == key_of_call c then number_left b (number_at h k)
+    else number_at h k
 number_at (_ ∷ h) k = number_at h k
 
 -- the reply is the map's where this number stands at the key, and the call doesn't overflow
@@ -213,9 +229,11 @@ is_reply (call.Write k want change) r now =
 
 abbrev pub replies : List Event → Event → Bool
 replies h (Won s g i a b c r) = is_reply c r (number_at h (key_of_call c))
-replies h (Read s c r) = is_reply c r (number_at h (key_of_call c)) && leaves_alone c (number_at h (key_of_call c))
+replies h (Read s c r) = is_reply c r (number_at h (key_of_call c)) && leaves_alone c
+    (number_at h (key_of_call c))
 replies h _ = true
 
 abbrev pub passes : Plan → List Event → Bool
 passes p [] = true
-passes p (e ∷ h) = is_in_range p e && (may_follow p h (tables_at p h) e && (replies h e && passes p h))
+passes p (e ∷ h) = is_in_range p e && (may_follow p h (tables_at p h) e &&
+    (replies h e && passes p h))

@@ -15,17 +15,22 @@ module _ (p : Plan) (t : Tables) (plan : IsPlan p) (s : IsSound p t) where
   installed-within (suc g) installed = next-within p t s g installed
 
   -- above complete tables there is a next one
-  installed-above : (n : ℕ) → ((g : ℕ) → g < n → (g < generations_of p) × IsComplete p t g) → IsInstalled t n
+  installed-above : (n : ℕ) → ((g : ℕ) → g < n → (g < generations_of p) × IsComplete p t g)
+      → IsInstalled t n
   installed-above zero complete = tt
-  installed-above (suc g) complete = let last = complete g (omega arith) in complete-growing p t plan s g last.0 last.1
+  installed-above (suc g) complete = let last = complete g (omega arith) in
+      complete-growing p t plan s g last.0 last.1
 
   -- where a key has a slot, and is passed in the next table, the table is complete
-  passed-complete_below : (g k : ℕ) → suc g < generations_of p → HasSlot p t g k → IsPassed p t (suc g) k → IsComplete p t g
+  passed-complete_below : (g k : ℕ) → suc g < generations_of p → HasSlot p t g k
+      → IsPassed p t (suc g) k → IsComplete p t g
   passed-complete_below g k within has (AtSlot i below is final) =
       (s.ready g (finished-growing p t s (suc g) i (within, below) (inr final))).1
   passed-complete_below g k within has (UpToDead d below others dead) =
-      (s.ready g (s.dead (suc g) (path_slot p (suc g) k d) (path_slot-is_slot p plan (suc g) k d within) dead)).1
-  passed-complete_below g k within has (Whole others) = crowded-complete_below p t plan s g k within has others
+      (s.ready g (s.dead (suc g) (path_slot p (suc g) k d)
+      (path_slot-is_slot p plan (suc g) k d within) dead)).1
+  passed-complete_below g k within has (Whole others) =
+      crowded-complete_below p t plan s g k within has others
 
 pub linked : TablesAreLinked
 linked p plan h legal =

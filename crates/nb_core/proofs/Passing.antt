@@ -49,10 +49,12 @@ differ a b e = eqb-false a b (not_true (eqb a b) e)
 
 -- what holds of each number below n and of n holds of each below suc n
 pub below_suc : (P : ℕ → Type 0) (n : ℕ) → P n → ((i : ℕ) → i < n → P i) → (i : ℕ) → i < suc n → P i
-below_suc P n here below i h = ⊎_elim (λ lt. below i lt) (λ e. subst P (sym e) here) (last_or_below i n h)
+below_suc P n here below i h = ⊎_elim (λ lt. below i lt) (λ e. subst P (sym e) here)
+    (last_or_below i n h)
 
 pub unclaimed : (k : ℕ) (s : KeyState) → not (is_claimed_by k s) ≡ true → s ≢ Claimed k
-unclaimed k s e h = let here : is_claimed_by k s ≡ true = rw h (eq-eqb k k refl) in both_ways (is_claimed_by k s) (not_true _ e) here
+unclaimed k s e h = let here : is_claimed_by k s ≡ true = rw h (eq-eqb k k refl) in
+    both_ways (is_claimed_by k s) (not_true _ e) here
 
 -- ---- states
 
@@ -100,7 +102,8 @@ is_null-true (Primed n) e = cc
 is_null-true (Finished n) e = cc
 
 not_null : (v : ValueState) → not (is_null v) ≡ true → v ≢ Null
-not_null v e h = let null : is_null v ≡ true = rw h refl in both_ways (is_null v) (not_true (is_null v) e) null
+not_null v e h = let null : is_null v ≡ true = rw h refl in
+    both_ways (is_null v) (not_true (is_null v) e) null
 
 is_live-true : (v : ValueState) → is_live v ≡ true → (n : ℕ) × (v ≡ Live n)
 is_live-true Null e = absurd (no_true e)
@@ -146,7 +149,8 @@ is_finished-true t g i e =
     ⊎_elim (λ dead. inl (is_dead-true (t.key g i) dead)) (λ final. inr final)
     (either (is_dead (t.key g i)) (is_finished_value (t.value g i)) e)
 
-all_finished-true : (t : Tables) (g n : ℕ) → all_finished t g n ≡ true → (i : ℕ) → i < n → IsFinished t g i
+all_finished-true :
+    (t : Tables) (g n : ℕ) → all_finished t g n ≡ true → (i : ℕ) → i < n → IsFinished t g i
 all_finished-true t g zero e = λ i h. absurd (omega arith)
 all_finished-true t g (suc n) e =
     let b = both (is_finished t g n) (all_finished t g n) e in
@@ -163,18 +167,23 @@ is_installed-true : (t : Tables) (g : ℕ) → is_installed t g ≡ true → IsI
 is_installed-true t zero e = tt
 is_installed-true t (suc g) e = eqb-true (t.next g) 1 e
 
-are_others-true : (p : Plan) (t : Tables) (g k d : ℕ) → are_others p t g k d ≡ true → AreOthers p t g k d
+are_others-true :
+    (p : Plan) (t : Tables) (g k d : ℕ) → are_others p t g k d ≡ true → AreOthers p t g k d
 are_others-true p t g k zero e = λ i h. absurd (omega arith)
 are_others-true p t g k (suc d) e =
     let b = both (is_other k (t.key g (path_slot p g k d))) (are_others p t g k d) e in
-    below_suc (λ i. IsOther (t.key g (path_slot p g k i)) k) d (is_other-true k (t.key g (path_slot p g k d)) b.0) (are_others-true p t g k d b.1)
+    below_suc (λ i. IsOther (t.key g (path_slot p g k i)) k) d
+    (is_other-true k (t.key g (path_slot p g k d)) b.0) (are_others-true p t g k d b.1)
 
 -- where a key was found among the first slots, it stands
-slot_among-some : (t : Tables) (g k n i : ℕ) → slot_among t g k n ≡ Some i → (i < n) × (t.key g i ≡ Claimed k)
+slot_among-some :
+    (t : Tables) (g k n i : ℕ) → slot_among t g k n ≡ Some i → (i < n) × (t.key g i ≡ Claimed k)
 slot_among-some t g k zero i e = cc
 slot_among-some t g k (suc n) i e =
-    (elim (is_claimed_by k (t.key g n)) as (λ b. is_claimed_by k (t.key g n) ≡ b → cond b (Some n) (slot_among t g k n) ≡ Some i → (i < suc n) × (t.key g i ≡ Claimed k)) [
-      | true ↦ λ here found. let same : n ≡ i = cc in (omega arith, rw (← same) (is_claimed_by-true k (t.key g n) here))
+    (elim (is_claimed_by k (t.key g n)) as (λ b. is_claimed_by k (t.key g n) ≡ b
+    → cond b (Some n) (slot_among t g k n) ≡ Some i → (i < suc n) × (t.key g i ≡ Claimed k)) [
+      | true ↦ λ here found. let same : n ≡ i = cc in
+          (omega arith, rw (← same) (is_claimed_by-true k (t.key g n) here))
       | false ↦ λ away found. let rest = slot_among-some t g k n i found in (omega arith, rest.1)
     ]) refl e
 
@@ -182,29 +191,35 @@ some_of : {A : Type 0} (o : Option A) → is_some o ≡ true → (x : A) × (o �
 some_of None e = absurd (no_true e)
 some_of (Some x) e = (x, refl)
 
-has_slot_below-true : (p : Plan) (t : Tables) (g k : ℕ) → has_slot_below p t g k ≡ true → HasSlotBelow p t g k
+has_slot_below-true :
+    (p : Plan) (t : Tables) (g k : ℕ) → has_slot_below p t g k ≡ true → HasSlotBelow p t g k
 has_slot_below-true p t zero k e = no_true e
 has_slot_below-true p t (suc g) k e =
     let found = some_of (slot_among t g k (size_of p g)) e in
     let at = slot_among-some t g k (size_of p g) found.0 found.1 in
     record { slot = found.0; in_table = at.0; is = at.1 }
 
-settled_among-true : (t : Tables) (g k n : ℕ) → settled_among t g k n ≡ true → (i : ℕ) → i < n → t.key g i ≡ Claimed k → IsFinishedValue (t.value g i)
+settled_among-true :
+    (t : Tables) (g k n : ℕ) → settled_among t g k n ≡ true → (i : ℕ) → i < n
+    → t.key g i ≡ Claimed k → IsFinishedValue (t.value g i)
 settled_among-true t g k zero e = λ i h claimed. absurd (omega arith)
 settled_among-true t g k (suc n) e =
-    let b = both (not (is_claimed_by k (t.key g n)) || is_finished_value (t.value g n)) (settled_among t g k n) e in
+    let b = both (not (is_claimed_by k (t.key g n)) || is_finished_value (t.value g n))
+    (settled_among t g k n) e in
     below_suc (λ i. t.key g i ≡ Claimed k → IsFinishedValue (t.value g i)) n
     (λ claimed. ⊎_elim (λ away. absurd (unclaimed k (t.key g n) away claimed)) (λ final. final)
     (either (not (is_claimed_by k (t.key g n))) (is_finished_value (t.value g n)) b.0))
     (settled_among-true t g k n b.1)
 
-is_settled_below-true : (p : Plan) (t : Tables) (g k : ℕ) → is_settled_below p t g k ≡ true → IsSettledBelow p t g k
+is_settled_below-true :
+    (p : Plan) (t : Tables) (g k : ℕ) → is_settled_below p t g k ≡ true → IsSettledBelow p t g k
 is_settled_below-true p t zero k e = tt
 is_settled_below-true p t (suc g) k e = settled_among-true t g k (size_of p g) e
 
 -- ---- events
 
-may_claim-true : (p : Plan) (t : Tables) (g i k d : ℕ) → may_claim_at p t g i k d ≡ true → MayClaim p t g i k
+may_claim-true :
+    (p : Plan) (t : Tables) (g i k d : ℕ) → may_claim_at p t g i k d ≡ true → MayClaim p t g i k
 may_claim-true p t g i k d e =
     let a = both (is_installed t g) _ e in
     let b = both (is_empty (t.key g i)) _ a.1 in
@@ -222,28 +237,43 @@ may_claim-true p t g i k d e =
           passed = are_others-true p t g k d o.0;
         };
         reason = ⊎_elim (λ below. inl (has_slot_below-true p t g k below))
-            (λ fresh. let r = both (is_ready p t g) (ltb d (limit_of p g)) fresh in inr (is_ready-true p t g r.0, ltb-true d (limit_of p g) r.1))
+            (λ fresh. let r = both (is_ready p t g) (ltb d (limit_of p g)) fresh in
+            inr (is_ready-true p t g r.0, ltb-true d (limit_of p g) r.1))
             (either (has_slot_below p t g k) (is_ready p t g && ltb d (limit_of p g)) o.1);
       };
     }
 
-exchanges_of : (o : Option ℕ) (a b : ValueState) → exchanges_to o a b ≡ true → MatchOption o ((b ≡ Tombstone) × ((n : ℕ) × (a ≡ Live n))) (λ n. (b ≡ Live n) × (b ≢ a) × (n ≤ VALUE_MAX))
-exchanges_of None a b e = let s = both (same_value b Tombstone) (is_live a) e in (same_value-true b Tombstone s.0, is_live-true a s.1)
+exchanges_of :
+    (o : Option ℕ) (a b : ValueState) → exchanges_to o a b ≡ true
+    → MatchOption o ((b ≡ Tombstone) × ((n : ℕ) × (a ≡ Live n)))
+    (λ n. (b ≡ Live n) × (b ≢ a) × (n ≤ VALUE_MAX))
+exchanges_of None a b e = let s = both (same_value b Tombstone) (is_live a) e in
+    (same_value-true b Tombstone s.0, is_live-true a s.1)
 exchanges_of (Some n) a b e =
     let s = both (same_value b (Live n)) _ e in
-    let d = both (not (same_value b a)) (leb n VALUE_MAX) s.1 in
-    (same_value-true b (Live n) s.0, (λ h. both_ways (same_value b a) (not_true _ d.0) (rw h (same_value_itself a))), leb-true n VALUE_MAX d.1)
+    let d = both (not (same_value b a)) (leb n VALUE_MAX) s.1 in (
+      same_value-true b (Live n) s.0,
+      (λ h. both_ways (same_value b a) (not_true _ d.0)
+          (rw h (same_value_itself a))),
+      leb-true n VALUE_MAX d.1,
+    )
 
-exchanges-true : (change : Change) (a b : ValueState) → exchanges_to (changed change (number_in_value a)) a b ≡ true → Exchanges change a b
+exchanges-true :
+    (change : Change) (a b : ValueState) → exchanges_to (changed change (number_in_value a)) a b
+    ≡ true → Exchanges change a b
 exchanges-true change a b e = exchanges_of (changed change (number_in_value a)) a b e
 
-is_exchange-true : (c : Call) (a b : ValueState) → is_exchange c a b ≡ true → IsExchange c (key_of_call c) a b
+is_exchange-true :
+    (c : Call) (a b : ValueState) → is_exchange c a b ≡ true → IsExchange c (key_of_call c) a b
 is_exchange-true (call.Get k) a b e = no_true e
 is_exchange-true (call.Write k want change) a b e =
-    let s = both (holds_of want (number_in_value a)) (exchanges_to (changed change (number_in_value a)) a b) e in
+    let s = both (holds_of want (number_in_value a))
+    (exchanges_to (changed change (number_in_value a)) a b) e in
     (refl, s.0, exchanges-true change a b s.1)
 
-may_win-true : (p : Plan) (t : Tables) (g i : ℕ) (a b : ValueState) (c : Call) → may_win p t g i a b c ≡ true → MayWin p t g i a b c
+may_win-true :
+    (p : Plan) (t : Tables) (g i : ℕ) (a b : ValueState) (c : Call) → may_win p t g i a b c ≡ true
+    → MayWin p t g i a b c
 may_win-true p t g i a b c e =
     let k = key_of_call c in
     let s = both (is_claimed_by k (t.key g i)) _ e in
@@ -259,22 +289,30 @@ may_win-true p t g i a b c e =
       exchange = is_exchange-true c a b l.1;
     }
 
-primed_at-true : (p : Plan) (t : Tables) (g k n : ℕ) (o : Option ℕ) → slot_among t g k (size_of p g) ≡ o → is_primed_at t g n o ≡ true → IsPrimedBelow p t (suc g) k n
+primed_at-true :
+    (p : Plan) (t : Tables) (g k n : ℕ) (o : Option ℕ) → slot_among t g k (size_of p g) ≡ o
+    → is_primed_at t g n o ≡ true → IsPrimedBelow p t (suc g) k n
 primed_at-true p t g k n None found e = no_true e
 primed_at-true p t g k n (Some j) found e =
-    let at = slot_among-some t g k (size_of p g) j found in (j, at.0, at.1, same_value-true (t.value g j) (Primed n) e)
+    let at = slot_among-some t g k (size_of p g) j found in
+    (j, at.0, at.1, same_value-true (t.value g j) (Primed n) e)
 
-is_primed_below-true : (p : Plan) (t : Tables) (g k n : ℕ) → is_primed_below p t g k n ≡ true → IsPrimedBelow p t g k n
+is_primed_below-true :
+    (p : Plan) (t : Tables) (g k n : ℕ) → is_primed_below p t g k n ≡ true → IsPrimedBelow p t g k n
 is_primed_below-true p t zero k n e = no_true e
 is_primed_below-true p t (suc g) k n e = primed_at-true p t g k n _ refl e
 
-has_value-true : (p : Plan) (t : Tables) (g k : ℕ) (o : Option ℕ) → slot_among t g k (size_of p g) ≡ o → has_value_at t g o ≡ true → HasValue p t g k
+has_value-true :
+    (p : Plan) (t : Tables) (g k : ℕ) (o : Option ℕ) → slot_among t g k (size_of p g) ≡ o
+    → has_value_at t g o ≡ true → HasValue p t g k
 has_value-true p t g k None found e = absurd (no_true e)
 has_value-true p t g k (Some j) found e =
     let at = slot_among-some t g k (size_of p g) j found in
     record { slot = j; in_table = at.0; is = at.1; some = not_null (t.value g j) e }
 
-may_finish-true : (p : Plan) (t : Tables) (g i : ℕ) (k n : Option ℕ) → claimed_key (t.key g i) ≡ k → primed_number (t.value g i) ≡ n → may_finish_of p t g k n ≡ true → MayFinish p t g i
+may_finish-true :
+    (p : Plan) (t : Tables) (g i : ℕ) (k n : Option ℕ) → claimed_key (t.key g i) ≡ k
+    → primed_number (t.value g i) ≡ n → may_finish_of p t g k n ≡ true → MayFinish p t g i
 may_finish-true p t g i None n claimed primed e = absurd (no_true e)
 may_finish-true p t g i (Some k) None claimed primed e = absurd (no_true e)
 may_finish-true p t g i (Some k) (Some n) claimed primed e = record {
@@ -285,8 +323,11 @@ may_finish-true p t g i (Some k) (Some n) claimed primed e = record {
   copied = has_value-true p t (suc g) k _ refl e;
 }
 
-pub may_follow-true : (p : Plan) (h : List Event) (e : Event) → may_follow p h (tables_at p h) e ≡ true → MayFollow p h e
-may_follow-true p h (Claim s g i k) e = may_claim-true p (tables_at p h) g i k (distance_of p g k i) e
+pub may_follow-true :
+    (p : Plan) (h : List Event) (e : Event) → may_follow p h (tables_at p h) e ≡ true
+    → MayFollow p h e
+may_follow-true p h (Claim s g i k) e = may_claim-true p (tables_at p h) g i k (distance_of p g k i)
+    e
 may_follow-true p h (Kill s g i) e =
     let t = tables_at p h in
     let a = both (eqb (t.next g) 1) (is_empty (t.key g i)) e in
@@ -327,7 +368,11 @@ may_follow-true p h (Install s g k) e =
 may_follow-true p h (Take s g) e = eqb-true ((tables_at p h).next g) 1 e
 may_follow-true p h (Count s g c) e =
     let a = both (leb 1 c) (leb (counted_by h s g + c) (turned_by p h s g)) e in
-    record { some = leb-true 1 c a.0; own = leb-true (counted_by h s g + c) (turned_by p h s g) a.1 }
+    record {
+      some = leb-true 1 c a.0;
+      own =
+          leb-true (counted_by h s g + c) (turned_by p h s g) a.1;
+    }
 may_follow-true p h (Promote s g) e =
     let t = tables_at p h in
     let a = both (is_complete p t g) (leb t.top g) e in
@@ -373,25 +418,41 @@ is_in_range-true p (Claim s g i k) e =
     let a = both (ltb s p.seats) _ e in
     let b = both (is_slot p g i) (leb k KEY_MAX) a.1 in
     (ltb-true s p.seats a.0, is_slot-true p g i b.0, leb-true k KEY_MAX b.1)
-is_in_range-true p (Kill s g i) e = let a = both (ltb s p.seats) (is_slot p g i) e in (ltb-true s p.seats a.0, is_slot-true p g i a.1)
+is_in_range-true p (Kill s g i) e = let a = both (ltb s p.seats) (is_slot p g i) e in
+    (ltb-true s p.seats a.0, is_slot-true p g i a.1)
 is_in_range-true p (Won s g i a b c r) e =
     let q = both (ltb s p.seats) _ e in
     let l = both (is_slot p g i) _ q.1 in
     let v = both (is_value_in_range a) _ l.1 in
-    let w = both (is_value_in_range b) (is_call_in_range c) v.1 in
-    (ltb-true s p.seats q.0, is_slot-true p g i l.0, is_value_in_range-true a v.0, is_value_in_range-true b w.0, is_call_in_range-true c w.1)
+    let w = both (is_value_in_range b) (is_call_in_range c) v.1 in (
+      ltb-true s p.seats q.0,
+      is_slot-true p g i l.0,
+      is_value_in_range-true a v.0,
+      is_value_in_range-true b w.0,
+      is_call_in_range-true c w.1,
+    )
 is_in_range-true p (CopyIn s g i k n) e =
     let a = both (ltb s p.seats) _ e in
     let b = both (is_slot p g i) _ a.1 in
-    let c = both (leb k KEY_MAX) (leb n VALUE_MAX) b.1 in
-    (ltb-true s p.seats a.0, is_slot-true p g i b.0, leb-true k KEY_MAX c.0, leb-true n VALUE_MAX c.1)
-is_in_range-true p (Prime s g i) e = let a = both (ltb s p.seats) (is_slot p g i) e in (ltb-true s p.seats a.0, is_slot-true p g i a.1)
-is_in_range-true p (Finish s g i) e = let a = both (ltb s p.seats) (is_slot p g i) e in (ltb-true s p.seats a.0, is_slot-true p g i a.1)
+    let c = both (leb k KEY_MAX) (leb n VALUE_MAX) b.1 in (
+      ltb-true s p.seats a.0,
+      is_slot-true p g i b.0,
+      leb-true k KEY_MAX c.0,
+      leb-true n VALUE_MAX c.1,
+    )
+is_in_range-true p (Prime s g i) e = let a = both (ltb s p.seats) (is_slot p g i) e in
+    (ltb-true s p.seats a.0, is_slot-true p g i a.1)
+is_in_range-true p (Finish s g i) e = let a = both (ltb s p.seats) (is_slot p g i) e in
+    (ltb-true s p.seats a.0, is_slot-true p g i a.1)
 is_in_range-true p (Install s g k) e =
     let a = both (ltb s p.seats) _ e in
     let b = both (ltb g (generations_of p)) (leb k KEY_MAX) a.1 in
     (ltb-true s p.seats a.0, ltb-true g (generations_of p) b.0, leb-true k KEY_MAX b.1)
-is_in_range-true p (Take s g) e = let a = both (ltb s p.seats) (ltb g (generations_of p)) e in (ltb-true s p.seats a.0, ltb-true g (generations_of p) a.1)
-is_in_range-true p (Count s g c) e = let a = both (ltb s p.seats) (ltb g (generations_of p)) e in (ltb-true s p.seats a.0, ltb-true g (generations_of p) a.1)
-is_in_range-true p (Promote s g) e = let a = both (ltb s p.seats) (ltb g (generations_of p)) e in (ltb-true s p.seats a.0, ltb-true g (generations_of p) a.1)
-is_in_range-true p (Read s c r) e = let a = both (ltb s p.seats) (is_call_in_range c) e in (ltb-true s p.seats a.0, is_call_in_range-true c a.1)
+is_in_range-true p (Take s g) e = let a = both (ltb s p.seats) (ltb g (generations_of p)) e in
+    (ltb-true s p.seats a.0, ltb-true g (generations_of p) a.1)
+is_in_range-true p (Count s g c) e = let a = both (ltb s p.seats) (ltb g (generations_of p)) e in
+    (ltb-true s p.seats a.0, ltb-true g (generations_of p) a.1)
+is_in_range-true p (Promote s g) e = let a = both (ltb s p.seats) (ltb g (generations_of p)) e in
+    (ltb-true s p.seats a.0, ltb-true g (generations_of p) a.1)
+is_in_range-true p (Read s c r) e = let a = both (ltb s p.seats) (is_call_in_range c) e in
+    (ltb-true s p.seats a.0, is_call_in_range-true c a.1)

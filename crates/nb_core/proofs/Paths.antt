@@ -12,11 +12,13 @@ moved-on m a s some ahead near same =
     let below : x < m = mod-lt a some in
     let parts = mod-add-div a m in
     let at : (a + s) % m ≡ (x + s) % m
-    = ap (λ n. n % m) (let split : a + s ≡ x + s + m * (a / m) = omega (arith, parts) in split) ∙ add-mul-mod_self_left (x + s) m (a / m) in
+    = ap (λ n. n % m) (let split : a + s ≡ x + s + m * (a / m) = omega (arith, parts) in split)
+    ∙ add-mul-mod_self_left (x + s) m (a / m) in
     elim (near-or-round (x + s)) [
       | inl inside ↦ let is = mod-eq_of_lt inside in omega (arith, is, at, same, ahead)
       | inr round ↦
-          let is : (x + s) % m ≡ x + s - m = mod-eq-sub-mod round ∙ mod-eq_of_lt (omega (arith, below, near)) in
+          let is : (x + s) % m ≡ x + s - m = mod-eq-sub-mod round
+          ∙ mod-eq_of_lt (omega (arith, below, near)) in
           omega (arith, is, at, same, near, round)
     ]
   where
@@ -43,4 +45,5 @@ one-distance m k d e some near near' same = elim (which d e) [
     which a b = grind arith
 
 pub paths_are_distinct : PathsAreDistinct
-paths_are_distinct p g k d e near near' same = one-distance (size_of p g) k d e (pow_pos (slice_index p.exponents g)) near near' same
+paths_are_distinct p g k d e near near' same =
+    one-distance (size_of p g) k d e (pow_pos (slice_index p.exponents g)) near near' same

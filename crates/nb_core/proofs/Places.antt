@@ -12,7 +12,8 @@ use Rattle.nb_core.specs.declared.states.KeyState.TheVariants.{Empty, Dead, Clai
 
 -- A table in which a key has no slot is complete, if the key has one in a later table.
 no_slot-complete :
-    (p : Plan) (t : Tables) → IsSound p t → (f g k : ℕ) → f < generations_of p → g < f → HasSlot p t f k → HasNoSlot p t g k
+    (p : Plan) (t : Tables) → IsSound p t → (f g k : ℕ) → f < generations_of p → g < f
+    → HasSlot p t f k → HasNoSlot p t g k
     → IsComplete p t g
 no_slot-complete p t s f g k within below has none =
     elim (cases_order (suc g) f) [
@@ -22,30 +23,36 @@ no_slot-complete p t s f g k within below has none =
             | inl here ↦ absurd (none here.slot here.in_table here.is)
             | inr complete ↦ complete
           ]
-      | inr (inl less) ↦ complete-below p t s f g less (s.claimed f has.slot k (within, has.in_table) has.is).installed
+      | inr (inl less) ↦ complete-below p t s f g less
+          (s.claimed f has.slot k (within, has.in_table) has.is).installed
       | inr (inr more) ↦ absurd (omega arith)
     ]
 
 -- the first place of a key is in the first table where it has a slot
 pub place_from-found :
-    (p : Plan) (t : Tables) (k g n i : ℕ) → slot_among t g k (size_of p g) ≡ Some i → place_from p t k g (suc n) ≡ Some (g, i)
-place_from-found p t k g n i found = ap (λ o. first_place (option_map (λ j. (g, j)) o) (place_from p t k (suc g) n)) found
+    (p : Plan) (t : Tables) (k g n i : ℕ) → slot_among t g k (size_of p g) ≡ Some i
+    → place_from p t k g (suc n) ≡ Some (g, i)
+place_from-found p t k g n i found =
+    ap (λ o. first_place (option_map (λ j. (g, j)) o) (place_from p t k (suc g) n)) found
 
 -- it is not in a table where the key has none
 pub place_from-next :
     (p : Plan) (t : Tables) (k g n : ℕ) → slot_among t g k (size_of p g) ≡ None
     → place_from p t k g (suc n) ≡ place_from p t k (suc g) n
-place_from-next p t k g n found = ap (λ o. first_place (option_map (λ j. (g, j)) o) (place_from p t k (suc g) n)) found
+place_from-next p t k g n found =
+    ap (λ o. first_place (option_map (λ j. (g, j)) o) (place_from p t k (suc g) n)) found
 
 -- a place behind a table without a slot of the key is the first one from that table on
 first_place-behind :
-    (p : Plan) (t : Tables) (g k f i : ℕ) → HasNoSlot p t g k → IsFirstPlace p t (suc g) k f i → IsFirstPlace p t g k f i
+    (p : Plan) (t : Tables) (g k f i : ℕ) → HasNoSlot p t g k → IsFirstPlace p t (suc g) k f i
+    → IsFirstPlace p t g k f i
 first_place-behind p t g k f i away first = record {
   from = omega (arith, first.from);
   slot = first.slot;
   is = first.is;
   none = λ e from before has. elim (cases_order g e) [
-    | inl same ↦ (let here = subst (λ e. HasSlot p t e k) (sym same) has in away here.slot here.in_table here.is)
+    | inl same ↦ (let here = subst (λ e. HasSlot p t e k) (sym same) has in
+        away here.slot here.in_table here.is)
     | inr (inl below) ↦ first.none e below before has
     | inr (inr above) ↦ absurd (omega arith)
   ];
@@ -53,7 +60,8 @@ first_place-behind p t g k f i away first = record {
 
 -- what is found is the first place
 pub place_from-first :
-    (p : Plan) (t : Tables) (k g n : ℕ) (place : ℕ × ℕ) → n ≤ generations_of p - g → place_from p t k g n ≡ Some place
+    (p : Plan) (t : Tables) (k g n : ℕ) (place : ℕ × ℕ) → n ≤ generations_of p - g
+    → place_from p t k g n ≡ Some place
     → IsFirstPlace p t g k place.0 place.1
 place_from-first p t k g zero place few e = absurd cc
 place_from-first p t k g (suc n) place few e =
@@ -62,17 +70,25 @@ place_from-first p t k g (suc n) place few e =
           let first = place_from-found p t k g n i found in
           let here : (g, i) ≡ place = cc in
           subst (λ q. IsFirstPlace p t g k q.0 q.1) here
-          (record { from = omega arith; slot = (omega arith, below); is = is; none = λ e from before has. omega arith })
+          (record {
+            from = omega arith;
+            slot = (omega arith, below);
+            is = is;
+            none =
+                λ e from before has. omega arith;
+          })
       | Nowhere none found ↦
           let rest = sym (place_from-next p t k g n found) ∙ e in
-          first_place-behind p t g k place.0 place.1 none (place_from-first p t k (suc g) n place (omega arith) rest)
+          first_place-behind p t g k place.0 place.1 none
+          (place_from-first p t k (suc g) n place (omega arith) rest)
     ]
 
 -- ---- later tables
 
 module _ (p : Plan) (t u : Tables) (s : IsSound p t) (v : IsSound p u) (lasts : Lasts p t u) where
   -- a key that a complete table has no slot for gets none there
-  no_slot-later : (g k : ℕ) → g < generations_of p → IsComplete p t g → HasNoSlot p t g k → HasNoSlot p u g k
+  no_slot-later : (g k : ℕ) → g < generations_of p → IsComplete p t g → HasNoSlot p t g k
+      → HasNoSlot p u g k
   no_slot-later g k within complete none i below later = by_key (t.key g i) refl
     where
       by_key : (key : KeyState) → t.key g i ≡ key → ⊥
@@ -82,9 +98,11 @@ module _ (p : Plan) (t u : Tables) (s : IsSound p t) (v : IsSound p u) (lasts : 
           let same : j ≡ k = claimed-same (sym (lasts.claimed g i j (within, below) is) ∙ later) in
           none i below (is ∙ ap Claimed same)
 
-  -- where a key has no slot in a table, and one in a higher table, none is found in the first one later
+  -- where a key has no slot in a table, and one in a higher table, none is found in the first one
+  -- later
   slot_among-later :
-      (f g k : ℕ) → f < generations_of p → g < f → HasSlot p t f k → HasNoSlot p t g k → slot_among u g k (size_of p g) ≡ None
+      (f g k : ℕ) → f < generations_of p → g < f → HasSlot p t f k → HasNoSlot p t g k
+      → slot_among u g k (size_of p g) ≡ None
   slot_among-later f g k within below has none =
       elim (slot_among-is u g k (size_of p g)) as (λ found. slot_among u g k (size_of p g) ≡ None) [
         | Somewhere i i_below is found ↦
@@ -102,12 +120,14 @@ module _ (p : Plan) (t u : Tables) (s : IsSound p t) (v : IsSound p u) (lasts : 
       elim (slot_among-is t g k (size_of p g)) [
         | Somewhere i below is found ↦
             let within : g < generations_of p = omega arith in
-            let later = slot_among-at p u v g i k (within, below) (lasts.claimed g i k (within, below) is) in
+            let later = slot_among-at p u v g i k (within, below)
+            (lasts.claimed g i k (within, below) is) in
             place_from-found p u k g n i later ∙ sym (place_from-found p t k g n i found) ∙ e
         | Nowhere none found ↦
             let rest = sym (place_from-next p t k g n found) ∙ e in
             let first = place_from-first p t k (suc g) n place (omega arith) rest in
-            let has : HasSlot p t place.0 k = record { slot = place.1; in_table = first.slot.1; is = first.is } in
+            let has : HasSlot p t place.0 k =
+            record { slot = place.1; in_table = first.slot.1; is = first.is } in
             let later = slot_among-later place.0 g k first.slot.0 first.from has none in
             place_from-next p u k g n later ∙ place_from-later k (suc g) n place (omega arith) rest
       ]

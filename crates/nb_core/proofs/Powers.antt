@@ -12,7 +12,8 @@ use Rattle.std.proofs.lemmas.Nat.Bits.{bit_at-pow_other, bit_at-pow_same, bit_at
 pub smaller-power : (e c : ℕ) → 2 ^ min e c ≡ min (2 ^ e) (2 ^ c)
 smaller-power e c = cases (cases_lt e c) where
   cases : (e < c) ⊎ (c ≤ e) → 2 ^ min e c ≡ min (2 ^ e) (2 ^ c)
-  cases (inl less) = ap (λ n. 2 ^ n) (min-eq_left (omega (arith, less))) ∙ sym (min-eq_left (pow_mono (omega (arith, less))))
+  cases (inl less) = ap (λ n. 2 ^ n) (min-eq_left (omega (arith, less)))
+      ∙ sym (min-eq_left (pow_mono (omega (arith, less))))
   cases (inr more) = ap (λ n. 2 ^ n) (min-eq_right more) ∙ sym (min-eq_right (pow_mono more))
 
 -- the lowest digit of a power is its only one
@@ -22,10 +23,12 @@ trailing-power e few =
     elim (cases_order (trailing_zeros w64 (2 ^ e)) e) [
       | inl same ↦ same
       | inr (inl less) ↦
-          absurd (let none = bit_at-pow_other e (trailing_zeros w64 (2 ^ e)) (λ is. omega (arith, less, is)) in
+          absurd (let none = bit_at-pow_other e (trailing_zeros w64 (2 ^ e))
+          (λ is. omega (arith, less, is)) in
           omega (arith, lowest.1, none))
       | inr (inr more) ↦
-          absurd (let none = lowest.2 e more in let some = bit_at-pow_same e in omega (arith, none, some))
+          absurd (let none = lowest.2 e more in let some = bit_at-pow_same e in
+          omega (arith, none, some))
     ]
 
 -- a number without digits is zero
@@ -38,15 +41,18 @@ no-digits (suc k) n below none =
 
 -- a number with one digit is a power
 pub power-of-one_digit : (k n : ℕ) → n < 2 ^ k → ones n ≡ 1 → (e : ℕ) × (n ≡ 2 ^ e)
-power-of-one_digit zero n below single = absurd (let few = ones-le zero n below in omega (arith, few, single))
+power-of-one_digit zero n below single = absurd (let few = ones-le zero n below in
+    omega (arith, few, single))
 power-of-one_digit (suc k) n below single =
     let parts = ones_step n in
     elim (cases_lt 0 (n % 2)) [
       | inl odd ↦
-          let half : n / 2 ≡ 0 = no-digits k (n / 2) (omega arith) (omega (arith, parts, single, odd)) in
+          let half : n / 2 ≡ 0 = no-digits k (n / 2) (omega arith)
+          (omega (arith, parts, single, odd)) in
           (0, omega (arith, half, odd))
       | inr even ↦
-          let half = power-of-one_digit k (n / 2) (omega arith) (omega (arith, parts, single, even)) in
+          let half = power-of-one_digit k (n / 2) (omega arith)
+          (omega (arith, parts, single, even)) in
           (suc half.0, omega (arith, half.1, even))
     ]
 
@@ -59,11 +65,13 @@ chunk-of-one_digit n least most single =
     above : (e : ℕ) → n ≡ 2 ^ e → 2 ≤ e
     above e is = cases (cases_lt e 2) where
       cases : (e < 2) ⊎ (2 ≤ e) → 2 ≤ e
-      cases (inl less) = absurd (let low : 2 ^ e < 2 ^ 2 = pow-lt less in omega (arith, low, is, least))
+      cases (inl less) = absurd (let low : 2 ^ e < 2 ^ 2 = pow-lt less in
+          omega (arith, low, is, least))
       cases (inr more) = more
 
     below : (e : ℕ) → n ≡ 2 ^ e → e ≤ 10
     below e is = cases (cases_lt 10 e) where
       cases : (10 < e) ⊎ (e ≤ 10) → e ≤ 10
-      cases (inl more) = absurd (let high : 2 ^ 10 < 2 ^ e = pow-lt more in omega (arith, high, is, most))
+      cases (inl more) = absurd (let high : 2 ^ 10 < 2 ^ e = pow-lt more in
+          omega (arith, high, is, most))
       cases (inr less) = less

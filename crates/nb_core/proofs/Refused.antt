@@ -43,18 +43,25 @@ same_live a b e = cc
 -- the values of the key's slots pass a test
 abbrev values_pass : (ValueState → Bool) → Tables → ℕ → ℕ → ℕ → Bool
 values_pass f t g k zero = true
-values_pass f t g k (suc n) = (not (is_claimed_by k (t.key g n)) || f (t.value g n)) && values_pass f t g k n
+values_pass f t g k (suc n) = (not (is_claimed_by k (t.key g n)) || f (t.value g n))
+    && values_pass f t g k n
 
-claimed_passes : (f : ValueState → Bool) (s : KeyState) (v : ValueState) (k : ℕ) → (not (is_claimed_by k s) || f v) ≡ true → s ≡ Claimed k → f v ≡ true
+claimed_passes :
+    (f : ValueState → Bool) (s : KeyState) (v : ValueState) (k : ℕ)
+    → (not (is_claimed_by k s) || f v) ≡ true → s ≡ Claimed k → f v ≡ true
 claimed_passes f s v k e h =
     let here : is_claimed_by k s ≡ true = rw h (eq-eqb k k refl) in
-    ⊎_elim {C = f v ≡ true} (λ no. absurd (both_ways (is_claimed_by k s) (not_true _ no) here)) (λ it. it) (either (not (is_claimed_by k s)) (f v) e)
+    ⊎_elim {C = f v ≡ true} (λ no. absurd (both_ways (is_claimed_by k s) (not_true _ no) here))
+    (λ it. it) (either (not (is_claimed_by k s)) (f v) e)
 
-values_pass-true : (f : ValueState → Bool) (t : Tables) (g k n : ℕ) → values_pass f t g k n ≡ true → (i : ℕ) → i < n → t.key g i ≡ Claimed k → f (t.value g i) ≡ true
+values_pass-true :
+    (f : ValueState → Bool) (t : Tables) (g k n : ℕ) → values_pass f t g k n ≡ true → (i : ℕ)
+    → i < n → t.key g i ≡ Claimed k → f (t.value g i) ≡ true
 values_pass-true f t g k zero e = λ i h. absurd (omega arith)
 values_pass-true f t g k (suc n) e =
     let a = both (not (is_claimed_by k (t.key g n)) || f (t.value g n)) (values_pass f t g k n) e in
-    below_suc (λ i. t.key g i ≡ Claimed k → f (t.value g i) ≡ true) n (claimed_passes f (t.key g n) (t.value g n) k a.0) (values_pass-true f t g k n a.1)
+    below_suc (λ i. t.key g i ≡ Claimed k → f (t.value g i) ≡ true) n
+    (claimed_passes f (t.key g n) (t.value g n) k a.0) (values_pass-true f t g k n a.1)
 
 -- ---- the examples
 
@@ -65,17 +72,23 @@ pub overwriting_copy_of_a_newer_number_refused : MayNotFollow overwriting_copy_o
 overwriting_copy_of_a_newer_number_refused m = live_not_null 11 m.null
 
 -- no slot of the key in the next table has a value
-not_copied : (w : Wrong) (k : ℕ) → values_pass is_null (tables_at w.plan w.before) 1 k (size_of w.plan 1) ≡ true
-    → (j slot : ℕ) → Claimed k ≡ Claimed j → slot < size_of w.plan 1 → (tables_at w.plan w.before).key 1 slot ≡ Claimed j
+not_copied :
+    (w : Wrong) (k : ℕ) → values_pass is_null (tables_at w.plan w.before) 1 k (size_of w.plan 1)
+    ≡ true
+    → (j slot : ℕ) → Claimed k ≡ Claimed j → slot < size_of w.plan 1
+    → (tables_at w.plan w.before).key 1 slot ≡ Claimed j
     → ((tables_at w.plan w.before).value 1 slot ≡ Null → ⊥) → ⊥
 not_copied w k none j slot same lt at some =
-    some (is_null-true _ (values_pass-true is_null (tables_at w.plan w.before) 1 k (size_of w.plan 1) none slot lt (at ∙ sym same)))
+    some (is_null-true _ (values_pass-true is_null (tables_at w.plan w.before) 1 k
+    (size_of w.plan 1) none slot lt (at ∙ sym same)))
 
 pub early_finish_refused : MayNotFollow early_finish
-early_finish_refused m = not_copied early_finish 0 refl m.key m.copied.slot m.claimed m.copied.in_table m.copied.is m.copied.some
+early_finish_refused m = not_copied early_finish 0 refl m.key m.copied.slot m.claimed
+    m.copied.in_table m.copied.is m.copied.some
 
 pub early_finish_at_a_null_refused : MayNotFollow early_finish_at_a_null
-early_finish_at_a_null_refused m = not_copied early_finish_at_a_null 0 refl m.key m.copied.slot m.claimed m.copied.in_table m.copied.is m.copied.some
+early_finish_at_a_null_refused m = not_copied early_finish_at_a_null 0 refl m.key m.copied.slot
+    m.claimed m.copied.in_table m.copied.is m.copied.some
 
 pub hasty_writer_refused : MayNotFollow hasty_writer
 hasty_writer_refused m = no_true (m.settled 0 (omega arith) m.claimed)
@@ -87,22 +100,30 @@ pub double_count_by_one_seat_refused : MayNotFollow double_count_by_one_seat
 double_count_by_one_seat_refused m = absurd (omega (arith, m.own))
 
 pub early_promotion_refused : MayNotFollow early_promotion
-early_promotion_refused m = ⊎_elim (λ dead. claimed_not_dead 0 dead) (λ final. no_true final) (m.complete 0 (omega arith))
+early_promotion_refused m = ⊎_elim (λ dead. claimed_not_dead 0 dead) (λ final. no_true final)
+    (m.complete 0 (omega arith))
 
 -- no slot of the key in the table below the last is primed with the number
-not_primed : (w : Wrong) (n : ℕ) → values_pass (λ v. not (same_value v (Primed n))) (tables_at w.plan w.before) 1 0 (size_of w.plan 1) ≡ true
+not_primed :
+    (w : Wrong) (n : ℕ) → values_pass (λ v. not (same_value v (Primed n)))
+    (tables_at w.plan w.before) 1 0 (size_of w.plan 1) ≡ true
     → same_value (Primed n) (Primed n) ≡ true
-    → (slot : ℕ) → slot < size_of w.plan 1 → (tables_at w.plan w.before).key 1 slot ≡ Claimed 0 → (tables_at w.plan w.before).value 1 slot ≡ Primed n → ⊥
+    → (slot : ℕ) → slot < size_of w.plan 1 → (tables_at w.plan w.before).key 1 slot ≡ Claimed 0
+    → (tables_at w.plan w.before).value 1 slot ≡ Primed n → ⊥
 not_primed w n none same slot lt at primed =
-    let other = not_true _ (values_pass-true (λ v. not (same_value v (Primed n))) (tables_at w.plan w.before) 1 0 (size_of w.plan 1) none slot lt at) in
-    both_ways (same_value (Primed n) (Primed n)) (ap (λ v. same_value v (Primed n)) (sym primed) ∙ other) same
+    let other = not_true _ (values_pass-true (λ v. not (same_value v (Primed n)))
+    (tables_at w.plan w.before) 1 0 (size_of w.plan 1) none slot lt at) in
+    both_ways (same_value (Primed n) (Primed n)) (ap (λ v. same_value v (Primed n)) (sym primed)
+    ∙ other) same
 
 pub late_copier_refused : MayNotFollow late_copier
-late_copier_refused m = not_primed late_copier 10 refl refl m.primed.0 m.primed.1 m.primed.2 m.primed.3
+late_copier_refused m = not_primed late_copier 10 refl refl m.primed.0 m.primed.1 m.primed.2
+    m.primed.3
 
 pub late_copier_past_a_primed_tombstone_refused : MayNotFollow late_copier_past_a_primed_tombstone
 late_copier_past_a_primed_tombstone_refused m =
-    not_primed late_copier_past_a_primed_tombstone 10 refl refl m.primed.0 m.primed.1 m.primed.2 m.primed.3
+    not_primed late_copier_past_a_primed_tombstone 10 refl refl m.primed.0 m.primed.1 m.primed.2
+    m.primed.3
 
 pub reused_key_refused : MayNotFollow reused_key
 reused_key_refused m = claimed_not_empty 0 m.empty
@@ -116,4 +137,5 @@ stale_sum_replacing_what_stands_refused m = absurd (omega (arith, same_live 7 10
 -- whether the add of 1 overflows where this number stands at its key
 pub silent_overflow_refused : MayNotReply silent_overflow
 silent_overflow_refused m =
-    both_ways true (ap (λ now. cond (holds_of Any now) (is_past_max (changed (change.Add 1) now)) false) (sym (number_at_map silent_overflow.before 0)) ∙ m.1) refl
+    both_ways true (ap (λ now. cond (holds_of Any now) (is_past_max (changed (change.Add 1) now))
+    false) (sym (number_at_map silent_overflow.before 0)) ∙ m.1) refl

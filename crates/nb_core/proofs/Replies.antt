@@ -25,9 +25,11 @@ use Rattle.nb_core.specs.declared.states.ValueState.TheVariants.{Tombstone, Live
 -- numbers compare alike where they are equal
 pub same_key : (a b : ℕ) → eq_by_cmp nat_cmp a b ≡ eqb a b
 same_key a b =
-    elim (ltb a b) as (λ t. ltb a b ≡ t → is_eq (cond t Less (cond (eqb a b) Equal Greater)) ≡ eqb a b) [
+    elim (ltb a b) as (λ t. ltb a b ≡ t → is_eq (cond t Less (cond (eqb a b) Equal Greater))
+    ≡ eqb a b) [
       | true ↦ λ lt. let below = ltb-true a b lt in sym (ne_eqb a b (λ same. absurd (omega arith)))
-      | false ↦ λ ge. elim (eqb a b) as (λ t. is_eq (cond t Equal Greater) ≡ t) [ true ↦ refl | false ↦ refl ]
+      | false ↦ λ ge. elim (eqb a b) as (λ t. is_eq (cond t Equal Greater) ≡ t)
+          [ true ↦ refl | false ↦ refl ]
     ] refl
 
 -- a choice between a thing and itself is that thing
@@ -36,7 +38,8 @@ same_branch true x = refl
 same_branch false x = refl
 
 -- where the key has this already, a change to it at the key is none
-unchanged : (m : Numbers) (k q : ℕ) (o : Option ℕ) → get m k ≡ o → cond (eqb q k) o (get m q) ≡ get m q
+unchanged :
+    (m : Numbers) (k q : ℕ) (o : Option ℕ) → get m k ≡ o → cond (eqb q k) o (get m q) ≡ get m q
 unchanged m k q o e =
     elim (eqb q k) as (λ t. eqb q k ≡ t → cond t o (get m q) ≡ get m q) [
       | true ↦ λ same. sym e ∙ ap (get m) (sym (eqb-true q k same))
@@ -44,16 +47,21 @@ unchanged m k q o e =
     ] refl
 
 -- what the map has at a key after an exchange
-get-after_win : (m : Numbers) (k q : ℕ) (b : ValueState) → get (after_win m k b) q ≡ cond (eqb q k) (number_left b (get m q)) (get m q)
-get-after_win m k q (Live n) = get-insert nat_cmp_total m k n q ∙ ap (λ t. cond t (Some n) (get m q)) (same_key q k)
-get-after_win m k q Tombstone = get-remove nat_cmp_total m k q ∙ ap (λ t. cond t None (get m q)) (same_key q k)
+get-after_win :
+    (m : Numbers) (k q : ℕ) (b : ValueState)
+    → get (after_win m k b) q ≡ cond (eqb q k) (number_left b (get m q)) (get m q)
+get-after_win m k q (Live n) = get-insert nat_cmp_total m k n q
+    ∙ ap (λ t. cond t (Some n) (get m q)) (same_key q k)
+get-after_win m k q Tombstone = get-remove nat_cmp_total m k q
+    ∙ ap (λ t. cond t None (get m q)) (same_key q k)
 get-after_win m k q _ = sym (same_branch (eqb q k) (get m q))
 
 -- what the map of a history has at a key, computed
 pub number_at_map : (h : List Event) (k : ℕ) → get (map_of h) k ≡ number_at h k
 number_at_map [] k = get-empty nat_cmp k
 number_at_map (Won s g i a b c r ∷ h) k =
-    get-after_win (map_of h) (key_of_call c) k b ∙ ap (λ o. cond (eqb k (key_of_call c)) (number_left b o) o) (number_at_map h k)
+    get-after_win (map_of h) (key_of_call c) k b
+    ∙ ap (λ o. cond (eqb k (key_of_call c)) (number_left b o) o) (number_at_map h k)
 number_at_map (e ∷ h) k = number_at_map h k
 
 -- what passes the test of two numbers, or none, is the same
@@ -67,10 +75,12 @@ same_number-true (Some n) (Some m) e = ap Some (eqb-true n m e)
 with_at-same : (m : Numbers) (k : ℕ) (o : Option ℕ) → get m k ≡ o → with_at m k o ≡ m
 with_at-same m k None e =
     same_map nat_cmp_total nat_cmp-IsAntisymmetric _ _
-    (λ q. get-remove nat_cmp_total m k q ∙ ap (λ t. cond t None (get m q)) (same_key q k) ∙ unchanged m k q None e)
+    (λ q. get-remove nat_cmp_total m k q ∙ ap (λ t. cond t None (get m q)) (same_key q k)
+    ∙ unchanged m k q None e)
 with_at-same m k (Some n) e =
     same_map nat_cmp_total nat_cmp-IsAntisymmetric _ _
-    (λ q. get-insert nat_cmp_total m k n q ∙ ap (λ t. cond t (Some n) (get m q)) (same_key q k) ∙ unchanged m k q (Some n) e)
+    (λ q. get-insert nat_cmp_total m k n q ∙ ap (λ t. cond t (Some n) (get m q)) (same_key q k)
+    ∙ unchanged m k q (Some n) e)
 
 -- a reply is what it says
 same_reply :
@@ -102,27 +112,33 @@ reply_here (call.Write k want change) r m e =
     let now = get m k in
     let a = both (same_number r.before now) _ e in
     let b = both (cond (holds_of want now) r.matched (not r.matched)) _ a.1 in (
-      same_reply r now (holds_of want now) (same_number-true r.before now a.0) (matched_is (holds_of want now) r.matched b.0),
+      same_reply r now (holds_of want now) (same_number-true r.before now a.0)
+          (matched_is (holds_of want now) r.matched b.0),
       not_past (holds_of want now) (is_past_max (changed change now)) b.1,
     )
 
 -- also with that computed
 reply_is :
-    (c : Call) (r : Reply) (m : Numbers) (now : Option ℕ) → get m (key_of_call c) ≡ now → is_reply c r now ≡ true
+    (c : Call) (r : Reply) (m : Numbers) (now : Option ℕ) → get m (key_of_call c) ≡ now
+    → is_reply c r now ≡ true
     → (r ≡ reply_of c m) × (overflows c m ≡ false)
 reply_is c r m now at e = reply_here c r m (ap (is_reply c r) at ∙ e)
 
--- A write leaves alone what stands at its key where its condition doesn't hold of it, or its change puts the same.
+-- A write leaves alone what stands at its key where its condition doesn't hold of it, or its change
+-- puts the same.
 pub alone-why :
-    (k : ℕ) (want : Want) (change : Change) (number : Option ℕ) → leaves_alone (call.Write k want change) number ≡ true
+    (k : ℕ) (want : Want) (change : Change) (number : Option ℕ)
+    → leaves_alone (call.Write k want change) number ≡ true
     → (holds_of want number ≡ false) ⊎ (changed change number ≡ number)
-alone-why k want change number e = elim (either (not (holds_of want number)) (same_number (changed change number) number) e) [
-  | inl fails ↦ inl (not_true (holds_of want number) fails)
-  | inr same ↦ inr (same_number-true (changed change number) number same)
-]
+alone-why k want change number e =
+    elim (either (not (holds_of want number)) (same_number (changed change number) number) e) [
+      | inl fails ↦ inl (not_true (holds_of want number) fails)
+      | inr same ↦ inr (same_number-true (changed change number) number same)
+    ]
 
 -- a call that leaves the number at its key alone leaves the map as it is
-pub map_after-left : (c : Call) (m : Numbers) → leaves_alone c (get m (key_of_call c)) ≡ true → map_after c m ≡ m
+pub map_after-left :
+    (c : Call) (m : Numbers) → leaves_alone c (get m (key_of_call c)) ≡ true → map_after c m ≡ m
 map_after-left (call.Get k) m alone = refl
 map_after-left (call.Write k want change) m alone =
     let number = get m k in
@@ -153,5 +169,9 @@ passes_legal p [] e = tt
 passes_legal p (event ∷ h) e =
     let a = both (is_in_range p event) _ e in
     let b = both (may_follow p h (tables_at p h) event) _ a.1 in
-    let c = both (replies h event) (passes p h) b.1 in
-    (passes_legal p h c.1, is_in_range-true p event a.0, may_follow-true p h event b.0, replies-true h event c.0)
+    let c = both (replies h event) (passes p h) b.1 in (
+      passes_legal p h c.1,
+      is_in_range-true p event a.0,
+      may_follow-true p h event b.0,
+      replies-true h event c.0,
+    )

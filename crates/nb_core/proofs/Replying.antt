@@ -20,14 +20,17 @@ use Rattle.nb_core.specs.declared.states.ValueState.TheVariants.{Tombstone, Live
 -- an exchange puts no number past the greatest one
 put-fits :
     (o : Option ℕ) (a b : ValueState)
-    → MatchOption o ((b ≡ Tombstone) × ((n : ℕ) × (a ≡ Live n))) (λ n. (b ≡ Live n) × (b ≢ a) × (n ≤ VALUE_MAX)) → is_past_max o ≡ false
+    → MatchOption o ((b ≡ Tombstone) × ((n : ℕ) × (a ≡ Live n)))
+    (λ n. (b ≡ Live n) × (b ≢ a) × (n ≤ VALUE_MAX)) → is_past_max o ≡ false
 put-fits None a b exchange = refl
 put-fits (Some n) a b exchange = le-ltb VALUE_MAX n exchange.2
 
 -- the condition of an exchange held, and it doesn't overflow
 exchange-replies :
-    (c : Call) (k : ℕ) (a b : ValueState) (m : Numbers) → get m (key_of_call c) ≡ number_in_value a → IsExchange c k a b
-    → (record { before = number_in_value a; matched = true } ≡ reply_of c m) × (overflows c m ≡ false)
+    (c : Call) (k : ℕ) (a b : ValueState) (m : Numbers) → get m (key_of_call c) ≡ number_in_value a
+    → IsExchange c k a b
+    → (record { before = number_in_value a; matched = true } ≡ reply_of c m)
+    × (overflows c m ≡ false)
 exchange-replies (call.Get key) k a b m at exchange = absurd exchange
 exchange-replies (call.Write key want change) k a b m at exchange =
     let holds : holds_of want (get m key) ≡ true = ap (holds_of want) at ∙ exchange.1 in (
@@ -37,7 +40,8 @@ exchange-replies (call.Write key want change) k a b m at exchange =
 
 pub win_replies : WinReplies
 win_replies p plan h legal s g i a b c slot may =
-    exchange-replies c may.key a b (map_of h) (win_number p plan h legal g i a b c slot may) may.exchange
+    exchange-replies c may.key a b (map_of h) (win_number p plan h legal g i a b c slot may)
+    may.exchange
 
 -- ---- a call that leaves the map alone
 
@@ -57,7 +61,8 @@ reply_at-map (call.Write k want change) m = refl
 
 -- a call that leaves its key's number alone doesn't overflow,
 overflows-left :
-    (c : Call) (m : Numbers) → let number = get m (key_of_call c) in FitsIfSome number → leaves_alone c number ≡ true → overflows c m ≡ false
+    (c : Call) (m : Numbers) → let number = get m (key_of_call c) in FitsIfSome number
+    → leaves_alone c number ≡ true → overflows c m ≡ false
 overflows-left (call.Get k) m fits alone = refl
 overflows-left (call.Write k want change) m fits alone =
     let number = get m k in
@@ -72,7 +77,8 @@ overflows-left (call.Write k want change) m fits alone =
 
 -- and may reply it
 read-replies :
-    (c : Call) (m : Numbers) (number : Option ℕ) → get m (key_of_call c) ≡ number → FitsIfSome number → leaves_alone c number ≡ true
+    (c : Call) (m : Numbers) (number : Option ℕ) → get m (key_of_call c) ≡ number
+    → FitsIfSome number → leaves_alone c number ≡ true
     → (reply_at c number ≡ reply_of c m) × (overflows c m ≡ false) × (map_after c m ≡ m)
 read-replies c m number at fits alone =
     let alone_here = ap (leaves_alone c) at ∙ alone in (
@@ -83,4 +89,5 @@ read-replies c m number at fits alone =
 
 pub read_replies : ReadReplies
 read_replies p plan h legal s c number at alone =
-    read-replies c (map_of h) number at (λ n some. (map_in_range p plan h legal (key_of_call c) n (at ∙ some)).1) alone
+    read-replies c (map_of h) number at (λ n some.
+    (map_in_range p plan h legal (key_of_call c) n (at ∙ some)).1) alone

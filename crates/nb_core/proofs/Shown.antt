@@ -36,21 +36,24 @@ number_in_value-without (Finished n) without = absurd (without tt)
 number_in_value-without _ without = refl
 
 -- a final value without a finished number has none
-number_in_value-final : (v : ValueState) → IsFinishedValue v → ((n : ℕ) → v ≢ Finished n) → number_in_value v ≡ None
+number_in_value-final :
+    (v : ValueState) → IsFinishedValue v → ((n : ℕ) → v ≢ Finished n) → number_in_value v ≡ None
 number_in_value-final (Live n) final unmoved = no_true final
 number_in_value-final (Primed n) final unmoved = no_true final
 number_in_value-final (Finished n) final unmoved = absurd (unmoved n refl)
 number_in_value-final _ final unmoved = refl
 
 -- a value without a number, below nothing, shows none
-shown_by-without : (v : ValueState) (blank : Bool) → (HasContent v → ⊥) → shown_by (Some v) blank None ≡ None
+shown_by-without :
+    (v : ValueState) (blank : Bool) → (HasContent v → ⊥) → shown_by (Some v) blank None ≡ None
 shown_by-without (Live n) blank without = absurd (without tt)
 shown_by-without (Primed n) blank without = absurd (without tt)
 shown_by-without _ blank without = refl
 
 -- a primed value shows what is above, if a number that is still to copy isn't the newest
 shown_by-primed :
-    (v : ValueState) (blank : Bool) (above : Option ℕ) → (IsUnprimed v → ⊥) → ((n : ℕ) → v ≡ Primed n → blank ≡ false)
+    (v : ValueState) (blank : Bool) (above : Option ℕ) → (IsUnprimed v → ⊥)
+    → ((n : ℕ) → v ≡ Primed n → blank ≡ false)
     → shown_by (Some v) blank above ≡ above
 shown_by-primed Null blank above primed copied = absurd (primed tt)
 shown_by-primed Tombstone blank above primed copied = absurd (primed tt)
@@ -59,7 +62,9 @@ shown_by-primed (Primed n) blank above primed copied = rw (copied n refl) refl
 shown_by-primed _ blank above primed copied = refl
 
 -- the newest value shows its number
-shown_by-newest : (v : ValueState) (blank : Bool) → ((n : ℕ) → v ≡ Primed n → blank ≡ true) → ((n : ℕ) → v ≢ Finished n)
+shown_by-newest :
+    (v : ValueState) (blank : Bool) → ((n : ℕ) → v ≡ Primed n → blank ≡ true)
+    → ((n : ℕ) → v ≢ Finished n)
     → shown_by (Some v) blank None ≡ number_in_value v
 shown_by-newest (Primed n) blank uncopied unmoved = rw (uncopied n refl) refl
 shown_by-newest (Finished n) blank uncopied unmoved = absurd (unmoved n refl)
@@ -85,7 +90,8 @@ data NewestPlace (p : Plan) (t : Tables) (k : ℕ) : Type 0 where
 
 -- the key's values below the table are final
 abbrev AreFinalBelow : Plan → Tables → ℕ → ℕ → Type 0
-AreFinalBelow p t g k = (f : ℕ) → f < g → (i : ℕ) → IsSlot p f i → t.key f i ≡ Claimed k → IsFinishedValue (t.value f i)
+AreFinalBelow p t g k = (f : ℕ) → f < g → (i : ℕ) → IsSlot p f i → t.key f i ≡ Claimed k
+    → IsFinishedValue (t.value f i)
 
 -- what is installed passes the test
 is_installed-holds : (t : Tables) (g : ℕ) → IsInstalled t g → is_installed t g ≡ true
@@ -94,7 +100,8 @@ is_installed-holds t (suc g) installed = eq-eqb (t.next g) 1 installed
 
 module _ (p : Plan) (t : Tables) (plan : IsPlan p) (s : IsSound p t) (k : ℕ) where
   -- where the key has no slot in a table and no number above, it has none from this table on
-  HasNoneFrom-no_slot : (g : ℕ) → HasNoSlot p t g k → HasNoneFrom p t k (suc g) → HasNoneFrom p t k g
+  HasNoneFrom-no_slot : (g : ℕ) → HasNoSlot p t g k → HasNoneFrom p t k (suc g)
+      → HasNoneFrom p t k g
   HasNoneFrom-no_slot g away = from_suc (HasNoneIn p t k) g (λ i slot is content. away i slot.1 is)
 
   -- past the last table it has none
@@ -110,14 +117,17 @@ module _ (p : Plan) (t : Tables) (plan : IsPlan p) (s : IsSound p t) (k : ℕ) w
         | inl has ↦
             let slot : IsSlot p g has.slot = (omega arith, has.in_table) in
             elim (content_or_none (t.value g has.slot)) [
-              | inl content ↦ There g has.slot (record { slot = slot; is = has.is; content = content; none_above = none })
-              | inr without ↦ newest_place-below g (omega arith) (HasNoneFrom-slot p t s k g has.slot slot has.is without none)
+              | inl content ↦ There g has.slot
+                  (record { slot = slot; is = has.is; content = content; none_above = none })
+              | inr without ↦ newest_place-below g (omega arith)
+                  (HasNoneFrom-slot p t s k g has.slot slot has.is without none)
             ]
       ]
 
   -- the newest value is somewhere, or there is none
   newest_place : NewestPlace p t k
-  newest_place = newest_place-below (generations_of p) (omega arith) (HasNoneFrom-past (generations_of p) (omega arith))
+  newest_place = newest_place-below (generations_of p) (omega arith)
+      (HasNoneFrom-past (generations_of p) (omega arith))
 
   -- the newest value is no finished number, which would stand in the next table too
   newest-not_moved : (g i n : ℕ) → IsNewestAt p t k g i → t.value g i ≢ Finished n
@@ -129,16 +139,20 @@ module _ (p : Plan) (t : Tables) (plan : IsPlan p) (s : IsSound p t) (k : ℕ) w
   settled-final : (g : ℕ) → IsInstalled t g → IsSettledBelow p t g k → AreFinalBelow p t g k
   settled-final zero installed settled = λ f below. absurd (omega arith)
   settled-final (suc g) installed settled =
-      below_suc (λ f. (i : ℕ) → IsSlot p f i → t.key f i ≡ Claimed k → IsFinishedValue (t.value f i)) g
+      below_suc (λ f. (i : ℕ) → IsSlot p f i → t.key f i ≡ Claimed k
+      → IsFinishedValue (t.value f i)) g
       (λ i slot is. settled i slot.1 is)
-      (λ f less i slot is. finished-value t f i k (complete-below p t s (suc g) f (omega arith) installed i slot.1) is)
+      (λ f less i slot is. finished-value t f i k
+      (complete-below p t s (suc g) f (omega arith) installed i slot.1) is)
 
   -- a key passed in all tables below has final values there
   passed-final : (g : ℕ) → ((f : ℕ) → f < g → IsPassed p t f k) → AreFinalBelow p t g k
-  passed-final g passed f below i slot is = passed-settled p t plan s f k slot.0 (passed f below) i slot.1 is
+  passed-final g passed f below i slot is =
+      passed-settled p t plan s f k slot.0 (passed f below) i slot.1 is
 
   -- a key has a slot in each table below one where it has a slot, or the table is complete
-  slot-below : (f i g : ℕ) → IsSlot p f i → t.key f i ≡ Claimed k → g < f → HasSlot p t g k ⊎ IsComplete p t g
+  slot-below : (f i g : ℕ) → IsSlot p f i → t.key f i ≡ Claimed k → g < f → HasSlot p t g k
+      ⊎ IsComplete p t g
   slot-below f i g slot is below =
       elim (cases_order f (suc g)) [
         | inl same ↦ s.below g k (subst (λ f. f < generations_of p) same slot.0)
@@ -148,33 +162,40 @@ module _ (p : Plan) (t : Tables) (plan : IsPlan p) (s : IsSound p t) (k : ℕ) w
       ]
 
   -- where other keys have a table, it is installed,
-  crowded-installed : (g : ℕ) → g < generations_of p → AreOthers p t g k (size_of p g) → IsInstalled t g
+  crowded-installed : (g : ℕ) → g < generations_of p → AreOthers p t g k (size_of p g)
+      → IsInstalled t g
   crowded-installed g within others =
       let some : 0 < size_of p g = omega (arith, four-le-size_of p g plan within) in
       let other = others 0 some in
-      (s.claimed g (path_slot p g k 0) other.other (path_slot-is_slot p plan g k 0 within) other.is).installed
+      (s.claimed g (path_slot p g k 0) other.other (path_slot-is_slot p plan g k 0 within)
+      other.is).installed
 
   -- and the key is settled
-  crowded-settled : (g : ℕ) → g < generations_of p → AreOthers p t g k (size_of p g) → IsSettledBelow p t g k
+  crowded-settled : (g : ℕ) → g < generations_of p → AreOthers p t g k (size_of p g)
+      → IsSettledBelow p t g k
   crowded-settled zero within others = tt
   crowded-settled (suc g) within others = λ i below is.
-      let complete = crowded-complete_below p t plan s g k within (record { slot = i; in_table = below; is = is }) others in
+      let complete = crowded-complete_below p t plan s g k within
+      (record { slot = i; in_table = below; is = is }) others in
       finished-value t g i k (complete i below) is
 
   -- ---- what the tables show
 
   -- tables in which the key never got a number show none
-  shown_from-none : (g tables : ℕ) → g + tables ≡ generations_of p → HasNoneFrom p t k g → shown_from p t k g tables ≡ None
+  shown_from-none : (g tables : ℕ) → g + tables ≡ generations_of p → HasNoneFrom p t k g
+      → shown_from p t k g tables ≡ None
   shown_from-none g zero whole none = refl
   shown_from-none g (suc tables) whole none =
       let rest = shown_from-none (suc g) tables (omega arith) (λ f from. none f (omega arith)) in
       cond_both (is_installed t g) _ None (λ shown. shown ≡ None) (λ _. elim (look p t g k) [
         | Away away e ↦ rw (e, rest) refl
-        | Here i within is e ↦ rw (e, rest) (shown_by-without (t.value g i) _ (none g (omega arith) i (omega arith, within) is))
+        | Here i within is e ↦ rw (e, rest)
+            (shown_by-without (t.value g i) _ (none g (omega arith) i (omega arith, within) is))
       ]) (λ _. refl)
 
   -- a table with a number that is still to copy isn't complete
-  uncopied-not_complete : (g i n : ℕ) → IsSlot p g i → t.key g i ≡ Claimed k → t.value g i ≡ Primed n → IsComplete p t g → ⊥
+  uncopied-not_complete : (g i n : ℕ) → IsSlot p g i → t.key g i ≡ Claimed k
+      → t.value g i ≡ Primed n → IsComplete p t g → ⊥
   uncopied-not_complete g i n slot is primed complete =
       no_true (subst IsFinishedValue primed (finished-value t g i k (complete i slot.1) is))
 
@@ -186,10 +207,13 @@ module _ (p : Plan) (t : Tables) (plan : IsPlan p) (s : IsSound p t) (k : ℕ) w
         elim (look p t (suc g) k) [
           | Away away e ↦ rw e refl
           | Here j within j_is e ↦
-              let next = primed-growing p t s g i here.slot (λ unprimed. subst IsUnprimed primed unprimed) in
+              let next = primed-growing p t s g i here.slot
+              (λ unprimed. subst IsUnprimed primed unprimed) in
               let j_slot : IsSlot p (suc g) j = (next-within p t s g next, within) in
-              rw e (is_blank-without (t.value (suc g) j) (here.none_above (suc g) (omega arith) j j_slot j_is) (λ final.
-              let above = primed-growing p t s (suc g) j j_slot (λ unprimed. subst IsUnprimed final unprimed) in
+              rw e (is_blank-without (t.value (suc g) j)
+              (here.none_above (suc g) (omega arith) j j_slot j_is) (λ final.
+              let above = primed-growing p t s (suc g) j j_slot
+              (λ unprimed. subst IsUnprimed final unprimed) in
               uncopied-not_complete g i n here.slot here.is primed (s.ready g above).1))
         ]
 
@@ -199,38 +223,49 @@ module _ (p : Plan) (t : Tables) (plan : IsPlan p) (s : IsSound p t) (k : ℕ) w
         → is_blank (value_in p t (suc f) k) ≡ false
     is_blank-copied f j n below j_slot j_is primed =
         elim (cases_order (suc f) g) [
-          | inl same ↦ rw (same, value_in-some p t s g i k here.slot here.is) (is_blank-content (t.value g i) here.content)
+          | inl same ↦ rw (same, value_in-some p t s g i k here.slot here.is)
+              (is_blank-content (t.value g i) here.content)
           | inr (inl less) ↦
-              let complete = complete-below p t s g f less (s.claimed g i k here.slot here.is).installed in
+              let complete = complete-below p t s g f less
+              (s.claimed g i k here.slot here.is).installed in
               absurd (uncopied-not_complete f j n j_slot j_is primed complete)
           | inr (inr more) ↦ absurd (omega arith)
         ]
 
     -- its table shows its number,
-    shown_from-newest : (tables : ℕ) → g + suc tables ≡ generations_of p → shown_from p t k g (suc tables) ≡ number_in_value (t.value g i)
+    shown_from-newest : (tables : ℕ) → g + suc tables ≡ generations_of p
+        → shown_from p t k g (suc tables) ≡ number_in_value (t.value g i)
     shown_from-newest tables whole =
         let installed = is_installed-holds t g (s.claimed g i k here.slot here.is).installed in
-        rw (installed, value_in-some p t s g i k here.slot here.is, shown_from-none (suc g) tables (omega arith) here.none_above)
+        rw (
+          installed,
+          value_in-some p t s g i k here.slot here.is,
+          shown_from-none (suc g) tables (omega arith) here.none_above,
+        )
         (shown_by-newest (t.value g i) _ is_blank-above (λ n. newest-not_moved g i n here))
 
     -- and so do all tables below it
-    shown_from-below : (f tables : ℕ) → f + tables ≡ generations_of p → f ≤ g → shown_from p t k f tables ≡ number_in_value (t.value g i)
+    shown_from-below : (f tables : ℕ) → f + tables ≡ generations_of p → f ≤ g
+        → shown_from p t k f tables ≡ number_in_value (t.value g i)
     shown_from-below f zero whole below = let within = here.slot.0 in absurd (omega arith)
     shown_from-below f (suc tables) whole below =
         elim (cases_order f g) [
           | inl same ↦
-              subst (λ f. shown_from p t k f (suc tables) ≡ number_in_value (t.value g i)) (sym same)
+              subst (λ f. shown_from p t k f (suc tables) ≡ number_in_value (t.value g i))
+              (sym same)
               (shown_from-newest tables (omega arith))
           | inr (inl less) ↦
               let rest = shown_from-below (suc f) tables (omega arith) (omega arith) in
-              let installed = installed-below p t s g f (omega arith) (s.claimed g i k here.slot here.is).installed in
+              let installed = installed-below p t s g f (omega arith)
+              (s.claimed g i k here.slot here.is).installed in
               rw (is_installed-holds t f installed) (elim (look p t f k) [
                 | Away away e ↦ rw e rest
                 | Here j within j_is e ↦
                     let within_tables = here.slot.0 in
                     let j_slot : IsSlot p f j = (omega arith, within) in
                     rw e (shown_by-primed (t.value f j) _ _
-                    (λ unprimed. HasNoneFrom-unprimed p t s k f j j_slot j_is unprimed g less i here.slot here.is here.content)
+                    (λ unprimed. HasNoneFrom-unprimed p t s k f j j_slot j_is unprimed g less i
+                    here.slot here.is here.content)
                     (λ n primed. is_blank-copied f j n less j_slot j_is primed)
                     ∙ rest)
               ])
@@ -244,11 +279,14 @@ module _ (p : Plan) (t : Tables) (plan : IsPlan p) (s : IsSound p t) (k : ℕ) w
     shown_from-number : shown_from p t k 0 (generations_of p) ≡ number
     shown_from-number =
         elim newest_place [
-          | Never none ↦ shown_from-none 0 (generations_of p) (omega arith) none ∙ sym (is_newest.never none)
-          | There g i here ↦ shown_from-below g i here 0 (generations_of p) (omega arith) (omega arith) ∙ sym (is_newest.at g i here)
+          | Never none ↦ shown_from-none 0 (generations_of p) (omega arith) none
+              ∙ sym (is_newest.never none)
+          | There g i here ↦ shown_from-below g i here 0 (generations_of p) (omega arith)
+              (omega arith) ∙ sym (is_newest.at g i here)
         ]
 
-    -- where the key's values below a table are final, and the key never got a number there or above, it has none
+    -- where the key's values below a table are final, and the key never got a number there or
+    -- above, it has none
     pub number-none : (g : ℕ) → AreFinalBelow p t g k → HasNoneFrom p t k g → number ≡ None
     number-none g final none =
         elim newest_place [
@@ -257,58 +295,73 @@ module _ (p : Plan) (t : Tables) (plan : IsPlan p) (s : IsSound p t) (k : ℕ) w
               elim (cases_lt f g) [
                 | inl less ↦
                     is_newest.at f i here
-                    ∙ number_in_value-final (t.value f i) (final f less i here.slot here.is) (λ n. newest-not_moved f i n here)
+                    ∙ number_in_value-final (t.value f i) (final f less i here.slot here.is)
+                    (λ n. newest-not_moved f i n here)
                 | inr more ↦ absurd (none f more i here.slot here.is here.content)
               ]
         ]
 
     -- where the key's values below a table are final, it has the number of its unprimed value there
     number-unprimed :
-        (g i : ℕ) → AreFinalBelow p t g k → IsSlot p g i → t.key g i ≡ Claimed k → IsUnprimed (t.value g i)
+        (g i : ℕ) → AreFinalBelow p t g k → IsSlot p g i → t.key g i ≡ Claimed k
+        → IsUnprimed (t.value g i)
         → number ≡ number_in_value (t.value g i)
     number-unprimed g i final slot is unprimed =
         let above = HasNoneFrom-unprimed p t s k g i slot is unprimed in
         elim (content_or_none (t.value g i)) [
-          | inl content ↦ is_newest.at g i (record { slot = slot; is = is; content = content; none_above = above })
+          | inl content ↦ is_newest.at g i
+              (record { slot = slot; is = is; content = content; none_above = above })
           | inr without ↦
               number-none g final (HasNoneFrom-slot p t s k g i slot is without above)
               ∙ sym (number_in_value-without (t.value g i) without)
         ]
 
     -- what a table shows of a key whose values below are final is the newest number
-    number-shown : (g : ℕ) (shown : Option ℕ) → g < generations_of p → AreFinalBelow p t g k → Shows p t g k shown → number ≡ shown
+    number-shown : (g : ℕ) (shown : Option ℕ) → g < generations_of p → AreFinalBelow p t g k
+        → Shows p t g k shown → number ≡ shown
     number-shown g shown within final (AtEmpty d in_table others empty e) =
         let away = no_slot-past p t s g k d within others (empty-unclaimed empty) in
         let here = path_slot-is_slot p plan g k d within in
-        number-none g final (HasNoneFrom-no_slot g away (λ f above i slot is content. elim (slot-below f i g slot is above) [
+        number-none g final (HasNoneFrom-no_slot g away
+        (λ f above i slot is content. elim (slot-below f i g slot is above) [
           | inl has ↦ away has.slot has.in_table has.is
-          | inr complete ↦ finished-not_empty p t s g (path_slot p g k d) here (complete (path_slot p g k d) here.1) empty
+          | inr complete ↦ finished-not_empty p t s g (path_slot p g k d) here
+              (complete (path_slot p g k d) here.1) empty
         ])) ∙ sym e
-    number-shown g shown within final (AtValue i below is unprimed e) = number-unprimed g i final (within, below) is unprimed ∙ sym e
+    number-shown g shown within final (AtValue i below is unprimed e) =
+        number-unprimed g i final (within, below) is unprimed ∙ sym e
     number-shown g shown within final (NoNext others no_next e) =
-        number-none g final (HasNoneFrom-no_slot g (no_slot-whole p t s g k within others) (λ f above i slot is content.
-        let next : t.next g ≡ 1 = installed-below p t s f (suc g) (omega arith) (s.claimed f i k slot is).installed in
+        number-none g final (HasNoneFrom-no_slot g (no_slot-whole p t s g k within others)
+        (λ f above i slot is content.
+        let next : t.next g ≡ 1 = installed-below p t s f (suc g) (omega arith)
+        (s.claimed f i k slot is).installed in
         absurd (omega arith))) ∙ sym e
     number-shown g shown within final (InLast others last e) =
-        number-none g final (HasNoneFrom-no_slot g (no_slot-whole p t s g k within others) (HasNoneFrom-past (suc g) (omega arith)))
+        number-none g final (HasNoneFrom-no_slot g (no_slot-whole p t s g k within others)
+        (HasNoneFrom-past (suc g) (omega arith)))
         ∙ sym e
 
     -- a key that the last table has no slot for has no number
-    number-crowded : (g : ℕ) → suc g ≡ generations_of p → AreOthers p t g k (size_of p g) → number ≡ None
+    number-crowded : (g : ℕ) → suc g ≡ generations_of p → AreOthers p t g k (size_of p g)
+        → number ≡ None
     number-crowded g last others =
         let within : g < generations_of p = omega arith in
-        number-none g (settled-final g (crowded-installed g within others) (crowded-settled g within others))
-        (HasNoneFrom-no_slot g (no_slot-whole p t s g k within others) (HasNoneFrom-past (suc g) (omega arith)))
+        number-none g (settled-final g (crowded-installed g within others)
+        (crowded-settled g within others))
+        (HasNoneFrom-no_slot g (no_slot-whole p t s g k within others)
+        (HasNoneFrom-past (suc g) (omega arith)))
 
 -- what a call may replace is the newest number of its key
 number-won :
-    (p : Plan) (t : Tables) → IsPlan p → IsSound p t → (g i : ℕ) (a b : ValueState) (c : Call) (number : Option ℕ) → IsSlot p g i
+    (p : Plan) (t : Tables) → IsPlan p → IsSound p t
+    → (g i : ℕ) (a b : ValueState) (c : Call) (number : Option ℕ) → IsSlot p g i
     → MayWin p t g i a b c → IsNewest p t (key_of_call c) number → number ≡ number_in_value a
 number-won p t plan s g i a b c number slot may is_newest =
     let k = may.key in
     let of_call : key_of_call c ≡ k = win-key may in
     number-unprimed p t plan s k number (subst (λ k. IsNewest p t k number) of_call is_newest) g i
-    (settled-final p t plan s k g (s.claimed g i k slot may.claimed).installed may.settled) slot may.claimed
+    (settled-final p t plan s k g (s.claimed g i k slot may.claimed).installed may.settled)
+    slot may.claimed
     (subst IsUnprimed (sym may.stands) may.unprimed)
     ∙ ap number_in_value may.stands
 
@@ -317,11 +370,13 @@ number-won p t plan s g i a b c number slot may is_newest =
 pub win_number : WinNumber
 win_number p plan h legal g i a b c slot may =
     number_at_map h (key_of_call c)
-    ∙ number-won p (tables_at p h) plan (sound p h plan legal) g i a b c _ slot may (newest p h plan legal (key_of_call c))
+    ∙ number-won p (tables_at p h) plan (sound p h plan legal) g i a b c _ slot may
+    (newest p h plan legal (key_of_call c))
 
 pub stands : TablesStand
 stands p plan h legal k within =
-    shown_from-number p (tables_at p h) plan (sound p h plan legal) k _ (newest p h plan legal k) ∙ sym (number_at_map h k)
+    shown_from-number p (tables_at p h) plan (sound p h plan legal) k _ (newest p h plan legal k)
+    ∙ sym (number_at_map h k)
 
 pub decided : Decided
 decided p plan h legal g k within installed passed shown shows =
@@ -334,5 +389,7 @@ pub crowded_absent : CrowdedAbsent
 crowded_absent p plan h legal k crowded =
     let last = generations_of p - 1 in
     number_at_map h k
-    ∙ number-crowded p (tables_at p h) plan (sound p h plan legal) k _ (newest p h plan legal k) last (omega (arith, plan.some_tables))
-    (λ d less. crowded (path_slot p last k d) (path_slot-is_slot p plan last k d (omega (arith, plan.some_tables))).1)
+    ∙ number-crowded p (tables_at p h) plan (sound p h plan legal) k _ (newest p h plan legal k)
+    last (omega (arith, plan.some_tables))
+    (λ d less. crowded (path_slot p last k d)
+    (path_slot-is_slot p plan last k d (omega (arith, plan.some_tables))).1)

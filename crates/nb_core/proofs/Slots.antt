@@ -16,9 +16,12 @@ pub data IsFound (t : Tables) (g k n : ℕ) (found : Option ℕ) : Type 0 where
   Nowhere : ((i : ℕ) → i < n → t.key g i ≢ Claimed k) → found ≡ None → IsFound t g k n found
 
 -- what is found among n slots is found among one more that isn't the key's
-IsFound-suc : (t : Tables) (g k n : ℕ) (found : Option ℕ) → t.key g n ≢ Claimed k → IsFound t g k n found → IsFound t g k (suc n) found
+IsFound-suc :
+    (t : Tables) (g k n : ℕ) (found : Option ℕ) → t.key g n ≢ Claimed k → IsFound t g k n found
+    → IsFound t g k (suc n) found
 IsFound-suc t g k n found away (Somewhere i below is e) = Somewhere i (omega arith) is e
-IsFound-suc t g k n found away (Nowhere none e) = Nowhere (below_suc (λ i. t.key g i ≢ Claimed k) n away none) e
+IsFound-suc t g k n found away (Nowhere none e) =
+    Nowhere (below_suc (λ i. t.key g i ≢ Claimed k) n away none) e
 
 -- the search finds a slot of the key, or none is there
 pub slot_among-is : (t : Tables) (g k n : ℕ) → IsFound t g k n (slot_among t g k n)
@@ -26,7 +29,8 @@ slot_among-is t g k zero = Nowhere (λ i below. absurd (omega arith)) refl
 slot_among-is t g k (suc n) =
     cond_both (is_claimed_by k (t.key g n)) (Some n) (slot_among t g k n) (IsFound t g k (suc n))
     (λ here. Somewhere n (omega arith) (is_claimed_by-true k (t.key g n) here) refl)
-    (λ away. IsFound-suc t g k n (slot_among t g k n) (unclaimed k (t.key g n) (ap not away)) (slot_among-is t g k n))
+    (λ away. IsFound-suc t g k n (slot_among t g k n) (unclaimed k (t.key g n) (ap not away))
+    (slot_among-is t g k n))
 
 -- a key has a slot in a table, or no slot there is its own
 pub has_slot_or_none : (p : Plan) (t : Tables) (g k : ℕ) → HasSlot p t g k ⊎ HasNoSlot p t g k
@@ -42,7 +46,8 @@ pub slot_among-at :
     → slot_among t g k (size_of p g) ≡ Some i
 slot_among-at p t s g i k slot is =
     elim (slot_among-is t g k (size_of p g)) [
-      | Somewhere j below j_is found ↦ found ∙ ap Some (one_slot p t s g j i k (slot.0, below) slot j_is is)
+      | Somewhere j below j_is found ↦ found
+          ∙ ap Some (one_slot p t s g j i k (slot.0, below) slot j_is is)
       | Nowhere none found ↦ absurd (none i slot.1 is)
     ]
 
@@ -63,7 +68,8 @@ value_in-some p t s g i k slot is = value_in-is p t g k (Some i) (slot_among-at 
 -- what a look at a table finds of a key: no slot, or a value
 pub data IsLook (p : Plan) (t : Tables) (g k : ℕ) : Type 0 where
   Away : HasNoSlot p t g k → value_in p t g k ≡ None → IsLook p t g k
-  Here : (i : ℕ) → i < size_of p g → t.key g i ≡ Claimed k → value_in p t g k ≡ Some (t.value g i) → IsLook p t g k
+  Here : (i : ℕ) → i < size_of p g → t.key g i ≡ Claimed k → value_in p t g k ≡ Some (t.value g i)
+      → IsLook p t g k
 
 pub look : (p : Plan) (t : Tables) (g k : ℕ) → IsLook p t g k
 look p t g k =

@@ -52,10 +52,12 @@ key-step :
     → let t = tables_at p h in KeyStep p t g i (key_after e g i (t.key g i))
 key-step p (Claim s f j k) h legal g i =
     let t = tables_at p h in
-    at_slot (λ g i here. KeyStep p t g i (cond here (Claimed k) (t.key g i))) f j g i (Claims k legal.1.2 legal.2 refl) (KeyKept refl)
+    at_slot (λ g i here. KeyStep p t g i (cond here (Claimed k) (t.key g i))) f j g i
+    (Claims k legal.1.2 legal.2 refl) (KeyKept refl)
 key-step p (Kill s f j) h legal g i =
     let t = tables_at p h in
-    at_slot (λ g i here. KeyStep p t g i (cond here Dead (t.key g i))) f j g i (Kills legal.2 refl) (KeyKept refl)
+    at_slot (λ g i here. KeyStep p t g i (cond here Dead (t.key g i))) f j g i (Kills legal.2 refl)
+    (KeyKept refl)
 key-step p _ h legal g i = KeyKept refl
 
 -- so is what it does to a value
@@ -64,17 +66,20 @@ value-step :
     → let t = tables_at p h in ValueStep p t g i (value_after e g i (t.value g i))
 value-step p (Won s f j a b c r) h legal g i =
     let t = tables_at p h in
-    at_slot (λ g i here. ValueStep p t g i (cond here b (t.value g i))) f j g i (Wins a b c legal.2 refl) (ValueKept refl)
+    at_slot (λ g i here. ValueStep p t g i (cond here b (t.value g i))) f j g i
+    (Wins a b c legal.2 refl) (ValueKept refl)
 value-step p (CopyIn s f j k n) h legal g i =
     let t = tables_at p h in
-    at_slot (λ g i here. ValueStep p t g i (cond here (Live n) (t.value g i))) f j g i (Copies k n legal.2 refl) (ValueKept refl)
+    at_slot (λ g i here. ValueStep p t g i (cond here (Live n) (t.value g i))) f j g i
+    (Copies k n legal.2 refl) (ValueKept refl)
 value-step p (Prime s f j) h legal g i =
     let t = tables_at p h in
     at_slot (λ g i here. ValueStep p t g i (cond here (primed (t.value g i)) (t.value g i))) f j g i
     (Primes legal.2 refl) (ValueKept refl)
 value-step p (Finish s f j) h legal g i =
     let t = tables_at p h in
-    at_slot (λ g i here. ValueStep p t g i (cond here (finished (t.value g i)) (t.value g i))) f j g i
+    at_slot (λ g i here. ValueStep p t g i (cond here (finished (t.value g i)) (t.value g i)))
+    f j g i
     (Finishes legal.2 (ap finished legal.2.primed)) (ValueKept refl)
 value-step p _ h legal g i = ValueKept refl
 
@@ -84,24 +89,32 @@ next-step :
     → let t = tables_at p h in NextStep p t g (word_after p e (Header g 0) (t.next g))
 next-step p (Install s f k) h legal g =
     let t = tables_at p h in
-    at_table (λ g here. NextStep p t g (cond here 1 (t.next g))) f g (Installs k legal.2 refl) (NextKept refl)
+    at_table (λ g here. NextStep p t g (cond here 1 (t.next g))) f g (Installs k legal.2 refl)
+    (NextKept refl)
 next-step p _ h legal g = NextKept refl
 
 -- and to the top word
-top-step : (p : Plan) (e : Event) (h : List Event) → IsLegal p (e ∷ h) → let t = tables_at p h in TopStep p t (word_after p e Top t.top)
-top-step p (Promote s f) h legal = Promotes f legal.1.1 legal.2 (rises ((tables_at p h).top) f legal.2.higher)
+top-step : (p : Plan) (e : Event) (h : List Event) → IsLegal p (e ∷ h) → let t = tables_at p h in
+    TopStep p t (word_after p e Top t.top)
+top-step p (Promote s f) h legal = Promotes f legal.1.1 legal.2
+    (rises ((tables_at p h).top) f legal.2.higher)
   where
     rises : (top g : ℕ) → top ≤ g → max top (suc g) ≡ suc g
     rises top g low = omega arith
 top-step p _ h legal = TopKept refl
 
 -- each event of a legal history is a step
-pub step_of : (p : Plan) (e : Event) (h : List Event) → IsPlan p → IsLegal p (e ∷ h) → Step p (tables_at p h) (tables_at p (e ∷ h))
+pub step_of :
+    (p : Plan) (e : Event) (h : List Event) → IsPlan p → IsLegal p (e ∷ h)
+    → Step p (tables_at p h) (tables_at p (e ∷ h))
 step_of p e h plan legal =
     let t = tables_at p h in
     record {
-      key = λ g i slot. subst (KeyStep p t g i) (sym (key-frame p e h plan legal.1 g i slot)) (key-step p e h legal g i);
-      value = λ g i slot. subst (ValueStep p t g i) (sym (value-frame p e h plan legal g i slot)) (value-step p e h legal g i);
-      next = λ g. subst (NextStep p t g) (sym (next-frame p e h plan legal.1 g)) (next-step p e h legal g);
+      key = λ g i slot. subst (KeyStep p t g i) (sym (key-frame p e h plan legal.1 g i slot))
+          (key-step p e h legal g i);
+      value = λ g i slot. subst (ValueStep p t g i) (sym (value-frame p e h plan legal g i slot))
+          (value-step p e h legal g i);
+      next = λ g. subst (NextStep p t g) (sym (next-frame p e h plan legal.1 g))
+          (next-step p e h legal g);
       top = subst (TopStep p t) (sym (word-frame p plan h Top tt e legal.1)) (top-step p e h legal);
     }

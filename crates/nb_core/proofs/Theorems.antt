@@ -1,4 +1,5 @@
--- The laws of every shape and of every legal history, proved, by the names that crates/nb_core/src/laws.rt gives them.
+-- The laws of every shape and of every legal history, proved, by the names that
+-- crates/nb_core/src/laws.rt gives them.
 pub use Rattle.nb_core.proofs.Codings.{codings}
 pub use Rattle.nb_core.proofs.Counting.{counted_once as counted}
 pub use Rattle.nb_core.proofs.Following.{complete_passed, installed_after, moved, one_place, has_one_slot as one_slot, passed_settled, has_room as room, top_complete}

@@ -57,9 +57,11 @@ same_word-refl (Header g h) = same_both h g
 same_word-refl (Key g i) = same_both g i
 same_word-refl (Value g i) = same_both g i
 
--- What holds of slot j of table f as the event's own, and of slot i of table g as another one, holds of the latter by the test
--- whether it is the event's own.
-pub at_slot : (P : ℕ → ℕ → Bool → Type 0) (f j g i : ℕ) → P f j true → P g i false → P g i (eqb f g && eqb j i)
+-- What holds of slot j of table f as the event's own, and of slot i of table g as another one,
+-- holds of the latter by the test whether it is the event's own.
+pub at_slot :
+    (P : ℕ → ℕ → Bool → Type 0) (f j g i : ℕ) → P f j true → P g i false
+    → P g i (eqb f g && eqb j i)
 at_slot P f j g i here elsewhere =
     elim (eqb f g && eqb j i) as (λ t. (eqb f g && eqb j i) ≡ t → P g i t) [
       | true ↦ λ e. let same = both_same f g j i e in subst₂ (λ x y. P x y true) same.0 same.1 here
@@ -76,17 +78,21 @@ at_table P f g here elsewhere =
 
 -- a word changed by what it was, among the others
 word-changed :
-    (p : Plan) → IsPlan p → (w : List ℕ) → length w ≡ word_count p → (a b : Word) → IsWord p a → IsWord p b
+    (p : Plan) → IsPlan p → (w : List ℕ) → length w ≡ word_count p → (a b : Word) → IsWord p a
+    → IsWord p b
     → (f : ℕ → ℕ) → let x = slice_index w (place_of_word p b) in
-    slice_index (changed_at w (place_of_word p a) f) (place_of_word p b) ≡ cond (same_word a b) (f x) x
+    slice_index (changed_at w (place_of_word p a) f) (place_of_word p b)
+    ≡ cond (same_word a b) (f x) x
 word-changed p plan w length_is a b a_word b_word f =
     let places = places_are_distinct p plan in
     let place = place_of_word p in
     let u = changed_at w (place a) f in
     let x = slice_index w (place b) in
     cond_both (same_word a b) (f x) x (λ y. slice_index u (place b) ≡ y)
-    (λ same. subst (λ b. slice_index u (place b) ≡ f (slice_index w (place b))) (same_word-true a b same)
-    (get_or-set_same w (place a) (f (slice_index w (place a))) 0 (omega (arith, places.below a a_word))))
+    (λ same. subst (λ b. slice_index u (place b) ≡ f (slice_index w (place b)))
+    (same_word-true a b same)
+    (get_or-set_same w (place a) (f (slice_index w (place a))) 0
+    (omega (arith, places.below a a_word))))
     (λ other. get_or-set_other w (place a) (place b) (f (slice_index w (place a))) 0 (λ same.
     let one : a ≡ b = places.distinct a b a_word b_word (sym same) in
     let t : same_word a b ≡ true = ap (same_word a) (sym one) ∙ same_word-refl a in cc))
@@ -108,14 +114,18 @@ word_after p (Read s c r) a x = x
 module _ (p : Plan) (plan : IsPlan p) (h : List Event) (a : Word) (a_word : IsWord p a) where
   -- a word of a history after a change of a word
   word-frame_at :
-      (b : Word) → IsWord p b → (f : ℕ → ℕ) → let x = slice_index (words_of p h) (place_of_word p a) in
-      slice_index (changed_at (words_of p h) (place_of_word p b) f) (place_of_word p a) ≡ cond (same_word b a) (f x) x
-  word-frame_at b b_word f = word-changed p plan (words_of p h) (length-words_of p h) b a b_word a_word f
+      (b : Word) → IsWord p b → (f : ℕ → ℕ) → let x =
+      slice_index (words_of p h) (place_of_word p a) in
+      slice_index (changed_at (words_of p h) (place_of_word p b) f) (place_of_word p a)
+      ≡ cond (same_word b a) (f x) x
+  word-frame_at b b_word f = word-changed p plan (words_of p h) (length-words_of p h)
+      b a b_word a_word f
 
   -- each word after an event
   pub word-frame :
       (e : Event) → IsInRange p e
-      → slice_index (words_of p (e ∷ h)) (place_of_word p a) ≡ word_after p e a (slice_index (words_of p h) (place_of_word p a))
+      → slice_index (words_of p (e ∷ h)) (place_of_word p a)
+      ≡ word_after p e a (slice_index (words_of p h) (place_of_word p a))
   word-frame (Claim s g i k) range = word-frame_at (Key g i) range.1 (λ x. key_word (Claimed k))
   word-frame (Kill s g i) range = word-frame_at (Key g i) range.1 (λ x. key_word Dead)
   word-frame (Won s g i v b c r) range = word-frame_at (Value g i) range.1 (λ x. value_word b)
@@ -123,19 +133,25 @@ module _ (p : Plan) (plan : IsPlan p) (h : List Event) (a : Word) (a_word : IsWo
   word-frame (Prime s g i) range = word-frame_at (Value g i) range.1 (λ x. bit_or x 1)
   word-frame (Finish s g i) range = word-frame_at (Value g i) range.1 (λ x. bit_or x 2)
   word-frame (Install s g k) range = word-frame_at (Header g 0) (range.1, omega arith) (λ x. 1)
-  word-frame (Take s g) range = word-frame_at (Header g 1) (range.1, omega arith) (λ x. (x + chunk_of p g) % 2 ^ 64)
-  word-frame (Count s g c) range = word-frame_at (Header g 2) (range.1, omega arith) (λ x. (x + c) % 2 ^ 64)
+  word-frame (Take s g) range = word-frame_at (Header g 1) (range.1, omega arith)
+      (λ x. (x + chunk_of p g) % 2 ^ 64)
+  word-frame (Count s g c) range = word-frame_at (Header g 2) (range.1, omega arith)
+      (λ x. (x + c) % 2 ^ 64)
   word-frame (Promote s g) range = word-frame_at Top tt (λ x. max x (suc g))
   word-frame (Read s c r) range = refl
 
 -- before any event
-pub word-first : (p : Plan) → IsPlan p → (a : Word) → IsWord p a → slice_index (words_of p []) (place_of_word p a) ≡ 0
-word-first p plan a a_word = get_or-replicate (word_count p) (place_of_word p a) 0 0 ((places_are_distinct p plan).below a a_word)
+pub word-first :
+    (p : Plan) → IsPlan p → (a : Word) → IsWord p a
+    → slice_index (words_of p []) (place_of_word p a) ≡ 0
+word-first p plan a a_word = get_or-replicate (word_count p) (place_of_word p a) 0 0
+    ((places_are_distinct p plan).below a a_word)
 
 -- ---- no event changes two words
 
 -- to put one word changes no other
-put-elsewhere : (w : List ℕ) (at v a : ℕ) → slice_index (slice_set w at v) a ≢ slice_index w a → a ≡ at
+put-elsewhere :
+    (w : List ℕ) (at v a : ℕ) → slice_index (slice_set w at v) a ≢ slice_index w a → a ≡ at
 put-elsewhere w at v a changed =
     elim (eqb_tells a at) [
       | inl same ↦ same.1
@@ -144,7 +160,9 @@ put-elsewhere w at v a changed =
 
 -- an event changes one word at most
 pub one_word :
-    (p : Plan) (e : Event) (w : List ℕ) (a b : ℕ) → slice_index (word_step p e w) a ≢ slice_index w a
+    (p : Plan) (e : Event) (w : List ℕ) (a b : ℕ)
+    → slice_index (word_step p e w) a ≢ slice_index w a
     → slice_index (word_step p e w) b ≢ slice_index w b → a ≡ b
 one_word p (Read s c r) w a b a_changed b_changed = absurd (a_changed refl)
-one_word p _ w a b a_changed b_changed = put-elsewhere w _ _ a a_changed ∙ sym (put-elsewhere w _ _ b b_changed)
+one_word p _ w a b a_changed b_changed = put-elsewhere w _ _ a a_changed
+    ∙ sym (put-elsewhere w _ _ b b_changed)

@@ -1,4 +1,5 @@
--- Which calls leave their key alone, which put a number at an absent key, and which are refused for their sum.
+-- Which calls leave their key alone, which put a number at an absent key, and which are refused for
+-- their sum.
 use Rattle.std.specs.Prelude.{◌≡◌, ℕ, ◌==◌, ◌||◌, Bool, true, false, not, if◌then◌else◌, nat_lt, Option, Some, None}
 use Rattle.std.specs.Option.{option_eq}
 use Rattle.std.specs.FinMap.{get}
@@ -11,10 +12,12 @@ use Rattle.nb_core.specs.declared.calls.Call.TheVariants.{Get, Write}
 abbrev pub same_number : Option ℕ → Option ℕ → Bool
 same_number = option_eq (λ m n. m == n)
 
--- the call leaves this number, or none, at its key: it only asks, or its condition doesn't hold, or it would put the same
+-- the call leaves this number, or none, at its key: it only asks, or its condition doesn't hold, or
+-- it would put the same
 abbrev pub leaves_alone : Call → Option ℕ → Bool
 leaves_alone (Get k) before = true
-leaves_alone (Write k want change) before = not (holds_of want before) || same_number (changed change before) before
+leaves_alone (Write k want change) before =
+    not (holds_of want before) || same_number (changed change before) before
 
 -- the call puts a number at a key that is absent
 abbrev pub Fills : Call → Type 0

@@ -30,11 +30,13 @@ is_empty Empty = true
 is_empty Dead = false
 is_empty (Claimed k) = false
 
--- the slots of a table that aren't empty, from slot i on, of which there are so many: the slot, its key and its value
+-- the slots of a table that aren't empty, from slot i on, of which there are so many: the slot, its
+-- key and its value
 abbrev pub slots_from : Tables → ℕ → ℕ → ℕ → List (ℕ × KeyState × ValueState)
 slots_from t g i zero = []
 slots_from t g i (suc n) =
-    if is_empty (t.key g i) then slots_from t g (suc i) n else (i, t.key g i, t.value g i) ∷ slots_from t g (suc i) n
+    if is_empty (t.key g i) then slots_from t g (suc i) n else (i, t.key g i, t.value g i)
+    ∷ slots_from t g (suc i) n
 
 -- what the slots of a table hold after the history; a slot that isn't listed is empty
 abbrev pub slots_at : Worked → ℕ → List (ℕ × KeyState × ValueState)
@@ -431,7 +433,8 @@ adds = record {
       Won 0 0 2 Null (Live 0) (call.Write 2 Any (change.Add 0)) (replied None true)
       ∷ Claim 0 0 2 2
       ∷ Read 0 (call.Write 1 Any (change.Add 0)) (replied (Some 1152921504606846975) true)
-      ∷ Won 0 0 1 (Live 11) (Live 1152921504606846975) (call.Write 1 Any (change.Add 1152921504606846964)) (replied (Some 11) true)
+      ∷ Won 0 0 1 (Live 11) (Live 1152921504606846975)
+      (call.Write 1 Any (change.Add 1152921504606846964)) (replied (Some 11) true)
       ∷ Read 0 (call.Get 1) (replied (Some 11) true)
       ∷ Won 0 0 1 (Live 5) (Live 11) (call.Write 1 Any (change.Add 6)) (replied (Some 5) true)
       ∷ Won 0 0 1 Null (Live 5) (call.Write 1 Any (change.Add 5)) (replied None true)

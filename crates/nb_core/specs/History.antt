@@ -22,13 +22,15 @@ use Rattle.nb_core.specs.declared.states.ValueState.TheVariants.{Null, Tombstone
 
 -- ---- when an event may follow
 
--- A key has a way to a slot of its path behind slots of other keys: at any distance where the key has a slot in the table
--- below, and else within the limit, once the table below, if there is one, is complete.
+-- A key has a way to a slot of its path behind slots of other keys: at any distance where the key
+-- has a slot in the table below, and else within the limit, once the table below, if there is one,
+-- is complete.
 pub record HasWay (p : Plan) (t : Tables) (g i k : ℕ) : Type 0 where
   pub path : IsOnPath p t g i k
   pub reason : HasSlotBelow p t g k ⊎ (IsReady p t g × (path.distance < limit_of p g))
 
--- A key is claimed in the first slot of its path that isn't another key's, if it is empty and the key has a way to it.
+-- A key is claimed in the first slot of its path that isn't another key's, if it is empty and the
+-- key has a way to it.
 pub record MayClaim (p : Plan) (t : Tables) (g i k : ℕ) : Type 0 where
   pub installed : IsInstalled t g
   pub empty : t.key g i ≡ Empty
@@ -73,7 +75,8 @@ pub record MayWin (p : Plan) (t : Tables) (g i : ℕ) (a b : ValueState) (c : Ca
 -- the key's slot in the table below is primed with this number
 abbrev pub IsPrimedBelow : Plan → Tables → ℕ → ℕ → ℕ → Type 0
 IsPrimedBelow p t zero k n = ⊥
-IsPrimedBelow p t (suc g) k n = (i : ℕ) × (i < size_of p g) × (t.key g i ≡ Claimed k) × (t.value g i ≡ Primed n)
+IsPrimedBelow p t (suc g) k n = (i : ℕ) × (i < size_of p g) × (t.key g i ≡ Claimed k)
+    × (t.value g i ≡ Primed n)
 
 -- A copier stores over null alone.
 pub record MayCopyIn (p : Plan) (t : Tables) (g i k n : ℕ) : Type 0 where
@@ -103,7 +106,8 @@ pub record MayFinish (p : Plan) (t : Tables) (g i : ℕ) : Type 0 where
   pub primed : t.value g i ≡ Primed number
   pub copied : HasValue p t (suc g) key
 
--- A table is followed by another where a key's path is crowded up to the limit, and the table below is complete.
+-- A table is followed by another where a key's path is crowded up to the limit, and the table below
+-- is complete.
 pub record MayInstall (p : Plan) (t : Tables) (g k : ℕ) : Type 0 where
   pub room : suc g < generations_of p
   pub no_next : t.next g ≡ 0
@@ -134,11 +138,13 @@ seat_of_event (Count s g c) = s
 seat_of_event (Promote s g) = s
 seat_of_event (Read s c r) = s
 
--- the slot that the event, coming after the history, turned finished, if it did: its table, and its place there
+-- the slot that the event, coming after the history, turned finished, if it did: its table, and its
+-- place there
 abbrev pub turned_slot : Plan → List Event → Event → Option (ℕ × ℕ)
 turned_slot p h (Kill s g i) = Some (g, i)
 turned_slot p h (Finish s g i) = Some (g, i)
-turned_slot p h (Prime s g i) = if is_finished_by_priming ((tables_at p h).value g i) then Some (g, i) else None
+turned_slot p h (Prime s g i) = if is_finished_by_priming ((tables_at p h).value g i) then Some
+    (g, i) else None
 turned_slot p h _ = None
 
 -- whether the event turned this slot finished
@@ -215,13 +221,15 @@ IsChangeInRange (change.Add n) = n ≤ VALUE_MAX
 -- the call's key is a key of the map, and its numbers are numbers of the map
 abbrev pub IsCallInRange : Call → Type 0
 IsCallInRange (call.Get k) = k ≤ KEY_MAX
-IsCallInRange (call.Write k want change) = (k ≤ KEY_MAX) × IsWantInRange want × IsChangeInRange change
+IsCallInRange (call.Write k want change) = (k ≤ KEY_MAX) × IsWantInRange want
+    × IsChangeInRange change
 
 -- the plan has the event's seat, table and slot, and its keys and numbers are those of the map
 abbrev pub IsInRange : Plan → Event → Type 0
 IsInRange p (Claim s g i k) = (s < p.seats) × IsSlot p g i × (k ≤ KEY_MAX)
 IsInRange p (Kill s g i) = (s < p.seats) × IsSlot p g i
-IsInRange p (Won s g i a b c r) = (s < p.seats) × IsSlot p g i × IsValueState a × IsValueState b × IsCallInRange c
+IsInRange p (Won s g i a b c r) = (s < p.seats) × IsSlot p g i × IsValueState a × IsValueState b
+    × IsCallInRange c
 IsInRange p (CopyIn s g i k n) = (s < p.seats) × IsSlot p g i × (k ≤ KEY_MAX) × (n ≤ VALUE_MAX)
 IsInRange p (Prime s g i) = (s < p.seats) × IsSlot p g i
 IsInRange p (Finish s g i) = (s < p.seats) × IsSlot p g i
@@ -250,7 +258,8 @@ map_of [] = map.empty
 map_of (Won s g i a b c r ∷ h) = after_win (map_of h) (key_of_call c) b
 map_of (_ ∷ h) = map_of h
 
--- A call replies as the map does at its event; a read leaves the map as it is. No call is an add that overflows.
+-- A call replies as the map does at its event; a read leaves the map as it is. No call is an add
+-- that overflows.
 abbrev pub Replies : Numbers → Event → Type 0
 Replies m (Won s g i a b c r) = (r ≡ reply_of c m) × (overflows c m ≡ false)
 Replies m (Read s c r) = (r ≡ reply_of c m) × (overflows c m ≡ false) × (map_after c m ≡ m)

@@ -1,4 +1,5 @@
--- The log: calls with their replies, one after another, in the words of `java.util.concurrent.ConcurrentMap`.
+-- The log: calls with their replies, one after another, in the words of
+-- `java.util.concurrent.ConcurrentMap`.
 use Rattle.std.specs.Prelude.{◌≡◌, ℕ, ◌+◌, ◌==◌, Bool, true, false, if◌then◌else◌, List, [], ◌∷◌, ◌++◌, Option, Some, None, is_some, is_none, unwrap_or}
 use Rattle.std.specs.FinMap.{FinMap, empty, get, insert, remove}
 use Rattle.std.specs.List.{filter_map}
@@ -82,15 +83,19 @@ IsReplayed (entry ∷ log) = (entry.reply ≡ reply_of entry.call (map_of_log lo
 -- the calls of a seat in a log, with their replies
 abbrev pub calls_of : ℕ → List Entry → List (Call × Reply)
 calls_of seat [] = []
-calls_of seat (entry ∷ log) = if entry.seat == seat then (entry.call, entry.reply) ∷ calls_of seat log else calls_of seat log
+calls_of seat (entry ∷ log) = if entry.seat == seat then (entry.call, entry.reply)
+    ∷ calls_of seat log else calls_of seat log
 
--- the map has the key all the while, from the one log to the other that goes on from it (a walk must show such a key)
+-- the map has the key all the while, from the one log to the other that goes on from it (a walk
+-- must show such a key)
 abbrev pub HeldThrough : (first last : List Entry) → ℕ → Type 0
-HeldThrough first last k = (log : List Entry) → IsBeginning first log → IsBeginning log last → (number : ℕ) × (get (map_of_log log) k ≡ Some number)
+HeldThrough first last k = (log : List Entry) → IsBeginning first log → IsBeginning log last
+    → (number : ℕ) × (get (map_of_log log) k ≡ Some number)
 
 -- ---- the log of a history
 
--- A call is made at just one event: the exchange that it wins, or a load that decides it. No other event is in the log.
+-- A call is made at just one event: the exchange that it wins, or a load that decides it. No other
+-- event is in the log.
 abbrev pub entry_of : Event → Option Entry
 entry_of (Won s g i a b c r) = Some (record { seat = s; call = c; reply = r })
 entry_of (Read s c r) = Some (record { seat = s; call = c; reply = r })

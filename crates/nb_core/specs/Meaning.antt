@@ -41,8 +41,8 @@ is_blank None = true
 is_blank (Some Null) = true
 is_blank (Some _) = false
 
--- what a key's value in a table shows, where `above` is what the tables above show, and `blank` says that the key has
--- no slot or a null value in the next one
+-- what a key's value in a table shows, where `above` is what the tables above show, and `blank`
+-- says that the key has no slot or a null value in the next one
 abbrev pub shown_by : Option ValueState → Bool → Option ℕ → Option ℕ
 shown_by None blank above = above
 shown_by (Some Null) blank above = None
@@ -63,12 +63,14 @@ abbrev pub shown_from : Plan → Tables → ℕ → ℕ → ℕ → Option ℕ
 shown_from p t k g zero = None
 shown_from p t k g (suc tables) =
     if is_installed t g
-    then shown_by (value_in p t g k) (is_blank (value_in p t (suc g) k)) (shown_from p t k (suc g) tables)
+    then shown_by (value_in p t g k) (is_blank (value_in p t (suc g) k))
+    (shown_from p t k (suc g) tables)
     else None
 
 -- The words stand for the map: at each key they show the map's number. One look at one moment.
 abbrev pub Stands : Plan → List ℕ → Numbers → Type 0
-Stands p w m = (k : ℕ) → k ≤ KEY_MAX → shown_from p (tables_of p w) k 0 (generations_of p) ≡ map.get m k
+Stands p w m = (k : ℕ) → k ≤ KEY_MAX → shown_from p (tables_of p w) k 0 (generations_of p)
+    ≡ map.get m k
 
 -- ---- what calls do to the number of keys
 
@@ -84,7 +86,8 @@ net_of_change change.Remove (Some m) = pos 0 -ℤ pos 1
 -- what a call with its reply did to the number of keys
 abbrev pub net_of_call : Call → Reply → ℤ
 net_of_call (call.Get k) r = pos 0
-net_of_call (call.Write k want change) r = if r.matched then net_of_change change r.before else pos 0
+net_of_call (call.Write k want change) r =
+    if r.matched then net_of_change change r.before else pos 0
 
 -- how many keys the calls added, less how many they took out
 abbrev pub net_of : List (Call × Reply) → ℤ
@@ -100,7 +103,8 @@ net_of_seats log (suc n) = net_of (calls_of n log) +ℤ net_of_seats log n
 
 -- other keys have all slots of the last table
 abbrev pub IsCrowded : Plan → List Event → ℕ → Type 0
-IsCrowded p h k = (i : ℕ) → i < size_of p (generations_of p - 1) → IsOther ((tables_at p h).key (generations_of p - 1) i) k
+IsCrowded p h k = (i : ℕ) → i < size_of p (generations_of p - 1)
+    → IsOther ((tables_at p h).key (generations_of p - 1) i) k
 
 -- whether the event is an exchange of another seat on the key
 abbrev pub is_win_of_another : ℕ → ℕ → Event → Bool
@@ -119,7 +123,8 @@ first_place (Some place) later = Some place
 -- the key's first place from table g on, of so many tables: the table and the slot
 abbrev pub place_from : Plan → Tables → ℕ → ℕ → ℕ → Option (ℕ × ℕ)
 place_from p t k g zero = None
-place_from p t k g (suc tables) = first_place (option_map (λ i. (g, i)) (slot_among t g k (size_of p g))) (place_from p t k (suc g) tables)
+place_from p t k g (suc tables) = first_place
+    (option_map (λ i. (g, i)) (slot_among t g k (size_of p g))) (place_from p t k (suc g) tables)
 
 -- the key's first place from table g on, after the history
 abbrev pub place_of : Plan → List Event → ℕ → ℕ → Option (ℕ × ℕ)

@@ -6,7 +6,14 @@ use Rattle.nb_core.specs.Plans.{Plan, IsPlan, base_of, generations_of, word_coun
 
 -- the plan that the fields keep
 abbrev pub plan_of : Inside → Plan
-plan_of a = record { exponents = take a.generations a.exponents; seats = a.seats; stripes = a.stripes; reprobes = a.reprobes; chunk = a.chunk }
+plan_of a = record {
+  exponents = take a.generations a.exponents;
+  seats = a.seats;
+  stripes =
+      a.stripes;
+  reprobes = a.reprobes;
+  chunk = a.chunk;
+}
 
 -- the exponents, and 0 at each place past the last table
 unfoldable pub kept_exponents : Plan → List ℕ
@@ -14,7 +21,8 @@ kept_exponents p = map (slice_index p.exponents) (range_with_len 0 16)
 
 -- the places where the tables begin, and 0 at each place past the last table
 unfoldable pub kept_bases : Plan → List ℕ
-kept_bases p = map (λ g. if nat_lt g (generations_of p) then base_of p g else 0) (range_with_len 0 16)
+kept_bases p = map (λ g. if nat_lt g (generations_of p) then base_of p g else 0)
+    (range_with_len 0 16)
 
 -- the fields of the shape of a plan
 abbrev pub inside_of : Plan → Inside

@@ -1,4 +1,5 @@
--- The shape of a chain of tables: how many tables, how large each is, and where each word of it lies.
+-- The shape of a chain of tables: how many tables, how large each is, and where each word of it
+-- lies.
 use Rattle.std.specs.Prelude.{◌≡◌, ℕ, ◌+◌, ◌*◌, ◌/◌, ◌-◌, ◌^◌, ◌<◌, ◌≤◌, min, suc, zero, ◌==◌, ◌&&◌, Bool, true, not, nat_le, if◌then◌else◌, List, [], ◌∷◌, length, take, sum_by, slice_index, Result, Ok, Err, All}
 use Rattle.std.specs.Int.{is_power_of_two}
 use Rattle.std.specs.List.{list_all}
@@ -8,9 +9,9 @@ use Rattle.nb_core.specs.declared.shapes.HeaderWord.TheVariants as header
 use Rattle.nb_core.specs.declared.shapes.ShapeFault.{ShapeFault}
 use Rattle.nb_core.specs.declared.shapes.ShapeFault.TheVariants as fault
 
--- Table g has 2 to the power exponents[g] slots. There are seats for so many callers, and a size is counted over so many
--- stripes. No table but the last takes a new key past so many slots of the key's path, and at most so many slots are handed
--- out for copying at once.
+-- Table g has 2 to the power exponents[g] slots. There are seats for so many callers, and a size is
+-- counted over so many stripes. No table but the last takes a new key past so many slots of the
+-- key's path, and at most so many slots are handed out for copying at once.
 pub record Plan : Type 0 where
   pub exponents : List ℕ
   pub seats : ℕ
@@ -43,9 +44,11 @@ size_of p g = 2 ^ slice_index p.exponents g
 
 -- how many slots of its path a key may be claimed in by a fresh writer; in the last table, all
 abbrev pub limit_of : Plan → ℕ → ℕ
-limit_of p g = if suc g == generations_of p then size_of p g else min p.reprobes (2 + size_of p g / 4)
+limit_of p g = if suc g == generations_of p then size_of p g else min p.reprobes
+    (2 + size_of p g / 4)
 
--- how many words a table has: three header words (next, take, done), and a key word and a value word for each slot
+-- how many words a table has: three header words (next, take, done), and a key word and a value
+-- word for each slot
 abbrev pub table_words : ℕ → ℕ
 table_words exponent = 3 + 2 * 2 ^ exponent
 
@@ -98,7 +101,8 @@ IsWord p (Value g i) = (g < generations_of p) × (i < size_of p g)
 
 -- No two words lie in one place, and each lies below the number of words.
 pub record HasDistinctPlaces (p : Plan) : Type 0 where
-  pub distinct : (a b : Word) → IsWord p a → IsWord p b → place_of_word p a ≡ place_of_word p b → a ≡ b
+  pub distinct : (a b : Word) → IsWord p a → IsWord p b → place_of_word p a ≡ place_of_word p b
+      → a ≡ b
   pub below : (a : Word) → IsWord p a → place_of_word p a < word_count p
 
 -- each plan that a shape may be has its words in distinct places
@@ -107,11 +111,13 @@ PlacesAreDistinct = (p : Plan) → IsPlan p → HasDistinctPlaces p
 
 -- no table is smaller than the one before it
 abbrev pub SizesNeverFall : Type 0
-SizesNeverFall = (p : Plan) → IsPlan p → (g : ℕ) → suc g < generations_of p → size_of p g ≤ size_of p (suc g)
+SizesNeverFall = (p : Plan) → IsPlan p → (g : ℕ) → suc g < generations_of p
+    → size_of p g ≤ size_of p (suc g)
 
 -- The limit of a table is a slot at least, and no more slots than the table has.
 abbrev pub LimitsFit : Type 0
-LimitsFit = (p : Plan) → IsPlan p → (g : ℕ) → g < generations_of p → (1 ≤ limit_of p g) × (limit_of p g ≤ size_of p g)
+LimitsFit = (p : Plan) → IsPlan p → (g : ℕ) → g < generations_of p → (1 ≤ limit_of p g)
+    × (limit_of p g ≤ size_of p g)
 
 -- the number is from low to high
 abbrev pub is_within : ℕ → ℕ → ℕ → Bool
@@ -123,10 +129,18 @@ never_falls [] = true
 never_falls (e ∷ []) = true
 never_falls (e ∷ f ∷ es) = nat_le e f && never_falls (f ∷ es)
 
--- the plan of these tables, seats and stripes, with no reprobe limit beside that of each table's size and chunks of 8 slots
+-- the plan of these tables, seats and stripes, with no reprobe limit beside that of each table's
+-- size and chunks of 8 slots
 abbrev pub plan : List ℕ → ℕ → ℕ → Plan
 plan exponents seats stripes =
-    record { exponents = exponents; seats = seats; stripes = stripes; reprobes = 2 ^ 32 - 1; chunk = 8 }
+    record {
+      exponents = exponents;
+      seats = seats;
+      stripes = stripes;
+      reprobes = 2 ^ 32 - 1;
+      chunk =
+          8;
+    }
 
 -- the plan, or the first thing that is wrong with its seats and stripes
 abbrev pub seated : List ℕ → ℕ → ℕ → Result Plan ShapeFault
@@ -157,9 +171,11 @@ checked_shape bits generations seats stripes =
 
 -- the plan with this reprobe limit, which is a slot at least
 abbrev pub checked_reprobes : Plan → ℕ → Result Plan ShapeFault
-checked_reprobes p reprobes = if nat_le 1 reprobes then Ok (record p { reprobes = reprobes }) else Err fault.Reprobes
+checked_reprobes p reprobes = if nat_le 1 reprobes then Ok (record p { reprobes = reprobes })
+    else Err fault.Reprobes
 
 -- the plan with chunks of so many slots, a power of two from 4 to 1024
 abbrev pub checked_chunk : Plan → ℕ → Result Plan ShapeFault
 checked_chunk p slots =
-    if is_within 4 1024 slots && is_power_of_two slots then Ok (record p { chunk = slots }) else Err fault.Chunk
+    if is_within 4 1024 slots && is_power_of_two slots then Ok (record p { chunk = slots })
+    else Err fault.Chunk

@@ -1,4 +1,5 @@
--- Events that may not follow a legal history: what wrong code would do. They are examples: each is proved refused.
+-- Events that may not follow a legal history: what wrong code would do. They are examples: each is
+-- proved refused.
 use Rattle.std.specs.Prelude.{List, [], ◌∷◌, true, Some, None}
 use Rattle.nb_core.specs.Plans.{Plan, plan}
 use Rattle.nb_core.specs.declared.calls.Call.TheVariants as call
@@ -243,7 +244,8 @@ abbrev pub silent_overflow : Wrong
 silent_overflow = record {
   plan = plan (2 ∷ []) 1 1;
   before =
-      Won 0 0 0 Null (Live 1152921504606846975) (call.Write 0 Any (change.Put 1152921504606846975)) (replied None true)
+      Won 0 0 0 Null (Live 1152921504606846975) (call.Write 0 Any (change.Put 1152921504606846975))
+      (replied None true)
       ∷ Claim 0 0 0 0
       ∷ [];
   event = Read 0 (call.Write 0 Any (change.Add 1)) (replied (Some 1152921504606846975) true);

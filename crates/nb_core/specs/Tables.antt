@@ -49,7 +49,8 @@ pub record Tables : Type 0 where
   pub counted : ℕ → ℕ
   pub top : ℕ
 
--- what a list of words says; a value word that no state has, which no legal history writes, is read as null
+-- what a list of words says; a value word that no state has, which no legal history writes, is read
+-- as null
 abbrev pub tables_of : Plan → List ℕ → Tables
 tables_of p w = record {
   key = λ g i. key_state (slice_index w (key_place p g i));
@@ -141,7 +142,8 @@ HasSlotBelow p t (suc g) k = HasSlot p t g k
 -- the key has no slot in the table below that isn't finished
 abbrev pub IsSettledBelow : Plan → Tables → ℕ → ℕ → Type 0
 IsSettledBelow p t zero k = Unit {0}
-IsSettledBelow p t (suc g) k = (i : ℕ) → i < size_of p g → t.key g i ≡ Claimed k → IsFinishedValue (t.value g i)
+IsSettledBelow p t (suc g) k = (i : ℕ) → i < size_of p g → t.key g i ≡ Claimed k
+    → IsFinishedValue (t.value g i)
 
 -- ---- what a seat may find
 
@@ -159,11 +161,13 @@ HasContent (Finished n) = Unit {0}
 abbrev pub IsPrimedOrFinished : Tables → ℕ → ℕ → ℕ → Type 0
 IsPrimedOrFinished t g i n = (t.value g i ≡ Primed n) ⊎ (t.value g i ≡ Finished n)
 
--- A call need not look for the key in this table any more: the key's slot is finished, or other keys have its path, up to
--- a closed slot or whole.
+-- A call need not look for the key in this table any more: the key's slot is finished, or other
+-- keys have its path, up to a closed slot or whole.
 pub data IsPassed (p : Plan) (t : Tables) (g k : ℕ) : Type 0 where
-  AtSlot : (i : ℕ) → i < size_of p g → t.key g i ≡ Claimed k → IsFinishedValue (t.value g i) → IsPassed p t g k
-  UpToDead : (d : ℕ) → d < size_of p g → AreOthers p t g k d → t.key g (path_slot p g k d) ≡ Dead → IsPassed p t g k
+  AtSlot : (i : ℕ) → i < size_of p g → t.key g i ≡ Claimed k → IsFinishedValue (t.value g i)
+      → IsPassed p t g k
+  UpToDead : (d : ℕ) → d < size_of p g → AreOthers p t g k d → t.key g (path_slot p g k d) ≡ Dead
+      → IsPassed p t g k
   Whole : AreOthers p t g k (size_of p g) → IsPassed p t g k
 
 abbrev pub is_dead : KeyState → Bool
@@ -174,4 +178,5 @@ is_dead (Claimed k) = false
 -- how many of the first n slots of a table are finished
 abbrev pub finished_among : Tables → ℕ → ℕ → ℕ
 finished_among t g zero = 0
-finished_among t g (suc n) = (if is_dead (t.key g n) || is_finished_value (t.value g n) then 1 else 0) + finished_among t g n
+finished_among t g (suc n) =
+    (if is_dead (t.key g n) || is_finished_value (t.value g n) then 1 else 0) + finished_among t g n

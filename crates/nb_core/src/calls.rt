@@ -46,7 +46,8 @@ pub enum Change {
 impl Change {
     /// What the change puts in place of what stands at the key: a number, or nothing.
     pub fn changed(self, before: Option<Num>) -> Result<Option<Num>, RangeFault>
-        ensures { result ≡ (if is_past_max (changed self before) then Err RangeFault.ValueRange else Ok (changed self before)) }
+        ensures { result ≡ (if is_past_max (changed self before) then Err RangeFault.ValueRange
+            else Ok (changed self before)) }
     {
         match self {
             Change::Put(number) => {
@@ -69,9 +70,10 @@ pub struct Reply {
     pub matched: bool,
 }
 
-/// A call of the map. One conditional write stands behind all writes of `ConcurrentMap`: `put(k, v)` and `remove(k)`
-/// are writes under `Any`, `putIfAbsent(k, v)` under `Absent`, `replace(k, v)` under `Present`, and
-/// `replace(k, old, new)` and `remove(k, v)` under `Equal`. An `Add` under `Any` is `merge` by a sum.
+/// A call of the map. One conditional write stands behind all writes of `ConcurrentMap`: `put(k,
+/// v)` and `remove(k)` are writes under `Any`, `putIfAbsent(k, v)` under `Absent`, `replace(k, v)`
+/// under `Present`, and `replace(k, old, new)` and `remove(k, v)` under `Equal`. An `Add` under
+/// `Any` is `merge` by a sum.
 #[derive(Clone, Copy, Debug, PartialEq, Eq, Hash)]
 pub enum Call {
     Get {

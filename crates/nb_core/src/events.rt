@@ -3,9 +3,9 @@ use crate::calls::{Call, Reply};
 use crate::numbers::{Key, Num};
 use crate::states::ValueState;
 
-/// One successful atomic change of a chain's words, or one load that decided a call, with the number of the seat that
-/// made it. A history is a list of events, the newest first. No value of this type is made when a program runs:
-/// contracts speak of it.
+/// One successful atomic change of a chain's words, or one load that decided a call, with the
+/// number of the seat that made it. A history is a list of events, the newest first. No value of
+/// this type is made when a program runs: contracts speak of it.
 pub enum Event {
     /// The empty slot `i` of table `g` got a key.
     Claim {

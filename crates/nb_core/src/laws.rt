@@ -1,7 +1,46 @@
-//! The laws of every shape and of every legal history, which say what holds at each moment, whatever atomic steps were made
-//! by whom. Each function carries a law as its contract, so that the gate guards it; nobody calls it. The crates above take
-//! the laws as theorems, from `proofs/Theorems.antt`, under the same names.
-ghost use Rattle.nb_core.specs.Laws.{BeginningsAreLegal, CallsAppend, ClaimedOnPath, Codings, CompletePassed, ContentOnce, CountedOnce, CrowdedAbsent, Decided, FewKeys, HasOneSlot, HeldHasPlace, InstalledAfter, LawfulChanges, LawfulWords, LogIsReplayed, LostExchange, MapInRange, Moved, OnePlace, OwnLasts, PassedAbove, PassedOverAdds, PassedSettled, PathsAreDistinct, PlaceIs, ReadReplies, Room, SeenLasts, SizeIsNet, SlotsStay, TablesAreLinked, TablesStand, TopComplete, WholeCrowded, WinNumber, WinReplies};
+//! The laws of every shape and of every legal history, which say what holds at each moment,
+//! whatever atomic steps were made by whom. Each function carries a law as its contract, so that
+//! the gate guards it; nobody calls it. The crates above take the laws as theorems, from
+//! `proofs/Theorems.antt`, under the same names.
+ghost use Rattle.nb_core.specs.Laws.{
+  BeginningsAreLegal,
+  CallsAppend,
+  ClaimedOnPath,
+  Codings,
+  CompletePassed,
+  ContentOnce,
+  CountedOnce,
+  CrowdedAbsent,
+  Decided,
+  FewKeys,
+  HasOneSlot,
+  HeldHasPlace,
+  InstalledAfter,
+  LawfulChanges,
+  LawfulWords,
+  LogIsReplayed,
+  LostExchange,
+  MapInRange,
+  Moved,
+  OnePlace,
+  OwnLasts,
+  PassedAbove,
+  PassedOverAdds,
+  PassedSettled,
+  PathsAreDistinct,
+  PlaceIs,
+  ReadReplies,
+  Room,
+  SeenLasts,
+  SizeIsNet,
+  SlotsStay,
+  TablesAreLinked,
+  TablesStand,
+  TopComplete,
+  WholeCrowded,
+  WinNumber,
+  WinReplies,
+};
 ghost use Rattle.nb_core.specs.Plans.{LimitsFit, PlacesAreDistinct, SizesNeverFall};
 
 /// No two words of a chain lie in one place, and each lies in the chain.
@@ -19,21 +58,22 @@ pub fn limits_fit()
     ensures { LimitsFit }
 {}
 
-/// A value word and its state tell each other. To set a word's lowest bit primes its state, to set the bit above in a primed
-/// number's word finishes the number, and the words of the states that aren't primed are the even ones.
+/// A value word and its state tell each other. To set a word's lowest bit primes its state, to set
+/// the bit above in a primed number's word finishes the number, and the words of the states that
+/// aren't primed are the even ones.
 pub fn codings()
     ensures { Codings }
 {}
 
-/// There are as many words as the plan says. Each key word and value word stands for a state, a slot without a key has the
-/// value null, and the last table's header words are 0.
+/// There are as many words as the plan says. Each key word and value word stands for a state, a
+/// slot without a key has the value null, and the last table's header words are 0.
 pub fn lawful_words()
     ensures { LawfulWords }
 {}
 
-/// One more event changes one word at most, and of keys and values only those of its own slot: a key from empty to claimed
-/// or closed, a value from null or a tombstone to a number, from a number to another one or a tombstone, from unprimed to
-/// primed, from a primed number to a finished one.
+/// One more event changes one word at most, and of keys and values only those of its own slot: a
+/// key from empty to claimed or closed, a value from null or a tombstone to a number, from a number
+/// to another one or a tombstone, from unprimed to primed, from a primed number to a finished one.
 pub fn lawful_changes()
     ensures { LawfulChanges }
 {}
@@ -63,7 +103,8 @@ pub fn installed_after()
     ensures { InstalledAfter }
 {}
 
-/// What an installed table shows of a key that is passed in all tables below it is what the map has.
+/// What an installed table shows of a key that is passed in all tables below it is what the map
+/// has.
 pub fn decided()
     ensures { Decided }
 {}
@@ -73,7 +114,8 @@ pub fn counted()
     ensures { CountedOnce }
 {}
 
-/// While a table isn't complete, the next one has an empty slot for each key that is still to be copied.
+/// While a table isn't complete, the next one has an empty slot for each key that is still to be
+/// copied.
 pub fn room()
     ensures { Room }
 {}
@@ -93,8 +135,8 @@ pub fn size_is_net()
     ensures { SizeIsNet }
 {}
 
-/// The log of a history is replayed: each call replies as the map does that the calls before it leave. It leaves the history's
-/// map, and each of its entries is of one of the seats.
+/// The log of a history is replayed: each call replies as the map does that the calls before it
+/// leave. It leaves the history's map, and each of its entries is of one of the seats.
 pub fn log_is_replayed()
     ensures { LogIsReplayed }
 {}
@@ -139,7 +181,8 @@ pub fn top_complete()
     ensures { TopComplete }
 {}
 
-/// Tables come one after another: only one that is there has keys, and only one that has a next one is copied.
+/// Tables come one after another: only one that is there has keys, and only one that has a next one
+/// is copied.
 pub fn linked()
     ensures { TablesAreLinked }
 {}
@@ -164,23 +207,26 @@ pub fn passed_above()
     ensures { PassedAbove }
 {}
 
-/// Where a seat has made no call since a moment, and another unprimed value stands in a key's slot than then, another seat
-/// has won an exchange on the key since.
+/// Where a seat has made no call since a moment, and another unprimed value stands in a key's slot
+/// than then, another seat has won an exchange on the key since.
 pub fn lost_exchange()
     ensures { LostExchange }
 {}
 
-/// The exchanges that others won since a moment are those up to a later moment, and those since then.
+/// The exchanges that others won since a moment are those up to a later moment, and those since
+/// then.
 pub fn passed_over_adds()
     ensures { PassedOverAdds }
 {}
 
-/// Events of other seats leave a seat's calls, and what it counted and turned finished, as they are.
+/// Events of other seats leave a seat's calls, and what it counted and turned finished, as they
+/// are.
 pub fn own_lasts()
     ensures { OwnLasts }
 {}
 
-/// A call that may win an exchange may reply the number that it replaces, and that its condition held.
+/// A call that may win an exchange may reply the number that it replaces, and that its condition
+/// held.
 pub fn win_replies()
     ensures { WinReplies }
 {}

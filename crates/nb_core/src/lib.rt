@@ -1,8 +1,9 @@
-//! The words of a non-blocking hash map from whole numbers to whole numbers: keys and value numbers, the shape
-//! of a chain of tables, calls and what they mean, and a plain map that answers them one after another.
+//! The words of a non-blocking hash map from whole numbers to whole numbers: keys and value
+//! numbers, the shape of a chain of tables, calls and what they mean, and a plain map that answers
+//! them one after another.
 //!
-//! The design is that of Cliff Click's JavaOne 2007 talk and of `NonBlockingHashMapLong` in high-scale-lib; the
-//! replies are those of `java.util.concurrent.ConcurrentMap`.
+//! The design is that of Cliff Click's JavaOne 2007 talk and of `NonBlockingHashMapLong` in
+//! high-scale-lib; the replies are those of `java.util.concurrent.ConcurrentMap`.
 #![tactic(auto)]
 
 mod calls;

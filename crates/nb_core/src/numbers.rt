@@ -4,10 +4,12 @@ ghost use Rattle.std.specs.Prelude.{◌≡◌, ◌≤◌, nat_le, if◌then◌el
 use std::marker::Model;
 use thiserror::Error;
 
-/// The greatest key, `2^64 - 3`: a key is stored two above itself, since two words mean an empty and a dead slot.
+/// The greatest key, `2^64 - 3`: a key is stored two above itself, since two words mean an empty
+/// and a dead slot.
 pub const KEY_MAX: u64 = u64::MAX - 2;
 
-/// The greatest value number, `2^60 - 1`: a value's word keeps two flags below the number, and has room above it.
+/// The greatest value number, `2^60 - 1`: a value's word keeps two flags below the number, and has
+/// room above it.
 pub const VALUE_MAX: u64 = (1 << 60) - 1;
 
 /// Why a number is no key or no value number.
@@ -93,7 +95,8 @@ impl Model for Num {
 impl Num {
     /// The value number of a number, if it is at most [`VALUE_MAX`].
     pub const fn new(number: u64) -> Result<Num, RangeFault>
-        ensures { result ≡ (if nat_le number VALUE_MAX then Ok number else Err RangeFault.ValueRange) }
+        ensures { result
+            ≡ (if nat_le number VALUE_MAX then Ok number else Err RangeFault.ValueRange) }
     {
         if number <= VALUE_MAX {
             Ok(Num { number })

@@ -60,11 +60,14 @@ impl PlainMap {
 
     /// Makes one write. Only a new key takes memory.
     pub fn apply(&mut self, key: Key, want: Want, change: Change) -> Result<Reply, PlainFault>
-        ensures reply { IfOk result (λ reply. reply ≡ reply_of (Call.Write key want change) self.old) }
+        ensures reply { IfOk result (λ reply. reply
+            ≡ reply_of (Call.Write key want change) self.old) }
         ensures map { OnOk result (self.new ≡ map_after (Call.Write key want change) self.old) }
-        ensures too_great { (result ≡ Err PlainFault.ValueRange) ↔ IsTrue (overflows (Call.Write key want change) self.old) }
+        ensures too_great { (result ≡ Err PlainFault.ValueRange)
+            ↔ IsTrue (overflows (Call.Write key want change) self.old) }
         ensures out_of_memory { result ≡ Err PlainFault.OutOfMemory → map.get self.old key ≡ None }
-        ensures only_to_fill { result ≡ Err PlainFault.OutOfMemory → Fills (Call.Write key want change) }
+        ensures only_to_fill { result ≡ Err PlainFault.OutOfMemory
+            → Fills (Call.Write key want change) }
         ensures refused { OnErr result (self.new ≡ self.old) }
     {
         let before = &self.get(key);

@@ -1,8 +1,25 @@
-//! Examples of what wrong code would do: a legal history, and an event that may not follow it. Each function carries
-//! this as its contract; it does nothing when it runs. The histories are written out in this crate's
-//! `specs/Refusals.antt`.
+//! Examples of what wrong code would do: a legal history, and an event that may not follow it. Each
+//! function carries this as its contract; it does nothing when it runs. The histories are written
+//! out in this crate's `specs/Refusals.antt`.
 ghost use Rattle.nb_core.specs.History.{IsLegal};
-ghost use Rattle.nb_core.specs.Refusals.{MayNotFollow, MayNotReply, overwriting_copy, overwriting_copy_of_a_newer_number, early_finish, early_finish_at_a_null, hasty_writer, double_count, double_count_by_one_seat, early_promotion, late_copier, late_copier_past_a_primed_tombstone, reused_key, stale_sum, stale_sum_replacing_what_stands, silent_overflow};
+ghost use Rattle.nb_core.specs.Refusals.{
+  MayNotFollow,
+  MayNotReply,
+  overwriting_copy,
+  overwriting_copy_of_a_newer_number,
+  early_finish,
+  early_finish_at_a_null,
+  hasty_writer,
+  double_count,
+  double_count_by_one_seat,
+  early_promotion,
+  late_copier,
+  late_copier_past_a_primed_tombstone,
+  reused_key,
+  stale_sum,
+  stale_sum_replacing_what_stands,
+  silent_overflow,
+};
 
 /// A second copier stores the number of a key over the same number, which a first one stored.
 pub fn overwriting_copy()
@@ -12,7 +29,8 @@ pub fn overwriting_copy()
 
 /// A second copier stores an old number over a newer one.
 pub fn overwriting_copy_of_a_newer_number()
-    ensures legal { IsLegal overwriting_copy_of_a_newer_number.plan overwriting_copy_of_a_newer_number.before }
+    ensures legal { IsLegal overwriting_copy_of_a_newer_number.plan
+        overwriting_copy_of_a_newer_number.before }
     ensures refused { MayNotFollow overwriting_copy_of_a_newer_number }
 {}
 
@@ -28,7 +46,8 @@ pub fn early_finish_at_a_null()
     ensures refused { MayNotFollow early_finish_at_a_null }
 {}
 
-/// A writer exchanges a value in the next table while its key's slot in the table below is not finished.
+/// A writer exchanges a value in the next table while its key's slot in the table below is not
+/// finished.
 pub fn hasty_writer()
     ensures legal { IsLegal hasty_writer.plan hasty_writer.before }
     ensures refused { MayNotFollow hasty_writer }
@@ -60,7 +79,8 @@ pub fn late_copier()
 
 /// The same, past a primed tombstone: the removed key would be shown again at once.
 pub fn late_copier_past_a_primed_tombstone()
-    ensures legal { IsLegal late_copier_past_a_primed_tombstone.plan late_copier_past_a_primed_tombstone.before }
+    ensures legal { IsLegal late_copier_past_a_primed_tombstone.plan
+        late_copier_past_a_primed_tombstone.before }
     ensures refused { MayNotFollow late_copier_past_a_primed_tombstone }
 {}
 
@@ -78,7 +98,8 @@ pub fn stale_sum()
 
 /// An add exchanges the number that stands there for a sum made from an older one.
 pub fn stale_sum_replacing_what_stands()
-    ensures legal { IsLegal stale_sum_replacing_what_stands.plan stale_sum_replacing_what_stands.before }
+    ensures legal { IsLegal stale_sum_replacing_what_stands.plan
+        stale_sum_replacing_what_stands.before }
     ensures refused { MayNotFollow stale_sum_replacing_what_stands }
 {}
 

@@ -1,7 +1,24 @@
 //! The shape of a chain of tables.
 ghost use Rattle.std.specs.Prelude.{◌≡◌, ◌/◌, ◌^◌, ◌<◌, ◌≤◌, All, length};
 ghost use Rattle.std.specs.List.Sorted.{IsNonDecreasing};
-ghost use Rattle.nb_core.specs.Plans.{IsChunk, IsPlan, base_of, checked_chunk, checked_plan, checked_reprobes, checked_shape, generations_of, header_index, header_place, key_place, limit_of, seated, size_of, value_place, word_count};
+ghost use Rattle.nb_core.specs.Plans.{
+  IsChunk,
+  IsPlan,
+  base_of,
+  checked_chunk,
+  checked_plan,
+  checked_reprobes,
+  checked_shape,
+  generations_of,
+  header_index,
+  header_place,
+  key_place,
+  limit_of,
+  seated,
+  size_of,
+  value_place,
+  word_count,
+};
 ghost use Rattle.nb_core.specs.Tables.{chunk_of, path_slot};
 
 use crate::numbers::Key;
@@ -53,9 +70,9 @@ pub enum HeaderWord {
     Done,
 }
 
-/// The shape of a chain of tables: how many slots each table has, how many seats may call, and over how many
-/// stripes a size is counted. A contract sees its plan. It takes no memory, and it answers in a few instructions:
-/// it keeps where each table begins.
+/// The shape of a chain of tables: how many slots each table has, how many seats may call, and over
+/// how many stripes a size is counted. A contract sees its plan. It takes no memory, and it answers
+/// in a few instructions: it keeps where each table begins.
 #[derive(Clone, Copy, Debug, PartialEq, Eq, Hash)]
 pub struct Shape {
     exponents: [u8; MAX_GENERATIONS],
@@ -86,8 +103,8 @@ impl Model for Shape {
 }
 
 impl Shape {
-    /// Tables that double: `2^bits` slots in the first, and `generations` of them. `bits` is from 2 to 12, and the
-    /// other numbers are from 1 to 8.
+    /// Tables that double: `2^bits` slots in the first, and `generations` of them. `bits` is from 2
+    /// to 12, and the other numbers are from 1 to 8.
     pub fn new(
         bits: u32,
         generations: u32,
@@ -143,8 +160,8 @@ impl Shape {
         })
     }
 
-    /// A table of `2^e` slots for each exponent: 1 to 16 exponents from 2 to 19, none below the one before it. There
-    /// are 1 to 8 seats and stripes.
+    /// A table of `2^e` slots for each exponent: 1 to 16 exponents from 2 to 19, none below the one
+    /// before it. There are 1 to 8 seats and stripes.
     pub fn with_plan(exponents: &[u32], seats: usize, stripes: usize) -> Result<Shape, ShapeFault>
         ensures { result ≡ checked_plan exponents.now seats stripes }
     {
@@ -160,9 +177,10 @@ impl Shape {
         Self::seated(exponents, seats, stripes)
     }
 
-    /// The same with a reprobe limit: a table that isn't the last takes no new key past so many slots of the key's path, nor
-    /// past `2 + size / 4` of them; it grows instead. The limit is 1 at least. A small one keeps paths short, and has tables
-    /// grow while they are still half empty. The idea is `reprobe_limit` of high-scale-lib.
+    /// The same with a reprobe limit: a table that isn't the last takes no new key past so many
+    /// slots of the key's path, nor past `2 + size / 4` of them; it grows instead. The limit is 1
+    /// at least. A small one keeps paths short, and has tables grow while they are still half
+    /// empty. The idea is `reprobe_limit` of high-scale-lib.
     pub fn with_reprobe_limit(self, reprobes: u32) -> Result<Shape, ShapeFault>
         ensures { result ≡ checked_reprobes self reprobes }
     {
@@ -172,9 +190,9 @@ impl Shape {
         Ok(Shape { reprobes, ..self })
     }
 
-    /// The same with larger or smaller chunks: at most so many slots are handed out for copying at once, a power of two from
-    /// 4 to 1024. Who writes while a table grows copies a chunk first, so large chunks make growth cheaper, and single calls
-    /// dearer.
+    /// The same with larger or smaller chunks: at most so many slots are handed out for copying at
+    /// once, a power of two from 4 to 1024. Who writes while a table grows copies a chunk first, so
+    /// large chunks make growth cheaper, and single calls dearer.
     pub fn with_chunk(self, slots: u32) -> Result<Shape, ShapeFault>
         ensures { result ≡ checked_chunk self slots }
     {
@@ -218,7 +236,8 @@ impl Shape {
         1 << self.exponents[g as usize]
     }
 
-    /// How many slots of table `g` are handed out for copying at once: a chunk, or all of a smaller table.
+    /// How many slots of table `g` are handed out for copying at once: a chunk, or all of a smaller
+    /// table.
     pub fn chunk_of(&self, g: u32) -> usize
         requires { g < generations_of self.now }
         ensures chunk { result ≡ chunk_of self.now g }
@@ -235,8 +254,9 @@ impl Shape {
         self.size_of(g) >> self.chunk_of(g).trailing_zeros()
     }
 
-    /// How many slots of its path in table `g` a key that has no slot in the table below may be claimed in: `2 + size / 4`
-    /// or the reprobe limit, whichever is smaller, and in the last table all.
+    /// How many slots of its path in table `g` a key that has no slot in the table below may be
+    /// claimed in: `2 + size / 4` or the reprobe limit, whichever is smaller, and in the last table
+    /// all.
     pub fn limit_of(&self, g: u32) -> usize
         requires { g < generations_of self.now }
         ensures { result ≡ limit_of self.now g }
@@ -250,7 +270,8 @@ impl Shape {
         }
     }
 
-    /// The slot at a distance on the path of a key in table `g`, which begins at the key's home slot.
+    /// The slot at a distance on the path of a key in table `g`, which begins at the key's home
+    /// slot.
     pub fn path_slot(&self, g: u32, key: Key, distance: usize) -> usize
         requires table { g < generations_of self.now }
         requires near { distance < size_of self.now g }

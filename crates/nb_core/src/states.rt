@@ -1,7 +1,14 @@
 //! What the two words of a slot hold.
 ghost use Rattle.std.specs.Prelude.{◌≡◌, ◌≢◌, Some, IfSome, IfNone};
 ghost use Rattle.nb_core.specs.States.{IsValueWord};
-ghost use Rattle.nb_core.specs.States.{IsKeyState, IsValueState, key_state, key_word, value_state, value_word};
+ghost use Rattle.nb_core.specs.States.{
+  IsKeyState,
+  IsValueState,
+  key_state,
+  key_word,
+  value_state,
+  value_word,
+};
 ghost use Rattle.nb_core.specs.Tables.{is_finished_value};
 
 use crate::numbers::{Key, Num};
@@ -15,8 +22,9 @@ pub enum KeyState {
     Claimed(Key),
 }
 
-/// What the value word of a slot holds. A primed number is about to be copied, and becomes a finished one when the next
-/// table has a value of its key. A primed null or tombstone leaves nothing to copy.
+/// What the value word of a slot holds. A primed number is about to be copied, and becomes a
+/// finished one when the next table has a value of its key. A primed null or tombstone leaves
+/// nothing to copy.
 #[derive(Clone, Copy, Debug, PartialEq, Eq, Hash)]
 pub enum ValueState {
     /// The key never had a value in this table.
@@ -87,7 +95,8 @@ pub fn encode_value(state: ValueState) -> u64
 pub fn decode_value(word: u64) -> Option<ValueState>
     ensures state { result ≡ value_state word }
     ensures some { IfSome result (λ state. value_word state ≡ word) }
-    ensures none { IfNone result ((state : ValueState) → IsValueState state → value_word state ≢ word) }
+    ensures none { IfNone result ((state : ValueState) → IsValueState state
+        → value_word state ≢ word) }
 {
     match word {
         0 => Some(ValueState::Null),

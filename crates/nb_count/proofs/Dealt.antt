@@ -36,7 +36,9 @@ dealt-own counter dealt count are =
 
 -- ---- the first words
 
-pub count-words : (z : Size) → z.stripes ≤ 8 → length {A = ℕ} (take (SPREAD * z.stripes) (replicate 64 0)) ≡ SPREAD * z.stripes
+pub count-words :
+    (z : Size) → z.stripes ≤ 8 → length {A = ℕ} (take (SPREAD * z.stripes) (replicate 64 0))
+    ≡ SPREAD * z.stripes
 count-words z few = length-take-le (SPREAD * z.stripes) (replicate 64 0) (omega arith)
 
 zeros-at : (n k i : ℕ) → slice_index (take n (replicate k 0)) i ≡ 0
@@ -47,4 +49,5 @@ zeros-at (suc n) (suc k) (suc i) = zeros-at n k i
 
 pub opens-zeros : (z : Size) → z.stripes ≤ 8
     → AreSums z (opening (take (SPREAD * z.stripes) (replicate 64 0)) [] (new_tallies z.seats))
-opens-zeros z few = opens z (take (SPREAD * z.stripes) (replicate 64 0)) (count-words z few) (zeros-at (SPREAD * z.stripes) 64)
+opens-zeros z few = opens z (take (SPREAD * z.stripes) (replicate 64 0)) (count-words z few)
+    (zeros-at (SPREAD * z.stripes) 64)

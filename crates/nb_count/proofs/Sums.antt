@@ -107,45 +107,63 @@ wrapped-lt (negsuc n) = omega arith
 
 -- a word is the one that is left of a sum, where it reads so
 pub wrapped-by : (n : ℕ) (z : ℤ) → n < 2 ^ 64 → cast_signed w64 n ≡ int_wrap w64 z → n ≡ wrapped z
-wrapped-by n z fits e = sym (of_z-to_z w64 n fits) ∙ ap (cast_unsigned w64) (e ∙ sym (signed-wrapped z)) ∙ of_z-to_z w64 (wrapped z) (wrapped-lt z)
+wrapped-by n z fits e = sym (of_z-to_z w64 n fits)
+    ∙ ap (cast_unsigned w64) (e ∙ sym (signed-wrapped z)) ∙ of_z-to_z w64 (wrapped z) (wrapped-lt z)
 
 -- to add to a word, and to the sum that it stands for
-pub wrapped-add : (z : ℤ) (k : ℕ) → k < 2 ^ 64 → (wrapped z + k) % 2 ^ 64 ≡ wrapped (z +ℤ cast_signed w64 k)
+pub wrapped-add :
+    (z : ℤ) (k : ℕ) → k < 2 ^ 64 → (wrapped z + k) % 2 ^ 64 ≡ wrapped (z +ℤ cast_signed w64 k)
 wrapped-add z k fits =
-    wrapped-by ((wrapped z + k) % 2 ^ 64) (z +ℤ cast_signed w64 k) (mod-lt (wrapped z + k) (omega arith))
-    (wrapping_add-bits w64 (wrapped z) k (wrapped-lt z) fits ∙ ap (λ y. int_wrap w64 (y +ℤ cast_signed w64 k)) (signed-wrapped z) ∙ int_wrap-add_left w64 z (cast_signed w64 k))
+    wrapped-by ((wrapped z + k) % 2 ^ 64) (z +ℤ cast_signed w64 k)
+    (mod-lt (wrapped z + k) (omega arith))
+    (wrapping_add-bits w64 (wrapped z) k (wrapped-lt z) fits
+    ∙ ap (λ y. int_wrap w64 (y +ℤ cast_signed w64 k)) (signed-wrapped z)
+    ∙ int_wrap-add_left w64 z (cast_signed w64 k))
 
 -- to add two words, and the sums that they stand for
 pub wrapped-sum : (a b : ℤ) → (wrapped a + wrapped b) % 2 ^ 64 ≡ wrapped (a +ℤ b)
 wrapped-sum a b =
-    wrapped-by ((wrapped a + wrapped b) % 2 ^ 64) (a +ℤ b) (mod-lt (wrapped a + wrapped b) (omega arith))
+    wrapped-by ((wrapped a + wrapped b) % 2 ^ 64) (a +ℤ b)
+    (mod-lt (wrapped a + wrapped b) (omega arith))
     (wrapping_add-bits w64 (wrapped a) (wrapped b) (wrapped-lt a) (wrapped-lt b)
-    ∙ (λ i. int_wrap w64 (signed-wrapped a i +ℤ signed-wrapped b i)) ∙ int_wrap-add_left w64 a (int_wrap w64 b) ∙ int_wrap-add_right w64 a b)
+    ∙ (λ i. int_wrap w64 (signed-wrapped a i +ℤ signed-wrapped b i))
+    ∙ int_wrap-add_left w64 a (int_wrap w64 b) ∙ int_wrap-add_right w64 a b)
 
 -- ---- stripes
 
 -- the sum over the first n stripes of what they serve
 abbrev pub over_stripes : ℕ → ℕ → List Tally → ℤ
 over_stripes stripes zero ts = pos 0
-over_stripes stripes (suc n) ts = over_stripes stripes n ts +ℤ total (served stripes (SPREAD * n)) ts
+over_stripes stripes (suc n) ts = over_stripes stripes n ts +ℤ total (served stripes (SPREAD * n))
+    ts
 
 -- of a seat that the first n stripes don't serve, they have nothing
-not_served : (stripes n : ℕ) (t : Tally) (ts : List Tally) → n ≤ t.number % stripes → over_stripes stripes n (t ∷ ts) ≡ over_stripes stripes n ts
+not_served :
+    (stripes n : ℕ) (t : Tally) (ts : List Tally) → n ≤ t.number % stripes
+    → over_stripes stripes n (t ∷ ts) ≡ over_stripes stripes n ts
 not_served stripes zero t ts past = refl
 not_served stripes (suc n) t ts past =
-    let other : served stripes (SPREAD * n) t ≡ pos 0 = ap (λ b. cond b t.added (pos 0)) (ne_eqb (stripe_of stripes t.number) (SPREAD * n) (λ same. absurd (omega arith))) in
+    let other : served stripes (SPREAD * n) t ≡ pos 0 =
+    ap (λ b. cond b t.added (pos 0)) (ne_eqb (stripe_of stripes t.number) (SPREAD * n)
+    (λ same. absurd (omega arith))) in
     omega (arith, ints, not_served stripes n t ts (omega arith))
 
 -- one of the first n stripes serves the seat
-is_served : (stripes n : ℕ) (t : Tally) (ts : List Tally) → t.number % stripes < n → over_stripes stripes n (t ∷ ts) ≡ t.added +ℤ over_stripes stripes n ts
+is_served :
+    (stripes n : ℕ) (t : Tally) (ts : List Tally) → t.number % stripes < n
+    → over_stripes stripes n (t ∷ ts) ≡ t.added +ℤ over_stripes stripes n ts
 is_served stripes zero t ts below = absurd (omega arith)
 is_served stripes (suc n) t ts below =
     elim (cases_lt (t.number % stripes) n) [
       | inl lower ↦
-          let other : served stripes (SPREAD * n) t ≡ pos 0 = ap (λ b. cond b t.added (pos 0)) (ne_eqb (stripe_of stripes t.number) (SPREAD * n) (λ same. absurd (omega arith))) in
+          let other : served stripes (SPREAD * n) t ≡ pos 0 =
+          ap (λ b. cond b t.added (pos 0))
+          (ne_eqb (stripe_of stripes t.number) (SPREAD * n) (λ same. absurd (omega arith))) in
           omega (arith, ints, is_served stripes n t ts lower)
       | inr here ↦
-          let own : served stripes (SPREAD * n) t ≡ t.added = ap (λ b. cond b t.added (pos 0)) (eq-eqb (stripe_of stripes t.number) (SPREAD * n) (omega arith)) in
+          let own : served stripes (SPREAD * n) t ≡ t.added =
+          ap (λ b. cond b t.added (pos 0))
+          (eq-eqb (stripe_of stripes t.number) (SPREAD * n) (omega arith)) in
           omega (arith, ints, not_served stripes n t ts here)
     ]
 
@@ -154,6 +172,9 @@ none_served stripes zero = refl
 none_served stripes (suc n) = omega (arith, ints, none_served stripes n)
 
 -- all stripes together have what all seats have added
-pub all_served : (stripes : ℕ) (ts : List Tally) → 1 ≤ stripes → over_stripes stripes stripes ts ≡ total (λ t. t.added) ts
+pub all_served :
+    (stripes : ℕ) (ts : List Tally) → 1 ≤ stripes
+    → over_stripes stripes stripes ts ≡ total (λ t. t.added) ts
 all_served stripes [] positive = none_served stripes stripes
-all_served stripes (t ∷ ts) positive = is_served stripes stripes t ts (mod-lt t.number positive) ∙ ap (λ z. t.added +ℤ z) (all_served stripes ts positive)
+all_served stripes (t ∷ ts) positive = is_served stripes stripes t ts (mod-lt t.number positive)
+    ∙ ap (λ z. t.added +ℤ z) (all_served stripes ts positive)

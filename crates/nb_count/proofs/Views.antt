@@ -9,13 +9,24 @@ use Rattle.nb_count.specs.declared.counter.Counter.TheInside as counter
 use Rattle.nb_count.specs.declared.counter.CountSeat.TheInside as seat
 
 -- a counter's own seat is of its table
-pub own-table : (c : counter.Inside) (s : seat.Inside) (whole : CounterOf) (one : CountSeatOf) → counter_of c ≡ whole → seat_of s ≡ one → IsOwn whole one → s.seat.table_id ≡ c.table.shared.table_id
+pub own-table :
+    (c : counter.Inside) (s : seat.Inside) (whole : CounterOf) (one : CountSeatOf)
+    → counter_of c ≡ whole → seat_of s ≡ one → IsOwn whole one
+    → s.seat.table_id ≡ c.table.shared.table_id
 own-table c s whole one c_is s_is own = ap (λ v. v.counter) s_is ∙ own ∙ sym (ap (λ v. v.id) c_is)
 
 -- and its place is that of one of the counter's stripes
-pub own-place : (c : counter.Inside) (s : seat.Inside) → IsCounter c → IsSeat s → s.seat.table_id ≡ c.table.shared.table_id → (s.place < c.table.shared.table_id.words) × (s.place ≡ stripe_of c.table.shared.key.stripes (tally_of s.seat.me.0).number)
+pub own-place :
+    (c : counter.Inside) (s : seat.Inside) → IsCounter c → IsSeat s
+    → s.seat.table_id ≡ c.table.shared.table_id → (s.place < c.table.shared.table_id.words)
+    × (s.place ≡ stripe_of c.table.shared.key.stripes (tally_of s.seat.me.0).number)
 own-place c s is_counter is_seat same =
     let number = (tally_of s.seat.me.0).number in
-    let stripes : s.seat.table_id.words / SPREAD ≡ c.size.stripes = ap (λ t. t.words / SPREAD) same ∙ ap (λ n. n / SPREAD) is_counter.words ∙ omega arith in
-    let place : s.place ≡ stripe_of c.size.stripes number = is_seat.place ∙ ap (λ n. stripe_of n number) stripes in
-    (omega (arith, mod-lt number is_counter.some, is_counter.words), place ∙ ap (λ z. stripe_of z.stripes number) (sym is_counter.key))
+    let stripes : s.seat.table_id.words / SPREAD ≡ c.size.stripes = ap (λ t. t.words / SPREAD) same
+    ∙ ap (λ n. n / SPREAD) is_counter.words ∙ omega arith in
+    let place : s.place ≡ stripe_of c.size.stripes number = is_seat.place
+    ∙ ap (λ n. stripe_of n number) stripes in (
+      omega (arith, mod-lt number is_counter.some, is_counter.words),
+      place
+          ∙ ap (λ z. stripe_of z.stripes number) (sym is_counter.key),
+    )

@@ -10,8 +10,8 @@ pub record CounterOf : Type 0 where
   pub stripes : ℕ
   pub seats : ℕ
 
--- a counter's seat: which counter's, its number, what it has added in all, and how many adding steps and how many steps it has
--- made
+-- a counter's seat: which counter's, its number, what it has added in all, and how many adding
+-- steps and how many steps it has made
 pub record CountSeatOf : Type 0 where
   pub counter : TableId
   pub number : ℕ
@@ -37,7 +37,12 @@ new_seats id count = map (new_seat id) (range_with_len 0 count)
 
 -- the seat after one adding step
 abbrev pub with_added : ℤ → CountSeatOf → CountSeatOf
-with_added amount seat = record seat { added = seat.added +ℤ amount; adds = seat.adds + 1; steps = seat.steps + 1 }
+with_added amount seat = record seat {
+  added = seat.added +ℤ amount;
+  adds = seat.adds + 1;
+  steps =
+      seat.steps + 1;
+}
 
 -- the seat after so many looks, which change no word: it has made no adding step
 abbrev pub with_looks : ℕ → CountSeatOf → CountSeatOf

@@ -9,7 +9,12 @@ use Rattle.nb_count.specs.declared.tally.TheConstants.{SPREAD}
 use Rattle.nb_count.specs.declared.tally.Tally.{Tally}
 
 abbrev pub counter_of : counter.Inside → CounterOf
-counter_of c = record { id = c.table.shared.table_id; stripes = c.size.stripes; seats = c.size.seats }
+counter_of c = record {
+  id = c.table.shared.table_id;
+  stripes = c.size.stripes;
+  seats =
+      c.size.seats;
+}
 
 -- the table is the counter's, with room for its stripes
 pub record IsCounter (c : counter.Inside) : Type 0 where

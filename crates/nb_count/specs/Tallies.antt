@@ -39,11 +39,12 @@ new_tallies count = map new_tally (range_with_len 0 count)
 abbrev pub all_of : List (List Tally) → List Tally
 all_of = flat_map (λ tallies. tallies)
 
--- Each word is the sum, modulo 2^64, of what the seats whose stripe it is have added: so a word between two stripes is 0. And
--- no seat's tally is lost.
+-- Each word is the sum, modulo 2^64, of what the seats whose stripe it is have added: so a word
+-- between two stripes is 0. And no seat's tally is lost.
 pub record AreSums (z : Size) (s : State (Unit {0}) (List Tally)) : Type 0 where
   pub words : length s.words ≡ SPREAD * z.stripes
-  pub sums : (i : ℕ) → i < SPREAD * z.stripes → slice_index s.words i ≡ wrapped (total (served z.stripes i) (all_of s.views))
+  pub sums : (i : ℕ) → i < SPREAD * z.stripes
+      → slice_index s.words i ≡ wrapped (total (served z.stripes i) (all_of s.views))
   pub seats : length (all_of s.views) ≡ z.seats
 
 -- the sum of the first n stripes
@@ -61,10 +62,12 @@ StripesAreTheSum =
     (z : Size) (s : State (Unit {0}) (List Tally)) → 1 ≤ z.stripes → AreSums z s
     → sum_of_stripes s.words z.stripes % 2 ^ 64 ≡ wrapped (added_by (all_of s.views))
 
--- where all seats have added the same, the sum of the stripes is the same modulo 2^64, however many stripes there are
+-- where all seats have added the same, the sum of the stripes is the same modulo 2^64, however many
+-- stripes there are
 abbrev pub StripesAreFree : Type 0
 StripesAreFree =
-    (y z : Size) (s t : State (Unit {0}) (List Tally)) → 1 ≤ y.stripes → 1 ≤ z.stripes → AreSums y s → AreSums z t
+    (y z : Size) (s t : State (Unit {0}) (List Tally)) → 1 ≤ y.stripes → 1 ≤ z.stripes → AreSums y s
+    → AreSums z t
     → added_by (all_of s.views) ≡ added_by (all_of t.views)
     → sum_of_stripes s.words y.stripes % 2 ^ 64 ≡ sum_of_stripes t.words z.stripes % 2 ^ 64
 
@@ -77,15 +80,19 @@ abbrev pub after_look : Tally → Tally
 after_look t = record t { steps = t.steps + 1 }
 
 -- one step added the number that the word's operand stands for
-abbrev pub HasAdded : Step (Unit {0}) → Me (Unit {0}) (List Tally) → ℕ → Me (Unit {0}) (List Tally) → Type 0
+abbrev pub HasAdded :
+    Step (Unit {0}) → Me (Unit {0}) (List Tally) → ℕ → Me (Unit {0}) (List Tally) → Type 0
 HasAdded step me found me' = me' ≡ (map (after_add (cast_signed w64 step.first)) me.0, me.1)
 
 -- one step looked at a word
-abbrev pub HasLooked : Step (Unit {0}) → Me (Unit {0}) (List Tally) → ℕ → Me (Unit {0}) (List Tally) → Type 0
+abbrev pub HasLooked :
+    Step (Unit {0}) → Me (Unit {0}) (List Tally) → ℕ → Me (Unit {0}) (List Tally) → Type 0
 HasLooked step me found me' = me' ≡ (map after_look me.0, me.1)
 
 -- A step leaves each word as it is where its seat takes it for a look, whatever step it is.
 abbrev pub LooksChangeNoWord : Type 0
 LooksChangeNoWord =
-    (z : Size) (s t : State (Unit {0}) (List Tally)) (seat : ℕ) (known : List Tally) → AreSums z s → AreSums z t
-    → get_elem? s.views seat ≡ some known → t.views ≡ slice_set s.views seat (map after_look known) → t.words ≡ s.words
+    (z : Size) (s t : State (Unit {0}) (List Tally)) (seat : ℕ) (known : List Tally) → AreSums z s
+    → AreSums z t
+    → get_elem? s.views seat ≡ some known → t.views ≡ slice_set s.views seat (map after_look known)
+    → t.words ≡ s.words

@@ -1,5 +1,21 @@
 //! The counter and its seats.
-ghost use Rattle.std.specs.Prelude.{◌≡◌, ◌*◌, ◌%◌, ◌^◌, ◌<◌, ◌≤◌, ◌↔◌, [], length, map, IsPermutation, IfOk, IfErr, true, is_ok};
+ghost use Rattle.std.specs.Prelude.{
+  ◌≡◌,
+  ◌*◌,
+  ◌%◌,
+  ◌^◌,
+  ◌<◌,
+  ◌≤◌,
+  ◌↔◌,
+  [],
+  length,
+  map,
+  IsPermutation,
+  IfOk,
+  IfErr,
+  true,
+  is_ok,
+};
 ghost use Rattle.nb_count.specs.Counts.{AreOwn, IsOwn, new_seats, total_of, with_added, with_looks};
 ghost use Rattle.nb_count.specs.Inside.{seat_with};
 ghost use Rattle.nb_count.specs.Tallies.{sum_of_stripes, wrapped};
@@ -11,7 +27,8 @@ use nb_core::{MAX_STRIPES, NotAll, OutOfMemory};
 use std::alloc::Global;
 use std::marker::Model;
 
-/// A sum that many threads add to. Contracts see which counter it is, and its numbers of stripes and seats.
+/// A sum that many threads add to. Contracts see which counter it is, and its numbers of stripes
+/// and seats.
 #[derive(Drop)]
 pub struct Counter {
     table: Table<(), Tallies, Size, Stripes, Global>,
@@ -30,8 +47,9 @@ impl Model for Counter {
     ghost invariant = { IsCounter };
 }
 
-/// The right of one holder to add. Contracts see its counter, its number, what it has added in all, and how many steps it has
-/// made: adding steps, which may change its stripe, and looks, which change no word.
+/// The right of one holder to add. Contracts see its counter, its number, what it has added in all,
+/// and how many steps it has made: adding steps, which may change its stripe, and looks, which
+/// change no word.
 #[derive(Drop)]
 pub struct CountSeat {
     place: usize,
@@ -51,7 +69,8 @@ impl Model for CountSeat {
 }
 
 impl Counter {
-    /// A counter at 0 with so many stripes, and its seats. It takes memory for the stripes and for the vector of seats.
+    /// A counter at 0 with so many stripes, and its seats. It takes memory for the stripes and for
+    /// the vector of seats.
     pub fn new(
         alloc: Global,
         stripes: usize,
@@ -59,7 +78,8 @@ impl Counter {
     ) -> Result<(Counter, Vec<CountSeat>), OutOfMemory>
         requires stripes { (1 ≤ stripes) × (stripes ≤ 8) }
         requires seats { (1 ≤ seats) × (seats ≤ 8) }
-        ensures counter { IfOk result (λ made. (made.0.stripes ≡ stripes) × (made.0.seats ≡ seats)) }
+        ensures counter { IfOk result (λ made. (made.0.stripes ≡ stripes)
+            × (made.0.seats ≡ seats)) }
         ensures seats { IfOk result (λ made. made.1.items ≡ new_seats made.0.id seats) }
         ensures own { IfOk result (λ made. AreOwn made.0 made.1.items) }
     {
@@ -86,8 +106,8 @@ impl Counter {
         words.fetch_add::<Adds>(&mut seat.seat, seat.place, amount.cast_unsigned());
     }
 
-    /// The sum of the stripes, modulo 2^64, looked at one after another. It changes no word: each of its steps is a look. While
-    /// others add it is no more than a guess.
+    /// The sum of the stripes, modulo 2^64, looked at one after another. It changes no word: each
+    /// of its steps is a look. While others add it is no more than a guess.
     pub fn estimate(&self, seat: &mut CountSeat) -> u64
         requires own { IsOwn self.now seat.old }
         ensures own { IsOwn self.now seat.new }
@@ -111,12 +131,14 @@ impl Counter {
         words.load::<Looks>(&mut seat.seat, SPREAD * stripe)
     }
 
-    /// With all seats: the sum of all that they added, modulo 2^64. With another number of seats everything comes back.
+    /// With all seats: the sum of all that they added, modulo 2^64. With another number of seats
+    /// everything comes back.
     pub fn close(self, seats: Vec<CountSeat>) -> Result<u64, NotAll<Counter, CountSeat>>
         requires own { AreOwn self seats.items }
         ensures all { (is_ok result ≡ true) ↔ (length seats.items ≡ self.seats) }
         ensures sum { IfOk result (λ sum. sum ≡ wrapped (total_of seats.items)) }
-        ensures back { IfErr result (λ given. (given.whole ≡ self) × (given.seats.items ≡ seats.items)) }
+        ensures back { IfErr result (λ given. (given.whole ≡ self)
+            × (given.seats.items ≡ seats.items)) }
     {
         if seats.len() != self.size.seats {
             return Err(NotAll { whole: self, seats });

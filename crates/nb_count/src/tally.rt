@@ -4,11 +4,12 @@ ghost use Rattle.std.specs.Prelude.{[], ◌++◌, take, drop};
 use atomic_table::{Join, Play, Split, TableRule};
 use std::collections::LinkedList;
 
-/// How far apart two stripes lie, in words: 64 bytes, so that no two of them share a line of a processor's cache.
+/// How far apart two stripes lie, in words: 64 bytes, so that no two of them share a line of a
+/// processor's cache.
 pub const SPREAD: usize = 8;
 
-/// What a seat has added, and how many adding steps and how many steps it has made. Contracts alone speak of it: no value of
-/// it is made.
+/// What a seat has added, and how many adding steps and how many steps it has made. Contracts alone
+/// speak of it: no value of it is made.
 pub struct Tally {
     pub number: usize,
     pub added: i64,
@@ -26,8 +27,8 @@ pub struct Size {
     pub seats: usize,
 }
 
-/// The rule between any two steps: each stripe is the sum of what the seats that it serves have added, and the words between
-/// two stripes are 0.
+/// The rule between any two steps: each stripe is the sum of what the seats that it serves have
+/// added, and the words between two stripes are 0.
 pub(crate) struct Stripes;
 
 impl TableRule<(), Tallies, Size> for Stripes {

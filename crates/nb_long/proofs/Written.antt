@@ -14,28 +14,37 @@ use Rattle.nb_long.specs.declared.map.Stored.{Stored}
 
 -- The write's reply is that of the call for what was there.
 written :
-    {V : Type 0} (m : LongMapOf) (key : ℕ) (want : Want) (value : V) (before after : SeatOf) (stored : Stored V)
-    → HasStored m.store value stored.receipt → HasFound (put_of key want stored.receipt) before after stored.before
-    → stored.done ≡ holds_of want stored.before → IsLockFree m.map (put_of key want stored.receipt) before after
+    {V : Type 0} (m : LongMapOf) (key : ℕ) (want : Want) (value : V) (before after : SeatOf)
+    (stored : Stored V)
+    → HasStored m.store value stored.receipt
+    → HasFound (put_of key want stored.receipt) before after stored.before
+    → stored.done ≡ holds_of want stored.before
+    → IsLockFree m.map (put_of key want stored.receipt) before after
     → HasWritten m key want value before after stored
 written m key want value before after stored held (reply, is, replied) done lock_free = record {
   held = held;
   replied =
       subst (λ reply. HasReplied (put_of key want stored.receipt) before after reply)
-      (replies_fit before after (put_of key want stored.receipt) reply replied ∙ ap (reply_at (put_of key want stored.receipt)) is
-      ∙ ap (λ (matched : Bool). record { before = stored.before; matched = matched }) (sym done)) replied;
+      (replies_fit before after (put_of key want stored.receipt) reply replied
+      ∙ ap (reply_at (put_of key want stored.receipt)) is
+      ∙ ap (λ (matched : Bool). record { before = stored.before; matched = matched })
+      (sym done)) replied;
   lock_free = lock_free;
 }
 
 -- the same, where the map was called with the receipt's number
 pub written-as :
-    {V : Type 0} (m : LongMapOf) (key : ℕ) (want : Want) (value : V) (before after : SeatOf) (stored : Stored V) (number : ℕ)
+    {V : Type 0} (m : LongMapOf) (key : ℕ) (want : Want) (value : V) (before after : SeatOf)
+    (stored : Stored V) (number : ℕ)
     → number ≡ stored.receipt.index → HasStored m.store value stored.receipt
-    → HasFound (call.Write key want (change.Put number)) before after stored.before → stored.done ≡ holds_of want stored.before
-    → IsLockFree m.map (call.Write key want (change.Put number)) before after → HasWritten m key want value before after stored
+    → HasFound (call.Write key want (change.Put number)) before after stored.before
+    → stored.done ≡ holds_of want stored.before
+    → IsLockFree m.map (call.Write key want (change.Put number)) before after
+    → HasWritten m key want value before after stored
 written-as m key want value before after stored number is held found done lock_free =
     written m key want value before after stored held
-    (subst (λ n. HasFound (call.Write key want (change.Put n)) before after stored.before) is found) done
+    (subst (λ n. HasFound (call.Write key want (change.Put n)) before after stored.before) is found)
+    done
     (subst (λ n. IsLockFree m.map (call.Write key want (change.Put n)) before after) is lock_free)
 
 -- what wasn't there came, and nothing else

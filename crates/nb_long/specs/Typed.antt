@@ -1,5 +1,5 @@
--- How contracts see a typed map, and what its calls do: each is calls of the map of numbers, in its log, with values that the store
--- holds under these numbers.
+-- How contracts see a typed map, and what its calls do: each is calls of the map of numbers, in its
+-- log, with values that the store holds under these numbers.
 use Rattle.std.specs.Prelude.{◌≡◌, ℕ, Bool, true, false, List, ◌∷◌, Option, Some, None, Result, Ok, Err, All}
 use Rattle.boxcar.specs.Table.{Shelves, Shows, Where}
 use Rattle.nb_core.specs.declared.calls.Call.{Call}
@@ -29,8 +29,8 @@ pub record LongMapOf : Type 0 where
 
 -- ---- reads
 
--- What is found where the map has this number at a key, or none: nothing where it has none; else what the store shows under the
--- number, if it shows anything.
+-- What is found where the map has this number at a key, or none: nothing where it has none; else
+-- what the store shows under the number, if it shows anything.
 abbrev pub IsShown : {V : Type 0} → Shelves → Option ℕ → Result (Option (Where V)) Unshown → Type 0
 IsShown store number (Ok None) = number ≡ None
 IsShown store number (Ok (Some found)) = Shows store found × (number ≡ Some found.index)
@@ -42,11 +42,13 @@ IsShown store number (Err unshown) = (n : ℕ) × (number ≡ Some n)
 abbrev pub put_of : {V : Type 0} → (key : ℕ) → Want → Where V → Call
 put_of key want token = call.Write key want (change.Put token.index)
 
--- The value is stored, and the seat has made the one call that puts its number where the condition holds. The answers are that
--- call's.
-pub record HasWritten {V : Type 0} (m : LongMapOf) (key : ℕ) (want : Want) (value : V) (before after : SeatOf) (stored : Stored V) : Type 0 where
+-- The value is stored, and the seat has made the one call that puts its number where the condition
+-- holds. The answers are that call's.
+pub record HasWritten {V : Type 0} (m : LongMapOf) (key : ℕ) (want : Want) (value : V)
+    (before after : SeatOf) (stored : Stored V) : Type 0 where
   pub held : HasStored m.store value stored.receipt
-  pub replied : HasReplied (put_of key want stored.receipt) before after (record { before = stored.before; matched = stored.done })
+  pub replied : HasReplied (put_of key want stored.receipt) before after
+      (record { before = stored.before; matched = stored.done })
   pub lock_free : IsLockFree m.map (put_of key want stored.receipt) before after
 
 -- a fault of the store, as one of the map
@@ -54,13 +56,17 @@ abbrev pub as_fault : {V : Type 0} → StoreFault V → LongFault V
 as_fault (store_fault.OutOfMemory back) = fault.OutOfMemory back
 as_fault (store_fault.ValueRange placed) = fault.ValueRange placed
 
--- What is given back where a value isn't written: the value itself, or a token by which the store gives it. Only where it was
--- stored was the map called, and its call was refused.
-abbrev pub IsWriteRefused : {V : Type 0} → LongMapOf → (key : ℕ) → Want → V → (before after : SeatOf) → LongFault V → Type 0
-IsWriteRefused m key want value before after (fault.OutOfMemory back) = GivesBack m.store value (store_fault.OutOfMemory back) × (after ≡ before)
-IsWriteRefused m key want value before after (fault.ValueRange placed) = GivesBack m.store value (store_fault.ValueRange placed) × (after ≡ before)
+-- What is given back where a value isn't written: the value itself, or a token by which the store
+-- gives it. Only where it was stored was the map called, and its call was refused.
+abbrev pub IsWriteRefused :
+    {V : Type 0} → LongMapOf → (key : ℕ) → Want → V → (before after : SeatOf) → LongFault V → Type 0
+IsWriteRefused m key want value before after (fault.OutOfMemory back) =
+    GivesBack m.store value (store_fault.OutOfMemory back) × (after ≡ before)
+IsWriteRefused m key want value before after (fault.ValueRange placed) =
+    GivesBack m.store value (store_fault.ValueRange placed) × (after ≡ before)
 IsWriteRefused m key want value before after (fault.Full receipt) =
-    HasStored m.store value receipt × HasRefused m.map (put_of key want receipt) before after add_fault.Full
+    HasStored m.store value receipt × HasRefused m.map (put_of key want receipt)
+    before after add_fault.Full
     × IsLockFree m.map (put_of key want receipt) before after
 IsWriteRefused m key want value before after (fault.Unshown receipt) = ⊥
 
@@ -78,33 +84,46 @@ pub record HasIdled (key : ℕ) (before after : SeatOf) : Type 0 where
   pub logged : HasLogged before after calls
 
 -- The seat has made this call, after none or some that have changed nothing.
-pub record HasMadeLast (key : ℕ) (call : Call) (reply : Reply) (before after : SeatOf) : Type 0 where
+pub record HasMadeLast (key : ℕ) (call : Call) (reply : Reply) (before after : SeatOf) :
+    Type 0 where
   pub earlier : List (Call × Reply)
   pub idle : All (IsIdle key) earlier
   pub logged : HasLogged before after ((call, reply) ∷ earlier)
 
 -- the store shows a value under the number, and this is whether it is equal to the given one
 abbrev pub IsCompared : {V : Type 0} → (V → V → Bool) → Shelves → V → (number : ℕ) → Bool → Type 0
-IsCompared {V} eq store value number equal = (found : Where V) × Shows store found × (found.index ≡ number) × (eq found.value value ≡ equal)
+IsCompared {V} eq store value number equal = (found : Where V) × Shows store found
+    × (found.index ≡ number) × (eq found.value value ≡ equal)
 
--- What the key had at last, and whether the write was made. It was where the key's value was equal to the given one: the last call
--- is a write that matched on its number. Else the last call is a read, which found no number, or a value that isn't equal.
+-- What the key had at last, and whether the write was made. It was where the key's value was equal
+-- to the given one: the last call is a write that matched on its number. Else the last call is a
+-- read, which found no number, or a value that isn't equal.
 abbrev pub HasChangedIf :
-    {V : Type 0} → (V → V → Bool) → LongMapOf → (key : ℕ) → V → Change → (before after : SeatOf) → Option ℕ → Bool → Type 0
+    {V : Type 0} → (V → V → Bool) → LongMapOf → (key : ℕ) → V → Change → (before after : SeatOf)
+    → Option ℕ → Bool → Type 0
 HasChangedIf eq m key value change before after (Some n) true =
-    IsCompared eq m.store value n true × HasMadeLast key (call.Write key (want.Equal n) change) (record { before = Some n; matched = true }) before after
+    IsCompared eq m.store value n true × HasMadeLast key (call.Write key (want.Equal n) change)
+    (record { before = Some n; matched = true }) before after
 HasChangedIf eq m key value change before after (Some n) false =
-    IsCompared eq m.store value n false × HasMadeLast key (call.Get key) (reply_at (call.Get key) (Some n)) before after
+    IsCompared eq m.store value n false × HasMadeLast key (call.Get key)
+    (reply_at (call.Get key) (Some n)) before after
 HasChangedIf eq m key value change before after None true = ⊥
-HasChangedIf eq m key value change before after None false = HasMadeLast key (call.Get key) (reply_at (call.Get key) None) before after
+HasChangedIf eq m key value change before after None false =
+    HasMadeLast key (call.Get key) (reply_at (call.Get key) None) before after
 
 -- the last call is a read of a number that the store didn't show, and nothing was changed
 abbrev pub IsUnshown : (key : ℕ) → (before after : SeatOf) → Type 0
-IsUnshown key before after = (n : ℕ) × HasMadeLast key (call.Get key) (reply_at (call.Get key) (Some n)) before after
+IsUnshown key before after = (n : ℕ) × HasMadeLast key (call.Get key)
+    (reply_at (call.Get key) (Some n)) before after
 
--- What is given back where a value isn't written in place of an equal one. There is always a slot for it.
-abbrev pub IsRefusedIf : {V : Type 0} → LongMapOf → (key : ℕ) → V → (before after : SeatOf) → LongFault V → Type 0
-IsRefusedIf m key value before after (fault.OutOfMemory back) = GivesBack m.store value (store_fault.OutOfMemory back) × (after ≡ before)
-IsRefusedIf m key value before after (fault.ValueRange placed) = GivesBack m.store value (store_fault.ValueRange placed) × (after ≡ before)
+-- What is given back where a value isn't written in place of an equal one. There is always a slot
+-- for it.
+abbrev pub IsRefusedIf :
+    {V : Type 0} → LongMapOf → (key : ℕ) → V → (before after : SeatOf) → LongFault V → Type 0
+IsRefusedIf m key value before after (fault.OutOfMemory back) =
+    GivesBack m.store value (store_fault.OutOfMemory back) × (after ≡ before)
+IsRefusedIf m key value before after (fault.ValueRange placed) =
+    GivesBack m.store value (store_fault.ValueRange placed) × (after ≡ before)
 IsRefusedIf m key value before after (fault.Full receipt) = ⊥
-IsRefusedIf m key value before after (fault.Unshown receipt) = HasStored m.store value receipt × IsUnshown key before after
+IsRefusedIf m key value before after (fault.Unshown receipt) = HasStored m.store value receipt
+    × IsUnshown key before after

@@ -1,7 +1,8 @@
 //! A map from whole numbers to values of any type, which many threads share.
 //!
-//! Each write stores its value first, and a value stays until the store is dropped, also where its key was written over or taken
-//! out, or the write was refused: memory grows with the writes, not with the keys.
+//! Each write stores its value first, and a value stays until the store is dropped, also where its
+//! key was written over or taken out, or the write was refused: memory grows with the writes, not
+//! with the keys.
 #![tactic(auto)]
 
 mod map;

@@ -1,5 +1,21 @@
 //! The typed map, and its calls.
-ghost use Rattle.std.specs.Prelude.{◌≡◌, ◌+◌, ◌≤◌, ◌↔◌, ℕ, false, IfOk, IfErr, IfNone, IfSome, Option, [], is_ok, length, true};
+ghost use Rattle.std.specs.Prelude.{
+  ◌≡◌,
+  ◌+◌,
+  ◌≤◌,
+  ◌↔◌,
+  ℕ,
+  false,
+  IfOk,
+  IfErr,
+  IfNone,
+  IfSome,
+  Option,
+  [],
+  is_ok,
+  length,
+  true,
+};
 ghost use Rattle.nb_core.specs.Calls.{overflows};
 ghost use Rattle.nb_core.specs.Log.{IsBeginning, Numbers, reply_at};
 ghost use Rattle.nb_core.specs.Plans.{IsPlan};
@@ -12,7 +28,15 @@ ghost use Rattle.nb_map.specs.Looking.{IsSeenAtHome, get_steps};
 ghost use Rattle.nb_map.specs.Maps.{AreMine, HasWorked, IsMine, new_seats};
 ghost use Rattle.nb_map.specs.Refusing.{IsLockFree};
 ghost use Rattle.nb_long.specs.Stores.{HasStored};
-ghost use Rattle.nb_long.specs.Typed.{HasChangedIf, HasIdled, HasWritten, IsShown, IsWriteRefused, IsRefusedIf, IsUnshown};
+ghost use Rattle.nb_long.specs.Typed.{
+  HasChangedIf,
+  HasIdled,
+  HasWritten,
+  IsShown,
+  IsWriteRefused,
+  IsRefusedIf,
+  IsUnshown,
+};
 
 use crate::store::{Found, Placed, Receipt, Store, StoreFault};
 use nb_core::{Change, Key, NotAll, Num, OutOfMemory, Shape, Want};
@@ -22,7 +46,8 @@ use std::marker::Model;
 use std::sync::Wait;
 use thiserror::Error;
 
-/// A map from keys to values of any type, which many threads share. Each value is stored once, and the map has its number.
+/// A map from keys to values of any type, which many threads share. Each value is stored once, and
+/// the map has its number.
 #[derive(Drop)]
 pub struct LongMap<V> {
     map: Map,
@@ -106,10 +131,11 @@ impl<V: Drop> LongMap<V> {
         Ok((LongMap { map, store }, seats))
     }
 
-    /// Stores a value and puts its number at a key. `ConcurrentMap.put`, but that it answers the number that was there.
+    /// Stores a value and puts its number at a key. `ConcurrentMap.put`, but that it answers the
+    /// number that was there.
     ///
-    /// The value is stored first, whatever comes of the write, and stays until the store is dropped. Lock-free, with the bound of
-    /// `Map::put`, once the value is stored.
+    /// The value is stored first, whatever comes of the write, and stays until the store is
+    /// dropped. Lock-free, with the bound of `Map::put`, once the value is stored.
     pub fn put<R: Wait>(
         &self,
         rt: &R,
@@ -119,7 +145,8 @@ impl<V: Drop> LongMap<V> {
     ) -> Result<Stored<V>, LongFault<V>>
         requires own { IsMine self.now.map seat.old }
         ensures written { IfOk result (HasWritten self.now key want.Any value seat.old seat.new) }
-        ensures refused { IfErr result (IsWriteRefused self.now key want.Any value seat.old seat.new) }
+        ensures refused { IfErr result (IsWriteRefused self.now key want.Any value seat.old
+            seat.new) }
         ensures own { IsMine self.now.map seat.new }
     {
         let receipt = self.store.push(rt, value)?;
@@ -133,8 +160,8 @@ impl<V: Drop> LongMap<V> {
         }
     }
 
-    /// Stores a value and puts its number at a key that has none. `ConcurrentMap.putIfAbsent`. As `put` else: the value is stored
-    /// even where the key is there.
+    /// Stores a value and puts its number at a key that has none. `ConcurrentMap.putIfAbsent`. As
+    /// `put` else: the value is stored even where the key is there.
     pub fn put_if_absent<R: Wait>(
         &self,
         rt: &R,
@@ -143,8 +170,10 @@ impl<V: Drop> LongMap<V> {
         value: V,
     ) -> Result<Stored<V>, LongFault<V>>
         requires own { IsMine self.now.map seat.old }
-        ensures written { IfOk result (HasWritten self.now key want.Absent value seat.old seat.new) }
-        ensures refused { IfErr result (IsWriteRefused self.now key want.Absent value seat.old seat.new) }
+        ensures written { IfOk result (HasWritten self.now key want.Absent value seat.old
+            seat.new) }
+        ensures refused { IfErr result (IsWriteRefused self.now key want.Absent value seat.old
+            seat.new) }
         ensures own { IsMine self.now.map seat.new }
     {
         let receipt = self.store.push(rt, value)?;
@@ -158,8 +187,8 @@ impl<V: Drop> LongMap<V> {
         }
     }
 
-    /// Stores a value and puts its number in place of another. `ConcurrentMap.replace` of two arguments. As `put` else, but it is
-    /// never full.
+    /// Stores a value and puts its number in place of another. `ConcurrentMap.replace` of two
+    /// arguments. As `put` else, but it is never full.
     pub fn replace<R: Wait>(
         &self,
         rt: &R,
@@ -168,8 +197,10 @@ impl<V: Drop> LongMap<V> {
         value: V,
     ) -> Result<Stored<V>, LongFault<V>>
         requires own { IsMine self.now.map seat.old }
-        ensures written { IfOk result (HasWritten self.now key want.Present value seat.old seat.new) }
-        ensures refused { IfErr result (IsWriteRefused self.now key want.Present value seat.old seat.new) }
+        ensures written { IfOk result (HasWritten self.now key want.Present value seat.old
+            seat.new) }
+        ensures refused { IfErr result (IsWriteRefused self.now key want.Present value seat.old
+            seat.new) }
         ensures own { IsMine self.now.map seat.new }
     {
         let receipt = self.store.push(rt, value)?;
@@ -181,11 +212,13 @@ impl<V: Drop> LongMap<V> {
         })
     }
 
-    /// Stores a value and puts its number where the key has a value equal to `old`. `ConcurrentMap.replace` of three arguments, by
-    /// `V`'s equality. As `put` else, but it is never full.
+    /// Stores a value and puts its number where the key has a value equal to `old`.
+    /// `ConcurrentMap.replace` of three arguments, by `V`'s equality. As `put` else, but it is
+    /// never full.
     ///
-    /// It reads the key's number, compares, and writes if the number is still there; else it begins again, as it does, too, where
-    /// another seat put an equal value meanwhile. Nothing bounds how often it begins again.
+    /// It reads the key's number, compares, and writes if the number is still there; else it begins
+    /// again, as it does, too, where another seat put an equal value meanwhile. Nothing bounds how
+    /// often it begins again.
     pub fn replace_if<R: Wait>(
         &self,
         rt: &R,
@@ -198,7 +231,8 @@ impl<V: Drop> LongMap<V> {
         V: PartialEq,
         requires own { IsMine self.now.map seat.old }
         ensures stored { IfOk result (λ stored. HasStored self.now.store new stored.receipt) }
-        ensures changed { IfOk result (λ stored. HasChangedIf V.eq self.now key old.now (change.Put stored.receipt.index) seat.old seat.new
+        ensures changed { IfOk result (λ stored. HasChangedIf V.eq self.now key old.now
+            (change.Put stored.receipt.index) seat.old seat.new
             stored.before stored.done) }
         ensures refused { IfErr result (IsRefusedIf self.now key new seat.old seat.new) }
         ensures own { IsMine self.now.map seat.new }
@@ -224,12 +258,16 @@ impl<V> LongMap<V> {
         &self.store
     }
 
-    /// What the map has at a key. It is a `get` of the map of numbers, and a look at the store; it waits for nobody.
+    /// What the map has at a key. It is a `get` of the map of numbers, and a look at the store; it
+    /// waits for nobody.
     pub fn get(&self, seat: &mut Seat, key: Key) -> Result<Option<Found<'_, V>>, Unshown>
         requires own { IsMine self.now.map seat.old }
-        ensures found { (number : Option ℕ) × IsShown self.now.store number result × HasReplied (call.Get key) seat.old seat.new (reply_at (call.Get key) number) }
-        ensures worked { HasWorked self.now.map (call.Get key) seat.old seat.new (get_steps self.now.map.chain.shape) }
-        ensures three_steps { IsSeenAtHome self.now.map.chain.shape seat.old.chain seat.new.chain key
+        ensures found { (number : Option ℕ) × IsShown self.now.store number result
+            × HasReplied (call.Get key) seat.old seat.new (reply_at (call.Get key) number) }
+        ensures worked { HasWorked self.now.map (call.Get key) seat.old seat.new
+            (get_steps self.now.map.chain.shape) }
+        ensures three_steps { IsSeenAtHome self.now.map.chain.shape seat.old.chain seat.new.chain
+            key
             → seat.new.chain.steps ≤ seat.old.chain.steps + 3 }
         ensures own { IsMine self.now.map seat.new }
     {
@@ -242,18 +280,21 @@ impl<V> LongMap<V> {
         }
     }
 
-    /// Takes out a key, and answers the number that was there. `ConcurrentMap.remove`. The value stays in the store.
+    /// Takes out a key, and answers the number that was there. `ConcurrentMap.remove`. The value
+    /// stays in the store.
     pub fn remove<R: Wait>(&self, rt: &R, seat: &mut Seat, key: Key) -> Option<Num>
         requires own { IsMine self.now.map seat.old }
         ensures found { HasFound (call.Write key want.Any change.Remove) seat.old seat.new result }
-        ensures lock_free { IsLockFree self.now.map (call.Write key want.Any change.Remove) seat.old seat.new }
+        ensures lock_free { IsLockFree self.now.map (call.Write key want.Any change.Remove)
+            seat.old seat.new }
         ensures own { IsMine self.now.map seat.new }
     {
         self.map.remove(rt, seat, key)
     }
 
-    /// Takes out a key that has a value equal to this one, by `V`'s equality, and answers whether it did. `ConcurrentMap.remove` of
-    /// two arguments. The value stays in the store. It goes on as `replace_if` does.
+    /// Takes out a key that has a value equal to this one, by `V`'s equality, and answers whether
+    /// it did. `ConcurrentMap.remove` of two arguments. The value stays in the store. It goes on as
+    /// `replace_if` does.
     pub fn remove_if<R: Wait>(
         &self,
         rt: &R,
@@ -264,7 +305,9 @@ impl<V> LongMap<V> {
     where
         V: PartialEq,
         requires own { IsMine self.now.map seat.old }
-        ensures changed { IfOk result (λ done. (number : Option ℕ) × HasChangedIf V.eq self.now key value.now change.Remove seat.old seat.new number done) }
+        ensures changed { IfOk result (λ done. (number : Option ℕ)
+            × HasChangedIf V.eq self.now key value.now change.Remove seat.old seat.new number
+            done) }
         ensures unshown { IfErr result (λ fault. IsUnshown key seat.old seat.new) }
         ensures own { IsMine self.now.map seat.new }
     {
@@ -284,8 +327,11 @@ impl<V> LongMap<V> {
     where
         V: PartialEq,
         requires own { IsMine self.now.map seat.old }
-        requires in_range { (n : ℕ) (m : Numbers) → overflows (call.Write key (want.Equal n) change.now) m ≡ false }
-        ensures changed { IfOk result (λ changed. HasChangedIf V.eq self.now key value.now change.now seat.old seat.new changed.before changed.done) }
+        requires in_range { (n : ℕ) (m : Numbers)
+            → overflows (call.Write key (want.Equal n) change.now) m ≡ false }
+        ensures changed { IfOk result (λ changed.
+            HasChangedIf V.eq self.now key value.now change.now seat.old seat.new changed.before
+            changed.done) }
         ensures unshown { IfErr result (λ fault. IsUnshown key seat.old seat.new) }
         ensures own { IsMine self.now.map seat.new }
     {
@@ -308,8 +354,10 @@ impl<V> LongMap<V> {
     where
         V: PartialEq,
         requires own { IsMine self.now.map seat.old }
-        requires in_range { (n : ℕ) (m : Numbers) → overflows (call.Write key (want.Equal n) change.now) m ≡ false }
-        ensures changed { IfOk result (λ round. IfSome round (λ changed. HasChangedIf V.eq self.now key value.now change.now seat.old seat.new
+        requires in_range { (n : ℕ) (m : Numbers)
+            → overflows (call.Write key (want.Equal n) change.now) m ≡ false }
+        ensures changed { IfOk result (λ round. IfSome round
+            (λ changed. HasChangedIf V.eq self.now key value.now change.now seat.old seat.new
             changed.before changed.done)) }
         ensures idle { IfOk result (λ round. IfNone round (HasIdled key seat.old seat.new)) }
         ensures unshown { IfErr result (λ fault. IsUnshown key seat.old seat.new) }
@@ -352,13 +400,15 @@ impl<V> LongMap<V> {
         self.map.meet(a, b);
     }
 
-    /// With all seats: what is left of the map of numbers, and the store. With another number of seats everything comes back.
+    /// With all seats: what is left of the map of numbers, and the store. With another number of
+    /// seats everything comes back.
     pub fn finish(self, seats: Vec<Seat>) -> Result<(Ended, Store<V>), NotAll<LongMap<V>, Seat>>
         requires own { AreMine self.map seats.items }
         ensures all { (is_ok result ≡ true) ↔ (length seats.items ≡ self.map.chain.shape.seats) }
         ensures ended { IfOk result (λ left. EndedWith seats.items left.0) }
         ensures store { IfOk result (λ left. left.1 ≡ self.store) }
-        ensures back { IfErr result (λ given. (given.whole ≡ self) × (given.seats.items ≡ seats.items)) }
+        ensures back { IfErr result (λ given. (given.whole ≡ self)
+            × (given.seats.items ≡ seats.items)) }
     {
         let LongMap { map, store } = self;
         match map.finish(seats) {

@@ -1,4 +1,5 @@
-//! The store: values in a vector that only grows, each read by reference for as long as the store lasts.
+//! The store: values in a vector that only grows, each read by reference for as long as the store
+//! lasts.
 ghost use Rattle.std.specs.Prelude.{◌≡◌, ◌==◌, ◌≤◌, ◌<◌, true, IfOk, IfErr, IfSome};
 ghost use Rattle.boxcar.specs.Table.{Shows};
 ghost use Rattle.nb_core.specs.declared.numbers.TheConstants.{VALUE_MAX};
@@ -157,7 +158,8 @@ impl<V: Drop> Store<V> {
         Ok(Store { values })
     }
 
-    /// Stores a value, for as long as the store lasts. It may wait while another thread makes room for both.
+    /// Stores a value, for as long as the store lasts. It may wait while another thread makes room
+    /// for both.
     pub fn push<R: Wait>(&self, rt: &R, value: V) -> Result<Receipt<V>, StoreFault<V>>
         ensures stored { IfOk result (HasStored self.now value) }
         ensures refused { IfErr result (GivesBack self.now value) }

@@ -26,7 +26,8 @@ use Rattle.nb_map.specs.declared.search.PathEnd.TheVariants as ends
 use Rattle.nb_core.proofs.Theorems.{complete_passed, linked, whole_crowded}
 
 -- a table below that isn't known to be complete is owed all its steps
-pub owed-all : (p : Plan) (g : ℕ) (below : Below) → below ≢ Complete → owed_below p g below ≡ steps_below p g
+pub owed-all :
+    (p : Plan) (g : ℕ) (below : Below) → below ≢ Complete → owed_below p g below ≡ steps_below p g
 owed-all p g Complete unknown = absurd (unknown refl)
 owed-all p g HasKey unknown = refl
 owed-all p g Passed unknown = refl
@@ -44,9 +45,11 @@ first-ready p t (suc g) low = absurd (omega (arith, low))
 
 -- the table below another was completed
 pub completed-below :
-    (call : Call) (chain : ChainOf) → (g : ℕ) {before after : SeenBy} → 0 < g → g < generations_of chain.shape
+    (call : Call) (chain : ChainOf) → (g : ℕ) {before after : SeenBy} → 0 < g
+    → g < generations_of chain.shape
     → HasCompleted chain.shape (g - 1) before after
-    → HasMade chain.shape call before after [] (steps_below chain.shape g) × IsReady chain.shape (seen_by chain.shape after) g
+    → HasMade chain.shape call before after [] (steps_below chain.shape g)
+    × IsReady chain.shape (seen_by chain.shape after) g
 completed-below call chain zero some table done = absurd (omega (arith, some))
 completed-below call chain (suc g) {before} {after} some table done =
     let same : suc g - 1 ≡ g = omega arith in
@@ -55,21 +58,24 @@ completed-below call chain (suc g) {before} {after} some table done =
 
 -- what is known of the table below is so still
 pub below-lasts :
-    (p : Plan) (t u : Tables) → Lasts p t u → (g k : ℕ) → g < generations_of p → (below : Below) → HasBelow p t g k below → HasBelow p u g k below
+    (p : Plan) (t u : Tables) → Lasts p t u → (g k : ℕ) → g < generations_of p → (below : Below)
+    → HasBelow p t g k below → HasBelow p u g k below
 below-lasts p t u lasting g k table Complete ready = lasting.ready g table ready
 below-lasts p t u lasting g k table HasKey slot = slot-below-lasts p t u lasting g k table slot
 below-lasts p t u lasting g k table Passed known = tt
 
 -- a slot within the limit may be claimed, by what is known of the table below
 pub way-to :
-    (p : Plan) (t : Tables) (g i k d : ℕ) (below : Below) → below ≢ Passed → HasBelow p t g k below → d < size_of p g → d < limit_of p g
+    (p : Plan) (t : Tables) (g i k d : ℕ) (below : Below) → below ≢ Passed → HasBelow p t g k below
+    → d < size_of p g → d < limit_of p g
     → path_slot p g k d ≡ i → AreOthers p t g k d → HasWay p t g i k
 way-to p t g i k d below known has near within at others = record {
   path = record { distance = d; in_table = near; at = at; passed = others };
   reason = why below known has;
 }
   where
-    why : (below : Below) → below ≢ Passed → HasBelow p t g k below → HasSlotBelow p t g k ⊎ (IsReady p t g × (d < limit_of p g))
+    why : (below : Below) → below ≢ Passed → HasBelow p t g k below → HasSlotBelow p t g k
+        ⊎ (IsReady p t g × (d < limit_of p g))
     why Complete known has = inr (has, within)
     why HasKey known has = inl has
     why Passed known has = absurd (known refl)
@@ -83,7 +89,8 @@ claimed-empty s k is empty = cc
 
 -- an empty slot isn't among those that other keys have
 pub empty-behind :
-    (p : Plan) (t : Tables) (g k from d : ℕ) → AreOthers p t g k from → t.key g (path_slot p g k d) ≡ Empty → from ≤ d
+    (p : Plan) (t : Tables) (g k from d : ℕ) → AreOthers p t g k from
+    → t.key g (path_slot p g k d) ≡ Empty → from ≤ d
 empty-behind p t g k from d others empty = elim (before-or-not d from) [
   | inl near ↦
       let other = others d near in
@@ -96,23 +103,30 @@ empty-behind p t g k from d others empty = elim (before-or-not d from) [
 
 -- a complete table has a next one
 pub complete-next :
-    (chain : ChainOf) (seat : SeenBy) → IsOwn chain seat → (g : ℕ) → g < generations_of chain.shape → IsComplete chain.shape (seen_by chain.shape seat) g → IsInstalled (seen_by chain.shape seat) (suc g)
+    (chain : ChainOf) (seat : SeenBy) → IsOwn chain seat → (g : ℕ) → g < generations_of chain.shape
+    → IsComplete chain.shape (seen_by chain.shape seat) g
+    → IsInstalled (seen_by chain.shape seat) (suc g)
 complete-next chain seat own g table complete =
     (linked chain.shape own.plan seat.seen own.legal).complete g table
     complete
 
 -- above a complete table, which has a next one, a call may go on
 pub above-complete :
-    (chain : ChainOf) (seat : SeenBy) → IsOwn chain seat → (g k : ℕ) → g < generations_of chain.shape → IsComplete chain.shape (seen_by chain.shape seat) g → IsInstalled (seen_by chain.shape seat) (suc g)
+    (chain : ChainOf) (seat : SeenBy) → IsOwn chain seat → (g k : ℕ)
+    → g < generations_of chain.shape → IsComplete chain.shape (seen_by chain.shape seat) g
+    → IsInstalled (seen_by chain.shape seat) (suc g)
     → IsFound chain.shape seat g k (Above Complete)
 above-complete chain seat own g k table complete next =
-    let pass : IsPassed chain.shape (seen_by chain.shape seat) g k = complete_passed chain.shape own.plan seat.seen own.legal g k table
+    let pass : IsPassed chain.shape (seen_by chain.shape seat) g k =
+    complete_passed chain.shape own.plan seat.seen own.legal g k table
     complete in
     ((pass, next), complete)
 
 -- where other keys have a key's whole path in the last table, there is no slot for the key
 pub whole-full :
-    (chain : ChainOf) (seat : SeenBy) → IsOwn chain seat → (g k : ℕ) → g + 1 ≡ generations_of chain.shape → AreOthers chain.shape (seen_by chain.shape seat) g k (size_of chain.shape g)
+    (chain : ChainOf) (seat : SeenBy) → IsOwn chain seat → (g k : ℕ)
+    → g + 1 ≡ generations_of chain.shape → AreOthers chain.shape (seen_by chain.shape seat) g k
+    (size_of chain.shape g)
     → IsFound chain.shape seat g k Full
 whole-full chain seat own g k last others =
     let q = chain.shape in
@@ -121,7 +135,8 @@ whole-full chain seat own g k last others =
     (subst (λ f. AreOthers q (tables_at q seat.seen) f k (size_of q f)) at others)
 
 -- slots of other keys are so up to any nearer one
-pub others-nearer : (p : Plan) (t : Tables) (g k d e : ℕ) → e ≤ d → AreOthers p t g k d → AreOthers p t g k e
+pub others-nearer :
+    (p : Plan) (t : Tables) (g k d e : ℕ) → e ≤ d → AreOthers p t g k d → AreOthers p t g k e
 others-nearer p t g k d e nearer others f near = others f (omega (arith, near, nearer))
 
 -- ---- what was done
@@ -132,8 +147,10 @@ module _ (chain : ChainOf) where
 
   -- a table was installed, or was there already
   pub made-install :
-      (call : Call) (key g : ℕ) {before after : SeenBy} (result : Bool) → key_of_call call ≡ key → leaves_alone call None ≡ false
-      → (IsTrue result → Extended p before after (Install before.number g key ∷ []) 1) → (result ≡ false → Extended p before after [] 1)
+      (call : Call) (key g : ℕ) {before after : SeenBy} (result : Bool) → key_of_call call ≡ key
+      → leaves_alone call None ≡ false
+      → (IsTrue result → Extended p before after (Install before.number g key ∷ []) 1)
+      → (result ≡ false → Extended p before after [] 1)
       → HasMade p call before after [] 1
   made-install call key g {before} {after} true is acts won lost =
       made-step p call (won refl) refl (sym is, acts) (λ h. refl) (λ f. refl)
@@ -141,8 +158,10 @@ module _ (chain : ChainOf) where
 
   -- a slot was claimed for the call's key, where no next table was seen
   pub made-claim :
-      (call : Call) (key g i : ℕ) {before after : SeenBy} → key_of_call call ≡ key → leaves_alone call None ≡ false → g < generations_of p
-      → (IsInstalled (seen_by p before) (suc g) → ⊥) → Extended p before after (Claim before.number g i key ∷ []) 1
+      (call : Call) (key g i : ℕ) {before after : SeenBy} → key_of_call call ≡ key
+      → leaves_alone call None ≡ false → g < generations_of p
+      → (IsInstalled (seen_by p before) (suc g) → ⊥)
+      → Extended p before after (Claim before.number g i key ∷ []) 1
       → HasMade p call before after [] 1
   made-claim call key g i {before} {after} is acts table no_next won =
       let first : IsBeforeNext p before.seen after.seen g (Claim before.number g i key) = record {
@@ -157,23 +176,31 @@ module _ (chain : ChainOf) where
 
   -- then a table was completed
   pub made-complete :
-      {call : Call} {before then after : SeenBy} {g most : ℕ} → suc g < generations_of p → IsOwn chain before
-      → HasMade p call before then [] most → HasCompleted p g then after → HasMade p call before after [] (most + table_steps p g)
-  made-complete {call} next own so_far done = made-more chain own so_far (made-copied chain call next refl done.copied)
+      {call : Call} {before then after : SeenBy} {g most : ℕ} → suc g < generations_of p
+      → IsOwn chain before
+      → HasMade p call before then [] most → HasCompleted p g then after
+      → HasMade p call before after [] (most + table_steps p g)
+  made-complete {call} next own so_far done =
+      made-more chain own so_far (made-copied chain call next refl done.copied)
 
 -- the number behind a slot is small
-pub behind-fits : (p : Plan) → IsPlan p → (g d : ℕ) → g < generations_of p → d < size_of p g → d + 1 ≤ 2 ^ 19
+pub behind-fits :
+    (p : Plan) → IsPlan p → (g d : ℕ) → g < generations_of p → d < size_of p g → d + 1 ≤ 2 ^ 19
 behind-fits p plan g d table near =
-    let most : size_of p g ≤ 2 ^ 19 = pow_mono (All-get_or (λ e. (2 ≤ e) × (e ≤ 19)) p.exponents g 0 table plan.sizes).1 in
+    let most : size_of p g ≤ 2 ^ 19 = pow_mono
+    (All-get_or (λ e. (2 ≤ e) × (e ≤ 19)) p.exponents g 0 table plan.sizes).1 in
     omega (arith, most, near)
 
 -- a walk of a call that puts a number at an absent key is no read
-read-never : (p : Plan) (g : ℕ) (call : Call) (end : PathEnd) → leaves_alone call None ≡ false → read_at p g call end ≡ []
+read-never :
+    (p : Plan) (g : ℕ) (call : Call) (end : PathEnd) → leaves_alone call None ≡ false
+    → read_at p g call end ≡ []
 read-never p g call (ends.Slot i) acts = refl
 read-never p g call (ends.Empty d) acts = ap (λ b. cond b (as_replied call None) []) acts
 read-never p g call ends.Closed acts = refl
 read-never p g call ends.Whole acts =
-    ap (λ b. cond (suc g == generations_of p) (cond b (as_replied call None) []) []) acts ∙ none (suc g == generations_of p)
+    ap (λ b. cond (suc g == generations_of p) (cond b (as_replied call None) []) []) acts
+    ∙ none (suc g == generations_of p)
   where
     none : (b : Bool) → cond {A = List (Call × Reply)} b [] [] ≡ []
     none true = refl
@@ -181,9 +208,10 @@ read-never p g call ends.Whole acts =
 
 -- ---- the walk along a key's path
 
--- The walk of a call along the key's path has come so far: it made no read. Its steps are few, together with those that the
--- table below may still cost.
-pub record HasProbed (p : Plan) (call : Call) (before after : SeenBy) (g from : ℕ) (below : Below) : Type 0 where
+-- The walk of a call along the key's path has come so far: it made no read. Its steps are few,
+-- together with those that the table below may still cost.
+pub record HasProbed (p : Plan) (call : Call) (before after : SeenBy) (g from : ℕ) (below : Below) :
+    Type 0 where
   pub most : ℕ
   pub made : HasMade p call before after [] most
   pub few : most + owed_below p g below ≤ 3 * from + steps_below p g
@@ -195,15 +223,18 @@ pub walked-none :
 walked-none chain call seat own g below = record {
   most = 0;
   made = made-none chain call seat own;
-  few = start (owed_below chain.shape g below) (steps_below chain.shape g) (owed-most chain.shape g below);
+  few = start (owed_below chain.shape g below) (steps_below chain.shape g)
+      (owed-most chain.shape g below);
 }
   where
     start : (owed steps : ℕ) → owed ≤ steps → 0 + owed ≤ 3 * 0 + steps
     start owed steps most = omega (arith, most)
 
--- its steps fit where it ends in this table, where it goes on above the whole path, and where it ends at an empty slot; and
--- they are few still where it goes on behind the slot
-few-here : (most owed from size steps more : ℕ) → most + owed ≤ 3 * from + steps → from ≤ size → most + (size - from) ≤ 3 * size + steps + 4 + more
+-- its steps fit where it ends in this table, where it goes on above the whole path, and where it
+-- ends at an empty slot; and they are few still where it goes on behind the slot
+few-here :
+    (most owed from size steps more : ℕ) → most + owed ≤ 3 * from + steps → from ≤ size
+    → most + (size - from) ≤ 3 * size + steps + 4 + more
 few-here most owed from size steps more few within = omega (arith, few, within)
 
 few-whole :
@@ -212,9 +243,12 @@ few-whole :
 few-whole most owed from size steps more few within = omega (arith, few, within)
 
 few-empty :
-    (most owed owed' from d size steps more : ℕ) → most + owed ≤ 3 * from + steps → owed' ≤ owed → from ≤ size → d < size
-    → most + (d + 1 - from) + (owed - owed') + (2 + (owed' + 2 + more)) ≤ 3 * size + steps + 4 + more
-few-empty most owed owed' from d size steps more few fewer within near = omega (arith, few, fewer, within, near)
+    (most owed owed' from d size steps more : ℕ) → most + owed ≤ 3 * from + steps → owed' ≤ owed
+    → from ≤ size → d < size
+    → most + (d + 1 - from) + (owed - owed') + (2 + (owed' + 2 + more))
+    ≤ 3 * size + steps + 4 + more
+few-empty most owed owed' from d size steps more few fewer within near =
+    omega (arith, few, fewer, within, near)
 
 few-on :
     (most owed owed' from d steps : ℕ) → most + owed ≤ 3 * from + steps → owed' ≤ owed → from ≤ d
@@ -227,53 +261,71 @@ module _ (chain : ChainOf) where
 
   -- a walk that goes on makes no read
   pub walked-to :
-      {call : Call} {before then after : SeenBy} {g from : ℕ} {below : Below} → IsOwn chain before → leaves_alone call None ≡ false
+      {call : Call} {before then after : SeenBy} {g from : ℕ} {below : Below} → IsOwn chain before
+      → leaves_alone call None ≡ false
       → (walked : HasProbed q call before then g from below) (end : PathEnd)
       → HasMade q call then after (read_at q g call end) (probe_steps q g from end)
       → HasMade q call before after [] (walked.most + probe_steps q g from end)
   walked-to {call} {before} {then} {after} {g} {from} own acts walked end made =
       made-more chain own walked.made
-      (subst (λ reads. HasMade q call then after reads (probe_steps q g from end)) (read-never q g call end acts) made)
+      (subst (λ reads. HasMade q call then after reads (probe_steps q g from end))
+      (read-never q g call end acts) made)
 
   -- where it ends in this table
   pub walked-here :
       {call : Call} {before then after : SeenBy} {g from : ℕ} {below : Below} → from ≤ size_of q g
       → (walked : HasProbed q call before then g from below)
-      → HasMade q call before after [] (walked.most + (size_of q g - from)) → HasMade q call before after [] (find_steps q g)
+      → HasMade q call before after [] (walked.most + (size_of q g - from))
+      → HasMade q call before after [] (find_steps q g)
   walked-here {g = g} {from} {below} within walked made =
       made-within (walked.most + (size_of q g - from)) (find_steps q g)
-      (few-here walked.most (owed_below q g below) from (size_of q g) (steps_below q g) (table_steps q g) walked.few within) made
+      (few-here walked.most (owed_below q g below) from (size_of q g) (steps_below q g)
+      (table_steps q g) walked.few within) made
 
   -- where other keys have the whole path
   pub walked-whole :
-      {call : Call} {before then whole after : SeenBy} {g from : ℕ} {below : Below} → IsOwn chain before → from ≤ size_of q g
-      → (walked : HasProbed q call before then g from below) → HasMade q call before whole [] (walked.most + (size_of q g - from))
-      → HasMade q call whole after [] (grow_steps q g below) → HasMade q call before after [] (find_steps q g)
+      {call : Call} {before then whole after : SeenBy} {g from : ℕ} {below : Below}
+      → IsOwn chain before → from ≤ size_of q g
+      → (walked : HasProbed q call before then g from below)
+      → HasMade q call before whole [] (walked.most + (size_of q g - from))
+      → HasMade q call whole after [] (grow_steps q g below)
+      → HasMade q call before after [] (find_steps q g)
   walked-whole {g = g} {from} {below} own within walked made left =
       made-within (walked.most + (size_of q g - from) + grow_steps q g below) (find_steps q g)
-      (few-whole walked.most (owed_below q g below) from (size_of q g) (steps_below q g) (table_steps q g) walked.few within)
+      (few-whole walked.most (owed_below q g below) from (size_of q g) (steps_below q g)
+      (table_steps q g) walked.few within)
       (made-more chain own made left)
 
   -- where a slot was empty and the table below is settled, and the call ends there
   pub walked-claimed :
-      {call : Call} {before then settled after : SeenBy} {g from : ℕ} {below : Below} (below' : Below) (d : ℕ) → IsOwn chain before
-      → from ≤ size_of q g → d < size_of q g → owed_below q g below' ≤ owed_below q g below → (walked : HasProbed q call before then g from below)
-      → HasMade q call before settled [] (walked.most + (d + 1 - from) + (owed_below q g below - owed_below q g below'))
-      → HasMade q call settled after [] (2 + grow_steps q g below') → HasMade q call before after [] (find_steps q g)
+      {call : Call} {before then settled after : SeenBy} {g from : ℕ} {below : Below}
+      (below' : Below) (d : ℕ) → IsOwn chain before
+      → from ≤ size_of q g → d < size_of q g → owed_below q g below' ≤ owed_below q g below
+      → (walked : HasProbed q call before then g from below)
+      → HasMade q call before settled [] (walked.most + (d + 1 - from)
+      + (owed_below q g below - owed_below q g below'))
+      → HasMade q call settled after [] (2 + grow_steps q g below')
+      → HasMade q call before after [] (find_steps q g)
   walked-claimed {g = g} {from} {below} below' d own within near fewer walked made claimed =
-      made-within (walked.most + (d + 1 - from) + (owed_below q g below - owed_below q g below') + (2 + grow_steps q g below')) (find_steps q g)
-      (few-empty walked.most (owed_below q g below) (owed_below q g below') from d (size_of q g) (steps_below q g) (table_steps q g) walked.few fewer
+      made-within (walked.most + (d + 1 - from) + (owed_below q g below - owed_below q g below')
+      + (2 + grow_steps q g below')) (find_steps q g)
+      (few-empty walked.most (owed_below q g below) (owed_below q g below') from d (size_of q g)
+      (steps_below q g) (table_steps q g) walked.few fewer
       within near)
       (made-more chain own made claimed)
 
   -- or goes on behind the slot
   pub walked-behind :
-      {call : Call} {before then settled after : SeenBy} {g from : ℕ} {below : Below} (below' : Below) (d : ℕ) → IsOwn chain before
-      → from ≤ d → owed_below q g below' ≤ owed_below q g below → (walked : HasProbed q call before then g from below)
-      → HasMade q call before settled [] (walked.most + (d + 1 - from) + (owed_below q g below - owed_below q g below'))
+      {call : Call} {before then settled after : SeenBy} {g from : ℕ} {below : Below}
+      (below' : Below) (d : ℕ) → IsOwn chain before
+      → from ≤ d → owed_below q g below' ≤ owed_below q g below
+      → (walked : HasProbed q call before then g from below)
+      → HasMade q call before settled [] (walked.most + (d + 1 - from)
+      + (owed_below q g below - owed_below q g below'))
       → HasMade q call settled after [] 2 → HasProbed q call before after g (d + 1) below'
   walked-behind {g = g} {from} {below} below' d own ahead fewer walked made lost = record {
     most = walked.most + (d + 1 - from) + (owed_below q g below - owed_below q g below') + 2;
     made = made-more chain own made lost;
-    few = few-on walked.most (owed_below q g below) (owed_below q g below') from d (steps_below q g) walked.few fewer ahead;
+    few = few-on walked.most (owed_below q g below) (owed_below q g below') from d (steps_below q g)
+        walked.few fewer ahead;
   }

@@ -17,7 +17,8 @@ use Rattle.nb_map.specs.Calling.{HasMade}
 use Rattle.nb_map.specs.Maps.{IsMine, MapOf, SeatOf}
 
 -- a seat's calls are those of its own events
-calls-own : (s : ℕ) (es : List Event) → calls_of s (log_of es) ≡ calls_of s (log_of (own_events s es))
+calls-own :
+    (s : ℕ) (es : List Event) → calls_of s (log_of es) ≡ calls_of s (log_of (own_events s es))
 calls-own s [] = refl
 calls-own s (e ∷ es) = one e (calls-own s es)
   where
@@ -27,23 +28,29 @@ calls-own s (e ∷ es) = one e (calls-own s es)
     own : List Event
     own = own_events s es
 
-    kept : (e : Event) (c : Call × Reply) (b : Bool) → (seat_of_event e == s) ≡ b → calls ≡ calls_of s (log_of own)
-        → ((x : List Event) → calls_of s (log_of (e ∷ x)) ≡ cond (seat_of_event e == s) (c ∷ calls_of s (log_of x)) (calls_of s (log_of x)))
+    kept : (e : Event) (c : Call × Reply) (b : Bool) → (seat_of_event e == s) ≡ b
+        → calls ≡ calls_of s (log_of own)
+        → ((x : List Event) → calls_of s (log_of (e ∷ x))
+        ≡ cond (seat_of_event e == s) (c ∷ calls_of s (log_of x)) (calls_of s (log_of x)))
         → calls_of s (log_of (e ∷ es)) ≡ calls_of s (log_of (cond b (e ∷ own) own))
     kept e c true mine same is =
         is es ∙ ap (λ b. cond b (c ∷ calls) calls) mine ∙ ap (λ x. c ∷ x) same
-        ∙ sym (is own ∙ ap (λ b. cond b (c ∷ calls_of s (log_of own)) (calls_of s (log_of own))) mine)
+        ∙ sym (is own ∙ ap (λ b. cond b (c ∷ calls_of s (log_of own)) (calls_of s (log_of own)))
+        mine)
     kept e c false mine same is = is es ∙ ap (λ b. cond b (c ∷ calls) calls) mine ∙ same
 
-    none : (e : Event) (b : Bool) → calls ≡ calls_of s (log_of own) → ((x : List Event) → calls_of s (log_of (e ∷ x)) ≡ calls_of s (log_of x))
+    none : (e : Event) (b : Bool) → calls ≡ calls_of s (log_of own)
+        → ((x : List Event) → calls_of s (log_of (e ∷ x)) ≡ calls_of s (log_of x))
         → calls_of s (log_of (e ∷ es)) ≡ calls_of s (log_of (cond b (e ∷ own) own))
     none e true same is = is es ∙ same ∙ sym (is own)
     none e false same is = is es ∙ same
 
-    one : (e : Event) → calls ≡ calls_of s (log_of own) → calls_of s (log_of (e ∷ es)) ≡ calls_of s (log_of (own_events s (e ∷ es)))
+    one : (e : Event) → calls ≡ calls_of s (log_of own)
+        → calls_of s (log_of (e ∷ es)) ≡ calls_of s (log_of (own_events s (e ∷ es)))
     one (Claim r g i k) same = none (Claim r g i k) (r == s) same (λ x. refl)
     one (Kill r g i) same = none (Kill r g i) (r == s) same (λ x. refl)
-    one (Won r g i a b c reply) same = kept (Won r g i a b c reply) (c, reply) (r == s) refl same (λ x. refl)
+    one (Won r g i a b c reply) same = kept (Won r g i a b c reply) (c, reply) (r == s) refl same
+        (λ x. refl)
     one (CopyIn r g i k n) same = none (CopyIn r g i k n) (r == s) same (λ x. refl)
     one (Prime r g i) same = none (Prime r g i) (r == s) same (λ x. refl)
     one (Finish r g i) same = none (Finish r g i) (r == s) same (λ x. refl)
@@ -55,18 +62,23 @@ calls-own s (e ∷ es) = one e (calls-own s es)
 
 -- the calls that were made are the seat's among what is new
 pub calls-later :
-    {p : Plan} {call : Call} {before after : SeenBy} {made : List (Call × Reply)} {most : ℕ} (steps : HasMade p call before after made most)
+    {p : Plan} {call : Call} {before after : SeenBy} {made : List (Call × Reply)} {most : ℕ}
+    (steps : HasMade p call before after made most)
     → calls_of before.number (log_of steps.grown.later) ≡ made
 calls-later {before = before} made =
-    calls-own before.number made.grown.later ∙ ap (λ own. calls_of before.number (log_of own)) made.grown.own_are ∙ made.calls
+    calls-own before.number made.grown.later
+    ∙ ap (λ own. calls_of before.number (log_of own)) made.grown.own_are ∙ made.calls
 
 -- what a seat has called after more calls
 calls-made :
-    {p : Plan} {call : Call} {before after : SeenBy} {made : List (Call × Reply)} {most : ℕ} → HasMade p call before after made most
-    → calls_of after.number (log_of after.seen) ≡ made ++ calls_of before.number (log_of before.seen)
+    {p : Plan} {call : Call} {before after : SeenBy} {made : List (Call × Reply)} {most : ℕ}
+    → HasMade p call before after made most
+    → calls_of after.number (log_of after.seen)
+    ≡ made ++ calls_of before.number (log_of before.seen)
 calls-made {before = before} {after} {made} steps =
     let grown = steps.grown in
-    ap (λ n. calls_of n (log_of after.seen)) grown.number ∙ ap (λ h. calls_of before.number (log_of h)) grown.seen
+    ap (λ n. calls_of n (log_of after.seen)) grown.number
+    ∙ ap (λ h. calls_of before.number (log_of h)) grown.seen
     ∙ calls-append grown.later before.seen before.number
     ∙ ap (λ calls. calls ++ calls_of before.number (log_of before.seen)) (calls-later steps)
 
@@ -76,8 +88,10 @@ net-append [] b = omega (arith, ints)
 net-append (c ∷ a) b = let rest = net-append a b in omega (arith, ints, rest)
 
 net-made :
-    {p : Plan} {call : Call} {before after : SeenBy} {made : List (Call × Reply)} {most : ℕ} → HasMade p call before after made most
-    → net_of (calls_of after.number (log_of after.seen)) ≡ net_of made +ℤ net_of (calls_of before.number (log_of before.seen))
+    {p : Plan} {call : Call} {before after : SeenBy} {made : List (Call × Reply)} {most : ℕ}
+    → HasMade p call before after made most
+    → net_of (calls_of after.number (log_of after.seen))
+    ≡ net_of made +ℤ net_of (calls_of before.number (log_of before.seen))
 net-made {before = before} {made = made} steps =
     ap net_of (calls-made steps) ∙ net-append made (calls_of before.number (log_of before.seen))
 
@@ -85,8 +99,10 @@ net-made {before = before} {made = made} steps =
 
 -- after steps of a call, where it has counted what it made
 pub kept-mine :
-    {map : MapOf} {call : Call} {before after : SeatOf} {made : List (Call × Reply)} {most : ℕ} → IsMine map before
-    → HasMade map.chain.shape call before.chain after.chain made most → after.count.counter ≡ before.count.counter
+    {map : MapOf} {call : Call} {before after : SeatOf} {made : List (Call × Reply)} {most : ℕ}
+    → IsMine map before
+    → HasMade map.chain.shape call before.chain after.chain made most
+    → after.count.counter ≡ before.count.counter
     → after.count.added ≡ before.count.added +ℤ net_of made → IsMine map after
 kept-mine {map} mine steps counter added =
     let net = net-made steps in
@@ -99,8 +115,10 @@ kept-mine {map} mine steps counter added =
 
 -- after steps of a call that counted nothing, and made none that would count
 pub uncounted-mine :
-    {map : MapOf} {call : Call} {before after : SeatOf} {made : List (Call × Reply)} {most : ℕ} → IsMine map before
-    → HasMade map.chain.shape call before.chain after.chain made most → after.count ≡ before.count → net_of made ≡ pos 0
+    {map : MapOf} {call : Call} {before after : SeatOf} {made : List (Call × Reply)} {most : ℕ}
+    → IsMine map before
+    → HasMade map.chain.shape call before.chain after.chain made most → after.count ≡ before.count
+    → net_of made ≡ pos 0
     → IsMine map after
 uncounted-mine mine steps same none =
     let added = ap (λ count. count.added) same in
@@ -108,6 +126,8 @@ uncounted-mine mine steps same none =
 
 -- after a step without an event
 pub quiet-mine :
-    {map : MapOf} {before after : SeatOf} → IsMine map before → Extended map.chain.shape before.chain after.chain [] 1
+    {map : MapOf} {before after : SeatOf} → IsMine map before
+    → Extended map.chain.shape before.chain after.chain [] 1
     → after.count ≡ before.count → IsMine map after
-quiet-mine {map} mine step same = uncounted-mine mine (made-quiet map.chain.shape (Get 0) step) same refl
+quiet-mine {map} mine step same = uncounted-mine mine (made-quiet map.chain.shape (Get 0) step)
+    same refl

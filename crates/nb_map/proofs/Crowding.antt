@@ -1,4 +1,5 @@
--- A map can be full for a key only where calls filled as many other keys as the last table has slots.
+-- A map can be full for a key only where calls filled as many other keys as the last table has
+-- slots.
 use Rattle.std.proofs.Common.{◌≡◌, ◌≢◌, ◌∙◌, ◌==◌, ◌≤◌, ◌<◌, ◌-◌, ◌||◌, not, Bool, true, false, cond, eqb, ℕ, zero, suc, List, [], ◌∷◌, ◌++◌, map, filter, length, get_or, slice_index, ap, sym, subst, refl, inl, inr, arith}
 use Rattle.std.specs.List.{All, list_any, range_with_len}
 use Rattle.std.specs.Set.{is_member, unique_keys}
@@ -50,12 +51,17 @@ keys-more k q j keys found = of (j == k)
     of true = found
     of false = or_right (eqb q j) (list_any (eqb q) others) found
 
-keys-first : (k q j : ℕ) (keys : List ℕ) → q ≢ k → j ≡ q → list_any (eqb q) (filter (λ j. not (j == k)) (j ∷ keys)) ≡ true
+keys-first :
+    (k q j : ℕ) (keys : List ℕ) → q ≢ k → j ≡ q
+    → list_any (eqb q) (filter (λ j. not (j == k)) (j ∷ keys)) ≡ true
 keys-first k q j keys differs same =
-    rw (ne_eqb j k (λ is. differs (sym same ∙ is))) (or_left (eqb q j) (list_any (eqb q) (filter (λ j. not (j == k)) keys)) (eq-eqb q j (sym same)))
+    rw (ne_eqb j k (λ is. differs (sym same ∙ is)))
+    (or_left (eqb q j) (list_any (eqb q) (filter (λ j. not (j == k)) keys))
+    (eq-eqb q j (sym same)))
 
 -- a key that one of the calls fills is one of them
-other-member : (k q : ℕ) → q ≢ k → (cs : List Call) → IsFilled cs q → list_any (eqb q) (other_keys k cs) ≡ true
+other-member :
+    (k q : ℕ) → q ≢ k → (cs : List Call) → IsFilled cs q → list_any (eqb q) (other_keys k cs) ≡ true
 other-member k q differs [] put = absurd put
 other-member k q differs (c ∷ cs) put =
     elim put [
@@ -64,7 +70,8 @@ other-member k q differs (c ∷ cs) put =
     ]
   where
     all : Bool → List ℕ
-    all b = filter (λ j. not (j == k)) (map key_of_call (cond b (c ∷ filter fills cs) (filter fills cs)))
+    all b = filter (λ j. not (j == k)) (map key_of_call
+        (cond b (c ∷ filter fills cs) (filter fills cs)))
 
     first : (b : Bool) → b ≡ true → key_of_call c ≡ q → list_any (eqb q) (all b) ≡ true
     first true is same = keys-first k q (key_of_call c) (filled_keys cs) differs same
@@ -75,42 +82,55 @@ other-member k q differs (c ∷ cs) put =
     past false found = found
 
 -- a number of a list is among its distinct ones
-unique-member : (q : ℕ) (xs : List ℕ) → list_any (eqb q) xs ≡ true → list_any (eqb q) (unique_keys eqb xs) ≡ true
+unique-member :
+    (q : ℕ) (xs : List ℕ) → list_any (eqb q) xs ≡ true
+    → list_any (eqb q) (unique_keys eqb xs) ≡ true
 unique-member q [] found = found
 unique-member q (x ∷ xs) found =
     elim (cases_Bool (eqb q x)) [
       | inl same ↦ at (is_member eqb xs x) refl (eqb-true q x same) (unique-member q xs)
-      | inr differs ↦ past (is_member eqb xs x) (unique-member q xs (ap (λ b. b || list_any (eqb q) xs) (sym differs) ∙ found))
+      | inr differs ↦ past (is_member eqb xs x)
+          (unique-member q xs (ap (λ b. b || list_any (eqb q) xs) (sym differs) ∙ found))
     ]
   where
     unique : List ℕ
     unique = unique_keys eqb xs
 
-    at : (b : Bool) → is_member eqb xs x ≡ b → q ≡ x → (list_any (eqb q) xs ≡ true → list_any (eqb q) unique ≡ true)
+    at : (b : Bool) → is_member eqb xs x ≡ b → q ≡ x
+        → (list_any (eqb q) xs ≡ true → list_any (eqb q) unique ≡ true)
         → list_any (eqb q) (cond b unique (x ∷ unique)) ≡ true
     at true known same rest = rest (ap (λ y. list_any (eqb y) xs) same ∙ known)
     at false known same rest = or_left (eqb q x) (list_any (eqb q) unique) (eq-eqb q x same)
 
-    past : (b : Bool) → list_any (eqb q) unique ≡ true → list_any (eqb q) (cond b unique (x ∷ unique)) ≡ true
+    past : (b : Bool) → list_any (eqb q) unique ≡ true
+        → list_any (eqb q) (cond b unique (x ∷ unique)) ≡ true
     past true known = known
     past false known = or_right (eqb q x) (list_any (eqb q) unique) known
 
--- so many different keys other than k, each of which one of the calls fills, are no more than they fill
+-- so many different keys other than k, each of which one of the calls fills, are no more than they
+-- fill
 count-put :
-    (n k : ℕ) (f : ℕ → ℕ) (cs : List Call) → ((i : ℕ) → i < n → f i ≢ k) → ((i : ℕ) → i < n → IsFilled cs (f i))
+    (n k : ℕ) (f : ℕ → ℕ) (cs : List Call) → ((i : ℕ) → i < n → f i ≢ k)
+    → ((i : ℕ) → i < n → IsFilled cs (f i))
     → ((i j : ℕ) → i < j → j < n → f i ≢ f j) → n ≤ others_filled k cs
 count-put n k f cs others put apart =
     let xs = map f (range_with_len 0 n) in
     let count : length xs ≡ n = length-map-range_with_len f 0 n in
-    let at : (i d : ℕ) → i < n → get_or xs i d ≡ f i = λ i d h. get_or-map-range_with_len f 0 n i i d h (omega arith) in
+    let at : (i d : ℕ) → i < n → get_or xs i d ≡ f i =
+    λ i d h. get_or-map-range_with_len f 0 n i i d h (omega arith) in
     let distinct = IsDistinct-from_apart eqb xs (λ i j d less below.
-    ne_eqb _ _ (λ same. apart i j less (omega arith) (sym (at i d (omega arith)) ∙ same ∙ at j d (omega arith)))) in
-    let found : (q : ℕ) → list_any (eqb q) xs ≡ true → list_any (eqb q) (unique_keys eqb (other_keys k cs)) ≡ true = λ q any.
+    ne_eqb _ _ (λ same. apart i j less (omega arith) (sym (at i d (omega arith)) ∙ same
+    ∙ at j d (omega arith)))) in
+    let found : (q : ℕ) → list_any (eqb q) xs ≡ true
+    → list_any (eqb q) (unique_keys eqb (other_keys k cs)) ≡ true = λ q any.
     let place = Contains-from_any eqb-true q xs any in
     let within : place.0 < n = omega arith in
     let is : f place.0 ≡ q = sym (at place.0 q within) ∙ place.2 in
-    unique-member q (other_keys k cs) (other-member k q (λ same. others place.0 within (is ∙ same)) cs (subst (IsFilled cs) is (put place.0 within))) in
-    let fewer : length xs ≤ others_filled k cs = length-le_from_is_member nat_eq_equiv xs (unique_keys eqb (other_keys k cs)) distinct found in
+    unique-member q (other_keys k cs) (other-member k q (λ same. others place.0 within (is ∙ same))
+    cs (subst (IsFilled cs) is (put place.0 within))) in
+    let fewer : length xs ≤ others_filled k cs =
+    length-le_from_is_member nat_eq_equiv xs (unique_keys eqb (other_keys k cs))
+    distinct found in
     omega (arith, count, fewer)
 
 -- ---- a crowded table
@@ -121,13 +141,17 @@ key_in Empty = 0
 key_in Dead = 0
 key_in (Claimed k) = k
 
--- Where other keys have all slots of the last table, and the calls fill each of these, they fill so many.
+-- Where other keys have all slots of the last table, and the calls fill each of these, they fill so
+-- many.
 crowd-count :
     (p : Plan) → IsPlan p → (h : List Event) → IsLegal p h → (k : ℕ) (cs : List Call)
-    → ((j : ℕ) → j ≢ k → HasSlot p (tables_at p h) (generations_of p - 1) j → IsFilled cs j) → IsCrowded p h k
+    → ((j : ℕ) → j ≢ k → HasSlot p (tables_at p h) (generations_of p - 1) j → IsFilled cs j)
+    → IsCrowded p h k
     → size_of p (generations_of p - 1) ≤ others_filled k cs
 crowd-count p plan h legal k cs put crowded =
-    count-put (size_of p g) k f cs differs (λ i less. put (f i) (differs i less) (record { slot = i; in_table = less; is = is i less })) apart
+    count-put (size_of p g) k f cs differs
+    (λ i less. put (f i) (differs i less)
+    (record { slot = i; in_table = less; is = is i less })) apart
   where
     g : ℕ
     g = generations_of p - 1
@@ -150,7 +174,8 @@ crowd-count p plan h legal k cs put crowded =
     apart : (i j : ℕ) → i < j → j < size_of p g → f i ≢ f j
     apart i j less below e =
         let first : i < size_of p g = omega (arith, less, below) in
-        let at : i ≡ j = one_slot p plan h legal g i j (f i) (within, first) (within, below) (is i first) (is j below ∙ ap Claimed (sym e)) in
+        let at : i ≡ j = one_slot p plan h legal g i j (f i) (within, first) (within, below)
+        (is i first) (is j below ∙ ap Claimed (sym e)) in
         omega (arith, less, at)
 
 -- ---- claims of a history
@@ -160,7 +185,8 @@ none-claimed : (p : Plan) (g i k : ℕ) → (tables_at p []).key g i ≡ Claimed
 none-claimed p g i k claimed =
     let none : ℕ = 0 in
     let long : length (words_of p []) ≡ word_count p = length-replicate (word_count p) none in
-    let zero : slice_index (words_of p []) (key_place p g i) ≡ 0 = elim (cases_lt (key_place p g i) (word_count p)) [
+    let zero : slice_index (words_of p []) (key_place p g i) ≡ 0 =
+    elim (cases_lt (key_place p g i) (word_count p)) [
       | inl within ↦ get_or-replicate (word_count p) (key_place p g i) 0 0 within
       | inr past ↦ get_or_past (words_of p []) (key_place p g i) 0 (omega (arith, past, long))
     ] in
@@ -169,7 +195,8 @@ none-claimed p g i k claimed =
 
 -- an event that gave a slot its key is a claim
 claim-is :
-    (Q : Event → Type 0) (e : Event) (g i k : ℕ) (from to : KeyState) → Q e → IsKeyChange e g i from to → to ≡ Claimed k
+    (Q : Event → Type 0) (e : Event) (g i k : ℕ) (from to : KeyState) → Q e
+    → IsKeyChange e g i from to → to ≡ Claimed k
     → (s : ℕ) × Q (Claim s g i k)
 claim-is Q (Claim s f j n) g i k from to holds change is =
     let table : f ≡ g = change.0 in
@@ -203,15 +230,18 @@ module _ (p : Plan) (plan : IsPlan p) where
 
   -- Where all claims of a history are so, the calls fill each key with a slot.
   all-put :
-      (cs : List Call) (h : List Event) → IsLegal p h → All (IsClaimOf p (tables_at p h) cs) h → (g : ℕ) → g < generations_of p → (k : ℕ)
+      (cs : List Call) (h : List Event) → IsLegal p h → All (IsClaimOf p (tables_at p h) cs) h
+      → (g : ℕ) → g < generations_of p → (k : ℕ)
       → HasSlot p (tables_at p h) g k → IsFilled cs k
   all-put cs h legal all zero table k has =
-      elim (claimed-from (IsClaimOf p (tables_at p h) cs) h legal all 0 has.slot k (table, has.in_table) has.is).1.1 [
+      elim (claimed-from (IsClaimOf p (tables_at p h) cs) h legal all 0 has.slot k
+      (table, has.in_table) has.is).1.1 [
         | inl none ↦ absurd none
         | inr put ↦ put
       ]
   all-put cs h legal all (suc g) table k has =
-      elim (claimed-from (IsClaimOf p (tables_at p h) cs) h legal all (suc g) has.slot k (table, has.in_table) has.is).1.1 [
+      elim (claimed-from (IsClaimOf p (tables_at p h) cs) h legal all (suc g) has.slot k
+      (table, has.in_table) has.is).1.1 [
         | inl below ↦ all-put cs h legal all g (omega (arith, table)) k below
         | inr put ↦ put
       ]
@@ -221,7 +251,8 @@ module _ (p : Plan) (plan : IsPlan p) where
 -- the seat of a legal history's event is one of the plan's
 seats-below : (p : Plan) (h : List Event) → IsLegal p h → All (λ e. seat_of_event e < p.seats) h
 seats-below p [] legal = All-nil (λ (e : Event). seat_of_event e < p.seats)
-seats-below p (e ∷ h) legal = All-cons (λ (e : Event). seat_of_event e < p.seats) e h (one e legal.1) (seats-below p h legal.0)
+seats-below p (e ∷ h) legal = All-cons (λ (e : Event). seat_of_event e < p.seats) e h
+    (one e legal.1) (seats-below p h legal.0)
   where
     one : (e : Event) → IsInRange p e → seat_of_event e < p.seats
     one (Claim s g i k) range = range.0
@@ -238,10 +269,12 @@ seats-below p (e ∷ h) legal = All-cons (λ (e : Event). seat_of_event e < p.se
 
 -- what holds of each seat's own events holds of all
 each-own :
-    (Q : Event → Type 0) (n : ℕ) (h : List Event) → All (λ e. seat_of_event e < n) h → ((s : ℕ) → s < n → All Q (own_events s h)) → All Q h
+    (Q : Event → Type 0) (n : ℕ) (h : List Event) → All (λ e. seat_of_event e < n) h
+    → ((s : ℕ) → s < n → All Q (own_events s h)) → All Q h
 each-own Q n [] below own = All-nil Q
 each-own Q n (e ∷ h) below own =
-    All-cons Q e h (head (own (seat_of_event e) (All-head P e h below))) (each-own Q n h (All-tail P e h below) (λ s less. rest s (own s less)))
+    All-cons Q e h (head (own (seat_of_event e) (All-head P e h below)))
+    (each-own Q n h (All-tail P e h below) (λ s less. rest s (own s less)))
   where
     P : Event → Type 0
     P e = seat_of_event e < n
@@ -249,12 +282,15 @@ each-own Q n (e ∷ h) below own =
     head : All Q (own_events (seat_of_event e) (e ∷ h)) → Q e
     head all =
         All-head Q e (own_events (seat_of_event e) h)
-        (All-same Q _ _ (ap (λ b. cond b (e ∷ own_events (seat_of_event e) h) (own_events (seat_of_event e) h)) (sym (eq-eqb (seat_of_event e) (seat_of_event e) refl))) all)
+        (All-same Q _ _
+        (ap (λ b. cond b (e ∷ own_events (seat_of_event e) h) (own_events (seat_of_event e) h))
+        (sym (eq-eqb (seat_of_event e) (seat_of_event e) refl))) all)
 
     rest : (s : ℕ) → All Q (own_events s (e ∷ h)) → All Q (own_events s h)
     rest s = of (seat_of_event e == s)
       where
-        of : (b : Bool) → All Q (cond b (e ∷ own_events s h) (own_events s h)) → All Q (own_events s h)
+        of : (b : Bool) → All Q (cond b (e ∷ own_events s h) (own_events s h))
+            → All Q (own_events s h)
         of true all = All-tail Q e (own_events s h) all
         of false all = all
 
@@ -262,11 +298,16 @@ each-own Q n (e ∷ h) below own =
 
 -- a claim is so still, and of more calls
 claim-lasts :
-    (p : Plan) (cs cs' : List Call) (t u : Tables) → ((k : ℕ) → IsFilled cs k → IsFilled cs' k) → Lasts p t u → (e : Event)
+    (p : Plan) (cs cs' : List Call) (t u : Tables) → ((k : ℕ) → IsFilled cs k → IsFilled cs' k)
+    → Lasts p t u → (e : Event)
     → IsClaimOf p t cs e → IsClaimOf p u cs' e
 claim-lasts p cs cs' t u more lasting (Claim s g i k) is = (
   is.0,
-  elim is.1 [ inl below ↦ inl (slot-below-lasts p t u lasting g k is.0 below) | inr put ↦ inr (more k put) ],
+  elim is.1 [
+    | inl below ↦ inl (slot-below-lasts p t u lasting g k is.0 below)
+    | inr put ↦ inr
+        (more k put)
+  ],
 )
 claim-lasts p cs cs' t u more lasting (Kill s g i) is = tt
 claim-lasts p cs cs' t u more lasting (Won s g i a b c r) is = tt
@@ -281,11 +322,16 @@ claim-lasts p cs cs' t u more lasting (Read s c r) is = tt
 
 -- a call claims a key for itself only where it fills it
 claim-made :
-    (p : Plan) (before after : List Event) (call : Call) (cs : List Call) → (fills call ≡ true → IsFilled cs (key_of_call call)) → (e : Event)
+    (p : Plan) (before after : List Event) (call : Call) (cs : List Call)
+    → (fills call ≡ true → IsFilled cs (key_of_call call)) → (e : Event)
     → MayMake p before after call e → IsClaimOf p (tables_at p after) cs e
 claim-made p before after call cs adds (Claim s g i k) may = (
   may.0,
-  elim may.1 [ inl below ↦ inl below | inr own ↦ inr (subst (IsFilled cs) (sym own.0) (adds (ap not own.1))) ],
+  elim may.1 [
+    | inl below ↦ inl below
+    | inr own ↦ inr
+        (subst (IsFilled cs) (sym own.0) (adds (ap not own.1)))
+  ],
 )
 claim-made p before after call cs adds (Kill s g i) may = tt
 claim-made p before after call cs adds (Won s g i a b d r) may = tt
@@ -307,14 +353,18 @@ own-none s (e ∷ es) none =
 
 module _ (p : Plan) (plan : IsPlan p) where
   -- what is claimed stays so in later histories
-  later-lasts : (before after later : List Event) → after ≡ later ++ before → IsLegal p after → Lasts p (tables_at p before) (tables_at p after)
+  later-lasts : (before after later : List Event) → after ≡ later ++ before → IsLegal p after
+      → Lasts p (tables_at p before) (tables_at p after)
   later-lasts before after later is legal =
-      subst (λ h. Lasts p (tables_at p before) (tables_at p h)) (sym is) (seen_lasts p plan later before (subst (IsLegal p) is legal))
+      subst (λ h. Lasts p (tables_at p before) (tables_at p h)) (sym is)
+      (seen_lasts p plan later before (subst (IsLegal p) is legal))
 
   -- a seat that has seen more, with claims of its own that are so
   asked-grown :
-      {before after : SeenBy} {own : List Event} {count : ℕ} (cs cs' : List Call) → ((k : ℕ) → IsFilled cs k → IsFilled cs' k)
-      → HasAskedFor p cs before → Grown p before after own count → All (IsClaimOf p (tables_at p after.seen) cs') own → HasAskedFor p cs' after
+      {before after : SeenBy} {own : List Event} {count : ℕ} (cs cs' : List Call)
+      → ((k : ℕ) → IsFilled cs k → IsFilled cs' k)
+      → HasAskedFor p cs before → Grown p before after own count
+      → All (IsClaimOf p (tables_at p after.seen) cs') own → HasAskedFor p cs' after
   asked-grown {before} {after} {own} cs cs' more asked grown new = record {
     own = All-same Q _ _ parts (All-append Q own _ new old);
   }
@@ -336,17 +386,21 @@ module _ (p : Plan) (plan : IsPlan p) where
 
   -- after the steps of a call
   asked-stepped :
-      {call : Call} {before after : SeenBy} {most : ℕ} (cs cs' : List Call) → ((k : ℕ) → IsFilled cs k → IsFilled cs' k)
-      → (fills call ≡ true → IsFilled cs' (key_of_call call)) → HasAskedFor p cs before → HasStepped p call before after most → HasAskedFor p cs' after
+      {call : Call} {before after : SeenBy} {most : ℕ} (cs cs' : List Call)
+      → ((k : ℕ) → IsFilled cs k → IsFilled cs' k)
+      → (fills call ≡ true → IsFilled cs' (key_of_call call)) → HasAskedFor p cs before
+      → HasStepped p call before after most → HasAskedFor p cs' after
   asked-stepped {call} {before} {after} cs cs' more adds asked stepped =
       let made = stepped.1 in
       asked-grown cs cs' more asked made.grown
       (All-weaker (MayMake p before.seen after.seen call) (IsClaimOf p (tables_at p after.seen) cs')
       (claim-made p before.seen after.seen call cs' adds) made.own made.may)
 
-  -- in a history that the seat has seen a beginning of with all its own events, its own claims are so too
+  -- in a history that the seat has seen a beginning of with all its own events, its own claims are
+  -- so too
   asked-history :
-      (cs : List Call) (history : List Event) (n : ℕ) → IsLegal p history → HasAskedIn p cs history n
+      (cs : List Call) (history : List Event) (n : ℕ) → IsLegal p history
+      → HasAskedIn p cs history n
       → All (IsClaimOf p (tables_at p history) cs) (own_events n history)
   asked-history cs history n legal is =
       All-same (IsClaimOf p (tables_at p history) cs) _ _ parts
@@ -363,7 +417,8 @@ module _ (p : Plan) (plan : IsPlan p) where
 -- a seat that has seen nothing
 asked-new : (p : Plan) (cs : List Call) (seat : SeenBy) → seat.seen ≡ [] → HasAskedFor p cs seat
 asked-new p cs seat new = record {
-  own = subst (λ seen. All (IsClaimOf p (tables_at p seen) cs) (own_events seat.number seen)) (sym new) (All-nil (IsClaimOf p (tables_at p []) cs));
+  own = subst (λ seen. All (IsClaimOf p (tables_at p seen) cs) (own_events seat.number seen))
+      (sym new) (All-nil (IsClaimOf p (tables_at p []) cs));
 }
 
 -- ---- the laws
@@ -371,14 +426,17 @@ asked-new p cs seat new = record {
 pub asks_add_up : AsksAddUp
 asks_add_up = record {
   none = λ {p} {calls} {seat} new. asked-new p calls seat new;
-  more = λ {p} {calls} {calls'} plan more adds asked stepped. asked-stepped p plan calls calls' more adds asked stepped;
+  more = λ {p} {calls} {calls'} plan more adds asked stepped.
+      asked-stepped p plan calls calls' more adds asked stepped;
   rested = λ {p} {calls} {before} {after} plan asked grown.
-      asked-grown p plan calls calls (λ k filled. filled) asked grown (All-nil (IsClaimOf p (tables_at p after.seen) calls));
+      asked-grown p plan calls calls (λ k filled. filled) asked grown
+      (All-nil (IsClaimOf p (tables_at p after.seen) calls));
 }
 
 pub crowded_by_calls : CrowdedByCalls
 crowded_by_calls p plan cs history legal asked h begun k crowded =
-    crowd-count p plan history legal k cs (λ j differs has. all-put p plan cs history legal all g within j has) still
+    crowd-count p plan history legal k cs
+    (λ j differs has. all-put p plan cs history legal all g within j has) still
   where
     g : ℕ
     g = generations_of p - 1
@@ -387,11 +445,17 @@ crowded_by_calls p plan cs history legal asked h begun k crowded =
     within = omega (arith, plan.some_tables)
 
     all : All (IsClaimOf p (tables_at p history) cs) history
-    all = each-own (IsClaimOf p (tables_at p history) cs) p.seats history (seats-below p history legal)
+    all = each-own (IsClaimOf p (tables_at p history) cs) p.seats history
+        (seats-below p history legal)
         (λ s less. asked-history p plan cs history s legal (asked s less))
 
     still : IsCrowded p history k
     still i less =
         let lasting = later-lasts p plan h history begun.later begun.is legal in
         let is = crowded i less in
-        record { other = is.other; is = lasting.claimed g i is.other (within, less) is.is; differs = is.differs }
+        record {
+          other = is.other;
+          is = lasting.claimed g i is.other (within, less) is.is;
+          differs =
+              is.differs;
+        }

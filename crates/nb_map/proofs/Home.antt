@@ -20,31 +20,39 @@ home-in p g k table = (table, mod_below (k + 0) (size_of p g) (pow_pos _))
 -- ---- a home slot that is the key's own
 
 -- isn't another's
-pub own-first : (p : Plan) (t : Tables) (g k d : ℕ) → IsHomeSlot p t g k → 0 < d → AreOthers p t g k d → ⊥
+pub own-first :
+    (p : Plan) (t : Tables) (g k d : ℕ) → IsHomeSlot p t g k → 0 < d → AreOthers p t g k d → ⊥
 own-first p t g k d own some others =
-    let first = others 0 some in first.differs (let both : Claimed first.other ≡ Claimed k = sym first.is ∙ own in cc)
+    let first = others 0 some in first.differs (let both : Claimed first.other ≡ Claimed k =
+    sym first.is ∙ own in cc)
 
 -- and no slot behind others is empty
-pub own-ends : (p : Plan) (t : Tables) (g k d : ℕ) → IsHomeSlot p t g k → AreOthers p t g k d → t.key g (path_slot p g k d) ≡ Empty → ⊥
+pub own-ends :
+    (p : Plan) (t : Tables) (g k d : ℕ) → IsHomeSlot p t g k → AreOthers p t g k d
+    → t.key g (path_slot p g k d) ≡ Empty → ⊥
 own-ends p t g k zero own others empty = let both : Empty ≡ Claimed k = sym empty ∙ own in cc
 own-ends p t g k (suc d) own others empty = own-first p t g k (suc d) own (omega arith) others
 
 -- ---- what isn't at home
 
-pub others-away : (p : Plan) (t : Tables) (g k d : ℕ) → 0 < d → AreOthers p t g k d → IsAtHome p t g k → ⊥
+pub others-away :
+    (p : Plan) (t : Tables) (g k d : ℕ) → 0 < d → AreOthers p t g k d → IsAtHome p t g k → ⊥
 others-away p t g k d some others home = elim home [
-  | inl empty ↦ (let first = others 0 some in let both : Empty ≡ Claimed first.other = sym empty ∙ first.is in cc)
+  | inl empty ↦ (let first = others 0 some in let both : Empty ≡ Claimed first.other = sym empty
+      ∙ first.is in cc)
   | inr own ↦ own-first p t g k d own.0 some others
 ]
 
-pub dead-away : (p : Plan) (t : Tables) (g k : ℕ) → t.key g (path_slot p g k 0) ≡ Dead → IsAtHome p t g k → ⊥
+pub dead-away :
+    (p : Plan) (t : Tables) (g k : ℕ) → t.key g (path_slot p g k 0) ≡ Dead → IsAtHome p t g k → ⊥
 dead-away p t g k dead home = elim home [
   | inl empty ↦ (let both : Empty ≡ Dead = sym empty ∙ dead in cc)
   | inr own ↦ (let both : Claimed k ≡ Dead = sym own.0 ∙ dead in cc)
 ]
 
 pub primed-away :
-    (p : Plan) (t : Tables) (g k : ℕ) → IsHomeSlot p t g k → (IsUnprimed (t.value g (path_slot p g k 0)) → ⊥) → IsAtHome p t g k → ⊥
+    (p : Plan) (t : Tables) (g k : ℕ) → IsHomeSlot p t g k
+    → (IsUnprimed (t.value g (path_slot p g k 0)) → ⊥) → IsAtHome p t g k → ⊥
 primed-away p t g k claimed primed home = elim home [
   | inl empty ↦ (let both : Empty ≡ Claimed k = sym empty ∙ claimed in cc)
   | inr own ↦ primed own.1
@@ -54,7 +62,8 @@ primed-away p t g k claimed primed home = elim home [
 
 -- a value that isn't primed wasn't before
 unprimed-before :
-    (p : Plan) (t u : Tables) → Lasts p t u → (g i : ℕ) → IsSlot p g i → (v : ValueState) → t.value g i ≡ v → IsUnprimed (u.value g i)
+    (p : Plan) (t u : Tables) → Lasts p t u → (g i : ℕ) → IsSlot p g i → (v : ValueState)
+    → t.value g i ≡ v → IsUnprimed (u.value g i)
     → IsUnprimed v
 unprimed-before p t u lasting g i slot Null is now = tt
 unprimed-before p t u lasting g i slot Tombstone is now = tt
@@ -63,16 +72,18 @@ unprimed-before p t u lasting g i slot PrimedNull is now =
     subst IsUnprimed (lasting.final g i slot (subst IsFinishedValue (sym is) refl) ∙ is) now
 unprimed-before p t u lasting g i slot PrimedTombstone is now =
     subst IsUnprimed (lasting.final g i slot (subst IsFinishedValue (sym is) refl) ∙ is) now
-unprimed-before p t u lasting g i slot (Primed n) is now = elim (lasting.primed_or_finished g i n slot (inl is)) [
-  | inl same ↦ subst IsUnprimed same now
-  | inr done ↦ subst IsUnprimed done now
-]
+unprimed-before p t u lasting g i slot (Primed n) is now =
+    elim (lasting.primed_or_finished g i n slot (inl is)) [
+      | inl same ↦ subst IsUnprimed same now
+      | inr done ↦ subst IsUnprimed done now
+    ]
 unprimed-before p t u lasting g i slot (Finished n) is now =
     subst IsUnprimed (lasting.final g i slot (subst IsFinishedValue (sym is) refl) ∙ is) now
 
 -- a key that is at home was so before
 pub home-before :
-    (p : Plan) (t u : Tables) → Lasts p t u → (g k : ℕ) → g < generations_of p → IsAtHome p u g k → IsAtHome p t g k
+    (p : Plan) (t u : Tables) → Lasts p t u → (g k : ℕ) → g < generations_of p → IsAtHome p u g k
+    → IsAtHome p t g k
 home-before p t u lasting g k table home = was (t.key g (path_slot p g k 0)) refl
   where
     slot : IsSlot p g (path_slot p g k 0)
@@ -101,20 +112,25 @@ module _ (chain : ChainOf) (seat : SeenBy) where
 
   -- it is the home slot, and its value isn't primed
   home-slot :
-      IsOwn chain seat → (g i k : ℕ) → IsSlot p g i → t.key g i ≡ Claimed k → IsAtHome p t g k → IsUnprimed (t.value g i)
+      IsOwn chain seat → (g i k : ℕ) → IsSlot p g i → t.key g i ≡ Claimed k → IsAtHome p t g k
+      → IsUnprimed (t.value g i)
   home-slot own g i k slot claimed home =
-      let path = on_path p own.plan seat.seen own.legal g i k slot claimed in at path.distance path.at path.passed
+      let path = on_path p own.plan seat.seen own.legal g i k slot claimed in
+      at path.distance path.at path.passed
     where
       at : (d : ℕ) → path_slot p g k d ≡ i → AreOthers p t g k d → IsUnprimed (t.value g i)
       at zero is others = elim home [
-        | inl empty ↦ absurd (let both : Empty ≡ Claimed k = sym empty ∙ ap (t.key g) is ∙ claimed in cc)
+        | inl empty ↦ absurd (let both : Empty ≡ Claimed k = sym empty ∙ ap (t.key g) is
+            ∙ claimed in cc)
         | inr own ↦ subst (λ j. IsUnprimed (t.value g j)) is own.1
       ]
       at (suc d) is others = absurd (others-away p t g k (suc d) (omega arith) others home)
 
   -- so the key isn't passed
-  pub passed-away : IsOwn chain seat → (g k : ℕ) → g < generations_of p → IsPassed p t g k → IsAtHome p t g k → ⊥
-  passed-away own g k table (AtSlot i in_table claimed final) home = both _ (home-slot own g i k (table, in_table) claimed home) final
+  pub passed-away : IsOwn chain seat → (g k : ℕ) → g < generations_of p → IsPassed p t g k
+      → IsAtHome p t g k → ⊥
+  passed-away own g k table (AtSlot i in_table claimed final) home =
+      both _ (home-slot own g i k (table, in_table) claimed home) final
     where
       both : (v : ValueState) → IsUnprimed v → IsFinishedValue v → ⊥
       both Null unprimed final = cc
@@ -125,5 +141,7 @@ module _ (chain : ChainOf) (seat : SeenBy) where
       both (Primed n) unprimed final = unprimed
       both (Finished n) unprimed final = unprimed
   passed-away own g k table (UpToDead zero in_table others dead) home = dead-away p t g k dead home
-  passed-away own g k table (UpToDead (suc d) in_table others dead) home = others-away p t g k (suc d) (omega arith) others home
-  passed-away own g k table (Whole others) home = others-away p t g k (size_of p g) (pow_pos _) others home
+  passed-away own g k table (UpToDead (suc d) in_table others dead) home =
+      others-away p t g k (suc d) (omega arith) others home
+  passed-away own g k table (Whole others) home =
+      others-away p t g k (size_of p g) (pow_pos _) others home

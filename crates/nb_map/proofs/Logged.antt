@@ -19,7 +19,8 @@ use Rattle.nb_map.proofs.Made.{made-none, made-quiet}
 
 -- after the steps of a call
 pub logged :
-    {map : MapOf} {call : Call} {before after : SeatOf} {made : List (Call × Reply)} {most : ℕ} → IsMine map before
+    {map : MapOf} {call : Call} {before after : SeatOf} {made : List (Call × Reply)} {most : ℕ}
+    → IsMine map before
     → HasMade map.chain.shape call before.chain after.chain made most → HasLogged before after made
 logged {map} {after = after} mine made =
     let grown = made.grown in
@@ -27,28 +28,35 @@ logged {map} {after = after} mine made =
       number = grown.number;
       later = log_of grown.later;
       grown = ap log_of grown.seen ∙ filter_map-append entry_of grown.later _;
-      replayed = (log_is_replayed map.chain.shape mine.chain.plan after.chain.seen grown.legal).replayed;
+      replayed = (log_is_replayed map.chain.shape mine.chain.plan after.chain.seen
+          grown.legal).replayed;
       own = calls-later made;
     }
 
 -- after a step without an event
 pub logged-quiet :
-    {map : MapOf} {before after : SeatOf} → IsMine map before → Extended map.chain.shape before.chain after.chain [] 1 → HasLogged before after []
+    {map : MapOf} {before after : SeatOf} → IsMine map before
+    → Extended map.chain.shape before.chain after.chain [] 1 → HasLogged before after []
 logged-quiet {map} mine step = logged mine (made-quiet map.chain.shape (Get 0) step)
 
 -- after no step on the chain
-pub logged-same : {map : MapOf} {before after : SeatOf} → IsMine map before → after.chain ≡ before.chain → HasLogged before after []
+pub logged-same :
+    {map : MapOf} {before after : SeatOf} → IsMine map before → after.chain ≡ before.chain
+    → HasLogged before after []
 logged-same {map} {before} {after} mine same =
-    logged mine (subst (λ seat. HasMade map.chain.shape (Get 0) before.chain seat [] 0) (sym same) (made-none map.chain (Get 0) before.chain mine.chain))
+    logged mine (subst (λ seat. HasMade map.chain.shape (Get 0) before.chain seat [] 0) (sym same)
+    (made-none map.chain (Get 0) before.chain mine.chain))
 
 -- some calls after others
 logged-then :
-    {before then after : SeatOf} {made made' : List (Call × Reply)} → HasLogged before then made → HasLogged then after made'
+    {before then after : SeatOf} {made made' : List (Call × Reply)} → HasLogged before then made
+    → HasLogged then after made'
     → HasLogged before after (made' ++ made)
 logged-then {before} a b = record {
   number = b.number ∙ a.number;
   later = b.later ++ a.later;
-  grown = b.grown ∙ ap (λ log. b.later ++ log) a.grown ∙ sym (append_assoc b.later a.later (log before));
+  grown = b.grown ∙ ap (λ log. b.later ++ log) a.grown
+      ∙ sym (append_assoc b.later a.later (log before));
   replayed = b.replayed;
   own =
       calls_append before.chain.number b.later a.later
@@ -60,8 +68,10 @@ logs_add_up = record { none = λ mine. logged-same mine refl; more = λ a b. log
 
 -- some calls after none
 pub logged-more :
-    {before then after : SeatOf} {made : List (Call × Reply)} → HasLogged before then [] → HasLogged then after made → HasLogged before after made
-logged-more {before} {then} {after} {made} a b = subst (HasLogged before after) (append-nil made) (logged-then a b)
+    {before then after : SeatOf} {made : List (Call × Reply)} → HasLogged before then []
+    → HasLogged then after made → HasLogged before after made
+logged-more {before} {then} {after} {made} a b =
+    subst (HasLogged before after) (append-nil made) (logged-then a b)
 
 -- ---- the tries of a write that waits
 
@@ -69,17 +79,26 @@ logged-more {before} {then} {after} {made} a b = subst (HasLogged before after) 
 counted-none : (count : CountSeatOf) → accounted (pos 0) count ≡ count
 counted-none count =
     let same : (n : ℕ) → n + 0 ≡ n = λ n. omega arith in
-    ap₂ (λ added adds. record count { added = added; adds = adds; steps = count.steps + 0 }) (omega (arith, ints)) (same count.adds)
+    ap₂ (λ added adds. record count { added = added; adds = adds; steps = count.steps + 0 })
+    (omega (arith, ints)) (same count.adds)
     ∙ ap (λ steps. record count { steps = steps }) (same count.steps)
 
 -- steps of a call that counted nothing
 pub worked-uncounted :
     {map : MapOf} {call : Call} {before after : SeatOf} {made : List (Call × Reply)} {most : ℕ}
-    → HasMade map.chain.shape call before.chain after.chain made most → after.count ≡ before.count → HasWorked map call before after most
-worked-uncounted {before = before} made same = record { steps = (_, made); net = pos 0; count = same ∙ sym (counted-none before.count) }
+    → HasMade map.chain.shape call before.chain after.chain made most → after.count ≡ before.count
+    → HasWorked map call before after most
+worked-uncounted {before = before} made same =
+    record { steps = (_, made); net = pos 0; count = same ∙ sym (counted-none before.count) }
 
 -- ---- two seats that meet
 
 -- what is a beginning of a history has a beginning of its log
-pub log-begins : (before after : SeatOf) → IsBeginning before.chain.seen after.chain.seen → IsBeginning (log before) (log after)
-log-begins before after begun = record { later = log_of begun.later; is = ap log_of begun.is ∙ filter_map-append entry_of begun.later _ }
+pub log-begins :
+    (before after : SeatOf) → IsBeginning before.chain.seen after.chain.seen
+    → IsBeginning (log before) (log after)
+log-begins before after begun = record {
+  later = log_of begun.later;
+  is = ap log_of begun.is
+      ∙ filter_map-append entry_of begun.later _;
+}

@@ -23,7 +23,8 @@ slots-few : (p : Plan) → IsPlan p → (g : ℕ) → g ≤ generations_of p →
 slots-few p plan zero below = omega arith
 slots-few p plan (suc g) below =
     let rest = slots-few p plan g (omega (arith, below)) in
-    let here : size_of p g ≤ 2 ^ 19 = pow_mono (All-get_or (λ e. (2 ≤ e) × (e ≤ 19)) p.exponents g 0 below plan.sizes).1 in
+    let here : size_of p g ≤ 2 ^ 19 = pow_mono
+    (All-get_or (λ e. (2 ≤ e) × (e ≤ 19)) p.exponents g 0 below plan.sizes).1 in
     omega (arith, rest, here)
 
 -- the most steps of rounds in which others won so many exchanges, all contended
@@ -38,59 +39,85 @@ round-bound p plan passed passed' all contended both =
     let n = size_of p (generations_of p - 1) in
     let few = slots-few p plan (generations_of p) (omega arith) in
     let t = slots_below p (generations_of p) in
-    let less : 2 * (t + generations_of p) ≤ passed' = omega (arith, few, contended, plan.few_tables) in
-    fits t (generations_of p) n passed passed' all (mul-le-mul_right (n + 8) less) (mul-le-mul_right (n + 8) both)
+    let less : 2 * (t + generations_of p) ≤ passed' =
+    omega (arith, few, contended, plan.few_tables) in
+    fits t (generations_of p) n passed passed' all (mul-le-mul_right (n + 8) less)
+    (mul-le-mul_right (n + 8) both)
   where
-    fits : (t tables n passed passed' all : ℕ) → 2 * (t + tables) * (n + 8) ≤ passed' * (n + 8) → (passed + passed') * (n + 8) ≤ all * (n + 8)
-        → 8 * passed * (n + 8) + (8 * (t + tables) * (n + 8) + 2 * min (2 ^ 32 - 1) passed') ≤ 8 * all * (n + 8)
+    fits : (t tables n passed passed' all : ℕ) → 2 * (t + tables) * (n + 8) ≤ passed' * (n + 8)
+        → (passed + passed') * (n + 8) ≤ all * (n + 8)
+        → 8 * passed * (n + 8) + (8 * (t + tables) * (n + 8) + 2 * min (2 ^ 32 - 1) passed')
+        ≤ 8 * all * (n + 8)
     fits t tables n passed passed' all less both = omega (arith, less, both)
 
 -- the last round, and the load of the top word
 last-bound :
     (p : Plan) (passed passed' all : ℕ) → passed + passed' ≤ all
-    → 1 + (round_steps p passed + (get_steps p + 2 * min (2 ^ 32 - 1) passed')) ≤ put_steps p (all + 1)
+    → 1 + (round_steps p passed + (get_steps p + 2 * min (2 ^ 32 - 1) passed'))
+    ≤ put_steps p (all + 1)
 last-bound p passed passed' all both =
     let n = size_of p (generations_of p - 1) in
-    fits (slots_below p (generations_of p)) (generations_of p) n passed passed' all (mul-le-mul_right (n + 8) both)
+    fits (slots_below p (generations_of p)) (generations_of p) n passed passed' all
+    (mul-le-mul_right (n + 8) both)
   where
     fits : (t tables n passed passed' all : ℕ) → (passed + passed') * (n + 8) ≤ all * (n + 8)
-        → 1 + (8 * passed * (n + 8) + (8 * (t + tables) * (n + 8) + 2 * min (2 ^ 32 - 1) passed')) ≤ 8 * (t + (all + 1) + tables) * (n + 8)
+        → 1 + (8 * passed * (n + 8) + (8 * (t + tables) * (n + 8) + 2 * min (2 ^ 32 - 1) passed'))
+        ≤ 8 * (t + (all + 1) + tables) * (n + 8)
     fits t tables n passed passed' all both = omega (arith, both)
 
 -- The seat has loaded the top word, and made some contended rounds.
-module _ (chain : ChainOf) {call : Call} {start first now after : SeenBy} {calls : List (Call × Reply)} (own : IsOwn chain start)
-    (load : Extended chain.shape start first [] 1) (rounds : HasMade chain.shape call first now [] (round_steps chain.shape (passed_since call first now)))
-    (round : HasMade chain.shape call now after calls (get_steps chain.shape + 2 * min (2 ^ 32 - 1) (passed_since call now after))) where
+module _ (chain : ChainOf) {call : Call} {start first now after : SeenBy}
+    {calls : List (Call × Reply)} (own : IsOwn chain start)
+    (load : Extended chain.shape start first [] 1)
+    (rounds : HasMade chain.shape call first now []
+    (round_steps chain.shape (passed_since call first now)))
+    (round : HasMade chain.shape call now after calls
+    (get_steps chain.shape + 2 * min (2 ^ 32 - 1) (passed_since call now after))) where
   -- another one was contended
   pub rounds-more :
-      2 ^ 32 - 1 ≤ passed_since call now after → HasMade chain.shape call first after calls (round_steps chain.shape (passed_since call first after))
+      2 ^ 32 - 1 ≤ passed_since call now after
+      → HasMade chain.shape call first after calls
+      (round_steps chain.shape (passed_since call first after))
   rounds-more contended =
-      made-within (round_steps chain.shape (passed_since call first now) + (get_steps chain.shape + 2 * min (2 ^ 32 - 1) (passed_since call now after))) _
-      (round-bound chain.shape own.plan _ _ _ contended (omega (arith, passed-sum call rounds.grown round.grown)))
+      made-within (round_steps chain.shape (passed_since call first now)
+      + (get_steps chain.shape + 2 * min (2 ^ 32 - 1) (passed_since call now after))) _
+      (round-bound chain.shape own.plan _ _ _ contended
+      (omega (arith, passed-sum call rounds.grown round.grown)))
       (made-then (steps_add_up.own own (steps_add_up.one load)) rounds round)
 
   -- the last one
-  pub rounds-end : HasMade chain.shape call start after calls (put_steps chain.shape (passed_since call start after + 1))
+  pub rounds-end : HasMade chain.shape call start after calls
+      (put_steps chain.shape (passed_since call start after + 1))
   rounds-end =
       let mine = steps_add_up.own own (steps_add_up.one load) in
       let all = made-then mine rounds round in
       let both = passed-sum call rounds.grown round.grown in
       let longer = passed-sum call (steps_add_up.one load) all.grown in
       made-within
-      (1 + (round_steps chain.shape (passed_since call first now) + (get_steps chain.shape + 2 * min (2 ^ 32 - 1) (passed_since call now after)))) _
+      (1 + (round_steps chain.shape (passed_since call first now)
+      + (get_steps chain.shape + 2 * min (2 ^ 32 - 1) (passed_since call now after)))) _
       (last-bound chain.shape _ _ _ (omega (arith, both, longer)))
       (made-then own (made-quiet chain.shape call load) all)
 
   -- who is alone with its key makes no other one
   pub rounds-short :
       (top : ℕ) → (seen_by chain.shape first).top ≡ top
-      → (IsAloneAtHome chain.shape top call now after → after.steps ≤ now.steps + 3) → IsSeenAlone chain.shape call start after
+      → (IsAloneAtHome chain.shape top call now after → after.steps ≤ now.steps + 3)
+      → IsSeenAlone chain.shape call start after
       → after.steps ≤ start.steps + 4
   rounds-short top is short alone =
       let mine = steps_add_up.own own (steps_add_up.one load) in
       let all = made-then mine rounds round in
       let home = alone-top top own load is all.grown alone in
-      let table = table-within chain first mine top (reached-top chain first mine 0 top is).installed in
-      let none : passed_since call first now ≡ 0 = omega (arith, passed-sum call rounds.grown round.grown, home.alone) in
+      let table = table-within chain first mine top
+      (reached-top chain first mine 0 top is).installed in
+      let none : passed_since call first now ≡ 0 =
+      omega (arith, passed-sum call rounds.grown round.grown, home.alone) in
       let few = subst (λ passed. rounds.count ≤ round_steps chain.shape passed) none rounds.few in
-      omega (arith, load.steps, rounds.grown.steps, few, short (alone-then top table mine rounds.grown round.grown home))
+      omega (
+        arith,
+        load.steps,
+        rounds.grown.steps,
+        few,
+        short (alone-then top table mine rounds.grown round.grown home),
+      )

@@ -16,30 +16,43 @@ use Rattle.nb_map.specs.Calling.{HasCountedTurned}
 
 -- one moment after another
 pub counted-more :
-    (p : Plan) (s : ℕ) (x y z : List Event) → HasCountedTurned p s x y → HasCountedTurned p s y z → HasCountedTurned p s x z
+    (p : Plan) (s : ℕ) (x y z : List Event) → HasCountedTurned p s x y → HasCountedTurned p s y z
+    → HasCountedTurned p s x z
 counted-more p s x y z first then g = omega (arith, first g, then g)
 
 -- ---- one step
 
 -- events of others turn and count nothing for a seat
 counted-others :
-    (p : Plan) (s : ℕ) (others h : List Event) → All (λ e. seat_of_event e ≢ s) others → HasCountedTurned p s h (others ++ h)
+    (p : Plan) (s : ℕ) (others h : List Event) → All (λ e. seat_of_event e ≢ s) others
+    → HasCountedTurned p s h (others ++ h)
 counted-others p s others h not_own g =
     let still = own_lasts p others h s not_own in omega (arith, still.counted g, still.turned g)
 
 -- a step without an event
-pub counted-quiet : {p : Plan} {before after : SeenBy} → Extended p before after [] 1 → HasCountedTurned p before.number before.seen after.seen
+pub counted-quiet :
+    {p : Plan} {before after : SeenBy} → Extended p before after [] 1
+    → HasCountedTurned p before.number before.seen after.seen
 counted-quiet {p} {before} step =
-    subst (HasCountedTurned p before.number before.seen) (sym step.seen) (counted-others p before.number step.others before.seen step.not_own)
+    subst (HasCountedTurned p before.number before.seen) (sym step.seen)
+    (counted-others p before.number step.others before.seen step.not_own)
 
 -- a step with an event that turns no slot and counts none
 pub counted-apart :
-    {p : Plan} {before after : SeenBy} {e : Event} → Extended p before after (e ∷ []) 1 → ((h : List Event) → turned_slot p h e ≡ None)
-    → ((g : ℕ) → counts e before.number g ≡ 0) → HasCountedTurned p before.number before.seen after.seen
+    {p : Plan} {before after : SeenBy} {e : Event} → Extended p before after (e ∷ []) 1
+    → ((h : List Event) → turned_slot p h e ≡ None)
+    → ((g : ℕ) → counts e before.number g ≡ 0)
+    → HasCountedTurned p before.number before.seen after.seen
 counted-apart {p} {before} {after} {e} step turned counted =
     subst (HasCountedTurned p s before.seen) (sym step.seen)
-    (counted-more p s before.seen met (e ∷ met) (counted-others p s step.others before.seen step.not_own)
-    (λ g. omega (arith, ap length (none g), length-append (turned_in p met e s g) (slots_turned p met s g), counted g)))
+    (counted-more p s before.seen met (e ∷ met)
+    (counted-others p s step.others before.seen step.not_own)
+    (λ g. omega (
+      arith,
+      ap length (none g),
+      length-append (turned_in p met e s g) (slots_turned p met s g),
+      counted g,
+    )))
   where
     s : ℕ
     s = before.number
@@ -52,7 +65,8 @@ counted-apart {p} {before} {after} {e} step turned counted =
     cond-same false = refl
 
     none : (g : ℕ) → turned_in p met e s g ≡ []
-    none g = ap (λ slot. cond (seat_of_event e == s) (slot_in g slot) []) (turned met) ∙ cond-same (seat_of_event e == s)
+    none g = ap (λ slot. cond (seat_of_event e == s) (slot_in g slot) []) (turned met)
+        ∙ cond-same (seat_of_event e == s)
 
 -- ---- copying
 
@@ -64,7 +78,8 @@ one-if false i = refl
 -- copying one table counts nothing of another, and turns nothing
 module _ (p : Plan) (t : Tables) (s g f : ℕ) (other : g ≢ f) where
   elsewhere :
-      (e : Event) (h : List Event) → ((seat_of_event e == s) ≡ true → IsCopying p t g e) → counts e s f ≡ length (turned_in p h e s f)
+      (e : Event) (h : List Event) → ((seat_of_event e == s) ≡ true → IsCopying p t g e)
+      → counts e s f ≡ length (turned_in p h e s f)
   elsewhere (Kill s' table i) h copying = grind (arith, nat_tests, other, copying)
   elsewhere (Prime s' table i) h copying = grind (arith, nat_tests, other, copying)
   elsewhere (Finish s' table i) h copying = grind (arith, nat_tests, other, copying)
@@ -77,36 +92,52 @@ module _ (p : Plan) (t : Tables) (s g f : ℕ) (other : g ≢ f) where
 
   counted-away :
       (later h : List Event) → All (IsCopying p t g) (own_events s later)
-      → counted_by (later ++ h) s f + turned_by p h s f ≡ counted_by h s f + turned_by p (later ++ h) s f
+      → counted_by (later ++ h) s f + turned_by p h s f
+      ≡ counted_by h s f + turned_by p (later ++ h) s f
   counted-away [] h copying = refl
   counted-away (e ∷ later) h copying =
       let both = parts (seat_of_event e == s) copying in
-      omega (arith, counted-away later h both.1, elsewhere e (later ++ h) both.0, length-append (turned_in p (later ++ h) e s f) (slots_turned p (later ++ h) s f))
+      omega (
+        arith,
+        counted-away later h both.1,
+        elsewhere e (later ++ h) both.0,
+        length-append (turned_in p (later ++ h) e s f) (slots_turned p (later ++ h) s f),
+      )
     where
       P : Event → Type 0
       P = IsCopying p t g
 
-      parts : (mine : Bool) → All P (cond mine (e ∷ own_events s later) (own_events s later)) → (mine ≡ true → P e) × All P (own_events s later)
-      parts true all = (λ mine. All-head P e (own_events s later) all, All-tail P e (own_events s later) all)
+      parts : (mine : Bool) → All P (cond mine (e ∷ own_events s later) (own_events s later))
+          → (mine ≡ true → P e) × All P (own_events s later)
+      parts true all = (
+        λ mine. All-head P e (own_events s later) all,
+        All-tail P e (own_events s later) all,
+      )
       parts false all = (λ mine. absurd cc, all)
 
 -- copying that counted what it turned
 pub counted-copied :
-    {p : Plan} {before after : SeenBy} {g : ℕ} {slots : List ℕ} {chunks adding most : ℕ} → adding ≡ length slots
-    → HasCopied p g before after slots chunks adding most → HasCountedTurned p before.number before.seen after.seen
-counted-copied {p} {before} {after} {g} {slots} {adding = adding} all copied f = elim (same-or-other g f) [
-  | inl same ↦ subst Balanced same here
-  | inr other ↦
-      subst (λ h. counted_by h s f + turned_by p before.seen s f ≡ counted_by before.seen s f + turned_by p h s f) (sym copied.grown.seen)
-      (counted-away p (tables_at p after.seen) s g f other copied.grown.later before.seen
-      (subst (All (IsCopying p (tables_at p after.seen) g)) (sym copied.grown.own_are) copied.copying))
-]
+    {p : Plan} {before after : SeenBy} {g : ℕ} {slots : List ℕ} {chunks adding most : ℕ}
+    → adding ≡ length slots
+    → HasCopied p g before after slots chunks adding most
+    → HasCountedTurned p before.number before.seen after.seen
+counted-copied {p} {before} {after} {g} {slots} {adding = adding} all copied f =
+    elim (same-or-other g f) [
+      | inl same ↦ subst Balanced same here
+      | inr other ↦
+          subst (λ h. counted_by h s f + turned_by p before.seen s f ≡ counted_by before.seen s f
+          + turned_by p h s f) (sym copied.grown.seen)
+          (counted-away p (tables_at p after.seen) s g f other copied.grown.later before.seen
+          (subst (All (IsCopying p (tables_at p after.seen) g)) (sym copied.grown.own_are)
+          copied.copying))
+    ]
   where
     s : ℕ
     s = before.number
 
     Balanced : ℕ → Type 0
-    Balanced g = counted_by after.seen s g + turned_by p before.seen s g ≡ counted_by before.seen s g + turned_by p after.seen s g
+    Balanced g = counted_by after.seen s g + turned_by p before.seen s g
+        ≡ counted_by before.seen s g + turned_by p after.seen s g
 
     here : Balanced g
     here = omega (

@@ -30,57 +30,78 @@ use Rattle.nb_map.specs.declared.write.Written.TheVariants.{Replied, Refused, Ab
 
 -- a refusal that is just for the tries that were left is so for all
 pub just-longer :
-    (p : Plan) (call : Call) {start mid after : SeenBy} {own own' : List Event} {count count' : ℕ} (tries left : ℕ)
-    → Grown p start mid own count → Grown p mid after own' count' → tries ≤ left + passed_since call start mid → (fault : PutFault)
+    (p : Plan) (call : Call) {start mid after : SeenBy} {own own' : List Event} {count count' : ℕ}
+    (tries left : ℕ)
+    → Grown p start mid own count → Grown p mid after own' count'
+    → tries ≤ left + passed_since call start mid → (fault : PutFault)
     → IsJust p call mid after left fault → IsJust p call start after tries fault
 just-longer p call tries left a b spent Full just = just
-just-longer p call tries left a b spent Contended just = omega (arith, spent, just, passed-sum call a b)
+just-longer p call tries left a b spent Contended just =
+    omega (arith, spent, just, passed-sum call a b)
 just-longer p call tries left a b spent ValueRange just = just
 
 -- and what a write came to from the later moment on, it came to from the earlier one on
 pub written-longer :
-    (p : Plan) (call : Call) {start mid after : SeenBy} {own own' : List Event} {count count' : ℕ} (g tries : ℕ)
-    → Grown p start mid own count → Grown p mid after own' count' → (written : Written) → IsWritten p call mid after g tries written
+    (p : Plan) (call : Call) {start mid after : SeenBy} {own own' : List Event} {count count' : ℕ}
+    (g tries : ℕ)
+    → Grown p start mid own count → Grown p mid after own' count' → (written : Written)
+    → IsWritten p call mid after g tries written
     → IsWritten p call start after g tries written
 written-longer p call g tries a b (Replied reply) is = tt
-written-longer p call g tries a b (Refused fault) is = just-longer p call tries tries a b (omega arith) fault is
-written-longer p call g tries a b (Above below left) is = (is.0, is.1, is.2, is.3, omega (arith, is.4, passed-sum call a b))
+written-longer p call g tries a b (Refused fault) is =
+    just-longer p call tries tries a b (omega arith) fault is
+written-longer p call g tries a b (Above below left) is =
+    (is.0, is.1, is.2, is.3, omega (arith, is.4, passed-sum call a b))
 
 -- ---- steps in one table
 
 -- the steps at the slot come after those that found it
 pub made-written :
-    {chain : ChainOf} {call : Call} {start then after : SeenBy} (g tries : ℕ) (written : Written) → IsOwn chain start
+    {chain : ChainOf} {call : Call} {start then after : SeenBy} (g tries : ℕ) (written : Written)
+    → IsOwn chain start
     → HasMade chain.shape call start then [] (find_steps chain.shape g)
-    → HasMade chain.shape call then after (made_by call written) (exchange_steps chain.shape g tries (passed_since call then after) written)
-    → HasMade chain.shape call start after (made_by call written) (write_steps chain.shape g tries (passed_since call start after) written)
+    → HasMade chain.shape call then after (made_by call written)
+    (exchange_steps chain.shape g tries (passed_since call then after) written)
+    → HasMade chain.shape call start after (made_by call written)
+    (write_steps chain.shape g tries (passed_since call start after) written)
 made-written {call = call} g tries (Replied reply) own found made =
-    made-within _ _ (omega (arith, passed-sum call found.grown made.grown)) (made-then own found made)
+    made-within _ _ (omega (arith, passed-sum call found.grown made.grown))
+    (made-then own found made)
 made-written {call = call} g tries (Refused fault) own found made =
-    made-within _ _ (omega (arith, passed-sum call found.grown made.grown)) (made-then own found made)
+    made-within _ _ (omega (arith, passed-sum call found.grown made.grown))
+    (made-then own found made)
 made-written g tries (Above below left) own found made = made-then own found made
 
 -- who is alone with its key at home is so from a later moment on
 pub alone-then :
-    {chain : ChainOf} {call : Call} {start then after : SeenBy} {own own' : List Event} {count count' : ℕ} (g : ℕ) → g < generations_of chain.shape
-    → IsOwn chain start → Grown chain.shape start then own count → Grown chain.shape then after own' count'
+    {chain : ChainOf} {call : Call} {start then after : SeenBy} {own own' : List Event}
+    {count count' : ℕ} (g : ℕ) → g < generations_of chain.shape
+    → IsOwn chain start → Grown chain.shape start then own count
+    → Grown chain.shape then after own' count'
     → IsAloneAtHome chain.shape g call start after → IsAloneAtHome chain.shape g call then after
 alone-then {chain} {call} {start} {then} {after} g table own a b alone = record {
   home = alone.home;
   known = λ fills.
-      (steps_add_up.stays own a).claimed g _ (key_of_call call) (home-in chain.shape g (key_of_call call) table) (alone.known fills);
+      (steps_add_up.stays own a).claimed g _ (key_of_call call)
+      (home-in chain.shape g (key_of_call call) table) (alone.known fills);
   alone = omega (arith, passed-sum call a b, alone.alone);
 }
 
 -- a load and an exchange are enough for it at its slot
 pub alone-written :
-    {chain : ChainOf} {call : Call} {start after : SeenBy} {made : List (Call × Reply)} (g tries : ℕ) → g < generations_of chain.shape → IsOwn chain start
-    → (written : Written) → HasMade chain.shape call start after made (exchange_steps chain.shape g tries (passed_since call start after) written)
-    → IsWritten chain.shape call start after g tries written → IsAloneAtHome chain.shape g call start after → after.steps ≤ start.steps + 2
-alone-written g tries table own (Replied reply) made is alone = omega (arith, made.grown.steps, made.few, alone.alone)
-alone-written g tries table own (Refused fault) made is alone = omega (arith, made.grown.steps, made.few, alone.alone)
+    {chain : ChainOf} {call : Call} {start after : SeenBy} {made : List (Call × Reply)}
+    (g tries : ℕ) → g < generations_of chain.shape → IsOwn chain start
+    → (written : Written) → HasMade chain.shape call start after made
+    (exchange_steps chain.shape g tries (passed_since call start after) written)
+    → IsWritten chain.shape call start after g tries written
+    → IsAloneAtHome chain.shape g call start after → after.steps ≤ start.steps + 2
+alone-written g tries table own (Replied reply) made is alone =
+    omega (arith, made.grown.steps, made.few, alone.alone)
+alone-written g tries table own (Refused fault) made is alone =
+    omega (arith, made.grown.steps, made.few, alone.alone)
 alone-written {chain} {call} {after = after} g tries table own (Above below left) made is alone =
-    absurd (passed-away chain after (made-own chain own made) g (key_of_call call) table is.0.0 alone.home)
+    absurd (passed-away chain after (made-own chain own made) g (key_of_call call)
+    table is.0.0 alone.home)
 
 -- ---- bounds of steps
 
@@ -105,7 +126,8 @@ completed-few p plan (suc g) below =
     let rest = completed-few p plan g (omega (arith, below)) in
     let next = next-size p plan g below in
     let here = mul-le-mul_left (size_of p g) next in
-    one (size_of p g) (size_of p (suc g)) (size_of p (generations_of p - 1)) (slots_below p g) g (completed_below p g) rest here
+    one (size_of p g) (size_of p (suc g)) (size_of p (generations_of p - 1)) (slots_below p g) g
+    (completed_below p g) rest here
   where
     one : (size above n s g done : ℕ) → done ≤ s * (4 * n + 15) + g → size * above ≤ size * n
         → size * (2 * (2 * above + 6) + 3) + 1 + done ≤ (size + s) * (4 * n + 15) + suc g
@@ -115,21 +137,25 @@ completed-few p plan (suc g) below =
 written-few :
     (p : Plan) → IsPlan p → (g : ℕ) → g ≤ generations_of p
     → written_below p g + steps_below p g
-    ≤ 3 * slots_below p g + 2 * completed_below p g + g * (2 * size_of p (generations_of p - 1) + 14)
+    ≤ 3 * slots_below p g + 2 * completed_below p g
+    + g * (2 * size_of p (generations_of p - 1) + 14)
 written-few p plan zero below = omega arith
 written-few p plan (suc g) below =
     let rest = written-few p plan g (omega (arith, below)) in
     let next = next-size p plan g below in
-    one (size_of p g) (size_of p (suc g)) (size_of p (generations_of p - 1)) (slots_below p g) g (completed_below p g) (table_steps p g) (steps_below p g)
+    one (size_of p g) (size_of p (suc g)) (size_of p (generations_of p - 1)) (slots_below p g) g
+    (completed_below p g) (table_steps p g) (steps_below p g)
     (written_below p g) rest next
   where
-    one : (size above n s g done here under written : ℕ) → written + under ≤ 3 * s + 2 * done + g * (2 * n + 14) → above ≤ n
+    one : (size above n s g done here under written : ℕ)
+        → written + under ≤ 3 * s + 2 * done + g * (2 * n + 14) → above ≤ n
         → 3 * size + under + 4 + here + 2 + (2 * above + 6 + 2) + written + here
         ≤ 3 * (size + s) + 2 * (here + done) + suc g * (2 * n + 14)
     one size above n s g done here under written rest next = omega (arith, rest, next)
 
 -- a write comes to each table once at most
-write-bound : (p : Plan) → IsPlan p → (g : ℕ) → g ≤ generations_of p → written_below p g ≤ get_steps p
+write-bound :
+    (p : Plan) → IsPlan p → (g : ℕ) → g ≤ generations_of p → written_below p g ≤ get_steps p
 write-bound p plan g below =
     let n = size_of p (generations_of p - 1) in
     let written = written-few p plan g below in
@@ -137,18 +163,23 @@ write-bound p plan g below =
     let slots = slots-more p (generations_of p) g below in
     let twice = mul-le-mul_right (4 * n + 15) slots in
     let all = mul-le-mul_right (2 * n + 14) below in
-    fits (written_below p g) (steps_below p g) (slots_below p g) (slots_below p (generations_of p)) (completed_below p g) g (generations_of p) n written
+    fits (written_below p g) (steps_below p g) (slots_below p g) (slots_below p (generations_of p))
+    (completed_below p g) g (generations_of p) n written
     completed slots twice all below
   where
-    fits : (written under s t done g tables n : ℕ) → written + under ≤ 3 * s + 2 * done + g * (2 * n + 14) → done ≤ s * (4 * n + 15) + g
-        → s ≤ t → s * (4 * n + 15) ≤ t * (4 * n + 15) → g * (2 * n + 14) ≤ tables * (2 * n + 14) → g ≤ tables
+    fits : (written under s t done g tables n : ℕ)
+        → written + under ≤ 3 * s + 2 * done + g * (2 * n + 14) → done ≤ s * (4 * n + 15) + g
+        → s ≤ t → s * (4 * n + 15) ≤ t * (4 * n + 15) → g * (2 * n + 14) ≤ tables * (2 * n + 14)
+        → g ≤ tables
         → written ≤ 8 * (t + tables) * (n + 8)
     fits written under s t done g tables n a b c d e f = omega (arith, a, b, c, d, e, f)
 
 -- ---- from table to table
 
--- A write that began in table `first` has come to table g, with so many tries left. In the first table it has only lost tries.
-pub record HasCome (p : Plan) (call : Call) (start now : SeenBy) (first g tries left : ℕ) (known : Below) : Type 0 where
+-- A write that began in table `first` has come to table g, with so many tries left. In the first
+-- table it has only lost tries.
+pub record HasCome (p : Plan) (call : Call) (start now : SeenBy) (first g tries left : ℕ)
+    (known : Below) : Type 0 where
   pub made : HasMade p call start now [] (written_below p g + 2 * (tries - left))
   pub direct : g ≡ first → now.steps ≤ start.steps + 2 * (tries - left)
   pub from : first ≤ g
@@ -160,10 +191,13 @@ pub record HasCome (p : Plan) (call : Call) (start now : SeenBy) (first g tries 
 
 -- it begins there
 pub come-first :
-    (chain : ChainOf) (call : Call) (start : SeenBy) → IsOwn chain start → (g tries : ℕ) → IsReached chain.shape (seen_by chain.shape start) g (key_of_call call)
-    → IsReady chain.shape (seen_by chain.shape start) g → 1 ≤ tries → HasCome chain.shape call start start g g tries tries Complete
+    (chain : ChainOf) (call : Call) (start : SeenBy) → IsOwn chain start → (g tries : ℕ)
+    → IsReached chain.shape (seen_by chain.shape start) g (key_of_call call)
+    → IsReady chain.shape (seen_by chain.shape start) g → 1 ≤ tries
+    → HasCome chain.shape call start start g g tries tries Complete
 come-first chain call start own g tries reached ready some = record {
-  made = made-within 0 (written_below chain.shape g + 2 * (tries - tries)) (omega arith) (made-none chain call start own);
+  made = made-within 0 (written_below chain.shape g + 2 * (tries - tries)) (omega arith)
+      (made-none chain call start own);
   direct = λ same. omega arith;
   from = omega arith;
   reached = reached;
@@ -173,18 +207,23 @@ come-first chain call start own g tries reached ready some = record {
   lost = omega arith;
 }
 
-module _ (chain : ChainOf) {call : Call} {start now after : SeenBy} {first g tries left : ℕ} {below : Below} (own : IsOwn chain start)
-    (come : HasCome chain.shape call start now first g tries left below) (table : g < generations_of chain.shape) where
+module _ (chain : ChainOf) {call : Call} {start now after : SeenBy} {first g tries left : ℕ}
+    {below : Below} (own : IsOwn chain start)
+    (come : HasCome chain.shape call start now first g tries left below)
+    (table : g < generations_of chain.shape) where
   -- it goes on in the next table
   pub come-above :
-      {left' : ℕ} {below' : Below} → HasMade chain.shape call now after [] (write_steps chain.shape g left (passed_since call now after) (Above below' left'))
-      → IsWritten chain.shape call now after g left (Above below' left') → HasCome chain.shape call start after first (suc g) tries left' below'
+      {left' : ℕ} {below' : Below} → HasMade chain.shape call now after []
+      (write_steps chain.shape g left (passed_since call now after) (Above below' left'))
+      → IsWritten chain.shape call now after g left (Above below' left')
+      → HasCome chain.shape call start after first (suc g) tries left' below'
   come-above {left'} {below'} made is = record {
     made = made-within _ _ (omega (arith, come.fewer, is.3)) (made-then own come.made made);
     direct = λ same. absurd (omega (arith, same, come.from));
     from = omega (arith, come.from);
     reached = reached-above chain.shape _ g (key_of_call call)
-        (reached-lasts chain.shape _ _ (made-stays chain (made-own chain own come.made) made) g (key_of_call call) table come.reached) is.0;
+        (reached-lasts chain.shape _ _ (made-stays chain (made-own chain own come.made) made) g
+        (key_of_call call) table come.reached) is.0;
     below = is.1;
     some = is.2;
     fewer = omega (arith, come.fewer, is.3);
@@ -193,13 +232,16 @@ module _ (chain : ChainOf) {call : Call} {start now after : SeenBy} {first g tri
 
   -- it ends here, and has lost no more tries than others won exchanges
   pub come-end :
-      {calls : List (Call × Reply)} → HasMade chain.shape call now after calls (find_steps chain.shape g + 2 * (min left (passed_since call now after) + 1))
-      → HasMade chain.shape call start after calls (get_steps chain.shape + 2 * min tries (passed_since call start after))
+      {calls : List (Call × Reply)} → HasMade chain.shape call now after calls
+      (find_steps chain.shape g + 2 * (min left (passed_since call now after) + 1))
+      → HasMade chain.shape call start after calls
+      (get_steps chain.shape + 2 * min tries (passed_since call start after))
   come-end {calls} made =
       let bound = write-bound chain.shape own.plan (suc g) table in
       let both = passed-sum call come.made.grown made.grown in
       made-within
-      (written_below chain.shape g + 2 * (tries - left) + (find_steps chain.shape g + 2 * (min left (passed_since call now after) + 1))) _
+      (written_below chain.shape g + 2 * (tries - left)
+      + (find_steps chain.shape g + 2 * (min left (passed_since call now after) + 1))) _
       (omega (arith, bound, both, come.fewer, come.lost))
       (made-then own come.made made)
 
@@ -224,7 +266,8 @@ module _ (chain : ChainOf) {call : Call} {start now after : SeenBy} {first g tri
         let lower : first < generations_of chain.shape = omega (arith, less, table) in
         absurd
         (passed-away chain after (made-own chain then made) first (key_of_call call) lower
-        ((made-stays chain then made).passed first (key_of_call call) lower (come.reached.below first less)) alone.home)
+        ((made-stays chain then made).passed first (key_of_call call) lower
+        (come.reached.below first less)) alone.home)
   ]
     where
       same-or-less : (a b : ℕ) → a ≤ b → (a ≡ b) ⊎ (a < b)
@@ -237,20 +280,33 @@ pub put-bound :
     (p : Plan) (tries passed passed' : ℕ) → 1 ≤ tries → passed ≤ passed'
     → 1 + (get_steps p + 2 * min tries passed) ≤ put_steps p (min tries (passed' + 1))
 put-bound p tries passed passed' some fewer =
-    fits (slots_below p (generations_of p)) (generations_of p) (size_of p (generations_of p - 1)) (min tries passed) (min tries (passed' + 1))
+    fits (slots_below p (generations_of p)) (generations_of p) (size_of p (generations_of p - 1))
+    (min tries passed) (min tries (passed' + 1))
     (omega (arith, some)) (omega (arith, fewer))
   where
-    fits : (t tables n lost most : ℕ) → 1 ≤ most → lost ≤ most → 1 + (8 * (t + tables) * (n + 8) + 2 * lost) ≤ 8 * (t + most + tables) * (n + 8)
+    fits : (t tables n lost most : ℕ) → 1 ≤ most → lost ≤ most
+        → 1 + (8 * (t + tables) * (n + 8) + 2 * lost) ≤ 8 * (t + most + tables) * (n + 8)
     fits t tables n lost most some fewer = omega (arith, some, fewer)
 
--- who was alone with its key at home in the top table that it knew is so in the one that it has loaded
+-- who was alone with its key at home in the top table that it knew is so in the one that it has
+-- loaded
 pub alone-top :
-    {chain : ChainOf} {call : Call} {start then after : SeenBy} {own : List Event} {count : ℕ} (top : ℕ) → IsOwn chain start
-    → Extended chain.shape start then [] 1 → (seen_by chain.shape then).top ≡ top → Grown chain.shape then after own count
+    {chain : ChainOf} {call : Call} {start then after : SeenBy} {own : List Event} {count : ℕ}
+    (top : ℕ) → IsOwn chain start
+    → Extended chain.shape start then [] 1 → (seen_by chain.shape then).top ≡ top
+    → Grown chain.shape then after own count
     → IsSeenAlone chain.shape call start after → IsAloneAtHome chain.shape top call then after
 alone-top {chain} {call} {start} {then} {after} top own load is grown alone =
     let mine = steps_add_up.own own (steps_add_up.one load) in
     let same : (seen_by chain.shape after).top ≡ top =
-    omega (arith, alone.0, (steps_add_up.stays own (steps_add_up.one load)).top, (steps_add_up.stays mine grown).top, is) in
-    let table = table-within chain then mine top (reached-top chain then mine (key_of_call call) top is).installed in
-    alone-then top table own (steps_add_up.one load) grown (subst (λ g. IsAloneAtHome chain.shape g call start after) same alone.1)
+    omega (
+      arith,
+      alone.0,
+      (steps_add_up.stays own (steps_add_up.one load)).top,
+      (steps_add_up.stays mine grown).top,
+      is,
+    ) in
+    let table = table-within chain then mine top
+    (reached-top chain then mine (key_of_call call) top is).installed in
+    alone-then top table own (steps_add_up.one load) grown
+    (subst (λ g. IsAloneAtHome chain.shape g call start after) same alone.1)

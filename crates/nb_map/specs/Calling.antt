@@ -15,9 +15,10 @@ use Rattle.nb_table.specs.Views.{HasSeen}
 
 -- A moment is given by the history until then, the newest event first.
 
--- From one moment to a later one a seat claimed a slot of table g before it saw a next table: there was none at a moment between
--- them, and from then on the seat made no event but the claim.
-pub record IsBeforeNext (p : Plan) (before after : List Event) (g : ℕ) (claim : Event) : Type 0 where
+-- From one moment to a later one a seat claimed a slot of table g before it saw a next table: there
+-- was none at a moment between them, and from then on the seat made no event but the claim.
+pub record IsBeforeNext (p : Plan) (before after : List Event) (g : ℕ) (claim : Event) :
+    Type 0 where
   pub seen : List Event
   pub begun : IsBeginning before seen
   pub no_next : IsInstalled (tables_at p seen) (suc g) → ⊥
@@ -25,24 +26,30 @@ pub record IsBeforeNext (p : Plan) (before after : List Event) (g : ℕ) (claim 
   pub rested : HasSeen met (seat_of_event claim) seen
   pub claimed : IsBeginning (claim ∷ met) after
 
--- From one moment to a later one the call may make the event. Copying is free to every call, and the log tells of exchanges and
--- reads. A table is installed, and a slot claimed for a key that has none in the table below, only for the call's own key, and
--- only by a put or an add whose condition holds of an absent key; and the slot only before the seat saw a next table.
+-- From one moment to a later one the call may make the event. Copying is free to every call, and
+-- the log tells of exchanges and reads. A table is installed, and a slot claimed for a key that has
+-- none in the table below, only for the call's own key, and only by a put or an add whose condition
+-- holds of an absent key; and the slot only before the seat saw a next table.
 abbrev pub MayMake : Plan → (before after : List Event) → Call → Event → Type 0
 MayMake p before after call (Claim s g i k) =
     (g < generations_of p)
-    × (HasSlotBelow p (tables_at p after) g k ⊎ ((k ≡ key_of_call call) × Fills call × IsBeforeNext p before after g (Claim s g i k)))
+    × (HasSlotBelow p (tables_at p after) g k
+    ⊎ ((k ≡ key_of_call call) × Fills call × IsBeforeNext p before after g (Claim s g i k)))
 MayMake p before after call (Install s g k) = (k ≡ key_of_call call) × Fills call
 MayMake p before after call _ = Unit {0}
 
--- From one moment to a later one the seat counted as many slots of each table as its events turned finished.
+-- From one moment to a later one the seat counted as many slots of each table as its events turned
+-- finished.
 abbrev pub HasCountedTurned : Plan → (number : ℕ) → (before after : List Event) → Type 0
 HasCountedTurned p number before after =
-    (g : ℕ) → counted_by after number g + turned_by p before number g ≡ counted_by before number g + turned_by p after number g
+    (g : ℕ) → counted_by after number g + turned_by p before number g ≡ counted_by before number g
+    + turned_by p after number g
 
--- Among what the seat has seen anew, its own events are such as the call may make, and its own calls are these, with their
--- replies. What they turned finished they counted. They took at most so many steps.
-pub record HasMade (p : Plan) (call : Call) (before after : SeenBy) (made : List (Call × Reply)) (most : ℕ) : Type 0 where
+-- Among what the seat has seen anew, its own events are such as the call may make, and its own
+-- calls are these, with their replies. What they turned finished they counted. They took at most so
+-- many steps.
+pub record HasMade (p : Plan) (call : Call) (before after : SeenBy) (made : List (Call × Reply))
+    (most : ℕ) : Type 0 where
   pub own : List Event
   pub count : ℕ
   pub grown : Grown p before after own count
@@ -53,7 +60,8 @@ pub record HasMade (p : Plan) (call : Call) (before after : SeenBy) (made : List
 
 -- the same, whichever calls the steps made
 abbrev pub HasStepped : Plan → Call → (before after : SeenBy) → (most : ℕ) → Type 0
-HasStepped p call before after most = (made : List (Call × Reply)) × HasMade p call before after made most
+HasStepped p call before after most = (made : List (Call × Reply))
+    × HasMade p call before after made most
 
 -- the call with its reply, where its key has this number, or none
 abbrev pub as_replied : Call → Option ℕ → List (Call × Reply)

@@ -40,9 +40,9 @@ pub record HasAll (whole : List Entry) (seat : SeatOf) : Type 0 where
   pub is : whole ≡ later ++ log seat
   pub others : calls_of seat.chain.number later ≡ []
 
--- There is one log of all calls, and it is replayed. Each seat's log is a beginning of it with all the seat's calls; each number
--- is one seat's, and each call one seat's. The size is what the seats have counted in all, and that is what their calls did to
--- the number of keys.
+-- There is one log of all calls, and it is replayed. Each seat's log is a beginning of it with all
+-- the seat's calls; each number is one seat's, and each call one seat's. The size is what the seats
+-- have counted in all, and that is what their calls did to the number of keys.
 pub record EndedWith (seats : List SeatOf) (ended : EndedOf) : Type 0 where
   pub replayed : IsReplayed (log_left ended)
   pub logs : All (HasAll (log_left ended)) seats
@@ -51,14 +51,15 @@ pub record EndedWith (seats : List SeatOf) (ended : EndedOf) : Type 0 where
   pub counted : pos ended.size ≡ total_of (map (λ seat. seat.count) seats)
   pub size : pos ended.size ≡ net_of_seats (log_left ended) (length seats)
 
--- what is left of the tables: their shape, and the history that left them, of which each seat has seen a beginning with all its
--- own events
+-- what is left of the tables: their shape, and the history that left them, of which each seat has
+-- seen a beginning with all its own events
 pub record HasTablesLeft (p : Plan) (seats : List SeatOf) (ended : EndedOf) : Type 0 where
   pub shape : ended.tables.shape ≡ p
   pub left : IsLeft ended.tables
   pub seen : All (λ seat. HasSeen ended.tables.history seat.chain.number seat.chain.seen) seats
 
 -- the seats are parted in those of the chain and those of the counter
-pub record IsParted (seats : List SeatOf) (chains : List SeenBy) (counts : List CountSeatOf) : Type 0 where
+pub record IsParted (seats : List SeatOf) (chains : List SeenBy) (counts : List CountSeatOf) :
+    Type 0 where
   pub of_chain : chains ≡ map (λ seat. seat.chain) seats
   pub of_counter : counts ≡ map (λ seat. seat.count) seats

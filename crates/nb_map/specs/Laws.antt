@@ -9,11 +9,13 @@ use Rattle.nb_map.specs.Maps.{IsMine, MapOf, SeatOf}
 -- The reply of a call that a seat made is the call's for what was at its key.
 abbrev pub RepliesFit : Type 0
 RepliesFit =
-    (before after : SeatOf) (call : Call) (reply : Reply) → HasReplied call before after reply → reply ≡ reply_at call reply.before
+    (before after : SeatOf) (call : Call) (reply : Reply) → HasReplied call before after reply
+    → reply ≡ reply_at call reply.before
 
 -- Calls add up: none, and some after others.
 pub record LogsAddUp : Type 0 where
   pub none : {map : MapOf} {seat : SeatOf} → IsMine map seat → HasLogged seat seat []
   pub more :
-      {before then after : SeatOf} {made made' : List (Call × Reply)} → HasLogged before then made → HasLogged then after made'
+      {before then after : SeatOf} {made made' : List (Call × Reply)} → HasLogged before then made
+      → HasLogged then after made'
       → HasLogged before after (made' ++ made)

@@ -53,10 +53,15 @@ count_steps net = 1
 -- a counter's seat after calls that did this to the number of keys
 abbrev pub accounted : ℤ → CountSeatOf → CountSeatOf
 accounted net count =
-    record count { added = count.added +ℤ net; adds = count.adds + count_steps net; steps = count.steps + count_steps net }
+    record count {
+      added = count.added +ℤ net;
+      adds = count.adds + count_steps net;
+      steps =
+          count.steps + count_steps net;
+    }
 
--- The seat's events were such as this call may make, in at most so many steps on the chain. On the counter it made no step, or
--- one that added what the call did to the number of keys.
+-- The seat's events were such as this call may make, in at most so many steps on the chain. On the
+-- counter it made no step, or one that added what the call did to the number of keys.
 pub record HasWorked (map : MapOf) (call : Call) (before after : SeatOf) (most : ℕ) : Type 0 where
   pub steps : HasStepped map.chain.shape call before.chain after.chain most
   pub net : ℤ

@@ -21,15 +21,15 @@ use Rattle.nb_map.specs.declared.write.Target.TheVariants as target
 use Rattle.nb_map.specs.declared.write.Written.{Written}
 use Rattle.nb_map.specs.declared.write.Written.TheVariants as written
 
--- Why a write that tries again for as long as it takes may be refused. It is full only where the call puts a number at an
--- absent key, and other keys have all slots of the last table; and past the range only where it is an add whose sum is, in
--- the map that the log leaves at the refusal.
+-- Why a write that tries again for as long as it takes may be refused. It is full only where the
+-- call puts a number at an absent key, and other keys have all slots of the last table; and past
+-- the range only where it is an add whose sum is, in the map that the log leaves at the refusal.
 abbrev pub IsJustAdd : Plan → Call → SeenBy → AddFault → Type 0
 IsJustAdd p call after add_fault.Full = Fills call × IsCrowded p after.seen (key_of_call call)
 IsJustAdd p call after add_fault.ValueRange = overflows call (map_of_log (log_of after.seen)) ≡ true
 
--- Why a write with so many tries may be refused: for these reasons, and contended only where others have won as many
--- exchanges on the key since it began.
+-- Why a write with so many tries may be refused: for these reasons, and contended only where others
+-- have won as many exchanges on the key since it began.
 abbrev pub IsJust : Plan → Call → (before after : SeenBy) → (tries : ℕ) → PutFault → Type 0
 IsJust p call before after tries fault.Full = IsJustAdd p call after add_fault.Full
 IsJust p call before after tries fault.Contended = tries ≤ passed_since call before after
@@ -42,7 +42,8 @@ made_in call (Err fault) = []
 
 -- the seat has made no call, and the refusal is just
 abbrev pub HasRefused : MapOf → Call → (before after : SeatOf) → AddFault → Type 0
-HasRefused map call before after fault = HasLogged before after [] × IsJustAdd map.chain.shape call after.chain fault
+HasRefused map call before after fault = HasLogged before after []
+    × IsJustAdd map.chain.shape call after.chain fault
 
 -- ---- in one table
 
@@ -50,7 +51,8 @@ HasRefused map call before after fault = HasLogged before after [] × IsJustAdd 
 abbrev pub IsTarget : Plan → Call → SeenBy → (g k : ℕ) → Target → Type 0
 IsTarget p call seat g k (target.Slot i) = IsSlotOf p (seen_by p seat) g i k
 IsTarget p call seat g k (target.Absent reply) = Unit {0}
-IsTarget p call seat g k (target.Above below) = IsAbove p (seen_by p seat) g k × HasBelow p (seen_by p seat) (suc g) k below
+IsTarget p call seat g k (target.Above below) = IsAbove p (seen_by p seat) g k
+    × HasBelow p (seen_by p seat) (suc g) k below
 IsTarget p call seat g k target.Full = Fills call × IsCrowded p seat.seen k
 
 -- the call, where the search was its read
@@ -60,13 +62,17 @@ made_at call (target.Absent reply) = (call, reply) ∷ []
 made_at call (target.Above below) = []
 made_at call target.Full = []
 
--- What the seat has seen where a write with so many tries came to this in table g: a reason for its refusal; or that it goes
--- on in the next table, with as many tries fewer at most as others won exchanges.
+-- What the seat has seen where a write with so many tries came to this in table g: a reason for its
+-- refusal; or that it goes on in the next table, with as many tries fewer at most as others won
+-- exchanges.
 abbrev pub IsWritten : Plan → Call → (before after : SeenBy) → (g tries : ℕ) → Written → Type 0
 IsWritten p call before after g tries (written.Replied reply) = Unit {0}
-IsWritten p call before after g tries (written.Refused fault) = IsJust p call before after tries fault
+IsWritten p call before after g tries (written.Refused fault) =
+    IsJust p call before after tries fault
 IsWritten p call before after g tries (written.Above below left) =
-    IsAbove p (seen_by p after) g (key_of_call call) × HasBelow p (seen_by p after) (suc g) (key_of_call call) below × (1 ≤ left) × (left ≤ tries)
+    IsAbove p (seen_by p after) g (key_of_call call)
+    × HasBelow p (seen_by p after) (suc g) (key_of_call call) below × (1 ≤ left)
+    × (left ≤ tries)
     × (tries ≤ left + passed_since call before after)
 
 -- the call, where it was made
@@ -77,9 +83,9 @@ made_by call (written.Above below left) = []
 
 -- ---- bounds of steps
 
--- The most steps at a slot, where the write had so many tries and others won so many exchanges on its key: a load and an
--- exchange for each try that was lost and for one more. Where it goes on in the next table, it has lost the tries that are
--- gone, and there is the end of a copy.
+-- The most steps at a slot, where the write had so many tries and others won so many exchanges on
+-- its key: a load and an exchange for each try that was lost and for one more. Where it goes on in
+-- the next table, it has lost the tries that are gone, and there is the end of a copy.
 abbrev pub exchange_steps : Plan → (g tries passed : ℕ) → Written → ℕ
 exchange_steps p g tries passed (written.Replied reply) = 2 * (min tries passed + 1)
 exchange_steps p g tries passed (written.Refused fault) = 2 * (min tries passed + 1)
@@ -89,11 +95,15 @@ exchange_steps p g tries passed (written.Above below left) = 2 * (tries - left +
 abbrev pub write_steps : Plan → (g tries passed : ℕ) → Written → ℕ
 write_steps p g tries passed written = find_steps p g + exchange_steps p g tries passed written
 
--- the most steps of a write, with T slots in all tables, G tables, and N slots in the last one: 8 (T + tries + G) (N + 8)
+-- the most steps of a write, with T slots in all tables, G tables, and N slots in the last one: 8
+-- (T + tries + G) (N + 8)
 abbrev pub put_steps : Plan → (tries : ℕ) → ℕ
-put_steps p tries = 8 * (slots_below p (generations_of p) + tries + generations_of p) * (size_of p (generations_of p - 1) + 8)
+put_steps p tries = 8 * (slots_below p (generations_of p) + tries + generations_of p)
+    * (size_of p (generations_of p - 1) + 8)
 
--- The call has worked for no longer than a write with as many tries as others won exchanges on its key meanwhile, and one more.
--- So it is lock-free: only where another write came first does it work for longer than T, G and N say.
+-- The call has worked for no longer than a write with as many tries as others won exchanges on its
+-- key meanwhile, and one more. So it is lock-free: only where another write came first does it work
+-- for longer than T, G and N say.
 abbrev pub IsLockFree : MapOf → Call → (before after : SeatOf) → Type 0
-IsLockFree map call before after = HasWorked map call before after (put_steps map.chain.shape (passed_since call before.chain after.chain + 1))
+IsLockFree map call before after = HasWorked map call before after
+    (put_steps map.chain.shape (passed_since call before.chain after.chain + 1))

@@ -22,16 +22,19 @@ IsSlotOf p t g i k = (i < size_of p g) × (t.key g i ≡ Claimed k)
 
 -- the key's path in this table is closed, behind slots of other keys
 abbrev pub IsClosedTo : Plan → Tables → (g k : ℕ) → Type 0
-IsClosedTo p t g k = (d : ℕ) × (d < size_of p g) × AreOthers p t g k d × (t.key g (path_slot p g k d) ≡ Dead)
+IsClosedTo p t g k = (d : ℕ) × (d < size_of p g) × AreOthers p t g k d
+    × (t.key g (path_slot p g k d) ≡ Dead)
 
 -- the tables show that a probe of the key's path in this table ends here
 abbrev pub EndsAt : Plan → Tables → (g k : ℕ) → PathEnd → Type 0
 EndsAt p t g k (ends.Slot i) = IsSlotOf p t g i k
-EndsAt p t g k (ends.Empty d) = (d < size_of p g) × AreOthers p t g k d × (t.key g (path_slot p g k d) ≡ Empty)
+EndsAt p t g k (ends.Empty d) = (d < size_of p g) × AreOthers p t g k d
+    × (t.key g (path_slot p g k d) ≡ Empty)
 EndsAt p t g k ends.Closed = IsClosedTo p t g k × IsInstalled t (suc g)
 EndsAt p t g k ends.Whole = AreOthers p t g k (size_of p g)
 
--- the read that the probe was, for a call that leaves an absent key alone: at an empty slot, and at the end of the last table
+-- the read that the probe was, for a call that leaves an absent key alone: at an empty slot, and at
+-- the end of the last table
 abbrev pub read_at : Plan → ℕ → Call → PathEnd → List (Call × Reply)
 read_at p g call (ends.Slot i) = []
 read_at p g call (ends.Empty d) = read_of call None

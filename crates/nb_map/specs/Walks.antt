@@ -20,8 +20,8 @@ use Rattle.nb_map.specs.declared.walk.Place.TheVariants.{Slot, End}
 
 -- ---- places
 
--- One place comes before another, as a walk meets them: in an earlier table, or in an earlier slot of the same one. The end
--- comes after all.
+-- One place comes before another, as a walk meets them: in an earlier table, or in an earlier slot
+-- of the same one. The end comes after all.
 abbrev pub IsBefore : Place → Place → Type 0
 IsBefore End later = ⊥
 IsBefore (Slot g i) End = Unit {0}
@@ -44,7 +44,8 @@ pub record WalkOf : Type 0 where
   pub first : ℕ
   pub place : Place
 
--- A walk may have this table for its first: the seat has seen that all tables below it are complete.
+-- A walk may have this table for its first: the seat has seen that all tables below it are
+-- complete.
 pub record IsFirstTable (p : Plan) (seat : SeenBy) (first : ℕ) : Type 0 where
   pub table : first < generations_of p
   pub complete : (g : ℕ) → g < first → IsComplete p (seen_by p seat) g
@@ -59,8 +60,8 @@ pub record IsLater (before after : SeatOf) : Type 0 where
   pub number : after.chain.number ≡ before.chain.number
   pub seen : IsBeginning before.chain.seen after.chain.seen
 
--- The walk is of this map, and this seat began it. The seat has seen that the tables below the walk's first one are complete,
--- and that the table of its place is there.
+-- The walk is of this map, and this seat began it. The seat has seen that the tables below the
+-- walk's first one are complete, and that the table of its place is there.
 pub record IsWalkOf (m : MapOf) (seat : SeatOf) (walk : WalkOf) : Type 0 where
   pub chain : walk.begun.chain.chain ≡ m.chain.id
   pub later : IsLater walk.begun seat
@@ -75,7 +76,8 @@ begun_by m seat =
 
 -- ---- what it shows
 
--- the key's first place from the walk's first table on comes at or after the one of two places, and before the other
+-- the key's first place from the walk's first table on comes at or after the one of two places, and
+-- before the other
 abbrev pub IsPassedOver : Plan → SeenBy → (first : ℕ) → (from to : Place) → ℕ → Type 0
 IsPassedOver p seat first from to k =
     (g : ℕ) × (i : ℕ) × (place_of p seat.seen first k ≡ Some (g, i)) × IsBetween from to g i
@@ -85,16 +87,20 @@ abbrev pub IsShown : ℕ → Option (ℕ × ℕ) → Type 0
 IsShown k None = ⊥
 IsShown k (Some pair) = pair.0 ≡ k
 
--- From one moment of a seat to a later one a walk went on from one place to another. It passed over the key that it shows, if it
--- shows one, and over no other key that the map had all the while.
-pub record HasPassed (p : Plan) (before after : SeenBy) (first : ℕ) (from to : Place) (shown : Option (ℕ × ℕ)) : Type 0 where
+-- From one moment of a seat to a later one a walk went on from one place to another. It passed over
+-- the key that it shows, if it shows one, and over no other key that the map had all the while.
+pub record HasPassed (p : Plan) (before after : SeenBy) (first : ℕ) (from to : Place)
+    (shown : Option (ℕ × ℕ)) : Type 0 where
   pub onward : IsBefore to from → ⊥
   pub shows : IfSome shown (λ pair. IsPassedOver p after first from to pair.0)
   pub all :
-      (k : ℕ) → HeldThrough (log_of before.seen) (log_of after.seen) k → IsPassedOver p after first from to k → IsShown k shown
+      (k : ℕ) → HeldThrough (log_of before.seen) (log_of after.seen) k
+      → IsPassedOver p after first from to k → IsShown k shown
 
--- It did so as this walk, which is then at the place that it went to: at the end, where it shows nothing.
-pub record HasWalked (p : Plan) (before after : SeatOf) (walk walk' : WalkOf) (shown : Option (ℕ × ℕ)) : Type 0 where
+-- It did so as this walk, which is then at the place that it went to: at the end, where it shows
+-- nothing.
+pub record HasWalked (p : Plan) (before after : SeatOf) (walk walk' : WalkOf)
+    (shown : Option (ℕ × ℕ)) : Type 0 where
   pub later : IsLater before after
   pub begun : walk'.begun ≡ walk.begun
   pub first : walk'.first ≡ walk.first
@@ -110,81 +116,96 @@ hit (Some pair) = as_replied (Get pair.0) (Some pair.1)
 abbrev pub IsMiss : Call × Reply → Type 0
 IsMiss made = (k : ℕ) × (made ≡ (Get k, reply_at (Get k) None))
 
--- The seat has made reads alone: at last the one of the pair that is shown, and before it such as found nothing.
+-- The seat has made reads alone: at last the one of the pair that is shown, and before it such as
+-- found nothing.
 pub record HasRead (before after : SeatOf) (shown : Option (ℕ × ℕ)) : Type 0 where
   pub misses : List (Call × Reply)
   pub missed : All IsMiss misses
   pub logged : HasLogged before after (hit shown ++ misses)
 
--- the most steps from one place of a walk to another, with T slots in all tables and B the bound of a read: T + B + 4 for each
--- slot, so T (T + B + 4) for all calls of a walk together
+-- the most steps from one place of a walk to another, with T slots in all tables and B the bound of
+-- a read: T + B + 4 for each slot, so T (T + B + 4) for all calls of a walk together
 abbrev pub passing_steps : Plan → (from to : Place) → ℕ
-passing_steps p from to = (slots_ahead p from - slots_ahead p to) * (slots_below p (generations_of p) + get_steps p + 4)
+passing_steps p from to = (slots_ahead p from - slots_ahead p to)
+    * (slots_below p (generations_of p) + get_steps p + 4)
 
 -- ---- a whole walk
 
--- What a walk has shown so far, the newest pair first: nothing as it begins, no more after other calls of its seat, and after
--- each call of its own what that shows.
+-- What a walk has shown so far, the newest pair first: nothing as it begins, no more after other
+-- calls of its seat, and after each call of its own what that shows.
 pub data IsUnderway (m : MapOf) : SeatOf → WalkOf → List (ℕ × ℕ) → Type 0 where
   Begun : {seat : SeatOf} → IsMine m seat → IsUnderway m seat (begun_by m seat) []
   Rested :
-      {before after : SeatOf} {walk : WalkOf} {shown : List (ℕ × ℕ)} → IsUnderway m before walk shown → IsMine m after → IsLater before after
+      {before after : SeatOf} {walk : WalkOf} {shown : List (ℕ × ℕ)}
+      → IsUnderway m before walk shown → IsMine m after → IsLater before after
       → IsUnderway m after walk shown
   Showed :
-      {before after : SeatOf} {walk walk' : WalkOf} {shown : List (ℕ × ℕ)} {pair : ℕ × ℕ} → IsUnderway m before walk shown → IsMine m after
-      → HasRead before after (Some pair) → HasWalked m.chain.shape before after walk walk' (Some pair)
+      {before after : SeatOf} {walk walk' : WalkOf} {shown : List (ℕ × ℕ)} {pair : ℕ × ℕ}
+      → IsUnderway m before walk shown → IsMine m after
+      → HasRead before after (Some pair) → HasWalked m.chain.shape before after walk walk'
+      (Some pair)
       → IsUnderway m after walk' (pair ∷ shown)
   Ended :
-      {before after : SeatOf} {walk walk' : WalkOf} {shown : List (ℕ × ℕ)} → IsUnderway m before walk shown → IsMine m after
+      {before after : SeatOf} {walk walk' : WalkOf} {shown : List (ℕ × ℕ)}
+      → IsUnderway m before walk shown → IsMine m after
       → HasWalked m.chain.shape before after walk walk' None → IsUnderway m after walk' shown
 
--- What a whole walk has shown, from its seat's log as it began to that as it ended: no key twice; pairs that the seat has read
--- meanwhile; and each key that the map had all the while.
+-- What a whole walk has shown, from its seat's log as it began to that as it ended: no key twice;
+-- pairs that the seat has read meanwhile; and each key that the map had all the while.
 pub record HasShownAll (begun ended : SeatOf) (shown : List (ℕ × ℕ)) : Type 0 where
   pub once : IsDistinct (λ a b. a == b) (map (λ pair. pair.0) shown)
   pub made : List (Call × Reply)
   pub logged : HasLogged begun ended made
   pub read : All (λ pair. Contains made (Get pair.0, reply_at (Get pair.0) (Some pair.1))) shown
-  pub held : (k : ℕ) → HeldThrough (log begun) (log ended) k → Contains (map (λ pair. pair.0) shown) k
+  pub held : (k : ℕ) → HeldThrough (log begun) (log ended) k
+      → Contains (map (λ pair. pair.0) shown) k
 
--- A whole walk shows no key twice, what its seat has read, and each key that the map had all the while.
+-- A whole walk shows no key twice, what its seat has read, and each key that the map had all the
+-- while.
 abbrev pub WholeWalk : Type 0
 WholeWalk =
-    (m : MapOf) (seat : SeatOf) (walk : WalkOf) (shown : List (ℕ × ℕ)) → IsUnderway m seat walk shown → walk.place ≡ End
+    (m : MapOf) (seat : SeatOf) (walk : WalkOf) (shown : List (ℕ × ℕ))
+    → IsUnderway m seat walk shown → walk.place ≡ End
     → HasShownAll walk.begun seat shown
 
 -- A walk is its seat's also after other calls of the seat.
 pub record WalkLasts : Type 0 where
   pub later :
-      {m : MapOf} {call : Call} {before after : SeatOf} {most : ℕ} → HasWorked m call before after most → IsLater before after
+      {m : MapOf} {call : Call} {before after : SeatOf} {most : ℕ}
+      → HasWorked m call before after most → IsLater before after
   pub lasts :
-      {m : MapOf} {before after : SeatOf} {walk : WalkOf} → IsWalkOf m before walk → IsMine m after → IsLater before after
+      {m : MapOf} {before after : SeatOf} {walk : WalkOf} → IsWalkOf m before walk → IsMine m after
+      → IsLater before after
       → IsWalkOf m after walk
 
 -- ---- in one table
 
--- the key has no slot in the table and is passed there: its path is closed behind slots of other keys, or theirs as a whole
+-- the key has no slot in the table and is passed there: its path is closed behind slots of other
+-- keys, or theirs as a whole
 abbrev pub IsAway : Plan → Tables → (g k : ℕ) → Type 0
 IsAway p t g k = IsClosedTo p t g k ⊎ AreOthers p t g k (size_of p g)
 
--- whether the key has a slot in a table from the walk's first one on, but before table g; if not, it is away from all these
+-- whether the key has a slot in a table from the walk's first one on, but before table g; if not,
+-- it is away from all these
 abbrev pub IsEarlier : Plan → Tables → (first g k : ℕ) → Bool → Type 0
 IsEarlier p t first g k true = (f : ℕ) × (first ≤ f) × (f < g) × HasSlot p t f k
 IsEarlier p t first g k false = (f : ℕ) → first ≤ f → f < g → IsAway p t f k
 
--- the slot is the first place of this key from the walk's first table on, and a search for the key may have come there; or it is
--- the first place of none
+-- the slot is the first place of this key from the walk's first table on, and a search for the key
+-- may have come there; or it is the first place of none
 abbrev pub IsFirstOf : Plan → SeenBy → (first g i : ℕ) → Option ℕ → Type 0
 IsFirstOf p seat first g i None = (k : ℕ) → place_of p seat.seen first k ≡ Some (g, i) → ⊥
-IsFirstOf p seat first g i (Some k) = (place_of p seat.seen first k ≡ Some (g, i)) × IsReached p (seen_by p seat) g k
+IsFirstOf p seat first g i (Some k) = (place_of p seat.seen first k ≡ Some (g, i))
+    × IsReached p (seen_by p seat) g k
 
 -- the most steps at one slot: its key, a search for the key in the tables before, and a read of it
 abbrev pub visit_steps : Plan → ℕ
 visit_steps p = slots_below p (generations_of p) + get_steps p + 1
 
--- A seat's steps took a walk from one place to another: with reads alone, at last the one of the pair that is shown, in at most
--- so many steps.
-pub record HasGone (p : Plan) (before after : SeenBy) (first : ℕ) (from to : Place) (shown : Option (ℕ × ℕ)) (most : ℕ) : Type 0 where
+-- A seat's steps took a walk from one place to another: with reads alone, at last the one of the
+-- pair that is shown, in at most so many steps.
+pub record HasGone (p : Plan) (before after : SeenBy) (first : ℕ) (from to : Place)
+    (shown : Option (ℕ × ℕ)) (most : ℕ) : Type 0 where
   pub misses : List (Call × Reply)
   pub missed : All IsMiss misses
   pub made : (k : ℕ) → HasMade p (Get k) before after (hit shown ++ misses) most

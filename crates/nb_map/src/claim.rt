@@ -39,9 +39,9 @@ pub(crate) enum Found {
     Full,
 }
 
-/// The key's slot in table `g`. Where it has none, one within the limit is claimed for it. If the table is being copied
-/// already, or other keys have the key's path up to the limit, the table is completed and the call goes on in the next one,
-/// which is installed first where it isn't there.
+/// The key's slot in table `g`. Where it has none, one within the limit is claimed for it. If the
+/// table is being copied already, or other keys have the key's path up to the limit, the table is
+/// completed and the call goes on in the next one, which is installed first where it isn't there.
 pub(crate) fn find_or_claim(
     chain: &Chain,
     seat: &mut ChainSeat,
@@ -55,9 +55,11 @@ pub(crate) fn find_or_claim(
     requires acts { Fills call.now }
     requires reached { IsReached chain.now.shape (seen_by chain.now.shape seat.old) g key }
     requires below { HasBelow chain.now.shape (seen_by chain.now.shape seat.old) g key below }
-    ensures made { HasMade chain.now.shape call.now seat.old seat.new [] (find_steps chain.now.shape g) }
+    ensures made { HasMade chain.now.shape call.now seat.old seat.new []
+        (find_steps chain.now.shape g) }
     ensures found { IsFound chain.now.shape seat.new g key result }
-    ensures short { IsHomeSlot chain.now.shape (seen_by chain.now.shape seat.old) g key → seat.new.steps ≤ seat.old.steps + 1 }
+    ensures short { IsHomeSlot chain.now.shape (seen_by chain.now.shape seat.old) g key
+        → seat.new.steps ≤ seat.old.steps + 1 }
 {
     let mut below = below;
     let mut from = 0;
@@ -77,8 +79,9 @@ pub(crate) fn find_or_claim(
     }
 }
 
-/// Claims the slot at a distance on the key's path in table `g` for it, which was seen empty, if that is within the limit and
-/// the table isn't being copied. `None` says that another key has got the slot.
+/// Claims the slot at a distance on the key's path in table `g` for it, which was seen empty, if
+/// that is within the limit and the table isn't being copied. `None` says that another key has got
+/// the slot.
 #[tactic(auto, using(nb_core::proofs::Theorems::linked))]
 fn claim_at(
     chain: &Chain,
@@ -97,7 +100,8 @@ fn claim_at(
     requires known { below ≢ below_is.Passed }
     requires near { distance < size_of chain.now.shape g }
     requires others { AreOthers chain.now.shape (seen_by chain.now.shape seat.old) g key distance }
-    ensures found { IfSome result (λ found. HasMade chain.now.shape call.now seat.old seat.new [] (2 + grow_steps chain.now.shape g below)
+    ensures found { IfSome result (λ found. HasMade chain.now.shape call.now seat.old seat.new []
+        (2 + grow_steps chain.now.shape g below)
         × IsFound chain.now.shape seat.new g key found) }
     ensures other { IfNone result (HasMade chain.now.shape call.now seat.old seat.new [] 2
         × AreOthers chain.now.shape (seen_by chain.now.shape seat.new) g key (distance + 1)) }
@@ -124,8 +128,8 @@ fn claim_at(
     }
 }
 
-/// What a search comes to where other keys have the key's whole path in table `g`: in the last table there is no slot for the
-/// key; else it goes on in the next one.
+/// What a search comes to where other keys have the key's whole path in table `g`: in the last
+/// table there is no slot for the key; else it goes on in the next one.
 #[tactic(auto, using(nb_core::proofs::Theorems::linked))]
 fn leave_whole(
     chain: &Chain,
@@ -140,8 +144,10 @@ fn leave_whole(
     requires acts { Fills call.now }
     requires installed { IsInstalled (seen_by chain.now.shape seat.old) g }
     requires below { HasBelow chain.now.shape (seen_by chain.now.shape seat.old) g key below }
-    requires others { AreOthers chain.now.shape (seen_by chain.now.shape seat.old) g key (size_of chain.now.shape g) }
-    ensures made { HasMade chain.now.shape call.now seat.old seat.new [] (grow_steps chain.now.shape g below) }
+    requires others { AreOthers chain.now.shape (seen_by chain.now.shape seat.old) g key
+        (size_of chain.now.shape g) }
+    ensures made { HasMade chain.now.shape call.now seat.old seat.new []
+        (grow_steps chain.now.shape g below) }
     ensures found { IsFound chain.now.shape seat.new g key result }
 {
     if g + 1 == chain.shape().generations() {
@@ -151,7 +157,8 @@ fn leave_whole(
     Found::Above(Below::Complete)
 }
 
-/// Installs the table above `g`, if it isn't there, and completes table `g`. Other keys have the key's path up to the limit.
+/// Installs the table above `g`, if it isn't there, and completes table `g`. Other keys have the
+/// key's path up to the limit.
 fn grow(chain: &Chain, seat: &mut ChainSeat, g: u32, key: Key, call: &Call, below: Below)
     requires own { IsOwn chain.now seat.old }
     requires key { key_of_call call.now ≡ key }
@@ -159,9 +166,12 @@ fn grow(chain: &Chain, seat: &mut ChainSeat, g: u32, key: Key, call: &Call, belo
     requires room { suc g < generations_of chain.now.shape }
     requires installed { IsInstalled (seen_by chain.now.shape seat.old) g }
     requires below { HasBelow chain.now.shape (seen_by chain.now.shape seat.old) g key below }
-    requires crowded { AreOthers chain.now.shape (seen_by chain.now.shape seat.old) g key (limit_of chain.now.shape g) }
-    ensures made { HasMade chain.now.shape call.now seat.old seat.new [] (grow_steps chain.now.shape g below) }
-    ensures complete { IsComplete chain.now.shape (seen_by chain.now.shape seat.new) g × IsInstalled (seen_by chain.now.shape seat.new) (suc g) }
+    requires crowded { AreOthers chain.now.shape (seen_by chain.now.shape seat.old) g key
+        (limit_of chain.now.shape g) }
+    ensures made { HasMade chain.now.shape call.now seat.old seat.new []
+        (grow_steps chain.now.shape g below) }
+    ensures complete { IsComplete chain.now.shape (seen_by chain.now.shape seat.new) g
+        × IsInstalled (seen_by chain.now.shape seat.new) (suc g) }
 {
     if !chain.load_next(seat, g, None) {
         make_ready(chain, seat, g, below);
@@ -170,8 +180,8 @@ fn grow(chain: &Chain, seat: &mut ChainSeat, g: u32, key: Key, call: &Call, belo
     complete(chain, seat, g);
 }
 
-/// What a call knows of the table below `g` before it claims a slot in `g`. Where it knew no more than that its key is passed
-/// there, that table is completed.
+/// What a call knows of the table below `g` before it claims a slot in `g`. Where it knew no more
+/// than that its key is passed there, that table is completed.
 fn settle_below(chain: &Chain, seat: &mut ChainSeat, g: u32, below: Below) -> Below
     requires own { IsOwn chain.now seat.old }
     requires installed { IsInstalled (seen_by chain.now.shape seat.old) g }
@@ -179,7 +189,8 @@ fn settle_below(chain: &Chain, seat: &mut ChainSeat, g: u32, below: Below) -> Be
         (owed_below chain.now.shape g below - owed_below chain.now.shape g result) }
     ensures own { IsOwn chain.now seat.new }
     ensures fewer { owed_below chain.now.shape g result ≤ owed_below chain.now.shape g below }
-    ensures below { (key : ℕ) → HasBelow chain.now.shape (seen_by chain.now.shape seat.old) g key below
+    ensures below { (key : ℕ) → HasBelow chain.now.shape (seen_by chain.now.shape seat.old)
+        g key below
         → HasBelow chain.now.shape (seen_by chain.now.shape seat.new) g key result }
     ensures known { result ≢ below_is.Passed }
 {
@@ -194,8 +205,10 @@ fn settle_below(chain: &Chain, seat: &mut ChainSeat, g: u32, below: Below) -> Be
 fn make_ready(chain: &Chain, seat: &mut ChainSeat, g: u32, below: Below)
     requires own { IsOwn chain.now seat.old }
     requires installed { IsInstalled (seen_by chain.now.shape seat.old) g }
-    requires below { (below ≡ below_is.Complete) → IsReady chain.now.shape (seen_by chain.now.shape seat.old) g }
-    ensures made { (call : Call) → HasMade chain.now.shape call seat.old seat.new [] (owed_below chain.now.shape g below) }
+    requires below { (below ≡ below_is.Complete)
+        → IsReady chain.now.shape (seen_by chain.now.shape seat.old) g }
+    ensures made { (call : Call) → HasMade chain.now.shape call seat.old seat.new []
+        (owed_below chain.now.shape g below) }
     ensures own { IsOwn chain.now seat.new }
     ensures ready { IsReady chain.now.shape (seen_by chain.now.shape seat.new) g }
 {

@@ -12,8 +12,8 @@ use nb_table::{ChainSeat, Closed};
 use std::alloc::Global;
 use std::marker::Model;
 
-/// A map that no thread shares any more. Contracts see what is left of its tables, and with it the log of all calls that were
-/// made, and what its seats counted.
+/// A map that no thread shares any more. Contracts see what is left of its tables, and with it the
+/// log of all calls that were made, and what its seats counted.
 #[derive(Drop)]
 pub struct Ended {
     pub(crate) closed: Closed,
@@ -33,8 +33,8 @@ impl Model for Ended {
 }
 
 impl Ended {
-    /// Reminds a proof that the log is replayed, and that a legal history left the tables, so that it may use an ended map without
-    /// remembering `finish`. It does nothing.
+    /// Reminds a proof that the log is replayed, and that a legal history left the tables, so that
+    /// it may use an ended map without remembering `finish`. It does nothing.
     pub fn known(&self)
         ensures replayed { IsReplayed (log_left self.now) }
         ensures left { IsLeft self.now.tables }
@@ -57,7 +57,8 @@ impl Ended {
         self.closed.get(key)
     }
 
-    /// The map's keys with their numbers, ascending by key. It takes memory for a plain map of them and for the vector.
+    /// The map's keys with their numbers, ascending by key. It takes memory for a plain map of them
+    /// and for the vector.
     pub fn entries(&self, alloc: Global) -> Result<Vec<(Key, Num)>, OutOfMemory>
         ensures { IfOk result (λ entries. entries.items ≡ map.entries (map_left self.now)) }
     {
@@ -72,7 +73,8 @@ pub(crate) fn parted(
     count_seats: Vec<CountSeat>,
 ) -> (Vec<ChainSeat>, Vec<CountSeat>)
     requires empty { (chain_seats.items ≡ []) × (count_seats.items ≡ []) }
-    requires room { (length seats.items ≤ vec_capacity chain_seats) × (length seats.items ≤ vec_capacity count_seats) }
+    requires room { (length seats.items ≤ vec_capacity chain_seats)
+        × (length seats.items ≤ vec_capacity count_seats) }
     ensures { IsParted seats.items result.0.items result.1.items }
 {
     let mut chain_seats = chain_seats;

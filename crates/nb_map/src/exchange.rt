@@ -18,8 +18,9 @@ use crate::write::{PutFault, Written};
 use nb_core::{Call, Key, Num, Reply, ValueState};
 use nb_table::{Chain, ChainSeat};
 
-/// Makes a write at its key's slot `i` of table `g`: a load decides it, or an exchange of the value that was loaded, which is
-/// tried so many times. Where the slot is finished, it goes on in the next table.
+/// Makes a write at its key's slot `i` of table `g`: a load decides it, or an exchange of the value
+/// that was loaded, which is tried so many times. Where the slot is finished, it goes on in the
+/// next table.
 pub(crate) fn exchange<P: Pause>(
     chain: &Chain,
     seat: &mut ChainSeat,
@@ -70,7 +71,8 @@ pub(crate) fn exchange<P: Pause>(
     Written::Refused(PutFault::Contended)
 }
 
-/// What a value shows of its key: the number in it, or that there is none; once it is primed, nothing.
+/// What a value shows of its key: the number in it, or that there is none; once it is primed,
+/// nothing.
 fn shown(value: &ValueState) -> Option<Option<Num>>
     ensures { result ≡ shown_by_value value.now }
 {

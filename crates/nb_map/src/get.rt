@@ -7,7 +7,16 @@ ghost use Rattle.nb_core.specs.declared.states.KeyState.TheVariants as key_is;
 ghost use Rattle.nb_table.specs.Chains.{IsOwn, seen_by};
 ghost use Rattle.nb_table.specs.Conditions.{IsReached};
 ghost use Rattle.nb_map.specs.Calling.{HasMade, as_replied};
-ghost use Rattle.nb_map.specs.Looking.{IsGlance, IsLook, IsSeenAtHome, get_steps, glanced_by, look_steps, looked_below, read_by};
+ghost use Rattle.nb_map.specs.Looking.{
+  IsGlance,
+  IsLook,
+  IsSeenAtHome,
+  get_steps,
+  glanced_by,
+  look_steps,
+  looked_below,
+  read_by,
+};
 ghost use Rattle.nb_map.specs.Searching.{pass_steps};
 
 use crate::search::{Sought, pass_slot, seek};
@@ -32,14 +41,17 @@ pub(crate) enum Glance {
     From(usize),
 }
 
-/// What the map has at a key, as a `Get` of this seat. In the common case, where the key has its home slot in the top table,
-/// these are three loads: of the top word, of the slot's key and of its value. A number that is being copied is copied first.
+/// What the map has at a key, as a `Get` of this seat. In the common case, where the key has its
+/// home slot in the top table, these are three loads: of the top word, of the slot's key and of its
+/// value. A number that is being copied is copied first.
 #[inline]
 pub fn get_in(chain: &Chain, seat: &mut ChainSeat, key: Key) -> Option<Num>
     requires own { IsOwn chain.now seat.old }
-    ensures made { HasMade chain.now.shape (call.Get key) seat.old seat.new (as_replied (call.Get key) result)
+    ensures made { HasMade chain.now.shape (call.Get key) seat.old seat.new
+        (as_replied (call.Get key) result)
         (get_steps chain.now.shape) }
-    ensures three_steps { IsSeenAtHome chain.now.shape seat.old seat.new key → seat.new.steps ≤ seat.old.steps + 3 }
+    ensures three_steps { IsSeenAtHome chain.now.shape seat.old seat.new key
+        → seat.new.steps ≤ seat.old.steps + 3 }
 {
     let top = chain.load_top(seat);
     match glance_in(chain, seat, top, key) {
@@ -54,7 +66,8 @@ pub fn get_in(chain: &Chain, seat: &mut ChainSeat, key: Key) -> Option<Num>
 fn glance_in(chain: &Chain, seat: &mut ChainSeat, g: u32, key: Key) -> Glance
     requires own { IsOwn chain.now seat.old }
     requires reached { IsReached chain.now.shape (seen_by chain.now.shape seat.old) g key }
-    ensures made { HasMade chain.now.shape (call.Get key) seat.old seat.new (glanced_by (call.Get key) result) 2 }
+    ensures made { HasMade chain.now.shape (call.Get key) seat.old seat.new
+        (glanced_by (call.Get key) result) 2 }
     ensures glance { IsGlance chain.now.shape (seen_by chain.now.shape seat.new) g key result }
 {
     let home = chain.shape().path_slot(g, key, 0);
@@ -79,7 +92,8 @@ fn glance_at(chain: &Chain, seat: &mut ChainSeat, g: u32, i: usize, key: Key) ->
     requires home { path_slot chain.now.shape g key 0 ≡ i }
     requires claimed { (seen_by chain.now.shape seat.old).key g i ≡ key_is.Claimed key }
     requires reached { IsReached chain.now.shape (seen_by chain.now.shape seat.old) g key }
-    ensures made { HasMade chain.now.shape (call.Get key) seat.old seat.new (glanced_by (call.Get key) result) 1 }
+    ensures made { HasMade chain.now.shape (call.Get key) seat.old seat.new
+        (glanced_by (call.Get key) result) 1 }
     ensures glance { IsGlance chain.now.shape (seen_by chain.now.shape seat.new) g key result }
 {
     match chain.load_value(seat, g, i, Some(Call::Get { key })) {
@@ -102,8 +116,10 @@ fn get_from(
     requires own { IsOwn chain.now seat.old }
     requires reached { IsReached chain.now.shape (seen_by chain.now.shape seat.old) first key }
     requires near { distance < size_of chain.now.shape first }
-    requires others { AreOthers chain.now.shape (seen_by chain.now.shape seat.old) first key distance }
-    ensures made { HasMade chain.now.shape (call.Get key) seat.old seat.new (as_replied (call.Get key) result)
+    requires others { AreOthers chain.now.shape (seen_by chain.now.shape seat.old)
+        first key distance }
+    ensures made { HasMade chain.now.shape (call.Get key) seat.old seat.new
+        (as_replied (call.Get key) result)
         (looked_below chain.now.shape (generations_of chain.now.shape)) }
 {
     let mut from = distance;
@@ -123,7 +139,8 @@ pub(crate) fn get_at(chain: &Chain, seat: &mut ChainSeat, g: u32, i: usize, key:
     requires slot { IsSlot chain.now.shape g i }
     requires claimed { (seen_by chain.now.shape seat.old).key g i ≡ key_is.Claimed key }
     requires reached { IsReached chain.now.shape (seen_by chain.now.shape seat.old) g key }
-    ensures made { HasMade chain.now.shape (call.Get key) seat.old seat.new (as_replied (call.Get key) result) (get_steps chain.now.shape) }
+    ensures made { HasMade chain.now.shape (call.Get key) seat.old seat.new
+        (as_replied (call.Get key) result) (get_steps chain.now.shape) }
 {
     match look_at(chain, seat, g, i, key) {
         Look::Shows(number) => number,
@@ -138,7 +155,8 @@ fn look_in(chain: &Chain, seat: &mut ChainSeat, g: u32, key: Key, from: usize) -
     requires reached { IsReached chain.now.shape (seen_by chain.now.shape seat.old) g key }
     requires near { from < size_of chain.now.shape g }
     requires others { AreOthers chain.now.shape (seen_by chain.now.shape seat.old) g key from }
-    ensures made { HasMade chain.now.shape (call.Get key) seat.old seat.new (read_by (call.Get key) result)
+    ensures made { HasMade chain.now.shape (call.Get key) seat.old seat.new
+        (read_by (call.Get key) result)
         (look_steps chain.now.shape g) }
     ensures look { IsLook chain.now.shape (seen_by chain.now.shape seat.new) g key result }
 {
@@ -155,7 +173,8 @@ fn look_at(chain: &Chain, seat: &mut ChainSeat, g: u32, i: usize, key: Key) -> L
     requires slot { IsSlot chain.now.shape g i }
     requires claimed { (seen_by chain.now.shape seat.old).key g i ≡ key_is.Claimed key }
     requires reached { IsReached chain.now.shape (seen_by chain.now.shape seat.old) g key }
-    ensures made { HasMade chain.now.shape (call.Get key) seat.old seat.new (read_by (call.Get key) result)
+    ensures made { HasMade chain.now.shape (call.Get key) seat.old seat.new
+        (read_by (call.Get key) result)
         (pass_steps chain.now.shape g + 1) }
     ensures look { IsLook chain.now.shape (seen_by chain.now.shape seat.new) g key result }
 {

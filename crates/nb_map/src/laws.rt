@@ -1,5 +1,6 @@
-//! What a crate above may rest on while its seats make one call after another. Each function carries a law as its contract, so that
-//! the gate guards it; nobody calls it. A crate above takes the laws as theorems, from `proofs/Theorems.antt`.
+//! What a crate above may rest on while its seats make one call after another. Each function
+//! carries a law as its contract, so that the gate guards it; nobody calls it. A crate above takes
+//! the laws as theorems, from `proofs/Theorems.antt`.
 ghost use Rattle.nb_map.specs.Crowding.{AsksAddUp, CrowdedByCalls};
 ghost use Rattle.nb_map.specs.Laws.{LogsAddUp, RepliesFit};
 ghost use Rattle.nb_map.specs.Walks.{WalkLasts, WholeWalk};
@@ -14,7 +15,8 @@ pub fn replies_fit()
     ensures { RepliesFit }
 {}
 
-/// What seats are asked adds up: a seat claims a key that is new to the tables only for a call that puts a number at it.
+/// What seats are asked adds up: a seat claims a key that is new to the tables only for a call that
+/// puts a number at it.
 pub fn asks_add_up()
     ensures { AsksAddUp }
 {}
@@ -29,7 +31,8 @@ pub fn walk_lasts()
     ensures { WalkLasts }
 {}
 
-/// A whole walk shows no key twice, pairs that its seat has read meanwhile, and each key that the map has all the while.
+/// A whole walk shows no key twice, pairs that its seat has read meanwhile, and each key that the
+/// map has all the while.
 pub fn whole_walk()
     ensures { WholeWalk }
 {}

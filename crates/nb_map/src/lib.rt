@@ -1,7 +1,9 @@
-//! A map from whole numbers to whole numbers that many threads read and write at the same time. Reads and conditional writes
-//! wait for nobody; the calls of `ConcurrentMap` try again while others come first.
+//! A map from whole numbers to whole numbers that many threads read and write at the same time.
+//! Reads and conditional writes wait for nobody; the calls of `ConcurrentMap` try again while
+//! others come first.
 //!
-//! The design is that of Cliff Click's JavaOne 2007 talk and of `NonBlockingHashMapLong` in high-scale-lib.
+//! The design is that of Cliff Click's JavaOne 2007 talk and of `NonBlockingHashMapLong` in
+//! high-scale-lib.
 #![tactic(auto)]
 
 mod claim;

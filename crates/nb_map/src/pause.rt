@@ -3,7 +3,8 @@ ghost use Rattle.nb_table.specs.Chains.{ChainOf};
 
 use nb_table::Chain;
 
-/// Something that is done before each exchange of a write, so that a test may let other seats make steps just then.
+/// Something that is done before each exchange of a write, so that a test may let other seats make
+/// steps just then.
 pub trait Pause {
     /// What the pause needs of the chain: for one that holds seats, that they are the chain's.
     ghost serves: { Self → ChainOf → Type 0 };

@@ -9,7 +9,15 @@ ghost use Rattle.nb_core.specs.declared.states.KeyState.TheVariants as key_is;
 ghost use Rattle.nb_table.specs.Chains.{IsOwn, seen_by};
 ghost use Rattle.nb_table.specs.Conditions.{IsReached};
 ghost use Rattle.nb_map.specs.Calling.{HasMade};
-ghost use Rattle.nb_map.specs.Searching.{EndsAt, IsAbove, IsSought, pass_steps, read_at, read_sought, probe_steps};
+ghost use Rattle.nb_map.specs.Searching.{
+  EndsAt,
+  IsAbove,
+  IsSought,
+  pass_steps,
+  read_at,
+  read_sought,
+  probe_steps,
+};
 
 use nb_copy::copy_and_count;
 use nb_core::{Call, Key, KeyState, ValueState};
@@ -39,8 +47,9 @@ pub(crate) enum Sought {
     Above,
 }
 
-/// Probes the path of a call's key in table `g`, from a distance on: one load for each slot. What the probe comes upon may be
-/// the call's read, so only a call that puts a number at an absent key may begin at the path's end.
+/// Probes the path of a call's key in table `g`, from a distance on: one load for each slot. What
+/// the probe comes upon may be the call's read, so only a call that puts a number at an absent key
+/// may begin at the path's end.
 #[tactic(auto, using(nb_core::proofs::Theorems::linked))]
 pub(crate) fn probe(
     chain: &Chain,
@@ -56,10 +65,12 @@ pub(crate) fn probe(
     requires within { from ≤ size_of chain.now.shape g }
     requires others { AreOthers chain.now.shape (seen_by chain.now.shape seat.old) g key from }
     requires start { (from < size_of chain.now.shape g) ⊎ Fills call.now }
-    ensures made { HasMade chain.now.shape call.now seat.old seat.new (read_at chain.now.shape g call.now result)
+    ensures made { HasMade chain.now.shape call.now seat.old seat.new
+        (read_at chain.now.shape g call.now result)
         (probe_steps chain.now.shape g from result) }
     ensures ends { EndsAt chain.now.shape (seen_by chain.now.shape seat.new) g key result }
-    ensures short { (AreOthers chain.now.shape (seen_by chain.now.shape seat.new) g key 1 → ⊥) → seat.new.steps ≤ seat.old.steps + 1 }
+    ensures short { (AreOthers chain.now.shape (seen_by chain.now.shape seat.new) g key 1 → ⊥)
+        → seat.new.steps ≤ seat.old.steps + 1 }
 {
     for distance in from..chain.shape().size_of(g) {
         let i = chain.shape().path_slot(g, key, distance);
@@ -76,7 +87,8 @@ pub(crate) fn probe(
     PathEnd::Whole
 }
 
-/// Searches table `g` for the key of a call that leaves an absent key alone, from a distance of the key's path on.
+/// Searches table `g` for the key of a call that leaves an absent key alone, from a distance of the
+/// key's path on.
 #[tactic(auto, using(nb_core::proofs::Theorems::linked))]
 pub(crate) fn seek(
     chain: &Chain,
@@ -95,7 +107,8 @@ pub(crate) fn seek(
     ensures made { HasMade chain.now.shape call.now seat.old seat.new (read_sought call.now result)
         (size_of chain.now.shape g - from + 1) }
     ensures sought { IsSought chain.now.shape (seen_by chain.now.shape seat.new) g key result }
-    ensures short { (AreOthers chain.now.shape (seen_by chain.now.shape seat.new) g key 1 → ⊥) → seat.new.steps ≤ seat.old.steps + 1 }
+    ensures short { (AreOthers chain.now.shape (seen_by chain.now.shape seat.new) g key 1 → ⊥)
+        → seat.new.steps ≤ seat.old.steps + 1 }
 {
     match probe(chain, seat, g, key, call, from) {
         PathEnd::Slot(i) => Sought::Slot(i),
@@ -114,14 +127,17 @@ pub(crate) fn seek(
     }
 }
 
-/// Finishes slot `i` of table `g`, which holds this value, primed or final: a call that looks for the slot's key goes on above.
+/// Finishes slot `i` of table `g`, which holds this value, primed or final: a call that looks for
+/// the slot's key goes on above.
 pub(crate) fn pass_slot(chain: &Chain, seat: &mut ChainSeat, g: u32, i: usize, value: ValueState)
     requires own { IsOwn chain.now seat.old }
     requires slot { IsSlot chain.now.shape g i }
     requires primed { IsUnprimed value → ⊥ }
     requires held { (seen_by chain.now.shape seat.old).value g i ≡ value }
-    ensures made { (call : Call) → HasMade chain.now.shape call seat.old seat.new [] (pass_steps chain.now.shape g) }
-    ensures passed { (key : ℕ) → (seen_by chain.now.shape seat.old).key g i ≡ key_is.Claimed key → IsAbove chain.now.shape (seen_by chain.now.shape seat.new) g key }
+    ensures made { (call : Call) → HasMade chain.now.shape call seat.old seat.new []
+        (pass_steps chain.now.shape g) }
+    ensures passed { (key : ℕ) → (seen_by chain.now.shape seat.old).key g i ≡ key_is.Claimed key
+        → IsAbove chain.now.shape (seen_by chain.now.shape seat.new) g key }
 {
     if !value.is_finished() {
         copy_and_count(chain, seat, g, i);

@@ -1,6 +1,7 @@
-//! The calls of `ConcurrentMap`, each of which is one conditional write. They try again while other seats' writes of the key
-//! come first, for as long as that may be, so they wait; but they are lock-free: only the success of others costs them anything.
-//! Each tells in the end just one call, or none if it is refused.
+//! The calls of `ConcurrentMap`, each of which is one conditional write. They try again while other
+//! seats' writes of the key come first, for as long as that may be, so they wait; but they are
+//! lock-free: only the success of others costs them anything. Each tells in the end just one call,
+//! or none if it is refused.
 ghost use Rattle.std.specs.Prelude.{◌≡◌, ◌+◌, ◌≤◌, false, true, None, IfOk, IfErr};
 ghost use Rattle.nb_core.specs.Calls.{leaves_alone, overflows};
 ghost use Rattle.nb_core.specs.Log.{Numbers};
@@ -22,7 +23,8 @@ use nb_table::{Chain, ChainSeat};
 use std::sync::Wait;
 use thiserror::Error;
 
-/// Other keys have all slots of the last table, so there is none for this one. The map is unchanged.
+/// Other keys have all slots of the last table, so there is none for this one. The map is
+/// unchanged.
 #[derive(Clone, Copy, Debug, PartialEq, Eq, Error)]
 #[error("the map is full")]
 pub struct Full;
@@ -41,9 +43,10 @@ pub enum AddFault {
 impl Map {
     /// Puts a number at a key, and answers what was there. `ConcurrentMap.put`.
     ///
-    /// It is lock-free, as all of these calls are: where other seats have won `w` exchanges on the key since this seat's last
-    /// step, it takes at most 8 (T + w + 1 + G) (N + 8) steps on the chain, whose G tables have T slots and the last of them N.
-    /// So only the success of others costs it anything, and no seat that stops, wherever that is, can hold it up. Where others
+    /// It is lock-free, as all of these calls are: where other seats have won `w` exchanges on the
+    /// key since this seat's last step, it takes at most 8 (T + w + 1 + G) (N + 8) steps on the
+    /// chain, whose G tables have T slots and the last of them N. So only the success of others
+    /// costs it anything, and no seat that stops, wherever that is, can hold it up. Where others
     /// have won none and the seat knows the key at home in the top table, these are four steps.
     pub fn put<R: Wait>(
         &self,
@@ -53,19 +56,23 @@ impl Map {
         number: Num,
     ) -> Result<Option<Num>, Full>
         requires own { IsMine self.now seat.old }
-        ensures found { IfOk result (HasFound (call.Write key want.Any (change.Put number)) seat.old seat.new) }
-        ensures full { IfErr result (λ fault. HasRefused self.now (call.Write key want.Any (change.Put number)) seat.old seat.new
+        ensures found { IfOk result (HasFound (call.Write key want.Any (change.Put number))
+            seat.old seat.new) }
+        ensures full { IfErr result (λ fault. HasRefused self.now
+            (call.Write key want.Any (change.Put number)) seat.old seat.new
             AddFault.Full) }
-        ensures lock_free { IsLockFree self.now (call.Write key want.Any (change.Put number)) seat.old seat.new }
-        ensures four_steps { IsSeenAlone self.now.chain.shape (call.Write key want.Any (change.Put number)) seat.old.chain seat.new.chain
+        ensures lock_free { IsLockFree self.now (call.Write key want.Any (change.Put number))
+            seat.old seat.new }
+        ensures four_steps { IsSeenAlone self.now.chain.shape
+            (call.Write key want.Any (change.Put number)) seat.old.chain seat.new.chain
             → seat.new.chain.steps ≤ seat.old.chain.steps + 4 }
         ensures own { IsMine self.now seat.new }
     {
         Ok(self.put_where(rt, seat, key, Want::Any, number)?.before)
     }
 
-    /// Puts a number at a key that has none, and answers what was there. `ConcurrentMap.putIfAbsent`.
-    /// Lock-free, with the bound of `put`.
+    /// Puts a number at a key that has none, and answers what was there.
+    /// `ConcurrentMap.putIfAbsent`. Lock-free, with the bound of `put`.
     pub fn put_if_absent<R: Wait>(
         &self,
         rt: &R,
@@ -74,24 +81,31 @@ impl Map {
         number: Num,
     ) -> Result<Option<Num>, Full>
         requires own { IsMine self.now seat.old }
-        ensures found { IfOk result (HasFound (call.Write key want.Absent (change.Put number)) seat.old seat.new) }
-        ensures full { IfErr result (λ fault. HasRefused self.now (call.Write key want.Absent (change.Put number)) seat.old seat.new
+        ensures found { IfOk result (HasFound (call.Write key want.Absent (change.Put number))
+            seat.old seat.new) }
+        ensures full { IfErr result (λ fault. HasRefused self.now
+            (call.Write key want.Absent (change.Put number)) seat.old seat.new
             AddFault.Full) }
-        ensures lock_free { IsLockFree self.now (call.Write key want.Absent (change.Put number)) seat.old seat.new }
-        ensures four_steps { IsSeenAlone self.now.chain.shape (call.Write key want.Absent (change.Put number)) seat.old.chain seat.new.chain
+        ensures lock_free { IsLockFree self.now (call.Write key want.Absent (change.Put number))
+            seat.old seat.new }
+        ensures four_steps { IsSeenAlone self.now.chain.shape
+            (call.Write key want.Absent (change.Put number)) seat.old.chain seat.new.chain
             → seat.new.chain.steps ≤ seat.old.chain.steps + 4 }
         ensures own { IsMine self.now seat.new }
     {
         Ok(self.put_where(rt, seat, key, Want::Absent, number)?.before)
     }
 
-    /// Puts a number in place of another, and answers what was there. `ConcurrentMap.replace` of two arguments.
-    /// Lock-free, with the bound of `put`.
+    /// Puts a number in place of another, and answers what was there. `ConcurrentMap.replace` of
+    /// two arguments. Lock-free, with the bound of `put`.
     pub fn replace<R: Wait>(&self, rt: &R, seat: &mut Seat, key: Key, number: Num) -> Option<Num>
         requires own { IsMine self.now seat.old }
-        ensures found { HasFound (call.Write key want.Present (change.Put number)) seat.old seat.new result }
-        ensures lock_free { IsLockFree self.now (call.Write key want.Present (change.Put number)) seat.old seat.new }
-        ensures four_steps { IsSeenAlone self.now.chain.shape (call.Write key want.Present (change.Put number)) seat.old.chain seat.new.chain
+        ensures found { HasFound (call.Write key want.Present (change.Put number))
+            seat.old seat.new result }
+        ensures lock_free { IsLockFree self.now (call.Write key want.Present (change.Put number))
+            seat.old seat.new }
+        ensures four_steps { IsSeenAlone self.now.chain.shape
+            (call.Write key want.Present (change.Put number)) seat.old.chain seat.new.chain
             → seat.new.chain.steps ≤ seat.old.chain.steps + 4 }
         ensures own { IsMine self.now seat.new }
     {
@@ -99,13 +113,16 @@ impl Map {
             .before
     }
 
-    /// Puts a number in place of this one, and answers whether it did. `ConcurrentMap.replace` of three arguments.
-    /// Lock-free, with the bound of `put`.
+    /// Puts a number in place of this one, and answers whether it did. `ConcurrentMap.replace` of
+    /// three arguments. Lock-free, with the bound of `put`.
     pub fn replace_if<R: Wait>(&self, rt: &R, seat: &mut Seat, key: Key, old: Num, new: Num) -> bool
         requires own { IsMine self.now seat.old }
-        ensures matched { HasMatched (call.Write key (want.Equal old) (change.Put new)) seat.old seat.new result }
-        ensures lock_free { IsLockFree self.now (call.Write key (want.Equal old) (change.Put new)) seat.old seat.new }
-        ensures four_steps { IsSeenAlone self.now.chain.shape (call.Write key (want.Equal old) (change.Put new)) seat.old.chain seat.new.chain
+        ensures matched { HasMatched (call.Write key (want.Equal old) (change.Put new))
+            seat.old seat.new result }
+        ensures lock_free { IsLockFree self.now (call.Write key (want.Equal old) (change.Put new))
+            seat.old seat.new }
+        ensures four_steps { IsSeenAlone self.now.chain.shape
+            (call.Write key (want.Equal old) (change.Put new)) seat.old.chain seat.new.chain
             → seat.new.chain.steps ≤ seat.old.chain.steps + 4 }
         ensures own { IsMine self.now seat.new }
     {
@@ -118,8 +135,10 @@ impl Map {
     pub fn remove<R: Wait>(&self, rt: &R, seat: &mut Seat, key: Key) -> Option<Num>
         requires own { IsMine self.now seat.old }
         ensures found { HasFound (call.Write key want.Any change.Remove) seat.old seat.new result }
-        ensures lock_free { IsLockFree self.now (call.Write key want.Any change.Remove) seat.old seat.new }
-        ensures four_steps { IsSeenAlone self.now.chain.shape (call.Write key want.Any change.Remove) seat.old.chain seat.new.chain
+        ensures lock_free { IsLockFree self.now (call.Write key want.Any change.Remove)
+            seat.old seat.new }
+        ensures four_steps { IsSeenAlone self.now.chain.shape
+            (call.Write key want.Any change.Remove) seat.old.chain seat.new.chain
             → seat.new.chain.steps ≤ seat.old.chain.steps + 4 }
         ensures own { IsMine self.now seat.new }
     {
@@ -127,13 +146,16 @@ impl Map {
             .before
     }
 
-    /// Takes out a key that has this number, and answers whether it did. `ConcurrentMap.remove` of two arguments.
-    /// Lock-free, with the bound of `put`.
+    /// Takes out a key that has this number, and answers whether it did. `ConcurrentMap.remove` of
+    /// two arguments. Lock-free, with the bound of `put`.
     pub fn remove_if<R: Wait>(&self, rt: &R, seat: &mut Seat, key: Key, number: Num) -> bool
         requires own { IsMine self.now seat.old }
-        ensures matched { HasMatched (call.Write key (want.Equal number) change.Remove) seat.old seat.new result }
-        ensures lock_free { IsLockFree self.now (call.Write key (want.Equal number) change.Remove) seat.old seat.new }
-        ensures four_steps { IsSeenAlone self.now.chain.shape (call.Write key (want.Equal number) change.Remove) seat.old.chain seat.new.chain
+        ensures matched { HasMatched (call.Write key (want.Equal number) change.Remove)
+            seat.old seat.new result }
+        ensures lock_free { IsLockFree self.now (call.Write key (want.Equal number) change.Remove)
+            seat.old seat.new }
+        ensures four_steps { IsSeenAlone self.now.chain.shape
+            (call.Write key (want.Equal number) change.Remove) seat.old.chain seat.new.chain
             → seat.new.chain.steps ≤ seat.old.chain.steps + 4 }
         ensures own { IsMine self.now seat.new }
     {
@@ -151,10 +173,14 @@ impl Map {
         number: Num,
     ) -> Result<Option<Num>, AddFault>
         requires own { IsMine self.now seat.old }
-        ensures found { IfOk result (HasFound (call.Write key want.Any (change.Add number)) seat.old seat.new) }
-        ensures refused { IfErr result (HasRefused self.now (call.Write key want.Any (change.Add number)) seat.old seat.new) }
-        ensures lock_free { IsLockFree self.now (call.Write key want.Any (change.Add number)) seat.old seat.new }
-        ensures four_steps { IsSeenAlone self.now.chain.shape (call.Write key want.Any (change.Add number)) seat.old.chain seat.new.chain
+        ensures found { IfOk result (HasFound (call.Write key want.Any (change.Add number))
+            seat.old seat.new) }
+        ensures refused { IfErr result (HasRefused self.now
+            (call.Write key want.Any (change.Add number)) seat.old seat.new) }
+        ensures lock_free { IsLockFree self.now (call.Write key want.Any (change.Add number))
+            seat.old seat.new }
+        ensures four_steps { IsSeenAlone self.now.chain.shape
+            (call.Write key want.Any (change.Add number)) seat.old.chain seat.new.chain
             → seat.new.chain.steps ≤ seat.old.chain.steps + 4 }
         ensures own { IsMine self.now seat.new }
     {
@@ -172,11 +198,15 @@ impl Map {
         number: Num,
     ) -> Result<Reply, Full>
         requires own { IsMine self.now seat.old }
-        ensures replied { IfOk result (HasReplied (call.Write key want (change.Put number)) seat.old seat.new) }
-        ensures full { IfErr result (λ fault. HasRefused self.now (call.Write key want (change.Put number)) seat.old seat.new
+        ensures replied { IfOk result (HasReplied (call.Write key want (change.Put number))
+            seat.old seat.new) }
+        ensures full { IfErr result (λ fault. HasRefused self.now
+            (call.Write key want (change.Put number)) seat.old seat.new
             AddFault.Full) }
-        ensures lock_free { IsLockFree self.now (call.Write key want (change.Put number)) seat.old seat.new }
-        ensures four_steps { IsSeenAlone self.now.chain.shape (call.Write key want (change.Put number)) seat.old.chain seat.new.chain
+        ensures lock_free { IsLockFree self.now (call.Write key want (change.Put number))
+            seat.old seat.new }
+        ensures four_steps { IsSeenAlone self.now.chain.shape
+            (call.Write key want (change.Put number)) seat.old.chain seat.new.chain
             → seat.new.chain.steps ≤ seat.old.chain.steps + 4 }
         ensures own { IsMine self.now seat.new }
     {
@@ -201,7 +231,8 @@ impl Map {
         requires in_range { (m : Numbers) → overflows (call.Write key want change) m ≡ false }
         ensures replied { HasReplied (call.Write key want change) seat.old seat.new result }
         ensures lock_free { IsLockFree self.now (call.Write key want change) seat.old seat.new }
-        ensures four_steps { IsSeenAlone self.now.chain.shape (call.Write key want change) seat.old.chain seat.new.chain
+        ensures four_steps { IsSeenAlone self.now.chain.shape (call.Write key want change)
+            seat.old.chain seat.new.chain
             → seat.new.chain.steps ≤ seat.old.chain.steps + 4 }
         ensures own { IsMine self.now seat.new }
     {
@@ -222,9 +253,11 @@ impl Map {
     ) -> Result<Reply, AddFault>
         requires own { IsMine self.now seat.old }
         ensures replied { IfOk result (HasReplied (call.Write key want change) seat.old seat.new) }
-        ensures refused { IfErr result (HasRefused self.now (call.Write key want change) seat.old seat.new) }
+        ensures refused { IfErr result (HasRefused self.now (call.Write key want change)
+            seat.old seat.new) }
         ensures lock_free { IsLockFree self.now (call.Write key want change) seat.old seat.new }
-        ensures four_steps { IsSeenAlone self.now.chain.shape (call.Write key want change) seat.old.chain seat.new.chain
+        ensures four_steps { IsSeenAlone self.now.chain.shape (call.Write key want change)
+            seat.old.chain seat.new.chain
             → seat.new.chain.steps ≤ seat.old.chain.steps + 4 }
         ensures own { IsMine self.now seat.new }
     {
@@ -244,10 +277,14 @@ fn write_through<R: Wait>(
     change: Change,
 ) -> Result<Reply, AddFault>
     requires own { IsOwn chain.now seat.old }
-    ensures made { HasMade chain.now.shape (call.Write key want change) seat.old seat.new (made_in (call.Write key want change) result)
-        (put_steps chain.now.shape (passed_since (call.Write key want change) seat.old seat.new + 1)) }
-    ensures refused { IfErr result (IsJustAdd chain.now.shape (call.Write key want change) seat.new) }
-    ensures four_steps { IsSeenAlone chain.now.shape (call.Write key want change) seat.old seat.new → seat.new.steps ≤ seat.old.steps + 4 }
+    ensures made { HasMade chain.now.shape (call.Write key want change) seat.old seat.new
+        (made_in (call.Write key want change) result)
+        (put_steps chain.now.shape (passed_since (call.Write key want change) seat.old seat.new
+        + 1)) }
+    ensures refused { IfErr result (IsJustAdd chain.now.shape (call.Write key want change)
+        seat.new) }
+    ensures four_steps { IsSeenAlone chain.now.shape (call.Write key want change) seat.old seat.new
+        → seat.new.steps ≤ seat.old.steps + 4 }
 {
     let call = Call::Write { key, want, change };
     let top = chain.load_top(seat);

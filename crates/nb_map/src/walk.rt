@@ -6,7 +6,17 @@ ghost use Rattle.nb_core.specs.declared.calls.Call.TheVariants as call;
 ghost use Rattle.nb_table.specs.Chains.{IsOwn, seen_by};
 ghost use Rattle.nb_map.specs.Calling.{HasMade};
 ghost use Rattle.nb_map.specs.Searching.{slots_below};
-ghost use Rattle.nb_map.specs.Walks.{HasGone, HasPassed, IsEarlier, IsFirstTable, IsFirstOf, IsPlace, passing_steps, visit_steps, slots_ahead};
+ghost use Rattle.nb_map.specs.Walks.{
+  HasGone,
+  HasPassed,
+  IsEarlier,
+  IsFirstTable,
+  IsFirstOf,
+  IsPlace,
+  passing_steps,
+  visit_steps,
+  slots_ahead,
+};
 ghost use Rattle.nb_map.specs.declared.walk.Place.TheVariants as walk_at;
 
 use crate::get::get_at;
@@ -26,10 +36,11 @@ pub(crate) enum Place {
     End,
 }
 
-/// A walk over the keys of a map, which `Map::walk` begins and `Map::next_key` takes on. It goes through the tables, from the
-/// one that was the top one on, each in the order of its slots; so the order of the keys is none that a user knows. It is a
-/// few words, and borrows nothing: the map is read and written meanwhile, also with the walk's own seat. Contracts see the seat
-/// as it was when it began the walk.
+/// A walk over the keys of a map, which `Map::walk` begins and `Map::next_key` takes on. It goes
+/// through the tables, from the one that was the top one on, each in the order of its slots; so the
+/// order of the keys is none that a user knows. It is a few words, and borrows nothing: the map is
+/// read and written meanwhile, also with the walk's own seat. Contracts see the seat as it was when
+/// it began the walk.
 #[derive(Drop)]
 pub struct Walk {
     pub(crate) first: u32,
@@ -48,8 +59,8 @@ impl Model for Walk {
     ghost view = { walk_of };
 }
 
-/// How far a walk has come in one table: to this slot, or to the table's end, and the key and number that it has found just
-/// before.
+/// How far a walk has come in one table: to this slot, or to the table's end, and the key and
+/// number that it has found just before.
 #[derive(Clone, Copy)]
 pub(crate) struct Stretch {
     to: usize,
@@ -69,7 +80,8 @@ pub(crate) fn next_from(
     ensures gone { HasGone chain.now.shape seat.old seat.new first place.old place.new result
         (passing_steps chain.now.shape place.old place.new) }
     ensures place { IsPlace chain.now.shape (seen_by chain.now.shape seat.new) first place.new }
-    ensures ahead { IfSome result (λ pair. slots_ahead chain.now.shape place.new < slots_ahead chain.now.shape place.old) }
+    ensures ahead { IfSome result (λ pair. slots_ahead chain.now.shape place.new
+        < slots_ahead chain.now.shape place.old) }
     ensures ended { result ≡ None → place.new ≡ walk_at.End }
 {
     while let Place::Slot(g, from) = *place {
@@ -89,9 +101,12 @@ fn place_from(chain: &Chain, seat: &mut ChainSeat, g: u32, i: usize) -> Place
     requires installed { IsInstalled (seen_by chain.now.shape seat.old) g }
     requires within { i ≤ size_of chain.now.shape g }
     ensures made { (k : ℕ) → HasMade chain.now.shape (call.Get k) seat.old seat.new [] 1 }
-    ensures passed { (first : ℕ) → HasPassed chain.now.shape seat.old seat.new first (walk_at.Slot g i) result None }
-    ensures place { (first : ℕ) → first ≤ g → IsPlace chain.now.shape (seen_by chain.now.shape seat.new) first result }
-    ensures slots { slots_ahead chain.now.shape result ≤ slots_ahead chain.now.shape (walk_at.Slot g i) }
+    ensures passed { (first : ℕ) → HasPassed chain.now.shape seat.old seat.new first
+        (walk_at.Slot g i) result None }
+    ensures place { (first : ℕ) → first ≤ g
+        → IsPlace chain.now.shape (seen_by chain.now.shape seat.new) first result }
+    ensures slots { slots_ahead chain.now.shape result
+        ≤ slots_ahead chain.now.shape (walk_at.Slot g i) }
 {
     if i < chain.shape().size_of(g) {
         return Place::Slot(g, i);
@@ -106,15 +121,16 @@ fn place_from(chain: &Chain, seat: &mut ChainSeat, g: u32, i: usize) -> Place
     }
 }
 
-/// Takes a walk on in table `g`, from slot `from`, to the next key that the map has, or to the table's end: one load for each
-/// slot, and one more for a number.
+/// Takes a walk on in table `g`, from slot `from`, to the next key that the map has, or to the
+/// table's end: one load for each slot, and one more for a number.
 fn next_in(chain: &Chain, seat: &mut ChainSeat, first: u32, g: u32, from: usize) -> Stretch
     requires own { IsOwn chain.now seat.old }
     requires first { IsFirstTable chain.now.shape seat.old first }
     requires table { g < generations_of chain.now.shape }
     requires behind { first ≤ g }
     requires within { from < size_of chain.now.shape g }
-    ensures gone { HasGone chain.now.shape seat.old seat.new first (walk_at.Slot g from) (walk_at.Slot g result.to) result.shown
+    ensures gone { HasGone chain.now.shape seat.old seat.new first (walk_at.Slot g from)
+        (walk_at.Slot g result.to) result.shown
         ((result.to - from) * visit_steps chain.now.shape) }
     ensures onward { from < result.to }
     ensures within { result.to ≤ size_of chain.now.shape g }
@@ -137,14 +153,16 @@ fn next_in(chain: &Chain, seat: &mut ChainSeat, first: u32, g: u32, from: usize)
     }
 }
 
-/// The key of slot `i` of table `g`, where a walk hasn't met it in an earlier table: by one load in the walk's first table.
+/// The key of slot `i` of table `g`, where a walk hasn't met it in an earlier table: by one load in
+/// the walk's first table.
 #[inline]
 fn first_seen(chain: &Chain, seat: &mut ChainSeat, first: u32, g: u32, i: usize) -> Option<Key>
     requires own { IsOwn chain.now seat.old }
     requires first { IsFirstTable chain.now.shape seat.old first }
     requires slot { IsSlot chain.now.shape g i }
     requires behind { first ≤ g }
-    ensures made { (k : ℕ) → HasMade chain.now.shape (call.Get k) seat.old seat.new [] (1 + slots_below chain.now.shape g) }
+    ensures made { (k : ℕ) → HasMade chain.now.shape (call.Get k) seat.old seat.new []
+        (1 + slots_below chain.now.shape g) }
     ensures first { IsFirstOf chain.now.shape seat.new first g i result }
 {
     match chain.load_key(seat, g, i, None) {
@@ -167,8 +185,10 @@ fn is_earlier(chain: &Chain, seat: &mut ChainSeat, first: u32, g: u32, key: Key)
     requires table { g < generations_of chain.now.shape }
     requires behind { first ≤ g }
     requires slot { HasSlot chain.now.shape (seen_by chain.now.shape seat.old) g key }
-    ensures made { HasMade chain.now.shape (call.Get key) seat.old seat.new [] (slots_below chain.now.shape g) }
-    ensures earlier { IsEarlier chain.now.shape (seen_by chain.now.shape seat.new) first g key result }
+    ensures made { HasMade chain.now.shape (call.Get key) seat.old seat.new []
+        (slots_below chain.now.shape g) }
+    ensures earlier { IsEarlier chain.now.shape (seen_by chain.now.shape seat.new)
+        first g key result }
 {
     for f in first..g {
         if let PathEnd::Slot(_) = probe(chain, seat, f, key, &Call::Get { key }, 0) {

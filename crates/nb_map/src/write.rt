@@ -8,8 +8,23 @@ ghost use Rattle.nb_table.specs.Chains.{IsOwn, seen_by};
 ghost use Rattle.nb_table.specs.Conditions.{IsReached};
 ghost use Rattle.nb_map.specs.Calling.{HasMade};
 ghost use Rattle.nb_map.specs.Looking.{IsAtHome, IsHomeSlot, get_steps};
-ghost use Rattle.nb_map.specs.Refusing.{IsJust, IsTarget, IsWritten, made_at, made_by, made_in, put_steps, write_steps};
-ghost use Rattle.nb_map.specs.Writing.{HasBelow, IsAloneAtHome, IsSeenAlone, find_steps, passed_since};
+ghost use Rattle.nb_map.specs.Refusing.{
+  IsJust,
+  IsTarget,
+  IsWritten,
+  made_at,
+  made_by,
+  made_in,
+  put_steps,
+  write_steps,
+};
+ghost use Rattle.nb_map.specs.Writing.{
+  HasBelow,
+  IsAloneAtHome,
+  IsSeenAlone,
+  find_steps,
+  passed_since,
+};
 
 use crate::claim::{Below, Found, find_or_claim};
 use crate::decide::{Decision, decide};
@@ -57,9 +72,10 @@ pub(crate) enum Written {
     Above(Below, u32),
 }
 
-/// Changes what the map has at a key, where the condition holds of it, and replies what it had. An exchange that another seat
-/// came before is tried again, so many times in all; the pause is made before each. A write that leaves the map as it is makes
-/// no exchange. One conditional write stands behind all writes of `ConcurrentMap`, as `putIfMatch` of high-scale-lib.
+/// Changes what the map has at a key, where the condition holds of it, and replies what it had. An
+/// exchange that another seat came before is tried again, so many times in all; the pause is made
+/// before each. A write that leaves the map as it is makes no exchange. One conditional write
+/// stands behind all writes of `ConcurrentMap`, as `putIfMatch` of high-scale-lib.
 pub fn put_if_match_in<P: Pause>(
     chain: &Chain,
     seat: &mut ChainSeat,
@@ -72,10 +88,14 @@ pub fn put_if_match_in<P: Pause>(
     requires own { IsOwn chain.now seat.old }
     requires some { 1 ≤ tries }
     requires serves { P.serves pause.old chain.now }
-    ensures made { HasMade chain.now.shape (call.Write key want change) seat.old seat.new (made_in (call.Write key want change) result)
-        (put_steps chain.now.shape (min tries (passed_since (call.Write key want change) seat.old seat.new + 1))) }
-    ensures refused { IfErr result (IsJust chain.now.shape (call.Write key want change) seat.old seat.new tries) }
-    ensures four_steps { IsSeenAlone chain.now.shape (call.Write key want change) seat.old seat.new → seat.new.steps ≤ seat.old.steps + 4 }
+    ensures made { HasMade chain.now.shape (call.Write key want change) seat.old seat.new
+        (made_in (call.Write key want change) result)
+        (put_steps chain.now.shape (min tries
+        (passed_since (call.Write key want change) seat.old seat.new + 1))) }
+    ensures refused { IfErr result (IsJust chain.now.shape (call.Write key want change)
+        seat.old seat.new tries) }
+    ensures four_steps { IsSeenAlone chain.now.shape (call.Write key want change) seat.old seat.new
+        → seat.new.steps ≤ seat.old.steps + 4 }
     ensures serves { P.serves pause.new chain.now }
 {
     let call = Call::Write { key, want, change };
@@ -102,7 +122,8 @@ pub(crate) fn write_from<P: Pause>(
     ensures made { HasMade chain.now.shape call.now seat.old seat.new (made_in call.now result)
         (get_steps chain.now.shape + 2 * min tries (passed_since call.now seat.old seat.new)) }
     ensures refused { IfErr result (IsJust chain.now.shape call.now seat.old seat.new tries) }
-    ensures short { IsAloneAtHome chain.now.shape first call.now seat.old seat.new → seat.new.steps ≤ seat.old.steps + 3 }
+    ensures short { IsAloneAtHome chain.now.shape first call.now seat.old seat.new
+        → seat.new.steps ≤ seat.old.steps + 3 }
     ensures serves { P.serves pause.new chain.now }
 {
     let mut below = Below::Complete;
@@ -141,7 +162,8 @@ fn write_in<P: Pause>(
     ensures made { HasMade chain.now.shape call.now seat.old seat.new (made_by call.now result)
         (write_steps chain.now.shape g tries (passed_since call.now seat.old seat.new) result) }
     ensures written { IsWritten chain.now.shape call.now seat.old seat.new g tries result }
-    ensures short { IsAloneAtHome chain.now.shape g call.now seat.old seat.new → seat.new.steps ≤ seat.old.steps + 3 }
+    ensures short { IsAloneAtHome chain.now.shape g call.now seat.old seat.new
+        → seat.new.steps ≤ seat.old.steps + 3 }
     ensures serves { P.serves pause.new chain.now }
 {
     match aim(chain, seat, g, key, call, below) {
@@ -152,18 +174,21 @@ fn write_in<P: Pause>(
     }
 }
 
-/// Where a write that has come to table `g` has to look: it searches for the key's slot, and claims one for it if it puts a
-/// number there.
+/// Where a write that has come to table `g` has to look: it searches for the key's slot, and claims
+/// one for it if it puts a number there.
 #[tactic(auto, using(nb_core::proofs::Theorems::linked))]
 fn aim(chain: &Chain, seat: &mut ChainSeat, g: u32, key: Key, call: &Call, below: Below) -> Target
     requires own { IsOwn chain.now seat.old }
     requires key { key_of_call call.now ≡ key }
     requires reached { IsReached chain.now.shape (seen_by chain.now.shape seat.old) g key }
     requires below { HasBelow chain.now.shape (seen_by chain.now.shape seat.old) g key below }
-    ensures made { HasMade chain.now.shape call.now seat.old seat.new (made_at call.now result) (find_steps chain.now.shape g) }
+    ensures made { HasMade chain.now.shape call.now seat.old seat.new (made_at call.now result)
+        (find_steps chain.now.shape g) }
     ensures target { IsTarget chain.now.shape call.now seat.new g key result }
-    ensures short { IsAtHome chain.now.shape (seen_by chain.now.shape seat.new) g (key_of_call call.now)
-        → (Fills call.now → IsHomeSlot chain.now.shape (seen_by chain.now.shape seat.old) g (key_of_call call.now))
+    ensures short { IsAtHome chain.now.shape (seen_by chain.now.shape seat.new) g
+        (key_of_call call.now)
+        → (Fills call.now → IsHomeSlot chain.now.shape (seen_by chain.now.shape seat.old) g
+        (key_of_call call.now))
         → seat.new.steps ≤ seat.old.steps + 1 }
 {
     if let Decision::Leave(reply) = decide(call, &None) {

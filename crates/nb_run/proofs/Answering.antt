@@ -18,32 +18,39 @@ use Rattle.nb_script.specs.declared.script.Command.TheVariants as command
 module _ (m : MapOf) (s t : SeatOf) where
   -- what was found is shown
   pub by-found :
-      (c : Command) → ((reply : Reply) → shown c reply ≡ before reply.before) → (number : Option ℕ) → HasFound (call_of c) s t number
+      (c : Command) → ((reply : Reply) → shown c reply ≡ before reply.before) → (number : Option ℕ)
+      → HasFound (call_of c) s t number
       → IsAnswered m c (before number) s t
   by-found c is None (reply, found, made) = (reply, is reply ∙ ap before found, made)
   by-found c is (Some n) (reply, found, made) = (reply, is reply ∙ ap before found, made)
 
   -- whether the condition held is shown
   pub by-matched :
-      (c : Command) → ((reply : Reply) → shown c reply ≡ answer.Matched reply.matched) → (b : Bool) → HasMatched (call_of c) s t b
+      (c : Command) → ((reply : Reply) → shown c reply ≡ answer.Matched reply.matched) → (b : Bool)
+      → HasMatched (call_of c) s t b
       → IsAnswered m c (answer.Matched b) s t
   by-matched c is b (reply, matched, made) = (reply, is reply ∙ ap answer.Matched matched, made)
 
   pub by-get :
       (k : ℕ) (number : Option ℕ) → HasReplied (call.Get k) s t (reply_at (call.Get k) number)
       → IsAnswered m (command.Get k) (before number) s t
-  by-get k number replied = by-found (command.Get k) (λ reply. refl) number (reply_at (call.Get k) number, refl, replied)
+  by-get k number replied = by-found (command.Get k) (λ reply. refl) number
+      (reply_at (call.Get k) number, refl, replied)
 
   pub by-put :
-      (c : Command) → ((reply : Reply) → shown c reply ≡ before reply.before) → (put : Result (Option ℕ) Full)
-      → IfOk put (HasFound (call_of c) s t) → IfErr put (λ f. HasRefused m (call_of c) s t fault.Full)
+      (c : Command) → ((reply : Reply) → shown c reply ≡ before reply.before)
+      → (put : Result (Option ℕ) Full)
+      → IfOk put (HasFound (call_of c) s t)
+      → IfErr put (λ f. HasRefused m (call_of c) s t fault.Full)
       → IsAnswered m c (of_put put) s t
   by-put c is (Ok number) found refused = by-found c is number found
   by-put c is (Err f) found refused = refused
 
   pub by-add :
-      (c : Command) → ((reply : Reply) → shown c reply ≡ before reply.before) → (added : Result (Option ℕ) AddFault)
-      → IfOk added (HasFound (call_of c) s t) → IfErr added (HasRefused m (call_of c) s t) → IsAnswered m c (of_add added) s t
+      (c : Command) → ((reply : Reply) → shown c reply ≡ before reply.before)
+      → (added : Result (Option ℕ) AddFault)
+      → IfOk added (HasFound (call_of c) s t) → IfErr added (HasRefused m (call_of c) s t)
+      → IsAnswered m c (of_add added) s t
   by-add c is (Ok number) found refused = by-found c is number found
   by-add c is (Err fault.Full) found refused = refused
   by-add c is (Err fault.ValueRange) found refused = refused

@@ -23,8 +23,11 @@ append-empty [] ys none = (refl, none)
 append-empty (x ∷ xs) ys none = absurd cc
 
 -- where some entries and others are none of the seat's, neither are
-pub calls-apart : (s : ℕ) (later log : List Entry) → calls_of s (later ++ log) ≡ [] → (calls_of s later ≡ []) × (calls_of s log ≡ [])
-calls-apart s later log none = append-empty (calls_of s later) (calls_of s log) (sym (calls_append s later log) ∙ none)
+pub calls-apart :
+    (s : ℕ) (later log : List Entry) → calls_of s (later ++ log) ≡ [] → (calls_of s later ≡ [])
+    × (calls_of s log ≡ [])
+calls-apart s later log none = append-empty (calls_of s later) (calls_of s log)
+    (sym (calls_append s later log) ∙ none)
 
 -- ---- beginnings
 
@@ -43,28 +46,41 @@ module _ {A : Type 0} where
 
   -- what comes after a beginning comes after another one, or between the two
   pub later-apart :
-      {low middle high : List A} (a : IsBeginning low high) (b : IsBeginning middle high) (c : IsBeginning low middle) → a.later ≡ b.later ++ c.later
+      {low middle high : List A} (a : IsBeginning low high) (b : IsBeginning middle high)
+      (c : IsBeginning low middle) → a.later ≡ b.later ++ c.later
   later-apart {low} a b c =
-      append_cancel_right a.later (b.later ++ c.later) low (sym a.is ∙ b.is ∙ ap (λ h. b.later ++ h) c.is ∙ sym (append_assoc b.later c.later low))
+      append_cancel_right a.later (b.later ++ c.later) low (sym a.is ∙ b.is
+      ∙ ap (λ h. b.later ++ h) c.is ∙ sym (append_assoc b.later c.later low))
 
   -- of two beginnings of a list one is the other's
-  either-begins : (x y later later' : List A) → later ++ x ≡ later' ++ y → IsBeginning x y ⊎ IsBeginning y x
+  either-begins : (x y later later' : List A) → later ++ x ≡ later' ++ y → IsBeginning x y
+      ⊎ IsBeginning y x
   either-begins x y [] later' same = inr (record { later = later'; is = same })
   either-begins x y (e ∷ later) [] same = inl (record { later = e ∷ later; is = sym same })
-  either-begins x y (e ∷ later) (e' ∷ later') same = either-begins x y later later' (ap (drop 1) same)
+  either-begins x y (e ∷ later) (e' ∷ later') same =
+      either-begins x y later later' (ap (drop 1) same)
 
-  pub begins-or-begun : {x y h : List A} → IsBeginning x h → IsBeginning y h → IsBeginning x y ⊎ IsBeginning y x
+  pub begins-or-begun : {x y h : List A} → IsBeginning x h → IsBeginning y h → IsBeginning x y
+      ⊎ IsBeginning y x
   begins-or-begun {x} {y} a b = either-begins x y a.later b.later (sym a.is ∙ b.is)
 
-abbrev pub beginning-grown : {p : Plan} {before after : SeenBy} {own : List Event} {count : ℕ} → Grown p before after own count → IsBeginning before.seen after.seen
+abbrev pub beginning-grown :
+    {p : Plan} {before after : SeenBy} {own : List Event} {count : ℕ}
+    → Grown p before after own count → IsBeginning before.seen after.seen
 beginning-grown grown = record { later = grown.later; is = grown.seen }
 
-abbrev pub beginning-logged : {before after : SeatOf} {made : Calls} → HasLogged before after made → IsBeginning (log before) (log after)
+abbrev pub beginning-logged :
+    {before after : SeatOf} {made : Calls} → HasLogged before after made
+    → IsBeginning (log before) (log after)
 beginning-logged logged = record { later = logged.later; is = logged.grown }
 
 -- a beginning of a history has a beginning of its log
 pub log-begins : {x y : List Event} → IsBeginning x y → IsBeginning (log_of x) (log_of y)
-log-begins {x} begun = record { later = log_of begun.later; is = ap log_of begun.is ∙ filter_map-append entry_of begun.later x }
+log-begins {x} begun = record {
+  later = log_of begun.later;
+  is = ap log_of begun.is
+      ∙ filter_map-append entry_of begun.later x;
+}
 
 -- ---- seats
 
@@ -92,12 +108,15 @@ longest-more base s seats rest (inr longer) = record {
   whole = log s;
   begun = beginning-more rest.begun longer;
   all = All-cons (IsSeenBy (log s)) s seats (beginning-itself (log s))
-      (All-weaker (IsSeenBy rest.whole) (IsSeenBy (log s)) (λ seat b. beginning-more b longer) seats rest.all);
+      (All-weaker (IsSeenBy rest.whole) (IsSeenBy (log s)) (λ seat b. beginning-more b longer)
+      seats rest.all);
   least = λ z b all. All-head (IsSeenBy z) s seats all;
 }
 
 -- there is one where all of these are beginnings of one log
-pub longest : (h base : List Entry) (seats : List SeatOf) → IsBeginning base h → All (IsSeenBy h) seats → Longest base seats
+pub longest :
+    (h base : List Entry) (seats : List SeatOf) → IsBeginning base h → All (IsSeenBy h) seats
+    → Longest base seats
 longest h base [] begins seen = record {
   whole = base;
   begun = beginning-itself base;
@@ -107,4 +126,5 @@ longest h base [] begins seen = record {
 longest h base (s ∷ seats) begins seen =
     let others = All-tail (IsSeenBy h) s seats seen in
     let rest = longest h base seats begins others in
-    longest-more base s seats rest (begins-or-begun (All-head (IsSeenBy h) s seats seen) (rest.least h begins others))
+    longest-more base s seats rest (begins-or-begun (All-head (IsSeenBy h) s seats seen)
+    (rest.least h begins others))

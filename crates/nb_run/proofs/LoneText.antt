@@ -1,4 +1,5 @@
--- With one worker the text is the plain map's, but for the commands that were refused for want of room.
+-- With one worker the text is the plain map's, but for the commands that were refused for want of
+-- room.
 use Rattle.std.proofs.Common.{◌≡◌, ◌∙◌, ◌<◌, ◌≤◌, ℕ, zero, suc, Bool, true, false, cond, nat_lt, ltb-true, List, [], ◌∷◌, ◌++◌, map, take, Option, Some, None, length, ap, ap₂, sym, subst, refl, inl, inr, append_assoc, append-nil, arith}
 use Rattle.std.specs.Prelude.{slice_get}
 use Rattle.std.specs.List.{All, flat_map}
@@ -35,8 +36,8 @@ use Rattle.nb_run.proofs.Fullness.{AreJust, commands-lone, crowd-lone-run, just-
 
 -- ---- a plain map
 
--- What a command with this answer does to a plain map. Where it was refused for want of room, its key is absent and it leaves
--- the map; else it answers as on the map.
+-- What a command with this answer does to a plain map. Where it was refused for want of room, its
+-- key is absent and it leaves the map; else it answers as on the map.
 abbrev pub IsPlain : Command → Answer → (before after : Numbers) → Type 0
 IsPlain c answer.Full before after = (get before (key_of_command c) ≡ None) × (after ≡ before)
 IsPlain c a before after = (a ≡ answer_of c before) × (after ≡ map_after_command c before)
@@ -46,12 +47,15 @@ abbrev pub ArePlain : List Command → List Answer → (before after : Numbers) 
 ArePlain [] [] before after = after ≡ before
 ArePlain [] (a ∷ answers) before after = ⊥
 ArePlain (c ∷ cs) [] before after = ⊥
-ArePlain (c ∷ cs) (a ∷ answers) before after = (next : Numbers) × IsPlain c a before next × ArePlain cs answers next after
+ArePlain (c ∷ cs) (a ∷ answers) before after = (next : Numbers) × IsPlain c a before next
+    × ArePlain cs answers next after
 
 plain-append :
-    (cs ds : List Command) (answers more : List Answer) (before mid after : Numbers) → ArePlain cs answers before mid → ArePlain ds more mid after
+    (cs ds : List Command) (answers more : List Answer) (before mid after : Numbers)
+    → ArePlain cs answers before mid → ArePlain ds more mid after
     → ArePlain (cs ++ ds) (answers ++ more) before after
-plain-append [] ds [] more before mid after first later = subst (λ m. ArePlain ds more m after) first later
+plain-append [] ds [] more before mid after first later =
+    subst (λ m. ArePlain ds more m after) first later
 plain-append [] ds (a ∷ answers) more before mid after first later = absurd first
 plain-append (c ∷ cs) ds [] more before mid after first later = absurd first
 plain-append (c ∷ cs) ds (a ∷ answers) more before mid after first later =
@@ -76,13 +80,17 @@ full-is (answer.Value n) is = absurd cc
 full-is (answer.Matched b) is = absurd cc
 full-is answer.Range is = absurd cc
 
-full-at : (answers : List Answer) (n : ℕ) → full_at answers n ≡ true → slice_get answers n ≡ Some answer.Full
+full-at :
+    (answers : List Answer) (n : ℕ) → full_at answers n ≡ true
+    → slice_get answers n ≡ Some answer.Full
 full-at [] n is = absurd cc
 full-at (a ∷ answers) zero is = ap Some (full-is a is)
 full-at (a ∷ answers) (suc n) is = full-at answers n is
 
 -- the map that a command with this answer leaves
-plain-left : (c : Command) (a : Answer) (m next : Numbers) → IsPlain c a m next → cond (is_full a) m (map_after_command c m) ≡ next
+plain-left :
+    (c : Command) (a : Answer) (m next : Numbers) → IsPlain c a m next
+    → cond (is_full a) m (map_after_command c m) ≡ next
 plain-left c answer.Full m next is = sym is.1
 plain-left c answer.Nothing m next is = sym is.1
 plain-left c (answer.Value n) m next is = sym is.1
@@ -91,8 +99,10 @@ plain-left c answer.Range m next is = sym is.1
 
 -- Where a command is refused for want of room, its key is absent from the map before it.
 absent-at :
-    (cs : List Command) (answers : List Answer) (m after : Numbers) → ArePlain cs answers m after → (n : ℕ) (c : Command)
-    → full_at answers n ≡ true → slice_get cs n ≡ Some c → get (map_behind (full_at answers) m (take n cs)) (key_of_command c) ≡ None
+    (cs : List Command) (answers : List Answer) (m after : Numbers) → ArePlain cs answers m after
+    → (n : ℕ) (c : Command)
+    → full_at answers n ≡ true → slice_get cs n ≡ Some c
+    → get (map_behind (full_at answers) m (take n cs)) (key_of_command c) ≡ None
 absent-at [] [] m after plain n c full is = absurd cc
 absent-at [] (a ∷ answers) m after plain n c full is = absurd plain
 absent-at (d ∷ cs) [] m after plain n c full is = absurd plain
@@ -101,24 +111,29 @@ absent-at (d ∷ cs) (a ∷ answers) m after plain zero c full is =
     subst (λ b. get m (key_of_command b) ≡ None) same
     (subst (λ b. IsPlain d b m plain.0) (full-is a full) plain.1).0
 absent-at (d ∷ cs) (a ∷ answers) m after plain (suc n) c full is =
-    subst (λ x. get (map_behind (full_at answers) x (take n cs)) (key_of_command c) ≡ None) (sym (plain-left d a m plain.0 plain.1))
+    subst (λ x. get (map_behind (full_at answers) x (take n cs)) (key_of_command c) ≡ None)
+    (sym (plain-left d a m plain.0 plain.1))
     (absent-at cs answers plain.0 after plain.2 n c full is)
 
 -- ---- the text
 
 -- one line, and the text for the commands behind it
 line-plain :
-    (task : ℕ × Command) (tasks : Phase) (a : Answer) (full : ℕ → Bool) (m next : Numbers) (rest : Bytes) → task.0 ≡ 0 → a ≡ answer_of task.1 m
+    (task : ℕ × Command) (tasks : Phase) (a : Answer) (full : ℕ → Bool) (m next : Numbers)
+    (rest : Bytes) → task.0 ≡ 0 → a ≡ answer_of task.1 m
     → next ≡ map_after_command task.1 m → text_from full next tasks ≡ rest
-    → answer_line task.0 (answer_of task.1 m) ++ text_from full (map_after_command task.1 m) tasks ≡ answer_line 0 a ++ rest
+    → answer_line task.0 (answer_of task.1 m) ++ text_from full (map_after_command task.1 m) tasks
+    ≡ answer_line 0 a ++ rest
 line-plain task tasks a full m next rest worker answer left told =
-    ap (λ w. answer_line w (answer_of task.1 m) ++ text_from full (map_after_command task.1 m) tasks) worker
+    ap (λ w. answer_line w (answer_of task.1 m) ++ text_from full (map_after_command task.1 m)
+    tasks) worker
     ∙ ap (λ b. answer_line 0 b ++ text_from full (map_after_command task.1 m) tasks) (sym answer)
     ∙ ap (λ n. answer_line 0 a ++ text_from full n tasks) (sym left)
     ∙ ap (λ bytes. answer_line 0 a ++ bytes) told
 
 text-one :
-    (task : ℕ × Command) (tasks : Phase) (a : Answer) (answers : List Answer) (m next : Numbers) (rest : Bytes) → task.0 ≡ 0
+    (task : ℕ × Command) (tasks : Phase) (a : Answer) (answers : List Answer) (m next : Numbers)
+    (rest : Bytes) → task.0 ≡ 0
     → IsPlain task.1 a m next → text_from (full_at answers) next tasks ≡ rest
     → text_from (full_at (a ∷ answers)) m (task ∷ tasks) ≡ answer_line 0 a ++ rest
 text-one task tasks answer.Full answers m next rest worker is told =
@@ -139,27 +154,35 @@ abbrev IsFirstWorkers : ℕ × Command → Type 0
 IsFirstWorkers task = task.0 < 1
 
 text-plain :
-    (tasks : Phase) (answers : List Answer) (m after : Numbers) → All IsFirstWorkers tasks → ArePlain (map (λ task. task.1) tasks) answers m after
+    (tasks : Phase) (answers : List Answer) (m after : Numbers) → All IsFirstWorkers tasks
+    → ArePlain (map (λ task. task.1) tasks) answers m after
     → text_from (full_at answers) m tasks ≡ flat_map (answer_line 0) answers ++ ending after
 text-plain [] [] m after below is = ap ending (sym is)
 text-plain [] (a ∷ answers) m after below is = absurd is
 text-plain (task ∷ tasks) [] m after below is = absurd is
 text-plain (task ∷ tasks) (a ∷ answers) m after below is =
     let worker : task.0 ≡ 0 = omega (arith, All-head IsFirstWorkers task tasks below) in
-    let rest = text-plain tasks answers is.0 after (All-tail IsFirstWorkers task tasks below) is.2 in
-    text-one task tasks a answers m is.0 (flat_map (answer_line 0) answers ++ ending after) worker is.1 rest
+    let rest = text-plain tasks answers is.0 after (All-tail IsFirstWorkers task tasks below)
+    is.2 in
+    text-one task tasks a answers m is.0 (flat_map (answer_line 0) answers ++ ending after)
+    worker is.1 rest
     ∙ sym (append_assoc (answer_line 0 a) (flat_map (answer_line 0) answers) (ending after))
 
 -- ---- all phases as one
 
-all-flat : (phases : List Phase) → All (λ phase. All IsFirstWorkers phase) phases → All IsFirstWorkers (flat_map (λ phase. phase) phases)
+all-flat :
+    (phases : List Phase) → All (λ phase. All IsFirstWorkers phase) phases
+    → All IsFirstWorkers (flat_map (λ phase. phase) phases)
 all-flat [] below = All-nil IsFirstWorkers
 all-flat (phase ∷ phases) below =
     let P : Phase → Type 0 = λ phase. All IsFirstWorkers phase in
-    All-append IsFirstWorkers phase (flat_map (λ phase. phase) phases) (All-head P phase phases below)
+    All-append IsFirstWorkers phase (flat_map (λ phase. phase) phases)
+    (All-head P phase phases below)
     (all-flat phases (All-tail P phase phases below))
 
-commands-flat : (phases : List Phase) → map (λ task. task.1) (flat_map (λ phase. phase) phases) ≡ all_commands phases
+commands-flat :
+    (phases : List Phase) → map (λ task. task.1) (flat_map (λ phase. phase) phases)
+    ≡ all_commands phases
 commands-flat [] = refl
 commands-flat (phase ∷ phases) =
     map-append (λ (task : ℕ × Command). task.1) phase (flat_map (λ phase. phase) phases)
@@ -168,7 +191,8 @@ commands-flat (phase ∷ phases) =
 -- ---- no call that was made was past the range
 
 put-there : (m : Numbers) (k n : ℕ) → get (with_at m k (Some n)) k ≡ Some n
-put-there m k n = get-insert nat_cmp_total m k n k ∙ ap (λ b. cond b (Some n) (get m k)) (unsigned_tied k k ∙ eq-eqb k k refl)
+put-there m k n = get-insert nat_cmp_total m k n k
+    ∙ ap (λ b. cond b (Some n) (get m k)) (unsigned_tied k k ∙ eq-eqb k k refl)
 
 not-past : (n : ℕ) → n ≤ VALUE_MAX → nat_lt VALUE_MAX n ≡ false
 not-past n within = elim (cases_Bool (nat_lt VALUE_MAX n)) [
@@ -177,14 +201,17 @@ not-past n within = elim (cases_Bool (nat_lt VALUE_MAX n)) [
 ]
 
 fits-at :
-    (m : Numbers) (k : ℕ) (acts : Bool) (o : Option ℕ) → ((n : ℕ) → get (cond acts (with_at m k o) m) k ≡ Some n → n ≤ VALUE_MAX)
+    (m : Numbers) (k : ℕ) (acts : Bool) (o : Option ℕ)
+    → ((n : ℕ) → get (cond acts (with_at m k o) m) k ≡ Some n → n ≤ VALUE_MAX)
     → cond acts (is_past_max o) false ≡ false
 fits-at m k false o within = refl
 fits-at m k true None within = refl
 fits-at m k true (Some n) within = not-past n (within n (put-there m k n))
 
 -- where the map that a call leaves has numbers of the map alone, the call isn't past the range
-fits : (c : Call) (m : Numbers) → ((k n : ℕ) → get (map_after c m) k ≡ Some n → n ≤ VALUE_MAX) → overflows c m ≡ false
+fits :
+    (c : Call) (m : Numbers) → ((k n : ℕ) → get (map_after c m) k ≡ Some n → n ≤ VALUE_MAX)
+    → overflows c m ≡ false
 fits (call.Get k) m within = refl
 fits (call.Write k want change) m within =
     fits-at m k (holds_of want (get m k)) (changed change (get m k)) (λ n is. within k n is)
@@ -238,7 +265,8 @@ module _
       log : log after ≡ map entry_by_first made ++ log before
 
     called-more :
-        (before after : SeatOf) (made : Calls) → IsFirst before → IsLegal p after.chain.seen → HasLogged before after made
+        (before after : SeatOf) (made : Calls) → IsFirst before → IsLegal p after.chain.seen
+        → HasLogged before after made
         → HasCalledMore made before after
     called-more before after made first legal logged = record {
       first = record { number = logged.number ∙ first.number };
@@ -247,8 +275,10 @@ module _
       log =
           logged.grown
           ∙ ap (λ later. later ++ log before)
-          (lone-entries logged.later (all-first logged.later (log before) (subst (All IsFirstEntry) logged.grown (first-seats has.seats)))
-          ∙ ap (map entry_by_first) (ap (λ n. calls_of n logged.later) (sym first.number) ∙ logged.own));
+          (lone-entries logged.later (all-first logged.later (log before)
+          (subst (All IsFirstEntry) logged.grown (first-seats has.seats)))
+          ∙ ap (map entry_by_first) (ap (λ n. calls_of n logged.later) (sym first.number)
+          ∙ logged.own));
     }
       where
         has : HasLog p after.chain.seen
@@ -259,8 +289,10 @@ module _
 
     -- The one call that was made answers as on the plain map.
     shown-plain :
-        (c : Command) (a : Answer) (before after : SeatOf) → IsFirst before → IsLegal p after.chain.seen → HasShownReply c a before after
-        → IsFirst after × ((a ≡ answer_of c (held before)) × (held after ≡ map_after_command c (held before)))
+        (c : Command) (a : Answer) (before after : SeatOf) → IsFirst before
+        → IsLegal p after.chain.seen → HasShownReply c a before after
+        → IsFirst after × ((a ≡ answer_of c (held before))
+        × (held after ≡ map_after_command c (held before)))
     shown-plain c a before after first legal is = (more.first, (answered, left))
       where
         reply : Reply
@@ -283,18 +315,22 @@ module _
         answered : a ≡ answer_of c (held before)
         answered =
             sym is.1 ∙ ap (shown c) replies.0
-            ∙ sym (ap (λ b. cond b answer.Range (shown c (reply_of (call_of c) (held before)))) acts)
+            ∙ sym (ap (λ b. cond b answer.Range (shown c (reply_of (call_of c) (held before))))
+            acts)
 
         left : held after ≡ map_after_command c (held before)
-        left = then ∙ sym (ap (λ b. cond b (held before) (map_after (call_of c) (held before))) acts)
+        left = then ∙ sym (ap (λ b. cond b (held before) (map_after (call_of c) (held before)))
+            acts)
 
     -- a refused call leaves the map
-    refused-left : (before after : SeatOf) → HasCalledMore [] before after → held after ≡ held before
+    refused-left : (before after : SeatOf) → HasCalledMore [] before after
+        → held after ≡ held before
     refused-left before after more = ap map_of_log more.log
 
     -- and where it is refused for want of room, its key is absent
     refused-absent :
-        (c : Command) (before after : SeatOf) → HasCalledMore [] before after → IsCrowded p after.chain.seen (key_of_command c)
+        (c : Command) (before after : SeatOf) → HasCalledMore [] before after
+        → IsCrowded p after.chain.seen (key_of_command c)
         → get (held before) (key_of_command c) ≡ None
     refused-absent c before after more crowded =
         ap (λ x. get x (key_of_command c)) (sym (refused-left before after more) ∙ more.has.map)
@@ -302,8 +338,10 @@ module _
 
     -- an add that is refused for its sum answers so on the plain map
     past-plain :
-        (c : Command) (before after : SeatOf) → HasCalledMore [] before after → overflows (call_of c) (held after) ≡ true
-        → (answer.Range ≡ answer_of c (held before)) × (held after ≡ map_after_command c (held before))
+        (c : Command) (before after : SeatOf) → HasCalledMore [] before after
+        → overflows (call_of c) (held after) ≡ true
+        → (answer.Range ≡ answer_of c (held before))
+        × (held after ≡ map_after_command c (held before))
     past-plain c before after more past = (
       sym (ap (λ b. cond b answer.Range (shown c (reply_of (call_of c) (held before)))) over),
       same ∙ sym (ap (λ b. cond b (held before) (map_after (call_of c) (held before))) over),
@@ -316,11 +354,15 @@ module _
         over = ap (overflows (call_of c)) (sym same) ∙ past
 
     answered-plain :
-        (c : Command) (a : Answer) (before after : SeatOf) → IsFirst before → HasAnswered m c a before after
+        (c : Command) (a : Answer) (before after : SeatOf) → IsFirst before
+        → HasAnswered m c a before after
         → IsFirst after × IsPlain c a (held before) (held after)
-    answered-plain c answer.Nothing before after first is = shown-plain c answer.Nothing before after first is.1.1.1.grown.legal is.0
-    answered-plain c (answer.Value n) before after first is = shown-plain c (answer.Value n) before after first is.1.1.1.grown.legal is.0
-    answered-plain c (answer.Matched b) before after first is = shown-plain c (answer.Matched b) before after first is.1.1.1.grown.legal is.0
+    answered-plain c answer.Nothing before after first is =
+        shown-plain c answer.Nothing before after first is.1.1.1.grown.legal is.0
+    answered-plain c (answer.Value n) before after first is =
+        shown-plain c (answer.Value n) before after first is.1.1.1.grown.legal is.0
+    answered-plain c (answer.Matched b) before after first is =
+        shown-plain c (answer.Matched b) before after first is.1.1.1.grown.legal is.0
     answered-plain c answer.Full before after first is =
         let more = called-more before after [] first is.1.1.1.grown.legal is.0.0 in
         (more.first, (refused-absent c before after more is.0.1.1, refused-left before after more))
@@ -329,7 +371,8 @@ module _
         (more.first, past-plain c before after more is.0.1)
 
     commands-plain :
-        (cs : List Command) (answers : List Answer) (before after : SeatOf) → IsFirst before → AreAnswered m cs answers before after
+        (cs : List Command) (answers : List Answer) (before after : SeatOf) → IsFirst before
+        → AreAnswered m cs answers before after
         → IsFirst after × ArePlain cs answers (held before) (held after)
     commands-plain [] [] before after first is = (subst IsFirst (sym is) first, ap held is)
     commands-plain [] (a ∷ answers) before after first is = absurd is
@@ -340,9 +383,11 @@ module _
         (rest.0, (held is.0, one.1, rest.1))
 
     -- a meeting leaves the map
-    met-plain : (seats : List SeatOf) (before after : SeatOf) → IsFirst before → HasMet m seats before after → IsFirst after × (held after ≡ held before)
+    met-plain : (seats : List SeatOf) (before after : SeatOf) → IsFirst before
+        → HasMet m seats before after → IsFirst after × (held after ≡ held before)
     met-plain seats before after first met =
-        let more = called-more before after [] first met.grown.legal met.logged in (more.first, refused-left before after more)
+        let more = called-more before after [] first met.grown.legal met.logged in
+        (more.first, refused-left before after more)
 
     -- ---- a run
 
@@ -351,7 +396,8 @@ module _
     flat answers = flat_map (flat_map (λ mine. mine)) answers
 
     -- what the one worker did in some phases, and the lines of its answers
-    record HasRunPlain (phases : List Phase) (answers : List (List (List Answer))) (before : SeatOf) (after : List SeatOf) : Type 0 where
+    record HasRunPlain (phases : List Phase) (answers : List (List (List Answer))) (before : SeatOf)
+        (after : List SeatOf) : Type 0 where
       seat : SeatOf
       is : after ≡ seat ∷ []
       first : IsFirst seat
@@ -359,27 +405,35 @@ module _
       lines : flat_map (phase_text 0) answers ≡ flat_map (answer_line 0) (flat answers)
 
     lines-more :
-        (mine : List Answer) (answers : List (List (List Answer))) → flat_map (phase_text 0) answers ≡ flat_map (answer_line 0) (flat answers)
-        → (flat_map (answer_line 0) mine ++ []) ++ flat_map (phase_text 0) answers ≡ flat_map (answer_line 0) ((mine ++ []) ++ flat answers)
+        (mine : List Answer) (answers : List (List (List Answer)))
+        → flat_map (phase_text 0) answers ≡ flat_map (answer_line 0) (flat answers)
+        → (flat_map (answer_line 0) mine ++ []) ++ flat_map (phase_text 0) answers
+        ≡ flat_map (answer_line 0) ((mine ++ []) ++ flat answers)
     lines-more mine answers rest =
-        ap (λ bytes. bytes ++ flat_map (phase_text 0) answers) (append-nil (flat_map (answer_line 0) mine))
+        ap (λ bytes. bytes ++ flat_map (phase_text 0) answers)
+        (append-nil (flat_map (answer_line 0) mine))
         ∙ ap (λ bytes. flat_map (answer_line 0) mine ++ bytes) rest
         ∙ sym (flat_map-append (answer_line 0) mine (flat answers))
         ∙ ap (λ xs. flat_map (answer_line 0) (xs ++ flat answers)) (sym (append-nil mine))
 
     run-plain :
-        (phases : List Phase) (answers : List (List (List Answer))) (before : SeatOf) (after : List SeatOf) → IsFirst before
+        (phases : List Phase) (answers : List (List (List Answer))) (before : SeatOf)
+        (after : List SeatOf) → IsFirst before
         → HaveRun m phases answers (before ∷ []) after → HasRunPlain phases answers before after
-    run-plain [] [] before after first ran = record { seat = before; is = ran; first = first; plain = refl; lines = refl }
+    run-plain [] [] before after first ran =
+        record { seat = before; is = ran; first = first; plain = refl; lines = refl }
     run-plain [] (now ∷ answers) before after first ran = absurd ran
     run-plain (phase ∷ phases) [] before after first ran = absurd ran
     run-plain (phase ∷ phases) (now ∷ answers) before after first ran =
         of now ran.0 ran.1 ran.2 ran.3 (λ u. run-plain phases answers u after) ran.4
       where
         of :
-            (now : List (List Answer)) (apart joined : List SeatOf) → PhaseRan m phase 0 now (before ∷ []) apart → HaveMet m apart joined
-            → ((u : SeatOf) → IsFirst u → HaveRun m phases answers (u ∷ []) after → HasRunPlain phases answers u after)
-            → HaveRun m phases answers joined after → HasRunPlain (phase ∷ phases) (now ∷ answers) before after
+            (now : List (List Answer)) (apart joined : List SeatOf)
+            → PhaseRan m phase 0 now (before ∷ []) apart → HaveMet m apart joined
+            → ((u : SeatOf) → IsFirst u → HaveRun m phases answers (u ∷ []) after
+            → HasRunPlain phases answers u after)
+            → HaveRun m phases answers joined after
+            → HasRunPlain (phase ∷ phases) (now ∷ answers) before after
         of (mine ∷ []) (t ∷ []) (u ∷ []) phase_ran met rest later =
             let own = commands-plain (commands_of 0 phase) mine before t first phase_ran.0 in
             let meeting = met-plain (t ∷ []) t u own.0 met.0 in
@@ -389,10 +443,13 @@ module _
               is = others.is;
               first = others.first;
               plain =
-                  plain-append (commands_of 0 phase) (flat_map (commands_of 0) phases) (mine ++ []) (flat answers) (held before) (held u)
+                  plain-append (commands_of 0 phase) (flat_map (commands_of 0) phases) (mine ++ [])
+                  (flat answers) (held before) (held u)
                   (held others.seat)
-                  (subst (λ x. ArePlain (commands_of 0 phase) (mine ++ []) (held before) x) (sym meeting.1)
-                  (subst (λ xs. ArePlain (commands_of 0 phase) xs (held before) (held t)) (sym (append-nil mine)) own.1))
+                  (subst (λ x. ArePlain (commands_of 0 phase) (mine ++ []) (held before) x)
+                  (sym meeting.1)
+                  (subst (λ xs. ArePlain (commands_of 0 phase) xs (held before) (held t))
+                  (sym (append-nil mine)) own.1))
                   others.plain;
               lines = lines-more mine answers others.lines;
             }
@@ -404,34 +461,43 @@ module _
         of (mine ∷ other ∷ others) (t ∷ apart) joined phase_ran met rest later = absurd phase_ran.1
 
     -- the ended map is the one that the seat's calls left
-    ended-plain : (after : List SeatOf) (ended : EndedOf) → EndedWith after ended → (seat : SeatOf) → after ≡ seat ∷ [] → IsFirst seat
+    ended-plain : (after : List SeatOf) (ended : EndedOf) → EndedWith after ended → (seat : SeatOf)
+        → after ≡ seat ∷ [] → IsFirst seat
         → ended_map ended ≡ held seat
     ended-plain after ended end seat is first =
-        let all = All-head (HasAll (log_left ended)) seat [] (subst (All (HasAll (log_left ended))) is end.logs) in
-        let made = subst (λ n. All (λ entry. entry.seat < n) (log_left ended)) (ap length is) end.made in
+        let all = All-head (HasAll (log_left ended)) seat []
+        (subst (All (HasAll (log_left ended))) is end.logs) in
+        let made = subst (λ n. All (λ entry. entry.seat < n) (log_left ended)) (ap length is)
+        end.made in
         let none = ap (λ n. calls_of n all.later) (sym first.number) ∙ all.others in
         ap map_of_log
         (all.is
         ∙ ap (λ later. later ++ log seat)
-        (lone-entries all.later (all-first all.later (log seat) (subst (All IsFirstEntry) all.is made)) ∙ ap (map entry_by_first) none))
+        (lone-entries all.later (all-first all.later (log seat)
+        (subst (All IsFirstEntry) all.is made)) ∙ ap (map entry_by_first) none))
 
--- What one worker was answered is the plain map's text, but for commands that were refused for want of room, each where earlier
--- commands may have filled the map.
+-- What one worker was answered is the plain map's text, but for commands that were refused for want
+-- of room, each where earlier commands may have filled the map.
 pub lone-text :
     (m : MapOf) → IsPlan m.chain.shape
-    → m.chain.shape.seats ≡ 1 → (phases : List Phase) (answers : List (List (List Answer))) (after : List SeatOf) (ended : EndedOf)
-    → All (λ phase. All (λ task. task.0 < 1) phase) phases → HaveRun m phases answers (new_seats m m.chain.shape.seats) after
+    → m.chain.shape.seats ≡ 1 → (phases : List Phase) (answers : List (List (List Answer)))
+    (after : List SeatOf) (ended : EndedOf)
+    → All (λ phase. All (λ task. task.0 < 1) phase) phases
+    → HaveRun m phases answers (new_seats m m.chain.shape.seats) after
     → EndedWith after ended
     → IsLoneText m.chain.shape phases (flat_map (phase_text 0) answers ++ ending (ended_map ended))
 lone-text m plan single phases answers after ended below ran end = record {
   full = full_at all;
   is =
-      ap (λ bytes. bytes ++ ending (ended_map ended)) done.lines ∙ ap (λ x. flat_map (answer_line 0) all ++ ending x) ends
+      ap (λ bytes. bytes ++ ending (ended_map ended)) done.lines
+      ∙ ap (λ x. flat_map (answer_line 0) all ++ ending x) ends
       ∙ sym (text-plain (flat_map (λ phase. phase) phases) all map_none left (all-flat phases below)
       (subst (λ cs. ArePlain cs all map_none left) (same ∙ sym (commands-flat phases)) done.plain));
   absent = λ n c full is.
-      subst (λ cs. get (map_behind (full_at all) map_none (take n cs)) (key_of_command c) ≡ None) same
-      (absent-at (flat_map (commands_of 0) phases) all map_none left done.plain n c full (subst (λ cs. slice_get cs n ≡ Some c) (sym same) is));
+      subst (λ cs. get (map_behind (full_at all) map_none (take n cs)) (key_of_command c) ≡ None)
+      same
+      (absent-at (flat_map (commands_of 0) phases) all map_none left done.plain n c full
+      (subst (λ cs. slice_get cs n ≡ Some c) (sym same) is));
   just = λ n c full is.
       subst (λ cs. MayCrowd m.chain.shape (take n cs) c) same
       (just-at m.chain.shape [] (flat_map (commands_of 0) phases) all just n c (full-at all n full)
@@ -448,7 +514,8 @@ lone-text m plan single phases answers after ended below ran end = record {
     from_new = subst (λ n. HaveRun m phases answers (new_seats m n) after) single ran
 
     done : HasRunPlain m plan single phases answers (new_seat m 0) after
-    done = run-plain m plan single phases answers (new_seat m 0) after (record { number = refl }) from_new
+    done = run-plain m plan single phases answers (new_seat m 0) after (record { number = refl })
+        from_new
 
     map_none : Numbers
     map_none = map_of_log []
@@ -460,4 +527,5 @@ lone-text m plan single phases answers after ended below ran end = record {
     ends = ended-plain m plan single after ended end done.seat done.is done.first
 
     just : AreJust m.chain.shape [] (flat_map (commands_of 0) phases) all
-    just = crowd-lone-run m plan single [] phases answers (new_seat m 0) after (lone-new m plan) from_new
+    just = crowd-lone-run m plan single [] phases answers (new_seat m 0) after (lone-new m plan)
+        from_new

@@ -12,11 +12,14 @@ use Rattle.nb_script.specs.declared.faults.RunFault.TheVariants as fault
 use Rattle.nb_run.specs.declared.outcome.Outcome.{Outcome}
 use Rattle.nb_run.proofs.ScriptLemmas.{script-workers}
 
-no-fault : (phases : List Phase) (e : Fault) (r : Result (List Phase) Fault) → r ≡ Ok phases → ¬ (r ≡ Err e)
+no-fault :
+    (phases : List Phase) (e : Fault) (r : Result (List Phase) Fault) → r ≡ Ok phases
+    → ¬ (r ≡ Err e)
 no-fault phases e r is is' = cc
 
 module _ (p : Plan) (unread unread' written written' : Option Bytes) where
-  module _ (phases : List Phase) (o : Outcome) (script : HasReadScript p.seats unread unread' phases) (came : IsOutcome p phases o) where
+  module _ (phases : List Phase) (o : Outcome)
+      (script : HasReadScript p.seats unread unread' phases) (came : IsOutcome p phases o) where
     tells : TellsOf p unread unread' (text_of_outcome phases o)
     tells = record {
       phases = phases;
@@ -26,25 +29,31 @@ module _ (p : Plan) (unread unread' written written' : Option Bytes) where
       lone = λ single. came.lone single (script-workers p.seats script.read phases script.said);
     }
 
-    pub has-run : Appends written written' (text_of_outcome phases o) → HasRun p unread unread' written written'
+    pub has-run : Appends written written' (text_of_outcome phases o)
+        → HasRun p unread unread' written written'
     has-run appended = record { text = text_of_outcome phases o; tells = tells; output = appended }
 
-    pub has-broken : AppendsSome written written' (text_of_outcome phases o) → HasBrokenOff p unread unread' written written'
+    pub has-broken : AppendsSome written written' (text_of_outcome phases o)
+        → HasBrokenOff p unread unread' written written'
     has-broken some = record { text = text_of_outcome phases o; tells = tells; output = some }
 
   -- a fault of the reading is one of the run
-  pub run-fault : (f : RunFault) → IsFaultOf p.seats unread unread' f → IsRunFaultOf p unread unread' written written' f
+  pub run-fault : (f : RunFault) → IsFaultOf p.seats unread unread' f
+      → IsRunFaultOf p unread unread' written written' f
   run-fault fault.Read due = due
   run-fault fault.Write due = absurd due
   run-fault (fault.Line n cause) due = due
   run-fault fault.OutOfMemory due = due
 
   -- a script without a fault settles none
-  sound : (phases : List Phase) (script : HasReadScript p.seats unread unread' phases) → IsOpen p.seats script.read
+  sound : (phases : List Phase) (script : HasReadScript p.seats unread unread' phases)
+      → IsOpen p.seats script.read
   sound phases script n cause settled =
-      no-fault phases (n, cause) (script_of p.seats script.read) script.said (ap (script_of p.seats) (sym (append-nil script.read)) ∙ settled [])
+      no-fault phases (n, cause) (script_of p.seats script.read) script.said
+      (ap (script_of p.seats) (sym (append-nil script.read)) ∙ settled [])
 
-  pub memory-fault : (phases : List Phase) → HasReadScript p.seats unread unread' phases → IsFaultOf p.seats unread unread' fault.OutOfMemory
+  pub memory-fault : (phases : List Phase) → HasReadScript p.seats unread unread' phases
+      → IsFaultOf p.seats unread unread' fault.OutOfMemory
   memory-fault phases script = (
     script.read,
     record {

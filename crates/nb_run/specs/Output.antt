@@ -1,4 +1,5 @@
--- The output, written through a buffer from the workers' answers, each worker's in one list for all phases.
+-- The output, written through a buffer from the workers' answers, each worker's in one list for all
+-- phases.
 use Rattle.std.specs.Prelude.{◌≡◌, ℕ, suc, List, [], ◌∷◌, ◌++◌, Option, drop, length, slice_index, take}
 use Rattle.std.specs.Io.KnownBytes.{Appends}
 use Rattle.std.specs.List.{flat_map}
@@ -8,31 +9,37 @@ use Rattle.nb_run.specs.Working.{commands_of}
 use Rattle.nb_run.specs.declared.answers.Answer.{Answer}
 
 -- Some bytes went out, and behind them others wait: with these, the text has been said.
-pub record Says (written : Option Bytes) (waiting : Bytes) (written' : Option Bytes) (waiting' : Bytes) (text : Bytes) : Type 0 where
+pub record Says (written : Option Bytes) (waiting : Bytes) (written' : Option Bytes)
+    (waiting' : Bytes) (text : Bytes) : Type 0 where
   pub out : Bytes
   pub appended : Appends written written' out
   pub is : waiting ++ text ≡ out ++ waiting'
 
 -- ---- the text
 
--- a phase's lines, from the lists of the workers from number w on: each begins with what the worker was answered in it
+-- a phase's lines, from the lists of the workers from number w on: each begins with what the worker
+-- was answered in it
 abbrev pub phase_lines : Phase → (w : ℕ) → List (List Answer) → Bytes
 phase_lines phase w [] = []
-phase_lines phase w (mine ∷ others) = flat_map (answer_line w) (take (length (commands_of w phase)) mine) ++ phase_lines phase (suc w) others
+phase_lines phase w (mine ∷ others) = flat_map (answer_line w)
+    (take (length (commands_of w phase)) mine) ++ phase_lines phase (suc w) others
 
 -- what the lists have behind the phase's answers
 abbrev pub after_phase : Phase → (w : ℕ) → List (List Answer) → List (List Answer)
 after_phase phase w [] = []
-after_phase phase w (mine ∷ others) = drop (length (commands_of w phase)) mine ∷ after_phase phase (suc w) others
+after_phase phase w (mine ∷ others) = drop (length (commands_of w phase)) mine ∷ after_phase phase
+    (suc w) others
 
 abbrev pub all_lines : List Phase → List (List Answer) → Bytes
 all_lines [] answers = []
-all_lines (phase ∷ phases) answers = phase_lines phase 0 answers ++ all_lines phases (after_phase phase 0 answers)
+all_lines (phase ∷ phases) answers = phase_lines phase 0 answers ++ all_lines phases
+    (after_phase phase 0 answers)
 
 -- Each worker from number w on has as many answers as it has commands in these phases.
 abbrev pub AreAnswersOf : List Phase → (w : ℕ) → List (List Answer) → Type 0
 AreAnswersOf phases w [] = Unit {0}
-AreAnswersOf phases w (mine ∷ others) = (length mine ≡ length (flat_map (commands_of w) phases)) × AreAnswersOf phases (suc w) others
+AreAnswersOf phases w (mine ∷ others) = (length mine ≡ length (flat_map (commands_of w) phases))
+    × AreAnswersOf phases (suc w) others
 
 -- ---- the lists, of which each worker has said so many
 

@@ -32,42 +32,52 @@ GiveNone (Ok words) f = IsDue (map string_bytes words.items) f
 GiveNone (Err e) f = f ≡ e
 
 -- The script was run with the options that the words give.
-pub record HasRunAsAsked (words : Words) (unread unread' written written' : Option Bytes) : Type 0 where
+pub record HasRunAsAsked (words : Words) (unread unread' written written' : Option Bytes) :
+    Type 0 where
   pub plan : Plan
   pub given : GiveOptions words plan
   pub run : HasRun plan unread unread' written written'
 
 -- The words ask for help, and its text was written. Nothing was read.
-pub record HasShownHelp (words : Words) (unread unread' written written' : Option Bytes) : Type 0 where
+pub record HasShownHelp (words : Words) (unread unread' written written' : Option Bytes) :
+    Type 0 where
   pub text : String Global
   pub asked : GiveNone words (option.Help text)
   pub unread_kept : unread' ≡ unread
   pub told : Appends written written' (string_bytes text)
 
 -- The words give options, and this came of the script.
-pub record HasFault (words : Words) (unread unread' written written' : Option Bytes) (f : RunFault) : Type 0 where
+pub record HasFault (words : Words) (unread unread' written written' : Option Bytes)
+    (f : RunFault) : Type 0 where
   pub plan : Plan
   pub given : GiveOptions words plan
   pub due : IsRunFaultOf plan unread unread' written written' f
 
--- The words ask for help, and the writer failed: what went out is a beginning of its text. Nothing was read.
-pub record HasBrokenHelp (words : Words) (unread unread' written written' : Option Bytes) : Type 0 where
+-- The words ask for help, and the writer failed: what went out is a beginning of its text. Nothing
+-- was read.
+pub record HasBrokenHelp (words : Words) (unread unread' written written' : Option Bytes) :
+    Type 0 where
   pub text : String Global
   pub asked : GiveNone words (option.Help text)
   pub unread_kept : unread' ≡ unread
   pub told : AppendsSome written written' (string_bytes text)
 
--- When a fault comes: of words that give no options, of the script, of writing the help, or of the memory for the options.
--- Where the words give none, nothing is read.
-abbrev pub IsServeFaultOf : Words → (unread unread' written written' : Option Bytes) → ServeFault → Type 0
-IsServeFaultOf words unread unread' written written' serve.Usage = GiveNone words option.Usage × (unread' ≡ unread)
-IsServeFaultOf words unread unread' written written' (serve.Run run.Read) = HasFault words unread unread' written written' run.Read
+-- When a fault comes: of words that give no options, of the script, of writing the help, or of the
+-- memory for the options. Where the words give none, nothing is read.
+abbrev pub IsServeFaultOf :
+    Words → (unread unread' written written' : Option Bytes) → ServeFault → Type 0
+IsServeFaultOf words unread unread' written written' serve.Usage = GiveNone words option.Usage
+    × (unread' ≡ unread)
+IsServeFaultOf words unread unread' written written' (serve.Run run.Read) =
+    HasFault words unread unread' written written' run.Read
 IsServeFaultOf words unread unread' written written' (serve.Run run.Write) =
-    HasFault words unread unread' written written' run.Write ⊎ HasBrokenHelp words unread unread' written written'
+    HasFault words unread unread' written written' run.Write
+    ⊎ HasBrokenHelp words unread unread' written written'
 IsServeFaultOf words unread unread' written written' (serve.Run (run.Line n cause)) =
     HasFault words unread unread' written written' (run.Line n cause)
 IsServeFaultOf words unread unread' written written' (serve.Run run.OutOfMemory) =
-    HasFault words unread unread' written written' run.OutOfMemory ⊎ (GiveNone words option.OutOfMemory × (unread' ≡ unread))
+    HasFault words unread unread' written written' run.OutOfMemory
+    ⊎ (GiveNone words option.OutOfMemory × (unread' ≡ unread))
 
 -- What the program's streams hold, where that is known, and whether they have failed.
 pub record Streams : Type 0 where
@@ -78,7 +88,9 @@ pub record Streams : Type 0 where
   pub writer_failed : Bool
   pub errors_failed : Bool
 
-abbrev pub streams : (unread written said : Option Bytes) (reader_failed writer_failed errors_failed : Bool) → Streams
+abbrev pub streams :
+    (unread written said : Option Bytes) (reader_failed writer_failed errors_failed : Bool)
+    → Streams
 streams unread written said reader_failed writer_failed errors_failed = record {
   unread = unread;
   written = written;

@@ -44,7 +44,8 @@ of_add (Ok value) = before value
 of_add (Err fault.Full) = answer.Full
 of_add (Err fault.ValueRange) = answer.Range
 
--- what is shown of the map's reply: whether the two with an expected value acted, and else the earlier value
+-- what is shown of the map's reply: whether the two with an expected value acted, and else the
+-- earlier value
 abbrev pub shown : Command → Reply → Answer
 shown (command.Get k) reply = before reply.before
 shown (command.Put k n) reply = before reply.before
@@ -63,10 +64,12 @@ answer_of c m = if overflows (call_of c) m then answer.Range else shown c (reply
 abbrev pub map_after_command : Command → Numbers → Numbers
 map_after_command c m = if overflows (call_of c) m then m else map_after (call_of c) m
 
--- the map that commands leave, one after another, where the one at place n is refused for want of room if full n is true
+-- the map that commands leave, one after another, where the one at place n is refused for want of
+-- room if full n is true
 abbrev pub map_behind : (ℕ → Bool) → Numbers → List Command → Numbers
 map_behind full m [] = m
-map_behind full m (c ∷ cs) = map_behind (λ n. full (suc n)) (if full 0 then m else map_after_command c m) cs
+map_behind full m (c ∷ cs) = map_behind (λ n. full (suc n))
+    (if full 0 then m else map_after_command c m) cs
 
 -- ---- the text
 
@@ -92,13 +95,14 @@ ending_of size entries = codes "size " ++ decimal size ++ codes "\n" ++ flat_map
 abbrev pub ending : Numbers → Bytes
 ending m = ending_of (map.len m) (map.entries m)
 
--- The text for commands from a map on, each with its worker's number. The command at place n is refused for want of
--- room where full n is true: it answers so, and leaves the map as it is.
+-- The text for commands from a map on, each with its worker's number. The command at place n is
+-- refused for want of room where full n is true: it answers so, and leaves the map as it is.
 abbrev pub text_from : (ℕ → Bool) → Numbers → Phase → Bytes
 text_from full m [] = ending m
 text_from full m (task ∷ tasks) =
     if full 0 then answer_line task.0 answer.Full ++ text_from (λ n. full (suc n)) m tasks
-    else answer_line task.0 (answer_of task.1 m) ++ text_from (λ n. full (suc n)) (map_after_command task.1 m) tasks
+    else answer_line task.0 (answer_of task.1 m) ++ text_from (λ n. full (suc n))
+    (map_after_command task.1 m) tasks
 
 -- the text of a script for one worker, with these commands refused
 abbrev pub text_of : (ℕ → Bool) → List Phase → Bytes

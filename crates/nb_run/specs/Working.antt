@@ -20,7 +20,8 @@ use Rattle.nb_run.specs.declared.workers.Worker.{Worker}
 
 -- the seat made the command's call, and this is what is shown of its reply
 abbrev pub HasShownReply : Command → Answer → (before after : SeatOf) → Type 0
-HasShownReply c a before after = (reply : Reply) × (shown c reply ≡ a) × HasReplied (call_of c) before after reply
+HasShownReply c a before after = (reply : Reply) × (shown c reply ≡ a)
+    × HasReplied (call_of c) before after reply
 
 -- The command was answered so: its call was made, or justly refused.
 abbrev pub IsAnswered : MapOf → Command → Answer → (before after : SeatOf) → Type 0
@@ -32,7 +33,8 @@ IsAnswered m c answer.Range before after = HasRefused m (call_of c) before after
 
 -- the seat's steps were such as the command's call may make
 abbrev pub HasWorkedFor : MapOf → Command → (before after : SeatOf) → Type 0
-HasWorkedFor m c before after = (most : ℕ) × HasStepped m.chain.shape (call_of c) before.chain after.chain most
+HasWorkedFor m c before after = (most : ℕ)
+    × HasStepped m.chain.shape (call_of c) before.chain after.chain most
 
 -- it was answered so, by such steps
 abbrev pub HasAnswered : MapOf → Command → Answer → (before after : SeatOf) → Type 0
@@ -43,16 +45,20 @@ abbrev pub AreAnswered : MapOf → List Command → List Answer → (before afte
 AreAnswered m [] [] before after = after ≡ before
 AreAnswered m [] (a ∷ answers) before after = ⊥
 AreAnswered m (c ∷ cs) [] before after = ⊥
-AreAnswered m (c ∷ cs) (a ∷ answers) before after = (next : SeatOf) × HasAnswered m c a before next × AreAnswered m cs answers next after
+AreAnswered m (c ∷ cs) (a ∷ answers) before after = (next : SeatOf) × HasAnswered m c a before next
+    × AreAnswered m cs answers next after
 
 -- a worker's commands of a phase, in their order
 abbrev pub commands_of : ℕ → Phase → List Command
 commands_of w phase = map (λ task. task.1) (filter (λ task. task.0 == w) phase)
 
--- The workers from number w on have run a phase, each with its seat, and their commands were answered so.
-abbrev pub PhaseRan : MapOf → Phase → (w : ℕ) → List (List Answer) → (before after : List SeatOf) → Type 0
+-- The workers from number w on have run a phase, each with its seat, and their commands were
+-- answered so.
+abbrev pub PhaseRan :
+    MapOf → Phase → (w : ℕ) → List (List Answer) → (before after : List SeatOf) → Type 0
 PhaseRan m phase w [] [] [] = Unit {0}
-PhaseRan m phase w (mine ∷ others) (s ∷ before) (t ∷ after) = AreAnswered m (commands_of w phase) mine s t × PhaseRan m phase (suc w) others before after
+PhaseRan m phase w (mine ∷ others) (s ∷ before) (t ∷ after) =
+    AreAnswered m (commands_of w phase) mine s t × PhaseRan m phase (suc w) others before after
 PhaseRan m phase w _ _ _ = ⊥
 
 -- The seat has made no call since, and no event, and its log goes on from those of all these seats.
@@ -68,12 +74,14 @@ abbrev pub HaveMet : MapOf → (before after : List SeatOf) → Type 0
 HaveMet m before after = AllZip (HasMet m before) before after
 
 -- The phases were run one after another, each with its answers, and all seats met after each.
-abbrev pub HaveRun : MapOf → List Phase → List (List (List Answer)) → (before after : List SeatOf) → Type 0
+abbrev pub HaveRun :
+    MapOf → List Phase → List (List (List Answer)) → (before after : List SeatOf) → Type 0
 HaveRun m [] [] before after = after ≡ before
 HaveRun m [] (first ∷ answers) before after = ⊥
 HaveRun m (phase ∷ phases) [] before after = ⊥
 HaveRun m (phase ∷ phases) (first ∷ answers) before after =
-    (apart joined_answers : List SeatOf) × PhaseRan m phase 0 first before apart × HaveMet m apart joined_answers × HaveRun m phases answers joined_answers after
+    (apart joined_answers : List SeatOf) × PhaseRan m phase 0 first before apart
+    × HaveMet m apart joined_answers × HaveRun m phases answers joined_answers after
 
 -- ---- workers
 
@@ -95,7 +103,9 @@ pub record HasRunPhase (m : MapOf) (phase : Phase) (before after : Worker) : Typ
 
 -- the worker's seat is the map's, and it has room for its answers of a phase
 abbrev pub IsReadyFor : MapOf → Phase → Worker → Type 0
-IsReadyFor m phase worker = IsMine m worker.seat × (length worker.answers.items + length (commands_of worker.number phase) ≤ vec_capacity worker.answers)
+IsReadyFor m phase worker = IsMine m worker.seat
+    × (length worker.answers.items + length (commands_of worker.number phase)
+    ≤ vec_capacity worker.answers)
 
 -- the worker has run its commands of the phase, and its seat is the map's
 abbrev pub IsRun : MapOf → Phase → (before after : Worker) → Type 0
@@ -111,7 +121,8 @@ pub record HasMetAs (m : MapOf) (seats : List SeatOf) (before after : Worker) : 
 -- a worker has room for its answers of the phases
 abbrev pub HasRoomFor : List Phase → Worker → Type 0
 HasRoomFor phases worker =
-    length worker.answers.items + length (flat_map (commands_of worker.number) phases) ≤ vec_capacity worker.answers
+    length worker.answers.items + length (flat_map (commands_of worker.number) phases)
+    ≤ vec_capacity worker.answers
 
 -- the workers' numbers count from w
 abbrev pub AreNumbered : (w : ℕ) → List Worker → Type 0
@@ -138,4 +149,5 @@ pub record HaveRunAll (m : MapOf) (phases : List Phase) (before after : List Wor
   pub answers : List (List (List Answer))
   pub ran : HaveRun m phases answers (worker_seats before) (worker_seats after)
   pub own : All (λ worker. IsMine m worker.seat) after
-  pub kept : answers_of after ≡ joined_answers (answers_of before) (all_answers (length before) answers)
+  pub kept : answers_of after ≡ joined_answers (answers_of before)
+      (all_answers (length before) answers)

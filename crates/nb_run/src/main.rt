@@ -1,5 +1,5 @@
-//! `nbrun` runs a script of commands on a map of whole numbers, and prints what they answer and what the map
-//! contains at the end.
+//! `nbrun` runs a script of commands on a map of whole numbers, and prints what they answer and
+//! what the map contains at the end.
 #![tactic(auto)]
 
 pub mod answers;

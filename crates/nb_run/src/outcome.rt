@@ -2,7 +2,14 @@
 ghost use Rattle.std.specs.Prelude.{◌≡◌, [], length, All, IfOk};
 ghost use Rattle.std.specs.List.{flat_map};
 ghost use Rattle.nb_run.specs.Outcomes.{IsOutcome, lists_in};
-ghost use Rattle.nb_run.specs.Working.{AreNumbered, HasRoomFor, answers_of, commands_of, phases_in, worker_seats};
+ghost use Rattle.nb_run.specs.Working.{
+  AreNumbered,
+  HasRoomFor,
+  answers_of,
+  commands_of,
+  phases_in,
+  worker_seats,
+};
 
 use crate::answers::Answer;
 use crate::gate::Gate;
@@ -15,8 +22,8 @@ use std::alloc::Global;
 use std::sync::Wait;
 use std::thread::Threads;
 
-/// What came of a script: what each worker's commands were answered, those of all phases one after another, and what the map
-/// contains at the end.
+/// What came of a script: what each worker's commands were answered, those of all phases one after
+/// another, and what the map contains at the end.
 #[derive(Drop)]
 pub(crate) struct Outcome {
     pub(crate) answers: Vec<Vec<Answer>>,
@@ -26,7 +33,8 @@ pub(crate) struct Outcome {
 
 /// How many answers the worker will have. More than can be counted wouldn't fit in memory.
 fn room_for(worker: usize, phases: &[Phase]) -> Result<usize, OutOfMemory>
-    ensures { IfOk result (λ room. room ≡ length (flat_map (commands_of worker) (phases_in phases.now))) }
+    ensures { IfOk result (λ room. room ≡ length
+        (flat_map (commands_of worker) (phases_in phases.now))) }
 {
     let mut room: usize = 0;
     for phase in phases {
@@ -41,7 +49,8 @@ fn ready(alloc: Global, phases: &[Phase], seats: Vec<Seat>) -> Result<Vec<Worker
     ensures seats { IfOk result (λ workers. worker_seats workers.items ≡ seats.items) }
     ensures numbered { IfOk result (λ workers. AreNumbered 0 workers.items) }
     ensures room { IfOk result (λ workers. All (HasRoomFor (phases_in phases.now)) workers.items) }
-    ensures fresh { IfOk result (λ workers. All (λ worker. worker.answers.items ≡ []) workers.items) }
+    ensures fresh { IfOk result (λ workers. All (λ worker. worker.answers.items ≡ [])
+        workers.items) }
 {
     let mut workers = Vec::with_capacity(alloc, seats.len())?;
     for seat in seats {

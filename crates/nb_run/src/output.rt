@@ -1,5 +1,24 @@
-//! The program's output, written from the answers through a buffer of fixed size. It takes no memory.
-ghost use Rattle.std.specs.Prelude.{◌≡◌, ◌<◌, ◌≤◌, ◌+◌, ◌++◌, ℕ, [], List, Some, false, is_err, length, map, IfErr, OnOk, slice_get, slice_index};
+//! The program's output, written from the answers through a buffer of fixed size. It takes no
+//! memory.
+ghost use Rattle.std.specs.Prelude.{
+  ◌≡◌,
+  ◌<◌,
+  ◌≤◌,
+  ◌+◌,
+  ◌++◌,
+  ℕ,
+  [],
+  List,
+  Some,
+  false,
+  is_err,
+  length,
+  map,
+  IfErr,
+  OnOk,
+  slice_get,
+  slice_index,
+};
 ghost use Rattle.std.specs.Io.KnownBytes.{Appends};
 ghost use Rattle.std.specs.List.{flat_map};
 ghost use Rattle.nb_script.specs.Streams.{AppendsSome};
@@ -24,9 +43,11 @@ type Waiting = ArrayVec<u8, ROOM>;
 /// Writes the bytes that wait.
 fn flush<W: Sink>(writer: &mut W, waiting: &mut Waiting) -> Result<(), Failed>
     requires unfailed { W.failed writer.old ≡ false }
-    ensures written { OnOk result (Appends (W.contents writer.old) (W.contents writer.new) waiting.old.items) }
+    ensures written { OnOk result (Appends (W.contents writer.old) (W.contents writer.new)
+        waiting.old.items) }
     ensures empty { OnOk result (waiting.new.items ≡ []) }
-    ensures begun { IfErr result (λ _. AppendsSome (W.contents writer.old) (W.contents writer.new) waiting.old.items) }
+    ensures begun { IfErr result (λ _. AppendsSome (W.contents writer.old) (W.contents writer.new)
+        waiting.old.items) }
     ensures marks { W.failed writer.new ≡ is_err result }
 {
     write_all(writer, waiting.as_slice())?;
@@ -37,8 +58,10 @@ fn flush<W: Sink>(writer: &mut W, waiting: &mut Waiting) -> Result<(), Failed>
 /// Puts the bytes behind those that wait. Where there is no room, it writes those first.
 fn say<W: Sink>(writer: &mut W, waiting: &mut Waiting, bytes: &[u8]) -> Result<(), Failed>
     requires unfailed { W.failed writer.old ≡ false }
-    ensures said { OnOk result (Says (W.contents writer.old) waiting.old.items (W.contents writer.new) waiting.new.items bytes.now) }
-    ensures begun { IfErr result (λ _. AppendsSome (W.contents writer.old) (W.contents writer.new) (waiting.old.items ++ bytes.now)) }
+    ensures said { OnOk result (Says (W.contents writer.old) waiting.old.items
+        (W.contents writer.new) waiting.new.items bytes.now) }
+    ensures begun { IfErr result (λ _. AppendsSome (W.contents writer.old) (W.contents writer.new)
+        (waiting.old.items ++ bytes.now)) }
     ensures marks { W.failed writer.new ≡ is_err result }
 {
     if waiting.try_extend_from_slice(bytes).is_ok() {
@@ -55,8 +78,10 @@ fn say<W: Sink>(writer: &mut W, waiting: &mut Waiting, bytes: &[u8]) -> Result<(
 /// Says the pieces of a line.
 fn say_all<W: Sink>(writer: &mut W, waiting: &mut Waiting, pieces: &[&[u8]]) -> Result<(), Failed>
     requires unfailed { W.failed writer.old ≡ false }
-    ensures said { OnOk result (Says (W.contents writer.old) waiting.old.items (W.contents writer.new) waiting.new.items (flat_map (λ piece. piece.now) pieces.now)) }
-    ensures begun { IfErr result (λ _. AppendsSome (W.contents writer.old) (W.contents writer.new) (waiting.old.items ++ (flat_map (λ piece. piece.now) pieces.now))) }
+    ensures said { OnOk result (Says (W.contents writer.old) waiting.old.items
+        (W.contents writer.new) waiting.new.items (flat_map (λ piece. piece.now) pieces.now)) }
+    ensures begun { IfErr result (λ _. AppendsSome (W.contents writer.old) (W.contents writer.new)
+        (waiting.old.items ++ (flat_map (λ piece. piece.now) pieces.now))) }
     ensures marks { W.failed writer.new ≡ is_err result }
 {
     for piece in pieces {
@@ -87,8 +112,10 @@ fn say_line<W: Sink>(
     answer: &Answer,
 ) -> Result<(), Failed>
     requires unfailed { W.failed writer.old ≡ false }
-    ensures said { OnOk result (Says (W.contents writer.old) waiting.old.items (W.contents writer.new) waiting.new.items (answer_line worker answer.now)) }
-    ensures begun { IfErr result (λ _. AppendsSome (W.contents writer.old) (W.contents writer.new) (waiting.old.items ++ (answer_line worker answer.now))) }
+    ensures said { OnOk result (Says (W.contents writer.old) waiting.old.items
+        (W.contents writer.new) waiting.new.items (answer_line worker answer.now)) }
+    ensures begun { IfErr result (λ _. AppendsSome (W.contents writer.old) (W.contents writer.new)
+        (waiting.old.items ++ (answer_line worker answer.now))) }
     ensures marks { W.failed writer.new ≡ is_err result }
 {
     let (mut number, mut digits) = (Buffer::new(), Buffer::new());
@@ -105,8 +132,10 @@ fn say_lines<W: Sink>(
     answers: &[Answer],
 ) -> Result<(), Failed>
     requires unfailed { W.failed writer.old ≡ false }
-    ensures said { OnOk result (Says (W.contents writer.old) waiting.old.items (W.contents writer.new) waiting.new.items (flat_map (answer_line worker) answers.now)) }
-    ensures begun { IfErr result (λ _. AppendsSome (W.contents writer.old) (W.contents writer.new) (waiting.old.items ++ (flat_map (answer_line worker) answers.now))) }
+    ensures said { OnOk result (Says (W.contents writer.old) waiting.old.items
+        (W.contents writer.new) waiting.new.items (flat_map (answer_line worker) answers.now)) }
+    ensures begun { IfErr result (λ _. AppendsSome (W.contents writer.old) (W.contents writer.new)
+        (waiting.old.items ++ (flat_map (answer_line worker) answers.now))) }
     ensures marks { W.failed writer.new ≡ is_err result }
 {
     for answer in answers {
@@ -122,7 +151,8 @@ pub(crate) fn count_of(worker: usize, phase: &[(usize, Command)]) -> usize
     phase.iter().filter(|task| task.0 == worker).count()
 }
 
-/// Says the answers of a phase, worker by worker. `done` counts for each worker the answers that were said.
+/// Says the answers of a phase, worker by worker. `done` counts for each worker the answers that
+/// were said.
 fn say_phase<W: Sink>(
     writer: &mut W,
     waiting: &mut Waiting,
@@ -132,13 +162,16 @@ fn say_phase<W: Sink>(
 ) -> Result<(), Failed>
     requires unfailed { W.failed writer.old ≡ false }
     requires few { length answers.now ≤ 8 }
-    requires enough { (w : ℕ) (mine : List Answer) → slice_get (map (λ list. list.items) answers.now) w ≡ Some mine
+    requires enough { (w : ℕ) (mine : List Answer)
+        → slice_get (map (λ list. list.items) answers.now) w ≡ Some mine
         → slice_index done.old w + length (commands_of w phase.now) ≤ length mine }
-    ensures said { OnOk result (Says (W.contents writer.old) waiting.old.items (W.contents writer.new) waiting.new.items
+    ensures said { OnOk result (Says (W.contents writer.old) waiting.old.items
+        (W.contents writer.new) waiting.new.items
         (phase_lines phase.now 0 (left done.old 0 (map (λ list. list.items) answers.now)))) }
     ensures done { OnOk result ((w : ℕ) → w < length answers.now
         → slice_index done.new w ≡ slice_index done.old w + length (commands_of w phase.now)) }
-    ensures begun { IfErr result (λ _. AppendsSome (W.contents writer.old) (W.contents writer.new) (waiting.old.items
+    ensures begun { IfErr result (λ _. AppendsSome (W.contents writer.old) (W.contents writer.new)
+        (waiting.old.items
         ++ (phase_lines phase.now 0 (left done.old 0 (map (λ list. list.items) answers.now))))) }
     ensures marks { W.failed writer.new ≡ is_err result }
 {
@@ -159,8 +192,10 @@ fn say_ending<W: Sink>(
     entries: &[(Key, Num)],
 ) -> Result<(), Failed>
     requires unfailed { W.failed writer.old ≡ false }
-    ensures said { OnOk result (Says (W.contents writer.old) waiting.old.items (W.contents writer.new) waiting.new.items (ending_of size entries.now)) }
-    ensures begun { IfErr result (λ _. AppendsSome (W.contents writer.old) (W.contents writer.new) (waiting.old.items ++ (ending_of size entries.now))) }
+    ensures said { OnOk result (Says (W.contents writer.old) waiting.old.items
+        (W.contents writer.new) waiting.new.items (ending_of size entries.now)) }
+    ensures begun { IfErr result (λ _. AppendsSome (W.contents writer.old) (W.contents writer.new)
+        (waiting.old.items ++ (ending_of size entries.now))) }
     ensures marks { W.failed writer.new ≡ is_err result }
 {
     let mut digits = Buffer::new();
@@ -176,8 +211,10 @@ fn say_entries<W: Sink>(
     entries: &[(Key, Num)],
 ) -> Result<(), Failed>
     requires unfailed { W.failed writer.old ≡ false }
-    ensures said { OnOk result (Says (W.contents writer.old) waiting.old.items (W.contents writer.new) waiting.new.items (flat_map entry_line entries.now)) }
-    ensures begun { IfErr result (λ _. AppendsSome (W.contents writer.old) (W.contents writer.new) (waiting.old.items ++ (flat_map entry_line entries.now))) }
+    ensures said { OnOk result (Says (W.contents writer.old) waiting.old.items
+        (W.contents writer.new) waiting.new.items (flat_map entry_line entries.now)) }
+    ensures begun { IfErr result (λ _. AppendsSome (W.contents writer.old) (W.contents writer.new)
+        (waiting.old.items ++ (flat_map entry_line entries.now))) }
     ensures marks { W.failed writer.new ≡ is_err result }
 {
     let (mut key_digits, mut digits) = (Buffer::new(), Buffer::new());
@@ -189,8 +226,9 @@ fn say_entries<W: Sink>(
     Ok(())
 }
 
-/// Writes what the commands were answered, phase by phase and in each phase worker by worker, then the size and the
-/// entries. Each worker's answers stand in one list, for all phases one after another.
+/// Writes what the commands were answered, phase by phase and in each phase worker by worker, then
+/// the size and the entries. Each worker's answers stand in one list, for all phases one after
+/// another.
 pub(crate) fn tell<W: Sink>(
     writer: &mut W,
     phases: &[Phase],
@@ -200,11 +238,14 @@ pub(crate) fn tell<W: Sink>(
 ) -> Result<(), Failed>
     requires unfailed { W.failed writer.old ≡ false }
     requires few { length answers.now ≤ 8 }
-    requires enough { AreAnswersOf (map (λ phase. phase.items) phases.now) 0 (map (λ list. list.items) answers.now) }
+    requires enough { AreAnswersOf (map (λ phase. phase.items) phases.now) 0
+        (map (λ list. list.items) answers.now) }
     ensures told { OnOk result (Appends (W.contents writer.old) (W.contents writer.new)
-        (all_lines (map (λ phase. phase.items) phases.now) (map (λ list. list.items) answers.now) ++ ending_of size entries.now)) }
+        (all_lines (map (λ phase. phase.items) phases.now) (map (λ list. list.items) answers.now)
+        ++ ending_of size entries.now)) }
     ensures begun { IfErr result (λ _. AppendsSome (W.contents writer.old) (W.contents writer.new)
-        (all_lines (map (λ phase. phase.items) phases.now) (map (λ list. list.items) answers.now) ++ ending_of size entries.now)) }
+        (all_lines (map (λ phase. phase.items) phases.now) (map (λ list. list.items) answers.now)
+        ++ ending_of size entries.now)) }
     ensures marks { W.failed writer.new ≡ is_err result }
 {
     let mut waiting = ArrayVec::new();

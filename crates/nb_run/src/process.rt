@@ -14,7 +14,8 @@ use std::thread::Threads;
 /// The program's name in its help.
 const NAME: &[u8] = b"nbrun";
 
-/// A process whose first word is the program's own name. What it was called by is no word for the program: it may be no text.
+/// A process whose first word is the program's own name. What it was called by is no word for the
+/// program: it may be no text.
 #[derive(Drop)]
 struct Named<'a, P> {
     process: &'a P,

@@ -12,12 +12,13 @@ use nb_script::streams::{Sink, Source};
 use std::sync::Wait;
 use std::thread::Threads;
 
-/// Reads a script to its end, runs its commands on a map, and writes what they were answered and what the map contains at
-/// the end. No command runs until all of the script was read and found to be without a fault, and the output is written at
-/// the end.
+/// Reads a script to its end, runs its commands on a map, and writes what they were answered and
+/// what the map contains at the end. No command runs until all of the script was read and found to
+/// be without a fault, and the output is written at the end.
 ///
-/// Each seat of the map is a worker's, in a thread of its own. In each phase all workers run their commands at the same
-/// time; a phase begins when the one before it is over for all. A thread that can't be started is want of memory.
+/// Each seat of the map is a worker's, in a thread of its own. In each phase all workers run their
+/// commands at the same time; a phase begins when the one before it is over for all. A thread that
+/// can't be started is want of memory.
 pub fn run<H: Threads + Wait + AllocGlobal + Sync, R: Source, W: Sink>(
     rt: &H,
     options: &Options,
@@ -29,8 +30,10 @@ pub fn run<H: Threads + Wait + AllocGlobal + Sync, R: Source, W: Sink>(
     requires writer { W.failed writer.old ≡ false }
 
     ensures ended { IsRunResult options.now.shape
-        (ends (R.remaining reader.old) (W.contents writer.old) (R.failed reader.old) (W.failed writer.old))
-        (ends (R.remaining reader.new) (W.contents writer.new) (R.failed reader.new) (W.failed writer.new))
+        (ends (R.remaining reader.old) (W.contents writer.old) (R.failed reader.old)
+        (W.failed writer.old))
+        (ends (R.remaining reader.new) (W.contents writer.new) (R.failed reader.new)
+        (W.failed writer.new))
         result }
 
     // Nothing is written before another fault.
@@ -52,8 +55,10 @@ pub fn run_gated<H: Threads + Wait + AllocGlobal + Sync, G: Gate + Sync, R: Sour
     requires writer { W.failed writer.old ≡ false }
 
     ensures ended { IsRunResult options.now.shape
-        (ends (R.remaining reader.old) (W.contents writer.old) (R.failed reader.old) (W.failed writer.old))
-        (ends (R.remaining reader.new) (W.contents writer.new) (R.failed reader.new) (W.failed writer.new))
+        (ends (R.remaining reader.old) (W.contents writer.old) (R.failed reader.old)
+        (W.failed writer.old))
+        (ends (R.remaining reader.new) (W.contents writer.new) (R.failed reader.new)
+        (W.failed writer.new))
         result }
     ensures silent { IfErr result (λ fault. fault ≢ RunFault.Write → writer.new ≡ writer.old) }
 {

@@ -1,6 +1,26 @@
 //! The program: options, a script, and what is said of a fault.
-ghost use Rattle.std.specs.Prelude.{◌≡◌, ◌≢◌, ◌⊎◌, ◌↔◌, false, IsTrue, IfOk, IfErr, IsErrOf, OnOk, Result};
-ghost use Rattle.nb_run.specs.Serving.{GiveNone, GiveOptions, HasFailed, HasShownHelp, HasRunAsAsked, IsServeFaultOf, streams};
+ghost use Rattle.std.specs.Prelude.{
+  ◌≡◌,
+  ◌≢◌,
+  ◌⊎◌,
+  ◌↔◌,
+  false,
+  IsTrue,
+  IfOk,
+  IfErr,
+  IsErrOf,
+  OnOk,
+  Result,
+};
+ghost use Rattle.nb_run.specs.Serving.{
+  GiveNone,
+  GiveOptions,
+  HasFailed,
+  HasShownHelp,
+  HasRunAsAsked,
+  IsServeFaultOf,
+  streams,
+};
 
 use crate::run::run;
 use nb_script::faults::{RunFault, ServeFault};
@@ -33,12 +53,16 @@ fn attend<H: Threads + Wait + AllocGlobal + Sync, R: Source, W: Sink>(
     requires more { R.ended reader.old ≡ false }
     requires writer { W.failed writer.old ≡ false }
 
-    ensures ok { OnOk result (HasRunAsAsked words (R.remaining reader.old) (R.remaining reader.new) (W.contents writer.old) (W.contents writer.new)
-        ⊎ HasShownHelp words (R.remaining reader.old) (R.remaining reader.new) (W.contents writer.old) (W.contents writer.new)) }
-    ensures fault { IfErr result (IsServeFaultOf words (R.remaining reader.old) (R.remaining reader.new) (W.contents writer.old) (W.contents writer.new)) }
+    ensures ok { OnOk result (HasRunAsAsked words (R.remaining reader.old) (R.remaining reader.new)
+        (W.contents writer.old) (W.contents writer.new)
+        ⊎ HasShownHelp words (R.remaining reader.old) (R.remaining reader.new)
+        (W.contents writer.old) (W.contents writer.new)) }
+    ensures fault { IfErr result (IsServeFaultOf words (R.remaining reader.old)
+        (R.remaining reader.new) (W.contents writer.old) (W.contents writer.new)) }
     ensures read { IsErrOf result (ServeFault.Run RunFault.Read) ↔ IsTrue (R.failed reader.new) }
     ensures write { IsErrOf result (ServeFault.Run RunFault.Write) ↔ IsTrue (W.failed writer.new) }
-    ensures silent { IfErr result (λ fault. fault ≢ ServeFault.Run RunFault.Write → writer.new ≡ writer.old) }
+    ensures silent { IfErr result (λ fault. fault ≢ ServeFault.Run RunFault.Write
+        → writer.new ≡ writer.old) }
 {
     match options_of(rt.alloc(), words) {
         Ok(options) => run(rt, &options, reader, writer).map_err(ServeFault::Run),
@@ -51,10 +75,10 @@ fn attend<H: Threads + Wait + AllocGlobal + Sync, R: Source, W: Sink>(
     }
 }
 
-/// Runs the program on the words of its command line, and answers its exit status: 0 where the script was run or help
-/// was asked for, 1 where the reader or the writer failed, 2 for a fault of the script, 3 for words that give no
-/// options, 4 where memory ran out or a thread couldn't be started. A fault is told on `errors`; that `errors` fails
-/// changes no status.
+/// Runs the program on the words of its command line, and answers its exit status: 0 where the
+/// script was run or help was asked for, 1 where the reader or the writer failed, 2 for a fault of
+/// the script, 3 for words that give no options, 4 where memory ran out or a thread couldn't be
+/// started. A fault is told on `errors`; that `errors` fails changes no status.
 pub fn serve<H: Threads + Wait + AllocGlobal + Sync, R: Source, W: Sink, E: Sink>(
     rt: &H,
     words: Result<Vec<String>, OptionFault>,
@@ -67,14 +91,18 @@ pub fn serve<H: Threads + Wait + AllocGlobal + Sync, R: Source, W: Sink, E: Sink
     requires writer { W.failed writer.old ≡ false }
     requires errors { E.failed errors.old ≡ false }
 
-    ensures done { result ≡ 0 → HasRunAsAsked words (R.remaining reader.old) (R.remaining reader.new) (W.contents writer.old) (W.contents writer.new)
-        ⊎ HasShownHelp words (R.remaining reader.old) (R.remaining reader.new) (W.contents writer.old) (W.contents writer.new) }
+    ensures done { result ≡ 0 → HasRunAsAsked words (R.remaining reader.old)
+        (R.remaining reader.new) (W.contents writer.old) (W.contents writer.new)
+        ⊎ HasShownHelp words (R.remaining reader.old) (R.remaining reader.new)
+        (W.contents writer.old) (W.contents writer.new) }
     ensures whole { result ≡ 0 → (R.failed reader.new ≡ false) × (W.failed writer.new ≡ false) }
     ensures quiet { result ≡ 0 → errors.new ≡ errors.old }
 
     ensures failed { result ≢ 0 → HasFailed words
-        (streams (R.remaining reader.old) (W.contents writer.old) (E.contents errors.old) (R.failed reader.old) (W.failed writer.old) (E.failed errors.old))
-        (streams (R.remaining reader.new) (W.contents writer.new) (E.contents errors.new) (R.failed reader.new) (W.failed writer.new) (E.failed errors.new))
+        (streams (R.remaining reader.old) (W.contents writer.old) (E.contents errors.old)
+        (R.failed reader.old) (W.failed writer.old) (E.failed errors.old))
+        (streams (R.remaining reader.new) (W.contents writer.new) (E.contents errors.new)
+        (R.failed reader.new) (W.failed writer.new) (E.failed errors.new))
         result }
 
     // Another fault than a failed write leaves the writer as it was.

@@ -3,7 +3,20 @@ ghost use Rattle.std.specs.Prelude.{◌≡◌, ◌<◌, ◌∷◌, ◌++◌, [],
 ghost use Rattle.std.specs.Thread.{IsSync};
 ghost use Rattle.nb_map.specs.Maps.{IsMine};
 ghost use Rattle.std.specs.List.{AllZip};
-ghost use Rattle.nb_run.specs.Working.{AreNumbered, HasMet, HasMetAs, HasRoomFor, HasRunPhase, HasWorkedFor, HaveRunAll, IsAnswered, IsReadyFor, IsRun, phases_in, worker_seats};
+ghost use Rattle.nb_run.specs.Working.{
+  AreNumbered,
+  HasMet,
+  HasMetAs,
+  HasRoomFor,
+  HasRunPhase,
+  HasWorkedFor,
+  HaveRunAll,
+  IsAnswered,
+  IsReadyFor,
+  IsRun,
+  phases_in,
+  worker_seats,
+};
 
 use crate::answers::Answer;
 use crate::gate::Gate;
@@ -77,9 +90,10 @@ impl<'a> Promise<Worker> for Runs<'a> {
     ghost kept_by = { λ p worker. IsRun p.map.now p.phase.now p.worker.value worker };
 }
 
-/// Runs the commands of a phase, those of all workers at the same time: a thread of its own runs those of the last worker,
-/// while this one goes on with the others in the same way. Of the workers so many have commands in the phase; no thread is
-/// started for one that has none, nor for the last one that has some.
+/// Runs the commands of a phase, those of all workers at the same time: a thread of its own runs
+/// those of the last worker, while this one goes on with the others in the same way. Of the workers
+/// so many have commands in the phase; no thread is started for one that has none, nor for the last
+/// one that has some.
 fn run_together<R: Threads + Wait + Sync, G: Gate + Sync>(
     rt: &R,
     gate: &G,
@@ -113,7 +127,8 @@ fn run_together<R: Threads + Wait + Sync, G: Gate + Sync>(
             requires others { All (IsReadyFor map.now phase.now) workers.items }
             requires room { length workers.items < vec_capacity workers }
             ensures room { IfOk result (λ ran. vec_capacity ran ≡ vec_capacity workers) }
-            ensures ran { IfOk result (λ ran. AllZip (IsRun map.entry.now phase.entry.now) (workers.items ++ last ∷ []) ran.items) }
+            ensures ran { IfOk result (λ ran. AllZip (IsRun map.entry.now phase.entry.now)
+                (workers.items ++ last ∷ []) ran.items) }
         {
             let runs = Runs {
                 map,
@@ -129,7 +144,8 @@ fn run_together<R: Threads + Wait + Sync, G: Gate + Sync>(
             );
             let child = spawned.map_err(|_| OutOfMemory)?;
             let others = run_together(rt, gate, map, phase, busy, workers);
-            // The thread ends before anything else, and what it gives back isn't lost where the others ran out of memory.
+            // The thread ends before anything else, and what it gives back isn't lost where the
+            // others ran out of memory.
             let ran = child.join(rt);
             let mut workers = others?;
             workers.push_reserved(ran);
@@ -173,7 +189,8 @@ fn meet_each(map: &Map, seat: &mut Seat, others: &mut [Worker])
 fn meet_all(map: &Map, workers: Vec<Worker>) -> Vec<Worker>
     requires own { All (λ worker. IsMine map.now worker.seat) workers.items }
     ensures room { vec_capacity result ≡ vec_capacity workers }
-    ensures met { AllZip (HasMetAs map.now (worker_seats workers.items)) workers.items result.items }
+    ensures met { AllZip (HasMetAs map.now (worker_seats workers.items))
+        workers.items result.items }
 {
     let mut workers = workers;
     let Some(mut last) = workers.pop() else {
@@ -196,7 +213,8 @@ pub(crate) fn run_phases<R: Threads + Wait + Sync, G: Gate + Sync>(
     requires own { All (λ worker. IsMine map.now worker.seat) workers.items }
     requires numbered { AreNumbered 0 workers.items }
     requires room { All (HasRoomFor (phases_in phases.now)) workers.items }
-    ensures ran { IfOk result (λ ran. HaveRunAll map.now (phases_in phases.now) workers.items ran.items) }
+    ensures ran { IfOk result (λ ran. HaveRunAll map.now (phases_in phases.now)
+        workers.items ran.items) }
 {
     let mut workers = workers;
     for phase in phases {

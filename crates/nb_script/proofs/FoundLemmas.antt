@@ -20,39 +20,52 @@ Gives bs r = ParsesUnsigned 32 10 bs r × ExplainsUnsignedError 10 bs r × HasUn
 
 -- a number that `get_one` gives
 pub number_found : (f : Found) (name : Text) (n : ℕ) → (one_text f name ≡ None → Some n ≡ None)
-    → ((t : List ℕ) → one_text f name ≡ Some t → ReadsOne Gives t (Some n)) → number_in name (rows_of f) ≡ Some n
+    → ((t : List ℕ) → one_text f name ≡ Some t → ReadsOne Gives t (Some n))
+    → number_in name (rows_of f) ≡ Some n
 number_found f name n none value = go (one_text f name) refl
   where
     go : (o : Option Text) → one_text f name ≡ o → number_in name (rows_of f) ≡ Some n
     go None e =
         let bad : Some n ≡ None = none e in
         cc
-    go (Some t) e = ap (option_and_then u32_of) (sym (one_text-rows f name) ∙ e) ∙ u32_read ParseIntError t n (value t e).0
+    go (Some t) e = ap (option_and_then u32_of) (sym (one_text-rows f name) ∙ e)
+        ∙ u32_read ParseIntError t n (value t e).0
 
 -- and where it gives none
-number_missing : (f : Found) (name : Text) → ((t : List ℕ) → one_text f name ≡ Some t → ReadsOne Gives t None) → number_in name (rows_of f) ≡ None
+number_missing :
+    (f : Found) (name : Text) → ((t : List ℕ) → one_text f name ≡ Some t → ReadsOne Gives t None)
+    → number_in name (rows_of f) ≡ None
 number_missing f name value = go (one_text f name) refl
   where
     go : (o : Option Text) → one_text f name ≡ o → number_in name (rows_of f) ≡ None
     go None e = ap (option_and_then u32_of) (sym (one_text-rows f name) ∙ e)
-    go (Some t) e = ap (option_and_then u32_of) (sym (one_text-rows f name) ∙ e) ∙ u32_refused t (value t e).0 (value t e).1.0
+    go (Some t) e = ap (option_and_then u32_of) (sym (one_text-rows f name) ∙ e)
+        ∙ u32_refused t (value t e).0 (value t e).1.0
 
 -- where an option has no number there is no plan
-pub none_found : (f : Found) (name : Text) (r : Option Plan) → ((t : List ℕ) → one_text f name ≡ Some t → ReadsOne Gives t None)
-    → ((plan : Plan) → AreOptionsOf (rows_of f) plan → (n : ℕ) × (number_in name (rows_of f) ≡ Some n)) → IfNone r ((plan : Plan) → AreOptionsOf (rows_of f) plan → ⊥)
+pub none_found :
+    (f : Found) (name : Text) (r : Option Plan)
+    → ((t : List ℕ) → one_text f name ≡ Some t → ReadsOne Gives t None)
+    → ((plan : Plan) → AreOptionsOf (rows_of f) plan
+    → (n : ℕ) × (number_in name (rows_of f) ≡ Some n)) → IfNone r ((plan : Plan)
+    → AreOptionsOf (rows_of f) plan → ⊥)
 none_found f name (Some p) value has = tt
 none_found f name None value has = λ plan x.
     let bad : None ≡ Some (has plan x).0 = sym (number_missing f name value) ∙ (has plan x).1 in
     cc
 
 -- the plan of the numbers and the text that the getters give
-module _ (f : Found) (bits generations seats stripes : ℕ) (given text : Option Text) (has_bits : number_in (codes "bits") (rows_of f) ≡ Some bits)
-    (has_generations : number_in (codes "generations") (rows_of f) ≡ Some generations) (has_seats : number_in (codes "seats") (rows_of f) ≡ Some seats)
-    (has_stripes : number_in (codes "stripes") (rows_of f) ≡ Some stripes) (first : given ≡ first_value f (codes "plan")) (is : given ≡ text) where
+module _ (f : Found) (bits generations seats stripes : ℕ) (given text : Option Text)
+    (has_bits : number_in (codes "bits") (rows_of f) ≡ Some bits)
+    (has_generations : number_in (codes "generations") (rows_of f) ≡ Some generations)
+    (has_seats : number_in (codes "seats") (rows_of f) ≡ Some seats)
+    (has_stripes : number_in (codes "stripes") (rows_of f) ≡ Some stripes)
+    (first : given ≡ first_value f (codes "plan")) (is : given ≡ text) where
   text_is : first_of (codes "plan") (rows_of f) ≡ text
   text_is = sym (first_value-rows f (codes "plan")) ∙ sym first ∙ is
 
-  found : (plan : Plan) → plan_asked text bits generations seats stripes ≡ Some plan → AreOptionsOf (rows_of f) plan
+  found : (plan : Plan) → plan_asked text bits generations seats stripes ≡ Some plan
+      → AreOptionsOf (rows_of f) plan
   found plan h = record {
     bits = bits;
     generations = generations;
@@ -65,16 +78,25 @@ module _ (f : Found) (bits generations seats stripes : ℕ) (given text : Option
     plan_found = ap (λ t. plan_asked t bits generations seats stripes) text_is ∙ h;
   }
 
-  found_is : (plan : Plan) → AreOptionsOf (rows_of f) plan → plan_asked text bits generations seats stripes ≡ Some plan
+  found_is : (plan : Plan) → AreOptionsOf (rows_of f) plan
+      → plan_asked text bits generations seats stripes ≡ Some plan
   found_is plan x =
       let same_bits : bits ≡ x.bits = same_value (sym has_bits ∙ x.bits_found) in
-      let same_generations : generations ≡ x.generations = same_value (sym has_generations ∙ x.generations_found) in
+      let same_generations : generations ≡ x.generations =
+      same_value (sym has_generations ∙ x.generations_found) in
       let same_seats : seats ≡ x.seats = same_value (sym has_seats ∙ x.seats_found) in
       let same_stripes : stripes ≡ x.stripes = same_value (sym has_stripes ∙ x.stripes_found) in
       rw (same_bits, same_generations, same_seats, same_stripes, ← text_is) x.plan_found
 
   -- is found where it is made, and else none is
-  pub settled : (r : Option Plan) → (IfSome r (λ plan. plan_asked text bits generations seats stripes ≡ Some plan) → IfSome r (AreOptionsOf (rows_of f)))
-      × (IfNone r (plan_asked text bits generations seats stripes ≡ None) → IfNone r ((plan : Plan) → AreOptionsOf (rows_of f) plan → ⊥))
+  pub settled : (r : Option Plan)
+      → (IfSome r (λ plan. plan_asked text bits generations seats stripes ≡ Some plan)
+      → IfSome r (AreOptionsOf (rows_of f)))
+      × (IfNone r (plan_asked text bits generations seats stripes ≡ None)
+      → IfNone r ((plan : Plan) → AreOptionsOf (rows_of f) plan → ⊥))
   settled (Some plan) = (found plan, λ h. h)
-  settled None = (λ h. h, λ none plan x. let bad : None ≡ Some plan = sym none ∙ found_is plan x in cc)
+  settled None = (
+    λ h. h,
+    λ none plan x. let bad : None ≡ Some plan = sym none ∙ found_is plan x in
+        cc,
+  )

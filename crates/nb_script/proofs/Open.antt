@@ -1,5 +1,5 @@
--- While a line goes on that isn't too long, no fault is settled: the line may end here, and then its cause isn't its length, or
--- it may become too long.
+-- While a line goes on that isn't too long, no fault is settled: the line may end here, and then
+-- its cause isn't its length, or it may become too long.
 use Rattle.std.specs.Prelude.{option_to_list}
 use Rattle.std.proofs.lemmas.List.{length-replicate}
 use Rattle.std.proofs.Common.{zero, Bool, ◌≡◌, ◌≢◌, ◌∙◌, ℕ, ◌≤◌, ◌<◌, ◌==◌, ◌&&◌, suc, nat_lt, true, false, cond, List, [], ◌∷◌, ◌++◌, length, replicate, Option, Some, None, Result, Ok, Err, IfErr, ap, sym, refl, codes, slice_get, eqb, append_assoc, length-append, lt-ltb, le-ltb, arith}
@@ -22,11 +22,14 @@ use Rattle.nb_script.proofs.Reading.{lines_of-end, long_line}
 abbrev IsShort : {A : Type 0} → Result A Cause → Type 0
 IsShort r = IfErr r (λ c. c ≢ cause.LongLine)
 
-short-bind : {A B : Type 0} (r : Result A Cause) (f : A → Result B Cause) → IsShort r → ((x : A) → IsShort (f x)) → IsShort (r >>= f)
+short-bind :
+    {A B : Type 0} (r : Result A Cause) (f : A → Result B Cause) → IsShort r
+    → ((x : A) → IsShort (f x)) → IsShort (r >>= f)
 short-bind (Ok x) f h k = k x
 short-bind (Err c) f h k = h
 
-short-if : {A : Type 0} (b : Bool) (x y : Result A Cause) → IsShort x → IsShort y → IsShort (cond b x y)
+short-if :
+    {A : Type 0} (b : Bool) (x y : Result A Cause) → IsShort x → IsShort y → IsShort (cond b x y)
 short-if true x y h k = h
 short-if false x y h k = k
 
@@ -34,18 +37,21 @@ short-or : {A : Type 0} (o : Option A) (c : Cause) → c ≢ cause.LongLine → 
 short-or None c other = other
 short-or (Some x) c other = tt
 
-short-below : (limit : ℕ) (c : Cause) (o : Option ℕ) → c ≢ cause.LongLine → IsShort (below limit c o)
+short-below :
+    (limit : ℕ) (c : Cause) (o : Option ℕ) → c ≢ cause.LongLine → IsShort (below limit c o)
 short-below limit c None other = λ e. cc
 short-below limit c (Some n) other = short-if (nat_lt n limit) (Ok n) (Err c) tt other
 
 short-key : (words : List Bytes) (i : ℕ) → IsShort (key_at words i)
 short-key words i =
-    short-bind (ok_or (slice_get words i) cause.Missing) key_of (short-or (slice_get words i) cause.Missing (λ e. cc))
+    short-bind (ok_or (slice_get words i) cause.Missing) key_of
+    (short-or (slice_get words i) cause.Missing (λ e. cc))
     (λ word. short-below _ cause.KeyRange (number_spelled word) (λ e. cc))
 
 short-value : (words : List Bytes) (i : ℕ) → IsShort (value_at words i)
 short-value words i =
-    short-bind (ok_or (slice_get words i) cause.Missing) value_of (short-or (slice_get words i) cause.Missing (λ e. cc))
+    short-bind (ok_or (slice_get words i) cause.Missing) value_of
+    (short-or (slice_get words i) cause.Missing (λ e. cc))
     (λ word. short-below _ cause.ValueRange (number_spelled word) (λ e. cc))
 
 short-one : (words : List Bytes) (f : ℕ → Command) → IsShort (value_at words 1 >>= λ n. Ok (f n))
@@ -58,8 +64,10 @@ short-on op.Put k words = short-one words (λ n. Command.Put k n)
 short-on op.PutIfAbsent k words = short-one words (λ n. Command.PutIfAbsent k n)
 short-on op.Replace k words = short-one words (λ n. Command.Replace k n)
 short-on op.ReplaceIf k words =
-    short-bind (value_at words 1) (λ old. value_at words 2 >>= λ n. Ok (Command.ReplaceIf k old n)) (short-value words 1)
-    (λ old. short-bind (value_at words 2) (λ n. Ok (Command.ReplaceIf k old n)) (short-value words 2) (λ n. tt))
+    short-bind (value_at words 1) (λ old. value_at words 2 >>= λ n. Ok (Command.ReplaceIf k old n))
+    (short-value words 1)
+    (λ old. short-bind (value_at words 2) (λ n. Ok (Command.ReplaceIf k old n))
+    (short-value words 2) (λ n. tt))
 short-on op.Remove k words = tt
 short-on op.RemoveIf k words = short-one words (λ n. Command.RemoveIf k n)
 short-on op.Add k words = short-one words (λ n. Command.Add k n)
@@ -69,13 +77,16 @@ unfolding command_of
 short-command o words =
     short-if (nat_lt (length words) (arity o)) _ _ (λ e. cc)
     (short-if (nat_lt (arity o) (length words)) _ _ (λ e. cc)
-    (short-bind (key_at words 0) (λ k. command_on o k words) (short-key words 0) (λ k. short-on o k words)))
+    (short-bind (key_at words 0) (λ k. command_on o k words) (short-key words 0)
+    (λ k. short-on o k words)))
 
 short-task : (seats : ℕ) (first : Bytes) (words : List Bytes) → IsShort (task_of seats first words)
 unfolding task_of
-short-task seats first [] = short-bind (worker_of seats first) (λ w. Err cause.Missing) (short-below seats cause.Worker (number_spelled first) (λ e. cc)) (λ w e. cc)
+short-task seats first [] = short-bind (worker_of seats first) (λ w. Err cause.Missing)
+    (short-below seats cause.Worker (number_spelled first) (λ e. cc)) (λ w e. cc)
 short-task seats first (name ∷ words) =
-    short-bind (worker_of seats first) _ (short-below seats cause.Worker (number_spelled first) (λ e. cc))
+    short-bind (worker_of seats first) _ (short-below seats cause.Worker (number_spelled first)
+    (λ e. cc))
     (λ w. short-bind (ok_or (op_of name) cause.Op) _ (short-or (op_of name) cause.Op (λ e. cc))
     (λ o. short-bind (command_of o words) (λ c. Ok (w, c)) (short-command o words) (λ c. tt)))
 
@@ -104,13 +115,16 @@ module _ (seats n : ℕ) (f : List Line → List Phase) where
 
   -- the line ends here: if it has a fault, that is in its words
   ended : (said : Result (Option Line) Cause) → IsShort said → (k : ℕ) (why : Cause)
-      → ((at_line n said >>= λ first. Ok [] >>= λ lines. Ok (option_to_list first ++ lines)) >>= λ lines. Ok (f lines)) ≡ Err (k, why)
+      → ((at_line n said >>= λ first. Ok [] >>= λ lines. Ok (option_to_list first ++ lines))
+      >>= λ lines. Ok (f lines)) ≡ Err (k, why)
       → why ≢ cause.LongLine
   ended (Ok x) short k why is = absurd (no-fault (f (option_to_list x ++ [])) (k, why) is)
-  ended (Err c) short k why is = λ e. short (ap (λ (x : Fault). x.1) (same-fault (n, c) (k, why) (Err (n, c)) refl is) ∙ e)
+  ended (Err c) short k why is = λ e. short
+      (ap (λ (x : Fault). x.1) (same-fault (n, c) (k, why) (Err (n, c)) refl is) ∙ e)
 
   pub open-line :
-      (line : Bytes) → length line ≤ LINE_MAX → list_any is_newline line ≡ false → (0 < length line → n ≤ LINES_MAX)
+      (line : Bytes) → length line ≤ LINE_MAX → list_any is_newline line ≡ false
+      → (0 < length line → n ≤ LINES_MAX)
       → (k : ℕ) (why : Cause) → ¬ ((more : Bytes) → Script (lines_of (line ++ more)) ≡ Err (k, why))
   open-line [] short whole few k why settled = no-fault (f []) (k, why) (settled [])
   open-line (b ∷ bs) short whole few k why settled =
@@ -118,15 +132,21 @@ module _ (seats n : ℕ) (f : List Line → List Phase) where
       let some : 0 < length line = omega arith in
       let said : numbered_line seats n line ≡ at_line n (said_by seats (words_in line)) =
       rw (le-ltb LINES_MAX n (few some), le-ltb LINE_MAX (length line) short) refl in
-      let here : Script (line ∷ []) ≡ Err (k, why) = ap Script (sym (lines_of-end line whole some)) ∙ settled [] in
+      let here : Script (line ∷ []) ≡ Err (k, why) = ap Script (sym (lines_of-end line whole some))
+      ∙ settled [] in
       let other =
       ended (said_by seats (words_in line)) (short-said seats (words_in line)) k why
-      (ap (λ (r : Result (Option Line) Fault). (r >>= λ first. Ok [] >>= λ lines. Ok (option_to_list first ++ lines)) >>= λ lines. Ok (f lines)) (sym said) ∙ here) in
+      (ap (λ (r : Result (Option Line) Fault).
+      (r >>= λ first. Ok [] >>= λ lines. Ok (option_to_list first ++ lines)) >>= λ lines. Ok
+      (f lines)) (sym said) ∙ here) in
       let more : Bytes = replicate LINE_MAX 48 in
-      let past : LINE_MAX ≤ length (line ++ more) = omega (arith, length-append line more, length-replicate {A = ℕ} LINE_MAX 48) in
+      let past : LINE_MAX ≤ length (line ++ more) =
+      omega (arith, length-append line more, length-replicate {A = ℕ} LINE_MAX 48) in
       let long : Script (lines_of ((line ++ more) ++ 48 ∷ [])) ≡ Err (n, cause.LongLine) =
-      long_line seats n (line ++ more) 48 [] (λ lines. Ok (f lines)) (few some) past (rw (list_any-append, whole, zeros LINE_MAX) refl) refl in
+      long_line seats n (line ++ more) 48 [] (λ lines. Ok (f lines)) (few some) past
+      (rw (list_any-append, whole, zeros LINE_MAX) refl) refl in
       let same : (k, why) ≡ (n, cause.LongLine) =
       same-fault (k, why) (n, cause.LongLine) (Script (lines_of ((line ++ more) ++ 48 ∷ [])))
-      (ap (λ bytes. Script (lines_of bytes)) (append_assoc line more (48 ∷ [])) ∙ settled (more ++ 48 ∷ [])) long in
+      (ap (λ bytes. Script (lines_of bytes)) (append_assoc line more (48 ∷ []))
+      ∙ settled (more ++ 48 ∷ [])) long in
       other (ap (λ (x : Fault). x.1) same)

@@ -23,23 +23,31 @@ pub record HasRead (seats : ℕ) (unread unread' : Option Bytes) (lines : Lines)
   pub same : (more : Bytes) → with_bytes lines more ≡ script_of seats (read ++ more)
 
 -- the bytes of one more read go to the lines
-pub read_more : (seats : ℕ) (unread unread' unread'' : Option Bytes) (old new : Lines) (piece : Bytes) → HasRead seats unread unread' old → Consumes unread' unread'' piece
-    → ((more : Bytes) → with_bytes new more ≡ with_bytes old (piece ++ more)) → HasRead seats unread unread'' new
+pub read_more :
+    (seats : ℕ) (unread unread' unread'' : Option Bytes) (old new : Lines) (piece : Bytes)
+    → HasRead seats unread unread' old → Consumes unread' unread'' piece
+    → ((more : Bytes) → with_bytes new more ≡ with_bytes old (piece ++ more))
+    → HasRead seats unread unread'' new
 read_more seats unread unread' unread'' old new piece h consumed same = record {
   read = h.read ++ piece;
   consumed = Consumes-trans unread unread' unread'' h.read piece h.consumed consumed;
-  same = λ more. same more ∙ h.same (piece ++ more) ∙ ap (script_of seats) (sym (append_assoc h.read piece more));
+  same = λ more. same more ∙ h.same (piece ++ more)
+      ∙ ap (script_of seats) (sym (append_assoc h.read piece more));
 }
 
 -- what was read so far settles no fault
-unsettled : (seats : ℕ) (unread unread' : Option Bytes) (lines : Lines) → (h : HasRead seats unread unread' lines) → IsOpen seats h.read
+unsettled :
+    (seats : ℕ) (unread unread' : Option Bytes) (lines : Lines)
+    → (h : HasRead seats unread unread' lines) → IsOpen seats h.read
 unsettled seats unread unread' lines h = λ n why settled.
-    open-line lines.seats lines.number (with_lines lines) lines.partial.items lines.short lines.one_line lines.begun n why
+    open-line lines.seats lines.number (with_lines lines)
+    lines.partial.items lines.short lines.one_line lines.begun n why
     (λ more. h.same more ∙ settled more)
 
 -- a read that fails comes after bytes that settle no fault
 pub fault_of_failure :
-    (seats : ℕ) (unread unread' unread'' : Option Bytes) (lines : Lines) → HasRead seats unread unread' lines → Keeps unread' unread''
+    (seats : ℕ) (unread unread' unread'' : Option Bytes) (lines : Lines)
+    → HasRead seats unread unread' lines → Keeps unread' unread''
     → IsFaultOf seats unread unread'' fault.Read
 fault_of_failure seats unread unread' unread'' lines h kept = record {
   read = h.read;
@@ -48,7 +56,9 @@ fault_of_failure seats unread unread' unread'' lines h kept = record {
 }
 
 -- one more piece was read
-read_on : (seats : ℕ) (unread unread' unread'' : Option Bytes) (lines : Lines) (piece : Bytes) → (h : HasRead seats unread unread' lines) → Consumes unread' unread'' piece
+read_on :
+    (seats : ℕ) (unread unread' unread'' : Option Bytes) (lines : Lines) (piece : Bytes)
+    → (h : HasRead seats unread unread' lines) → Consumes unread' unread'' piece
     → length piece ≤ PIECE → HasReadOn seats unread unread'' (h.read ++ piece)
 read_on seats unread unread' unread'' lines piece h consumed small = record {
   consumed = Consumes-trans unread unread' unread'' h.read piece h.consumed consumed;
@@ -60,23 +70,35 @@ read_on seats unread unread' unread'' lines piece h consumed small = record {
 }
 
 -- a fault of the lines is one of the bytes that were read
-pub fault_of_read : (seats : ℕ) (unread unread' unread'' : Option Bytes) (lines : Lines) (piece : Bytes) → HasRead seats unread unread' lines → Consumes unread' unread'' piece
-    → length piece ≤ PIECE → (fault : RunFault) → IsFirstFault (λ more. with_bytes lines (piece ++ more)) fault → IsFaultOf seats unread unread'' fault
-fault_of_read seats unread unread' unread'' lines piece h consumed small fault.Read first = absurd first
+pub fault_of_read :
+    (seats : ℕ) (unread unread' unread'' : Option Bytes) (lines : Lines) (piece : Bytes)
+    → HasRead seats unread unread' lines → Consumes unread' unread'' piece
+    → length piece ≤ PIECE → (fault : RunFault)
+    → IsFirstFault (λ more. with_bytes lines (piece ++ more)) fault
+    → IsFaultOf seats unread unread'' fault
+fault_of_read seats unread unread' unread'' lines piece h consumed small fault.Read first =
+    absurd first
 fault_of_read seats unread unread' unread'' lines piece h consumed small fault.Write first = first
-fault_of_read seats unread unread' unread'' lines piece h consumed small (fault.Line n cause) first =
+fault_of_read seats unread unread' unread'' lines piece h consumed small (fault.Line n cause)
+    first =
     record {
       read = h.read ++ piece;
       reading = read_on seats unread unread' unread'' lines piece h consumed small;
-      said = ap (script_of seats) (ap (λ bytes. h.read ++ bytes) (sym (append-nil piece))) ∙ sym (h.same (piece ++ [])) ∙ first [];
-      lasting = inr (λ more. ap (script_of seats) (append_assoc h.read piece more) ∙ sym (h.same (piece ++ more)) ∙ first more);
+      said = ap (script_of seats) (ap (λ bytes. h.read ++ bytes) (sym (append-nil piece)))
+          ∙ sym (h.same (piece ++ [])) ∙ first [];
+      lasting = inr (λ more. ap (script_of seats) (append_assoc h.read piece more)
+          ∙ sym (h.same (piece ++ more)) ∙ first more);
     }
 fault_of_read seats unread unread' unread'' lines piece h consumed small fault.OutOfMemory first =
     (h.read ++ piece, read_on seats unread unread' unread'' lines piece h consumed small)
 
-fault_of_nothing : (seats : ℕ) (unread unread' unread'' : Option Bytes) (lines : Lines) → HasRead seats unread unread' lines → Consumes unread' unread'' [] → IsAtEnd unread''
-    → (fault : RunFault) → IsFirstFault (λ (more : Bytes). with_bytes lines []) fault → IsFaultOf seats unread unread'' fault
-fault_of_nothing seats unread unread' unread'' lines h consumed ended fault.Read first = absurd first
+fault_of_nothing :
+    (seats : ℕ) (unread unread' unread'' : Option Bytes) (lines : Lines)
+    → HasRead seats unread unread' lines → Consumes unread' unread'' [] → IsAtEnd unread''
+    → (fault : RunFault) → IsFirstFault (λ (more : Bytes). with_bytes lines []) fault
+    → IsFaultOf seats unread unread'' fault
+fault_of_nothing seats unread unread' unread'' lines h consumed ended fault.Read first =
+    absurd first
 fault_of_nothing seats unread unread' unread'' lines h consumed ended fault.Write first = first
 fault_of_nothing seats unread unread' unread'' lines h consumed ended (fault.Line n cause) first =
     record {
@@ -89,8 +111,13 @@ fault_of_nothing seats unread unread' unread'' lines h consumed ended fault.OutO
     (h.read ++ [], read_on seats unread unread' unread'' lines [] h consumed (omega arith))
 
 -- the same at the end, where the last read gave nothing
-pub fault_of_end : (seats : ℕ) (unread unread' unread'' : Option Bytes) (lines : Lines) (bytes : Bytes) (count : ℕ) → HasRead seats unread unread' lines → Consumes unread' unread'' (take count bytes) → IsAtEnd unread'' → count ≡ 0
-    → (fault : RunFault) → IsFirstFault (λ (more : Bytes). with_bytes lines []) fault → IsFaultOf seats unread unread'' fault
+pub fault_of_end :
+    (seats : ℕ) (unread unread' unread'' : Option Bytes) (lines : Lines) (bytes : Bytes) (count : ℕ)
+    → HasRead seats unread unread' lines → Consumes unread' unread'' (take count bytes)
+    → IsAtEnd unread'' → count ≡ 0
+    → (fault : RunFault) → IsFirstFault (λ (more : Bytes). with_bytes lines []) fault
+    → IsFaultOf seats unread unread'' fault
 fault_of_end seats unread unread' unread'' lines bytes count h consumed ended none fault first =
-    let nothing : Consumes unread' unread'' [] = subst (λ n. Consumes unread' unread'' (take n bytes)) none consumed in
+    let nothing : Consumes unread' unread'' [] =
+    subst (λ n. Consumes unread' unread'' (take n bytes)) none consumed in
     fault_of_nothing seats unread unread' unread'' lines h nothing ended fault first

@@ -7,14 +7,16 @@ use Rattle.nb_script.specs.declared.faults.RunFault.{RunFault}
 use Rattle.nb_script.specs.declared.faults.RunFault.TheVariants as fault
 use Rattle.nb_script.specs.declared.reader.Lines.{Lines}
 
--- The phases that are over, then the current one, and what follows: the first of those goes on with the current one.
+-- The phases that are over, then the current one, and what follows: the first of those goes on with
+-- the current one.
 abbrev pub joined_phases : List Phase → Phase → List Phase → List Phase
 joined_phases over current [] = over ++ current ∷ []
 joined_phases over current (first ∷ later) = over ++ (current ++ first) ∷ later
 
 -- the phases so far, if these lines follow
 abbrev pub with_lines : Lines → List Line → List Phase
-with_lines l lines = joined_phases (map (λ phase. phase.items) l.over.items) l.current.items (phases_of lines)
+with_lines l lines = joined_phases (map (λ phase. phase.items) l.over.items) l.current.items
+    (phases_of lines)
 
 -- the whole script, if these lines follow
 abbrev pub with_texts : Lines → List Bytes → Result (List Phase) Fault

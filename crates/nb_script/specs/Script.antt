@@ -1,4 +1,5 @@
--- What a script says. It is bytes: lines, of words, with a command or the end of a phase on each line that has words.
+-- What a script says. It is bytes: lines, of words, with a command or the end of a phase on each
+-- line that has words.
 use Rattle.std.specs.Prelude.{ℕ, ◌==◌, ◌||◌, ◌&&◌, suc, nat_lt, if◌then◌else◌, Bool, List, [], ◌∷◌, ◌++◌, length, filter, codes, slice_get, Option, Some, None, Result, Ok, Err, option_to_list}
 use Rattle.std.specs.List.{slice_split, onto_first}
 use Rattle.std.specs.Str.{all_ascii_digits, bytes_eq}
@@ -50,7 +51,8 @@ words_in line = filter (λ word. nat_lt 0 (length word)) (slice_split is_space l
 
 -- the number that a word spells: one or more digits, in base ten
 abbrev pub number_spelled : Bytes → Option ℕ
-number_spelled word = if nat_lt 0 (length word) && all_ascii_digits word then Some (digits_value 10 word) else None
+number_spelled word = if nat_lt 0 (length word) && all_ascii_digits word then Some
+    (digits_value 10 word) else None
 
 abbrev pub below : ℕ → Cause → Option ℕ → Result ℕ Cause
 below limit too_great None = Err cause.Number
@@ -103,7 +105,8 @@ command_on op.Get k words = Ok (command.Get k)
 command_on op.Put k words = value_at words 1 >>= λ n. Ok (command.Put k n)
 command_on op.PutIfAbsent k words = value_at words 1 >>= λ n. Ok (command.PutIfAbsent k n)
 command_on op.Replace k words = value_at words 1 >>= λ n. Ok (command.Replace k n)
-command_on op.ReplaceIf k words = value_at words 1 >>= λ old. value_at words 2 >>= λ n. Ok (command.ReplaceIf k old n)
+command_on op.ReplaceIf k words = value_at words 1 >>= λ old. value_at words 2 >>= λ n. Ok
+    (command.ReplaceIf k old n)
 command_on op.Remove k words = Ok (command.Remove k)
 command_on op.RemoveIf k words = value_at words 1 >>= λ n. Ok (command.RemoveIf k n)
 command_on op.Add k words = value_at words 1 >>= λ n. Ok (command.Add k n)
@@ -119,7 +122,8 @@ command_of o words =
 unfoldable pub task_of : ℕ → Bytes → List Bytes → Result (ℕ × Command) Cause
 task_of seats first [] = worker_of seats first >>= λ w. Err cause.Missing
 task_of seats first (name ∷ words) =
-    worker_of seats first >>= λ w. ok_or (op_of name) cause.Op >>= λ o. command_of o words >>= λ c. Ok (w, c)
+    worker_of seats first >>= λ w. ok_or (op_of name) cause.Op >>= λ o. command_of o words >>= λ c.
+    Ok (w, c)
 
 -- ---- lines, the script, and its first fault
 
@@ -131,7 +135,8 @@ said_by seats (word ∷ words) =
     else task_of seats word words >>= λ task. Ok (Some (line.Command task.0 task.1))
 
 abbrev pub line_of : ℕ → Bytes → Result (Option Line) Cause
-line_of seats bytes = if nat_lt LINE_MAX (length bytes) then Err cause.LongLine else said_by seats (words_in bytes)
+line_of seats bytes = if nat_lt LINE_MAX (length bytes) then Err cause.LongLine else said_by seats
+    (words_in bytes)
 
 -- the first fault of a script: the number of its line, counted from 1, and its cause
 abbrev pub Fault : Type 0
@@ -142,13 +147,15 @@ at_line n (Ok x) = Ok x
 at_line n (Err c) = Err (n, c)
 
 abbrev pub numbered_line : ℕ → ℕ → Bytes → Result (Option Line) Fault
-numbered_line seats n bytes = at_line n (if nat_lt LINES_MAX n then Err cause.TooMany else line_of seats bytes)
+numbered_line seats n bytes =
+    at_line n (if nat_lt LINES_MAX n then Err cause.TooMany else line_of seats bytes)
 
 -- the lines from number n on that have words
 abbrev pub lines_from : ℕ → ℕ → List Bytes → Result (List Line) Fault
 lines_from seats n [] = Ok []
 lines_from seats n (bytes ∷ rest) =
-    numbered_line seats n bytes >>= λ first. lines_from seats (suc n) rest >>= λ lines. Ok (option_to_list first ++ lines)
+    numbered_line seats n bytes >>= λ first. lines_from seats (suc n) rest >>= λ lines. Ok
+    (option_to_list first ++ lines)
 
 -- A phase is what stands between the lines that end one: commands, each with its worker's number.
 abbrev pub Phase : Type 0

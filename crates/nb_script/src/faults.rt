@@ -47,7 +47,8 @@ impl ServeFault {
     /// Says what is wrong, on a line of its own. It takes no memory.
     pub fn complain<E: Sink>(self, errors: &mut E) -> Result<(), Failed>
         requires unfailed { E.failed errors.old ≡ false }
-        ensures said { OnOk result (Appends (E.contents errors.old) (E.contents errors.new) (complaint_of self)) }
+        ensures said { OnOk result (Appends (E.contents errors.old) (E.contents errors.new)
+            (complaint_of self)) }
         ensures marks { E.failed errors.new ≡ is_err result }
     {
         write_all(errors, b"nbrun: ")?;
@@ -57,7 +58,8 @@ impl ServeFault {
 
     fn say<E: Sink>(self, errors: &mut E) -> Result<(), Failed>
         requires unfailed { E.failed errors.old ≡ false }
-        ensures said { OnOk result (Appends (E.contents errors.old) (E.contents errors.new) (fault_text self)) }
+        ensures said { OnOk result (Appends (E.contents errors.old) (E.contents errors.new)
+            (fault_text self)) }
         ensures marks { E.failed errors.new ≡ is_err result }
     {
         match self {

@@ -1,8 +1,30 @@
 //! The options of the runner.
-ghost use Rattle.std.specs.Prelude.{◌≡◌, ◌≤◌, ◌^◌, false, ℕ, [], IfErr, IfNone, IfOk, IfSome, OnOk, map, string_bytes};
+ghost use Rattle.std.specs.Prelude.{
+  ◌≡◌,
+  ◌≤◌,
+  ◌^◌,
+  false,
+  ℕ,
+  [],
+  IfErr,
+  IfNone,
+  IfOk,
+  IfSome,
+  OnOk,
+  map,
+  string_bytes,
+};
 ghost use Rattle.clap.specs.Words.{app_of, fault_of, found_of, kind_of, rows_of, rule_of};
 ghost use Rattle.nb_core.specs.Plans.{Plan};
-ghost use Rattle.nb_script.specs.Options.{AreGiven, ComesTo, IsDue, AreOptionsOf, nbrun, option_rule, plan_of_text};
+ghost use Rattle.nb_script.specs.Options.{
+  AreGiven,
+  ComesTo,
+  IsDue,
+  AreOptionsOf,
+  nbrun,
+  option_rule,
+  plan_of_text,
+};
 ghost use Rattle.nb_script.specs.Script.{number_spelled};
 
 use clap::error::ErrorKind;

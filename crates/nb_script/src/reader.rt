@@ -1,5 +1,25 @@
 //! Reads a script, in pieces.
-ghost use Rattle.std.specs.Prelude.{◌≡◌, ◌<◌, ◌≤◌, ◌+◌, ◌-◌, ◌^◌, ◌∷◌, ◌++◌, ◌↔◌, [], List, false, length, IsTrue, IfOk, IfErr, OnOk, IsErrOf, map};
+ghost use Rattle.std.specs.Prelude.{
+  ◌≡◌,
+  ◌<◌,
+  ◌≤◌,
+  ◌+◌,
+  ◌-◌,
+  ◌^◌,
+  ◌∷◌,
+  ◌++◌,
+  ◌↔◌,
+  [],
+  List,
+  false,
+  length,
+  IsTrue,
+  IfOk,
+  IfErr,
+  OnOk,
+  IsErrOf,
+  map,
+};
 ghost use Rattle.std.specs.List.{list_any};
 ghost use Rattle.nb_script.specs.Script.{Bytes, is_newline, script_of};
 ghost use Rattle.nb_script.specs.Inputs.{HasReadScript, IsFaultOf};
@@ -18,8 +38,8 @@ pub const PIECE: usize = 4096;
 /// A phase: commands, each with its worker's number.
 pub type Phase = Vec<(usize, Command)>;
 
-/// The lines of a script whose bytes come one after another: the phases that are over, the current one, and what
-/// has come of the next line.
+/// The lines of a script whose bytes come one after another: the phases that are over, the current
+/// one, and what has come of the next line.
 #[derive(Drop)]
 pub(crate) struct Lines {
     seats: usize,
@@ -35,7 +55,13 @@ pub(crate) struct Lines {
 }
 
 impl Lines {
-    ghost use Rattle.nb_script.specs.Reading.{IsFirstFault, room, with_bytes, with_lines, with_texts};
+    ghost use Rattle.nb_script.specs.Reading.{
+      IsFirstFault,
+      room,
+      with_bytes,
+      with_lines,
+      with_texts,
+    };
 
     fn new(alloc: Global, seats: usize) -> Lines
         requires { seats < 2 ^ 64 - 1 }
@@ -53,9 +79,12 @@ impl Lines {
     /// Ends the line that has begun.
     fn end_line(&mut self) -> Result<(), RunFault>
         requires { self.old.number ≤ LINES_MAX }
-        ensures ok { OnOk result ((rest : List Bytes) → with_texts self.new rest ≡ with_texts self.old (self.old.partial.items ∷ rest)) }
-        ensures ended { OnOk result ((self.new.partial.items ≡ []) × (self.new.number ≡ self.old.number + 1)) }
-        ensures fault { IfErr result (λ fault. IsFirstFault (λ rest. with_texts self.old (self.old.partial.items ∷ rest)) fault) }
+        ensures ok { OnOk result ((rest : List Bytes)
+            → with_texts self.new rest ≡ with_texts self.old (self.old.partial.items ∷ rest)) }
+        ensures ended { OnOk result ((self.new.partial.items ≡ [])
+            × (self.new.number ≡ self.old.number + 1)) }
+        ensures fault { IfErr result (λ fault. IsFirstFault
+            (λ rest. with_texts self.old (self.old.partial.items ∷ rest)) fault) }
     {
         match said_by(self.seats, self.partial.as_slice()) {
             Ok(Some(line)) => self.keep(line)?,
@@ -68,8 +97,10 @@ impl Lines {
     }
 
     fn keep(&mut self, line: Line) -> Result<(), RunFault>
-        ensures ok { OnOk result ((lines : List Line) → with_lines self.new lines ≡ with_lines self.old (line ∷ lines)) }
-        ensures rest { OnOk result (self.new ≡ record self.old { over = self.new.over; current = self.new.current }) }
+        ensures ok { OnOk result ((lines : List Line)
+            → with_lines self.new lines ≡ with_lines self.old (line ∷ lines)) }
+        ensures rest { OnOk result (self.new
+            ≡ record self.old { over = self.new.over; current = self.new.current }) }
         ensures err { IfErr result (λ fault. fault ≡ RunFault.OutOfMemory) }
     {
         match line {
@@ -88,8 +119,10 @@ impl Lines {
 
     /// Takes the next byte.
     fn take(&mut self, byte: u8) -> Result<(), RunFault>
-        ensures ok { OnOk result ((more : Bytes) → with_bytes self.new more ≡ with_bytes self.old (byte ∷ more)) }
-        ensures fault { IfErr result (λ fault. IsFirstFault (λ more. with_bytes self.old (byte ∷ more)) fault) }
+        ensures ok { OnOk result ((more : Bytes)
+            → with_bytes self.new more ≡ with_bytes self.old (byte ∷ more)) }
+        ensures fault { IfErr result (λ fault. IsFirstFault
+            (λ more. with_bytes self.old (byte ∷ more)) fault) }
         ensures room { OnOk result (room self.new + 1 ≤ room self.old) }
     {
         if self.number > LINES_MAX {
@@ -107,8 +140,10 @@ impl Lines {
 
     /// Takes the next bytes.
     fn take_all(&mut self, bytes: &[u8]) -> Result<(), RunFault>
-        ensures ok { OnOk result ((more : Bytes) → with_bytes self.new more ≡ with_bytes self.old (bytes.now ++ more)) }
-        ensures fault { IfErr result (λ fault. IsFirstFault (λ more. with_bytes self.old (bytes.now ++ more)) fault) }
+        ensures ok { OnOk result ((more : Bytes)
+            → with_bytes self.new more ≡ with_bytes self.old (bytes.now ++ more)) }
+        ensures fault { IfErr result (λ fault. IsFirstFault
+            (λ more. with_bytes self.old (bytes.now ++ more)) fault) }
         ensures room { OnOk result (room self.new + length bytes.now ≤ room self.old) }
     {
         for byte in bytes {
@@ -120,7 +155,8 @@ impl Lines {
     /// Ends the last line, if it has begun.
     fn end_text(&mut self) -> Result<(), RunFault>
         ensures ok { OnOk result (with_texts self.new [] ≡ with_bytes self.old []) }
-        ensures fault { IfErr result (λ fault. IsFirstFault (λ (more : Bytes). with_bytes self.old []) fault) }
+        ensures fault { IfErr result (λ fault. IsFirstFault
+            (λ (more : Bytes). with_bytes self.old []) fault) }
     {
         if self.partial.is_empty() {
             return Ok(());
@@ -130,7 +166,8 @@ impl Lines {
 
     /// The phases, once the text has ended.
     fn into_phases(self) -> Result<Vec<Phase>, RunFault>
-        ensures ok { IfOk result (λ phases. with_texts self [] ≡ Ok (map (λ phase. phase.items) phases.items)) }
+        ensures ok { IfOk result (λ phases. with_texts self []
+            ≡ Ok (map (λ phase. phase.items) phases.items)) }
         ensures fault { IfErr result (λ fault. fault ≡ RunFault.OutOfMemory) }
     {
         let Lines {
@@ -143,8 +180,8 @@ impl Lines {
     }
 }
 
-/// Reads a script to its end, or to the piece in which its first fault is settled, in time linear in the bytes. A read of no
-/// bytes is the end; any error of the reader ends it.
+/// Reads a script to its end, or to the piece in which its first fault is settled, in time linear
+/// in the bytes. A read of no bytes is the end; any error of the reader ends it.
 pub fn read_script<R: Source>(
     alloc: Global,
     seats: usize,
@@ -153,8 +190,10 @@ pub fn read_script<R: Source>(
     requires seats { seats < 2 ^ 64 - 1 }
     requires unfailed { R.failed reader.old ≡ false }
     requires more { R.ended reader.old ≡ false }
-    ensures ok { IfOk result (λ phases. HasReadScript seats (R.remaining reader.old) (R.remaining reader.new) (map (λ phase. phase.items) phases.items)) }
-    ensures fault { IfErr result (IsFaultOf seats (R.remaining reader.old) (R.remaining reader.new)) }
+    ensures ok { IfOk result (λ phases. HasReadScript seats (R.remaining reader.old)
+        (R.remaining reader.new) (map (λ phase. phase.items) phases.items)) }
+    ensures fault { IfErr result (IsFaultOf seats (R.remaining reader.old)
+        (R.remaining reader.new)) }
     ensures failed { IsErrOf result RunFault.Read ↔ IsTrue (R.failed reader.new) }
 {
     let mut lines = Lines::new(alloc, seats);

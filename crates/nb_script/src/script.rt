@@ -1,6 +1,36 @@
 //! The lines of a script: what each says, or what is wrong with it.
-ghost use Rattle.std.specs.Prelude.{◌≡◌, ◌∷◌, [], ◌-◌, ◌^◌, length, ◌<◌, option_map, min, IfNone, IfSome, not, slice_get, take_while};
-ghost use Rattle.nb_script.specs.Script.{arity, command_of, command_on, is_space, key_at, key_of, number_spelled, op_of, said_by, task_of, value_at, value_of, words_in, worker_of};
+ghost use Rattle.std.specs.Prelude.{
+  ◌≡◌,
+  ◌∷◌,
+  [],
+  ◌-◌,
+  ◌^◌,
+  length,
+  ◌<◌,
+  option_map,
+  min,
+  IfNone,
+  IfSome,
+  not,
+  slice_get,
+  take_while,
+};
+ghost use Rattle.nb_script.specs.Script.{
+  arity,
+  command_of,
+  command_on,
+  is_space,
+  key_at,
+  key_of,
+  number_spelled,
+  op_of,
+  said_by,
+  task_of,
+  value_at,
+  value_of,
+  words_in,
+  worker_of,
+};
 
 use nb_core::{Key, Num};
 use thiserror::Error;
@@ -11,7 +41,8 @@ pub const LINE_MAX: usize = 128;
 /// The most lines of a script.
 pub const LINES_MAX: usize = 1 << 20;
 
-/// What is wrong with a line. `docs/script.md` has the order of the checks; the variants don't stand in it.
+/// What is wrong with a line. `docs/script.md` has the order of the checks; the variants don't
+/// stand in it.
 #[derive(Clone, Copy, Debug, PartialEq, Eq, Hash, Error)]
 #[error("{}", self.text())]
 pub enum Cause {

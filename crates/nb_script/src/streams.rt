@@ -1,5 +1,19 @@
 //! What the runner reads from and writes to.
-ghost use Rattle.std.specs.Prelude.{◌≡◌, ◌<◌, ◌≤◌, Option, List, ℕ, Bool, false, is_err, IfErr, IfOk, OnOk, length};
+ghost use Rattle.std.specs.Prelude.{
+  ◌≡◌,
+  ◌<◌,
+  ◌≤◌,
+  Option,
+  List,
+  ℕ,
+  Bool,
+  false,
+  is_err,
+  IfErr,
+  IfOk,
+  OnOk,
+  length,
+};
 ghost use Rattle.std.specs.Io.KnownBytes.{Appends, ReadConsumes, WriteAppends};
 ghost use Rattle.std.specs.Io.{ReadsAtMost, WritesAtMost};
 ghost use Rattle.nb_script.specs.Streams.{AppendsSome, gave_end};
@@ -12,8 +26,8 @@ use thiserror::Error;
 #[error("read or write failed")]
 pub struct Failed;
 
-/// Where a script comes from. It tells what is left to read, where that is known, and whether a read has failed or has
-/// found the end: nothing is read after that.
+/// Where a script comes from. It tells what is left to read, where that is known, and whether a
+/// read has failed or has found the end: nothing is read after that.
 pub trait Source {
     /// The bytes that reads will give from here on, where they are known.
     ghost remaining: { Self → Option (List ℕ) };
@@ -24,7 +38,8 @@ pub trait Source {
     /// Whether a read has found the end.
     ghost ended: { Self → Bool };
 
-    /// Reads some bytes into the front of `buffer`. No bytes are the end, unless the buffer has no room.
+    /// Reads some bytes into the front of `buffer`. No bytes are the end, unless the buffer has no
+    /// room.
     fn read(&mut self, buffer: &mut [u8]) -> Result<usize, Failed>
         requires unfailed { failed self.old ≡ false }
         requires more { ended self.old ≡ false }
@@ -34,8 +49,8 @@ pub trait Source {
         ensures ends { ended self.new ≡ gave_end result buffer.new };
 }
 
-/// Where output goes. It tells what it holds, where that is known, and whether a write has failed: nothing is written after
-/// that.
+/// Where output goes. It tells what it holds, where that is known, and whether a write has failed:
+/// nothing is written after that.
 pub trait Sink {
     /// The bytes that were written, where they are known.
     ghost contents: { Self → Option (List ℕ) };
@@ -96,8 +111,8 @@ impl<R: Read> Source for FromRead<R> {
     }
 }
 
-/// A writer of std as a sink. Each of its errors, an interruption too, is a failure, and so is a write that
-/// takes none of some bytes.
+/// A writer of std as a sink. Each of its errors, an interruption too, is a failure, and so is a
+/// write that takes none of some bytes.
 #[derive(Drop)]
 pub struct FromWrite<W: Write> {
     writer: W,
@@ -133,11 +148,14 @@ impl<W: Write> Sink for FromWrite<W> {
     }
 }
 
-/// Writes all of the bytes. It stops at the first failure: then a beginning of them went out, and how long that is isn't told.
+/// Writes all of the bytes. It stops at the first failure: then a beginning of them went out, and
+/// how long that is isn't told.
 pub fn write_all<W: Sink>(writer: &mut W, bytes: &[u8]) -> Result<(), Failed>
     requires unfailed { W.failed writer.old ≡ false }
-    ensures written { OnOk result (Appends (W.contents writer.old) (W.contents writer.new) bytes.now) }
-    ensures begun { IfErr result (λ _. AppendsSome (W.contents writer.old) (W.contents writer.new) bytes.now) }
+    ensures written { OnOk result (Appends (W.contents writer.old) (W.contents writer.new)
+        bytes.now) }
+    ensures begun { IfErr result (λ _. AppendsSome (W.contents writer.old) (W.contents writer.new)
+        bytes.now) }
     ensures marks { W.failed writer.new ≡ is_err result }
 {
     let mut rest = bytes;

@@ -30,12 +30,17 @@ went-sums false s t same = refl
 -- one call more
 step :
     (keys : Keys) (k : ℕ) (call : Call)
-    → cond (adds_key k call && reply_of call keys) 1 0 + one (contains_key keys k) ≡ cond (removes k call && reply_of call keys) 1 0 + one (contains_key (set_after call keys) k)
+    → cond (adds_key k call && reply_of call keys) 1 0 + one (contains_key keys k)
+    ≡ cond (removes k call && reply_of call keys) 1 0
+    + one (contains_key (set_after call keys) k)
 step keys k (Add j) =
-    came-sums (k == j) (contains_key keys j) (contains_key keys k) (λ same. same-key keys j k (unsigned_tied k j ∙ same))
-    ∙ ap (λ b. 0 + one b) (sym (keys-put keys j tt k ∙ ap (λ b. b || contains_key keys k) (unsigned_tied k j)))
+    came-sums (k == j) (contains_key keys j) (contains_key keys k)
+    (λ same. same-key keys j k (unsigned_tied k j ∙ same))
+    ∙ ap (λ b. 0 + one b) (sym (keys-put keys j tt k
+    ∙ ap (λ b. b || contains_key keys k) (unsigned_tied k j)))
 step keys k (Remove j) =
-    went-sums (k == j) (contains_key keys j) (contains_key keys k) (λ same. same-key keys j k (unsigned_tied k j ∙ same))
+    went-sums (k == j) (contains_key keys j) (contains_key keys k)
+    (λ same. same-key keys j k (unsigned_tied k j ∙ same))
     ∙ ap (λ b. cond ((k == j) && contains_key keys j) 1 0 + one b)
     (sym (keys-left keys j k ∙ ap (λ b. not b && contains_key keys k) (unsigned_tied k j)))
 step keys k (Contains j) = refl
@@ -44,7 +49,10 @@ pub keys_add_up : KeysAddUp
 keys_add_up [] replayed k = ap (λ b. 0 + one b) (sym (ap is_some (get-empty nat_cmp k)))
 keys_add_up (entry ∷ log) (reply, replayed) k =
     let before = keys_add_up log replayed k in
-    let here = subst (λ r. cond (adds_key k entry.call && r) 1 0 + one (contains_key (set_of_log log) k) ≡ cond (removes k entry.call && r) 1 0 + one (contains_key (set_after entry.call (set_of_log log)) k)) (sym reply) (step (set_of_log log) k entry.call) in
+    let here = subst (λ r. cond (adds_key k entry.call && r) 1 0
+    + one (contains_key (set_of_log log) k) ≡ cond (removes k entry.call && r) 1 0
+    + one (contains_key (set_after entry.call (set_of_log log)) k)) (sym reply) (step
+    (set_of_log log) k entry.call) in
     omega (
       arith,
       before,

@@ -26,23 +26,30 @@ pub dealt : (set : SetOf) (count : ℕ)
 dealt set count = map-map as_set (maps.new_seat set.map) (range_with_len 0 count)
 
 -- they are the set's where they are the map's
-pub mine-as : (set : SetOf) (seats : List maps.SeatOf) → maps.AreMine set.map seats → AreMine set (map as_set seats)
+pub mine-as :
+    (set : SetOf) (seats : List maps.SeatOf) → maps.AreMine set.map seats
+    → AreMine set (map as_set seats)
 mine-as set seats mine = All-map (IsMine set) as_set seats mine
 
-pub mine-in : (set : SetOf) (seats : List SeatOf) → AreMine set seats → maps.AreMine set.map (in-map seats)
+pub mine-in :
+    (set : SetOf) (seats : List SeatOf) → AreMine set seats → maps.AreMine set.map (in-map seats)
 mine-in set seats mine = All-map (maps.IsMine set.map) (λ seat. seat.map) seats mine
 
 -- ---- the end
 
 -- one seat's log is a beginning of the one log
-has-all : (whole : List map_log.Entry) (seat : SeatOf) → of_map.HasAll whole seat.map → HasAll (log_as whole) seat
+has-all :
+    (whole : List map_log.Entry) (seat : SeatOf) → of_map.HasAll whole seat.map
+    → HasAll (log_as whole) seat
 has-all whole seat has = record {
   later = log_as has.later;
   is = ap log_as has.is ∙ map-append entry_as has.later (map_log.log_of seat.map.chain.seen);
   others = calls-as (seat_number seat) has.later ∙ ap (map call_as) has.others;
 }
 
-pub ended-with : (seats : List SeatOf) (ended : EndedOf) → of_map.EndedWith (in-map seats) ended.map → EndedWith seats ended
+pub ended-with :
+    (seats : List SeatOf) (ended : EndedOf) → of_map.EndedWith (in-map seats) ended.map
+    → EndedWith seats ended
 ended-with seats ended with = record {
   replayed = (read (of_map.log_left ended.map) with.replayed).0;
   logs = All-weaker (λ seat. of_map.HasAll (of_map.log_left ended.map) seat.map)
@@ -51,7 +58,8 @@ ended-with seats ended with = record {
   once = λ n below. sym (count-map (λ seat. seat.chain.number == n) (λ seat. seat.map) seats)
       ∙ with.once n (subst (λ m. n < m) (sym many) below);
   made = All-map (λ entry. entry.seat < length seats) entry_as (of_map.log_left ended.map)
-      (subst (λ m. All (λ (entry : map_log.Entry). entry.seat < m) (of_map.log_left ended.map)) many with.made);
+      (subst (λ m. All (λ (entry : map_log.Entry). entry.seat < m) (of_map.log_left ended.map))
+      many with.made);
 }
   where
     many : length (in-map seats) ≡ length seats

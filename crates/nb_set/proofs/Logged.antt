@@ -15,7 +15,8 @@ use Rattle.nb_set.proofs.Read.{calls-as, read}
 
 -- the log of a seat after calls of the map
 pub logged-as :
-    {before after : SeatOf} {made : List (map_call.Call × Reply)} → of_map.HasLogged before.map after.map made
+    {before after : SeatOf} {made : List (map_call.Call × Reply)}
+    → of_map.HasLogged before.map after.map made
     → HasLogged before after (map call_as made)
 logged-as {before} {after} {made} logged = record {
   number = logged.number;
@@ -27,10 +28,12 @@ logged-as {before} {after} {made} logged = record {
 
 -- after one call, with the reply that the map gives for what was at the key
 replied-as :
-    {before after : SeatOf} (call : map_call.Call) (reply : Reply) → of_map.HasReplied call before.map after.map reply
+    {before after : SeatOf} (call : map_call.Call) (reply : Reply)
+    → of_map.HasReplied call before.map after.map reply
     → HasLogged before after (call_as (call, reply_at call reply.before) ∷ [])
 replied-as {before} {after} call reply logged =
-    subst (λ r. HasLogged before after (call_as (call, r) ∷ [])) (theorems.replies_fit before.map after.map call reply logged) (logged-as logged)
+    subst (λ r. HasLogged before after (call_as (call, r) ∷ []))
+    (theorems.replies_fit before.map after.map call reply logged) (logged-as logged)
 
 -- ---- each call of the set
 
@@ -48,48 +51,62 @@ is-new (Some n) false some = refl
 
 pub added :
     {before after : SeatOf} (k : ℕ) (number : Option ℕ) (came : Bool) → is_some number ≡ not came
-    → of_map.HasFound (call_for (Add k)) before.map after.map number → HasReplied (Add k) before after came
+    → of_map.HasFound (call_for (Add k)) before.map after.map number
+    → HasReplied (Add k) before after came
 added {before} {after} k number came new (reply, is, logged) =
     subst (HasReplied (Add k) before after) (is-new number came new)
-    (subst (λ at. HasReplied (Add k) before after (is_none at)) is (as-add reply.before (replied-as (call_for (Add k)) reply logged)))
+    (subst (λ at. HasReplied (Add k) before after (is_none at)) is
+    (as-add reply.before (replied-as (call_for (Add k)) reply logged)))
   where
-    as-add : (at : Option ℕ) → HasLogged before after (call_as (call_for (Add k), reply_at (call_for (Add k)) at) ∷ []) → HasReplied (Add k) before after (is_none at)
+    as-add : (at : Option ℕ) → HasLogged before after
+        (call_as (call_for (Add k), reply_at (call_for (Add k)) at) ∷ [])
+        → HasReplied (Add k) before after (is_none at)
     as-add None logged = logged
     as-add (Some n) logged = logged
 
 pub removed :
     {before after : SeatOf} (k : ℕ) (number : Option ℕ) (gone : Bool) → gone ≡ is_some number
-    → of_map.HasFound (call_for (Remove k)) before.map after.map number → HasReplied (Remove k) before after gone
+    → of_map.HasFound (call_for (Remove k)) before.map after.map number
+    → HasReplied (Remove k) before after gone
 removed {before} {after} k number gone was (reply, is, logged) =
     subst (HasReplied (Remove k) before after) (sym was)
-    (subst (λ at. HasReplied (Remove k) before after (is_some at)) is (replied-as (call_for (Remove k)) reply logged))
+    (subst (λ at. HasReplied (Remove k) before after (is_some at)) is
+    (replied-as (call_for (Remove k)) reply logged))
 
 pub contained :
     {before after : SeatOf} (k : ℕ) (number : Option ℕ) (found : Bool) → is_some number ≡ found
-    → of_map.HasReplied (call_for (Contains k)) before.map after.map (reply_at (call_for (Contains k)) number)
+    → of_map.HasReplied (call_for (Contains k)) before.map after.map
+    (reply_at (call_for (Contains k)) number)
     → HasReplied (Contains k) before after found
-contained {before} {after} k number found is logged = subst (HasReplied (Contains k) before after) is (logged-as logged)
+contained {before} {after} k number found is logged =
+    subst (HasReplied (Contains k) before after) is (logged-as logged)
 
 -- ---- calls add up
 
-calls-append : (seat : ℕ) (later first : List Entry) → calls_of seat (later ++ first) ≡ calls_of seat later ++ calls_of seat first
+calls-append :
+    (seat : ℕ) (later first : List Entry)
+    → calls_of seat (later ++ first) ≡ calls_of seat later ++ calls_of seat first
 calls-append seat [] first = refl
 calls-append seat (entry ∷ later) first =
     elim (entry.seat == seat) as (λ b.
-    (if b then (entry.call, entry.reply) ∷ calls_of seat (later ++ first) else calls_of seat (later ++ first))
-    ≡ (if b then (entry.call, entry.reply) ∷ calls_of seat later else calls_of seat later) ++ calls_of seat first) [
+    (if b then (entry.call, entry.reply) ∷ calls_of seat (later ++ first) else calls_of seat
+    (later ++ first))
+    ≡ (if b then (entry.call, entry.reply) ∷ calls_of seat later else calls_of seat later)
+    ++ calls_of seat first) [
       | true ↦ ap (λ calls. (entry.call, entry.reply) ∷ calls) (calls-append seat later first)
       | false ↦ calls-append seat later first
     ]
 
 -- some calls after others
 logged-then :
-    {before between after : SeatOf} {made made' : List (Call × Bool)} → HasLogged before between made → HasLogged between after made'
+    {before between after : SeatOf} {made made' : List (Call × Bool)}
+    → HasLogged before between made → HasLogged between after made'
     → HasLogged before after (made' ++ made)
 logged-then {before} a b = record {
   number = b.number ∙ a.number;
   later = b.later ++ a.later;
-  grown = b.grown ∙ ap (λ log. b.later ++ log) a.grown ∙ sym (append_assoc b.later a.later (log before));
+  grown = b.grown ∙ ap (λ log. b.later ++ log) a.grown
+      ∙ sym (append_assoc b.later a.later (log before));
   replayed = b.replayed;
   own =
       calls-append (seat_number before) b.later a.later
@@ -97,4 +114,8 @@ logged-then {before} a b = record {
 }
 
 pub logs_add_up : LogsAddUp
-logs_add_up = record { none = λ mine. logged-as (theorems.logs_add_up.none mine); more = λ a b. logged-then a b }
+logs_add_up = record {
+  none = λ mine. logged-as (theorems.logs_add_up.none mine);
+  more =
+      λ a b. logged-then a b;
+}

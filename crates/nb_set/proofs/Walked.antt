@@ -28,7 +28,9 @@ abbrev pub key_of : Option (ℕ × ℕ) → Option ℕ
 key_of None = None
 key_of (Some pair) = Some pair.0
 
-missed-as : (misses : List (map_call.Call × Reply)) → All walks.IsMiss misses → All IsMiss (map call_as misses)
+missed-as :
+    (misses : List (map_call.Call × Reply)) → All walks.IsMiss misses
+    → All IsMiss (map call_as misses)
 missed-as [] missed = All-nil IsMiss
 missed-as (made ∷ misses) missed =
     let miss = All-head walks.IsMiss made misses missed in
@@ -36,23 +38,29 @@ missed-as (made ∷ misses) missed =
     (missed-as misses (All-tail walks.IsMiss made misses missed))
 
 pub asked :
-    {before after : SeatOf} (shown : Option (ℕ × ℕ)) → walks.HasRead before.map after.map shown → HasAsked before after (key_of shown)
+    {before after : SeatOf} (shown : Option (ℕ × ℕ)) → walks.HasRead before.map after.map shown
+    → HasAsked before after (key_of shown)
 asked {before} {after} shown read = record {
   misses = map call_as read.misses;
   missed = missed-as read.misses read.missed;
   logged = subst (HasLogged before after) (calls shown) (logged-as read.logged);
 }
   where
-    calls : (shown : Option (ℕ × ℕ)) → map call_as (walks.hit shown ++ read.misses) ≡ hit (key_of shown) ++ map call_as read.misses
+    calls : (shown : Option (ℕ × ℕ)) → map call_as (walks.hit shown ++ read.misses)
+        ≡ hit (key_of shown) ++ map call_as read.misses
     calls None = refl
     calls (Some pair) = refl
 
 -- it has shown one key more, or has come to its end
 pub shown-more :
-    {set : SetOf} {before after : SeatOf} {walk walk' : WalkOf} (found : Option (ℕ × ℕ)) → IsMine set after
-    → walks.HasRead before.map after.map found → walks.HasWalked set.map.chain.shape before.map after.map walk.map walk'.map found
-    → (shown : List ℕ) → HasShown set before walk shown → HasShown set after walk' (with_shown (key_of found) shown)
-shown-more None mine read walked shown has = record { pairs = has.pairs; keys = has.keys; is = walks.Ended has.is mine walked }
+    {set : SetOf} {before after : SeatOf} {walk walk' : WalkOf} (found : Option (ℕ × ℕ))
+    → IsMine set after
+    → walks.HasRead before.map after.map found
+    → walks.HasWalked set.map.chain.shape before.map after.map walk.map walk'.map found
+    → (shown : List ℕ) → HasShown set before walk shown
+    → HasShown set after walk' (with_shown (key_of found) shown)
+shown-more None mine read walked shown has =
+    record { pairs = has.pairs; keys = has.keys; is = walks.Ended has.is mine walked }
 shown-more (Some pair) mine read walked shown has = record {
   pairs = pair ∷ has.pairs;
   keys = ap (λ keys. pair.0 ∷ keys) has.keys;
@@ -61,41 +69,57 @@ shown-more (Some pair) mine read walked shown has = record {
 
 -- the same of the seat and the walk as contracts see them
 pub shown-after :
-    {set : SetOf} {seat : SeatOf} {walk : WalkOf} {m : maps.MapOf} {before after : maps.SeatOf} {from to : walks.WalkOf} (found : Option (ℕ × ℕ))
-    → m ≡ set.map → before ≡ seat.map → from ≡ walk.map → maps.IsMine m after → walks.HasRead before after found
-    → walks.HasWalked m.chain.shape before after from to found → (shown : List ℕ) → HasShown set seat walk shown
+    {set : SetOf} {seat : SeatOf} {walk : WalkOf} {m : maps.MapOf} {before after : maps.SeatOf}
+    {from to : walks.WalkOf} (found : Option (ℕ × ℕ))
+    → m ≡ set.map → before ≡ seat.map → from ≡ walk.map → maps.IsMine m after
+    → walks.HasRead before after found
+    → walks.HasWalked m.chain.shape before after from to found → (shown : List ℕ)
+    → HasShown set seat walk shown
     → HasShown set (record { map = after }) (record { map = to }) (with_shown (key_of found) shown)
-shown-after {set} {seat} {walk} {m} {before} {after} {from} {to} found is_map is_seat is_walk mine read walked =
-    shown-more {before = seat} {walk = walk} found (subst (λ m. maps.IsMine m after) is_map mine) (subst (λ s. walks.HasRead s after found) is_seat read)
+shown-after {set} {seat} {walk} {m} {before} {after} {from} {to}
+    found is_map is_seat is_walk mine read walked =
+    shown-more {before = seat} {walk = walk} found (subst (λ m. maps.IsMine m after) is_map mine)
+    (subst (λ s. walks.HasRead s after found) is_seat read)
     (subst₂ (λ m s. walks.HasWalked m.chain.shape s after walk.map to found) is_map is_seat
     (subst (λ w. walks.HasWalked m.chain.shape before after w to found) is_walk walked))
 
 -- how long the call may have worked
 pub worked-after :
-    {set : SetOf} {seat : SeatOf} {walk : WalkOf} {m : maps.MapOf} {before after : maps.SeatOf} {from : walks.WalkOf} (to : walks.WalkOf) (key : ℕ)
+    {set : SetOf} {seat : SeatOf} {walk : WalkOf} {m : maps.MapOf} {before after : maps.SeatOf}
+    {from : walks.WalkOf} (to : walks.WalkOf) (key : ℕ)
     → m ≡ set.map → before ≡ seat.map → from ≡ walk.map
-    → maps.HasWorked m (on_map.Get key) before after (walks.passing_steps m.chain.shape from.place to.place)
-    → HasWorked set (set_log.Contains key) seat (record { map = after }) (walking_steps set walk (record { map = to }))
+    → maps.HasWorked m (on_map.Get key) before after
+    (walks.passing_steps m.chain.shape from.place to.place)
+    → HasWorked set (set_log.Contains key) seat (record { map = after })
+    (walking_steps set walk (record { map = to }))
 worked-after {set} {seat} {walk} {m} {before} {after} {from} to key is_map is_seat is_walk worked =
-    subst₂ (λ m s. maps.HasWorked m (on_map.Get key) s after (walks.passing_steps m.chain.shape walk.map.place to.place)) is_map is_seat
-    (subst (λ (w : walks.WalkOf). maps.HasWorked m (on_map.Get key) before after (walks.passing_steps m.chain.shape w.place to.place)) is_walk worked)
+    subst₂ (λ m s. maps.HasWorked m (on_map.Get key) s after
+    (walks.passing_steps m.chain.shape walk.map.place to.place)) is_map is_seat
+    (subst (λ (w : walks.WalkOf). maps.HasWorked m (on_map.Get key) before after
+    (walks.passing_steps m.chain.shape w.place to.place)) is_walk worked)
 
 -- ---- a whole walk
 
-contains-as : {A B : Type 0} (f : A → B) (xs : List A) (x : A) → Contains xs x → Contains (map f xs) (f x)
+contains-as :
+    {A B : Type 0} (f : A → B) (xs : List A) (x : A) → Contains xs x → Contains (map f xs) (f x)
 contains-as f xs x (i, within, is) =
     (i, omega (arith, within, length-map xs f), get_or-map f xs i x (f x) within ∙ ap f is)
 
 -- each pair that was read is a key that was seen
 seen-as :
     (made : List (map_call.Call × Reply)) (pairs : List (ℕ × ℕ))
-    → All (λ pair. Contains made (on_map.Get pair.0, reply_at (on_map.Get pair.0) (Some pair.1))) pairs
+    → All (λ pair. Contains made (on_map.Get pair.0, reply_at (on_map.Get pair.0) (Some pair.1)))
+    pairs
     → All (λ k. Contains (map call_as made) (set_log.Contains k, true)) (map (λ pair. pair.0) pairs)
 seen-as made pairs read =
     All-map (λ k. Contains (map call_as made) (set_log.Contains k, true)) (λ pair. pair.0) pairs
-    (All-weaker (λ pair. Contains made (on_map.Get pair.0, reply_at (on_map.Get pair.0) (Some pair.1)))
+    (All-weaker (λ pair. Contains made (
+      on_map.Get pair.0,
+      reply_at (on_map.Get pair.0) (Some pair.1),
+    ))
     (λ pair. Contains (map call_as made) (set_log.Contains pair.0, true))
-    (λ pair has. contains-as call_as made (on_map.Get pair.0, reply_at (on_map.Get pair.0) (Some pair.1)) has) pairs read)
+    (λ pair has. contains-as call_as made
+    (on_map.Get pair.0, reply_at (on_map.Get pair.0) (Some pair.1)) has) pairs read)
 
 -- the number of a key that a map has
 number-of : (at : Option ℕ) → is_some at ≡ true → (number : ℕ) × (at ≡ Some number)
@@ -104,11 +128,14 @@ number-of (Some n) has = (n, refl)
 
 -- a key that the set has all the while the map has
 held-as :
-    (first last : List map_log.Entry) → map_log.IsReplayed last → (k : ℕ) → HeldThrough (log_as first) (log_as last) k
+    (first last : List map_log.Entry) → map_log.IsReplayed last → (k : ℕ)
+    → HeldThrough (log_as first) (log_as last) k
     → map_log.HeldThrough first last k
 held-as first last replayed k held log begun begins =
-    let here = (read log (begins-replayed begins.later log (subst map_log.IsReplayed begins.is replayed))).1 k in
-    number-of (get (map_of_log log) k) (sym here ∙ held (log_as log) (begins-as begun) (begins-as begins))
+    let here = (read log (begins-replayed begins.later log
+    (subst map_log.IsReplayed begins.is replayed))).1 k in
+    number-of (get (map_of_log log) k) (sym here
+    ∙ held (log_as log) (begins-as begun) (begins-as begins))
 
 pub whole_walk : WholeWalk
 whole_walk set seat walk shown has ended =
@@ -117,14 +144,21 @@ whole_walk set seat walk shown has ended =
       once = subst (IsDistinct (λ a b. a == b)) has.keys all.once;
       made = map call_as all.made;
       logged = logged-as all.logged;
-      seen = subst (All (λ k. Contains (map call_as all.made) (set_log.Contains k, true))) has.keys (seen-as all.made has.pairs all.read);
+      seen = subst (All (λ k. Contains (map call_as all.made) (set_log.Contains k, true))) has.keys
+          (seen-as all.made has.pairs all.read);
       held = λ k held.
           subst (λ keys. Contains keys k) has.keys
-          (all.held k (held-as (of_map.log walk.map.begun) (of_map.log seat.map) all.logged.replayed k held));
+          (all.held k (held-as (of_map.log walk.map.begun) (of_map.log seat.map)
+          all.logged.replayed k held));
     }
 
 pub walk_lasts : WalkLasts
 walk_lasts = record {
   lasts = λ was mine later. theorems.walk_lasts.lasts was mine later;
-  shown = λ has mine later. record { pairs = has.pairs; keys = has.keys; is = walks.Rested has.is mine later };
+  shown = λ has mine later. record {
+    pairs = has.pairs;
+    keys = has.keys;
+    is =
+        walks.Rested has.is mine later;
+  };
 }

@@ -23,8 +23,8 @@ pub record HasAll (whole : List Entry) (seat : SeatOf) : Type 0 where
   pub is : whole ≡ later ++ log seat
   pub others : calls_of (seat_number seat) later ≡ []
 
--- There is one log of all calls, and it is replayed. Each seat's log is a beginning of it with all the seat's calls; each number
--- is one seat's, and each call one seat's.
+-- There is one log of all calls, and it is replayed. Each seat's log is a beginning of it with all
+-- the seat's calls; each number is one seat's, and each call one seat's.
 pub record EndedWith (seats : List SeatOf) (ended : EndedOf) : Type 0 where
   pub replayed : IsReplayed (log_left ended)
   pub logs : All (HasAll (log_left ended)) seats

@@ -8,7 +8,8 @@ use Rattle.nb_set.specs.Sets.{HasLogged, IsMine, SeatOf, SetOf}
 pub record LogsAddUp : Type 0 where
   pub none : {set : SetOf} {seat : SeatOf} → IsMine set seat → HasLogged seat seat []
   pub more :
-      {before between after : SeatOf} {made made' : List (Call × Bool)} → HasLogged before between made → HasLogged between after made'
+      {before between after : SeatOf} {made made' : List (Call × Bool)}
+      → HasLogged before between made → HasLogged between after made'
       → HasLogged before after (made' ++ made)
 
 -- whether the call adds_key the key, or removes it
@@ -33,4 +34,5 @@ went k entry = removes k entry.call && entry.reply
 abbrev pub KeysAddUp : Type 0
 KeysAddUp =
     (log : List Entry) → IsReplayed log → (k : ℕ)
-    → count_by (came k) log ≡ count_by (went k) log + (if contains_key (set_of_log log) k then 1 else 0)
+    → count_by (came k) log ≡ count_by (went k) log
+    + (if contains_key (set_of_log log) k then 1 else 0)

@@ -1,4 +1,5 @@
--- A set is a map that has number 0 at each of its keys. Its log is that of the map, each call as one of the set of the map's keys.
+-- A set is a map that has number 0 at each of its keys. Its log is that of the map, each call as
+-- one of the set of the map's keys.
 use Rattle.std.specs.Prelude.{ℕ, ◌||◌, Bool, if◌then◌else◌, List, map, is_none, is_some}
 use Rattle.nb_core.specs.declared.calls.Call as map_call
 use Rattle.nb_core.specs.declared.calls.Call.TheVariants as on_map
@@ -14,13 +15,17 @@ call_for (Add k) = on_map.Write k want.Absent (change.Put 0)
 call_for (Remove k) = on_map.Write k want.Any change.Remove
 call_for (Contains k) = on_map.Get k
 
--- A write that puts a number is an `add`, but where its condition kept it from an absent key: then it only asked.
+-- A write that puts a number is an `add`, but where its condition kept it from an absent key: then
+-- it only asked.
 abbrev pub put_as : ℕ → Reply → Call × Bool
-put_as k reply = if reply.matched || is_some reply.before then (Add k, is_none reply.before) else (Contains k, is_some reply.before)
+put_as k reply = if reply.matched || is_some reply.before then (Add k, is_none reply.before)
+    else (Contains k, is_some reply.before)
 
--- A write that removes is a `remove`, but where its condition kept it from a key that was there: then it only asked.
+-- A write that removes is a `remove`, but where its condition kept it from a key that was there:
+-- then it only asked.
 abbrev pub removal_as : ℕ → Reply → Call × Bool
-removal_as k reply = if reply.matched || is_none reply.before then (Remove k, is_some reply.before) else (Contains k, is_some reply.before)
+removal_as k reply = if reply.matched || is_none reply.before then (Remove k, is_some reply.before)
+    else (Contains k, is_some reply.before)
 
 -- a map's call with its reply, as one of the set of its keys
 abbrev pub call_as : map_call.Call × Reply → Call × Bool

@@ -1,4 +1,5 @@
--- How contracts see a set and its seats, and what a call of the set does, told by the log of all calls.
+-- How contracts see a set and its seats, and what a call of the set does, told by the log of all
+-- calls.
 use Rattle.std.specs.Prelude.{◌≡◌, ℕ, ◌≤◌, ◌+◌, Bool, List, [], ◌∷◌, ◌++◌, map, All}
 use Rattle.std.specs.List.{range_with_len}
 use Rattle.nb_core.specs.Meaning.{IsCrowded}
@@ -55,9 +56,11 @@ pub record HasLogged (before after : SeatOf) (made : List (Call × Bool)) : Type
 abbrev pub HasReplied : Call → (before after : SeatOf) → Bool → Type 0
 HasReplied call before after reply = HasLogged before after ((call, reply) ∷ [])
 
--- the seat has made no call, and other keys have all slots of the last table, so that there is none for this one
+-- the seat has made no call, and other keys have all slots of the last table, so that there is none
+-- for this one
 abbrev pub HasNoRoom : SetOf → ℕ → (before after : SeatOf) → Type 0
-HasNoRoom set k before after = HasLogged before after [] × IsCrowded (shape_of set) after.map.chain.seen k
+HasNoRoom set k before after = HasLogged before after []
+    × IsCrowded (shape_of set) after.map.chain.seen k
 
 -- ---- seats
 
@@ -81,19 +84,23 @@ new_seats set count = map (new_seat set) (range_with_len 0 count)
 
 -- it has made at most so many steps on the tables, and one on the counter where it changed the size
 abbrev pub HasWorked : SetOf → Call → (before after : SeatOf) → (most : ℕ) → Type 0
-HasWorked set call before after most = maps.HasWorked set.map (call_for call) before.map after.map most
+HasWorked set call before after most = maps.HasWorked set.map (call_for call)
+    before.map after.map most
 
--- It is lock-free: only where other seats' writes of the key came first did it work for longer than its tables say.
+-- It is lock-free: only where other seats' writes of the key came first did it work for longer than
+-- its tables say.
 abbrev pub IsLockFree : SetOf → Call → (before after : SeatOf) → Type 0
 IsLockFree set call before after = refusing.IsLockFree set.map (call_for call) before.map after.map
 
--- the key is at home in the top table, which is the one that the seat knew, so that a look at it takes three steps
+-- the key is at home in the top table, which is the one that the seat knew, so that a look at it
+-- takes three steps
 abbrev pub IsAtHome : SetOf → ℕ → (before after : SeatOf) → Type 0
 IsAtHome set k before after = IsSeenAtHome (shape_of set) before.map.chain after.map.chain k
 
 -- the same, and no other seat has changed it meanwhile, so that a write of it takes four
 abbrev pub IsAloneAtHome : SetOf → Call → (before after : SeatOf) → Type 0
-IsAloneAtHome set call before after = IsSeenAlone (shape_of set) (call_for call) before.map.chain after.map.chain
+IsAloneAtHome set call before after = IsSeenAlone (shape_of set) (call_for call)
+    before.map.chain after.map.chain
 
 -- it has made so many steps more on the tables at most
 abbrev pub HasStepped : (before after : SeatOf) → (most : ℕ) → Type 0

@@ -46,7 +46,8 @@ hit (Some k) = (Contains k, true) ∷ []
 abbrev pub IsMiss : Call × Bool → Type 0
 IsMiss made = (k : ℕ) × (made ≡ (Contains k, false))
 
--- The seat has asked for keys alone: at last for the one that is shown, and before it for such as the set hadn't.
+-- The seat has asked for keys alone: at last for the one that is shown, and before it for such as
+-- the set hadn't.
 pub record HasAsked (before after : SeatOf) (shown : Option ℕ) : Type 0 where
   pub misses : List (Call × Bool)
   pub missed : All IsMiss misses
@@ -63,8 +64,8 @@ pub record HasShown (set : SetOf) (seat : SeatOf) (walk : WalkOf) (shown : List 
   pub keys : map (λ pair. pair.0) pairs ≡ shown
   pub is : walks.IsUnderway set.map seat.map walk.map pairs
 
--- What a whole walk has shown, from its seat's log as it began to that as it ended: no key twice; keys that the seat has seen in the
--- set meanwhile; and each key that the set had all the while.
+-- What a whole walk has shown, from its seat's log as it began to that as it ended: no key twice;
+-- keys that the seat has seen in the set meanwhile; and each key that the set had all the while.
 pub record HasShownAll (begun ended : SeatOf) (shown : List ℕ) : Type 0 where
   pub once : IsDistinct (λ a b. a == b) shown
   pub made : List (Call × Bool)
@@ -72,17 +73,21 @@ pub record HasShownAll (begun ended : SeatOf) (shown : List ℕ) : Type 0 where
   pub seen : All (λ k. std.Contains made (Contains k, true)) shown
   pub held : (k : ℕ) → HeldThrough (log begun) (log ended) k → std.Contains shown k
 
--- A whole walk shows no key twice, what its seat has seen, and each key that the set had all the while.
+-- A whole walk shows no key twice, what its seat has seen, and each key that the set had all the
+-- while.
 abbrev pub WholeWalk : Type 0
 WholeWalk =
-    (set : SetOf) (seat : SeatOf) (walk : WalkOf) (shown : List ℕ) → HasShown set seat walk shown → HasEnded walk
+    (set : SetOf) (seat : SeatOf) (walk : WalkOf) (shown : List ℕ) → HasShown set seat walk shown
+    → HasEnded walk
     → HasShownAll (begun walk) seat shown
 
 -- A walk is its seat's also after other calls of the seat, and has shown what it had.
 pub record WalkLasts : Type 0 where
   pub lasts :
-      {set : SetOf} {before after : SeatOf} {walk : WalkOf} → IsWalkOf set before walk → IsMine set after → IsLater before after
+      {set : SetOf} {before after : SeatOf} {walk : WalkOf} → IsWalkOf set before walk
+      → IsMine set after → IsLater before after
       → IsWalkOf set after walk
   pub shown :
-      {set : SetOf} {before after : SeatOf} {walk : WalkOf} {shown : List ℕ} → HasShown set before walk shown → IsMine set after
+      {set : SetOf} {before after : SeatOf} {walk : WalkOf} {shown : List ℕ}
+      → HasShown set before walk shown → IsMine set after
       → IsLater before after → HasShown set after walk shown

@@ -26,7 +26,8 @@ impl Model for SetEnded {
 }
 
 impl SetEnded {
-    /// Reminds a proof that the log is replayed, so that it may use an ended set without remembering `finish`. It does nothing.
+    /// Reminds a proof that the log is replayed, so that it may use an ended set without
+    /// remembering `finish`. It does nothing.
     pub fn known(&self)
         ensures { IsReplayed (log_left self.now) }
     {
@@ -49,7 +50,8 @@ impl SetEnded {
         self.map.get(key).is_some()
     }
 
-    /// The set's keys, ascending. It takes memory for a plain map of them, and for two vectors, of which one is handed out.
+    /// The set's keys, ascending. It takes memory for a plain map of them, and for two vectors, of
+    /// which one is handed out.
     pub fn entries(&self, alloc: Global) -> Result<Vec<Key>, OutOfMemory>
         ensures { IfOk result (λ found. found.items ≡ keys (set_left self.now)) }
     {

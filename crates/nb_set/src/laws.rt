@@ -1,5 +1,6 @@
-//! What a user of a set may rest on while its seats make one call after another. Each function carries a law as its contract, so
-//! that the gate guards it; nobody calls it. A crate above takes the laws as theorems, from `proofs/Theorems.antt`.
+//! What a user of a set may rest on while its seats make one call after another. Each function
+//! carries a law as its contract, so that the gate guards it; nobody calls it. A crate above takes
+//! the laws as theorems, from `proofs/Theorems.antt`.
 ghost use Rattle.nb_set.specs.Laws.{KeysAddUp, LogsAddUp};
 ghost use Rattle.nb_set.specs.Walks.{WalkLasts, WholeWalk};
 
@@ -18,7 +19,8 @@ pub fn walk_lasts()
     ensures { WalkLasts }
 {}
 
-/// A whole walk shows no key twice, keys that its seat has seen meanwhile, and each key that the set has all the while.
+/// A whole walk shows no key twice, keys that its seat has seen meanwhile, and each key that the
+/// set has all the while.
 pub fn whole_walk()
     ensures { WholeWalk }
 {}

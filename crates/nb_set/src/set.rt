@@ -1,12 +1,55 @@
 //! The set, its seats and its walks.
-ghost use Rattle.std.specs.Prelude.{◌≡◌, ◌+◌, ◌<◌, ◌≤◌, ◌↔◌, ℕ, IfOk, IfErr, IfSome, List, None, false, is_ok, length, map, true, vec_capacity, []};
+ghost use Rattle.std.specs.Prelude.{
+  ◌≡◌,
+  ◌+◌,
+  ◌<◌,
+  ◌≤◌,
+  ◌↔◌,
+  ℕ,
+  IfOk,
+  IfErr,
+  IfSome,
+  List,
+  None,
+  false,
+  is_ok,
+  length,
+  map,
+  true,
+  vec_capacity,
+  [],
+};
 ghost use Rattle.nb_core.specs.Log.{IsBeginning};
 ghost use Rattle.nb_core.specs.Plans.{IsPlan};
 ghost use Rattle.nb_map.specs.Looking.{get_steps};
 ghost use Rattle.nb_set.specs.Ending.{EndedWith};
 ghost use Rattle.nb_set.specs.Log as call;
-ghost use Rattle.nb_set.specs.Sets.{AreMine, HasLogged, HasNoRoom, HasReplied, HasStepped, HasWorked, IsAloneAtHome, IsAtHome, IsLockFree, IsMine, generation_of, log, new_seats, shape_of};
-ghost use Rattle.nb_set.specs.Walks.{HasAsked, HasEnded, HasShown, IsLater, IsWalkOf, slots_before, walking_steps, with_shown};
+ghost use Rattle.nb_set.specs.Sets.{
+  AreMine,
+  HasLogged,
+  HasNoRoom,
+  HasReplied,
+  HasStepped,
+  HasWorked,
+  IsAloneAtHome,
+  IsAtHome,
+  IsLockFree,
+  IsMine,
+  generation_of,
+  log,
+  new_seats,
+  shape_of,
+};
+ghost use Rattle.nb_set.specs.Walks.{
+  HasAsked,
+  HasEnded,
+  HasShown,
+  IsLater,
+  IsWalkOf,
+  slots_before,
+  walking_steps,
+  with_shown,
+};
 
 use crate::ended::SetEnded;
 use crate::room::Room;
@@ -20,8 +63,8 @@ use std::sync::{Mutex, Wait};
 #[derive(Drop)]
 pub struct LongSet {
     map: Map,
-    /// Room for the map's seats, so that `finish` takes no memory. A vector for seats can't be shared by threads, and a lock that
-    /// holds one can. No call takes this lock.
+    /// Room for the map's seats, so that `finish` takes no memory. A vector for seats can't be
+    /// shared by threads, and a lock that holds one can. No call takes this lock.
     room: Mutex<Room>,
 }
 
@@ -35,8 +78,8 @@ impl Model for LongSet {
     ghost view = { set_of };
 }
 
-/// The right of one holder to make calls of a set. Contracts see what it has seen of the calls of all seats, in which its own
-/// stand.
+/// The right of one holder to make calls of a set. Contracts see what it has seen of the calls of
+/// all seats, in which its own stand.
 #[derive(Drop)]
 pub struct Seat {
     pub(crate) map: nb_map::Seat,
@@ -52,8 +95,9 @@ impl Model for Seat {
     ghost view = { seat_of };
 }
 
-/// A walk over the keys of a set, which `LongSet::walk` begins and `LongSet::next_key` takes on. It is a few words, and borrows
-/// nothing: the set is read and changed meanwhile, also with the walk's own seat.
+/// A walk over the keys of a set, which `LongSet::walk` begins and `LongSet::next_key` takes on. It
+/// is a few words, and borrows nothing: the set is read and changed meanwhile, also with the walk's
+/// own seat.
 #[derive(Drop)]
 pub struct Walk {
     map: nb_map::Walk,
@@ -70,8 +114,9 @@ impl Model for Walk {
 }
 
 impl LongSet {
-    /// An empty set, and its seats. It takes memory for the words of its tables and its counter, for the seats, and for room to
-    /// gather them: nothing that comes later but `SetEnded::entries` takes any.
+    /// An empty set, and its seats. It takes memory for the words of its tables and its counter,
+    /// for the seats, and for room to gather them: nothing that comes later but `SetEnded::entries`
+    /// takes any.
     pub fn new(alloc: Global, shape: Shape) -> Result<(LongSet, Vec<Seat>), OutOfMemory>
         ensures shape { IfOk result (λ made. shape_of made.0 ≡ shape) }
         ensures plan { IfOk result (λ made. IsPlan (shape_of made.0)) }
@@ -89,15 +134,17 @@ impl LongSet {
 
     /// Puts a key into the set, and answers whether it came: it wasn't there before. `Set.add`.
     ///
-    /// It is lock-free, as `remove` is: where other seats have won `w` exchanges on the key since this seat's last step, it takes
-    /// at most 8 (T + w + 1 + G) (N + 8) steps on the tables, of which there are G with T slots, N of them in the last. It is
-    /// refused only where other keys have all of these, and the set is then unchanged; a removed key keeps its slot.
+    /// It is lock-free, as `remove` is: where other seats have won `w` exchanges on the key since
+    /// this seat's last step, it takes at most 8 (T + w + 1 + G) (N + 8) steps on the tables, of
+    /// which there are G with T slots, N of them in the last. It is refused only where other keys
+    /// have all of these, and the set is then unchanged; a removed key keeps its slot.
     pub fn add<R: Wait>(&self, rt: &R, seat: &mut Seat, key: Key) -> Result<bool, Full>
         requires own { IsMine self.now seat.old }
         ensures replied { IfOk result (HasReplied (call.Add key) seat.old seat.new) }
         ensures full { IfErr result (λ fault. HasNoRoom self.now key seat.old seat.new) }
         ensures lock_free { IsLockFree self.now (call.Add key) seat.old seat.new }
-        ensures four_steps { IsAloneAtHome self.now (call.Add key) seat.old seat.new → HasStepped seat.old seat.new 4 }
+        ensures four_steps { IsAloneAtHome self.now (call.Add key) seat.old seat.new
+            → HasStepped seat.old seat.new 4 }
         ensures own { IsMine self.now seat.new }
     {
         let before = self.map.put_if_absent(rt, &mut seat.map, key, present())?;
@@ -110,26 +157,30 @@ impl LongSet {
         requires own { IsMine self.now seat.old }
         ensures replied { HasReplied (call.Remove key) seat.old seat.new result }
         ensures lock_free { IsLockFree self.now (call.Remove key) seat.old seat.new }
-        ensures four_steps { IsAloneAtHome self.now (call.Remove key) seat.old seat.new → HasStepped seat.old seat.new 4 }
+        ensures four_steps { IsAloneAtHome self.now (call.Remove key) seat.old seat.new
+            → HasStepped seat.old seat.new 4 }
         ensures own { IsMine self.now seat.new }
     {
         self.map.remove(rt, &mut seat.map, key).is_some()
     }
 
-    /// Whether the set has a key. `Set.contains`. Three steps where the key is at home in the top table, as mostly.
+    /// Whether the set has a key. `Set.contains`. Three steps where the key is at home in the top
+    /// table, as mostly.
     #[inline]
     pub fn contains(&self, seat: &mut Seat, key: Key) -> bool
         requires own { IsMine self.now seat.old }
         ensures replied { HasReplied (call.Contains key) seat.old seat.new result }
-        ensures worked { HasWorked self.now (call.Contains key) seat.old seat.new (get_steps (shape_of self.now)) }
-        ensures three_steps { IsAtHome self.now key seat.old seat.new → HasStepped seat.old seat.new 3 }
+        ensures worked { HasWorked self.now (call.Contains key) seat.old seat.new
+            (get_steps (shape_of self.now)) }
+        ensures three_steps { IsAtHome self.now key seat.old seat.new
+            → HasStepped seat.old seat.new 3 }
         ensures own { IsMine self.now seat.new }
     {
         self.map.contains_key(&mut seat.map, key)
     }
 
-    /// About how many keys the set has, modulo 2^64. While others write it is no more than a guess. It makes no step on the
-    /// tables, and one on each stripe of the counter.
+    /// About how many keys the set has, modulo 2^64. While others write it is no more than a guess.
+    /// It makes no step on the tables, and one on each stripe of the counter.
     pub fn size_estimate(&self, seat: &mut Seat) -> u64
         requires own { IsMine self.now seat.old }
         ensures logged { HasLogged seat.old seat.new [] }
@@ -139,7 +190,8 @@ impl LongSet {
         self.map.size_estimate(&mut seat.map)
     }
 
-    /// How many tables are known to be complete, from the first one on: how often the set has grown. One step.
+    /// How many tables are known to be complete, from the first one on: how often the set has
+    /// grown. One step.
     pub fn generation(&self, seat: &mut Seat) -> u32
         requires own { IsMine self.now seat.old }
         ensures found { result ≡ generation_of self.now seat.new }
@@ -163,9 +215,10 @@ impl LongSet {
         Walk { map }
     }
 
-    /// The next key of a walk that this seat has begun: `while let Some(key) = set.next_key(&mut seat, &mut walk)` goes through
-    /// the set while others change it. No key is shown twice, and from `walk` to the `None` that ends it each key that the set
-    /// has all the while is shown (`laws::whole_walk`). A key that comes or goes meanwhile may be shown or not; each that is
+    /// The next key of a walk that this seat has begun: `while let Some(key) = set.next_key(&mut
+    /// seat, &mut walk)` goes through the set while others change it. No key is shown twice, and
+    /// from `walk` to the `None` that ends it each key that the set has all the while is shown
+    /// (`laws::whole_walk`). A key that comes or goes meanwhile may be shown or not; each that is
     /// shown was seen in the set. After `None` it answers `None` for ever.
     ///
     /// Where no table is being copied, a slot costs one step and a key one more.
@@ -173,10 +226,13 @@ impl LongSet {
         requires own { IsMine self.now seat.old }
         requires walk { IsWalkOf self.now seat.old walk.old }
         ensures asked { HasAsked seat.old seat.new result }
-        ensures shown { (shown : List ℕ) → HasShown self.now seat.old walk.old shown → HasShown self.now seat.new walk.new (with_shown result shown) }
+        ensures shown { (shown : List ℕ) → HasShown self.now seat.old walk.old shown
+            → HasShown self.now seat.new walk.new (with_shown result shown) }
         ensures ended { result ≡ None → HasEnded walk.new }
-        ensures worked { (key : ℕ) → HasWorked self.now (call.Contains key) seat.old seat.new (walking_steps self.now walk.old walk.new) }
-        ensures ahead { IfSome result (λ key. slots_before self.now walk.new < slots_before self.now walk.old) }
+        ensures worked { (key : ℕ) → HasWorked self.now (call.Contains key) seat.old seat.new
+            (walking_steps self.now walk.old walk.new) }
+        ensures ahead { IfSome result (λ key. slots_before self.now walk.new
+            < slots_before self.now walk.old) }
         ensures walk { IsWalkOf self.now seat.new walk.new }
         ensures own { IsMine self.now seat.new }
     {
@@ -197,13 +253,14 @@ impl LongSet {
         self.map.meet(&mut a.map, &mut b.map);
     }
 
-    /// With all seats: what is left of the set. With another number of seats everything comes back, and the set works on. It
-    /// takes no memory: `new` has reserved the room.
+    /// With all seats: what is left of the set. With another number of seats everything comes back,
+    /// and the set works on. It takes no memory: `new` has reserved the room.
     pub fn finish(self, seats: Vec<Seat>) -> Result<SetEnded, NotAll<LongSet, Seat>>
         requires own { AreMine self seats.items }
         ensures all { (is_ok result ≡ true) ↔ (length seats.items ≡ (shape_of self).seats) }
         ensures ended { IfOk result (EndedWith seats.items) }
-        ensures back { IfErr result (λ given. (given.whole ≡ self) × (given.seats.items ≡ seats.items)) }
+        ensures back { IfErr result (λ given. (given.whole ≡ self)
+            × (given.seats.items ≡ seats.items)) }
     {
         if seats.len() != self.map.shape().seats() {
             return Err(NotAll { whole: self, seats });

@@ -25,25 +25,32 @@ use Rattle.nb_core.proofs.Theorems.{beginnings_are_legal, counted, linked, lawfu
 pub header-within : (p : Plan) → IsPlan p → (g n place : ℕ) → g < generations_of p → n < 3
     → place ≡ header_place p g n → place < word_count p
 header-within p plan g n place table header at =
-    subst (λ i. i < word_count p) (sym at) ((places_are_distinct p plan).below (Header g n) (table, header))
+    subst (λ i. i < word_count p) (sym at)
+    ((places_are_distinct p plan).below (Header g n) (table, header))
 
 -- a chunk may be taken of a table that has a next one
 pub can-take : (p : Plan) (number g : ℕ) (seen : List Event) → g < generations_of p
-    → IsInstalled (tables_at p seen) (suc g) → (place chunk : ℕ) → place ≡ header_place p g 1 → chunk ≡ chunk_of p g
+    → IsInstalled (tables_at p seen) (suc g) → (place chunk : ℕ) → place ≡ header_place p g 1
+    → chunk ≡ chunk_of p g
     → Can p (take_events number g) number seen place (λ found. (found + chunk) % 2 ^ 64)
 can-take p number g seen table growing place chunk at is =
-    subst (λ i. Can p (take_events number g) number seen i (λ found. (found + chunk) % 2 ^ 64)) (sym at)
-    (subst (λ n. Can p (take_events number g) number seen (header_place p g 1) (λ found. (found + n) % 2 ^ 64)) (sym is)
+    subst (λ i. Can p (take_events number g) number seen i (λ found. (found + chunk) % 2 ^ 64))
+    (sym at)
+    (subst (λ n. Can p (take_events number g) number seen (header_place p g 1)
+    (λ found. (found + n) % 2 ^ 64)) (sym is)
     (λ plan seat others not_own legal.
     one-follows p (Take number g) number (header_place p g 1) _ (others ++ seen)
-    (legal, (seat, table), (later p number seen plan others legal).installed (suc g) growing, tt) refl refl))
+    (legal, (seat, table), (later p number seen plan others legal).installed (suc g) growing, tt)
+    refl refl))
 
 -- slots may be counted that the seat's own events turned, and that it hasn't counted
 pub can-count : (p : Plan) (number g c : ℕ) (seen : List Event) → g < generations_of p → 1 ≤ c
-    → counted_by seen number g + c ≤ turned_by p seen number g → (place : ℕ) → place ≡ header_place p g 2
+    → counted_by seen number g + c ≤ turned_by p seen number g → (place : ℕ)
+    → place ≡ header_place p g 2
     → Can p (count_events number g c) number seen place (λ found. (found + c) % 2 ^ 64)
 can-count p number g c seen table some turned place at =
-    subst (λ i. Can p (count_events number g c) number seen i (λ found. (found + c) % 2 ^ 64)) (sym at)
+    subst (λ i. Can p (count_events number g c) number seen i (λ found. (found + c) % 2 ^ 64))
+    (sym at)
     (λ plan seat others not_own legal.
     let still = own_lasts p others seen number not_own in
     let turned' : counted_by (others ++ seen) number g + c ≤ turned_by p (others ++ seen) number g
@@ -81,7 +88,8 @@ pub top-found :
     → Stepped p events 0 before found after → found ≤ 16
 top-found p plan events before found after step =
     let h = step.grows.others ++ before.seen in
-    let legal = beginnings_are_legal p (events found) h (subst (IsLegal p) step.grows.seen step.grows.legal) in
+    let legal = beginnings_are_legal p (events found) h
+    (subst (IsLegal p) step.grows.seen step.grows.legal) in
     let links = linked p plan h legal in
     omega (arith, links.within (tables_at p h).top links.top, plan.few_tables, step.word)
 
@@ -90,10 +98,11 @@ top-found p plan events before found after step =
 -- what one seat has is within what all have
 one-of-all : (f : ℕ → ℕ) (n i : ℕ) → i < n → f i ≤ over_seats f n
 one-of-all f zero i below = absurd (omega arith)
-one-of-all f (suc n) i below = elim (eq-or-lt_of_le {n = i} {m = n} (omega arith)) as (λ either. f i ≤ f n + over_seats f n) [
-  | inl same ↦ subst (λ m. f i ≤ f m + over_seats f n) same (omega arith)
-  | inr less ↦ omega (arith, one-of-all f n i less)
-]
+one-of-all f (suc n) i below = elim (eq-or-lt_of_le {n = i} {m = n} (omega arith)) as
+    (λ either. f i ≤ f n + over_seats f n) [
+      | inl same ↦ subst (λ m. f i ≤ f m + over_seats f n) same (omega arith)
+      | inr less ↦ omega (arith, one-of-all f n i less)
+    ]
 
 -- a seat has counted what it just counts
 own-counted : (number g c : ℕ) (h : List Event) → c ≤ counted_by (Count number g c ∷ h) number g
@@ -101,10 +110,12 @@ own-counted number g c h = rw (eq-eqb number number refl) (rw (eq-eqb g g refl) 
 
 -- the most slots that a table has
 size-fits : (p : Plan) → IsPlan p → (g : ℕ) → g < generations_of p → size_of p g ≤ 2 ^ 19
-size-fits p plan g table = pow_mono (All-get_or (λ e. (2 ≤ e) × (e ≤ 19)) p.exponents g 0 table plan.sizes).1
+size-fits p plan g table =
+    pow_mono (All-get_or (λ e. (2 ≤ e) × (e ≤ 19)) p.exponents g 0 table plan.sizes).1
 
 -- two counts of slots of a table add up to one
-one-sum : (found c size : ℕ) → found ≤ size → c ≤ size → size ≤ 2 ^ 19 → (found + c) % 2 ^ 64 ≡ found + c
+one-sum :
+    (found c size : ℕ) → found ≤ size → c ≤ size → size ≤ 2 ^ 19 → (found + c) % 2 ^ 64 ≡ found + c
 one-sum found c size a b most = mod-eq_of_lt (omega arith)
 
 -- ---- what a step told
@@ -140,30 +151,38 @@ module _ (p : Plan) (plan : IsPlan p) where
     counts-sees c at step =
         let h = met p (count_events before.number g c) place found before after step in
         let legal = legal_now p (count_events before.number g c) place found before after step in
-        let now = ap (λ t. t.counted g) (seen_now p (count_events before.number g c) place found before after step) in
+        let now = ap (λ t. t.counted g) (seen_now p (count_events before.number g c)
+        place found before after step) in
         let is_found : slice_index (words_of p h) (header_place p g 2) ≡ found
         = ap (slice_index (words_of p h)) (sym at) ∙ step.word in
         let new = counted p plan (Count before.number g c ∷ h) legal g table in
         let share : c ≤ (tables_at p (Count before.number g c ∷ h)).counted g
         = subst (λ n. c ≤ n) (sym new.done)
         (le_trans (own-counted before.number g c h)
-        (one-of-all (λ s. counted_by (Count before.number g c ∷ h) s g) p.seats before.number legal.1.0)) in
+        (one-of-all (λ s. counted_by (Count before.number g c ∷ h) s g)
+        p.seats before.number legal.1.0)) in
         now
-        ∙ written h legal.0 g 2 ((slice_index (words_of p h) (header_place p g 2) + c) % 2 ^ 64) table (omega arith)
+        ∙ written h legal.0 g 2 ((slice_index (words_of p h) (header_place p g 2) + c) % 2 ^ 64)
+        table (omega arith)
         ∙ ap (λ n. (n + c) % 2 ^ 64) is_found
-        ∙ one-sum found c (size_of p g) (subst (λ n. n ≤ size_of p g) is_found (counted p plan h legal.0 g table).fits)
+        ∙ one-sum found c (size_of p g) (subst (λ n. n ≤ size_of p g) is_found
+        (counted p plan h legal.0 g table).fits)
         (le_trans share new.fits) (size-fits p plan g table)
 
 -- what a take tells of the take word before it
 pub taken : (p : Plan) (g place found : ℕ) (before after : SeenBy) → place ≡ header_place p g 1
-    → Stepped p (take_events before.number g) place before found after → (seen_before p after).taken g ≡ found
+    → Stepped p (take_events before.number g) place before found after
+    → (seen_before p after).taken g ≡ found
 taken p g place found before after at step =
     ap (λ h. (tables_at p (drop 1 h)).taken g) step.grows.seen
     ∙ ap (slice_index (words_of p (step.grows.others ++ before.seen))) (sym at) ∙ step.word
 
 -- what a promotion tells that raised the top word
-pub raised : (p : Plan) → IsPlan p → (g found : ℕ) (before after : SeenBy) → Stepped p (promote_events before.number g) 0 before found after → found ≤ g
-    → Extended p before after (Promote before.number g ∷ []) 1 × ((seen_before p after).top ≡ found) × ((seen_by p after).top ≡ suc g)
+pub raised :
+    (p : Plan) → IsPlan p → (g found : ℕ) (before after : SeenBy)
+    → Stepped p (promote_events before.number g) 0 before found after → found ≤ g
+    → Extended p before after (Promote before.number g ∷ []) 1 × ((seen_before p after).top ≡ found)
+    × ((seen_by p after).top ≡ suc g)
 raised p plan g found before after step low =
     let h = step.grows.others ++ before.seen in
     let own : promote_events before.number g found ≡ Promote before.number g ∷ []
@@ -173,11 +192,13 @@ raised p plan g found before after step low =
     = subst (IsLegal p) (step.grows.seen ∙ ap (λ own. own ++ h) own) step.grows.legal in
     let top = ap (tables_at p) (step.grows.seen ∙ ap (λ own. own ++ h) own) in
     let below = ap (λ s. tables_at p (drop 1 s)) (step.grows.seen ∙ ap (λ own. own ++ h) own) in
-    let some : 0 < length (words_of p h) = subst (λ n. 0 < n) (sym (lawful_words p plan h legal.0).length)
+    let some : 0 < length (words_of p h) =
+    subst (λ n. 0 < n) (sym (lawful_words p plan h legal.0).length)
     ((places_are_distinct p plan).below Top tt) in
     let most : max found (suc g) ≡ suc g = max-eq_right (omega (arith, low)) in (
       grows,
       ap (λ t. t.top) below ∙ step.word,
-      ap (λ t. t.top) top ∙ get_or-set_same (words_of p h) 0 (max (slice_index (words_of p h) 0) (suc g)) 0 some
+      ap (λ t. t.top) top ∙ get_or-set_same (words_of p h) 0
+          (max (slice_index (words_of p h) 0) (suc g)) 0 some
           ∙ ap (λ n. max n (suc g)) step.word ∙ most,
     )

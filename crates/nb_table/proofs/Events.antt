@@ -1,4 +1,5 @@
--- The events of each step but a load, by the word that it finds: a step is one only where it changes its word.
+-- The events of each step but a load, by the word that it finds: a step is one only where it
+-- changes its word.
 use Rattle.std.specs.Prelude.{ℕ, ◌%◌, ◌==◌, nat_le, true, List, [], ◌∷◌}
 use Rattle.nb_core.specs.History.{number_in_value}
 use Rattle.nb_core.specs.States.{value_word}
@@ -21,10 +22,12 @@ kill_events number g i found = only (found == 0) (Kill number g i)
 
 -- ---- steps on values
 
--- a call wins its exchange where it finds the value that it replaces, and replies the content of that
+-- a call wins its exchange where it finds the value that it replaces, and replies the content of
+-- that
 abbrev pub win_events : (number g i : ℕ) (from to : ValueState) (call : Call) → ℕ → List Event
 win_events number g i from to call found =
-    only (found == value_word from) (Won number g i from to call (record { before = number_in_value from; matched = true }))
+    only (found == value_word from) (Won number g i from to call
+    (record { before = number_in_value from; matched = true }))
 
 -- a number is copied only where the value is null
 abbrev pub copy_events : (number g i k n : ℕ) → ℕ → List Event

@@ -13,7 +13,8 @@ use Rattle.nb_core.proofs.Theorems.{seen_lasts}
 
 -- a step without an event leaves its word
 pub none-follows :
-    (p : Plan) (number place new : ℕ) (h : List Event) → IsLegal p h → new ≡ slice_index (words_of p h) place
+    (p : Plan) (number place new : ℕ) (h : List Event) → IsLegal p h
+    → new ≡ slice_index (words_of p h) place
     → MayStep p [] number place new h
 none-follows p number place new h legal same = record {
   legal = legal;
@@ -24,17 +25,20 @@ none-follows p number place new h legal same = record {
 -- the one event of a step
 pub one-follows :
     (p : Plan) (e : Event) (number place new : ℕ) (h : List Event) → IsLegal p (e ∷ h)
-    → words_of p (e ∷ h) ≡ slice_set (words_of p h) place new → seat_of_event e ≡ number → MayStep p (e ∷ []) number place new h
+    → words_of p (e ∷ h) ≡ slice_set (words_of p h) place new → seat_of_event e ≡ number
+    → MayStep p (e ∷ []) number place new h
 one-follows p e number place new h legal words mine = record {
   legal = legal;
   words = words;
-  mine = All-cons (λ x. seat_of_event x ≡ number) e [] mine (All-nil (λ x. seat_of_event x ≡ number));
+  mine = All-cons (λ x. seat_of_event x ≡ number) e [] mine
+      (All-nil (λ x. seat_of_event x ≡ number));
 }
 
 -- a step that is an event where a test holds
 pub if-follows :
     (p : Plan) (test : Bool) (e : Event) (number place new : ℕ) (h : List Event)
-    → (test ≡ true → MayStep p (e ∷ []) number place new h) → (test ≡ false → MayStep p [] number place new h)
+    → (test ≡ true → MayStep p (e ∷ []) number place new h)
+    → (test ≡ false → MayStep p [] number place new h)
     → MayStep p (only test e) number place new h
 if-follows p true e number place new h yes_it no_it = yes_it refl
 if-follows p false e number place new h yes_it no_it = no_it refl
@@ -42,5 +46,6 @@ if-follows p false e number place new h yes_it no_it = no_it refl
 module _ (p : Plan) (number : ℕ) (seen : List Event) where
   -- what is so still
   pub later :
-      IsPlan p → (others : List Event) → IsLegal p (others ++ seen) → Lasts p (tables_at p seen) (tables_at p (others ++ seen))
+      IsPlan p → (others : List Event) → IsLegal p (others ++ seen)
+      → Lasts p (tables_at p seen) (tables_at p (others ++ seen))
   later plan others legal = seen_lasts p plan others seen legal

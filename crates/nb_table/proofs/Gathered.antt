@@ -31,12 +31,14 @@ use Rattle.nb_core.proofs.Seating.{All-unmap, all-there as has-all, and_then, ba
 
 -- what a token of a chain's seat knows is the seat
 pub one-seat :
-    (chain : TableId) (s : seat.Inside) (next : SeenBy) → IsSeat s → seat_of s ≡ next → next.chain ≡ chain
+    (chain : TableId) (s : seat.Inside) (next : SeenBy) → IsSeat s → seat_of s ≡ next
+    → next.chain ≡ chain
     → map (seat_with chain) s.seat.me.0.parts ≡ next ∷ []
 one-seat chain s next is_seat view own =
     let part = part_of s.seat.me.0.parts in
     let table : chain ≡ s.seat.table_id = sym (ap (λ v. v.chain) view ∙ own) in
-    ap (map (seat_with chain)) is_seat.one ∙ ap (λ id. seat_with id part ∷ []) table ∙ ap (λ v. v ∷ []) view
+    ap (map (seat_with chain)) is_seat.one ∙ ap (λ id. seat_with id part ∷ []) table
+    ∙ ap (λ v. v ∷ []) view
 
 -- ---- the history
 
@@ -52,8 +54,16 @@ most-cases :
 most-cases seat seats =
     let rest = most_seen seats in
     elim (cases_lt (length rest) (length seat.seen)) [
-      | inl more ↦ inl (more, ap (λ b. cond b seat.seen rest) (lt-ltb (length rest) (length seat.seen) more))
-      | inr less ↦ inr (less, ap (λ b. cond b seat.seen rest) (le-ltb (length rest) (length seat.seen) less))
+      | inl more ↦ inl (
+        more,
+        ap (λ b. cond b seat.seen rest)
+            (lt-ltb (length rest) (length seat.seen) more),
+      )
+      | inr less ↦ inr (
+        less,
+        ap (λ b. cond b seat.seen rest)
+            (le-ltb (length rest) (length seat.seen) less),
+      )
     ]
 
 -- no seat has seen more than the most
@@ -66,31 +76,42 @@ most (seat ∷ seats) =
       | inl more ↦
           subst (λ (seen : List Event). All (within (length seen)) (seat ∷ seats)) (sym more.1)
           (All-cons (within (length seat.seen)) seat seats (omega arith)
-          (All-weaker (within (length (most_seen seats))) (within (length seat.seen)) (λ s less. omega (arith, more.0, less)) seats all))
+          (All-weaker (within (length (most_seen seats))) (within (length seat.seen))
+          (λ s less. omega (arith, more.0, less)) seats all))
       | inr less ↦
           subst (λ (seen : List Event). All (within (length seen)) (seat ∷ seats)) (sym less.1)
           (All-cons (within (length (most_seen seats))) seat seats less.0 all)
     ]
 
 -- where each has seen a beginning, the most is one too
-most-begins : (h : List Event) (seats : List SeenBy) → All (FitsSeat h) seats → IsBeginning (most_seen seats) h
+most-begins :
+    (h : List Event) (seats : List SeenBy) → All (FitsSeat h) seats
+    → IsBeginning (most_seen seats) h
 most-begins h [] all = record { later = h; is = sym (append-nil h) }
 most-begins h (seat ∷ seats) all =
     let fits = All-head (FitsSeat h) seat seats all in
     elim (most-cases seat seats) [
-      | inl more ↦ subst (λ seen. IsBeginning seen h) (sym more.1) (record { later = fits.later; is = fits.is })
-      | inr less ↦ subst (λ seen. IsBeginning seen h) (sym less.1) (most-begins h seats (All-tail (FitsSeat h) seat seats all))
+      | inl more ↦ subst (λ seen. IsBeginning seen h) (sym more.1)
+          (record { later = fits.later; is = fits.is })
+      | inr less ↦ subst (λ seen. IsBeginning seen h) (sym less.1)
+          (most-begins h seats (All-tail (FitsSeat h) seat seats all))
     ]
 
 -- a beginning that is as long is the whole
 whole-beginning : (seen h : List Event) → IsBeginning seen h → length h ≤ length seen → seen ≡ h
 whole-beginning seen h b long =
-    let none = nil_from_length b.later (omega (arith, ap length b.is, length-append b.later seen, long)) in
+    let none = nil_from_length b.later (omega (
+      arith,
+      ap length b.is,
+      length-append b.later seen,
+      long,
+    )) in
     sym (b.is ∙ ap (λ later. later ++ seen) none)
 
 -- ---- the words
 
-module _ (p : Plan) (s : State (Unit {0}) View) (rule : IsChained p s) (token : Seat (Unit {0}) View)
+module _ (p : Plan) (s : State (Unit {0}) View) (rule : IsChained p s)
+    (token : Seat (Unit {0}) View)
     (at : get_elem? s.views token.id ≡ some token.me.0) (chain : TableId) (seats : List SeenBy)
     (known : IsPermutation (map (seat_with chain) token.me.0.parts) seats)
     (all : length seats ≡ p.seats) where
@@ -125,11 +146,13 @@ module _ (p : Plan) (s : State (Unit {0}) View) (rule : IsChained p s) (token : 
   length-most : length rule.history ≤ length (most_seen seats)
   length-most =
       let last = rule.last in
-      let less = All-contains (λ part. length part.seen ≤ length (most_seen seats)) (all_parts s.views) last.0 no-more last.1 in
+      let less = All-contains (λ part. length part.seen ≤ length (most_seen seats))
+      (all_parts s.views) last.0 no-more last.1 in
       omega (arith, less, ap length last.3)
 
   most-is : most_seen seats ≡ rule.history
-  most-is = whole-beginning (most_seen seats) rule.history (most-begins rule.history seats all-fit) length-most
+  most-is = whole-beginning (most_seen seats) rule.history (most-begins rule.history seats all-fit)
+      length-most
 
   times-there : (n : ℕ) → n < p.seats → count_by (λ seat. seat.number == n) seats ≡ 1
   times-there n below =
@@ -139,7 +162,8 @@ module _ (p : Plan) (s : State (Unit {0}) View) (rule : IsChained p s) (token : 
 
 -- what is left of a chain, where one token has gathered all seats
 pub closed-with :
-    (closed : ClosedOf) → IsPlan closed.shape → (key : Plan) → key ≡ closed.shape → (chain : TableId) (token : Seat (Unit {0}) View)
+    (closed : ClosedOf) → IsPlan closed.shape → (key : Plan) → key ≡ closed.shape
+    → (chain : TableId) (token : Seat (Unit {0}) View)
     (seats : List SeenBy) (slots : List (Unit {0}))
     → IsPermutation (map (seat_with chain) token.me.0.parts) seats
     → length seats ≡ closed.shape.seats → closed.history ≡ most_seen seats
@@ -149,7 +173,8 @@ closed-with closed plan key same chain token seats slots g all history final =
     let s = final.0 in
     let rule : IsChained p s = subst (λ k. IsChained k s) same final.1.0 in
     let at = final.1.1 in
-    let is : rule.history ≡ closed.history = sym (history ∙ most-is p s rule token at chain seats g all) in
+    let is : rule.history ≡ closed.history =
+    sym (history ∙ most-is p s rule token at chain seats g all) in
     record {
       left = record {
         plan = plan;

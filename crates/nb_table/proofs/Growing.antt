@@ -13,18 +13,24 @@ use Rattle.nb_table.specs.Chains.{own_events}
 use Rattle.nb_table.specs.Laws.{StepsAddUp}
 
 -- the events of one seat alone are all its own
-own-all : (number : ℕ) (es : List Event) → All (λ e. seat_of_event e ≡ number) es → own_events number es ≡ es
+own-all :
+    (number : ℕ) (es : List Event) → All (λ e. seat_of_event e ≡ number) es
+    → own_events number es ≡ es
 own-all number [] all = refl
 own-all number (e ∷ es) all =
     let P : Event → Type 0 = λ e. seat_of_event e ≡ number in
-    rw (eq-eqb (seat_of_event e) number (All-head P e es all)) (ap (λ rest. e ∷ rest) (own-all number es (All-tail P e es all)))
+    rw (eq-eqb (seat_of_event e) number (All-head P e es all))
+    (ap (λ rest. e ∷ rest) (own-all number es (All-tail P e es all)))
 
 -- and of those of others none is
-own-none : (number : ℕ) (es : List Event) → All (λ e. seat_of_event e ≢ number) es → own_events number es ≡ []
+own-none :
+    (number : ℕ) (es : List Event) → All (λ e. seat_of_event e ≢ number) es
+    → own_events number es ≡ []
 own-none number [] none = refl
 own-none number (e ∷ es) none =
     let P : Event → Type 0 = λ e. seat_of_event e ≢ number in
-    rw (ne_eqb (seat_of_event e) number (All-head P e es none)) (own-none number es (All-tail P e es none))
+    rw (ne_eqb (seat_of_event e) number (All-head P e es none))
+    (own-none number es (All-tail P e es none))
 
 pub steps_add_up : StepsAddUp
 steps_add_up = record {
@@ -43,7 +49,8 @@ steps_add_up = record {
     later = own ++ step.others;
     seen = step.seen ∙ sym (append_assoc own step.others before.seen);
     own_are = filter-append _ own step.others
-        ∙ ap (λ es. es ++ own_events before.number step.others) (own-all before.number own step.mine)
+        ∙ ap (λ es. es ++ own_events before.number step.others)
+        (own-all before.number own step.mine)
         ∙ ap (λ es. own ++ es) (own-none before.number step.others step.not_own) ∙ append-nil own;
     legal = step.legal;
     steps = step.steps;
@@ -53,7 +60,8 @@ steps_add_up = record {
     number = b.number ∙ a.number;
     later = b.later ++ a.later;
     seen = b.seen ∙ ap (λ h. b.later ++ h) a.seen ∙ sym (append_assoc b.later a.later before.seen);
-    own_are = filter-append _ b.later a.later ∙ ap (λ es. own_events before.number b.later ++ es) a.own_are
+    own_are = filter-append _ b.later a.later
+        ∙ ap (λ es. own_events before.number b.later ++ es) a.own_are
         ∙ ap (λ es. es ++ own) (ap (λ n. own_events n b.later) (sym a.number) ∙ b.own_are);
     legal = b.legal;
     steps = omega (arith, a.steps, b.steps);

@@ -30,12 +30,15 @@ counted-once : (m n : ℕ) → m ≡ n → ◌≡◌ {A = ℕ} (cond (eqb m n) 1
 counted-once m n same = ap (λ b. cond b 1 0) (eq-eqb m n same)
 
 -- a number that isn't counted among parts is none of theirs
-all-differ : (n : ℕ) (parts : List Part) → times_among n parts ≡ 0 → All (λ part. part.number ≢ n) parts
+all-differ :
+    (n : ℕ) (parts : List Part) → times_among n parts ≡ 0 → All (λ part. part.number ≢ n) parts
 all-differ n [] never = All-nil (λ part. part.number ≢ n)
 all-differ n (part ∷ parts) never =
     let first = times-cons n part parts in
-    let differs : part.number ≢ n = λ same. absurd (omega (arith, never, first, counted-once part.number n same)) in
-    All-cons (λ q. q.number ≢ n) part parts differs (all-differ n parts (omega (arith, never, first)))
+    let differs : part.number ≢ n = λ same. absurd
+    (omega (arith, never, first, counted-once part.number n same)) in
+    All-cons (λ q. q.number ≢ n) part parts differs
+    (all-differ n parts (omega (arith, never, first)))
 
 -- a token knows one part alone
 first-same : (part other : Part) → part ∷ [] ≡ other ∷ [] → part ≡ other
@@ -45,7 +48,8 @@ first-same part other is = ap part_of is
 
 -- a seat that made none of the new events fits the longer history
 fits-more :
-    (history own : List Event) (part : Part) → All (λ e. seat_of_event e ≢ part.number) own → Fits history part
+    (history own : List Event) (part : Part) → All (λ e. seat_of_event e ≢ part.number) own
+    → Fits history part
     → Fits (own ++ history) part
 fits-more history own part others f = record {
   later = own ++ f.later;
@@ -57,7 +61,8 @@ fits-more history own part others f = record {
 beginnings-more :
     (history own : List Event) (v : View) → IsTold history v → IsTold (own ++ history) v
 beginnings-more history own v =
-    All-weaker (λ seen. IsBeginning seen history) (λ seen. IsBeginning seen (own ++ history)) (λ seen b. record {
+    All-weaker (λ seen. IsBeginning seen history) (λ seen. IsBeginning seen (own ++ history))
+    (λ seen b. record {
       later = own ++ b.later;
       is = ap (λ h. own ++ h) b.is ∙ sym (append_assoc own b.later seen);
     }) v.told
@@ -89,17 +94,26 @@ module _
 
   stepped-before : part.last_step ≤ steps_at s
   stepped-before =
-      let P : Part → Type 0 = λ part. part.last_step ≤ steps_at s in All-head P part there.rest (every P rule.steps)
+      let P : Part → Type 0 = λ part. part.last_step ≤ steps_at s in
+      All-head P part there.rest (every P rule.steps)
 
   -- no other part is of the same seat
   others-differ : All (λ other. other.number ≢ part.number) there.rest
   others-differ =
-      let all = sum_by-IsPermutation (λ q. cond (eqb q.number part.number) 1 0) (parts_at s) (part ∷ there.rest) are in
+      let all = sum_by-IsPermutation (λ q. cond (eqb q.number part.number) 1 0) (parts_at s)
+      (part ∷ there.rest) are in
       let first = times-cons part.number part there.rest in
       all-differ part.number there.rest
-      (omega (arith, all, first, counted-once part.number part.number refl, rule.once part.number number))
+      (omega (
+        arith,
+        all,
+        first,
+        counted-once part.number part.number refl,
+        rule.once part.number number,
+      ))
 
-  module _ (own : List Event) (place new : ℕ) (may : MayStep p own part.number place new (fit.later ++ part.seen)) where
+  module _ (own : List Event) (place new : ℕ)
+      (may : MayStep p own part.number place new (fit.later ++ part.seen)) where
     -- the history after the step, seen from the seat
     longer : own ++ rule.history ≡ own ++ (fit.later ++ part.seen)
     longer = ap (λ h. own ++ h) fit.is
@@ -129,24 +143,32 @@ module _
     -- what holds of the part now, and held of all parts but for it, holds of all
     every' : (P : Part → Type 0) → P part' → All P there.rest → All P (all_parts views')
     every' P here others =
-        All-permutation P (part' ∷ there.rest) (all_parts views') are' (All-cons P part' there.rest here others)
+        All-permutation P (part' ∷ there.rest) (all_parts views') are'
+        (All-cons P part' there.rest here others)
 
     others : (P : Part → Type 0) → All P (parts_at s) → All P there.rest
     others P all = All-tail P part there.rest (every P all)
 
     -- the seat has seen all of the history
     part-fits : Fits (own ++ rule.history) part'
-    part-fits = record { later = []; is = longer; others = All-nil (λ e. seat_of_event e ≢ part.number) }
+    part-fits = record {
+      later = [];
+      is = longer;
+      others =
+          All-nil (λ e. seat_of_event e ≢ part.number);
+    }
 
     -- and the others fit it as before
     others-fit : All (Fits (own ++ rule.history)) there.rest
     others-fit k d below =
         let other = slice_index_or there.rest k d in
-        fits-more rule.history own other (λ j e within same. others-differ k d below (sym same ∙ may.mine j e within))
+        fits-more rule.history own other (λ j e within same. others-differ k d below
+        (sym same ∙ may.mine j e within))
         (others (Fits rule.history) rule.seen k d below)
 
     -- a seat's events, which make of the words what the step makes of its word, keep the rule
-    step-keeps : IsChained p (stepped s place new id [] (record { parts = part' ∷ []; told = [] }) keeps)
+    step-keeps : IsChained p (stepped s place new id [] (record { parts = part' ∷ []; told = [] })
+        keeps)
     step-keeps = record {
       history = own ++ rule.history;
       legal = subst (IsLegal p) (sym longer) may.legal;
@@ -155,17 +177,22 @@ module _
           ∙ ap (words_of p) (sym longer);
       seen = every' (Fits (own ++ rule.history)) part-fits others-fit;
       told =
-          All-set (IsTold (own ++ rule.history)) s.views id (record { parts = part' ∷ []; told = [] })
+          All-set (IsTold (own ++ rule.history)) s.views id
+          (record { parts = part' ∷ []; told = [] })
           (All-nil (λ seen. IsBeginning seen (own ++ rule.history)))
-          (All-weaker (IsTold rule.history) (IsTold (own ++ rule.history)) (beginnings-more rule.history own) s.views rule.told);
+          (All-weaker (IsTold rule.history) (IsTold (own ++ rule.history))
+          (beginnings-more rule.history own) s.views rule.told);
       steps =
           let within = λ (n : ℕ) (q : Part). q.last_step ≤ n in
-          subst (λ n. All (within n) (all_parts views')) (sym one-more) (every' (within (steps_at s + 1)) (omega arith)
-          (All-weaker (within (steps_at s)) (within (steps_at s + 1)) (λ q less. omega (arith, less)) there.rest
+          subst (λ n. All (within n) (all_parts views')) (sym one-more)
+          (every' (within (steps_at s + 1)) (omega arith)
+          (All-weaker (within (steps_at s)) (within (steps_at s + 1))
+          (λ q less. omega (arith, less)) there.rest
           (others (within (steps_at s)) rule.steps)));
       last = (
         part',
-        Contains-permutation (part' ∷ there.rest) (all_parts views') part' are' (0, omega arith, refl),
+        Contains-permutation (part' ∷ there.rest) (all_parts views') part' are'
+            (0, omega arith, refl),
         sym one-more,
         sym longer,
       );
@@ -188,10 +215,12 @@ module _
       );
     }
 
--- what each step asks: whatever others do first, its events may follow, and make of the words what the step makes of its word
+-- what each step asks: whatever others do first, its events may follow, and make of the words what
+-- the step makes of its word
 pub allows-step :
     (p : Plan) → IsPlan p
-    → (events : ℕ → List Event) (slots id : ℕ) (me : Me (Unit {0}) View) (part : Part) (place : ℕ) (f : ℕ → ℕ)
+    → (events : ℕ → List Event) (slots id : ℕ) (me : Me (Unit {0}) View) (part : Part) (place : ℕ)
+    (f : ℕ → ℕ)
     → me.0.parts ≡ part ∷ [] → Can p events part.number part.seen place f
     → Allows (IsChained p) slots id me place f (Moves p events place me)
 allows-step p plan events slots id me part place f one can s rule homes at word =
@@ -201,7 +230,8 @@ allows-step p plan events slots id me part place f one can s rule homes at word 
     let same : slice_index (words_of p (later ++ part.seen)) place ≡ found
     = ap (λ w. slice_index w place) (sym (rule.words ∙ ap (words_of p) seen.is)) in
     let may = subst (λ n. MayStep p (events n) part.number place (f n) (later ++ part.seen)) same
-    (can plan (number p s rule id me.0 part at one) later seen.others (subst (IsLegal p) seen.is rule.legal)) in
+    (can plan (number p s rule id me.0 part at one) later seen.others
+    (subst (IsLegal p) seen.is rule.legal)) in
     let after = moved part later (events found) (steps_at s + 1) in
     let tells : HasMoved p events place found part after
     = record {
@@ -221,10 +251,12 @@ allows-step p plan events slots id me part place f one can s rule homes at word 
       record {
         after = after;
         is = refl;
-        moves = λ q is. subst (λ r. HasMoved p events place found r after) (first-same part q (sym one ∙ is)) tells;
+        moves = λ q is. subst (λ r. HasMoved p events place found r after)
+            (first-same part q (sym one ∙ is)) tells;
         heard =
             subst (λ h. All (λ seen. IsBeginning seen h) me.0.told)
             (longer p s rule id me.0 part at one (events found) place (f found) may)
-            (beginnings-more rule.history (events found) me.0 (All-at (IsTold rule.history) s.views id me.0 at rule.told));
+            (beginnings-more rule.history (events found) me.0
+            (All-at (IsTold rule.history) s.views id me.0 at rule.told));
       },
     )

@@ -24,15 +24,19 @@ use Rattle.nb_core.proofs.Theorems.{lawful_words, linked, places_are_distinct}
 
 -- an exchange of the word 0 is an event where it finds 0
 exchange-follows :
-    (p : Plan) (e : Event) (number place new : ℕ) (h : List Event) → IsLegal p h → seat_of_event e ≡ number
-    → words_of p (e ∷ h) ≡ slice_set (words_of p h) place new → let found = slice_index (words_of p h) place in
-    (found ≡ 0 → IsLegal p (e ∷ h)) → MayStep p (only (eqb found 0) e) number place (cond (eqb found 0) new found) h
+    (p : Plan) (e : Event) (number place new : ℕ) (h : List Event) → IsLegal p h
+    → seat_of_event e ≡ number
+    → words_of p (e ∷ h) ≡ slice_set (words_of p h) place new → let found =
+    slice_index (words_of p h) place in
+    (found ≡ 0 → IsLegal p (e ∷ h)) → MayStep p (only (eqb found 0) e) number place
+    (cond (eqb found 0) new found) h
 exchange-follows p e number place new h legal mine words may =
     let found = slice_index (words_of p h) place in
     if-follows p (eqb found 0) e number place (cond (eqb found 0) new found) h
     (λ is. one-follows p e number place (cond (eqb found 0) new found) h (may (eqb-true found 0 is))
     (words ∙ ap (λ b. slice_set (words_of p h) place (cond b new found)) (sym is)) mine)
-    (λ is. none-follows p number place (cond (eqb found 0) new found) h legal (ap (λ b. cond b new found) is))
+    (λ is. none-follows p number place (cond (eqb found 0) new found) h legal
+    (ap (λ b. cond b new found) is))
 
 -- why a key may be claimed at a distance is why it may be so later
 reason-lasts :
@@ -40,16 +44,20 @@ reason-lasts :
     → HasSlotBelow p t g k ⊎ (IsReady p t g × (distance < limit_of p g))
     → HasSlotBelow p u g k ⊎ (IsReady p u g × (distance < limit_of p g))
 reason-lasts p zero k distance t u within lasting (inl has) = absurd has
-reason-lasts p (suc g) k distance t u within lasting (inl has) = inl (lasting.has_slot g k (omega arith) has)
-reason-lasts p g k distance t u within lasting (inr ready) = inr (lasting.ready g within ready.0, ready.1)
+reason-lasts p (suc g) k distance t u within lasting (inl has) =
+    inl (lasting.has_slot g k (omega arith) has)
+reason-lasts p g k distance t u within lasting (inr ready) =
+    inr (lasting.ready g within ready.0, ready.1)
 
 module _ (p : Plan) (number g : ℕ) (seen : List Event) where
   -- an empty slot may be closed to keys once there is a next table
   pub can-kill :
       (i : ℕ) → IsSlot p g i → IsInstalled (tables_at p seen) (suc g)
-      → Can p (kill_events number g i) number seen (key_place p g i) (λ found. cond (eqb found 0) 1 found)
+      → Can p (kill_events number g i) number seen (key_place p g i)
+      (λ found. cond (eqb found 0) 1 found)
   can-kill i slot growing plan numbered others not_own legal =
-      exchange-follows p (Kill number g i) number (key_place p g i) 1 (others ++ seen) legal refl refl (λ zero_found. (
+      exchange-follows p (Kill number g i) number (key_place p g i) 1 (others ++ seen)
+      legal refl refl (λ zero_found. (
         legal,
         (numbered, slot),
         record {
@@ -61,13 +69,16 @@ module _ (p : Plan) (number g : ℕ) (seen : List Event) where
 
   -- an empty slot may be claimed for a key that has its way there
   pub can-claim :
-      (i k word : ℕ) → IsSlot p g i → IsInstalled (tables_at p seen) g → HasWay p (tables_at p seen) g i k → k ≤ KEY_MAX
+      (i k word : ℕ) → IsSlot p g i → IsInstalled (tables_at p seen) g
+      → HasWay p (tables_at p seen) g i k → k ≤ KEY_MAX
       → word ≡ k + 2
-      → Can p (claim_events number g i k) number seen (key_place p g i) (λ found. cond (eqb found 0) word found)
+      → Can p (claim_events number g i k) number seen (key_place p g i)
+      (λ found. cond (eqb found 0) word found)
   can-claim i k word slot installed way in_range word_is plan numbered others not_own legal =
       let lasting = later p number seen plan others legal in
       let words = ap (slice_set (words_of p (others ++ seen)) (key_place p g i)) (sym word_is) in
-      exchange-follows p (Claim number g i k) number (key_place p g i) word (others ++ seen) legal refl words (λ zero_found. (
+      exchange-follows p (Claim number g i k) number (key_place p g i) word (others ++ seen)
+      legal refl words (λ zero_found. (
         legal,
         (numbered, slot, in_range),
         record {
@@ -86,14 +97,18 @@ module _ (p : Plan) (number g : ℕ) (seen : List Event) where
         tt,
       ))
 
-  -- a table may be followed by another where a key's path is crowded and the table below is complete
+  -- a table may be followed by another where a key's path is crowded and the table below is
+  -- complete
   pub can-install :
-      (k : ℕ) → suc g < generations_of p → IsReady p (tables_at p seen) g → AreOthers p (tables_at p seen) g k (limit_of p g)
+      (k : ℕ) → suc g < generations_of p → IsReady p (tables_at p seen) g
+      → AreOthers p (tables_at p seen) g k (limit_of p g)
       → k ≤ KEY_MAX
-      → Can p (install_events number g k) number seen (header_place p g 0) (λ found. cond (eqb found 0) 1 found)
+      → Can p (install_events number g k) number seen (header_place p g 0)
+      (λ found. cond (eqb found 0) 1 found)
   can-install k room ready crowded in_range plan numbered others not_own legal =
       let lasting = later p number seen plan others legal in
-      exchange-follows p (Install number g k) number (header_place p g 0) 1 (others ++ seen) legal refl refl (λ zero_found. (
+      exchange-follows p (Install number g k) number (header_place p g 0) 1 (others ++ seen)
+      legal refl refl (λ zero_found. (
         legal,
         (numbered, omega arith, in_range),
         record {
@@ -113,22 +128,26 @@ module _
   -- it made its event where it found 0
   exchange-won : found ≡ 0 → Extended p before after (e ∷ []) 1
   exchange-won zero_found =
-      subst (λ test. Extended p before after (cond test (e ∷ []) []) 1) (eq-eqb found 0 zero_found) told.grows
+      subst (λ test. Extended p before after (cond test (e ∷ []) []) 1) (eq-eqb found 0 zero_found)
+      told.grows
 
   -- and none where it found another word
   exchange-lost : found ≢ 0 → Extended p before after [] 1
   exchange-lost some_found =
-      subst (λ test. Extended p before after (cond test (e ∷ []) []) 1) (ne_eqb found 0 some_found) told.grows
+      subst (λ test. Extended p before after (cond test (e ∷ []) []) 1) (ne_eqb found 0 some_found)
+      told.grows
 
   -- what it has seen afterwards, where it made its event
   won-seen : found ≡ 0 → after.seen ≡ e ∷ (told.grows.others ++ before.seen)
   won-seen zero_found =
-      told.grows.seen ∙ ap (λ test. cond test (e ∷ []) [] ++ (told.grows.others ++ before.seen)) (eq-eqb found 0 zero_found)
+      told.grows.seen ∙ ap (λ test. cond test (e ∷ []) [] ++ (told.grows.others ++ before.seen))
+      (eq-eqb found 0 zero_found)
 
   -- and where not
   lost-seen : found ≢ 0 → after.seen ≡ told.grows.others ++ before.seen
   lost-seen some_found =
-      told.grows.seen ∙ ap (λ test. cond test (e ∷ []) [] ++ (told.grows.others ++ before.seen)) (ne_eqb found 0 some_found)
+      told.grows.seen ∙ ap (λ test. cond test (e ∷ []) [] ++ (told.grows.others ++ before.seen))
+      (ne_eqb found 0 some_found)
 
   -- a word of what the seat has seen, by the history
   word-seen :
@@ -153,11 +172,13 @@ module _
       let legal : IsLegal p (e ∷ h) = subst (IsLegal p) (won-seen zero_found) told.grows.legal in
       word-seen (e ∷ h) new (won-seen zero_found)
       (ap (λ w. slice_index w place) (words h)
-      ∙ get_or-set_same (words_of p h) place new 0 (omega (arith, within, (lawful_words p plan h legal.0).length)))
+      ∙ get_or-set_same (words_of p h) place new 0
+      (omega (arith, within, (lawful_words p plan h legal.0).length)))
 
 -- the same of a key word, by the state that it stood for
 module _
-    (p : Plan) (e : Event) (g i at found : ℕ) (before after : SeenBy) (at_place : at ≡ key_place p g i)
+    (p : Plan) (e : Event) (g i at found : ℕ) (before after : SeenBy)
+    (at_place : at ≡ key_place p g i)
     (told : Stepped p (λ word. only (eqb word 0) e) at before found after) (state : KeyState) where
   -- an empty slot has the new word's state
   pub key-won :
@@ -170,16 +191,19 @@ module _
       let within = (places_are_distinct p plan).below (Key g i) slot in (
         exchange-won p e (key_place p g i) at found before after at_place told zero_found,
         ap key_state
-            (word-won p e (key_place p g i) at found before after at_place told new plan within words
+            (word-won p e (key_place p g i) at found before after at_place told new plan within
+            words
             zero_found),
       )
 
   -- another slot stays as it was found
-  pub key-lost : state ≡ key_state found → state ≢ Empty → Extended p before after [] 1 × ((seen_by p after).key g i ≡ state)
+  pub key-lost : state ≡ key_state found → state ≢ Empty → Extended p before after [] 1
+      × ((seen_by p after).key g i ≡ state)
   key-lost decoded differs =
       let some_found : found ≢ 0 = λ zero_found. differs (decoded ∙ ap key_state zero_found) in (
         exchange-lost p e (key_place p g i) at found before after at_place told some_found,
-        ap key_state (word-lost p e (key_place p g i) at found before after at_place told some_found) ∙ sym decoded,
+        ap key_state (word-lost p e (key_place p g i)
+            at found before after at_place told some_found) ∙ sym decoded,
       )
 
 -- after the exchange of a next word the next table is there, whoever installed it
@@ -192,7 +216,8 @@ exchange-installs p number g k at found before after at_place told plan within =
     let place = header_place p g 0 in
     let below = (places_are_distinct p plan).below (Header g 0) (within, omega arith) in
     elim (eqb_tells found 0) [
-      | inl zero_found ↦ word-won p e place at found before after at_place told 1 plan below (λ h. refl) zero_found.1
+      | inl zero_found ↦ word-won p e place at found before after at_place told 1 plan below
+          (λ h. refl) zero_found.1
       | inr some_found ↦ elim ((linked p plan after.seen told.grows.legal).next g) [
         | inl zero_after ↦
             let still = word-lost p e place at found before after at_place told some_found.1 in

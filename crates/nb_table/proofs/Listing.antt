@@ -23,7 +23,8 @@ on_ok P (Err e) is holds = absurd cc
 
 module _ (closed : ClosedOf) where
   -- nothing is done yet
-  pub listing-first : (found : Numbers) → found ≡ empty → IsListing closed found (tables_left closed).top 0
+  pub listing-first : (found : Numbers) → found ≡ empty
+      → IsListing closed found (tables_left closed).top 0
   listing-first found none = record {
     so_far = λ k. inl (ap (λ m. get m k) none ∙ get-empty nat_cmp k);
     tables = λ f j k from below slot is. absurd (omega arith);
@@ -45,7 +46,8 @@ module _ (closed : ClosedOf) where
 
   -- A slot's key that was brought to what the map has. All others are as they were.
   listing-key :
-      (found found' : Numbers) (g i key : ℕ) → (tables_left closed).key g i ≡ Claimed key → HasRight closed found' key
+      (found found' : Numbers) (g i key : ℕ) → (tables_left closed).key g i ≡ Claimed key
+      → HasRight closed found' key
       → ((k : ℕ) → k ≢ key → get found' k ≡ get found k)
       → IsListing closed found g i → IsListing closed found' g (i + 1)
   listing-key found found' g i key here right others listing = record {
@@ -59,7 +61,8 @@ module _ (closed : ClosedOf) where
     tables = λ f j k from below slot is. kept k (listing.tables f j k from below slot is);
     slots = λ j k below is. elim (cases_eq j i) [
       | inl same ↦
-          let claimed : Claimed key ≡ Claimed k = sym here ∙ ap ((tables_left closed).key g) (sym same) ∙ is in
+          let claimed : Claimed key ≡ Claimed k = sym here
+          ∙ ap ((tables_left closed).key g) (sym same) ∙ is in
           let k_is : key ≡ k = cc in
           subst (HasRight closed found') k_is right
       | inr before ↦ kept k (listing.slots j k (omega arith) is)
@@ -75,7 +78,8 @@ module _ (closed : ClosedOf) where
   -- the key of a slot that the map hasn't got
   pub listing-without :
       (found : Numbers) (g i key : ℕ) → (tables_left closed).key g i ≡ Claimed key
-      → None ≡ get (map_of closed.history) key → IsListing closed found g i → IsListing closed found g (i + 1)
+      → None ≡ get (map_of closed.history) key → IsListing closed found g i
+      → IsListing closed found g (i + 1)
   listing-without found g i key here none listing =
       let right : HasRight closed found key = elim (listing.so_far key) [
         | inl nothing ↦ nothing ∙ none
@@ -108,7 +112,8 @@ module _ (closed : ClosedOf) where
     so_far = listing.so_far;
     tables = λ f j k from below slot is. elim (cases_eq f g) [
       | inl same ↦
-          let in_table : j < size_of closed.shape g = subst (λ x. j < size_of closed.shape x) same slot.1 in
+          let in_table : j < size_of closed.shape g =
+          subst (λ x. j < size_of closed.shape x) same slot.1 in
           listing.slots j k (omega arith) (ap (λ x. (tables_left closed).key x j) (sym same) ∙ is)
       | inr before ↦ listing.tables f j k from (omega arith) slot is
     ];
@@ -117,24 +122,31 @@ module _ (closed : ClosedOf) where
 
   -- a table that isn't there
   pub listing-skip :
-      AreLinked closed.shape (tables_left closed) → (found : Numbers) (g : ℕ) → false ≡ is_installed (tables_left closed) g
+      AreLinked closed.shape (tables_left closed) → (found : Numbers) (g : ℕ)
+      → false ≡ is_installed (tables_left closed) g
       → IsListing closed found g 0 → IsListing closed found (g + 1) 0
   listing-skip linked found g absent listing = record {
     so_far = listing.so_far;
     tables = λ f j k from below slot is. elim (cases_eq f g) [
-      | inl same ↦ absurd (away g absent (subst (IsInstalled (tables_left closed)) same (linked.claimed f j k slot is)))
+      | inl same ↦ absurd
+          (away g absent (subst (IsInstalled (tables_left closed)) same
+          (linked.claimed f j k slot is)))
       | inr before ↦ listing.tables f j k from (omega arith) slot is
     ];
     slots = λ j k below is. absurd (omega arith);
   }
     where
-      away : (g : ℕ) → false ≡ is_installed (tables_left closed) g → IsInstalled (tables_left closed) g → ⊥
+      away : (g : ℕ) → false ≡ is_installed (tables_left closed) g
+          → IsInstalled (tables_left closed) g → ⊥
       away zero absent installed = cc
-      away (suc g) absent installed = eqb-false ((tables_left closed).next g) 1 (sym absent) installed
+      away (suc g) absent installed = eqb-false ((tables_left closed).next g) 1 (sym absent)
+          installed
 
-  -- Each key that the map has was found at its place from the top word on, so once all tables are done the two are the same.
+  -- Each key that the map has was found at its place from the top word on, so once all tables are
+  -- done the two are the same.
   pub listing-all :
-      IsLeft closed → (found : Numbers) (g : ℕ) → generations_of closed.shape ≤ g → IsListing closed found g 0
+      IsLeft closed → (found : Numbers) (g : ℕ) → generations_of closed.shape ≤ g
+      → IsListing closed found g 0
       → found ≡ map_of closed.history
   listing-all is found g whole listing =
       same_map nat_cmp_total nat_cmp-IsAntisymmetric found (map_of closed.history) (λ k.
@@ -144,7 +156,8 @@ module _ (closed : ClosedOf) where
       ])
     where
       same-none :
-          (k : ℕ) → get found k ≡ None → (number : Option ℕ) → get (map_of closed.history) k ≡ number
+          (k : ℕ) → get found k ≡ None → (number : Option ℕ)
+          → get (map_of closed.history) k ≡ number
           → get found k ≡ get (map_of closed.history) k
       same-none k none None is_none = none ∙ sym is_none
       same-none k none (Some n) is_some =

@@ -52,16 +52,24 @@ last-distance : (k d size : ℕ) → d < size → (k + d) % size ≡ (k + (size 
 last-distance k d size within same =
     let rest = size - 1 - d in
     let all : k + d + rest ≡ k + (size - 1) = omega (arith, within) in
-    let none : rest ≡ 0 = same-slot (k + d) rest size (omega (arith, within)) (ap (λ x. x % size) all ∙ sym same) in
+    let none : rest ≡ 0 = same-slot (k + d) rest size (omega (arith, within))
+    (ap (λ x. x % size) all ∙ sym same) in
     omega (arith, none, within)
 
 -- ---- what is shown
 
 -- one more slot of a path
-others-suc : (p : Plan) (t : Tables) (g k d j : ℕ) → AreOthers p t g k d → t.key g (path_slot p g k d) ≡ Claimed j → j ≢ k
+others-suc :
+    (p : Plan) (t : Tables) (g k d j : ℕ) → AreOthers p t g k d
+    → t.key g (path_slot p g k d) ≡ Claimed j → j ≢ k
     → AreOthers p t g k (suc d)
 others-suc p t g k d j passed claimed other e below = elim (same-or-less e d below) [
-  | inl same ↦ record { other = j; is = ap (λ x. t.key g (path_slot p g k x)) same ∙ claimed; differs = other }
+  | inl same ↦ record {
+    other = j;
+    is = ap (λ x. t.key g (path_slot p g k x)) same
+        ∙ claimed;
+    differs = other;
+  }
   | inr less ↦ passed e less
 ]
   where
@@ -74,17 +82,21 @@ shown-is m n same = cc
 
 -- another key in the last slot of a key's path in the last table shows none
 last-shows :
-    (p : Plan) (t : Tables) (g i k j : ℕ) (n : Option ℕ) → IsOnPath p t g i k → t.key g i ≡ Claimed j
+    (p : Plan) (t : Tables) (g i k j : ℕ) (n : Option ℕ) → IsOnPath p t g i k
+    → t.key g i ≡ Claimed j
     → (not (eqb j k) && is_last_slot p g i k) ≡ true → n ≡ None → Shows p t g k n
 last-shows p t g i k j n path is test none =
     let other_last = and-both (not (eqb j k)) (is_last_slot p g i k) test in
-    let last = and-both (eqb (suc g) (generations_of p)) (eqb (path_slot p g k (size_of p g - 1)) i) other_last.1 in
-    let at : path_slot p g k path.distance ≡ path_slot p g k (size_of p g - 1) = path.at ∙ sym (eqb-true _ _ last.1) in
+    let last = and-both (eqb (suc g) (generations_of p)) (eqb (path_slot p g k (size_of p g - 1)) i)
+    other_last.1 in
+    let at : path_slot p g k path.distance ≡ path_slot p g k (size_of p g - 1) = path.at
+    ∙ sym (eqb-true _ _ last.1) in
     let all = last-distance k path.distance (size_of p g) path.in_table at in
     InLast
     (subst (AreOthers p t g k) all
     (others-suc p t g k path.distance j path.passed (ap (t.key g) path.at ∙ is)
-    (eqb-false j k (not-true (eqb j k) other_last.0)))) (eqb-true (suc g) (generations_of p) last.0) none
+    (eqb-false j k (not-true (eqb j k) other_last.0)))) (eqb-true (suc g) (generations_of
+    p) last.0) none
   where
     and-both : (a b : Bool) → (a && b) ≡ true → (a ≡ true) × (b ≡ true)
     and-both true true both = (refl, refl)
@@ -97,10 +109,12 @@ last-shows p t g i k j n path is test none =
 
 -- what a key word shows to a search whose path leads to its slot
 key-shows :
-    (p : Plan) (t : Tables) (g i k : ℕ) (state : KeyState) (n : Option ℕ) → IsOnPath p t g i k → t.key g i ≡ state
+    (p : Plan) (t : Tables) (g i k : ℕ) (state : KeyState) (n : Option ℕ) → IsOnPath p t g i k
+    → t.key g i ≡ state
     → shown_by_key p g i state k ≡ Some n → Shows p t g k n
 key-shows p t g i k Empty n path is shown =
-    AtEmpty path.distance path.in_table path.passed (ap (t.key g) path.at ∙ is) (shown-is None n shown)
+    AtEmpty path.distance path.in_table path.passed (ap (t.key g) path.at ∙ is)
+    (shown-is None n shown)
 key-shows p t g i k Dead n path is shown = cc
 key-shows p t g i k (Claimed j) n path is shown =
     let test = not (eqb j k) && is_last_slot p g i k in
@@ -111,10 +125,12 @@ key-shows p t g i k (Claimed j) n path is shown =
 
 -- what a value shows in its key's slot
 value-shows :
-    (p : Plan) (t : Tables) (g i k : ℕ) (state : ValueState) (n : Option ℕ) → IsSlot p g i → t.key g i ≡ Claimed k
+    (p : Plan) (t : Tables) (g i k : ℕ) (state : ValueState) (n : Option ℕ) → IsSlot p g i
+    → t.key g i ≡ Claimed k
     → t.value g i ≡ state → shown_by_value state ≡ Some n → Shows p t g k n
 value-shows p t g i k state n slot claimed is shown =
-    AtValue i slot.1 claimed (subst IsUnprimed (sym is) (unprimed state shown)) (content state shown ∙ ap number_in_value (sym is))
+    AtValue i slot.1 claimed (subst IsUnprimed (sym is) (unprimed state shown)) (content state shown
+    ∙ ap number_in_value (sym is))
   where
     unprimed : (state : ValueState) → shown_by_value state ≡ Some n → IsUnprimed state
     unprimed Null shown = tt
@@ -138,37 +154,44 @@ value-shows p t g i k state n slot claimed is shown =
 
 -- the read of a call may follow where what is shown of its key is what the map has
 read-follows :
-    (p : Plan) → IsPlan p → (number place : ℕ) (call : Call) (shown : Option (Option ℕ)) (h : List Event)
+    (p : Plan) → IsPlan p → (number place : ℕ) (call : Call) (shown : Option (Option ℕ))
+    (h : List Event)
     → number < p.seats → IsLegal p h → IsCallInRange call
     → ((n : Option ℕ) → shown ≡ Some n → map.get (map_of h) (key_of_call call) ≡ n)
     → MayStep p (read number call shown) number place (slice_index (words_of p h) place) h
-read-follows p plan number place call None h seated legal ranges is = none-follows p number place _ h legal refl
+read-follows p plan number place call None h seated legal ranges is =
+    none-follows p number place _ h legal refl
 read-follows p plan number place call (Some n) h seated legal ranges is =
-    if-follows p (leaves_alone call n) (Read number call (reply_at call n)) number place (slice_index (words_of p h) place) h
-    (λ alone. one-follows p (Read number call (reply_at call n)) number place (slice_index (words_of p h) place) h
+    if-follows p (leaves_alone call n) (Read number call (reply_at call n)) number place
+    (slice_index (words_of p h) place) h
+    (λ alone. one-follows p (Read number call (reply_at call n)) number place
+    (slice_index (words_of p h) place) h
     (legal, (seated, ranges), tt, read_replies p plan h legal number call n (is n refl) alone)
     (sym (set-get_or (words_of p h) place 0)) refl)
     (λ other. none-follows p number place (slice_index (words_of p h) place) h legal refl)
 
 -- a search that has come to a table has come there still
 reached-lasts :
-    (p : Plan) (t u : Tables) (g k : ℕ) → g < generations_of p → Lasts p t u → IsReached p t g k → IsReached p u g k
+    (p : Plan) (t u : Tables) (g k : ℕ) → g < generations_of p → Lasts p t u → IsReached p t g k
+    → IsReached p u g k
 reached-lasts p t u g k within lasting reached = record {
   installed = lasting.installed g reached.installed;
   below = λ f less. lasting.passed f k (omega (arith, less, within)) (reached.below f less);
 }
 
--- A load may be the read of its call where the search for the call's key has come to its table, and what the word shows
--- to the search is what the tables show.
+-- A load may be the read of its call where the search for the call's key has come to its table, and
+-- what the word shows to the search is what the tables show.
 module _
     (p : Plan) (number : ℕ) (seen : List Event) (g : ℕ)
     (within : g < generations_of p) where
   can-read :
-      (call : Option Call) (place : ℕ) (shown : ℕ → ℕ → Option (Option ℕ)) → IfSome call IsCallInRange
+      (call : Option Call) (place : ℕ) (shown : ℕ → ℕ → Option (Option ℕ))
+      → IfSome call IsCallInRange
       → IfSome call (λ c. IsReached p (tables_at p seen) g (key_of_call c))
       → IfSome call (λ c. (others : List Event) → IsLegal p (others ++ seen)
       → Lasts p (tables_at p seen) (tables_at p (others ++ seen))
-      → (n : Option ℕ) → shown (slice_index (words_of p (others ++ seen)) place) (key_of_call c) ≡ Some n
+      → (n : Option ℕ) → shown (slice_index (words_of p (others ++ seen)) place) (key_of_call c)
+      ≡ Some n
       → Shows p (tables_at p (others ++ seen)) g (key_of_call c) n)
       → Can p (λ found. reads number call (shown found)) number seen place (λ found. found)
   can-read None place shown ranges reached shows plan seated others not_own legal =
@@ -178,15 +201,18 @@ module _
       let k = key_of_call call in
       let lasting = later p number seen plan others legal in
       let come = reached-lasts p (tables_at p seen) (tables_at p h) g k within lasting reached in
-      read-follows p plan number place call (shown (slice_index (words_of p h) place) k) h seated legal ranges
-      (λ n is. decided p plan h legal g k within come.installed come.below n (shows others legal lasting n is))
+      read-follows p plan number place call (shown (slice_index (words_of p h) place) k)
+      h seated legal ranges
+      (λ n is. decided p plan h legal g k within come.installed come.below n
+      (shows others legal lasting n is))
 
   -- of a key, to a search whose path leads to the slot
   pub can-load_key :
       (i : ℕ) (call : Option Call) → IsSlot p g i → IfSome call IsCallInRange
       → IfSome call (λ c. IsReached p (tables_at p seen) g (key_of_call c))
       → IfSome call (λ c. IsOnPath p (tables_at p seen) g i (key_of_call c))
-      → Can p (λ found. reads number call (shown_by_key p g i (key_state found))) number seen (key_place p g i) (λ found. found)
+      → Can p (λ found. reads number call (shown_by_key p g i (key_state found))) number seen
+      (key_place p g i) (λ found. found)
   can-load_key i call slot ranges reached on_path =
       can-read call (key_place p g i) (λ found. shown_by_key p g i (key_state found)) ranges reached
       (IfSome_then call on_path (λ c path others legal lasting n is.
@@ -203,10 +229,12 @@ module _
       (i : ℕ) (call : Option Call) → IsSlot p g i → IfSome call IsCallInRange
       → IfSome call (λ c. IsReached p (tables_at p seen) g (key_of_call c))
       → IfSome call (λ c. (tables_at p seen).key g i ≡ Claimed (key_of_call c))
-      → Can p (λ found. reads number call (λ k. shown_by_value (unwrap_or (value_state found) Null))) number seen
+      → Can p (λ found. reads number call
+      (λ k. shown_by_value (unwrap_or (value_state found) Null))) number seen
       (value_place p g i) (λ found. found)
   can-load_value i call slot ranges reached claimed =
-      can-read call (value_place p g i) (λ found k. shown_by_value (unwrap_or (value_state found) Null)) ranges reached
+      can-read call (value_place p g i) (λ found k. shown_by_value
+      (unwrap_or (value_state found) Null)) ranges reached
       (IfSome_then call claimed (λ c is_claimed others legal lasting n is.
       value-shows p (tables_at p (others ++ seen)) g i (key_of_call c) _ n slot
       (lasting.claimed g i (key_of_call c) slot is_claimed) refl is))
@@ -216,14 +244,16 @@ module _
       (call : Option Call) → IsPlan p → IfSome call IsCallInRange
       → IfSome call (λ c. IsReached p (tables_at p seen) g (key_of_call c))
       → IfSome call (λ c. AreOthers p (tables_at p seen) g (key_of_call c) (size_of p g))
-      → Can p (λ found. reads number call (λ k. shown_by_next (eqb found 1))) number seen (header_place p g 0) (λ found. found)
+      → Can p (λ found. reads number call (λ k. shown_by_next (eqb found 1))) number seen
+      (header_place p g 0) (λ found. found)
   can-load_next call plan ranges reached crowded =
       can-read call (header_place p g 0) (λ found k. shown_by_next (eqb found 1)) ranges reached
       (IfSome_then call crowded (λ c others_there others legal lasting n is.
       NoNext (lasting.others g (key_of_call c) (size_of p g) within others_there)
       (no-next _ n is ((linked p plan (others ++ seen) legal).next g)) (no-number _ n is)))
     where
-      no-next : (found : ℕ) (n : Option ℕ) → shown_by_next (eqb found 1) ≡ Some n → (found ≡ 0) ⊎ (found ≡ 1) → found ≡ 0
+      no-next : (found : ℕ) (n : Option ℕ) → shown_by_next (eqb found 1) ≡ Some n
+          → (found ≡ 0) ⊎ (found ≡ 1) → found ≡ 0
       no-next found n shown (inl none) = none
       no-next found n shown (inr one) =
           let some : None ≡ Some n = ap (λ x. shown_by_next (eqb x 1)) (sym one) ∙ shown in cc
@@ -243,7 +273,8 @@ reads-words :
 reads-words p number None shown h = refl
 reads-words p number (Some call) shown h = read-words (shown (key_of_call call))
   where
-    only-words : (b : Bool) (r : Reply) → words_of p (only b (Read number call r) ++ h) ≡ words_of p h
+    only-words : (b : Bool) (r : Reply) → words_of p (only b (Read number call r) ++ h)
+        ≡ words_of p h
     only-words true r = refl
     only-words false r = refl
 
@@ -253,7 +284,8 @@ reads-words p number (Some call) shown h = read-words (shown (key_of_call call))
 
 -- what the words say after a load is what they said when it was made
 pub load-sees :
-    (p : Plan) (number : ℕ) (call : Option Call) (shown : ℕ → ℕ → Option (Option ℕ)) (place found : ℕ) (before after : SeenBy)
+    (p : Plan) (number : ℕ) (call : Option Call) (shown : ℕ → ℕ → Option (Option ℕ))
+    (place found : ℕ) (before after : SeenBy)
     → (step : Stepped p (λ word. reads number call (shown word)) place before found after)
     → seen_by p after ≡ tables_at p (step.grows.others ++ before.seen)
 load-sees p number call shown place found before after step =

@@ -38,13 +38,16 @@ pub notes : (p : Plan) (id : ℕ) (v : View) → Splits (IsChained p) id v v (no
 notes p id v = split-keeps p id v v (noted v) refl (λ h fits told. (told, noted-told h v fits told))
 
 -- one token takes in what another knows
-pub joins : (p : Plan) (id : ℕ) (v : View) (other : ℕ) (w : View) → Joins (IsChained p) id v other w (joined_views v w) spent_view
+pub joins :
+    (p : Plan) (id : ℕ) (v : View) (other : ℕ) (w : View)
+    → Joins (IsChained p) id v other w (joined_views v w) spent_view
 joins p id v other w s rule at differs other_at =
     kept p s (slice_set (slice_set s.views id (joined_views v w)) other spent_view) rule
     (all-joined (λ view. view.parts) s.views id v other w (joined_views v w) spent_view at differs
     other_at refl refl)
     (All-set (IsTold rule.history) (slice_set s.views id (joined_views v w)) other spent_view
-    (All-nil (λ seen. IsBeginning seen rule.history)) (All-set (IsTold rule.history) s.views id (joined_views v w) told rule.told))
+    (All-nil (λ seen. IsBeginning seen rule.history))
+    (All-set (IsTold rule.history) s.views id (joined_views v w) told rule.told))
   where
     before : get_elem? s.views other ≡ some w
     before = sym (set_else s.views id other (joined_views v w) differs) ∙ other_at
@@ -52,7 +55,8 @@ joins p id v other w s rule at differs other_at =
     told : IsTold rule.history (joined_views v w)
     told =
         All-append (λ seen. IsBeginning seen rule.history) v.told w.told
-        (All-at (IsTold rule.history) s.views id v at rule.told) (All-at (IsTold rule.history) s.views other w before rule.told)
+        (All-at (IsTold rule.history) s.views id v at rule.told)
+        (All-at (IsTold rule.history) s.views other w before rule.told)
 
 -- ---- after the meeting
 
@@ -65,13 +69,17 @@ pub record HasMet (p : Plan) (before other after : seat.Inside) : Type 0 where
 -- what the token knows that took in the other's note
 pub joined-me :
     (before other own note me : Me (Unit {0}) View) → own ≡ before → note ≡ (noted other.0, [])
-    → me ≡ (joined_views own.0 note.0, own.1) → me ≡ (joined_views before.0 (noted other.0), before.1)
-joined-me before other own note me own_is note_is me_is = me_is ∙ (λ i. (joined_views ((own_is i).0) ((note_is i).0), (own_is i).1))
+    → me ≡ (joined_views own.0 note.0, own.1)
+    → me ≡ (joined_views before.0 (noted other.0), before.1)
+joined-me before other own note me own_is note_is me_is = me_is
+    ∙ (λ i. (joined_views ((own_is i).0) ((note_is i).0), (own_is i).1))
 
 pub met :
-    (p : Plan) (before other after : seat.Inside) (me : Me (Unit {0}) View) (found : ℕ) → IsSeat before → IsSeat other
+    (p : Plan) (before other after : seat.Inside) (me : Me (Unit {0}) View) (found : ℕ)
+    → IsSeat before → IsSeat other
     → after.seat.table_id ≡ before.seat.table_id
-    → me ≡ (joined_views before.seat.me.0 (noted other.seat.me.0), before.seat.me.1) → Moves p (λ _. []) 0 me found after.seat.me
+    → me ≡ (joined_views before.seat.me.0 (noted other.seat.me.0), before.seat.me.1)
+    → Moves p (λ _. []) 0 me found after.seat.me
     → HasMet p before other after
 met p before other after me found is_seat other_seat table me_is heard = record {
   seat = record {
@@ -88,14 +96,16 @@ met p before other after me found is_seat other_seat table me_is heard = record 
     legal = subst (λ (x : Part). IsLegal p x.seen) (sym after_is) moves.legal;
     steps = ap (λ x. x.steps) after_is;
   };
-  sees = subst (λ (x : Part). IsBeginning (part_of other.seat.me.0.parts).seen x.seen) (sym (ap part_of alone_after)) told;
+  sees = subst (λ (x : Part). IsBeginning (part_of other.seat.me.0.parts).seen x.seen)
+      (sym (ap part_of alone_after)) told;
 }
   where
     part : Part
     part = part_of before.seat.me.0.parts
 
     moves : HasMoved p (λ _. []) 0 found part heard.after
-    moves = heard.moves part (ap (λ m. m.0.parts) me_is ∙ append-nil before.seat.me.0.parts ∙ is_seat.one)
+    moves = heard.moves part (ap (λ m. m.0.parts) me_is ∙ append-nil before.seat.me.0.parts
+        ∙ is_seat.one)
 
     alone_after : after.seat.me.0.parts ≡ heard.after ∷ []
     alone_after = ap (λ m. m.0.parts) heard.is
@@ -106,17 +116,22 @@ met p before other after me found is_seat other_seat table me_is heard = record 
     told : IsBeginning (part_of other.seat.me.0.parts).seen heard.after.seen
     told =
         let P : List Event → Type 0 = λ seen. IsBeginning seen heard.after.seen in
-        let is : me.0.told ≡ before.seat.me.0.told ++ (part_of other.seat.me.0.parts).seen ∷ other.seat.me.0.told
-        = ap (λ m. m.0.told) me_is ∙ ap (λ ps. before.seat.me.0.told ++ (map (λ x. x.seen) ps ++ other.seat.me.0.told))
+        let is : me.0.told ≡ before.seat.me.0.told ++ (part_of other.seat.me.0.parts).seen
+        ∷ other.seat.me.0.told
+        = ap (λ m. m.0.told) me_is
+        ∙ ap (λ ps. before.seat.me.0.told ++ (map (λ x. x.seen) ps ++ other.seat.me.0.told))
         other_seat.one in
         All-head P (part_of other.seat.me.0.parts).seen other.seat.me.0.told
-        (All-right P before.seat.me.0.told ((part_of other.seat.me.0.parts).seen ∷ other.seat.me.0.told)
+        (All-right P before.seat.me.0.told
+        ((part_of other.seat.me.0.parts).seen ∷ other.seat.me.0.told)
         (subst (All P) is heard.heard))
 
 -- as contracts see it
 pub met-told :
-    (p : Plan) (before other after : seat.Inside) (a b : SeenBy) → seat_of before ≡ a → seat_of other ≡ b
-    → HasMet p before other after → Extended p a (seat_of after) [] 1 × IsBeginning b.seen (seat_of after).seen
+    (p : Plan) (before other after : seat.Inside) (a b : SeenBy) → seat_of before ≡ a
+    → seat_of other ≡ b
+    → HasMet p before other after → Extended p a (seat_of after) [] 1
+    × IsBeginning b.seen (seat_of after).seen
 met-told p before other after a b a_is b_is m = (
   subst (λ x. Extended p x (seat_of after) [] 1) a_is m.grows,
   subst (λ (x : SeenBy). IsBeginning x.seen (seat_of after).seen) b_is m.sees,

@@ -15,19 +15,22 @@ use Rattle.nb_table.proofs.Parted.{Fits}
 
 pub words_stand : WordsStand
 words_stand p s plan rule =
-    subst (λ words. Stands p words (map_of rule.history)) (sym rule.words) (stands p plan rule.history rule.legal)
+    subst (λ words. Stands p words (map_of rule.history)) (sym rule.words)
+    (stands p plan rule.history rule.legal)
 
 -- Who made the last step has seen all, and has seen no less later.
 pub goes_on : GoesOn
 goes_on p s s' rule rule' more =
     let last = rule.last in
     let P : Part → Type 0 = λ part.
-    (part' : Part) × Contains (parts_at s') part' × (part'.number ≡ part.number) × IsBeginning part.seen part'.seen in
+    (part' : Part) × Contains (parts_at s') part' × (part'.number ≡ part.number)
+    × IsBeginning part.seen part'.seen in
     let then = All-contains P (parts_at s) last.0 more last.1 in
     let fits = All-contains (Fits rule'.history) (parts_at s') then.0 rule'.seen then.1 in
     subst (λ h. IsBeginning h rule'.history) last.3 (record {
       later = fits.later ++ then.3.later;
-      is = fits.is ∙ ap (λ h. fits.later ++ h) then.3.is ∙ sym (append_assoc fits.later then.3.later last.0.seen);
+      is = fits.is ∙ ap (λ h. fits.later ++ h) then.3.is
+          ∙ sym (append_assoc fits.later then.3.later last.0.seen);
     })
 
 -- Who made the last step is the one seat that knows more: no other has made a step of this number.
@@ -39,6 +42,7 @@ stepper_has_seen p s s' rule rule' number more others =
       | inr other ↦
           let P : Part → Type 0 = λ part. part.number ≢ number → Contains (parts_at s) part in
           let was = All-contains P (parts_at s') last.0 others last.1 other in
-          let before = All-contains (λ (part : Part). part.last_step ≤ steps_at s) (parts_at s) last.0 rule.steps was in
+          let before = All-contains (λ (part : Part). part.last_step ≤ steps_at s) (parts_at s)
+          last.0 rule.steps was in
           absurd (omega (arith, before, more, last.2))
     ]

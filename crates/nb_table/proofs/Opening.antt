@@ -46,7 +46,8 @@ pub opens :
 opens p words some zeros =
     let parts : all_parts (first_view p.seats ∷ []) ≡ new_parts p.seats
     = append-nil (new_parts p.seats) in
-    let made : all_steps (all_parts (first_view p.seats ∷ [])) ≡ 0 = ap all_steps parts ∙ none-made 0 p.seats in
+    let made : all_steps (all_parts (first_view p.seats ∷ [])) ≡ 0 = ap all_steps parts
+    ∙ none-made 0 p.seats in
     let all : (P : Part → Type 0) → ((n : ℕ) → n < p.seats → P (new_part n))
     → All P (all_parts (first_view p.seats ∷ []))
     = λ P each. All-same P _ _ parts
@@ -56,10 +57,17 @@ opens p words some zeros =
       legal = tt;
       words = zeros;
       seen = all (Fits []) (λ n within. fits-none n);
-      told = All-cons (IsTold []) (first_view p.seats) [] (All-nil (λ seen. IsBeginning seen [])) (All-nil (IsTold []));
+      told = All-cons (IsTold []) (first_view p.seats) [] (All-nil (λ seen. IsBeginning seen []))
+          (All-nil (IsTold []));
       steps = all (λ part. part.last_step ≤ all_steps (all_parts (first_view p.seats ∷ [])))
           (λ n within. omega arith);
-      last = (new_part 0, subst (λ all. Contains all (new_part 0)) (sym parts) (has-first p.seats some), sym made, refl);
+      last = (
+        new_part 0,
+        subst (λ all. Contains all (new_part 0)) (sym parts)
+            (has-first p.seats some),
+        sym made,
+        refl,
+      );
       numbers = all (λ part. part.number < p.seats) (λ n within. within);
       once = λ n within.
           ap (times_among n) parts
@@ -68,7 +76,8 @@ opens p words some zeros =
     }
 
 -- as many words as the chain has, which are some
-pub count-words : (p : Plan) (words : List ℕ) → words ≡ replicate (word_count p) 0 → length words ≡ word_count p
+pub count-words :
+    (p : Plan) (words : List ℕ) → words ≡ replicate (word_count p) 0 → length words ≡ word_count p
 count-words p words zeros = ap length zeros ∙ length-replicate (word_count p) 0
 
 pub some-words : (p : Plan) → 0 < word_count p
@@ -76,11 +85,17 @@ some-words p = omega arith
 
 -- ---- a view cut in two
 
--- The rule doesn't see which token has a part: it is kept where all tokens together have the same parts, and were told of
--- beginnings.
+-- The rule doesn't see which token has a part: it is kept where all tokens together have the same
+-- parts, and were told of beginnings.
 pub kept :
-    (p : Plan) (s : Moment) (views : List View) → (rule : IsChained p s) → IsPermutation (parts_at s) (all_parts views)
-    → All (IsTold rule.history) views → IsChained p record { words = s.words; homes = s.homes; views = views }
+    (p : Plan) (s : Moment) (views : List View) → (rule : IsChained p s)
+    → IsPermutation (parts_at s) (all_parts views)
+    → All (IsTold rule.history) views → IsChained p record {
+      words = s.words;
+      homes =
+          s.homes;
+      views = views;
+    }
 kept p s views rule are told = record {
   history = rule.history;
   legal = rule.legal;
@@ -89,13 +104,21 @@ kept p s views rule are told = record {
   told = told;
   steps =
       subst (λ n. All (λ part. part.last_step ≤ n) (all_parts views)) made
-      (All-permutation (λ part. part.last_step ≤ steps_at s) (parts_at s) (all_parts views) are rule.steps);
+      (All-permutation (λ part. part.last_step ≤ steps_at s) (parts_at s) (all_parts views)
+      are rule.steps);
   last =
-      let last = rule.last in
-      (last.0, Contains-permutation (parts_at s) (all_parts views) last.0 are last.1, last.2 ∙ made, last.3);
-  numbers = All-permutation (λ part. part.number < p.seats) (parts_at s) (all_parts views) are rule.numbers;
+      let last = rule.last in (
+        last.0,
+        Contains-permutation (parts_at s) (all_parts views) last.0 are last.1,
+        last.2
+            ∙ made,
+        last.3,
+      );
+  numbers = All-permutation (λ part. part.number < p.seats) (parts_at s) (all_parts views)
+      are rule.numbers;
   once = λ n within.
-      sum_by-IsPermutation (λ part. cond (eqb part.number n) 1 0) (parts_at s) (all_parts views) are ∙ rule.once n within;
+      sum_by-IsPermutation (λ part. cond (eqb part.number n) 1 0) (parts_at s) (all_parts views) are
+      ∙ rule.once n within;
   count = length_permutation (parts_at s) (all_parts views) are ∙ rule.count;
 }
   where
@@ -114,9 +137,12 @@ split-keeps p id v left right parts hears s rule at =
     (All-at (IsTold rule.history) s.views id v at rule.told) in
     kept p s (views ++ right ∷ []) rule
     (all-split (λ view. view.parts) s.views id v left right at parts)
-    (All-push (IsTold rule.history) views right (All-set (IsTold rule.history) s.views id left told.0 rule.told) told.1)
+    (All-push (IsTold rule.history) views right
+    (All-set (IsTold rule.history) s.views id left told.0 rule.told) told.1)
 
 -- the first part goes to a new token
-pub deals : (p : Plan) (id : ℕ) (v : View) → Splits (IsChained p) id v (other_parts v) (first_part v)
+pub deals :
+    (p : Plan) (id : ℕ) (v : View) → Splits (IsChained p) id v (other_parts v) (first_part v)
 deals p id v =
-    split-keeps p id v (other_parts v) (first_part v) (sym (take-append-drop 1 v.parts)) (λ h fits told. (told, All-nil _))
+    split-keeps p id v (other_parts v) (first_part v) (sym (take-append-drop 1 v.parts))
+    (λ h fits told. (told, All-nil _))

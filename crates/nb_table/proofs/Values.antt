@@ -39,51 +39,65 @@ primed-again _ other = refl
 
 -- the word holds this number, primed or finished
 abbrev Holds : ℕ → ℕ → Type 0
-Holds x n = (unwrap_or (value_state x) Null ≡ Primed n) ⊎ (unwrap_or (value_state x) Null ≡ Finished n)
+Holds x n = (unwrap_or (value_state x) Null ≡ Primed n)
+    ⊎ (unwrap_or (value_state x) Null ≡ Finished n)
 
 module _ where
   -- the words of unprimed values are even, and no others
-  evens : (x : ℕ) (v : ValueState) → value_state x ≡ Some v → (IsUnprimed v → x % 2 ≡ 0) × (x % 2 ≡ 0 → IsUnprimed v)
+  evens : (x : ℕ) (v : ValueState) → value_state x ≡ Some v → (IsUnprimed v → x % 2 ≡ 0)
+      × (x % 2 ≡ 0 → IsUnprimed v)
   evens x v says =
       let is = (codings.word_of_state x v says).0 in
       subst (λ y. (IsUnprimed v → y % 2 ≡ 0) × (y % 2 ≡ 0 → IsUnprimed v)) (sym is) (codings.even v)
 
   -- the word of a value, primed, stands for the primed value
-  primed-says : (x : ℕ) (v : ValueState) → value_state x ≡ Some v → value_state (bit_or x 1) ≡ Some (primed v)
+  primed-says : (x : ℕ) (v : ValueState) → value_state x ≡ Some v
+      → value_state (bit_or x 1) ≡ Some (primed v)
   primed-says x v says =
       let is = codings.word_of_state x v says in
       ap (λ y. value_state (bit_or y 1)) is.0 ∙ ap value_state (codings.prime v)
       ∙ codings.state_of_word (primed v) (primed-range v is.1)
 
   -- and that of a primed number, finished, for the finished one
-  finished-says : (x n : ℕ) → value_state x ≡ Some (Primed n) → value_state (bit_or x 2) ≡ Some (Finished n)
+  finished-says : (x n : ℕ) → value_state x ≡ Some (Primed n)
+      → value_state (bit_or x 2) ≡ Some (Finished n)
   finished-says x n says =
       let is = codings.word_of_state x (Primed n) says in
-      ap (λ y. value_state (bit_or y 2)) is.0 ∙ ap value_state (codings.finish n) ∙ codings.state_of_word (Finished n) is.1
+      ap (λ y. value_state (bit_or y 2)) is.0 ∙ ap value_state (codings.finish n)
+      ∙ codings.state_of_word (Finished n) is.1
 
   -- to set the lowest bit in the word of a value that isn't unprimed changes nothing
   primed-kept : (x : ℕ) → IsValueWord x → (x % 2 ≡ 0 → ⊥) → bit_or x 1 ≡ x
   primed-kept x word odd =
       let is = (codings.word_of_state x word.state word.decodes).0 in
-      let again = primed-again word.state (λ unprimed. odd ((evens x word.state word.decodes).0 unprimed)) in
+      let again = primed-again word.state
+      (λ unprimed. odd ((evens x word.state word.decodes).0 unprimed)) in
       ap (λ y. bit_or y 1) is ∙ codings.prime word.state ∙ ap value_word again ∙ sym is
 
   -- the word of a value that was seen
   word-seen :
-      (x : ℕ) (v : ValueState) → unwrap_or (value_state x) Null ≡ v → IsValueWord x → (x ≡ value_word v) × IsValueState v
+      (x : ℕ) (v : ValueState) → unwrap_or (value_state x) Null ≡ v → IsValueWord x
+      → (x ≡ value_word v) × IsValueState v
   word-seen x v value word =
-      codings.word_of_state x v (word.decodes ∙ ap Some (sym (ap (λ o. unwrap_or o Null) word.decodes) ∙ value))
+      codings.word_of_state x v (word.decodes
+      ∙ ap Some (sym (ap (λ o. unwrap_or o Null) word.decodes) ∙ value))
 
   -- a number that is seen primed or finished, in the word of a primed one, is primed
-  held-primed : (x n : ℕ) → Holds x n → IsValueWord x → x ≡ value_word (Primed n) → unwrap_or (value_state x) Null ≡ Primed n
+  held-primed : (x n : ℕ) → Holds x n → IsValueWord x → x ≡ value_word (Primed n)
+      → unwrap_or (value_state x) Null ≡ Primed n
   held-primed x n held word is =
       elim held [
         | inl is_primed ↦ is_primed
-        | inr is_finished ↦ absurd (omega (arith, (word-seen x (Finished n) is_finished word).0, is))
+        | inr is_finished ↦ absurd (omega (
+          arith,
+          (word-seen x (Finished n) is_finished word).0,
+          is,
+        ))
       ]
 
   -- and in another word it is finished: to set the bit for that changes nothing
-  finished-kept : (x n : ℕ) → Holds x n → IsValueWord x → (x ≡ value_word (Primed n) → ⊥) → bit_or x 2 ≡ x
+  finished-kept : (x n : ℕ) → Holds x n → IsValueWord x → (x ≡ value_word (Primed n) → ⊥)
+      → bit_or x 2 ≡ x
   finished-kept x n held word other =
       elim held [
         | inl is_primed ↦ absurd (other (word-seen x (Primed n) is_primed word).0)
@@ -109,7 +123,8 @@ held-below p t g i n slot held linked =
 
 -- the number below is there still
 source-lasts :
-    (p : Plan) (t u : Tables) → Lasts p t u → (g k n : ℕ) → g < generations_of p → HasSource p t g k n
+    (p : Plan) (t u : Tables) → Lasts p t u → (g k n : ℕ) → g < generations_of p
+    → HasSource p t g k n
     → HasSource p u g k n
 source-lasts p t u still zero k n in_table source = absurd source
 source-lasts p t u still (suc g) k n in_table (j, within, claimed, held) =
@@ -118,9 +133,12 @@ source-lasts p t u still (suc g) k n in_table (j, within, claimed, held) =
 
 -- and is only primed as long as the key has no value above
 still-primed :
-    (p : Plan) (t : Tables) (g i k n : ℕ) → IsSlot p g i → t.key g i ≡ Claimed k → t.value g i ≡ Null
-    → ((f j : ℕ) → IsSlot p f j → t.key f j ≡ Claimed k → t.value f j ≡ Finished n → HasValue p t (suc f) k)
-    → ((j : ℕ) → IsSlot p g j → t.key g j ≡ Claimed k → j ≡ i) → HasSource p t g k n → IsPrimedBelow p t g k n
+    (p : Plan) (t : Tables) (g i k n : ℕ) → IsSlot p g i → t.key g i ≡ Claimed k
+    → t.value g i ≡ Null
+    → ((f j : ℕ) → IsSlot p f j → t.key f j ≡ Claimed k → t.value f j ≡ Finished n
+    → HasValue p t (suc f) k)
+    → ((j : ℕ) → IsSlot p g j → t.key g j ≡ Claimed k → j ≡ i) → HasSource p t g k n
+    → IsPrimedBelow p t g k n
 still-primed p t zero i k n slot claimed null moved one source = absurd source
 still-primed p t (suc g) i k n slot claimed null moved one (j, within, below, held) =
     elim held [
@@ -134,7 +152,8 @@ still-primed p t (suc g) i k n slot claimed null moved one (j, within, below, he
 module _ where
   -- a value whose word is even may be primed
   may-prime :
-      (t : Tables) (g i x : ℕ) → t.next g ≡ 1 → (k : ℕ) × (t.key g i ≡ Claimed k) → t.value g i ≡ unwrap_or (value_state x) Null
+      (t : Tables) (g i x : ℕ) → t.next g ≡ 1 → (k : ℕ) × (t.key g i ≡ Claimed k)
+      → t.value g i ≡ unwrap_or (value_state x) Null
       → IsValueWord x → x % 2 ≡ 0 → MayPrime t g i
   may-prime t g i x growing claimed value word even =
       let at : t.value g i ≡ word.state = value ∙ ap (λ o. unwrap_or o Null) word.decodes in
@@ -161,13 +180,15 @@ module _ where
         legal,
         (seated, slot),
         may-prime (tables_at p h) g i found (still.installed (suc g) growing)
-            (claimed.0, still.claimed g i claimed.0 slot claimed.1) refl word (eqb-true (found % 2) 0 even),
+            (claimed.0, still.claimed g i claimed.0 slot claimed.1) refl word
+            (eqb-true (found % 2) 0 even),
         tt,
       ) refl refl)
       (λ odd. none-follows p number place (bit_or found 1) h legal
       (primed-kept found word (eqb-false (found % 2) 0 odd)))
 
-  -- A number that is seen primed or finished may be finished, once its key has a value in the next table.
+  -- A number that is seen primed or finished may be finished, once its key has a value in the next
+  -- table.
   pub can-finish :
       (p : Plan) → (number : ℕ) (seen : List Event) (g i n : ℕ) → IsSlot p g i
       → IsCopied p (tables_at p seen) g i n
@@ -182,7 +203,8 @@ module _ where
       let word = (lawful_words p plan h legal).values g i slot in
       let held = still.primed_or_finished g i n slot copied.held in
       let above = link.within (suc g) (held-below p t g i n slot held (link.primed g i slot)) in
-      if-follows p (eqb found (value_word (Primed n))) (Finish number g i) number place (bit_or found 2) h
+      if-follows p (eqb found (value_word (Primed n))) (Finish number g i) number place
+      (bit_or found 2) h
       (λ same. one-follows p (Finish number g i) number place (bit_or found 2) h (
         legal,
         (seated, slot),
@@ -198,12 +220,14 @@ module _ where
       (λ other. none-follows p number place (bit_or found 2) h legal
       (finished-kept found n held word (eqb-false found (value_word (Primed n)) other)))
 
-  -- A number that is seen primed or finished below may be copied to its key's slot, where the value is null.
+  -- A number that is seen primed or finished below may be copied to its key's slot, where the value
+  -- is null.
   pub can-copy :
       (p : Plan) → (number : ℕ) (seen : List Event) (g i k n word : ℕ)
       → IsSlot p g i → value_state word ≡ Some (Live n) → (tables_at p seen).key g i ≡ Claimed k
       → HasSource p (tables_at p seen) g k n
-      → Can p (copy_events number g i k n) number seen (value_place p g i) (λ found. cond (eqb found 0) word found)
+      → Can p (copy_events number g i k n) number seen (value_place p g i)
+      (λ found. cond (eqb found 0) word found)
   can-copy p number seen g i k n word slot says claimed source plan seated others not_own legal =
       let h = others ++ seen in
       let t = tables_at p h in
@@ -218,7 +242,12 @@ module _ where
       let null = ap (λ x. unwrap_or (value_state x) Null) (eqb-true found 0 same) in
       one-follows p (CopyIn number g i k n) number place new h (
         legal,
-        (seated, slot, subst IsKeyState claimed' ((lawful_words p plan h legal).keys g i slot), word_is.1),
+        (
+          seated,
+          slot,
+          subst IsKeyState claimed' ((lawful_words p plan h legal).keys g i slot),
+          word_is.1,
+        ),
         record {
           claimed = claimed';
           null = null;
@@ -227,13 +256,15 @@ module _ where
               (source-lasts p (tables_at p seen) t still g k n slot.0 source);
         },
         tt,
-      ) (ap (slice_set (words_of p h) place) (sym (ap (λ b. cond b word found) same ∙ word_is.0))) refl)
+      ) (ap (slice_set (words_of p h) place)
+      (sym (ap (λ b. cond b word found) same ∙ word_is.0))) refl)
       (λ other. none-follows p number place new h legal (ap (λ b. cond b word found) other))
 
 -- ---- what was found
 
 -- the word of a slot's value is among the chain's
-pub value-within : (p : Plan) → IsPlan p → (g i : ℕ) → IsSlot p g i → value_place p g i < word_count p
+pub value-within :
+    (p : Plan) → IsPlan p → (g i : ℕ) → IsSlot p g i → value_place p g i < word_count p
 value-within p plan g i slot = (places_are_distinct p plan).below (Value g i) slot
 
 -- A step on a slot's value word that found this word.
@@ -248,7 +279,8 @@ module _
 
   -- the word stands for a state
   pub found-is : IsValueWord found
-  found-is = subst IsValueWord step.word ((lawful_words p plan (step.grows.others ++ before.seen) met-legal).values g i slot)
+  found-is = subst IsValueWord step.word
+      ((lawful_words p plan (step.grows.others ++ before.seen) met-legal).values g i slot)
 
 -- A step on a slot's value word that is an event by a test of the word.
 module _
@@ -258,8 +290,10 @@ module _
   -- what is seen of the value after the events that make this word
   then-value :
       (changed : Bool) → test found ≡ changed → (new : ℕ) (v : ValueState)
-      → slice_index (words_of p (only changed e ++ (step.grows.others ++ before.seen))) (value_place p g i) ≡ new
-      → value_state new ≡ Some v → Extended p before after (only changed e) 1 × ((seen_by p after).value g i ≡ v)
+      → slice_index (words_of p (only changed e ++ (step.grows.others ++ before.seen)))
+      (value_place p g i) ≡ new
+      → value_state new ≡ Some v → Extended p before after (only changed e) 1
+      × ((seen_by p after).value g i ≡ v)
   then-value changed is new v word says = (
     subst (λ b. Extended p before after (only b e) 1) is step.grows,
     ap (λ s. (tables_at p s).value g i)
@@ -275,7 +309,8 @@ module _
 
   -- where it holds the value was what the word found says, before the event
   pub value-before :
-      test found ≡ true → (v : ValueState) → value_state found ≡ Some v → (seen_before p after).value g i ≡ v
+      test found ≡ true → (v : ValueState) → value_state found ≡ Some v
+      → (seen_before p after).value g i ≡ v
   value-before holds v says =
       ap (λ s. (tables_at p (drop 1 s)).value g i)
       (step.grows.seen ∙ ap (λ b. only b e ++ (step.grows.others ++ before.seen)) holds)
@@ -286,26 +321,31 @@ module _
       test found ≡ true → (f : ℕ → ℕ) (v : ValueState)
       → let h = step.grows.others ++ before.seen in let place = value_place p g i in
       words_of p (e ∷ h) ≡ slice_set (words_of p h) place (f (slice_index (words_of p h) place))
-      → value_state (f found) ≡ Some v → Extended p before after (e ∷ []) 1 × ((seen_by p after).value g i ≡ v)
+      → value_state (f found) ≡ Some v → Extended p before after (e ∷ []) 1
+      × ((seen_by p after).value g i ≡ v)
   value-made holds f v words says =
       let h = step.grows.others ++ before.seen in
       let place = value_place p g i in
       let new = f (slice_index (words_of p h) place) in
       let legal = met-legal p plan (λ x. only (test x) e) before found after g i slot step in
-      let within : place < length (words_of p h) = subst (λ n. place < n) (sym (lawful_words p plan h legal).length)
+      let within : place < length (words_of p h) =
+      subst (λ n. place < n) (sym (lawful_words p plan h legal).length)
       (value-within p plan g i slot) in
       then-value true holds (f found) v
-      (ap (λ w. slice_index w place) words ∙ get_or-set_same (words_of p h) place new 0 within ∙ ap f step.word) says
+      (ap (λ w. slice_index w place) words ∙ get_or-set_same (words_of p h) place new 0 within
+      ∙ ap f step.word) says
 
 -- What priming a value tells.
 module _
     (p : Plan) (plan : IsPlan p) (before : SeenBy)
     (found : ℕ) (after : SeenBy) (g i : ℕ) (slot : IsSlot p g i)
-    (step : Stepped p (prime_events before.number g i) (value_place p g i) before found after) (v : ValueState)
+    (step : Stepped p (prime_events before.number g i) (value_place p g i) before found after)
+    (v : ValueState)
     (says : value_state found ≡ Some v) where
   pub prime-won :
       IsUnprimed v
-      → Extended p before after (Prime before.number g i ∷ []) 1 × ((seen_before p after).value g i ≡ v)
+      → Extended p before after (Prime before.number g i ∷ []) 1
+      × ((seen_before p after).value g i ≡ v)
       × ((seen_by p after).value g i ≡ primed v)
   prime-won unprimed =
       let e = Prime before.number g i in
@@ -315,13 +355,17 @@ module _
       (primed v) refl (primed-says found v says) in
       (made.0, value-before p plan test e before found after g i slot step holds v says, made.1)
 
-  pub prime-lost : (IsUnprimed v → ⊥) → Extended p before after [] 1 × ((seen_by p after).value g i ≡ v)
+  pub prime-lost : (IsUnprimed v → ⊥) → Extended p before after [] 1
+      × ((seen_by p after).value g i ≡ v)
   prime-lost is_primed =
-      value-kept p plan (λ x. eqb (x % 2) 0) (Prime before.number g i) before found after g i slot step
+      value-kept p plan (λ x. eqb (x % 2) 0) (Prime before.number g i)
+      before found after g i slot step
       (ne_eqb (found % 2) 0 (λ even. is_primed ((evens found v says).1 even))) v says
 
 -- a finished or primed number that isn't primed is finished
-then-finished : (v : ValueState) (n : ℕ) → (v ≡ Primed n) ⊎ (v ≡ Finished n) → (v ≡ Primed n → ⊥) → v ≡ Finished n
+then-finished :
+    (v : ValueState) (n : ℕ) → (v ≡ Primed n) ⊎ (v ≡ Finished n) → (v ≡ Primed n → ⊥)
+    → v ≡ Finished n
 then-finished v n held other =
     elim held [
       | inl is_primed ↦ absurd (other is_primed)
@@ -332,23 +376,28 @@ then-finished v n held other =
 module _
     (p : Plan) (plan : IsPlan p) (before : SeenBy)
     (found : ℕ) (after : SeenBy) (g i n : ℕ) (slot : IsSlot p g i)
-    (step : Stepped p (finish_events before.number g i n) (value_place p g i) before found after) (v : ValueState)
+    (step : Stepped p (finish_events before.number g i n) (value_place p g i) before found after)
+    (v : ValueState)
     (says : value_state found ≡ Some v) where
   pub finish-won :
       v ≡ Primed n
-      → Extended p before after (Finish before.number g i ∷ []) 1 × ((seen_by p after).value g i ≡ Finished n)
+      → Extended p before after (Finish before.number g i ∷ []) 1
+      × ((seen_by p after).value g i ≡ Finished n)
   finish-won is =
       let says_primed = says ∙ ap Some is in
       let word = (codings.word_of_state found (Primed n) says_primed).0 in
-      value-made p plan (λ x. eqb x (value_word (Primed n))) (Finish before.number g i) before found after g i
+      value-made p plan (λ x. eqb x (value_word (Primed n))) (Finish before.number g i)
+      before found after g i
       slot step (eq-eqb found (value_word (Primed n)) word) (λ x. bit_or x 2) (Finished n) refl
       (finished-says found n says_primed)
 
   -- the number is still primed or finished
-  still-held : IsPrimedOrFinished (tables_at p before.seen) g i n → (v ≡ Primed n) ⊎ (v ≡ Finished n)
+  still-held : IsPrimedOrFinished (tables_at p before.seen) g i n → (v ≡ Primed n)
+      ⊎ (v ≡ Finished n)
   still-held held =
       let h = step.grows.others ++ before.seen in
-      let legal = met-legal p plan (finish_events before.number g i n) before found after g i slot step in
+      let legal = met-legal p plan (finish_events before.number g i n)
+      before found after g i slot step in
       let value : (tables_at p h).value g i ≡ v = ap (λ x. unwrap_or (value_state x) Null) step.word
       ∙ ap (λ o. unwrap_or o Null) says in
       subst (λ x. (x ≡ Primed n) ⊎ (x ≡ Finished n)) value
@@ -360,25 +409,33 @@ module _
   finish-lost held other =
       let is = then-finished v n (still-held held) other in
       let word = (codings.word_of_state found v says).0 ∙ ap value_word is in
-      let kept = value-kept p plan (λ x. eqb x (value_word (Primed n))) (Finish before.number g i) before found
-      after g i slot step (ne_eqb found (value_word (Primed n)) (λ same. omega (arith, same, word))) v says in
+      let kept = value-kept p plan (λ x. eqb x (value_word (Primed n))) (Finish before.number g i)
+      before found
+      after g i slot step (ne_eqb found (value_word (Primed n)) (λ same. omega (arith, same, word)))
+      v says in
       (kept.0, kept.1, is)
 
 -- What copying a number tells.
 module _
     (p : Plan) (plan : IsPlan p) (before : SeenBy) (found : ℕ)
     (after : SeenBy) (g i k n : ℕ) (slot : IsSlot p g i)
-    (step : Stepped p (copy_events before.number g i k n) (value_place p g i) before found after) (v : ValueState)
+    (step : Stepped p (copy_events before.number g i k n) (value_place p g i) before found after)
+    (v : ValueState)
     (says : value_state found ≡ Some v) where
   pub copy-won :
       (word : ℕ) → value_state word ≡ Some (Live n) → v ≡ Null
-      → Extended p before after (CopyIn before.number g i k n ∷ []) 1 × ((seen_by p after).value g i ≡ Live n)
+      → Extended p before after (CopyIn before.number g i k n ∷ []) 1
+      × ((seen_by p after).value g i ≡ Live n)
   copy-won word back is =
-      value-made p plan (λ x. eqb x 0) (CopyIn before.number g i k n) before found after g i slot step
-      (eq-eqb found 0 ((codings.word_of_state found v says).0 ∙ ap value_word is)) (λ x. value_word (Live n)) (Live n)
+      value-made p plan (λ x. eqb x 0) (CopyIn before.number g i k n)
+      before found after g i slot step
+      (eq-eqb found 0 ((codings.word_of_state found v says).0 ∙ ap value_word is))
+      (λ x. value_word (Live n)) (Live n)
       refl (codings.state_of_word (Live n) (codings.word_of_state word (Live n) back).1)
 
   pub copy-lost : (v ≡ Null → ⊥) → Extended p before after [] 1 × ((seen_by p after).value g i ≡ v)
   copy-lost other =
-      value-kept p plan (λ x. eqb x 0) (CopyIn before.number g i k n) before found after g i slot step
-      (ne_eqb found 0 (λ same. other (ap (λ o. unwrap_or o Null) (sym says ∙ ap value_state same)))) v says
+      value-kept p plan (λ x. eqb x 0) (CopyIn before.number g i k n)
+      before found after g i slot step
+      (ne_eqb found 0 (λ same. other (ap (λ o. unwrap_or o Null) (sym says ∙ ap value_state same))))
+      v says

@@ -20,14 +20,17 @@ use Rattle.nb_table.specs.declared.view.View.{View}
 
 -- what a step of a token on the chain's table asks
 abbrev pub IsAsked :
-    TableId → Plan → Seat (Unit {0}) View → (p : Plan) → (ℕ → List Event) → (place : ℕ) → (ℕ → ℕ) → Type 0
+    TableId → Plan → Seat (Unit {0}) View → (p : Plan) → (ℕ → List Event) → (place : ℕ) → (ℕ → ℕ)
+    → Type 0
 IsAsked table key s p events place f =
-    (s.table_id ≡ table) × (place < table.words) × Allows (IsChained key) table.slots s.id s.me place f
+    (s.table_id ≡ table) × (place < table.words)
+    × Allows (IsChained key) table.slots s.id s.me place f
     (Moves p events place s.me)
 
 -- it may be made where its events can
 pub asked :
-    (c : chain.Inside) (s : Seat (Unit {0}) View) (the_chain : ChainOf) (p : Plan) (events : ℕ → List Event) (place : ℕ)
+    (c : chain.Inside) (s : Seat (Unit {0}) View) (the_chain : ChainOf) (p : Plan)
+    (events : ℕ → List Event) (place : ℕ)
     (f : ℕ → ℕ)
     → chain_of c ≡ the_chain → IsChain c → let part = part_of s.me.0.parts in
     s.me.0.parts ≡ part ∷ [] → s.table_id ≡ the_chain.id → p ≡ the_chain.shape
@@ -40,19 +43,24 @@ asked c s the_chain p events place f c_is is_chain one own shape within can =
     let slots = c.table.shared.table_id.slots in (
       own ∙ sym (ap (λ v. v.id) c_is),
       within',
-      subst (λ q. Allows (IsChained q) slots s.id s.me place f (Moves p events place s.me)) (same ∙ sym is_chain.key)
-          (allows-step p (subst IsPlan (sym same) is_chain.plan) events slots s.id s.me (part_of s.me.0.parts) place f one can),
+      subst (λ q. Allows (IsChained q) slots s.id s.me place f (Moves p events place s.me))
+          (same ∙ sym is_chain.key)
+          (allows-step p (subst IsPlan (sym same) is_chain.plan) events slots s.id s.me
+          (part_of s.me.0.parts) place f one can),
     )
 
 -- the same of a seat
 pub asked-seat :
-    (c : chain.Inside) (s : seat.Inside) (the_chain : ChainOf) (seeing : SeenBy) (p : Plan) (events : ℕ → List Event)
+    (c : chain.Inside) (s : seat.Inside) (the_chain : ChainOf) (seeing : SeenBy) (p : Plan)
+    (events : ℕ → List Event)
     (place : ℕ) (f : ℕ → ℕ)
-    → chain_of c ≡ the_chain → seat_of s ≡ seeing → IsChain c → IsSeat s → seeing.chain ≡ the_chain.id → p ≡ the_chain.shape
+    → chain_of c ≡ the_chain → seat_of s ≡ seeing → IsChain c → IsSeat s
+    → seeing.chain ≡ the_chain.id → p ≡ the_chain.shape
     → place < word_count the_chain.shape → Can p events seeing.number seeing.seen place f
     → IsAsked c.table.shared.table_id c.table.shared.key s.seat p events place f
 asked-seat c s the_chain seeing p events place f c_is s_is is_chain is_seat own shape within can =
-    asked c s.seat the_chain p events place f c_is is_chain is_seat.one (ap (λ v. v.chain) s_is ∙ own) shape within
+    asked c s.seat the_chain p events place f c_is is_chain is_seat.one (ap (λ v. v.chain) s_is
+    ∙ own) shape within
     (subst (λ v. Can p events v.number v.seen place f) (sym s_is) can)
 
 -- the two cases, as contracts and as the table's steps write them
@@ -71,14 +79,16 @@ can-exchange p events number seen place old new can =
 -- ---- a seat after a step
 
 module _
-    (p : Plan) (events : ℕ → List Event) (place found : ℕ) (s : seat.Inside) (after : Seat (Unit {0}) View)
+    (p : Plan) (events : ℕ → List Event) (place found : ℕ) (s : seat.Inside)
+    (after : Seat (Unit {0}) View)
     (before : SeenBy) (is_seat : IsSeat s) (s_is : seat_of s ≡ before)
     (moves : Moves p events place s.seat.me found after.me) where
   -- what it tells
   told : HasMoved p events place found (part_of s.seat.me.0.parts) (part_of after.me.0.parts)
   told =
       subst (λ part. HasMoved p events place found (part_of s.seat.me.0.parts) part)
-      (sym (ap (λ me. part_of me.0.parts) moves.is)) (moves.moves (part_of s.seat.me.0.parts) is_seat.one)
+      (sym (ap (λ me. part_of me.0.parts) moves.is))
+      (moves.moves (part_of s.seat.me.0.parts) is_seat.one)
 
   -- it is a seat as before
   pub stepped-is_seat : IsSeat (record { seat = after })

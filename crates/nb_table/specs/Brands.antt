@@ -1,4 +1,5 @@
--- The plan of the type `Brand`, in place of which each call picks its own. No step is made with this one.
+-- The plan of the type `Brand`, in place of which each call picks its own. No step is made with
+-- this one.
 use Rattle.std.specs.Prelude.{[]}
 use Rattle.nb_core.specs.Plans.{Plan}
 

@@ -12,7 +12,8 @@ pub record ChainOf : Type 0 where
   pub id : TableId
   pub shape : Plan
 
--- a chain's seat: which chain's, its number, what it has seen, the newest event first, and how many steps it has made
+-- a chain's seat: which chain's, its number, what it has seen, the newest event first, and how many
+-- steps it has made
 pub record SeenBy : Type 0 where
   pub chain : TableId
   pub number : ℕ
@@ -45,8 +46,8 @@ new_seat id number = record { chain = id; number = number; seen = []; steps = 0 
 abbrev pub new_seats : TableId → ℕ → List SeenBy
 new_seats id count = map (new_seat id) (range_with_len 0 count)
 
--- After a step the seat has seen more: events of other seats, and then these of its own, in this order. All that it has
--- seen is a legal history, and it made so many steps.
+-- After a step the seat has seen more: events of other seats, and then these of its own, in this
+-- order. All that it has seen is a legal history, and it made so many steps.
 pub record Extended (p : Plan) (before after : SeenBy) (own : List Event) (count : ℕ) : Type 0 where
   pub chain : after.chain ≡ before.chain
   pub number : after.number ≡ before.number
@@ -61,8 +62,8 @@ pub record Extended (p : Plan) (before after : SeenBy) (own : List Event) (count
 abbrev pub own_events : ℕ → List Event → List Event
 own_events number = filter (λ e. seat_of_event e == number)
 
--- After any number of steps the seat has seen more, all of it a legal history, in which just these events are new and its
--- own. It made so many steps.
+-- After any number of steps the seat has seen more, all of it a legal history, in which just these
+-- events are new and its own. It made so many steps.
 pub record Grown (p : Plan) (before after : SeenBy) (own : List Event) (count : ℕ) : Type 0 where
   pub chain : after.chain ≡ before.chain
   pub number : after.number ≡ before.number

@@ -1,4 +1,5 @@
--- When a load is an event: as the read of a call, where what it shows of the call's key decides the call.
+-- When a load is an event: as the read of a call, where what it shows of the call's key decides the
+-- call.
 use Rattle.std.specs.Prelude.{ℕ, suc, ◌-◌, ◌==◌, ◌&&◌, Bool, not, if◌then◌else◌, List, [], ◌∷◌, Option, Some, None}
 use Rattle.nb_core.specs.Calls.{leaves_alone}
 use Rattle.nb_core.specs.Log.{reply_at}
@@ -17,12 +18,14 @@ use Rattle.nb_core.specs.declared.states.ValueState.TheVariants.{Null, Tombstone
 abbrev pub only : Bool → Event → List Event
 only holds e = if holds then e ∷ [] else []
 
--- What a load shows of a key is `Some` of what the map has at it, a number or none; or `None`, where it shows nothing.
+-- What a load shows of a key is `Some` of what the map has at it, a number or none; or `None`,
+-- where it shows nothing.
 
 -- the call's read, where what was shown of its key is something that the call leaves as it is
 abbrev pub read : ℕ → Call → Option (Option ℕ) → List Event
 read number call None = []
-read number call (Some shown) = only (leaves_alone call shown) (Read number call (reply_at call shown))
+read number call (Some shown) = only (leaves_alone call shown)
+    (Read number call (reply_at call shown))
 
 -- the read of a load's call, if the load has one, by what the load shows of each key
 abbrev pub reads : ℕ → Option Call → (ℕ → Option (Option ℕ)) → List Event
@@ -33,14 +36,15 @@ reads number (Some call) shown = read number call (shown (key_of_call call))
 abbrev pub is_last_slot : Plan → (g i k : ℕ) → Bool
 is_last_slot p g i k = suc g == generations_of p && path_slot p g k (size_of p g - 1) == i
 
--- What a key word shows of a key whose path leads to the slot: that the map doesn't have the key, where the slot is empty,
--- or is another key's and the last one of the path in the last table.
+-- What a key word shows of a key whose path leads to the slot: that the map doesn't have the key,
+-- where the slot is empty, or is another key's and the last one of the path in the last table.
 abbrev pub shown_by_key : Plan → (g i : ℕ) → KeyState → ℕ → Option (Option ℕ)
 shown_by_key p g i Empty k = Some None
 shown_by_key p g i Dead k = None
 shown_by_key p g i (Claimed j) k = if not (j == k) && is_last_slot p g i k then Some None else None
 
--- what the value in a key's slot shows of the key: the number in it, or that there is none; once it is primed, nothing
+-- what the value in a key's slot shows of the key: the number in it, or that there is none; once it
+-- is primed, nothing
 abbrev pub shown_by_value : ValueState → Option (Option ℕ)
 shown_by_value Null = Some None
 shown_by_value Tombstone = Some None
@@ -50,6 +54,7 @@ shown_by_value PrimedTombstone = None
 shown_by_value (Primed n) = None
 shown_by_value (Finished n) = None
 
--- what a next word shows of a key whose whole path is other keys': where there is no next table, that the map doesn't have it
+-- what a next word shows of a key whose whole path is other keys': where there is no next table,
+-- that the map doesn't have it
 abbrev pub shown_by_next : Bool → Option (Option ℕ)
 shown_by_next installed = if installed then None else Some None

@@ -26,7 +26,13 @@ part_of (part ∷ parts) = part
 
 -- a chain's seat of which this part is known
 abbrev pub seat_with : TableId → Part → SeenBy
-seat_with chain part = record { chain = chain; number = part.number; seen = part.seen; steps = part.steps }
+seat_with chain part = record {
+  chain = chain;
+  number = part.number;
+  seen = part.seen;
+  steps =
+      part.steps;
+}
 
 -- the seat, as contracts see it
 abbrev pub seat_of : seat.Inside → SeenBy

@@ -14,15 +14,18 @@ use Rattle.nb_table.specs.declared.view.Part.{Part}
 
 -- At each moment the words stand for the map of the history.
 abbrev pub WordsStand : Type 0
-WordsStand = (p : Plan) (s : Moment) → IsPlan p → (rule : IsChained p s) → Stands p s.words (map_of rule.history)
+WordsStand = (p : Plan) (s : Moment) → IsPlan p → (rule : IsChained p s)
+    → Stands p s.words (map_of rule.history)
 
 -- each seat has seen at the second moment at least what it had seen at the first
 abbrev pub HaveSeenMore : Moment → Moment → Type 0
 HaveSeenMore s s' =
-    All (λ part. (part' : Part) × Contains (parts_at s') part' × (part'.number ≡ part.number) × IsBeginning part.seen part'.seen)
+    All (λ part. (part' : Part) × Contains (parts_at s') part' × (part'.number ≡ part.number)
+    × IsBeginning part.seen part'.seen)
     (parts_at s)
 
--- No seat forgets what it has seen, so the history of a later moment goes on from that of an earlier one.
+-- No seat forgets what it has seen, so the history of a later moment goes on from that of an
+-- earlier one.
 abbrev pub GoesOn : Type 0
 GoesOn =
     (p : Plan) (s s' : Moment) (rule : IsChained p s) (rule' : IsChained p s') → HaveSeenMore s s'
@@ -30,27 +33,33 @@ GoesOn =
 
 -- all seats but the one of this number know at the second moment just what they knew at the first
 abbrev pub OthersStay : ℕ → Moment → Moment → Type 0
-OthersStay number s s' = All (λ part. part.number ≢ number → Contains (parts_at s) part) (parts_at s')
+OthersStay number s s' = All (λ part. part.number ≢ number → Contains (parts_at s) part)
+    (parts_at s')
 
--- After each step, be it an event or none, the seat that made it has seen the history up to that step: where one more step has
--- been made, or several, and all seats but one know just what they knew, this one has seen all of the history.
+-- After each step, be it an event or none, the seat that made it has seen the history up to that
+-- step: where one more step has been made, or several, and all seats but one know just what they
+-- knew, this one has seen all of the history.
 abbrev pub StepperHasSeen : Type 0
 StepperHasSeen =
-    (p : Plan) (s s' : Moment) (rule : IsChained p s) (rule' : IsChained p s') (number : ℕ) → steps_at s < steps_at s'
+    (p : Plan) (s s' : Moment) (rule : IsChained p s) (rule' : IsChained p s') (number : ℕ)
+    → steps_at s < steps_at s'
     → OthersStay number s s'
-    → (part : Part) × Contains (parts_at s') part × (part.number ≡ number) × (part.seen ≡ rule'.history)
+    → (part : Part) × Contains (parts_at s') part × (part.number ≡ number)
+    × (part.seen ≡ rule'.history)
 
 -- ---- the steps of one seat
 
--- Steps add up: none, one, and some after others. The seat stays the chain's, and what it has seen of keys, values and
--- tables stays so.
+-- Steps add up: none, one, and some after others. The seat stays the chain's, and what it has seen
+-- of keys, values and tables stays so.
 pub record StepsAddUp : Type 0 where
   pub none : {chain : ChainOf} {seat : SeenBy} → IsOwn chain seat → Grown chain.shape seat seat [] 0
   pub one :
-      {p : Plan} {before after : SeenBy} {own : List Event} {count : ℕ} → Extended p before after own count
+      {p : Plan} {before after : SeenBy} {own : List Event} {count : ℕ}
+      → Extended p before after own count
       → Grown p before after own count
   pub more :
-      {p : Plan} {before then after : SeenBy} {own own' : List Event} {count count' : ℕ} → Grown p before then own count
+      {p : Plan} {before then after : SeenBy} {own own' : List Event} {count count' : ℕ}
+      → Grown p before then own count
       → Grown p then after own' count' → Grown p before after (own' ++ own) (count + count')
   pub own :
       {chain : ChainOf} {before after : SeenBy} {own : List Event} {count : ℕ} → IsOwn chain before

@@ -67,9 +67,9 @@ joined_views v w = record { parts = v.parts ++ w.parts; told = v.told ++ w.told 
 abbrev pub spent_view : View
 spent_view = record { parts = []; told = [] }
 
--- There is one legal history whose words these are. Each seat has seen a beginning of it, with all its own events; what
--- a token was told of is a beginning too. Some seat's last step is the last of all, and this seat has seen all of the history.
--- No two seats share a number, and none is lost.
+-- There is one legal history whose words these are. Each seat has seen a beginning of it, with all
+-- its own events; what a token was told of is a beginning too. Some seat's last step is the last of
+-- all, and this seat has seen all of the history. No two seats share a number, and none is lost.
 pub record IsChained (p : Plan) (s : Moment) : Type 0 where
   pub history : List Event
   pub legal : IsLegal p history
@@ -77,22 +77,30 @@ pub record IsChained (p : Plan) (s : Moment) : Type 0 where
   pub seen : All (λ part. HasSeen history part.number part.seen) (parts_at s)
   pub told : All (λ v. All (λ seen. IsBeginning seen history) v.told) s.views
   pub steps : All (λ part. part.last_step ≤ steps_at s) (parts_at s)
-  pub last : (part : Part) × Contains (parts_at s) part × (part.last_step ≡ steps_at s) × (part.seen ≡ history)
+  pub last : (part : Part) × Contains (parts_at s) part × (part.last_step ≡ steps_at s)
+      × (part.seen ≡ history)
   pub numbers : All (λ part. part.number < p.seats) (parts_at s)
   pub once : (n : ℕ) → n < p.seats → count_by (λ part. part.number == n) (parts_at s) ≡ 1
   pub count : length (parts_at s) ≡ p.seats
 
 -- ---- steps
 
--- the seat's part after a step, the one of this number among all: it found the history grown by others' events, and made these
--- of its own
+-- the seat's part after a step, the one of this number among all: it found the history grown by
+-- others' events, and made these of its own
 abbrev pub moved : Part → List Event → List Event → ℕ → Part
 moved part others own step =
-    record { number = part.number; seen = own ++ (others ++ part.seen); steps = part.steps + 1; last_step = step }
+    record {
+      number = part.number;
+      seen = own ++ (others ++ part.seen);
+      steps =
+          part.steps + 1;
+      last_step = step;
+    }
 
--- What a step tells: others made events meanwhile, the word was as found after them, and these events of the seat's follow. It
--- is a later step than the seat's last one.
-pub record HasMoved (p : Plan) (events : ℕ → List Event) (place found : ℕ) (part part' : Part) : Type 0 where
+-- What a step tells: others made events meanwhile, the word was as found after them, and these
+-- events of the seat's follow. It is a later step than the seat's last one.
+pub record HasMoved (p : Plan) (events : ℕ → List Event) (place found : ℕ) (part part' : Part) :
+    Type 0 where
   pub others : List Event
   pub not_own : All (λ e. seat_of_event e ≢ part.number) others
   pub mine : All (λ e. seat_of_event e ≡ part.number) (events found)
@@ -102,10 +110,11 @@ pub record HasMoved (p : Plan) (events : ℕ → List Event) (place found : ℕ)
   pub later : part.last_step < step
   pub is : part' ≡ moved part others (events found) step
 
--- What a step by a token that knows one seat makes of what it knows: the seat's part has moved, and the seat has seen all that
--- the token was told of.
+-- What a step by a token that knows one seat makes of what it knows: the seat's part has moved, and
+-- the seat has seen all that the token was told of.
 pub record Moves
-    (p : Plan) (events : ℕ → List Event) (place : ℕ) (me : Me (Unit {0}) View) (found : ℕ) (me' : Me (Unit {0}) View)
+    (p : Plan) (events : ℕ → List Event) (place : ℕ) (me : Me (Unit {0}) View) (found : ℕ)
+    (me' : Me (Unit {0}) View)
     : Type 0 where
   pub after : Part
   pub is : me' ≡ (record { parts = after ∷ []; told = [] }, me.1)

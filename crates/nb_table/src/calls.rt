@@ -30,8 +30,9 @@ pub(crate) fn known(call: &Call)
 }
 
 impl Chain {
-    /// Puts a value in place of another for a call, by one compare-exchange on the value word of the key's slot `i` of table
-    /// `g`, and answers what it was. Another value than `from` stays as it is.
+    /// Puts a value in place of another for a call, by one compare-exchange on the value word of
+    /// the key's slot `i` of table `g`, and answers what it was. Another value than `from` stays as
+    /// it is.
     pub fn win_value(
         &self,
         seat: &mut ChainSeat,
@@ -43,15 +44,19 @@ impl Chain {
     ) -> ValueState
         requires own { IsOwn self.now seat.old }
         requires slot { IsSlot self.now.shape g i }
-        requires claimed { (seen_by self.now.shape seat.old).key g i ≡ key_is.Claimed (key_of_call call) }
+        requires claimed { (seen_by self.now.shape seat.old).key g i
+            ≡ key_is.Claimed (key_of_call call) }
         requires unprimed { IsUnprimed from }
-        requires settled { IsSettledBelow self.now.shape (seen_by self.now.shape seat.old) g (key_of_call call) }
+        requires settled { IsSettledBelow self.now.shape (seen_by self.now.shape seat.old) g
+            (key_of_call call) }
         requires exchange { IsExchange call (key_of_call call) from to }
         ensures won { result ≡ from
             → Extended self.now.shape seat.old seat.new
-            (event.Won seat.old.number g i from to call (record { before = number_in_value from; matched = true }) ∷ []) 1
+            (event.Won seat.old.number g i from to call
+            (record { before = number_in_value from; matched = true }) ∷ []) 1
             × ((seen_by self.now.shape seat.new).value g i ≡ to) }
-        ensures lost { result ≢ from → Extended self.now.shape seat.old seat.new [] 1 × ((seen_by self.now.shape seat.new).value g i ≡ result) }
+        ensures lost { result ≢ from → Extended self.now.shape seat.old seat.new [] 1
+            × ((seen_by self.now.shape seat.new).value g i ≡ result) }
     {
         known(&call);
         let place = self.shape.value_place(g, i);

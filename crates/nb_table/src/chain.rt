@@ -1,5 +1,25 @@
 //! The chain and its seats.
-ghost use Rattle.std.specs.Prelude.{◌≡◌, ◌+◌, ◌%◌, ◌^◌, ◌<◌, ◌==◌, ◌↔◌, if◌then◌else◌, [], ◌∷◌, bit_or, max, length, map, IsPermutation, IfOk, IfErr, true, is_ok};
+ghost use Rattle.std.specs.Prelude.{
+  ◌≡◌,
+  ◌+◌,
+  ◌%◌,
+  ◌^◌,
+  ◌<◌,
+  ◌==◌,
+  ◌↔◌,
+  if◌then◌else◌,
+  [],
+  ◌∷◌,
+  bit_or,
+  max,
+  length,
+  map,
+  IsPermutation,
+  IfOk,
+  IfErr,
+  true,
+  is_ok,
+};
 ghost use Rattle.nb_core.specs.Plans.{word_count};
 ghost use Rattle.nb_table.specs.Chains.{AreOwn, Extended, IsOwn, new_seats};
 ghost use Rattle.nb_table.specs.Gathered.{ClosedWith};
@@ -35,8 +55,8 @@ impl Model for Chain {
     ghost invariant = { IsChain };
 }
 
-/// The right of one holder to make steps. Contracts see which chain's it is, its number, the history that it has seen, the
-/// newest event first, and how many steps it has made.
+/// The right of one holder to make steps. Contracts see which chain's it is, its number, the
+/// history that it has seen, the newest event first, and how many steps it has made.
 #[derive(Drop)]
 pub struct ChainSeat {
     seat: Seat<(), View>,
@@ -54,7 +74,8 @@ impl Model for ChainSeat {
     ghost invariant = { IsSeat };
 }
 
-/// What a step is about: a slot, and the key and the number that it puts there. Only the step's proof asks for it.
+/// What a step is about: a slot, and the key and the number that it puts there. Only the step's
+/// proof asks for it.
 #[derive(Clone, Copy)]
 pub(crate) struct Spot {
     pub(crate) g: u32,
@@ -64,7 +85,8 @@ pub(crate) struct Spot {
 }
 
 impl Chain {
-    /// A chain with all words 0, and its seats. It takes memory for the words and for the vector of seats.
+    /// A chain with all words 0, and its seats. It takes memory for the words and for the vector of
+    /// seats.
     pub fn new(alloc: Global, shape: Shape) -> Result<(Chain, Vec<ChainSeat>), OutOfMemory>
         ensures chain { IfOk result (λ made. made.0.shape ≡ shape) }
         ensures seats { IfOk result (λ made. made.1.items ≡ new_seats made.0.id shape.seats) }
@@ -105,7 +127,8 @@ impl Chain {
         self.table.shared.load::<Move<B>>(&mut seat.seat, place)
     }
 
-    /// One compare-and-exchange, which returns the word as it was. It has become `new` if it was `old`.
+    /// One compare-and-exchange, which returns the word as it was. It has become `new` if it was
+    /// `old`.
     pub(crate) fn exchanges<B: Told>(
         &self,
         seat: &mut ChainSeat,
@@ -118,7 +141,8 @@ impl Chain {
         requires own { seat.old.chain ≡ self.now.id }
         requires shape { B.shape ≡ self.now.shape }
         requires within { place < word_count self.now.shape }
-        requires can { Can B.shape B.events seat.old.number seat.old.seen place (λ found. if found == old then new else found) }
+        requires can { Can B.shape B.events seat.old.number seat.old.seen place
+            (λ found. if found == old then new else found) }
         ensures { Stepped B.shape B.events place seat.old result seat.new }
     {
         self.table
@@ -137,7 +161,8 @@ impl Chain {
         requires own { seat.old.chain ≡ self.now.id }
         requires shape { B.shape ≡ self.now.shape }
         requires within { place < word_count self.now.shape }
-        requires can { Can B.shape B.events seat.old.number seat.old.seen place (λ found. bit_or found bits) }
+        requires can { Can B.shape B.events seat.old.number seat.old.seen place
+            (λ found. bit_or found bits) }
         ensures { Stepped B.shape B.events place seat.old result seat.new }
     {
         self.table
@@ -145,7 +170,8 @@ impl Chain {
             .fetch_or::<Move<B>>(&mut seat.seat, place, bits)
     }
 
-    /// One fetch-add modulo 2^64, which returns the word as it was. The proof of a caller names its events by `_g`, its table.
+    /// One fetch-add modulo 2^64, which returns the word as it was. The proof of a caller names its
+    /// events by `_g`, its table.
     pub(crate) fn adds<B: Told>(
         &self,
         seat: &mut ChainSeat,
@@ -156,7 +182,8 @@ impl Chain {
         requires own { seat.old.chain ≡ self.now.id }
         requires shape { B.shape ≡ self.now.shape }
         requires within { place < word_count self.now.shape }
-        requires can { Can B.shape B.events seat.old.number seat.old.seen place (λ found. (found + amount) % 2 ^ 64) }
+        requires can { Can B.shape B.events seat.old.number seat.old.seen place
+            (λ found. (found + amount) % 2 ^ 64) }
         ensures { Stepped B.shape B.events place seat.old result seat.new }
     {
         self.table
@@ -164,7 +191,8 @@ impl Chain {
             .fetch_add::<Move<B>>(&mut seat.seat, place, amount)
     }
 
-    /// One fetch-max, which returns the word as it was. The proof of a caller names its events by `_g`, its table.
+    /// One fetch-max, which returns the word as it was. The proof of a caller names its events by
+    /// `_g`, its table.
     pub(crate) fn raises<B: Told>(
         &self,
         seat: &mut ChainSeat,
@@ -175,7 +203,8 @@ impl Chain {
         requires own { seat.old.chain ≡ self.now.id }
         requires shape { B.shape ≡ self.now.shape }
         requires within { place < word_count self.now.shape }
-        requires can { Can B.shape B.events seat.old.number seat.old.seen place (λ found. max found least) }
+        requires can { Can B.shape B.events seat.old.number seat.old.seen place
+            (λ found. max found least) }
         ensures { Stepped B.shape B.events place seat.old result seat.new }
     {
         self.table
@@ -183,8 +212,9 @@ impl Chain {
             .fetch_max::<Move<B>>(&mut seat.seat, place, least)
     }
 
-    /// Each of two seats sees what the other has seen. This makes six loads of the top word, three by each seat, of which the
-    /// last counts as its step. By the others `atomic_table` passes on what is known: what they find is ignored.
+    /// Each of two seats sees what the other has seen. This makes six loads of the top word, three
+    /// by each seat, of which the last counts as its step. By the others `atomic_table` passes on
+    /// what is known: what they find is ignored.
     pub fn meet(&self, a: &mut ChainSeat, b: &mut ChainSeat)
         requires a_own { IsOwn self.now a.old }
         requires b_own { IsOwn self.now b.old }
@@ -212,13 +242,15 @@ impl Chain {
         self.table.shared.load::<Move<B>>(seat, 0)
     }
 
-    /// With all seats: what is left of the chain. With another number of seats everything comes back.
+    /// With all seats: what is left of the chain. With another number of seats everything comes
+    /// back.
     pub fn close(self, seats: Vec<ChainSeat>) -> Result<Closed, NotAll<Chain, ChainSeat>>
         requires own { AreOwn self seats.items }
         ensures all { (is_ok result ≡ true) ↔ (length seats.items ≡ self.shape.seats) }
         ensures shape { IfOk result (λ closed. closed.shape ≡ self.shape) }
         ensures closed { IfOk result (λ closed. ClosedWith seats.items closed) }
-        ensures back { IfErr result (λ given. (given.whole ≡ self) × (given.seats.items ≡ seats.items)) }
+        ensures back { IfErr result (λ given. (given.whole ≡ self)
+            × (given.seats.items ≡ seats.items)) }
     {
         if seats.len() != self.shape.seats() {
             return Err(NotAll { whole: self, seats });

@@ -11,7 +11,8 @@ use nb_core::{Key, KeyState, decode_key, encode_key};
 use std::marker::Brand;
 
 impl Chain {
-    /// Claims the slot for a key if it is empty, by one compare-exchange, and answers what its key word held.
+    /// Claims the slot for a key if it is empty, by one compare-exchange, and answers what its key
+    /// word held.
     pub fn claim_key(&self, seat: &mut ChainSeat, g: u32, i: usize, key: Key) -> KeyState
         requires own { IsOwn self.now seat.old }
         requires slot { IsSlot self.now.shape g i }
@@ -20,7 +21,8 @@ impl Chain {
         ensures won { result ≡ key_is.Empty
             → Extended self.now.shape seat.old seat.new (event.Claim seat.old.number g i key ∷ []) 1
             × ((seen_by self.now.shape seat.new).key g i ≡ key_is.Claimed key) }
-        ensures lost { result ≢ key_is.Empty → Extended self.now.shape seat.old seat.new [] 1 × ((seen_by self.now.shape seat.new).key g i ≡ result) }
+        ensures lost { result ≢ key_is.Empty → Extended self.now.shape seat.old seat.new [] 1
+            × ((seen_by self.now.shape seat.new).key g i ≡ result) }
     {
         let place = self.shape.key_place(g, i);
         let word = encode_key(KeyState::Claimed(key));
@@ -33,7 +35,8 @@ impl Chain {
         decode_key(self.exchanges::<Brand>(seat, place, 0, word, spot, None))
     }
 
-    /// Closes the slot to keys if it is empty, by one compare-exchange, and answers what its key word held.
+    /// Closes the slot to keys if it is empty, by one compare-exchange, and answers what its key
+    /// word held.
     pub fn kill_key(&self, seat: &mut ChainSeat, g: u32, i: usize) -> KeyState
         requires own { IsOwn self.now seat.old }
         requires slot { IsSlot self.now.shape g i }
@@ -41,7 +44,8 @@ impl Chain {
         ensures won { result ≡ key_is.Empty
             → Extended self.now.shape seat.old seat.new (event.Kill seat.old.number g i ∷ []) 1
             × ((seen_by self.now.shape seat.new).key g i ≡ key_is.Dead) }
-        ensures lost { result ≢ key_is.Empty → Extended self.now.shape seat.old seat.new [] 1 × ((seen_by self.now.shape seat.new).key g i ≡ result) }
+        ensures lost { result ≢ key_is.Empty → Extended self.now.shape seat.old seat.new [] 1
+            × ((seen_by self.now.shape seat.new).key g i ≡ result) }
     {
         let place = self.shape.key_place(g, i);
         let spot = Spot {

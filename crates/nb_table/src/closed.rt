@@ -9,16 +9,21 @@ ghost use Rattle.nb_table.specs.Left.{IsLeft, tables_left};
 ghost use Rattle.nb_table.specs.Listing.{IsListing};
 
 use crate::chain::ChainSeat;
-use nb_core::{Change, HeaderWord, Key, KeyState, Num, OutOfMemory, PlainMap, Shape, ValueState, Want, decode_key, decode_lawful_value};
+use nb_core::{
+    Change, HeaderWord, Key, KeyState, Num, OutOfMemory, PlainMap, Shape, ValueState, Want,
+    decode_key, decode_lawful_value,
+};
 use std::alloc::Global;
 use std::marker::Model;
 use std::snapshot::Snapshot;
 
-/// A chain that no thread shares any more. Contracts see its shape, its words and the history that left them.
+/// A chain that no thread shares any more. Contracts see its shape, its words and the history that
+/// left them.
 pub struct Closed {
     pub(crate) table: atomic_table::Closed<(), Global>,
     pub(crate) shape: Shape,
-    /// What the seats had seen when they closed the chain: so what the history is. Only clauses read it; it takes no memory.
+    /// What the seats had seen when they closed the chain: so what the history is. Only clauses
+    /// read it; it takes no memory.
     pub(crate) seats: Snapshot<Vec<ChainSeat>>,
 }
 
@@ -35,8 +40,8 @@ impl Model for Closed {
 }
 
 impl Closed {
-    /// Reminds a proof that the history is legal and left the words, so that it may use a closed chain without remembering
-    /// `close`. It does nothing.
+    /// Reminds a proof that the history is legal and left the words, so that it may use a closed
+    /// chain without remembering `close`. It does nothing.
     pub fn known(&self)
         ensures { IsLeft self.now }
     {
@@ -51,7 +56,8 @@ impl Closed {
         self.shown(key)
     }
 
-    /// The map's keys with their numbers, ascending by key. It takes memory for a plain map of them and for the vector.
+    /// The map's keys with their numbers, ascending by key. It takes memory for a plain map of them
+    /// and for the vector.
     pub fn entries(&self, alloc: Global) -> Result<Vec<(Key, Num)>, OutOfMemory>
         ensures { IfOk result (λ entries. entries.items ≡ map.entries (map_of self.now.history)) }
     {
@@ -81,9 +87,11 @@ impl Closed {
         Ok(())
     }
 
-    /// The number that the tables show at the key. Those below the top word are complete, and pass every key on.
+    /// The number that the tables show at the key. Those below the top word are complete, and pass
+    /// every key on.
     fn shown(&self, key: Key) -> Option<Num>
-        ensures number { result ≡ shown_from self.now.shape (tables_left self.now) key 0 (generations_of self.now.shape) }
+        ensures number { result ≡ shown_from self.now.shape (tables_left self.now) key 0
+            (generations_of self.now.shape) }
         ensures plan { IsPlan self.now.shape }
         ensures left { IsLeft self.now }
     {
@@ -117,7 +125,8 @@ impl Closed {
         matches!(self.value_in(g, key), None | Some(ValueState::Null))
     }
 
-    /// The key's value in table `g`, if it has a slot there. A slot that is empty or closed to keys ends its path.
+    /// The key's value in table `g`, if it has a slot there. A slot that is empty or closed to keys
+    /// ends its path.
     fn value_in(&self, g: u32, key: Key) -> Option<ValueState>
         requires { g < generations_of self.now.shape }
         ensures { result ≡ value_in self.now.shape (tables_left self.now) g key }

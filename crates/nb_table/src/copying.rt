@@ -13,17 +13,20 @@ use nb_core::{Key, Num, ValueState, decode_lawful_value, encode_value};
 use std::marker::Brand;
 
 impl Chain {
-    /// Primes the value of slot `i` of table `g`, by one fetch-or of 1 on its value word, and answers what it was. A value
-    /// that is primed already stays as it is.
+    /// Primes the value of slot `i` of table `g`, by one fetch-or of 1 on its value word, and
+    /// answers what it was. A value that is primed already stays as it is.
     pub fn prime(&self, seat: &mut ChainSeat, g: u32, i: usize) -> ValueState
         requires own { IsOwn self.now seat.old }
         requires slot { IsSlot self.now.shape g i }
         requires growing { IsInstalled (seen_by self.now.shape seat.old) (suc g) }
-        requires claimed { (k : ℕ) × ((seen_by self.now.shape seat.old).key g i ≡ key_is.Claimed k) }
+        requires claimed { (k : ℕ) × ((seen_by self.now.shape seat.old).key g i
+            ≡ key_is.Claimed k) }
         ensures won { IsUnprimed result
             → Extended self.now.shape seat.old seat.new (event.Prime seat.old.number g i ∷ []) 1
-            × ((seen_before self.now.shape seat.new).value g i ≡ result) × ((seen_by self.now.shape seat.new).value g i ≡ primed result) }
-        ensures lost { (IsUnprimed result → ⊥) → Extended self.now.shape seat.old seat.new [] 1 × ((seen_by self.now.shape seat.new).value g i ≡ result) }
+            × ((seen_before self.now.shape seat.new).value g i ≡ result)
+            × ((seen_by self.now.shape seat.new).value g i ≡ primed result) }
+        ensures lost { (IsUnprimed result → ⊥) → Extended self.now.shape seat.old seat.new [] 1
+            × ((seen_by self.now.shape seat.new).value g i ≡ result) }
     {
         let place = self.shape.value_place(g, i);
         let spot = Spot {
@@ -35,8 +38,9 @@ impl Chain {
         decode_lawful_value(self.ors::<Brand>(seat, place, 1, spot))
     }
 
-    /// Copies the number of a key in the table below `g` to the key's slot `i` of table `g`, by one compare-exchange of null
-    /// for the number on its value word, and answers what it was. A value that is there already stays as it is.
+    /// Copies the number of a key in the table below `g` to the key's slot `i` of table `g`, by one
+    /// compare-exchange of null for the number on its value word, and answers what it was. A value
+    /// that is there already stays as it is.
     pub fn copy_in(
         &self,
         seat: &mut ChainSeat,
@@ -50,9 +54,11 @@ impl Chain {
         requires claimed { (seen_by self.now.shape seat.old).key g i ≡ key_is.Claimed key }
         requires source { HasSource self.now.shape (seen_by self.now.shape seat.old) g key number }
         ensures won { result ≡ value_is.Null
-            → Extended self.now.shape seat.old seat.new (event.CopyIn seat.old.number g i key number ∷ []) 1
+            → Extended self.now.shape seat.old seat.new
+            (event.CopyIn seat.old.number g i key number ∷ []) 1
             × ((seen_by self.now.shape seat.new).value g i ≡ value_is.Live number) }
-        ensures lost { result ≢ value_is.Null → Extended self.now.shape seat.old seat.new [] 1 × ((seen_by self.now.shape seat.new).value g i ≡ result) }
+        ensures lost { result ≢ value_is.Null → Extended self.now.shape seat.old seat.new [] 1
+            × ((seen_by self.now.shape seat.new).value g i ≡ result) }
     {
         let place = self.shape.value_place(g, i);
         let word = encode_value(ValueState::Live(number));
@@ -65,8 +71,8 @@ impl Chain {
         decode_lawful_value(self.exchanges::<Brand>(seat, place, 0, word, spot, None))
     }
 
-    /// Marks the primed number in slot `i` of table `g` as copied, by one fetch-or of 2 on its value word, and answers what
-    /// the value was: that number, primed, or finished already.
+    /// Marks the primed number in slot `i` of table `g` as copied, by one fetch-or of 2 on its
+    /// value word, and answers what the value was: that number, primed, or finished already.
     pub fn finish_slot(&self, seat: &mut ChainSeat, g: u32, i: usize, number: Num) -> ValueState
         requires own { IsOwn self.now seat.old }
         requires slot { IsSlot self.now.shape g i }
@@ -75,7 +81,9 @@ impl Chain {
             → Extended self.now.shape seat.old seat.new (event.Finish seat.old.number g i ∷ []) 1
             × ((seen_by self.now.shape seat.new).value g i ≡ value_is.Finished number) }
         ensures lost { result ≢ value_is.Primed number
-            → Extended self.now.shape seat.old seat.new [] 1 × ((seen_by self.now.shape seat.new).value g i ≡ result) × (result ≡ value_is.Finished number) }
+            → Extended self.now.shape seat.old seat.new [] 1
+            × ((seen_by self.now.shape seat.new).value g i ≡ result)
+            × (result ≡ value_is.Finished number) }
     {
         let place = self.shape.value_place(g, i);
         let spot = Spot {

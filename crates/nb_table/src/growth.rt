@@ -11,13 +11,14 @@ use nb_core::{HeaderWord, Key};
 use std::marker::Brand;
 
 impl Chain {
-    /// Asks for the next chunk of table `g` to copy, by one fetch-add on its take word, and answers where the chunk begins.
-    /// At the size or past it there is none.
+    /// Asks for the next chunk of table `g` to copy, by one fetch-add on its take word, and answers
+    /// where the chunk begins. At the size or past it there is none.
     pub fn take_work(&self, seat: &mut ChainSeat, g: u32) -> u64
         requires own { IsOwn self.now seat.old }
         requires table { g < generations_of self.now.shape }
         requires growing { IsInstalled (seen_by self.now.shape seat.old) (suc g) }
-        ensures grows { Extended self.now.shape seat.old seat.new (event.Take seat.old.number g ∷ []) 1 }
+        ensures grows { Extended self.now.shape seat.old seat.new
+            (event.Take seat.old.number g ∷ []) 1 }
         ensures found { (seen_before self.now.shape seat.new).taken g ≡ result }
     {
         let place = self.shape.header_place(g, HeaderWord::Take);
@@ -25,15 +26,16 @@ impl Chain {
         self.adds::<Brand>(seat, place, chunk, g)
     }
 
-    /// Counts finished slots of table `g` that the seat's own steps turned, by one fetch-add on its done word, and answers
-    /// how many were counted before.
+    /// Counts finished slots of table `g` that the seat's own steps turned, by one fetch-add on its
+    /// done word, and answers how many were counted before.
     pub fn count_done(&self, seat: &mut ChainSeat, g: u32, slots: u64) -> u64
         requires own { IsOwn self.now seat.old }
         requires table { g < generations_of self.now.shape }
         requires some { 1 ≤ slots }
         requires turned { counted_by seat.old.seen seat.old.number g + slots
             ≤ turned_by self.now.shape seat.old.seen seat.old.number g }
-        ensures grows { Extended self.now.shape seat.old seat.new (event.Count seat.old.number g slots ∷ []) 1 }
+        ensures grows { Extended self.now.shape seat.old seat.new
+            (event.Count seat.old.number g slots ∷ []) 1 }
         ensures found { (seen_by self.now.shape seat.new).counted g ≡ result + slots }
     {
         let place = self.shape.header_place(g, HeaderWord::Done);
@@ -47,20 +49,24 @@ impl Chain {
         requires complete { IsComplete self.now.shape (seen_by self.now.shape seat.old) g }
         ensures raised { result ≤ g
             → Extended self.now.shape seat.old seat.new (event.Promote seat.old.number g ∷ []) 1
-            × ((seen_before self.now.shape seat.new).top ≡ result) × ((seen_by self.now.shape seat.new).top ≡ suc g) }
-        ensures was_higher { g < result → Extended self.now.shape seat.old seat.new [] 1 × ((seen_by self.now.shape seat.new).top ≡ result) }
+            × ((seen_before self.now.shape seat.new).top ≡ result)
+            × ((seen_by self.now.shape seat.new).top ≡ suc g) }
+        ensures was_higher { g < result → Extended self.now.shape seat.old seat.new [] 1
+            × ((seen_by self.now.shape seat.new).top ≡ result) }
     {
         self.raises::<Brand>(seat, 0, u64::from(g) + 1, g) as u32
     }
 
-    /// Installs the table above `g`, for a key whose path in `g` is crowded, by one compare-exchange on its next word.
-    /// Answers whether this step did it.
+    /// Installs the table above `g`, for a key whose path in `g` is crowded, by one
+    /// compare-exchange on its next word. Answers whether this step did it.
     pub fn install(&self, seat: &mut ChainSeat, g: u32, key: Key) -> bool
         requires own { IsOwn self.now seat.old }
         requires room { suc g < generations_of self.now.shape }
         requires ready { IsReady self.now.shape (seen_by self.now.shape seat.old) g }
-        requires crowded { AreOthers self.now.shape (seen_by self.now.shape seat.old) g key (limit_of self.now.shape g) }
-        ensures won { IsTrue result → Extended self.now.shape seat.old seat.new (event.Install seat.old.number g key ∷ []) 1 }
+        requires crowded { AreOthers self.now.shape (seen_by self.now.shape seat.old) g key
+            (limit_of self.now.shape g) }
+        ensures won { IsTrue result → Extended self.now.shape seat.old seat.new
+            (event.Install seat.old.number g key ∷ []) 1 }
         ensures lost { result ≡ false → Extended self.now.shape seat.old seat.new [] 1 }
         ensures installed { IsInstalled (seen_by self.now.shape seat.new) (suc g) }
     {

@@ -1,14 +1,16 @@
-//! What holds at each moment of a chain, and what a crate above may rest on while it makes one step after another. Each
-//! function carries a law as its contract, so that the gate guards it; nobody calls it. The crates above take the laws as
-//! theorems, from `proofs/Theorems.antt`.
+//! What holds at each moment of a chain, and what a crate above may rest on while it makes one step
+//! after another. Each function carries a law as its contract, so that the gate guards it; nobody
+//! calls it. The crates above take the laws as theorems, from `proofs/Theorems.antt`.
 ghost use Rattle.nb_table.specs.Laws.{GoesOn, StepperHasSeen, StepsAddUp, WordsStand};
 
-/// At each moment, whatever steps were made by whom, the words of a chain stand for the map of its history.
+/// At each moment, whatever steps were made by whom, the words of a chain stand for the map of its
+/// history.
 pub fn words_stand()
     ensures { WordsStand }
 {}
 
-/// The history of a later moment goes on from that of an earlier one, where each seat has seen at least what it had seen.
+/// The history of a later moment goes on from that of an earlier one, where each seat has seen at
+/// least what it had seen.
 pub fn goes_on()
     ensures { GoesOn }
 {}
@@ -18,8 +20,8 @@ pub fn stepper_has_seen()
     ensures { StepperHasSeen }
 {}
 
-/// Steps add up: what a seat saw, the events that it made and the number of its steps. And what it has seen of a claimed
-/// key, a finished slot, a complete table and the like stays so.
+/// Steps add up: what a seat saw, the events that it made and the number of its steps. And what it
+/// has seen of a claimed key, a finished slot, a complete table and the like stays so.
 pub fn steps_add_up()
     ensures { StepsAddUp }
 {}

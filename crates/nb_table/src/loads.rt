@@ -23,15 +23,19 @@ fn known_if_some(call: &Option<Call>)
 }
 
 impl Chain {
-    /// What the key word of slot `i` of table `g` holds, by one load. With a call whose key's path leads to the slot, an
-    /// empty slot shows that the map doesn't have the key, and so does another key in the path's last slot in the last
-    /// table: where the call leaves that as it is, the load is its read.
+    /// What the key word of slot `i` of table `g` holds, by one load. With a call whose key's path
+    /// leads to the slot, an empty slot shows that the map doesn't have the key, and so does
+    /// another key in the path's last slot in the last table: where the call leaves that as it is,
+    /// the load is its read.
     pub fn load_key(&self, seat: &mut ChainSeat, g: u32, i: usize, call: Option<Call>) -> KeyState
         requires own { IsOwn self.now seat.old }
         requires slot { IsSlot self.now.shape g i }
-        requires reached { IfSome call (λ c. IsReached self.now.shape (seen_by self.now.shape seat.old) g (key_of_call c)) }
-        requires on_path { IfSome call (λ c. IsOnPath self.now.shape (seen_by self.now.shape seat.old) g i (key_of_call c)) }
-        ensures grows { Extended self.now.shape seat.old seat.new (reads seat.old.number call (shown_by_key self.now.shape g i result)) 1 }
+        requires reached { IfSome call (λ c. IsReached self.now.shape
+            (seen_by self.now.shape seat.old) g (key_of_call c)) }
+        requires on_path { IfSome call (λ c. IsOnPath self.now.shape
+            (seen_by self.now.shape seat.old) g i (key_of_call c)) }
+        ensures grows { Extended self.now.shape seat.old seat.new
+            (reads seat.old.number call (shown_by_key self.now.shape g i result)) 1 }
         ensures found { (seen_by self.now.shape seat.new).key g i ≡ result }
     {
         known_if_some(&call);
@@ -45,8 +49,9 @@ impl Chain {
         decode_key(self.loads::<Brand>(seat, place, spot, call))
     }
 
-    /// What the value word of slot `i` of table `g` holds, by one load. With a call whose key has the slot, a value that
-    /// isn't primed is what the map has at the key: where the call leaves that as it is, the load is its read.
+    /// What the value word of slot `i` of table `g` holds, by one load. With a call whose key has
+    /// the slot, a value that isn't primed is what the map has at the key: where the call leaves
+    /// that as it is, the load is its read.
     pub fn load_value(
         &self,
         seat: &mut ChainSeat,
@@ -56,9 +61,12 @@ impl Chain {
     ) -> ValueState
         requires own { IsOwn self.now seat.old }
         requires slot { IsSlot self.now.shape g i }
-        requires reached { IfSome call (λ c. IsReached self.now.shape (seen_by self.now.shape seat.old) g (key_of_call c)) }
-        requires claimed { IfSome call (λ c. (seen_by self.now.shape seat.old).key g i ≡ key_is.Claimed (key_of_call c)) }
-        ensures grows { Extended self.now.shape seat.old seat.new (reads seat.old.number call (λ k. shown_by_value result)) 1 }
+        requires reached { IfSome call (λ c. IsReached self.now.shape
+            (seen_by self.now.shape seat.old) g (key_of_call c)) }
+        requires claimed { IfSome call (λ c. (seen_by self.now.shape seat.old).key g i
+            ≡ key_is.Claimed (key_of_call c)) }
+        ensures grows { Extended self.now.shape seat.old seat.new
+            (reads seat.old.number call (λ k. shown_by_value result)) 1 }
         ensures found { (seen_by self.now.shape seat.new).value g i ≡ result }
     {
         known_if_some(&call);
@@ -72,15 +80,20 @@ impl Chain {
         decode_lawful_value(self.loads::<Brand>(seat, place, spot, call))
     }
 
-    /// Whether table `g` has a next one, by one load of its next word. With a call whose key's whole path is other keys', a
-    /// missing next table shows that the map doesn't have the key: where the call leaves that as it is, the load is its read.
+    /// Whether table `g` has a next one, by one load of its next word. With a call whose key's
+    /// whole path is other keys', a missing next table shows that the map doesn't have the key:
+    /// where the call leaves that as it is, the load is its read.
     pub fn load_next(&self, seat: &mut ChainSeat, g: u32, call: Option<Call>) -> bool
         requires own { IsOwn self.now seat.old }
         requires table { g < generations_of self.now.shape }
-        requires reached { IfSome call (λ c. IsReached self.now.shape (seen_by self.now.shape seat.old) g (key_of_call c)) }
-        requires crowded { IfSome call (λ c. AreOthers self.now.shape (seen_by self.now.shape seat.old) g (key_of_call c) (size_of self.now.shape g)) }
-        ensures grows { Extended self.now.shape seat.old seat.new (reads seat.old.number call (λ k. shown_by_next result)) 1 }
-        ensures installed { (result ≡ true) ↔ IsInstalled (seen_by self.now.shape seat.new) (suc g) }
+        requires reached { IfSome call (λ c. IsReached self.now.shape
+            (seen_by self.now.shape seat.old) g (key_of_call c)) }
+        requires crowded { IfSome call (λ c. AreOthers self.now.shape
+            (seen_by self.now.shape seat.old) g (key_of_call c) (size_of self.now.shape g)) }
+        ensures grows { Extended self.now.shape seat.old seat.new
+            (reads seat.old.number call (λ k. shown_by_next result)) 1 }
+        ensures installed { (result ≡ true)
+            ↔ IsInstalled (seen_by self.now.shape seat.new) (suc g) }
     {
         known_if_some(&call);
         let place = self.shape.header_place(g, HeaderWord::Next);
@@ -93,7 +106,8 @@ impl Chain {
         self.loads::<Brand>(seat, place, spot, call) == 1
     }
 
-    /// The number of tables, from the first on, that are known to be complete, by one load of the top word.
+    /// The number of tables, from the first on, that are known to be complete, by one load of the
+    /// top word.
     pub fn load_top(&self, seat: &mut ChainSeat) -> u32
         requires own { IsOwn self.now seat.old }
         ensures grows { Extended self.now.shape seat.old seat.new [] 1 }

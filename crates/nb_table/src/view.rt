@@ -9,8 +9,8 @@ use nb_core::{Event, Shape};
 use std::collections::LinkedList;
 use std::marker::{Brand, PhantomData};
 
-/// What a seat has seen, the newest event first; how many steps it has made; and which of all steps on the chain was its last
-/// one, or 0 before its first. No value of it is made.
+/// What a seat has seen, the newest event first; how many steps it has made; and which of all steps
+/// on the chain was its last one, or 0 before its first. No value of it is made.
 pub struct Part {
     pub number: usize,
     pub seen: LinkedList<Event>,

@@ -1,4 +1,5 @@
-//! Eight threads call a map at once on few keys, and what it has in the end is compared with what they were told.
+//! Eight threads call a map at once on few keys, and what it has in the end is compared with what
+//! they were told.
 ghost use Rattle.std.specs.Prelude.{All, IfOk};
 ghost use Rattle.nb_map.specs.Maps.{AreMine, IsMine};
 
@@ -12,8 +13,8 @@ use std::test::Fail;
 use std::thread;
 use std::thread::Threads;
 
-/// What threads were told, modulo 2^64. To the keys 0 to 2 they only add, and these are the sums. Each of the keys 3 to 6
-/// came so many times, less the times that it went.
+/// What threads were told, modulo 2^64. To the keys 0 to 2 they only add, and these are the sums.
+/// Each of the keys 3 to 6 came so many times, less the times that it went.
 #[derive(Clone, Copy)]
 struct Told {
     added: [u64; 3],
@@ -43,7 +44,8 @@ fn went(is_gone: bool) -> u64 {
     0u64.wrapping_sub(u64::from(is_gone))
 }
 
-/// Makes a call at the key, which is one of eight, and answers whether the key came by it, less whether it went.
+/// Makes a call at the key, which is one of eight, and answers whether the key came by it, less
+/// whether it went.
 fn calls_one<R: Wait + Abort>(rt: &R, map: &Map, seat: &mut Seat, k: u64, choice: u64) -> u64
     requires own { IsMine map.now seat.old }
     ensures own { IsMine map.now seat.new }
@@ -66,8 +68,8 @@ fn calls_one<R: Wait + Abort>(rt: &R, map: &Map, seat: &mut Seat, k: u64, choice
     }
 }
 
-/// Makes many calls, as the thread's own row of numbers chooses them. Between them it puts three keys that no other thread
-/// puts, so that the map has to grow.
+/// Makes many calls, as the thread's own row of numbers chooses them. Between them it puts three
+/// keys that no other thread puts, so that the map has to grow.
 fn calls_often<R: Wait + Abort>(rt: &R, map: &Map, caller: &mut Caller, thread: u64)
     requires own { IsMine map.now caller.old.seat }
     ensures own { IsMine map.now caller.new.seat }

@@ -19,13 +19,15 @@ fn next(map: &Map, seat: &mut Seat, walk: &mut Walk) -> Option<(u64, u64)>
     requires walk { IsWalkOf map.now seat.old walk.old }
     ensures own { IsMine map.now seat.new }
     ensures walk { IsWalkOf map.now seat.new walk.new }
-    ensures ahead { IfSome result (λ pair. slots_ahead map.now.chain.shape walk.new.place < slots_ahead map.now.chain.shape walk.old.place) }
+    ensures ahead { IfSome result (λ pair. slots_ahead map.now.chain.shape walk.new.place
+        < slots_ahead map.now.chain.shape walk.old.place) }
 {
     let (key, number) = map.next_key(seat, walk)?;
     Some((key.get(), number.get()))
 }
 
-/// Sees that a walk goes on with these keys and their numbers, in this order, and then ends, and stays at its end.
+/// Sees that a walk goes on with these keys and their numbers, in this order, and then ends, and
+/// stays at its end.
 fn shows<R: Abort>(rt: &R, map: &Map, seat: &mut Seat, walk: &mut Walk, pairs: &[(u64, u64)])
     requires own { IsMine map.now seat.old }
     requires walk { IsWalkOf map.now seat.old walk.old }
@@ -39,7 +41,8 @@ fn shows<R: Abort>(rt: &R, map: &Map, seat: &mut Seat, walk: &mut Walk, pairs: &
     assert_eq!(rt; next(map, seat, walk), None);
 }
 
-/// A key that was there before a walk came to it, and one that came with a new table, are shown, and one that went isn't.
+/// A key that was there before a walk came to it, and one that came with a new table, are shown,
+/// and one that went isn't.
 #[test]
 fn walk_over_growth(rt: HostRuntime) -> Result<(), Fail> {
     let (map, mut a, mut b) = with_two(&rt, rt.alloc(), 2)?;
@@ -78,7 +81,8 @@ fn puts_behind<R: Wait + Abort>(rt: &R, map: &Map, seat: &mut Seat, walk: &mut W
     shows(rt, map, seat, walk, &[]);
 }
 
-/// A walk that has ended shows nothing that comes later, also where its own seat puts it. A new one does.
+/// A walk that has ended shows nothing that comes later, also where its own seat puts it. A new one
+/// does.
 #[test]
 fn ended_walk(rt: HostRuntime) -> Result<(), Fail> {
     let (map, mut seat) = with_one(&rt, rt.alloc(), 1)?;
@@ -108,8 +112,8 @@ fn walk_of_a_full_table(rt: HostRuntime) -> Result<(), Fail> {
     Ok(())
 }
 
-/// A walk begins in a table that others complete and leave, twice over: it shows its keys where they stood first, with the
-/// numbers that they have now.
+/// A walk begins in a table that others complete and leave, twice over: it shows its keys where
+/// they stood first, with the numbers that they have now.
 #[test]
 fn walk_of_a_table_that_others_leave(rt: HostRuntime) -> Result<(), Fail> {
     let (map, mut a, mut b) = with_two(&rt, rt.alloc(), 3)?;

@@ -156,8 +156,8 @@ fn assert_counts_to(rt: &impl Abort, map: &PlainMap, count: usize) -> Result<(),
     Ok(())
 }
 
-// A plain run refuses nothing. `rt try --test --fail-alloc N -- refused_memory` refuses the Nth allocation: up to 21 a
-// write is refused, at 22 the entries are, and past that nothing is.
+// A plain run refuses nothing. `rt try --test --fail-alloc N -- refused_memory` refuses the Nth
+// allocation: up to 21 a write is refused, at 22 the entries are, and past that nothing is.
 #[test]
 fn refused_memory(rt: HostRuntime) -> Result<(), Fail> {
     let mut map = PlainMap::new(rt.alloc());

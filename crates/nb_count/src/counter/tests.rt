@@ -119,7 +119,8 @@ fn estimates(rt: HostRuntime) -> Result<(), Fail> {
     Ok(())
 }
 
-/// With each of the three requests for memory refused in turn (`rt try --test --fail-alloc N -- refused_memory`).
+/// With each of the three requests for memory refused in turn (`rt try --test --fail-alloc N --
+/// refused_memory`).
 #[test]
 fn refused_memory(rt: HostRuntime) -> Result<(), Fail> {
     let (counter, seats) = match Counter::new(rt.alloc(), 8, 8) {

@@ -28,7 +28,8 @@ fn had_memory<R: Abort>(
     }
 }
 
-/// A map in which no value was stored yet, so that the next write takes memory for the first of them.
+/// A map in which no value was stored yet, so that the next write takes memory for the first of
+/// them.
 fn fresh<R: Abort>(rt: &R, alloc: Global) -> (LongMap<u64>, Seat)
     ensures { IsMine result.0.map result.1 }
 {
@@ -88,7 +89,8 @@ fn replaces_if<R: Wait + Abort>(rt: &R, map: &LongMap<u64>, seat: &mut Seat)
     assert!(rt; !done);
 }
 
-/// What takes memory is called again where it was refused, and then it has it: so this passes whichever one request is refused.
+/// What takes memory is called again where it was refused, and then it has it: so this passes
+/// whichever one request is refused.
 #[test]
 fn refused_memory(rt: HostRuntime) -> Result<(), Fail> {
     let (map, mut seat) = fresh(&rt, rt.alloc());

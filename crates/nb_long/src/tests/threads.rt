@@ -43,22 +43,26 @@ fn two_put<R: Threads + Sync + Wait + Abort>(
     requires a { IsMine map.now.map a }
     requires b { IsMine map.now.map b }
     ensures own { IsMine map.now.map result.0.0 × IsMine map.now.map result.1.0 }
-    ensures shown { Shows map.now.store result.0.1.receipt × Shows map.now.store result.1.1.receipt }
+    ensures shown { Shows map.now.store result.0.1.receipt
+        × Shows map.now.store result.1.1.receipt }
 {
     thread::join(
         rt,
         move || -> (Seat, Stored<u64>)
             requires { IsMine map.now.map a }
-            ensures { IsMine map.entry.now.map result.0 × Shows map.entry.now.store result.1.receipt }
+            ensures { IsMine map.entry.now.map result.0
+                × Shows map.entry.now.store result.1.receipt }
         { puts_first(rt, map, a, 10) },
         move || -> (Seat, Stored<u64>)
             requires { IsMine map.now.map b }
-            ensures { IsMine map.entry.now.map result.0 × Shows map.entry.now.store result.1.receipt }
+            ensures { IsMine map.entry.now.map result.0
+                × Shows map.entry.now.store result.1.receipt }
         { puts_first(rt, map, b, 20) },
     )
 }
 
-/// What key 1 shows is the value of the thread that was first, by its receipt too, and not by the other's.
+/// What key 1 shows is the value of the thread that was first, by its receipt too, and not by the
+/// other's.
 fn shows_first<R: Abort>(
     rt: &R,
     map: &LongMap<u64>,
@@ -97,7 +101,8 @@ fn two_receipts(rt: HostRuntime) -> Result<(), Fail> {
     Ok(())
 }
 
-/// With one of the two seats the map comes back with it. With both it ends, and its store still has both values.
+/// With one of the two seats the map comes back with it. With both it ends, and its store still has
+/// both values.
 #[test]
 fn typed_finish(rt: HostRuntime) -> Result<(), Fail> {
     let (map, a, b) = with_two(&rt, rt.alloc())?;

@@ -11,8 +11,8 @@ use std::test::Fail;
 use std::thread;
 use std::thread::Threads;
 
-/// Adds 1 at one of the keys 0, 1 and 2 in each of many rounds, and in some of them puts a key that no other thread puts.
-/// Nothing is refused.
+/// Adds 1 at one of the keys 0, 1 and 2 in each of many rounds, and in some of them puts a key that
+/// no other thread puts. Nothing is refused.
 fn adds_often<R: Abort>(rt: &R, chain: &Chain, seat: &mut ChainSeat, thread: u64)
     requires own { IsOwn chain.now seat.old }
     ensures own { IsOwn chain.now seat.new }
@@ -46,7 +46,8 @@ fn all_add<R: Threads + Sync + Abort>(rt: &R, chain: &Chain, seats: &mut [ChainS
     );
 }
 
-/// Sees that the numbers of the keys 0, 1 and 2 add up to this, and that there are so many keys in all.
+/// Sees that the numbers of the keys 0, 1 and 2 add up to this, and that there are so many keys in
+/// all.
 fn adds_up_to<R: Abort>(
     rt: &R,
     alloc: Global,
@@ -66,7 +67,8 @@ fn adds_up_to<R: Abort>(
     Ok(())
 }
 
-/// Four threads add at three keys while the chain grows through all its tables. No add is refused, and none is lost.
+/// Four threads add at three keys while the chain grows through all its tables. No add is refused,
+/// and none is lost.
 fn four_write<R: Threads + Sync + Abort>(rt: &R, alloc: Global) -> Result<(), OutOfMemory> {
     let (chain, mut seats) = chain_of(rt, alloc, Shape::new(2, 4, 4, 1))?;
     all_add(rt, &chain, seats.as_mut_slice());
@@ -74,7 +76,8 @@ fn four_write<R: Threads + Sync + Abort>(rt: &R, alloc: Global) -> Result<(), Ou
     assert_eq!(rt; chain.load_top(&mut seat), 3);
     seats.push(seat)?;
     let closed = closes(rt, chain, seats);
-    // Each of the four makes 2000 adds, and has seven keys of its own beside the three that all add at.
+    // Each of the four makes 2000 adds, and has seven keys of its own beside the three that all add
+    // at.
     adds_up_to(rt, alloc, &closed, 4 * 2000, 3 + 7 * 4)
 }
 

@@ -189,11 +189,12 @@ fn two_workers_at_once(rt: HostRuntime) -> Result<(), Fail> {
     Ok(())
 }
 
-/// Sees that it is called before and after each command of two workers, by turns, and that the commands' numbers count from 0
-/// in each phase.
+/// Sees that it is called before and after each command of two workers, by turns, and that the
+/// commands' numbers count from 0 in each phase.
 #[derive(Drop)]
 struct Turns {
-    /// What each worker's next call is, if it isn't the first of a phase: twice the command's number before it, one more after it.
+    /// What each worker's next call is, if it isn't the first of a phase: twice the command's
+    /// number before it, one more after it.
     next: [AtomicU64; 2],
     calls: AtomicU64,
     wrong: AtomicBool,
@@ -272,7 +273,8 @@ fn no_gate_before_a_fault(rt: HostRuntime) -> Result<(), Fail> {
     Ok(())
 }
 
-/// Holds worker 1 up before its command until worker 0's is over, and worker 0 after its command until worker 1's is over.
+/// Holds worker 1 up before its command until worker 0's is over, and worker 0 after its command
+/// until worker 1's is over.
 #[derive(Drop)]
 struct OneAfterAnother {
     over: [AtomicBool; 2],

@@ -22,7 +22,8 @@ fn set_of_keys(rt: HostRuntime) -> Result<(), Fail> {
     Ok(())
 }
 
-/// What takes memory is called again where it was refused, and then it has it: so this passes whichever one request is refused.
+/// What takes memory is called again where it was refused, and then it has it: so this passes
+/// whichever one request is refused.
 #[test]
 fn refused_memory(rt: HostRuntime) -> Result<(), Fail> {
     let (set, mut seats) = match set_of(&rt, rt.alloc(), 2, 1) {
@@ -41,7 +42,8 @@ fn refused_memory(rt: HostRuntime) -> Result<(), Fail> {
     Ok(())
 }
 
-/// Other keys have all slots of the only table, also that of a key that was removed. A key that is there, or was, isn't refused.
+/// Other keys have all slots of the only table, also that of a key that was removed. A key that is
+/// there, or was, isn't refused.
 fn is_full<R: Wait + Abort>(rt: &R, set: &LongSet, seat: &mut Seat)
     requires own { IsMine set.now seat.old }
     ensures own { IsMine set.now seat.new }

@@ -20,8 +20,8 @@ struct Told {
     kept: [u64; KEYS],
 }
 
-/// Adds and removes the common keys as the thread's own row of numbers chooses. Between that it adds keys that the other thread
-/// doesn't, so that the set has to grow.
+/// Adds and removes the common keys as the thread's own row of numbers chooses. Between that it
+/// adds keys that the other thread doesn't, so that the set has to grow.
 fn churns<R: Wait + Abort>(rt: &R, set: &LongSet, seat: &mut Seat, thread: u64) -> Told
     requires own { IsMine set.now seat.old }
     ensures own { IsMine set.now seat.new }
@@ -81,7 +81,8 @@ fn two_churn<R: Threads + Sync + Wait + Abort>(
     )
 }
 
-/// Key by key there were as many adds that were answered true as removals that were, and one more where the key is left.
+/// Key by key there were as many adds that were answered true as removals that were, and one more
+/// where the key is left.
 fn one_round<R: Threads + Sync + Wait + Abort>(rt: &R, alloc: Global) -> Result<(), OutOfMemory> {
     let (set, a, b) = with_two(rt, alloc, 4)?;
     let ((a, told), (b, told_too)) = two_churn(rt, &set, a, b);

@@ -25,7 +25,8 @@ fn shows<R: Abort>(rt: &R, set: &LongSet, seat: &mut Seat, walk: &mut Walk, keys
     assert!(rt; next.is_none());
 }
 
-/// A key whose path goes on from the table's last slot to its first is met there, and one that was removed isn't shown.
+/// A key whose path goes on from the table's last slot to its first is met there, and one that was
+/// removed isn't shown.
 #[test]
 fn walk_wraps(rt: HostRuntime) -> Result<(), Fail> {
     let (set, mut seat) = with_one(&rt, rt.alloc(), 1)?;

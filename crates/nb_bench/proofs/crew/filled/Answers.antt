@@ -7,4 +7,7 @@ pub returns : goal.returns
 returns g c =
     let mine = IsMine c.args.map.now in
     let both = All-pop mine _ _ (Some c.in-Some.seat) c.in-Some.ensures.items c.requires.own in
-    record { own = All-same mine c.push.new.self.items _ c.in_ok-push.ensures.items (All-push mine _ _ both.0 c.put_all.ensures.own) }
+    record {
+      own = All-same mine c.push.new.self.items _ c.in_ok-push.ensures.items
+          (All-push mine _ _ both.0 c.put_all.ensures.own);
+    }

@@ -8,5 +8,6 @@ loop-worker-smaller c = omega (arith, c.in-Some.ensures.len)
 
 pub loop-worker-preserved : goal.loop-worker-preserved
 loop-worker-preserved c =
-    moved-one (λ worker. IsMine c.args.map.now worker.seat) (IsMine c.args.map.now) _ _ _ _ _ _ c.loop-worker.invariant
+    moved-one (λ worker. IsMine c.args.map.now worker.seat) (IsMine c.args.map.now)
+    _ _ _ _ _ _ c.loop-worker.invariant
     c.in-Some.ensures.items (λ own. own) c.in_ok-push.ensures.items

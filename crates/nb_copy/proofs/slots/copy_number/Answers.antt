@@ -19,7 +19,8 @@ returns-in_default-clause-finished c =
     let search = c.in_default.ensures in
     let own = copied-own chain c.args.g c.requires.slot.0 c.requires.own search.copied in
     let lasting = copied-stays chain c.args.g c.requires.slot.0 c.requires.own search.copied in
-    let below = lasting.has_slot c.args.g c.args.key c.requires.slot.0 (record { slot = c.args.i; in_table = c.requires.slot.1; is = c.requires.claimed }) in
+    let below = lasting.has_slot c.args.g c.args.key c.requires.slot.0
+    (record { slot = c.args.i; in_table = c.requires.slot.1; is = c.requires.claimed }) in
     passed-finished chain c.place_in_next.new.seat own c.args.g c.args.i c.args.key table
     c.requires.slot.1 below search.passed
 
@@ -32,12 +33,15 @@ copy_in-requires-clause-slot c =
 
 pub copy_in-requires-clause-claimed : goal.copy_in-requires-clause-claimed
 copy_in-requires-clause-claimed c =
-    subst (λ f. (seen_by c.args.chain.now.shape c.place_in_next.new.seat).key f c.in-Some.j ≡ key_is.Claimed c.args.key) (sym (add-one c.args.g)) c.in-Some.ensures.found.1
+    subst (λ f. (seen_by c.args.chain.now.shape c.place_in_next.new.seat).key f c.in-Some.j
+    ≡ key_is.Claimed c.args.key) (sym (add-one c.args.g)) c.in-Some.ensures.found.1
 
 pub copy_in-requires-clause-source : goal.copy_in-requires-clause-source
 copy_in-requires-clause-source c =
-    let lasting = copied-stays c.args.chain.now c.args.g c.requires.slot.0 c.requires.own c.place_in_next.ensures.copied in
-    number-source c.args.chain.now.shape _ _ lasting c.args.g _ c.args.i c.args.key c.args.number (add-one c.args.g) c.requires.slot
+    let lasting = copied-stays c.args.chain.now c.args.g c.requires.slot.0 c.requires.own
+    c.place_in_next.ensures.copied in
+    number-source c.args.chain.now.shape _ _ lasting c.args.g _ c.args.i c.args.key c.args.number
+    (add-one c.args.g) c.requires.slot
     c.requires.claimed c.requires.held
 
 pub finish_slot-requires-clause-copied : goal.finish_slot-requires-clause-copied
@@ -45,20 +49,27 @@ finish_slot-requires-clause-copied c =
     let chain = c.args.chain.now in
     let table = next-in-plan chain c.args.seat.now c.requires.own c.args.g c.requires.growing in
     let own = copied-own chain c.args.g c.requires.slot.0 c.requires.own c.in-Some.ensures.copied in
-    let copy = copied-in chain c.args.g c.requires.slot.0 _ _ _ _ _ c.copy_in.result (add-one c.args.g) c.copy_in.ensures.won c.copy_in.ensures.lost in
-    let lasting = steps_add_up.stays c.requires.own (copied-more chain c.args.g c.requires.slot.0 own c.in-Some.ensures.copied copy.0).grown in
-    let above = (steps_add_up.stays own copy.0.grown).claimed (suc c.args.g) c.in-Some.j c.args.key (table, c.in-Some.ensures.found.0) c.in-Some.ensures.found.1 in
-    number-copied chain.shape _ _ lasting c.args.g c.args.i c.in-Some.j c.args.key c.args.number c.requires.slot c.requires.claimed c.requires.held
+    let copy = copied-in chain c.args.g c.requires.slot.0 _ _ _ _ _ c.copy_in.result
+    (add-one c.args.g) c.copy_in.ensures.won c.copy_in.ensures.lost in
+    let lasting = steps_add_up.stays c.requires.own
+    (copied-more chain c.args.g c.requires.slot.0 own c.in-Some.ensures.copied copy.0).grown in
+    let above = (steps_add_up.stays own copy.0.grown).claimed (suc c.args.g) c.in-Some.j c.args.key
+    (table, c.in-Some.ensures.found.0) c.in-Some.ensures.found.1 in
+    number-copied chain.shape _ _ lasting c.args.g c.args.i c.in-Some.j c.args.key c.args.number
+    c.requires.slot c.requires.claimed c.requires.held
     c.in-Some.ensures.found.0 above copy.1
 
 pub returns-in-Primed : goal.returns-in-Primed
 returns-in-Primed c =
     let chain = c.args.chain.now in
-    let copy = copied-in chain c.args.g c.requires.slot.0 _ _ _ _ _ c.copy_in.result (add-one c.args.g) c.copy_in.ensures.won c.copy_in.ensures.lost in
-    let finish = finished-now chain c.args.g c.requires.slot.0 _ c.args.i c.args.number _ c.finish_slot.result c.in-Primed.is
+    let copy = copied-in chain c.args.g c.requires.slot.0 _ _ _ _ _ c.copy_in.result
+    (add-one c.args.g) c.copy_in.ensures.won c.copy_in.ensures.lost in
+    let finish = finished-now chain c.args.g c.requires.slot.0 _ c.args.i c.args.number _
+    c.finish_slot.result c.in-Primed.is
     c.finish_slot.ensures.won c.finish_slot.ensures.lost in
     record {
-      copied = copied-three chain c.args.g c.requires.slot.0 (2 * size_of chain.shape (suc c.args.g)) c.requires.own
+      copied = copied-three chain c.args.g c.requires.slot.0
+          (2 * size_of chain.shape (suc c.args.g)) c.requires.own
           c.in-Some.ensures.copied copy.0 finish.0;
       finished = finish.1;
     }
@@ -66,11 +77,14 @@ returns-in-Primed c =
 pub returns-in_default-matches : goal.returns-in_default-matches
 returns-in_default-matches c =
     let chain = c.args.chain.now in
-    let copy = copied-in chain c.args.g c.requires.slot.0 _ _ _ _ _ c.copy_in.result (add-one c.args.g) c.copy_in.ensures.won c.copy_in.ensures.lost in
-    let finish = finished-before chain c.args.g c.requires.slot.0 c.args.i c.args.number c.finish_slot.result
+    let copy = copied-in chain c.args.g c.requires.slot.0 _ _ _ _ _ c.copy_in.result
+    (add-one c.args.g) c.copy_in.ensures.won c.copy_in.ensures.lost in
+    let finish = finished-before chain c.args.g c.requires.slot.0 c.args.i c.args.number
+    c.finish_slot.result
     (c.in_default-matches.not-Primed c.args.number) c.finish_slot.ensures.lost in
     record {
-      copied = copied-three chain c.args.g c.requires.slot.0 (2 * size_of chain.shape (suc c.args.g)) c.requires.own
+      copied = copied-three chain c.args.g c.requires.slot.0
+          (2 * size_of chain.shape (suc c.args.g)) c.requires.own
           c.in-Some.ensures.copied copy.0 finish.0;
       finished = finish.1;
     }

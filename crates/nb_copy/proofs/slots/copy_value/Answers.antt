@@ -11,11 +11,13 @@ returns-then-is_finished-clause-copied c =
 
 pub prime_value-requires-clause-growing : goal.prime_value-requires-clause-growing
 prime_value-requires-clause-growing c =
-    (steps_add_up.stays c.requires.own (steps_add_up.one c.load_value.ensures.grows)).installed (suc c.args.g) c.requires.growing
+    (steps_add_up.stays c.requires.own (steps_add_up.one c.load_value.ensures.grows)).installed
+    (suc c.args.g) c.requires.growing
 
 pub prime_value-requires-clause-claimed : goal.prime_value-requires-clause-claimed
 prime_value-requires-clause-claimed c =
-    (steps_add_up.stays c.requires.own (steps_add_up.one c.load_value.ensures.grows)).claimed c.args.g c.args.i c.args.key c.requires.slot c.requires.claimed
+    (steps_add_up.stays c.requires.own (steps_add_up.one c.load_value.ensures.grows)).claimed
+    c.args.g c.args.i c.args.key c.requires.slot c.requires.claimed
 
 pub returns-clause-copied : goal.returns-clause-copied
 returns-clause-copied c =

@@ -6,7 +6,8 @@ use Rattle.nb_copy.proofs.slots.key_or_close.Goals as goal
 
 pub kill_key-requires-clause-growing : goal.kill_key-requires-clause-growing
 kill_key-requires-clause-growing c =
-    (steps_add_up.stays c.requires.own (steps_add_up.one c.load_key.ensures.grows)).installed (suc c.args.g) c.requires.growing
+    (steps_add_up.stays c.requires.own (steps_add_up.one c.load_key.ensures.grows)).installed
+    (suc c.args.g) c.requires.growing
 
 pub returns-in-Empty : goal.returns-in-Empty
 returns-in-Empty c =
@@ -31,7 +32,8 @@ pub returns-in_default : goal.returns-in_default
 returns-in_default c = record {
   closed = λ empty. absurd (c.in_default.not-Empty empty);
   found = λ some. (
-    copied-within 1 2 (omega arith) (copied-quiet c.args.chain.now.shape c.args.g _ _ c.load_key.ensures.grows),
+    copied-within 1 2 (omega arith) (copied-quiet c.args.chain.now.shape c.args.g _ _
+        c.load_key.ensures.grows),
     c.load_key.ensures.found,
   );
 }

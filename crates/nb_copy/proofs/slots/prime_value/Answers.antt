@@ -15,28 +15,49 @@ pub copy_number-requires-clause-claimed : goal.copy_number-requires-clause-claim
 copy_number-requires-clause-claimed c =
     let prime = copied-prime c.args.chain.now c.args.g c.requires.slot.0 _ c.args.i c.prime.result
     c.prime.ensures.won c.prime.ensures.lost in
-    (steps_add_up.stays c.requires.own prime.grown).claimed c.args.g c.args.i c.args.key c.requires.slot c.requires.claimed
+    (steps_add_up.stays c.requires.own prime.grown).claimed c.args.g c.args.i c.args.key
+    c.requires.slot c.requires.claimed
 
 pub returns-in-Null-clause-copied : goal.returns-in-Null-clause-copied
 returns-in-Null-clause-copied c =
-    let prime = copied-prime c.args.chain.now c.args.g c.requires.slot.0 _ c.args.i c.prime.result c.prime.ensures.won c.prime.ensures.lost in
-    let turned : is_finished_by_priming c.prime.result ≡ true = elim c.in-Null.is [ inl e ↦ ap is_finished_by_priming e | inr e ↦ ap is_finished_by_priming e ] in
-    primed-last c.args.chain.now c.args.g c.requires.slot.0 c.args.i _ (is_finished_by_priming c.prime.result)
+    let prime = copied-prime c.args.chain.now c.args.g c.requires.slot.0 _ c.args.i c.prime.result
+    c.prime.ensures.won c.prime.ensures.lost in
+    let turned : is_finished_by_priming c.prime.result ≡ true =
+    elim c.in-Null.is [
+      | inl e ↦ ap is_finished_by_priming e
+      | inr e ↦ ap is_finished_by_priming
+          e
+    ] in
+    primed-last c.args.chain.now c.args.g c.requires.slot.0 c.args.i _
+    (is_finished_by_priming c.prime.result)
     true turned (omega arith) prime
 
 pub returns-in-PrimedNull-clause-copied : goal.returns-in-PrimedNull-clause-copied
 returns-in-PrimedNull-clause-copied c =
-    let prime = copied-prime c.args.chain.now c.args.g c.requires.slot.0 _ c.args.i c.prime.result c.prime.ensures.won c.prime.ensures.lost in
+    let prime = copied-prime c.args.chain.now c.args.g c.requires.slot.0 _ c.args.i c.prime.result
+    c.prime.ensures.won c.prime.ensures.lost in
     let turned : is_finished_by_priming c.prime.result ≡ false = elim c.in-PrimedNull.is [
       | inl e ↦ ap is_finished_by_priming e
-      | inr others ↦ elim others [ inl e ↦ ap is_finished_by_priming e | inr e ↦ ap is_finished_by_priming e.1 ]
+      | inr others ↦ elim others [
+        | inl e ↦ ap is_finished_by_priming e
+        | inr e ↦ ap
+            is_finished_by_priming e.1
+      ]
     ] in
-    primed-last c.args.chain.now c.args.g c.requires.slot.0 c.args.i _ (is_finished_by_priming c.prime.result)
+    primed-last c.args.chain.now c.args.g c.requires.slot.0 c.args.i _
+    (is_finished_by_priming c.prime.result)
     false turned (omega arith) prime
 
 pub returns-in-Live-clause-copied : goal.returns-in-Live-clause-copied
 returns-in-Live-clause-copied c =
-    let prime = copied-prime c.args.chain.now c.args.g c.requires.slot.0 _ c.args.i c.prime.result c.prime.ensures.won c.prime.ensures.lost in
-    let not_turned : is_finished_by_priming c.prime.result ≡ false = elim c.in-Live.is [ inl e ↦ ap is_finished_by_priming e | inr e ↦ ap is_finished_by_priming e ] in
+    let prime = copied-prime c.args.chain.now c.args.g c.requires.slot.0 _ c.args.i c.prime.result
+    c.prime.ensures.won c.prime.ensures.lost in
+    let not_turned : is_finished_by_priming c.prime.result ≡ false =
+    elim c.in-Live.is [
+      | inl e ↦ ap is_finished_by_priming e
+      | inr e ↦ ap is_finished_by_priming
+          e
+    ] in
     primed-first c.args.chain.now c.args.g c.requires.slot.0 c.args.i
-    (2 * size_of c.args.chain.now.shape (suc c.args.g)) (is_finished_by_priming c.prime.result) c.requires.own not_turned prime c.copy_number.ensures.copied
+    (2 * size_of c.args.chain.now.shape (suc c.args.g)) (is_finished_by_priming c.prime.result)
+    c.requires.own not_turned prime c.copy_number.ensures.copied

@@ -8,8 +8,10 @@ use Rattle.nb_copy.proofs.tables.complete.Goals as goal
 
 pub copy_all-requires-clause-growing : goal.copy_all-requires-clause-growing
 copy_all-requires-clause-growing c =
-    let next = next-in-plan c.args.chain.now c.args.seat.now c.requires.own c.args.g c.requires.growing in
-    (copied-stays c.args.chain.now c.args.g (omega (arith, next)) c.requires.own c.copy_chunks.ensures.copied.3).installed
+    let next = next-in-plan c.args.chain.now c.args.seat.now c.requires.own c.args.g
+    c.requires.growing in
+    (copied-stays c.args.chain.now c.args.g (omega (arith, next))
+    c.requires.own c.copy_chunks.ensures.copied.3).installed
     (suc c.args.g) c.requires.growing
 
 pub promote-requires-clause-table : goal.promote-requires-clause-table
@@ -31,14 +33,17 @@ returns c =
     let same : length slots.0 ≡ length slots.0 = refl in
     let both = copied-counting chain g table c.requires.own chunks.3 same slots.1 in
     let promoted = copied-promote p g _ _ c.promote.result
-    (λ low. let step = c.promote.ensures.raised low in (step.0, step.2)) c.promote.ensures.was_higher in
-    let lasting = copied-stays chain g table (copied-own chain g table c.requires.own both) promoted.0 in
+    (λ low. let step = c.promote.ensures.raised low in (step.0, step.2))
+    c.promote.ensures.was_higher in
+    let lasting = copied-stays chain g table (copied-own chain g table c.requires.own both)
+    promoted.0 in
     record {
       completed = record {
         slots = slots.0 ++ chunks.0;
         chunks = chunks.1 + 0;
         few = omega (arith, chunks.2);
-        copied = copied-within (size_of p g * (slot_steps p g + 1) + size_of p g * (slot_steps p g + 2) + 1) (table_steps p g) (omega arith)
+        copied = copied-within (size_of p g * (slot_steps p g + 1)
+            + size_of p g * (slot_steps p g + 2) + 1) (table_steps p g) (omega arith)
             (copied-last chain g table c.requires.own both promoted.0);
         complete = lasting.complete g table c.copy_all.ensures.complete;
         raised = promoted.1;

@@ -7,5 +7,6 @@ use Rattle.nb_copy.proofs.tables.copy_all.Given as goal
 
 abbrev pub invariant-loop-i : goal.invariant-loop-i
 invariant-loop-i l =
-    ((slots : List ℕ) × HasCopied l.chain.shape l.g l.fn.seat l.seat slots 0 (length slots) (l.i * (slot_steps l.chain.shape l.g + 2)))
+    ((slots : List ℕ) × HasCopied l.chain.shape l.g l.fn.seat l.seat slots 0 (length slots)
+    (l.i * (slot_steps l.chain.shape l.g + 2)))
     × ((j : ℕ) → 0 ≤ j → j < l.i → IsFinished (seen_by l.chain.shape l.seat) l.g j)

@@ -23,9 +23,11 @@ returns-then-start-size c =
     let size : c.size_of-size.result ≡ size_of p g = search rules in
     record {
       helped = helped chain g (omega (arith, next)) start c.requires.own take.grows take.found
-          (copied-none c.args.chain.now g c.take_work-start.new.seat (steps_add_up.own c.requires.own (steps_add_up.one take.grows))) (omega arith) refl
+          (copied-none c.args.chain.now g c.take_work-start.new.seat
+          (steps_add_up.own c.requires.own (steps_add_up.one take.grows))) (omega arith) refl
           (λ i handed. absurd (omega (arith, size, handed.0, handed.2, c.if-start-size.true)))
-          (All-nil (IsHanded p g start)) (λ past. (refl, refl)) (λ some. absurd (omega (arith, some)));
+          (All-nil (IsHanded p g start)) (λ past. (refl, refl))
+          (λ some. absurd (omega (arith, some)));
     }
 
 pub count-requires-clause-turned : goal.count-requires-clause-turned
@@ -36,8 +38,10 @@ count-requires-clause-turned c =
     let next = next-in-plan chain c.args.seat.now c.requires.own g c.requires.growing in
     let work = c.copy_slots-turned.ensures.copied in
     let grows = c.take_work-start.ensures.grows in
-    subst (λ n. counted_by seat.seen seat.number g + n ≤ turned_by chain.shape seat.seen seat.number g) work.1
-    (may-count chain (steps_add_up.own c.requires.own (steps_add_up.one grows)) g (omega (arith, next)) work.3)
+    subst (λ n. counted_by seat.seen seat.number g + n
+    ≤ turned_by chain.shape seat.seen seat.number g) work.1
+    (may-count chain (steps_add_up.own c.requires.own (steps_add_up.one grows)) g
+    (omega (arith, next)) work.3)
 
 pub returns-then-turned-gt0 : goal.returns-then-turned-gt0
 returns-then-turned-gt0 c =
@@ -53,7 +57,8 @@ returns-then-turned-gt0 c =
     let few = chunk-bound p g start ends (slot_steps p g) in
     let work = c.copy_slots-turned.ensures.copied in
     let own = steps_add_up.own c.requires.own (steps_add_up.one take.grows) in
-    let lasting = copied-stays chain g table (copied-own chain g table own work.3) c.count.ensures.counted in
+    let lasting = copied-stays chain g table (copied-own chain g table own work.3)
+    c.count.ensures.counted in
     record {
       helped = helped chain g table start c.requires.own take.grows take.found
           (counted-after chain g table own work.3 c.count.ensures.counted)
@@ -61,7 +66,8 @@ returns-then-turned-gt0 c =
           (λ i handed. lasting.finished g i (table, handed.2)
           (c.copy_slots-turned.ensures.finished i handed.0 (handed-below p g start ends i handed)))
           (All-weaker _ _ (below-handed p g start ends) work.0 work.2)
-          (λ past. absurd (omega (arith, past, size, c.if-start-size.false))) (λ some. c.count.ensures.raised);
+          (λ past. absurd (omega (arith, past, size, c.if-start-size.false)))
+          (λ some. c.count.ensures.raised);
     }
 
 pub returns-else-turned-gt0 : goal.returns-else-turned-gt0
@@ -80,9 +86,12 @@ returns-else-turned-gt0 c =
     let work = c.copy_slots-turned.ensures.copied in
     record {
       helped = helped chain g (omega (arith, next)) start c.requires.own take.grows take.found
-          (subst (λ n. HasCopied p g c.take_work-start.new.seat c.copy_slots-turned.new.seat work.0 0 n most) none work.3)
+          (subst (λ n. HasCopied p g c.take_work-start.new.seat c.copy_slots-turned.new.seat work.0
+          0 n most) none work.3)
           (omega (arith, few)) work.1
-          (λ i handed. c.copy_slots-turned.ensures.finished i handed.0 (handed-below p g start ends i handed))
+          (λ i handed. c.copy_slots-turned.ensures.finished i handed.0
+          (handed-below p g start ends i handed))
           (All-weaker _ _ (below-handed p g start ends) work.0 work.2)
-          (λ past. absurd (omega (arith, past, size, c.if-start-size.false))) (λ some. absurd (omega (arith, some, none)));
+          (λ past. absurd (omega (arith, past, size, c.if-start-size.false)))
+          (λ some. absurd (omega (arith, some, none)));
     }

@@ -10,5 +10,6 @@ abbrev pub invariant-loop-i : goal.invariant-loop-i
 invariant-loop-i l =
     (l.turned ≤ l.i)
     × ((slots : List ℕ) × (length slots ≡ l.turned) × All (λ j. (l.from ≤ j) × (j < l.i)) slots
-    × HasCopied l.chain.shape l.g l.fn.seat l.seat slots 0 0 ((l.i - l.from) * slot_steps l.chain.shape l.g))
+    × HasCopied l.chain.shape l.g l.fn.seat l.seat slots 0 0
+    ((l.i - l.from) * slot_steps l.chain.shape l.g))
     × ((j : ℕ) → l.from ≤ j → j < l.i → IsFinished (seen_by l.chain.shape l.seat) l.g j)

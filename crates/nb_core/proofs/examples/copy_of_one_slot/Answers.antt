@@ -7,4 +7,5 @@ pub returns-clause-legal : goal.returns-clause-legal
 returns-clause-legal c = legal copy_of_one_slot refl
 
 pub returns-clause-numbers : goal.returns-clause-numbers
-returns-clause-numbers c = numbers copy_of_one_slot ((0, Some 10) ∷ (4, Some 14) ∷ (8, Some 18) ∷ []) refl
+returns-clause-numbers c = numbers copy_of_one_slot
+    ((0, Some 10) ∷ (4, Some 14) ∷ (8, Some 18) ∷ []) refl

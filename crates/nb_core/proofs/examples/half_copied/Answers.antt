@@ -7,4 +7,5 @@ pub returns-clause-legal : goal.returns-clause-legal
 returns-clause-legal c = legal half_copied refl
 
 pub returns-clause-numbers : goal.returns-clause-numbers
-returns-clause-numbers c = numbers half_copied ((0, Some 10) ∷ (4, Some 14) ∷ (8, Some 18) ∷ []) refl
+returns-clause-numbers c = numbers half_copied ((0, Some 10) ∷ (4, Some 14) ∷ (8, Some 18) ∷ [])
+    refl

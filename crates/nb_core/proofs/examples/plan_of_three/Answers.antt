@@ -7,4 +7,5 @@ pub returns-clause-legal : goal.returns-clause-legal
 returns-clause-legal c = legal plan_of_three refl
 
 pub returns-clause-numbers : goal.returns-clause-numbers
-returns-clause-numbers c = numbers plan_of_three ((0, Some 10) ∷ (4, Some 14) ∷ (8, Some 18) ∷ (12, Some 22) ∷ []) refl
+returns-clause-numbers c = numbers plan_of_three
+    ((0, Some 10) ∷ (4, Some 14) ∷ (8, Some 18) ∷ (12, Some 22) ∷ []) refl

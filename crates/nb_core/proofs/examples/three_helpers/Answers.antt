@@ -7,4 +7,6 @@ pub returns-clause-legal : goal.returns-clause-legal
 returns-clause-legal c = legal three_helpers refl
 
 pub returns-clause-numbers : goal.returns-clause-numbers
-returns-clause-numbers c = numbers three_helpers ((0, Some 10) ∷ (16, Some 26) ∷ (32, Some 42) ∷ (48, Some 58) ∷ (64, Some 74) ∷ (80, Some 90) ∷ []) refl
+returns-clause-numbers c = numbers three_helpers
+    ((0, Some 10) ∷ (16, Some 26) ∷ (32, Some 42) ∷ (48, Some 58) ∷ (64, Some 74) ∷ (80, Some 90)
+    ∷ []) refl

@@ -8,9 +8,11 @@ pub loop-i-init : goal.loop-i-init
 loop-i-init c = refl
 
 pub loop-i-preserved : goal.loop-i-preserved
-loop-i-preserved c = sum-next (slots_items c.args.closed.now.words) c.loop-i.i c.loop-i.sum c.word-sum.result c.loop-i.invariant c.word-sum.ensures
+loop-i-preserved c = sum-next (slots_items c.args.closed.now.words)
+    c.loop-i.i c.loop-i.sum c.word-sum.result c.loop-i.invariant c.word-sum.ensures
 
 pub returns : goal.returns
 returns c =
     let whole : c.loop-i.i ≡ c.args.count = omega arith in
-    c.loop-i.invariant ∙ ap (λ n. sum_of_stripes (slots_items c.args.closed.now.words) n % 2 ^ 64) whole
+    c.loop-i.invariant ∙ ap (λ n. sum_of_stripes (slots_items c.args.closed.now.words) n % 2 ^ 64)
+    whole

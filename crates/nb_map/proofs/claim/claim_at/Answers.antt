@@ -15,7 +15,8 @@ use Rattle.nb_map.proofs.claim.claim_at.Goals.{After-path_slot-i, else-g-generat
 
 pub returns-then-distance-limit_of-clause-found : goal.returns-then-distance-limit_of-clause-found
 returns-then-distance-limit_of-clause-found c =
-    let table = table-within c.args.chain.now c.args.seat.now c.requires.own c.args.g c.requires.installed in
+    let table = table-within c.args.chain.now c.args.seat.now c.requires.own c.args.g
+    c.requires.installed in
     let made = c.grow.ensures.made in
     let own = made-own c.args.chain.now c.requires.own made in (
       made-within (grow_steps c.args.chain.now.shape c.args.g c.args.below) _ (omega arith) made,
@@ -40,7 +41,9 @@ returns-then-load_next-clause-found c =
     )
 
 -- before the claim there was at most a look at the next word
-looked : (c : After-path_slot-i) → HasMade c.args.chain.now.shape c.args.call.now c.args.seat.now c.else-g-generations.seat [] 1
+looked :
+    (c : After-path_slot-i) → HasMade c.args.chain.now.shape c.args.call.now c.args.seat.now
+    c.else-g-generations.seat [] 1
 looked c =
     let p = c.args.chain.now.shape in
     elim c.else-g-generations.branch [
@@ -49,21 +52,28 @@ looked c =
           (made-quiet p c.args.call.now w.load_next.ensures.grows)
       | else-g-generations-via-else-g-generations w ↦
           subst (λ (s : SeenBy). HasMade p c.args.call.now c.args.seat.now s [] 1) (sym w.seat-is)
-          (made-within 0 1 (omega arith) (made-none c.args.chain.now c.args.call.now c.args.seat.now c.requires.own))
+          (made-within 0 1 (omega arith) (made-none c.args.chain.now c.args.call.now c.args.seat.now
+          c.requires.own))
     ]
 
 -- and it showed none, or there is none behind the last table
-no-next : (c : After-path_slot-i) → IsInstalled (seen_by c.args.chain.now.shape c.else-g-generations.seat) (suc c.args.g) → ⊥
+no-next :
+    (c : After-path_slot-i) → IsInstalled (seen_by c.args.chain.now.shape c.else-g-generations.seat)
+    (suc c.args.g) → ⊥
 no-next c next =
     let chain = c.args.chain.now in
     let seat = c.else-g-generations.seat in
-    let more = table-within chain seat (made-own chain c.requires.own (looked c)) (suc c.args.g) next in
+    let more = table-within chain seat (made-own chain c.requires.own (looked c)) (suc c.args.g)
+    next in
     let tables : c.generations.result ≡ generations_of chain.shape = search rules in
     elim c.else-g-generations.branch [
       | else-g-generations-via-then-g-generations+else-load_next w ↦
-          let shown = w.load_next.ensures.installed.1 (subst (λ (s : SeenBy). IsInstalled (seen_by chain.shape s) (suc c.args.g)) w.seat-is next) in
+          let shown = w.load_next.ensures.installed.1
+          (subst (λ (s : SeenBy). IsInstalled (seen_by chain.shape s) (suc c.args.g))
+          w.seat-is next) in
           absurd (let looked = w.if-load_next.false in cc)
-      | else-g-generations-via-else-g-generations w ↦ absurd (let last = w.if-g-generations.false in omega (arith, last, more, tables))
+      | else-g-generations-via-else-g-generations w ↦ absurd (let last = w.if-g-generations.false in
+          omega (arith, last, more, tables))
     ]
 
 pub claim_key-requires-clause-installed : goal.claim_key-requires-clause-installed
@@ -78,11 +88,14 @@ claim_key-requires-clause-way c =
     let p = chain.shape in
     let g = c.args.g in
     let table = table-within chain c.args.seat.now c.requires.own g c.requires.installed in
-    let lasting = made-stays chain c.requires.own (looked (goal.at.claim_key-requires-clause-way c).After-path_slot-i) in
+    let lasting = made-stays chain c.requires.own
+    (looked (goal.at.claim_key-requires-clause-way c).After-path_slot-i) in
     let within : c.args.distance < limit_of p g = search rules in
     let at : path_slot p g c.args.key c.args.distance ≡ c.path_slot-i.result = search rules in
-    way-to p (seen_by c.args.chain.now.shape c.else-g-generations.seat) g c.path_slot-i.result c.args.key c.args.distance c.args.below c.requires.known
-    (below-lasts p _ _ lasting g c.args.key table c.args.below c.requires.below) c.requires.near within at
+    way-to p (seen_by c.args.chain.now.shape c.else-g-generations.seat)
+    g c.path_slot-i.result c.args.key c.args.distance c.args.below c.requires.known
+    (below-lasts p _ _ lasting g c.args.key table c.args.below c.requires.below)
+    c.requires.near within at
     (lasting.others g c.args.key c.args.distance table c.requires.others)
 
 pub returns-in-Empty-clause-found : goal.returns-in-Empty-clause-found
@@ -92,8 +105,10 @@ returns-in-Empty-clause-found c =
     let claimed = c.claim_key.ensures.won c.in-Empty.is in
     let in_table : c.path_slot-i.result < size_of chain.shape c.args.g = search rules in (
       made-within 2 _ (omega arith)
-          (made-more chain c.requires.own (looked (goal.at.returns-in-Empty-clause-found c).After-path_slot-i)
-          (made-claim chain c.args.call.now c.args.key c.args.g c.path_slot-i.result c.requires.key c.requires.acts table
+          (made-more chain c.requires.own
+          (looked (goal.at.returns-in-Empty-clause-found c).After-path_slot-i)
+          (made-claim chain c.args.call.now c.args.key c.args.g c.path_slot-i.result c.requires.key
+          c.requires.acts table
           (no-next (goal.at.returns-in-Empty-clause-found c).After-path_slot-i) claimed.0)),
       (in_table, claimed.1),
     )
@@ -106,17 +121,20 @@ returns-in-Dead-clause-found c =
     let i = c.path_slot-i.result in
     let table = table-within chain c.args.seat.now c.requires.own g c.requires.installed in
     let lost = c.claim_key.ensures.lost (dead-empty c.claim_key.result c.in-Dead.is) in
-    let made = made-more chain c.requires.own (looked (goal.at.returns-in-Dead-clause-found c).After-path_slot-i)
+    let made = made-more chain c.requires.own
+    (looked (goal.at.returns-in-Dead-clause-found c).After-path_slot-i)
     (made-quiet p c.args.call.now lost.0) in
     let lasting = made-stays chain c.requires.own made in
     let at : path_slot p g c.args.key c.args.distance ≡ i = search rules in
     let in_table : i < size_of p g = search rules in
     let own = made-own chain c.requires.own made in
-    let dead : (seen_by c.args.chain.now.shape c.claim_key.new.seat).key g i ≡ Dead = lost.1 ∙ c.in-Dead.is in (
+    let dead : (seen_by c.args.chain.now.shape c.claim_key.new.seat).key g i ≡ Dead = lost.1
+    ∙ c.in-Dead.is in (
       made-within 2 _ (omega arith) made,
       (
         (
-          UpToDead c.args.distance c.requires.near (lasting.others g c.args.key c.args.distance table c.requires.others)
+          UpToDead c.args.distance c.requires.near
+              (lasting.others g c.args.key c.args.distance table c.requires.others)
               (ap ((seen_by c.args.chain.now.shape c.claim_key.new.seat).key g) at ∙ dead),
           dead-next chain c.claim_key.new.seat own g i (table, in_table) dead,
         ),
@@ -127,11 +145,13 @@ returns-in-Dead-clause-found c =
 pub returns-then-eq-clause-found : goal.returns-then-eq-clause-found
 returns-then-eq-clause-found c =
     let chain = c.args.chain.now in
-    let lost = c.claim_key.ensures.lost (claimed-empty c.claim_key.result c.in-Claimed.other c.in-Claimed.is) in
+    let lost = c.claim_key.ensures.lost (claimed-empty c.claim_key.result c.in-Claimed.other
+    c.in-Claimed.is) in
     let same : c.in-Claimed.other ≡ c.args.key = search rules in
     let in_table : c.path_slot-i.result < size_of chain.shape c.args.g = search rules in (
       made-within 2 _ (omega arith)
-          (made-more chain c.requires.own (looked (goal.at.returns-then-eq-clause-found c).After-path_slot-i)
+          (made-more chain c.requires.own
+          (looked (goal.at.returns-then-eq-clause-found c).After-path_slot-i)
           (made-quiet chain.shape c.args.call.now lost.0)),
       (in_table, lost.1 ∙ c.in-Claimed.is ∙ ap Claimed same),
     )
@@ -142,12 +162,16 @@ returns-else-eq-clause-other c =
     let p = chain.shape in
     let g = c.args.g in
     let table = table-within chain c.args.seat.now c.requires.own g c.requires.installed in
-    let lost = c.claim_key.ensures.lost (claimed-empty c.claim_key.result c.in-Claimed.other c.in-Claimed.is) in
-    let made = made-more chain c.requires.own (looked (goal.at.returns-else-eq-clause-other c).After-path_slot-i)
+    let lost = c.claim_key.ensures.lost (claimed-empty c.claim_key.result c.in-Claimed.other
+    c.in-Claimed.is) in
+    let made = made-more chain c.requires.own
+    (looked (goal.at.returns-else-eq-clause-other c).After-path_slot-i)
     (made-quiet p c.args.call.now lost.0) in
     let at : path_slot p g c.args.key c.args.distance ≡ c.path_slot-i.result = search rules in
-    let differs : c.in-Claimed.other ≢ c.args.key = eqb-false c.in-Claimed.other c.args.key (sym c.eq.ensures ∙ c.if-eq.false) in (
+    let differs : c.in-Claimed.other ≢ c.args.key =
+    eqb-false c.in-Claimed.other c.args.key (sym c.eq.ensures ∙ c.if-eq.false) in (
       made,
-      others-more p _ _ (made-stays chain c.requires.own made) g c.args.key c.args.distance _ c.in-Claimed.other table c.requires.others at
+      others-more p _ _ (made-stays chain c.requires.own made)
+          g c.args.key c.args.distance _ c.in-Claimed.other table c.requires.others at
           (lost.1 ∙ c.in-Claimed.is) differs,
     )

@@ -13,7 +13,8 @@ invariant-loop-i l = record {
   within : l.from ≤ size_of l.chain.shape l.g;
   others : AreOthers l.chain.shape (seen_by l.chain.shape l.seat) l.g l.key l.from;
   below : HasBelow l.chain.shape (seen_by l.chain.shape l.seat) l.g l.key l.below;
-  first : IsHomeSlot l.chain.shape (seen_by l.chain.shape l.fn.seat) l.g l.key → l.seat.steps ≡ l.fn.seat.steps;
+  first : IsHomeSlot l.chain.shape (seen_by l.chain.shape l.fn.seat) l.g l.key
+      → l.seat.steps ≡ l.fn.seat.steps;
 }
 
 abbrev pub decreases-loop-i : goal.decreases-loop-i

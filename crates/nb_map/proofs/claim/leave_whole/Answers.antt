@@ -9,7 +9,8 @@ use Rattle.nb_core.proofs.Theorems.{limits_fit}
 
 pub returns-then-g-generations-clause-made : goal.returns-then-g-generations-clause-made
 returns-then-g-generations-clause-made c =
-    made-within 0 _ (omega arith) (made-none c.args.chain.now c.args.call.now c.args.seat.now c.requires.own)
+    made-within 0 _ (omega arith) (made-none c.args.chain.now c.args.call.now c.args.seat.now
+    c.requires.own)
 
 pub returns-then-g-generations-clause-found : goal.returns-then-g-generations-clause-found
 returns-then-g-generations-clause-found c =
@@ -20,13 +21,16 @@ returns-then-g-generations-clause-found c =
 pub grow-requires-clause-crowded : goal.grow-requires-clause-crowded
 grow-requires-clause-crowded c =
     let p = c.args.chain.now.shape in
-    let table = table-within c.args.chain.now c.args.seat.now c.requires.own c.args.g c.requires.installed in
-    others-nearer p (seen_by c.args.chain.now.shape c.args.seat.now) c.args.g c.args.key (size_of p c.args.g) (limit_of p c.args.g)
+    let table = table-within c.args.chain.now c.args.seat.now c.requires.own c.args.g
+    c.requires.installed in
+    others-nearer p (seen_by c.args.chain.now.shape c.args.seat.now) c.args.g c.args.key
+    (size_of p c.args.g) (limit_of p c.args.g)
     (limits_fit p c.requires.own.plan c.args.g table).1 c.requires.others
 
 pub returns-clause-found : goal.returns-clause-found
 returns-clause-found c =
-    let table = table-within c.args.chain.now c.args.seat.now c.requires.own c.args.g c.requires.installed in
+    let table = table-within c.args.chain.now c.args.seat.now c.requires.own c.args.g
+    c.requires.installed in
     let made = c.grow.ensures.made in
     let own = made-own c.args.chain.now c.requires.own made in
     above-complete c.args.chain.now c.grow.new.seat own c.args.g c.args.key table

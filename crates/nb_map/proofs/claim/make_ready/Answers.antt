@@ -15,19 +15,24 @@ returns-in-Complete-clause-made c = λ call.
 pub returns-then-g-gt0 : goal.returns-then-g-gt0
 returns-then-g-gt0 c =
     let p = c.args.chain.now.shape in
-    let table = table-within c.args.chain.now c.args.seat.now c.requires.own c.args.g c.requires.installed in
+    let table = table-within c.args.chain.now c.args.seat.now c.requires.own c.args.g
+    c.requires.installed in
     let done = λ (call : Call).
-    completed-below call c.args.chain.now c.args.g c.if-g-gt0.true table c.complete.ensures.completed in
+    completed-below call c.args.chain.now c.args.g c.if-g-gt0.true table
+    c.complete.ensures.completed in
     let most = owed-all p c.args.g c.args.below c.in_default.not-Complete in
     record {
-      made = λ call. subst (λ most. HasMade p call c.args.seat.now c.complete.new.seat [] most) (sym most) (done call).0;
+      made = λ call. subst (λ most. HasMade p call c.args.seat.now c.complete.new.seat [] most)
+          (sym most) (done call).0;
       own = made-own c.args.chain.now c.requires.own (done (Get 0)).0;
       ready = (done (Get 0)).1;
     }
 
 pub returns-else-g-gt0 : goal.returns-else-g-gt0
 returns-else-g-gt0 c = record {
-  made = λ call. made-within 0 _ (omega arith) (made-none c.args.chain.now call c.args.seat.now c.requires.own);
+  made = λ call. made-within 0 _ (omega arith)
+      (made-none c.args.chain.now call c.args.seat.now c.requires.own);
   own = c.requires.own;
-  ready = first-ready c.args.chain.now.shape (seen_by c.args.chain.now.shape c.args.seat.now) c.args.g c.if-g-gt0.false;
+  ready = first-ready c.args.chain.now.shape (seen_by c.args.chain.now.shape c.args.seat.now)
+      c.args.g c.if-g-gt0.false;
 }

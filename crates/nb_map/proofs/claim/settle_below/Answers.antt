@@ -4,7 +4,8 @@ use Rattle.nb_map.proofs.claim.settle_below.Goals as goal
 
 pub returns : goal.returns
 returns c = record {
-  made = λ call. made-within 0 _ (omega arith) (made-none c.args.chain.now call c.args.seat.now c.requires.own);
+  made = λ call. made-within 0 _ (omega arith)
+      (made-none c.args.chain.now call c.args.seat.now c.requires.own);
   own = c.requires.own;
   fewer = omega arith;
   below = λ key known. known;

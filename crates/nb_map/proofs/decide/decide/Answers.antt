@@ -11,12 +11,15 @@ use Rattle.nb_core.specs.declared.numbers.TheConstants.{VALUE_MAX}
 use Rattle.nb_map.proofs.decide.decide.Goals as goal
 
 -- a test that leads to an error holds
-failed : {A E : Type 0} (b : Bool) (x z : E) (y : A) → ◌≡◌ {A = Result A E} (cond b (Err x) (Ok y)) (Err z) → b ≡ true
+failed : {A E : Type 0} (b : Bool) (x z : E) (y : A)
+    → ◌≡◌ {A = Result A E} (cond b (Err x) (Ok y)) (Err z) → b ≡ true
 failed true x z y is = refl
 failed false x z y is = absurd cc
 
 -- a number past the greatest one isn't what stands at a key
-past-differs : (after before : Option ℕ) → IfSome before (λ n. n ≤ VALUE_MAX) → is_past_max after ≡ true → same_number after before ≡ false
+past-differs :
+    (after before : Option ℕ) → IfSome before (λ n. n ≤ VALUE_MAX) → is_past_max after ≡ true
+    → same_number after before ≡ false
 past-differs None before fits past = absurd cc
 past-differs (Some m) None fits past = refl
 past-differs (Some m) (Some n) fits past =
@@ -25,11 +28,14 @@ past-differs (Some m) (Some n) fits past =
 
 -- a call that would put one there is refused
 refused :
-    (key : ℕ) (want : Want) (change : Change) (number : Option ℕ) → IfSome number (λ n. n ≤ VALUE_MAX) → holds_of want number ≡ true
+    (key : ℕ) (want : Want) (change : Change) (number : Option ℕ)
+    → IfSome number (λ n. n ≤ VALUE_MAX) → holds_of want number ≡ true
     → is_past_max (changed change number) ≡ true
-    → (leaves_alone (Write key want change) number ≡ false) × ((m : Numbers) → map.get m key ≡ number → overflows (Write key want change) m ≡ true)
+    → (leaves_alone (Write key want change) number ≡ false)
+    × ((m : Numbers) → map.get m key ≡ number → overflows (Write key want change) m ≡ true)
 refused key want change number fits holds past = (
-  ap (λ b. not b || same_number (changed change number) number) holds ∙ past-differs (changed change number) number fits past,
+  ap (λ b. not b || same_number (changed change number) number) holds
+      ∙ past-differs (changed change number) number fits past,
   λ m at. ap (λ n. cond (holds_of want n) (is_past_max (changed change n)) false) at
       ∙ ap (λ b. cond b (is_past_max (changed change number)) false) holds ∙ past,
 )
@@ -39,7 +45,10 @@ returns-in-Err c =
     let number = c.args.number.now in
     let want = c.in-Write.want in
     let change = c.in-Write.change in
-    let holds : holds_of want number ≡ true = sym c.holds_of-matched.ensures ∙ c.if-not-matched.false in
-    let past = failed (is_past_max (changed change number)) _ _ _ (sym c.changed.ensures ∙ c.in-Err.is) in
-    subst (λ call. (leaves_alone call number ≡ false) × ((m : Numbers) → map.get m (key_of_call call) ≡ number → overflows call m ≡ true))
+    let holds : holds_of want number ≡ true = sym c.holds_of-matched.ensures
+    ∙ c.if-not-matched.false in
+    let past = failed (is_past_max (changed change number)) _ _ _ (sym c.changed.ensures
+    ∙ c.in-Err.is) in
+    subst (λ call. (leaves_alone call number ≡ false)
+    × ((m : Numbers) → map.get m (key_of_call call) ≡ number → overflows call m ≡ true))
     (sym c.in-Write.is) (refused c.in-Write.key want change number c.known.ensures holds past)

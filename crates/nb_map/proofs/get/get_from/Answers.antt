@@ -32,7 +32,8 @@ returns-in-Shows c =
     let most = looked-most p (generations_of p) (c.loop-g.g + 1) below in
     let more = looked-more p c.loop-g.g in
     record {
-      made = made-within (looked_below p c.loop-g.g + look_steps p c.loop-g.g) (looked_below p (generations_of p)) (omega (arith, most, more))
+      made = made-within (looked_below p c.loop-g.g + look_steps p c.loop-g.g)
+          (looked_below p (generations_of p)) (omega (arith, most, more))
           (made-more chain c.requires.own c.loop-g.invariant.0 c.in-Shows.ensures.made);
     }
 
@@ -44,11 +45,15 @@ loop-g-preserved c =
     let table : c.loop-g.g < generations_of p = search rules in
     let own = made-own chain c.requires.own c.loop-g.invariant.0 in
     let lasting = made-stays chain own c.in_default.ensures.made in
-    let reached = reached-above p (seen_by c.args.chain.now.shape c.look_in.new.seat) c.loop-g.g c.args.key
-    (reached-lasts p _ _ lasting c.loop-g.g c.args.key table c.loop-g.invariant.1) c.in_default.ensures.look in (
-      made-within (looked_below p c.loop-g.g + look_steps p c.loop-g.g) (looked_below p (c.loop-g.g + 1)) (omega (arith, more))
+    let reached = reached-above p (seen_by c.args.chain.now.shape c.look_in.new.seat)
+    c.loop-g.g c.args.key
+    (reached-lasts p _ _ lasting c.loop-g.g c.args.key table c.loop-g.invariant.1)
+    c.in_default.ensures.look in (
+      made-within (looked_below p c.loop-g.g + look_steps p c.loop-g.g)
+          (looked_below p (c.loop-g.g + 1)) (omega (arith, more))
           (made-more chain c.requires.own c.loop-g.invariant.0 c.in_default.ensures.made),
-      subst (λ g. IsReached p (seen_by c.args.chain.now.shape c.look_in.new.seat) g c.args.key) (sym (add-one c.loop-g.g)) reached,
+      subst (λ g. IsReached p (seen_by c.args.chain.now.shape c.look_in.new.seat) g c.args.key)
+          (sym (add-one c.loop-g.g)) reached,
       pow_pos _,
       others-none p (seen_by c.args.chain.now.shape c.look_in.new.seat) (c.loop-g.g + 1) c.args.key,
     )

@@ -26,7 +26,8 @@ returns-in-Shows c =
     let chain = c.args.chain.now in
     let p = chain.shape in
     let bound = get-bound p c.requires.own.plan (generations_of p) (le_refl (generations_of p)) in
-    let glanced = made-more chain c.requires.own (made-quiet p (call.Get c.args.key) c.load_top-top.ensures.grows)
+    let glanced = made-more chain c.requires.own
+    (made-quiet p (call.Get c.args.key) c.load_top-top.ensures.grows)
     c.in-Shows.ensures.made in
     record {
       made = made-within 3 (get_steps p) (omega (arith, bound)) glanced;
@@ -40,10 +41,12 @@ get_from-requires c =
     let own = steps_add_up.own c.requires.own (steps_add_up.one c.load_top-top.ensures.grows) in
     let reached = reached-top chain c.load_top-top.new.seat own
     c.args.key c.load_top-top.result c.load_top-top.ensures.found in
-    let table = table-within chain c.load_top-top.new.seat own c.load_top-top.result reached.installed in
+    let table = table-within chain c.load_top-top.new.seat own c.load_top-top.result
+    reached.installed in
     record {
       own = made-own chain own c.in-From.ensures.made;
-      reached = reached-lasts p _ _ (made-stays chain own c.in-From.ensures.made) c.load_top-top.result c.args.key table reached;
+      reached = reached-lasts p _ _ (made-stays chain own c.in-From.ensures.made)
+          c.load_top-top.result c.args.key table reached;
       near = c.in-From.ensures.glance.0;
       others = c.in-From.ensures.glance.1;
     }
@@ -54,20 +57,28 @@ returns-in-From c =
     let p = chain.shape in
     let get = call.Get c.args.key in
     let bound = get-bound p c.requires.own.plan (generations_of p) (le_refl (generations_of p)) in
-    let glanced = made-more chain c.requires.own (made-quiet p get c.load_top-top.ensures.grows) c.in-From.ensures.made in
+    let glanced = made-more chain c.requires.own (made-quiet p get c.load_top-top.ensures.grows)
+    c.in-From.ensures.made in
     let then = steps_add_up.own c.requires.own (steps_add_up.one c.load_top-top.ensures.grows) in
-    let reached = reached-top chain c.load_top-top.new.seat then c.args.key c.load_top-top.result c.load_top-top.ensures.found in
-    let table = table-within chain c.load_top-top.new.seat then c.load_top-top.result reached.installed in
+    let reached = reached-top chain c.load_top-top.new.seat then c.args.key c.load_top-top.result
+    c.load_top-top.ensures.found in
+    let table = table-within chain c.load_top-top.new.seat then c.load_top-top.result
+    reached.installed in
     let first = steps_add_up.stays c.requires.own (steps_add_up.one c.load_top-top.ensures.grows) in
     let second = made-stays chain then c.in-From.ensures.made in
-    let third = made-stays chain (made-own chain then c.in-From.ensures.made) c.get_from.ensures.made in
+    let third = made-stays chain (made-own chain then c.in-From.ensures.made)
+    c.get_from.ensures.made in
     record {
-      made = made-within (1 + 2 + looked_below p (generations_of p)) (get_steps p) (omega (arith, bound))
+      made = made-within (1 + 2 + looked_below p (generations_of p)) (get_steps p)
+          (omega (arith, bound))
           (made-more chain c.requires.own glanced c.get_from.ensures.made);
       three_steps = λ home.
-          let same : (seen_by c.args.chain.now.shape c.get_from.new.seat).top ≡ c.load_top-top.result =
+          let same : (seen_by c.args.chain.now.shape c.get_from.new.seat).top
+          ≡ c.load_top-top.result =
           omega (arith, home.0, first.top, second.top, third.top, c.load_top-top.ensures.found) in
           absurd
-          (c.in-From.ensures.glance.2 (home-before p _ _ third c.load_top-top.result c.args.key table
-          (subst (λ g. IsAtHome p (seen_by c.args.chain.now.shape c.get_from.new.seat) g c.args.key) same home.1)));
+          (c.in-From.ensures.glance.2 (home-before p _ _ third c.load_top-top.result c.args.key
+          table
+          (subst (λ g. IsAtHome p (seen_by c.args.chain.now.shape c.get_from.new.seat) g c.args.key)
+          same home.1)));
     }

@@ -9,12 +9,15 @@ use Rattle.nb_map.proofs.get.look_in.Goals as goal
 pub look_at-requires-clause-reached : goal.look_at-requires-clause-reached
 look_at-requires-clause-reached c =
     let chain = c.args.chain.now in
-    let table = table-within chain c.args.seat.now c.requires.own c.args.g c.requires.reached.installed in
-    reached-lasts chain.shape _ _ (made-stays chain c.requires.own c.seek.ensures.made) c.args.g c.args.key table
+    let table = table-within chain c.args.seat.now c.requires.own c.args.g
+    c.requires.reached.installed in
+    reached-lasts chain.shape _ _ (made-stays chain c.requires.own c.seek.ensures.made)
+    c.args.g c.args.key table
     c.requires.reached
 
 pub returns-in-Slot-clause-made : goal.returns-in-Slot-clause-made
 returns-in-Slot-clause-made c =
     let p = c.args.chain.now.shape in
-    made-within (size_of p c.args.g - c.args.from + 1 + (pass_steps p c.args.g + 1)) (look_steps p c.args.g) (omega arith)
+    made-within (size_of p c.args.g - c.args.from + 1 + (pass_steps p c.args.g + 1))
+    (look_steps p c.args.g) (omega arith)
     (made-then c.requires.own c.in-Slot.ensures.made c.look_at.ensures.made)

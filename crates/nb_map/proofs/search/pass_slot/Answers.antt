@@ -15,20 +15,24 @@ copy_and_count-requires-clause-growing c =
 pub returns-then-not-is_finished-clause-made : goal.returns-then-not-is_finished-clause-made
 returns-then-not-is_finished-clause-made c call =
     let chain = c.args.chain.now in
-    let next = primed-next chain c.args.seat.now c.requires.own c.args.g c.args.i c.requires.slot c.args.value
+    let next = primed-next chain c.args.seat.now c.requires.own c.args.g c.args.i c.requires.slot
+    c.args.value
     c.requires.held c.requires.primed in
     made-copied chain call
-    (table-within chain c.args.seat.now c.requires.own (suc c.args.g) next) (one-if c.copy_and_count.result c.args.i)
+    (table-within chain c.args.seat.now c.requires.own (suc c.args.g) next)
+    (one-if c.copy_and_count.result c.args.i)
     c.copy_and_count.ensures.copied
 
 pub returns-then-not-is_finished-clause-passed : goal.returns-then-not-is_finished-clause-passed
 returns-then-not-is_finished-clause-passed c key claimed =
     let chain = c.args.chain.now in
-    let next = primed-next chain c.args.seat.now c.requires.own c.args.g c.args.i c.requires.slot c.args.value
+    let next = primed-next chain c.args.seat.now c.requires.own c.args.g c.args.i c.requires.slot
+    c.args.value
     c.requires.held c.requires.primed in
     let lasting = steps_add_up.stays c.requires.own c.copy_and_count.ensures.copied.grown in (
       finished-passed chain.shape _ c.args.g c.args.i key c.requires.slot.1
-          (lasting.claimed c.args.g c.args.i key c.requires.slot claimed) c.copy_and_count.ensures.finished,
+          (lasting.claimed c.args.g c.args.i key c.requires.slot claimed)
+          c.copy_and_count.ensures.finished,
       lasting.installed (suc c.args.g) next,
     )
 
@@ -43,6 +47,7 @@ returns-else-not-is_finished-clause-passed c key claimed =
     let final : IsFinishedValue c.args.value = sym c.if-not-is_finished.ensures in (
       finished-passed chain.shape _ c.args.g c.args.i key c.requires.slot.1 claimed
           (inr (subst IsFinishedValue (sym c.requires.held) final)),
-      primed-next chain c.args.seat.now c.requires.own c.args.g c.args.i c.requires.slot c.args.value
+      primed-next chain c.args.seat.now c.requires.own c.args.g c.args.i c.requires.slot
+          c.args.value
           c.requires.held c.requires.primed,
     )

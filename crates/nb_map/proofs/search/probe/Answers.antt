@@ -18,7 +18,8 @@ pub loop-distance-init : goal.loop-distance-init
 loop-distance-init c =
     let p = c.args.chain.now.shape in
     let none = read-start p c.args.g c.args.call.now c.args.from c.requires.start in (
-      subst (λ made. HasMade p c.args.call.now c.args.seat.now c.args.seat.now made (c.args.from - c.args.from)) (sym none)
+      subst (λ made. HasMade p c.args.call.now c.args.seat.now c.args.seat.now made
+          (c.args.from - c.args.from)) (sym none)
           (made-within 0 (c.args.from - c.args.from) (omega arith)
           (made-none c.args.chain.now c.args.call.now c.args.seat.now c.requires.own)),
       c.requires.others,
@@ -32,93 +33,148 @@ pub load_key-requires-clause-reached : goal.load_key-requires-clause-reached
 load_key-requires-clause-reached c =
     let chain = c.args.chain.now in
     let so_far = c.loop-distance.invariant in
-    let table = table-within chain c.args.seat.now c.requires.own c.args.g c.requires.reached.installed in
-    subst (λ k. IsReached chain.shape (seen_by c.args.chain.now.shape c.loop-distance.seat) c.args.g k) (sym c.requires.key)
-    (reached-lasts chain.shape _ _ (made-stays chain c.requires.own so_far.0) c.args.g c.args.key table c.requires.reached)
+    let table = table-within chain c.args.seat.now c.requires.own c.args.g
+    c.requires.reached.installed in
+    subst (λ k. IsReached chain.shape (seen_by c.args.chain.now.shape c.loop-distance.seat)
+    c.args.g k) (sym c.requires.key)
+    (reached-lasts chain.shape _ _ (made-stays chain c.requires.own so_far.0)
+    c.args.g c.args.key table c.requires.reached)
 
 pub load_key-requires-clause-on_path : goal.load_key-requires-clause-on_path
 load_key-requires-clause-on_path c =
     let chain = c.args.chain.now in
     let so_far = c.loop-distance.invariant in
     let near : c.loop-distance.distance < size_of chain.shape c.args.g = search rules in
-    let at : path_slot chain.shape c.args.g c.args.key c.loop-distance.distance ≡ c.path_slot-i.result = search rules in
-    on-path chain.shape (seen_by c.args.chain.now.shape c.loop-distance.seat) c.args.g _ _ c.loop-distance.distance c.args.key c.requires.key near at so_far.1
+    let at : path_slot chain.shape c.args.g c.args.key c.loop-distance.distance
+    ≡ c.path_slot-i.result = search rules in
+    on-path chain.shape (seen_by c.args.chain.now.shape c.loop-distance.seat)
+    c.args.g _ _ c.loop-distance.distance c.args.key c.requires.key near at so_far.1
 
 pub returns-then-eq-clause-made : goal.returns-then-eq-clause-made
 returns-then-eq-clause-made c =
     let chain = c.args.chain.now in
     let so_far = c.loop-distance.invariant in
-    let table = table-within chain c.args.seat.now c.requires.own c.args.g c.requires.reached.installed in
+    let table = table-within chain c.args.seat.now c.requires.own c.args.g
+    c.requires.reached.installed in
     let near : c.loop-distance.distance < size_of chain.shape c.args.g = search rules in
-    let load : Extended c.args.chain.now.shape c.loop-distance.seat c.load_key.new.seat (read c.loop-distance.seat.number c.args.call.now (shown_by_key chain.shape c.args.g c.path_slot-i.result (Claimed c.in-Claimed.other) (key_of_call c.args.call.now))) 1
-    = subst (λ s. Extended c.args.chain.now.shape c.loop-distance.seat c.load_key.new.seat (read c.loop-distance.seat.number c.args.call.now (shown_by_key chain.shape c.args.g c.path_slot-i.result s (key_of_call c.args.call.now))) 1) c.in-Claimed.is c.load_key.ensures.grows in
-    let none = shown-own chain.shape c.args.g c.path_slot-i.result (key_of_call c.args.call.now) c.args.key c.in-Claimed.other c.requires.key c.if-eq.ensures in
-    made-within (c.loop-distance.distance + 1 - c.args.from) (size_of chain.shape c.args.g - c.args.from) (omega (arith, near))
-    (walked chain c.args.g table c.loop-distance.distance c.args.from None near c.loop-distance.auto.distance
+    let load : Extended c.args.chain.now.shape c.loop-distance.seat c.load_key.new.seat
+    (read c.loop-distance.seat.number c.args.call.now
+    (shown_by_key chain.shape c.args.g c.path_slot-i.result (Claimed c.in-Claimed.other)
+    (key_of_call c.args.call.now))) 1
+    = subst (λ s. Extended c.args.chain.now.shape c.loop-distance.seat c.load_key.new.seat
+    (read c.loop-distance.seat.number c.args.call.now
+    (shown_by_key chain.shape c.args.g c.path_slot-i.result s (key_of_call c.args.call.now)))
+    1) c.in-Claimed.is c.load_key.ensures.grows in
+    let none = shown-own chain.shape c.args.g c.path_slot-i.result (key_of_call c.args.call.now)
+    c.args.key c.in-Claimed.other c.requires.key c.if-eq.ensures in
+    made-within (c.loop-distance.distance + 1 - c.args.from)
+    (size_of chain.shape c.args.g - c.args.from) (omega (arith, near))
+    (walked chain c.args.g table c.loop-distance.distance c.args.from None near
+    c.loop-distance.auto.distance
     c.requires.own so_far.0
-    (subst (λ shown. Extended c.args.chain.now.shape c.loop-distance.seat c.load_key.new.seat (read c.loop-distance.seat.number c.args.call.now shown) 1) none load))
+    (subst (λ shown. Extended c.args.chain.now.shape c.loop-distance.seat c.load_key.new.seat
+    (read c.loop-distance.seat.number c.args.call.now shown) 1) none load))
 
 pub returns-in-Empty-clause-made : goal.returns-in-Empty-clause-made
 returns-in-Empty-clause-made c =
     let chain = c.args.chain.now in
     let so_far = c.loop-distance.invariant in
-    let table = table-within chain c.args.seat.now c.requires.own c.args.g c.requires.reached.installed in
+    let table = table-within chain c.args.seat.now c.requires.own c.args.g
+    c.requires.reached.installed in
     let near : c.loop-distance.distance < size_of chain.shape c.args.g = search rules in
-    let load : Extended c.args.chain.now.shape c.loop-distance.seat c.load_key.new.seat (read c.loop-distance.seat.number c.args.call.now (shown_by_key chain.shape c.args.g c.path_slot-i.result Empty (key_of_call c.args.call.now))) 1
-    = subst (λ s. Extended c.args.chain.now.shape c.loop-distance.seat c.load_key.new.seat (read c.loop-distance.seat.number c.args.call.now (shown_by_key chain.shape c.args.g c.path_slot-i.result s (key_of_call c.args.call.now))) 1) c.in-Empty.is c.load_key.ensures.grows in
-    walked chain c.args.g table c.loop-distance.distance c.args.from (Some None) near c.loop-distance.auto.distance
+    let load : Extended c.args.chain.now.shape c.loop-distance.seat c.load_key.new.seat
+    (read c.loop-distance.seat.number c.args.call.now
+    (shown_by_key chain.shape c.args.g c.path_slot-i.result Empty
+    (key_of_call c.args.call.now))) 1
+    = subst (λ s. Extended c.args.chain.now.shape c.loop-distance.seat c.load_key.new.seat
+    (read c.loop-distance.seat.number c.args.call.now
+    (shown_by_key chain.shape c.args.g c.path_slot-i.result s (key_of_call c.args.call.now)))
+    1) c.in-Empty.is c.load_key.ensures.grows in
+    walked chain c.args.g table c.loop-distance.distance c.args.from (Some None)
+    near c.loop-distance.auto.distance
     c.requires.own so_far.0 load
 
 pub returns-in-Empty-clause-ends : goal.returns-in-Empty-clause-ends
 returns-in-Empty-clause-ends c =
     let chain = c.args.chain.now in
     let so_far = c.loop-distance.invariant in
-    let table = table-within chain c.args.seat.now c.requires.own c.args.g c.requires.reached.installed in
+    let table = table-within chain c.args.seat.now c.requires.own c.args.g
+    c.requires.reached.installed in
     let near : c.loop-distance.distance < size_of chain.shape c.args.g = search rules in
-    let at : path_slot chain.shape c.args.g c.args.key c.loop-distance.distance ≡ c.path_slot-i.result = search rules in
+    let at : path_slot chain.shape c.args.g c.args.key c.loop-distance.distance
+    ≡ c.path_slot-i.result = search rules in
     let own = made-own chain c.requires.own so_far.0 in
-    let lasting = steps_add_up.stays own (steps_add_up.one c.load_key.ensures.grows) in
-    (near, lasting.others c.args.g c.args.key c.loop-distance.distance table so_far.1, ap ((seen_by c.args.chain.now.shape c.load_key.new.seat).key c.args.g) at ∙ c.load_key.ensures.found ∙ c.in-Empty.is)
+    let lasting = steps_add_up.stays own (steps_add_up.one c.load_key.ensures.grows) in (
+      near,
+      lasting.others c.args.g c.args.key c.loop-distance.distance table so_far.1,
+      ap ((seen_by c.args.chain.now.shape c.load_key.new.seat).key c.args.g) at
+          ∙ c.load_key.ensures.found ∙ c.in-Empty.is,
+    )
 
 pub returns-in-Dead-clause-made : goal.returns-in-Dead-clause-made
 returns-in-Dead-clause-made c =
     let chain = c.args.chain.now in
     let so_far = c.loop-distance.invariant in
-    let table = table-within chain c.args.seat.now c.requires.own c.args.g c.requires.reached.installed in
+    let table = table-within chain c.args.seat.now c.requires.own c.args.g
+    c.requires.reached.installed in
     let near : c.loop-distance.distance < size_of chain.shape c.args.g = search rules in
-    let load : Extended c.args.chain.now.shape c.loop-distance.seat c.load_key.new.seat (read c.loop-distance.seat.number c.args.call.now (shown_by_key chain.shape c.args.g c.path_slot-i.result Dead (key_of_call c.args.call.now))) 1
-    = subst (λ s. Extended c.args.chain.now.shape c.loop-distance.seat c.load_key.new.seat (read c.loop-distance.seat.number c.args.call.now (shown_by_key chain.shape c.args.g c.path_slot-i.result s (key_of_call c.args.call.now))) 1) c.in-Dead.is c.load_key.ensures.grows in
-    made-within (c.loop-distance.distance + 1 - c.args.from) (size_of chain.shape c.args.g - c.args.from) (omega (arith, near))
-    (walked chain c.args.g table c.loop-distance.distance c.args.from None near c.loop-distance.auto.distance
+    let load : Extended c.args.chain.now.shape c.loop-distance.seat c.load_key.new.seat
+    (read c.loop-distance.seat.number c.args.call.now
+    (shown_by_key chain.shape c.args.g c.path_slot-i.result Dead (key_of_call c.args.call.now)))
+    1
+    = subst (λ s. Extended c.args.chain.now.shape c.loop-distance.seat c.load_key.new.seat
+    (read c.loop-distance.seat.number c.args.call.now
+    (shown_by_key chain.shape c.args.g c.path_slot-i.result s (key_of_call c.args.call.now)))
+    1) c.in-Dead.is c.load_key.ensures.grows in
+    made-within (c.loop-distance.distance + 1 - c.args.from)
+    (size_of chain.shape c.args.g - c.args.from) (omega (arith, near))
+    (walked chain c.args.g table c.loop-distance.distance c.args.from None near
+    c.loop-distance.auto.distance
     c.requires.own so_far.0 load)
 
 pub returns-in-Dead-clause-ends : goal.returns-in-Dead-clause-ends
 returns-in-Dead-clause-ends c =
     let chain = c.args.chain.now in
     let so_far = c.loop-distance.invariant in
-    let table = table-within chain c.args.seat.now c.requires.own c.args.g c.requires.reached.installed in
+    let table = table-within chain c.args.seat.now c.requires.own c.args.g
+    c.requires.reached.installed in
     let near : c.loop-distance.distance < size_of chain.shape c.args.g = search rules in
-    let at : path_slot chain.shape c.args.g c.args.key c.loop-distance.distance ≡ c.path_slot-i.result = search rules in
+    let at : path_slot chain.shape c.args.g c.args.key c.loop-distance.distance
+    ≡ c.path_slot-i.result = search rules in
     let own = made-own chain c.requires.own so_far.0 in
     let lasting = steps_add_up.stays own (steps_add_up.one c.load_key.ensures.grows) in
-    let is : (seen_by c.args.chain.now.shape c.load_key.new.seat).key c.args.g (path_slot chain.shape c.args.g c.args.key c.loop-distance.distance) ≡ Dead
-    = ap ((seen_by c.args.chain.now.shape c.load_key.new.seat).key c.args.g) at ∙ c.load_key.ensures.found ∙ c.in-Dead.is in
+    let is : (seen_by c.args.chain.now.shape c.load_key.new.seat).key c.args.g
+    (path_slot chain.shape c.args.g c.args.key c.loop-distance.distance) ≡ Dead
+    = ap ((seen_by c.args.chain.now.shape c.load_key.new.seat).key c.args.g) at
+    ∙ c.load_key.ensures.found ∙ c.in-Dead.is in
     let in_table : c.path_slot-i.result < size_of chain.shape c.args.g = search rules in (
-      (c.loop-distance.distance, near, lasting.others c.args.g c.args.key c.loop-distance.distance table so_far.1, is),
-      dead-next chain c.load_key.new.seat (steps_add_up.own own (steps_add_up.one c.load_key.ensures.grows))
+      (
+        c.loop-distance.distance,
+        near,
+        lasting.others c.args.g c.args.key c.loop-distance.distance
+            table so_far.1,
+        is,
+      ),
+      dead-next chain c.load_key.new.seat
+          (steps_add_up.own own (steps_add_up.one c.load_key.ensures.grows))
           c.args.g c.path_slot-i.result (table, in_table) (c.load_key.ensures.found ∙ c.in-Dead.is),
     )
 
 -- behind the first slot of the path there is one of another key
-short : (c : After-load_key) → (AreOthers c.args.chain.now.shape (seen_by c.args.chain.now.shape c.load_key.new.seat) c.args.g c.args.key 1 → ⊥)
+short :
+    (c : After-load_key)
+    → (AreOthers c.args.chain.now.shape (seen_by c.args.chain.now.shape c.load_key.new.seat)
+    c.args.g c.args.key 1 → ⊥)
     → c.load_key.new.seat.steps ≤ c.args.seat.now.steps + 1
 short c =
     let chain = c.args.chain.now in
     let so_far = c.loop-distance.invariant in
-    let table = table-within chain c.args.seat.now c.requires.own c.args.g c.requires.reached.installed in
+    let table = table-within chain c.args.seat.now c.requires.own c.args.g
+    c.requires.reached.installed in
     let own = made-own chain c.requires.own so_far.0 in
     let lasting = steps_add_up.stays own (steps_add_up.one c.load_key.ensures.grows) in
-    walk-short chain.shape (seen_by chain.shape c.load_key.new.seat) c.args.g c.args.key c.args.from c.loop-distance.distance _ _
+    walk-short chain.shape (seen_by chain.shape c.load_key.new.seat)
+    c.args.g c.args.key c.args.from c.loop-distance.distance _ _
     (lasting.others c.args.g c.args.key c.loop-distance.distance table so_far.1)
     (omega (arith, so_far.0.grown.steps, so_far.0.few, c.load_key.ensures.grows.steps))
 
@@ -135,17 +191,29 @@ pub loop-distance-preserved : goal.loop-distance-preserved
 loop-distance-preserved c =
     let chain = c.args.chain.now in
     let so_far = c.loop-distance.invariant in
-    let table = table-within chain c.args.seat.now c.requires.own c.args.g c.requires.reached.installed in
+    let table = table-within chain c.args.seat.now c.requires.own c.args.g
+    c.requires.reached.installed in
     let near : c.loop-distance.distance < size_of chain.shape c.args.g = search rules in
-    let at : path_slot chain.shape c.args.g c.args.key c.loop-distance.distance ≡ c.path_slot-i.result = search rules in
+    let at : path_slot chain.shape c.args.g c.args.key c.loop-distance.distance
+    ≡ c.path_slot-i.result = search rules in
     let own = made-own chain c.requires.own so_far.0 in
-    let load : Extended c.args.chain.now.shape c.loop-distance.seat c.load_key.new.seat (read c.loop-distance.seat.number c.args.call.now (shown_by_key chain.shape c.args.g c.path_slot-i.result (Claimed c.in-Claimed.other) (key_of_call c.args.call.now))) 1
-    = subst (λ s. Extended c.args.chain.now.shape c.loop-distance.seat c.load_key.new.seat (read c.loop-distance.seat.number c.args.call.now (shown_by_key chain.shape c.args.g c.path_slot-i.result s (key_of_call c.args.call.now))) 1) c.in-Claimed.is c.load_key.ensures.grows in
-    let differs : c.in-Claimed.other ≢ c.args.key = eqb-false c.in-Claimed.other c.args.key (sym c.eq.ensures ∙ c.if-eq.false) in
+    let load : Extended c.args.chain.now.shape c.loop-distance.seat c.load_key.new.seat
+    (read c.loop-distance.seat.number c.args.call.now
+    (shown_by_key chain.shape c.args.g c.path_slot-i.result (Claimed c.in-Claimed.other)
+    (key_of_call c.args.call.now))) 1
+    = subst (λ s. Extended c.args.chain.now.shape c.loop-distance.seat c.load_key.new.seat
+    (read c.loop-distance.seat.number c.args.call.now
+    (shown_by_key chain.shape c.args.g c.path_slot-i.result s (key_of_call c.args.call.now)))
+    1) c.in-Claimed.is c.load_key.ensures.grows in
+    let differs : c.in-Claimed.other ≢ c.args.key =
+    eqb-false c.in-Claimed.other c.args.key (sym c.eq.ensures ∙ c.if-eq.false) in
     let lasting = steps_add_up.stays own (steps_add_up.one c.load_key.ensures.grows) in (
-      walked-on chain c.args.g table c.loop-distance.distance c.args.from c.path_slot-i.result c.args.key
-          c.in-Claimed.other near c.loop-distance.auto.distance c.requires.own c.requires.key at differs so_far.0 load,
-      others-more chain.shape _ _ lasting c.args.g c.args.key c.loop-distance.distance _ c.in-Claimed.other table so_far.1 at
+      walked-on chain c.args.g table c.loop-distance.distance c.args.from c.path_slot-i.result
+          c.args.key
+          c.in-Claimed.other near c.loop-distance.auto.distance c.requires.own c.requires.key at
+          differs so_far.0 load,
+      others-more chain.shape _ _ lasting c.args.g c.args.key c.loop-distance.distance _
+          c.in-Claimed.other table so_far.1 at
           (c.load_key.ensures.found ∙ c.in-Claimed.is) differs,
     )
 
@@ -154,8 +222,10 @@ returns-clause-made c =
     let chain = c.args.chain.now in
     let so_far = c.loop-distance.invariant in
     let end : c.loop-distance.distance ≡ size_of chain.shape c.args.g = search rules in
-    made-within (c.loop-distance.distance - c.args.from) (size_of chain.shape c.args.g - c.args.from) (omega (arith, end))
-    (subst (λ made. HasMade chain.shape c.args.call.now c.args.seat.now c.loop-distance.seat made (c.loop-distance.distance - c.args.from))
+    made-within (c.loop-distance.distance - c.args.from)
+    (size_of chain.shape c.args.g - c.args.from) (omega (arith, end))
+    (subst (λ made. HasMade chain.shape c.args.call.now c.args.seat.now c.loop-distance.seat made
+    (c.loop-distance.distance - c.args.from))
     (read-end chain.shape c.args.g c.args.call.now c.loop-distance.distance end) so_far.0)
 
 pub returns-clause-ends : goal.returns-clause-ends
@@ -163,4 +233,5 @@ returns-clause-ends c =
     let chain = c.args.chain.now in
     let so_far = c.loop-distance.invariant in
     let end : c.loop-distance.distance ≡ size_of chain.shape c.args.g = search rules in
-    subst (λ d. AreOthers chain.shape (seen_by c.args.chain.now.shape c.loop-distance.seat) c.args.g c.args.key d) end so_far.1
+    subst (λ d. AreOthers chain.shape (seen_by c.args.chain.now.shape c.loop-distance.seat)
+    c.args.g c.args.key d) end so_far.1

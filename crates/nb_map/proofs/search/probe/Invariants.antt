@@ -7,5 +7,6 @@ use Rattle.nb_map.proofs.search.probe.Given as goal
 
 abbrev pub invariant-loop-distance : goal.invariant-loop-distance
 invariant-loop-distance l =
-    HasMade l.chain.shape l.call l.fn.seat l.seat (read_up_to l.chain.shape l.g l.call l.distance) (l.distance - l.from)
+    HasMade l.chain.shape l.call l.fn.seat l.seat (read_up_to l.chain.shape l.g l.call l.distance)
+    (l.distance - l.from)
     × AreOthers l.chain.shape (seen_by l.chain.shape l.seat) l.g l.key l.distance

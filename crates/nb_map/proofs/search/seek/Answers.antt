@@ -20,48 +20,69 @@ returns-in-Closed-clause-sought c =
 pub load_next-requires-clause-reached : goal.load_next-requires-clause-reached
 load_next-requires-clause-reached c =
     let chain = c.args.chain.now in
-    let table = table-within chain c.args.seat.now c.requires.own c.args.g c.requires.reached.installed in
-    subst (λ k. IsReached chain.shape (seen_by c.args.chain.now.shape c.probe.new.seat) c.args.g k) (sym c.requires.key)
-    (reached-lasts chain.shape _ _ (made-stays chain c.requires.own c.probe.ensures.made) c.args.g c.args.key table c.requires.reached)
+    let table = table-within chain c.args.seat.now c.requires.own c.args.g
+    c.requires.reached.installed in
+    subst (λ k. IsReached chain.shape (seen_by c.args.chain.now.shape c.probe.new.seat) c.args.g k)
+    (sym c.requires.key)
+    (reached-lasts chain.shape _ _ (made-stays chain c.requires.own c.probe.ensures.made)
+    c.args.g c.args.key table c.requires.reached)
 
 pub returns-then-load_next-clause-made : goal.returns-then-load_next-clause-made
 returns-then-load_next-clause-made c =
     let chain = c.args.chain.now in
     let tables : c.generations.result ≡ generations_of chain.shape = search rules in
-    let walk = made-unless _ (suc c.args.g == generations_of chain.shape) _ (size_of chain.shape c.args.g - c.args.from)
-    (not-last chain.shape c.args.g tables c.if-g-generations.false) (omega arith) c.in-Whole.ensures.made in
-    made-more chain c.requires.own walk (made-quiet chain.shape c.args.call.now c.if-load_next.ensures.grows)
+    let walk = made-unless _ (suc c.args.g == generations_of chain.shape) _
+    (size_of chain.shape c.args.g - c.args.from)
+    (not-last chain.shape c.args.g tables c.if-g-generations.false) (omega arith)
+    c.in-Whole.ensures.made in
+    made-more chain c.requires.own walk
+    (made-quiet chain.shape c.args.call.now c.if-load_next.ensures.grows)
 
 pub returns-then-load_next-clause-sought : goal.returns-then-load_next-clause-sought
 returns-then-load_next-clause-sought c =
     let chain = c.args.chain.now in
-    let table = table-within chain c.args.seat.now c.requires.own c.args.g c.requires.reached.installed in
+    let table = table-within chain c.args.seat.now c.requires.own c.args.g
+    c.requires.reached.installed in
     let own = made-own chain c.requires.own c.probe.ensures.made in
-    let lasting = steps_add_up.stays own (steps_add_up.one c.load_next.ensures.grows) in
-    (Whole (lasting.others c.args.g c.args.key (size_of chain.shape c.args.g) table c.in-Whole.ensures.ends), c.if-load_next.ensures.installed.0 refl)
+    let lasting = steps_add_up.stays own (steps_add_up.one c.load_next.ensures.grows) in (
+      Whole (lasting.others c.args.g c.args.key (size_of chain.shape c.args.g)
+          table c.in-Whole.ensures.ends),
+      c.if-load_next.ensures.installed.0 refl,
+    )
 
 pub returns-else-load_next-clause-made : goal.returns-else-load_next-clause-made
 returns-else-load_next-clause-made c =
     let chain = c.args.chain.now in
     let tables : c.generations.result ≡ generations_of chain.shape = search rules in
-    let walk = made-unless _ (suc c.args.g == generations_of chain.shape) _ (size_of chain.shape c.args.g - c.args.from)
-    (not-last chain.shape c.args.g tables c.if-g-generations.false) (omega arith) c.in-Whole.ensures.made in
-    subst (λ made. HasMade chain.shape c.args.call.now c.args.seat.now c.load_next.new.seat made (size_of chain.shape c.args.g - c.args.from + 1))
+    let walk = made-unless _ (suc c.args.g == generations_of chain.shape) _
+    (size_of chain.shape c.args.g - c.args.from)
+    (not-last chain.shape c.args.g tables c.if-g-generations.false) (omega arith)
+    c.in-Whole.ensures.made in
+    subst (λ made. HasMade chain.shape c.args.call.now c.args.seat.now c.load_next.new.seat made
+    (size_of chain.shape c.args.g - c.args.from + 1))
     (read-alone c.args.call.now None c.requires.alone)
-    (made-then c.requires.own walk (made-read chain.shape c.args.call.now (Some None) c.if-load_next.ensures.grows))
+    (made-then c.requires.own walk (made-read chain.shape c.args.call.now (Some None)
+    c.if-load_next.ensures.grows))
 
 -- the first slot of the path is another key's
-away : (c : After-load_next) → (AreOthers c.args.chain.now.shape (seen_by c.args.chain.now.shape c.load_next.new.seat) c.args.g c.args.key 1 → ⊥)
+away :
+    (c : After-load_next)
+    → (AreOthers c.args.chain.now.shape (seen_by c.args.chain.now.shape c.load_next.new.seat)
+    c.args.g c.args.key 1 → ⊥)
     → c.load_next.new.seat.steps ≤ c.args.seat.now.steps + 1
 away c home =
     let chain = c.args.chain.now in
-    let table = table-within chain c.args.seat.now c.requires.own c.args.g c.requires.reached.installed in
+    let table = table-within chain c.args.seat.now c.requires.own c.args.g
+    c.requires.reached.installed in
     let own = made-own chain c.requires.own c.probe.ensures.made in
-    let others = (steps_add_up.stays own (steps_add_up.one c.load_next.ensures.grows)).others c.args.g c.args.key _ table c.in-Whole.ensures.ends in
+    let others = (steps_add_up.stays own (steps_add_up.one c.load_next.ensures.grows)).others
+    c.args.g c.args.key _ table c.in-Whole.ensures.ends in
     absurd (home (λ e first. others e (omega (arith, first, c.requires.near))))
 
 pub returns-then-load_next-clause-short : goal.returns-then-load_next-clause-short
-returns-then-load_next-clause-short c = away (goal.at.returns-then-load_next-clause-short c).After-load_next
+returns-then-load_next-clause-short c = away
+    (goal.at.returns-then-load_next-clause-short c).After-load_next
 
 pub returns-else-load_next-clause-short : goal.returns-else-load_next-clause-short
-returns-else-load_next-clause-short c = away (goal.at.returns-else-load_next-clause-short c).After-load_next
+returns-else-load_next-clause-short c = away
+    (goal.at.returns-else-load_next-clause-short c).After-load_next

@@ -8,5 +8,6 @@ abbrev pub invariant-loop : goal.invariant-loop
 invariant-loop g l = record {
   can_next : (goal.iterator-loop g).can_next l.iterator';
   is_finite : (goal.iterator-loop g).is_finite l.iterator';
-  rounds : HasMade l.chain.shape l.call l.initial.seat l.seat [] (round_steps l.chain.shape (passed_since l.call l.initial.seat l.seat));
+  rounds : HasMade l.chain.shape l.call l.initial.seat l.seat []
+      (round_steps l.chain.shape (passed_since l.call l.initial.seat l.seat));
 }

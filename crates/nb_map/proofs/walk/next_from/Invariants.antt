@@ -5,7 +5,8 @@ use Rattle.nb_map.proofs.walk.next_from.Given as goal
 
 abbrev pub invariant-loop-place : goal.invariant-loop-place
 invariant-loop-place l =
-    HasGone l.chain.shape l.fn.seat l.seat l.first l.fn.place l.place None (passing_steps l.chain.shape l.fn.place l.place)
+    HasGone l.chain.shape l.fn.seat l.seat l.first l.fn.place l.place None
+    (passing_steps l.chain.shape l.fn.place l.place)
     × IsPlace l.chain.shape (seen_by l.chain.shape l.seat) l.first l.place
     × (slots_ahead l.chain.shape l.place ≤ slots_ahead l.chain.shape l.fn.place)
 

@@ -5,4 +5,5 @@ use Rattle.nb_map.proofs.walk.next_in.Given as goal
 
 abbrev pub invariant-loop-i : goal.invariant-loop-i
 invariant-loop-i l =
-    HasGone l.chain.shape l.fn.seat l.seat l.first (Slot l.g l.from) (Slot l.g l.i) None ((l.i - l.from) * visit_steps l.chain.shape)
+    HasGone l.chain.shape l.fn.seat l.seat l.first (Slot l.g l.from) (Slot l.g l.i) None
+    ((l.i - l.from) * visit_steps l.chain.shape)

@@ -12,29 +12,36 @@ exchange-requires-clause-own g c =
 pub exchange-requires-clause-reached : goal.exchange-requires-clause-reached
 exchange-requires-clause-reached g c =
     let chain = c.args.chain.now in
-    let table = table-within chain c.args.seat.now c.requires.own c.args.g c.requires.reached.installed in
-    reached-lasts chain.shape _ _ (made-stays chain c.requires.own c.aim.ensures.made) c.args.g c.args.key table
+    let table = table-within chain c.args.seat.now c.requires.own c.args.g
+    c.requires.reached.installed in
+    reached-lasts chain.shape _ _ (made-stays chain c.requires.own c.aim.ensures.made)
+    c.args.g c.args.key table
     c.requires.reached
 
 pub returns-in-Slot-clause-made : goal.returns-in-Slot-clause-made
 returns-in-Slot-clause-made g c =
-    made-written c.args.g c.args.tries c.exchange.result c.requires.own c.in-Slot.ensures.made c.exchange.ensures.made
+    made-written c.args.g c.args.tries c.exchange.result c.requires.own c.in-Slot.ensures.made
+    c.exchange.ensures.made
 
 pub returns-in-Slot-clause-written : goal.returns-in-Slot-clause-written
 returns-in-Slot-clause-written g c =
-    written-longer c.args.chain.now.shape c.args.call.now c.args.g c.args.tries c.in-Slot.ensures.made.grown
+    written-longer c.args.chain.now.shape c.args.call.now c.args.g c.args.tries
+    c.in-Slot.ensures.made.grown
     c.exchange.ensures.made.grown c.exchange.result c.exchange.ensures.written
 
 pub returns-in-Slot-clause-short : goal.returns-in-Slot-clause-short
 returns-in-Slot-clause-short g c alone =
     let chain = c.args.chain.now in
-    let table = table-within chain c.args.seat.now c.requires.own c.args.g c.requires.reached.installed in
+    let table = table-within chain c.args.seat.now c.requires.own c.args.g
+    c.requires.reached.installed in
     let aimed = c.in-Slot.ensures.made in
     let made = c.exchange.ensures.made in
     omega (
       arith,
       c.in-Slot.ensures.short
-          (home-before chain.shape _ _ (made-stays chain (made-own chain c.requires.own aimed) made) c.args.g _ table alone.home) alone.known,
-      alone-written c.args.g c.args.tries table (made-own chain c.requires.own aimed) c.exchange.result made c.exchange.ensures.written
+          (home-before chain.shape _ _ (made-stays chain (made-own chain c.requires.own aimed) made)
+          c.args.g _ table alone.home) alone.known,
+      alone-written c.args.g c.args.tries table (made-own chain c.requires.own aimed)
+          c.exchange.result made c.exchange.ensures.written
           (alone-then c.args.g table c.requires.own aimed.grown made.grown alone),
     )

@@ -16,7 +16,8 @@ pub loop-worker-preserved : goal.loop-worker-preserved
 loop-worker-preserved c = (
   tt,
   tt,
-  subst₂ (IsRetiring _ _) (sym c.push_reserved.ensures.items) (sym c.push_reserved-in-loop-worker.ensures.items)
+  subst₂ (IsRetiring _ _) (sym c.push_reserved.ensures.items)
+      (sym c.push_reserved-in-loop-worker.ensures.items)
       (retiring-more _ _ _ _ _ _ c.loop-worker.invariant.2 c.in-Some.ensures.steps.0),
   omega (arith, c.loop-worker.invariant.3, c.push_reserved.ensures.capacity),
   omega (arith, c.loop-worker.invariant.4, c.push_reserved-in-loop-worker.ensures.capacity),

@@ -11,9 +11,12 @@ loop-answer-preserved g c =
     let all = c.args.answers.now in
     let i = c.loop-answer.answer-index in
     let answer = c.answer-item.result in (
-      has-more (contents c.args.writer.now) (contents c.loop-answer.writer) (contents c.say_line.new.writer) c.args.waiting.now.items
-          c.loop-answer.waiting.items c.say_line.new.waiting.items (line answer) (flat_map line (drop i all)) (flat_map line (drop (i + 1) all))
-          (flat_map line all) c.loop-answer.invariant.0 c.in_ok-say_line.ensures.said (texts-next line all i answer c.loop-answer-test.true c.answer-item.is),
+      has-more (contents c.args.writer.now) (contents c.loop-answer.writer)
+          (contents c.say_line.new.writer) c.args.waiting.now.items
+          c.loop-answer.waiting.items c.say_line.new.waiting.items (line answer)
+          (flat_map line (drop i all)) (flat_map line (drop (i + 1) all))
+          (flat_map line all) c.loop-answer.invariant.0 c.in_ok-say_line.ensures.said
+          (texts-next line all i answer c.loop-answer-test.true c.answer-item.is),
       c.in_ok-say_line.ensures.marks,
     )
 
@@ -25,6 +28,9 @@ returns-in_err-say_line-clause-begun g c =
     let i = c.loop-answer.answer-index in
     let answer = c.answer-item.result in
     on-err c.from_residual.result
-    (some-of (contents c.args.writer.now) (contents c.loop-answer.writer) (contents c.say_line.new.writer) c.args.waiting.now.items
-    c.loop-answer.waiting.items (line answer) (flat_map line (drop i all)) (flat_map line (drop (i + 1) all)) (flat_map line all)
-    c.loop-answer.invariant.0 c.in_err-say_line.ensures.begun (texts-next line all i answer c.loop-answer-test.true c.answer-item.is))
+    (some-of (contents c.args.writer.now) (contents c.loop-answer.writer)
+    (contents c.say_line.new.writer) c.args.waiting.now.items
+    c.loop-answer.waiting.items (line answer) (flat_map line (drop i all))
+    (flat_map line (drop (i + 1) all)) (flat_map line all)
+    c.loop-answer.invariant.0 c.in_err-say_line.ensures.begun
+    (texts-next line all i answer c.loop-answer-test.true c.answer-item.is))

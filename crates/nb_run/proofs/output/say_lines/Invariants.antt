@@ -6,6 +6,8 @@ use Rattle.nb_run.proofs.output.say_lines.Given as goal
 
 abbrev pub invariant-loop-answer : goal.invariant-loop-answer
 invariant-loop-answer g l =
-    HasSaid (g.W.Sink.contents l.fn.writer) l.fn.waiting.items (g.W.Sink.contents l.writer) l.waiting.items
-    (flat_map (answer_line l.worker) (drop l.answer-index l.answers)) (flat_map (answer_line l.worker) l.answers)
+    HasSaid (g.W.Sink.contents l.fn.writer) l.fn.waiting.items (g.W.Sink.contents l.writer)
+    l.waiting.items
+    (flat_map (answer_line l.worker) (drop l.answer-index l.answers))
+    (flat_map (answer_line l.worker) l.answers)
     × (g.W.Sink.failed l.writer ≡ false)

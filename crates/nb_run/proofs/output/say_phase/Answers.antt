@@ -22,17 +22,25 @@ loop-worker-preserved g c =
     let count = c.count_of.result in
     let inv = c.loop-worker.invariant in
     let first = inv.3 i (omega arith) in
-    let part = flat_map (answer_line i) (take (length (commands_of i phase)) (drop (slice_index before i) list.items)) in
+    let part = flat_map (answer_line i) (take (length (commands_of i phase))
+    (drop (slice_index before i) list.items)) in
     let rest = phase_lines phase i (left before i (map items (drop i all))) in
     let rest' = phase_lines phase (i + 1) (left before (i + 1) (map items (drop (i + 1) all))) in
     let whole = phase_lines phase 0 (left before 0 (map items all)) in
-    let same = part-is i (slice_index now i) (slice_index before i) count (length (commands_of i phase)) c.as_slice.result.now list.items first c.count_of.ensures c.as_slice.ensures.value in (
-      has-more (contents c.args.writer.now) (contents c.loop-worker.writer) (contents c.say_lines.new.writer) c.args.waiting.now.items
+    let same = part-is i (slice_index now i) (slice_index before i) count
+    (length (commands_of i phase)) c.as_slice.result.now list.items first c.count_of.ensures
+    c.as_slice.ensures.value in (
+      has-more (contents c.args.writer.now) (contents c.loop-worker.writer)
+          (contents c.say_lines.new.writer) c.args.waiting.now.items
           c.loop-worker.waiting.items c.say_lines.new.waiting.items part rest rest' whole inv.0
-          (subst (Says (contents c.loop-worker.writer) c.loop-worker.waiting.items (contents c.say_lines.new.writer) c.say_lines.new.waiting.items) same c.in_ok-say_lines.ensures.said)
-          (lines-next items phase before all i list c.loop-worker-test.true c.index-answers-worker.is),
+          (subst (Says (contents c.loop-worker.writer) c.loop-worker.waiting.items
+          (contents c.say_lines.new.writer)
+          c.say_lines.new.waiting.items) same c.in_ok-say_lines.ensures.said)
+          (lines-next items phase before all i list c.loop-worker-test.true
+          c.index-answers-worker.is),
       c.in_ok-say_lines.ensures.marks,
-      done-more before now i (slice_index now i + count) (λ w. length (commands_of w phase)) (search rules) (omega (arith, first, c.count_of.ensures)) inv.2,
+      done-more before now i (slice_index now i + count) (λ w. length (commands_of w phase))
+          (search rules) (omega (arith, first, c.count_of.ensures)) inv.2,
       done-rest before now i (slice_index now i + count) inv.3,
     )
 
@@ -48,13 +56,18 @@ returns-in_err-say_lines-clause-begun g c =
     let list = c.index-answers-worker.result in
     let inv = c.loop-worker.invariant in
     let first = inv.3 i (omega arith) in
-    let part = flat_map (answer_line i) (take (length (commands_of i phase)) (drop (slice_index before i) list.items)) in
+    let part = flat_map (answer_line i) (take (length (commands_of i phase))
+    (drop (slice_index before i) list.items)) in
     let rest = phase_lines phase i (left before i (map items (drop i all))) in
     let rest' = phase_lines phase (i + 1) (left before (i + 1) (map items (drop (i + 1) all))) in
     let whole = phase_lines phase 0 (left before 0 (map items all)) in
-    let same = part-is i (slice_index now i) (slice_index before i) c.count_of.result (length (commands_of i phase)) c.as_slice.result.now list.items first c.count_of.ensures c.as_slice.ensures.value in
+    let same = part-is i (slice_index now i) (slice_index before i) c.count_of.result
+    (length (commands_of i phase)) c.as_slice.result.now list.items first c.count_of.ensures
+    c.as_slice.ensures.value in
     on-err c.from_residual.result
-    (some-of (contents c.args.writer.now) (contents c.loop-worker.writer) (contents c.say_lines.new.writer) c.args.waiting.now.items
+    (some-of (contents c.args.writer.now) (contents c.loop-worker.writer)
+    (contents c.say_lines.new.writer) c.args.waiting.now.items
     c.loop-worker.waiting.items part rest rest' whole inv.0
-    (subst (λ text. AppendsSome (contents c.loop-worker.writer) (contents c.say_lines.new.writer) (c.loop-worker.waiting.items ++ text)) same c.in_err-say_lines.ensures.begun)
+    (subst (λ text. AppendsSome (contents c.loop-worker.writer) (contents c.say_lines.new.writer)
+    (c.loop-worker.waiting.items ++ text)) same c.in_err-say_lines.ensures.begun)
     (lines-next items phase before all i list c.loop-worker-test.true c.index-answers-worker.is))

@@ -19,8 +19,10 @@ loop-phase-init g c =
     let lists : List (List Answer) = map (λ list. list.items) c.args.answers.now in
     let phases : List Phase = map (λ phase. phase.items) c.args.phases.now in
     let whole : Bytes = all_lines phases lists in (
-      subst₂ (λ waiting rest. HasSaid written [] written waiting rest whole) (sym c.new-waiting.ensures)
-          (ap (all_lines phases) (sym (left-all (replicate 8 0) 0 lists (none-done 8)))) (has-begun written [] whole),
+      subst₂ (λ waiting rest. HasSaid written [] written waiting rest whole)
+          (sym c.new-waiting.ensures)
+          (ap (all_lines phases) (sym (left-all (replicate 8 0) 0 lists (none-done 8))))
+          (has-begun written [] whole),
       c.requires.unfailed,
       λ w mine at.
           omega (
@@ -41,18 +43,28 @@ loop-phase-preserved g c =
     let before = c.loop-phase.done in
     let after = c.say_phase.new.done in
     let said = c.in_ok-say_phase.ensures in
-    let so_many : length lists ≡ length c.args.answers.now = length-map c.args.answers.now (λ list. list.items) in
-    let more : (k : ℕ) → 0 ≤ k → k < 0 + length lists → slice_index after k ≡ slice_index before k + length (commands_of k next.items) = λ k above below.
-    said.done k (omega (arith, below, so_many)) ∙ ap (λ phase. slice_index before k + length (commands_of k phase)) c.as_slice.ensures.value in (
-      has-more (contents c.args.writer.now) (contents c.loop-phase.writer) (contents c.say_phase.new.writer) [] c.loop-phase.waiting.items
-          c.say_phase.new.waiting.items (phase_lines next.items 0 (left before 0 lists)) (all_lines (map tasks_of (drop i all)) (left before 0 lists))
-          (all_lines (map tasks_of (drop (i + 1) all)) (left after 0 lists)) (all_lines (map tasks_of all) lists) c.loop-phase.invariant.0
+    let so_many : length lists ≡ length c.args.answers.now =
+    length-map c.args.answers.now (λ list. list.items) in
+    let more : (k : ℕ) → 0 ≤ k → k < 0 + length lists
+    → slice_index after k ≡ slice_index before k + length (commands_of k next.items) =
+    λ k above below.
+    said.done k (omega (arith, below, so_many))
+    ∙ ap (λ phase. slice_index before k + length (commands_of k phase))
+    c.as_slice.ensures.value in (
+      has-more (contents c.args.writer.now) (contents c.loop-phase.writer)
+          (contents c.say_phase.new.writer) [] c.loop-phase.waiting.items
+          c.say_phase.new.waiting.items (phase_lines next.items 0 (left before 0 lists))
+          (all_lines (map tasks_of (drop i all)) (left before 0 lists))
+          (all_lines (map tasks_of (drop (i + 1) all)) (left after 0 lists))
+          (all_lines (map tasks_of all) lists) c.loop-phase.invariant.0
           (subst
           (λ phase.
-          Says (contents c.loop-phase.writer) c.loop-phase.waiting.items (contents c.say_phase.new.writer) c.say_phase.new.waiting.items
+          Says (contents c.loop-phase.writer) c.loop-phase.waiting.items
+          (contents c.say_phase.new.writer) c.say_phase.new.waiting.items
           (phase_lines phase 0 (left before 0 lists)))
           c.as_slice.ensures.value said.said)
-          (phases-next tasks_of all (left before 0 lists) (left after 0 lists) i next c.loop-phase-test.true c.phase-item.is
+          (phases-next tasks_of all (left before 0 lists) (left after 0 lists)
+          i next c.loop-phase-test.true c.phase-item.is
           (left-after next.items before after 0 lists more)),
       said.marks,
       λ w mine at.
@@ -74,17 +86,23 @@ returns-in_err-say_phase-clause-begun g c =
     let next = c.phase-item.result in
     let before = c.loop-phase.done in
     let part : Bytes = phase_lines next.items 0 (left before 0 lists) in
-    let rest' : Bytes = all_lines (map tasks_of (drop (i + 1) all)) (after_phase next.items 0 (left before 0 lists)) in
+    let rest' : Bytes = all_lines (map tasks_of (drop (i + 1) all))
+    (after_phase next.items 0 (left before 0 lists)) in
     let whole : Bytes = all_lines (map tasks_of all) lists in
     on-err c.from_residual.result
-    (some-longer (contents c.args.writer.now) (contents c.say_phase.new.writer) whole (ending_of c.args.size c.args.entries.now)
-    (some-of (contents c.args.writer.now) (contents c.loop-phase.writer) (contents c.say_phase.new.writer) [] c.loop-phase.waiting.items part
-    (all_lines (map tasks_of (drop i all)) (left before 0 lists)) rest' whole c.loop-phase.invariant.0
+    (some-longer (contents c.args.writer.now) (contents c.say_phase.new.writer) whole
+    (ending_of c.args.size c.args.entries.now)
+    (some-of (contents c.args.writer.now) (contents c.loop-phase.writer)
+    (contents c.say_phase.new.writer) [] c.loop-phase.waiting.items part
+    (all_lines (map tasks_of (drop i all)) (left before 0 lists))
+    rest' whole c.loop-phase.invariant.0
     (subst
     (λ phase.
-    AppendsSome (contents c.loop-phase.writer) (contents c.say_phase.new.writer) (c.loop-phase.waiting.items ++ phase_lines phase 0 (left before 0 lists)))
+    AppendsSome (contents c.loop-phase.writer) (contents c.say_phase.new.writer)
+    (c.loop-phase.waiting.items ++ phase_lines phase 0 (left before 0 lists)))
     c.as_slice.ensures.value c.in_err-say_phase.ensures.begun)
-    (phases-next tasks_of all (left before 0 lists) (after_phase next.items 0 (left before 0 lists)) i next c.loop-phase-test.true c.phase-item.is refl)))
+    (phases-next tasks_of all (left before 0 lists) (after_phase next.items 0 (left before 0 lists))
+    i next c.loop-phase-test.true c.phase-item.is refl)))
 
 pub returns-in_err-say_ending-clause-begun : goal.returns-in_err-say_ending-clause-begun
 returns-in_err-say_ending-clause-begun g c =
@@ -93,11 +111,15 @@ returns-in_err-say_ending-clause-begun g c =
     let tasks_of : Vec (ℕ × Command) Global → Phase = λ phase. phase.items in
     let all = c.args.phases.now in
     let i = c.loop-phase.phase-index in
-    let over = ap (λ phases. all_lines (map tasks_of phases) (left c.loop-phase.done 0 lists)) (drop_all i all c.loop-phase-test.false) in
+    let over = ap (λ phases. all_lines (map tasks_of phases) (left c.loop-phase.done 0 lists))
+    (drop_all i all c.loop-phase-test.false) in
     on-err c.from_residual-in_err-say_ending.result
-    (some-last (contents c.args.writer.now) (contents c.loop-phase.writer) (contents c.say_ending.new.writer) c.loop-phase.waiting.items
-    (all_lines (map tasks_of (drop i all)) (left c.loop-phase.done 0 lists)) (all_lines (map tasks_of all) lists)
-    (ending_of c.args.size c.args.entries.now) c.loop-phase.invariant.0 over c.in_err-say_ending.ensures.begun)
+    (some-last (contents c.args.writer.now) (contents c.loop-phase.writer)
+    (contents c.say_ending.new.writer) c.loop-phase.waiting.items
+    (all_lines (map tasks_of (drop i all)) (left c.loop-phase.done 0 lists))
+    (all_lines (map tasks_of all) lists)
+    (ending_of c.args.size c.args.entries.now)
+    c.loop-phase.invariant.0 over c.in_err-say_ending.ensures.begun)
 
 pub returns-clause-begun : goal.returns-clause-begun
 returns-clause-begun g c =
@@ -106,9 +128,13 @@ returns-clause-begun g c =
     let tasks_of : Vec (ℕ × Command) Global → Phase = λ phase. phase.items in
     let all = c.args.phases.now in
     let i = c.loop-phase.phase-index in
-    let over = ap (λ phases. all_lines (map tasks_of phases) (left c.loop-phase.done 0 lists)) (drop_all i all c.loop-phase-test.false) in
+    let over = ap (λ phases. all_lines (map tasks_of phases) (left c.loop-phase.done 0 lists))
+    (drop_all i all c.loop-phase-test.false) in
     IfErr-weaker c.flush.result _ _ (λ e some.
-    some-flushed (contents c.args.writer.now) (contents c.loop-phase.writer) (contents c.say_ending.new.writer) (contents c.flush.new.writer)
-    c.loop-phase.waiting.items c.say_ending.new.waiting.items (all_lines (map tasks_of (drop i all)) (left c.loop-phase.done 0 lists))
-    (all_lines (map tasks_of all) lists) (ending_of c.args.size c.args.entries.now) c.loop-phase.invariant.0 over c.in_ok-say_ending.ensures.said some)
+    some-flushed (contents c.args.writer.now) (contents c.loop-phase.writer)
+    (contents c.say_ending.new.writer) (contents c.flush.new.writer)
+    c.loop-phase.waiting.items c.say_ending.new.waiting.items
+    (all_lines (map tasks_of (drop i all)) (left c.loop-phase.done 0 lists))
+    (all_lines (map tasks_of all) lists) (ending_of c.args.size c.args.entries.now)
+    c.loop-phase.invariant.0 over c.in_ok-say_ending.ensures.said some)
     c.flush.ensures.begun

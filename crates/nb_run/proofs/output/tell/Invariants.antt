@@ -9,8 +9,10 @@ use Rattle.nb_run.proofs.output.tell.Given as goal
 abbrev pub invariant-loop-phase : goal.invariant-loop-phase
 invariant-loop-phase g l =
     HasSaid (g.W.Sink.contents l.fn.writer) [] (g.W.Sink.contents l.writer) l.waiting.items
-    (all_lines (map (λ phase. phase.items) (drop l.phase-index l.phases)) (left l.done 0 (map (λ list. list.items) l.answers)))
+    (all_lines (map (λ phase. phase.items) (drop l.phase-index l.phases))
+    (left l.done 0 (map (λ list. list.items) l.answers)))
     (all_lines (map (λ phase. phase.items) l.phases) (map (λ list. list.items) l.answers))
     × (g.W.Sink.failed l.writer ≡ false)
     × ((w : ℕ) (mine : List Answer) → slice_get (map (λ list. list.items) l.answers) w ≡ Some mine
-    → slice_index l.done w + length (flat_map (commands_of w) (map (λ phase. phase.items) (drop l.phase-index l.phases))) ≡ length mine)
+    → slice_index l.done w + length (flat_map (commands_of w)
+    (map (λ phase. phase.items) (drop l.phase-index l.phases))) ≡ length mine)

@@ -19,11 +19,13 @@ returns-clause-ended g c =
     let script : HasReadScript p.seats unread unread' phases = search rules in
     let came : IsOutcome p phases c.in_ok-outcome.outcome = search rules in
     let told : OnOk c.tell.result (HasRun p unread unread' written written') =
-        IfOk-weaker c.tell.result _ _
-        (λ done appended. has-run p _ _ _ _ phases c.in_ok-outcome.outcome script came (search rules)) c.tell.ensures.told in
+    IfOk-weaker c.tell.result _ _
+    (λ done appended. has-run p _ _ _ _ phases c.in_ok-outcome.outcome script came
+    (search rules)) c.tell.ensures.told in
     let broken : IfErr c.tell.result (λ e. HasBrokenOff p unread unread' written written') =
-        IfErr-weaker c.tell.result _ _
-        (λ e some. has-broken p _ _ _ _ phases c.in_ok-outcome.outcome script came (search rules)) c.tell.ensures.begun in
+    IfErr-weaker c.tell.result _ _
+    (λ e some. has-broken p _ _ _ _ phases c.in_ok-outcome.outcome script came (search rules))
+    c.tell.ensures.begun in
     record { ok = search rules; due = search rules; read = search rules; write = search rules }
 
 pub returns-in_err-outcome-clause-ended : goal.returns-in_err-outcome-clause-ended
@@ -32,8 +34,10 @@ returns-in_err-outcome-clause-ended g c =
     let phases = phases_in c.in_ok-phases.phases.items in
     let unread' = g.R.Source.remaining c.read_script.new.reader in
     let written = g.W.Sink.contents c.args.writer.now in
-    let script : HasReadScript p.seats (g.R.Source.remaining c.args.reader.now) unread' phases = search rules in
-    let error = err_from_is_err_and c.from_residual-in_err-outcome.result c.from_residual-in_err-outcome.ensures.1 in
+    let script : HasReadScript p.seats (g.R.Source.remaining c.args.reader.now) unread' phases =
+    search rules in
+    let error = err_from_is_err_and c.from_residual-in_err-outcome.result
+    c.from_residual-in_err-outcome.ensures.1 in
     let memory : c.in_err-outcome.field-0.0 ≡ run.OutOfMemory = search rules in
     record {
       ok = search rules;

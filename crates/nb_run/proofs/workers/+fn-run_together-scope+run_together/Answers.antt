@@ -8,18 +8,22 @@ use Rattle.nb_run.proofs.workers.+fn-run_together-scope+run_together.Goals as go
 
 pub scope-push_reserved-requires : goal.scope-push_reserved-requires
 scope-push_reserved-requires g t c =
-    let count = length_all_zip (IsRun c.captures.map.now c.captures.phase.now) c.captures.workers.items c.in_ok-workers.workers.items
+    let count = length_all_zip (IsRun c.captures.map.now c.captures.phase.now)
+    c.captures.workers.items c.in_ok-workers.workers.items
     c.in_ok-workers.ensures.ran in
     omega (arith, c.in_ok-workers.workers.ok, c.in_ok-workers.ensures.room, c.requires.room, count)
 
 pub scope-returns : goal.scope-returns
 scope-returns g t c =
-    let ran : IsRun c.captures.map.now c.captures.phase.now c.captures.last c.join-ran.result = search rules in record {
+    let ran : IsRun c.captures.map.now c.captures.phase.now c.captures.last c.join-ran.result =
+    search rules in record {
       room = c.push_reserved.ensures.capacity ∙ c.in_ok-workers.ensures.room;
       ran =
-          subst (AllZip (IsRun c.captures.map.now c.captures.phase.now) (c.captures.workers.items ++ c.captures.last ∷ []))
+          subst (AllZip (IsRun c.captures.map.now c.captures.phase.now)
+          (c.captures.workers.items ++ c.captures.last ∷ []))
           (sym c.push_reserved.ensures.items)
-          (all-zip-push (IsRun c.captures.map.now c.captures.phase.now) c.captures.workers.items c.in_ok-workers.workers.items
+          (all-zip-push (IsRun c.captures.map.now c.captures.phase.now)
+          c.captures.workers.items c.in_ok-workers.workers.items
           c.captures.last c.join-ran.result c.in_ok-workers.ensures.ran ran);
     }
 
@@ -28,5 +32,6 @@ returns-then-busy-lt2-clause-ran g t c =
     let R : Worker → Worker → Type 0 = IsRun c.args.map.now c.args.phase.now in
     let whole : c.args.workers.items ≡ c.pop.new.self.items ++ c.in-Some.last ∷ [] = search rules in
     subst₂ (AllZip R) (sym whole) (sym c.push_reserved.ensures.items)
-    (all-zip-push R c.pop.new.self.items c.in_ok-workers.workers.items c.in-Some.last c.run-ran.result c.in_ok-workers.ensures.ran
+    (all-zip-push R c.pop.new.self.items c.in_ok-workers.workers.items c.in-Some.last
+    c.run-ran.result c.in_ok-workers.ensures.ran
     (c.run-ran.ensures.own, c.run-ran.ensures.ran))

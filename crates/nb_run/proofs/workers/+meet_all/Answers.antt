@@ -16,7 +16,8 @@ meet_all-workers-requires t c =
     let before = c.as_mut_slice.result.now in
     let between = c.meet_each.new.others in
     let each = c.meet_each.ensures.others in
-    let items = kept-back m (last.seat ∷ []) c.pop.new.self before between c.as_mut_slice.ensures.len each in (
+    let items = kept-back m (last.seat ∷ [])
+    c.pop.new.self before between c.as_mut_slice.ensures.len each in (
       omega (
         arith,
         ap length items,
@@ -26,7 +27,8 @@ meet_all-workers-requires t c =
         length-append c.pop.new.self.items (last ∷ []),
       ),
       subst (All (λ w. IsMine m w.seat)) (sym items)
-          (all-zip-right (HasMetAs m (last.seat ∷ [])) (λ w. IsMine m w.seat) (λ v w met. met.own) before between each),
+          (all-zip-right (HasMetAs m (last.seat ∷ [])) (λ w. IsMine m w.seat) (λ v w met. met.own)
+          before between each),
     )
 
 pub push_reserved-requires : goal.push_reserved-requires
@@ -39,9 +41,11 @@ push_reserved-requires t c =
     let back = (with_items c.pop.new.self between).items in
     omega (
       arith,
-      ap length (kept-back m (last.seat ∷ []) c.pop.new.self before between c.as_mut_slice.ensures.len each),
+      ap length (kept-back m (last.seat ∷ [])
+          c.pop.new.self before between c.as_mut_slice.ensures.len each),
       length_all_zip (HasMetAs m (last.seat ∷ [])) before between each,
-      length_all_zip (HasMetAs m (worker_seats back)) back c.meet_all-workers.result.items c.meet_all-workers.ensures.met,
+      length_all_zip (HasMetAs m (worker_seats back))
+          back c.meet_all-workers.result.items c.meet_all-workers.ensures.met,
       c.as_mut_slice.ensures.len,
       ap length c.in-Some.ensures.items,
       length-append c.pop.new.self.items (last ∷ []),
@@ -61,9 +65,12 @@ returns-clause-met t c =
     let between = c.meet_each.new.others in
     let after = c.meet_all-workers.result.items in
     let each = c.meet_each.ensures.others in
-    let items = c.in-Some.ensures.items ∙ ap (λ ws. ws ++ last ∷ []) (sym c.as_mut_slice.ensures.value) in
-    subst₂ (λ ws us. AllZip (HasMetAs m (worker_seats ws)) ws us) (sym items) (sym c.push_reserved.ensures.items)
+    let items = c.in-Some.ensures.items ∙ ap (λ ws. ws ++ last ∷ [])
+    (sym c.as_mut_slice.ensures.value) in
+    subst₂ (λ ws us. AllZip (HasMetAs m (worker_seats ws)) ws us) (sym items)
+    (sym c.push_reserved.ensures.items)
     (all-met m before between after last c.meet_each.new.seat
     c.meet_each.ensures.own c.meet_each.ensures.met each
     (subst (λ vs. AllZip (HasMetAs m (worker_seats vs)) vs after)
-    (kept-back m (last.seat ∷ []) c.pop.new.self before between c.as_mut_slice.ensures.len each) c.meet_all-workers.ensures.met))
+    (kept-back m (last.seat ∷ []) c.pop.new.self before between c.as_mut_slice.ensures.len each)
+    c.meet_all-workers.ensures.met))

@@ -5,7 +5,12 @@ use Rattle.nb_run.proofs.Meeting.{each-more, met-none, same-at}
 use Rattle.nb_run.proofs.workers.meet_each.Goals as goal
 
 pub loop-other-init : goal.loop-other-init
-loop-other-init c = (c.requires.own, met-none c.args.map.now c.args.seat.now c.requires.own, tt, refl)
+loop-other-init c = (
+  c.requires.own,
+  met-none c.args.map.now c.args.seat.now c.requires.own,
+  tt,
+  refl,
+)
 
 pub meet-requires-clause-b_own : goal.meet-requires-clause-b_own
 meet-requires-clause-b_own c =
@@ -14,7 +19,8 @@ meet-requires-clause-b_own c =
     let i = c.loop-other.other-index in
     let d = c.other-item.result in
     let below : i < length now = omega (arith, c.loop-other-test.true, c.loop-other.auto.others) in
-    subst (λ w. IsMine c.args.map.now w.seat) (sym (same-at workers now i d c.loop-other-test.true below c.loop-other.invariant.3))
+    subst (λ w. IsMine c.args.map.now w.seat)
+    (sym (same-at workers now i d c.loop-other-test.true below c.loop-other.invariant.3))
     (c.requires.others i d c.loop-other-test.true)
 
 pub loop-other-preserved : goal.loop-other-preserved
@@ -28,7 +34,8 @@ loop-other-preserved c =
     let worker = get_or now i d in
     let below : i < length now = omega (arith, c.loop-other-test.true, c.loop-other.auto.others) in
     let at : worker ≡ get_or workers i worker =
-    same-at workers now i d c.loop-other-test.true below inv.3 ∙ get_or_default workers i d worker c.loop-other-test.true in
+    same-at workers now i d c.loop-other-test.true below inv.3
+    ∙ get_or_default workers i d worker c.loop-other-test.true in
     each-more m workers now i worker c.args.seat.now c.loop-other.seat c.meet.new.a c.meet.new.b
     c.loop-other-test.true below at inv.3 c.meet.ensures.a_own c.meet.ensures.b_own inv.1 inv.2
     (c.meet.ensures.a.0, c.meet.ensures.a.1, c.meet.ensures.a_grows.0, c.meet.ensures.a_grows.2)

@@ -9,5 +9,6 @@ abbrev pub invariant-loop-other : goal.invariant-loop-other
 invariant-loop-other l =
     IsMine l.map l.seat
     × HasMet l.map (worker_seats (take l.other-index l.fn.others)) l.fn.seat l.seat
-    × AllZip (HasMetAs l.map (l.fn.seat ∷ [])) (take l.other-index l.fn.others) (take l.other-index l.others)
+    × AllZip (HasMetAs l.map (l.fn.seat ∷ [])) (take l.other-index l.fn.others)
+    (take l.other-index l.others)
     × (drop l.other-index l.others ≡ drop l.other-index l.fn.others)

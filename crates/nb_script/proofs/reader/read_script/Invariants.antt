@@ -6,7 +6,8 @@ use Rattle.nb_script.proofs.reader.read_script.Given as goal
 abbrev pub invariant-loop-count : goal.invariant-loop-count
 invariant-loop-count g l =
     HasRead l.seats (g.R.Source.remaining l.fn.reader) (g.R.Source.remaining l.reader) l.lines
-    × (g.R.Source.failed l.reader ≡ false) × (g.R.Source.ended l.reader ≡ false) × (length l.piece ≡ 4096)
+    × (g.R.Source.failed l.reader ≡ false) × (g.R.Source.ended l.reader ≡ false)
+    × (length l.piece ≡ 4096)
 
 abbrev pub decreases-loop-count : goal.decreases-loop-count
 decreases-loop-count g l = room l.lines

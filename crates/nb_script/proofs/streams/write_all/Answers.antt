@@ -12,7 +12,8 @@ loop-rest-preserved g c =
         all = append_assoc before.written (take n rest) c.split_at.result.1.now
             ∙ ap (λ bs. before.written ++ (take n rest ++ bs)) c.split_at.ensures.back
             ∙ ap (λ bs. before.written ++ bs) (take-append-drop n rest) ∙ before.all;
-        appended = Appends-trans _ _ _ before.written (take n rest) before.appended c.in_ok-count.ensures.bytes;
+        appended = Appends-trans _ _ _ before.written (take n rest)
+            before.appended c.in_ok-count.ensures.bytes;
       },
       c.in_ok-count.ensures.marks,
     )

@@ -10,7 +10,8 @@ pub record HasWritten (bytes rest : Bytes) (old new : Option Bytes) : Type 0 whe
   pub appended : Appends old new written
 
 abbrev pub invariant-loop-rest : goal.invariant-loop-rest
-invariant-loop-rest g l = HasWritten l.bytes l.rest (g.W.Sink.contents l.fn.writer) (g.W.Sink.contents l.writer) × (g.W.Sink.failed l.writer ≡ false)
+invariant-loop-rest g l = HasWritten l.bytes l.rest (g.W.Sink.contents l.fn.writer)
+    (g.W.Sink.contents l.writer) × (g.W.Sink.failed l.writer ≡ false)
 
 abbrev pub decreases-loop-rest : goal.decreases-loop-rest
 decreases-loop-rest g l = length l.rest

@@ -29,4 +29,5 @@ loop-seat-preserved c = (
 )
 
 pub returns : goal.returns
-returns c = all-moved c.loop-seat.invariant.2 (omega (arith, c.in-None.ensures.steps, c.loop-seat.seat-iterator.rest.ok))
+returns c = all-moved c.loop-seat.invariant.2
+    (omega (arith, c.in-None.ensures.steps, c.loop-seat.seat-iterator.rest.ok))

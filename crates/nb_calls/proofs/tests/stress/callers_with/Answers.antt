@@ -8,5 +8,6 @@ loop-seat-smaller c = omega (arith, c.in-Some.ensures.len)
 
 pub loop-seat-preserved : goal.loop-seat-preserved
 loop-seat-preserved c =
-    moved-one (IsMine c.args.map.now) (λ caller. IsMine c.args.map.now caller.seat) _ _ _ _ _ _ c.loop-seat.invariant
+    moved-one (IsMine c.args.map.now) (λ caller. IsMine c.args.map.now caller.seat)
+    _ _ _ _ _ _ c.loop-seat.invariant
     c.in-Some.ensures.items (λ own. own) c.in_ok-push.ensures.items

@@ -8,5 +8,6 @@ loop-caller-smaller c = omega (arith, c.in-Some.ensures.len)
 
 pub loop-caller-preserved : goal.loop-caller-preserved
 loop-caller-preserved c =
-    moved-one (λ caller. IsMine c.args.map.now caller.seat) (IsMine c.args.map.now) _ _ _ _ _ _ c.loop-caller.invariant
+    moved-one (λ caller. IsMine c.args.map.now caller.seat) (IsMine c.args.map.now)
+    _ _ _ _ _ _ c.loop-caller.invariant
     c.in-Some.ensures.items (λ own. own) c.in_ok-push.ensures.items

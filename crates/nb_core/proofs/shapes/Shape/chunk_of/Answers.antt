@@ -14,6 +14,7 @@ returns-clause-power c =
       min size plan.chunk.0,
       le-min sizes.0 plan.chunk.1,
       omega (arith, min-le_right size plan.chunk.0, plan.chunk.2),
-      c.min.ensures ∙ (λ i. min (c.size_of.ensures.size i) (kept i)) ∙ ap (λ n. min (2 ^ size) n) plan.chunk.3
+      c.min.ensures ∙ (λ i. min (c.size_of.ensures.size i) (kept i))
+          ∙ ap (λ n. min (2 ^ size) n) plan.chunk.3
           ∙ sym (smaller-power size plan.chunk.0),
     )

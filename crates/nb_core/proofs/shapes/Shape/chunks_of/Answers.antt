@@ -5,7 +5,8 @@ use Rattle.nb_core.proofs.Powers.{trailing-power}
 use Rattle.nb_core.proofs.shapes.Shape.chunks_of.Goals as goal
 
 exponent-is : (chunk : ℕ) (power : IsChunk chunk) → trailing_zeros w64 chunk ≡ power.0
-exponent-is chunk power = ap (trailing_zeros w64) power.3 ∙ trailing-power power.0 (omega (arith, power.2))
+exponent-is chunk power = ap (trailing_zeros w64) power.3
+    ∙ trailing-power power.0 (omega (arith, power.2))
 
 pub overflow_shr-result : goal.overflow_shr-result
 overflow_shr-result c =

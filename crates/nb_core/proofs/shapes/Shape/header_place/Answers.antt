@@ -13,4 +13,8 @@ index-is Take = refl
 index-is Done = refl
 
 pub returns : goal.returns
-returns c = omega (arith, bases-at _ _ c.args.g c.self.invariant c.self.view_is c.requires, index-is c.args.word)
+returns c = omega (
+  arith,
+  bases-at _ _ c.args.g c.self.invariant c.self.view_is c.requires,
+  index-is c.args.word,
+)

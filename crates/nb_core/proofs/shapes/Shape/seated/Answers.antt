@@ -10,11 +10,21 @@ overflow_add-words c =
 
 pub overflow_add-words-in-loop-g : goal.overflow_add-words-in-loop-g
 overflow_add-words-in-loop-g c =
-    omega (arith, c.loop-g.invariant.words, table-fits c.args.exponents.now c.loop-g.g c.requires.sizes c.loop-g-test.true, end_of-le c.args.exponents.now c.loop-g.g c.requires.sizes c.loop-g.auto.g-end)
+    omega (
+      arith,
+      c.loop-g.invariant.words,
+      table-fits c.args.exponents.now c.loop-g.g c.requires.sizes c.loop-g-test.true,
+      end_of-le c.args.exponents.now c.loop-g.g c.requires.sizes c.loop-g.auto.g-end,
+    )
 
 pub loop-g-preserved : goal.loop-g-preserved
 loop-g-preserved c =
-    AreLaid-more _ _ _ _ _ _ c.loop-g.invariant c.loop-g-test.true c.requires.few_tables (omega (arith, table-fits c.args.exponents.now c.loop-g.g c.requires.sizes c.loop-g-test.true))
+    AreLaid-more _ _ _ _ _ _ c.loop-g.invariant c.loop-g-test.true c.requires.few_tables
+    (omega (
+      arith,
+      table-fits c.args.exponents.now c.loop-g.g c.requires.sizes
+          c.loop-g-test.true,
+    ))
 
 abbrev seated_plan : goal.After-loop-g → Plan
 seated_plan c = plan c.args.exponents.now c.args.seats c.args.stripes
@@ -32,8 +42,11 @@ plan_is c = record {
 }
 
 pub invariant_of-result : goal.invariant_of-result
-invariant_of-result c = IsInside-laid (seated_plan c) _ _ _ _ (plan_is c) (omega arith) c.loop-g.invariant
+invariant_of-result c = IsInside-laid (seated_plan c) _ _ _ _ (plan_is c) (omega arith)
+    c.loop-g.invariant
 
 pub returns : goal.returns
 returns c =
-    ap (λ (p : Plan). Ok p) (plan_of-laid (seated_plan c) _ _ _ _ (plan_is c) (omega arith) c.loop-g.invariant) ∙ sym (seated-plan c.args.exponents.now c.args.seats c.args.stripes (plan_is c))
+    ap (λ (p : Plan). Ok p) (plan_of-laid (seated_plan c) _ _ _ _ (plan_is c) (omega arith)
+    c.loop-g.invariant) ∙ sym (seated-plan c.args.exponents.now c.args.seats c.args.stripes
+    (plan_is c))

@@ -6,18 +6,24 @@ use Rattle.nb_core.proofs.shapes.Shape.with_plan.Goals as goal
 
 pub returns-then-not-is_sorted : goal.returns-then-not-is_sorted
 returns-then-not-is_sorted c =
-    let few : (1 ≤ length c.args.exponents.now) × (length c.args.exponents.now ≤ 16) = search rules in
+    let few : (1 ≤ length c.args.exponents.now) × (length c.args.exponents.now ≤ 16) =
+    search rules in
     let sizes : All (λ (e : ℕ). (2 ≤ e) × (e ≤ 19)) c.args.exponents.now = search rules in
     let tested = never_falls-is _ _ (non_decreasing_from_is_sorted _ _ c.is_sorted.ensures.cases) in
-    sym (checked_plan-falls c.args.exponents.now c.args.seats c.args.stripes few sizes (tested ∙ c.if-not-is_sorted.true))
+    sym (checked_plan-falls c.args.exponents.now c.args.seats c.args.stripes few sizes
+    (tested ∙ c.if-not-is_sorted.true))
 
 pub seated-requires-clause-never_fall : goal.seated-requires-clause-never_fall
 seated-requires-clause-never_fall c =
-    rw c.if-not-is_sorted.false at (non_decreasing_from_is_sorted c.args.exponents.now c.is_sorted.result c.is_sorted.ensures.cases)
+    rw c.if-not-is_sorted.false at (non_decreasing_from_is_sorted c.args.exponents.now
+    c.is_sorted.result c.is_sorted.ensures.cases)
 
 pub returns : goal.returns
 returns c =
-    let few : (1 ≤ length c.args.exponents.now) × (length c.args.exponents.now ≤ 16) = search rules in
+    let few : (1 ≤ length c.args.exponents.now) × (length c.args.exponents.now ≤ 16) =
+    search rules in
     let sizes : All (λ (e : ℕ). (2 ≤ e) × (e ≤ 19)) c.args.exponents.now = search rules in
     let tested = never_falls-is _ _ (non_decreasing_from_is_sorted _ _ c.is_sorted.ensures.cases) in
-    c.seated.ensures ∙ sym (checked_plan-rises c.args.exponents.now c.args.seats c.args.stripes few sizes (tested ∙ c.if-not-is_sorted.false))
+    c.seated.ensures
+    ∙ sym (checked_plan-rises c.args.exponents.now c.args.seats c.args.stripes few sizes
+    (tested ∙ c.if-not-is_sorted.false))

@@ -8,7 +8,8 @@ use Rattle.nb_count.proofs.Keeping.{splits}
 use Rattle.nb_count.proofs.counter.Counter.new.Goals as goal
 
 pub of_words-requires : goal.of_words-requires
-of_words-requires c = opens-zeros (record { stripes = c.args.stripes; seats = c.args.seats }) c.requires.stripes.1
+of_words-requires c = opens-zeros (record { stripes = c.args.stripes; seats = c.args.seats })
+    c.requires.stripes.1
 
 pub loop-number-init : goal.loop-number-init
 loop-number-init c = (
@@ -19,13 +20,18 @@ loop-number-init c = (
 
 pub split_seat-seat-requires : goal.split_seat-seat-requires
 split_seat-seat-requires c =
-    let count = count-words (record { stripes = c.args.stripes; seats = c.args.seats }) c.requires.stripes.1 in
+    let count = count-words (record { stripes = c.args.stripes; seats = c.args.seats })
+    c.requires.stripes.1 in
     let words = c.in_ok-table.ensures.0 in
     (c.loop-number.invariant.0, omega (arith, words, count, c.requires.stripes.0), splits _ _ _)
 
 pub invariant_of-push_reserved : goal.invariant_of-push_reserved
 invariant_of-push_reserved c =
-    let s : Inside = record { place = SPREAD * (c.loop-number.number % c.args.stripes); seat = c.split_seat-seat.result } in
+    let s : Inside = record {
+      place = SPREAD * (c.loop-number.number % c.args.stripes);
+      seat =
+          c.split_seat-seat.result;
+    } in
     let next = dealing-next c.loop-number.invariant.1 c.loop-number-test.true in
     let count = count-words (record { stripes = c.args.stripes; seats = c.args.seats })
     c.requires.stripes.1 in

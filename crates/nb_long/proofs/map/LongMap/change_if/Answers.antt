@@ -2,19 +2,28 @@ use Rattle.nb_long.proofs.Compared.{changed-then, idled-none, idled-then, if-err
 use Rattle.nb_long.proofs.map.LongMap.change_if.Goals as goal
 
 pub loop-init : goal.loop-init
-loop-init g c = record { can_next = tt; is_finite = tt; own = c.requires.own; idle = idled-none c.requires.own }
+loop-init g c = record {
+  can_next = tt;
+  is_finite = tt;
+  own = c.requires.own;
+  idle =
+      idled-none c.requires.own;
+}
 
 pub change_once-requires-clause-own : goal.change_once-requires-clause-own
 change_once-requires-clause-own g c = c.loop.invariant.own
 
 pub returns-in_err-changed-clause-unshown : goal.returns-in_err-changed-clause-unshown
 returns-in_err-changed-clause-unshown g c =
-    if-err c.from_residual.result (unshown-then c.loop.invariant.idle c.in_err-changed.ensures.unshown)
+    if-err c.from_residual.result
+    (unshown-then c.loop.invariant.idle c.in_err-changed.ensures.unshown)
 
 pub returns-in-Some-2-clause-changed : goal.returns-in-Some-2-clause-changed
 returns-in-Some-2-clause-changed g c =
-    changed-then g.V.PartialEq.eq c.args.self.now c.args.key c.args.value.now c.args.change.now c.args.seat.now c.loop.seat c.change_once.new.seat
-    c.in-Some-2.changed.before c.in-Some-2.changed.done c.loop.invariant.idle (rw c.in-Some-2.is at c.in_ok-changed.ensures.changed)
+    changed-then g.V.PartialEq.eq c.args.self.now c.args.key c.args.value.now c.args.change.now
+    c.args.seat.now c.loop.seat c.change_once.new.seat
+    c.in-Some-2.changed.before c.in-Some-2.changed.done c.loop.invariant.idle
+    (rw c.in-Some-2.is at c.in_ok-changed.ensures.changed)
 
 pub loop-preserved : goal.loop-preserved
 loop-preserved g c = record {

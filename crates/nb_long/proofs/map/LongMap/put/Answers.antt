@@ -8,7 +8,14 @@ use Rattle.nb_long.proofs.map.LongMap.put.Goals as goal
 pub returns-in-Ok-clause-written : goal.returns-in-Ok-clause-written
 returns-in-Ok-clause-written g c =
     let m : LongMapOf = record { map = c.self.inside.map; store = c.self.inside.store } in
-    let stored : Stored g.row.V.Denot = record { before = c.in-Ok.before; done = true; receipt = c.in_ok-receipt.receipt } in
-    subst (λ m. HasWritten m c.args.key want.Any c.args.value c.args.seat.now c.put.new.seat stored) c.self.view_is
-    (written-as m c.args.key want.Any c.args.value c.args.seat.now c.put.new.seat stored c.number.result c.number.ensures c.in_ok-receipt.ensures.stored
+    let stored : Stored g.row.V.Denot = record {
+      before = c.in-Ok.before;
+      done = true;
+      receipt =
+          c.in_ok-receipt.receipt;
+    } in
+    subst (λ m. HasWritten m c.args.key want.Any c.args.value c.args.seat.now c.put.new.seat stored)
+    c.self.view_is
+    (written-as m c.args.key want.Any c.args.value c.args.seat.now c.put.new.seat stored
+    c.number.result c.number.ensures c.in_ok-receipt.ensures.stored
     c.in-Ok.ensures.found refl c.in-Ok.ensures.lock_free)

@@ -8,8 +8,15 @@ use Rattle.nb_long.proofs.map.LongMap.put_if_absent.Goals as goal
 pub returns-in-Ok-clause-written : goal.returns-in-Ok-clause-written
 returns-in-Ok-clause-written g c =
     let m : LongMapOf = record { map = c.self.inside.map; store = c.self.inside.store } in
-    let stored : Stored g.row.V.Denot = record { before = c.in-Ok.before; done = c.is_none.result; receipt = c.in_ok-receipt.receipt } in
-    subst (λ m. HasWritten m c.args.key want.Absent c.args.value c.args.seat.now c.put_if_absent.new.seat stored) c.self.view_is
-    (written-as m c.args.key want.Absent c.args.value c.args.seat.now c.put_if_absent.new.seat stored c.number.result c.number.ensures
-    c.in_ok-receipt.ensures.stored c.in-Ok.ensures.found (is-new c.in-Ok.before c.is_none.result c.is_none.ensures)
+    let stored : Stored g.row.V.Denot = record {
+      before = c.in-Ok.before;
+      done = c.is_none.result;
+      receipt = c.in_ok-receipt.receipt;
+    } in
+    subst (λ m. HasWritten m c.args.key want.Absent c.args.value c.args.seat.now
+    c.put_if_absent.new.seat stored) c.self.view_is
+    (written-as m c.args.key want.Absent c.args.value c.args.seat.now c.put_if_absent.new.seat
+    stored c.number.result c.number.ensures
+    c.in_ok-receipt.ensures.stored c.in-Ok.ensures.found
+    (is-new c.in-Ok.before c.is_none.result c.is_none.ensures)
     c.in-Ok.ensures.lock_free)

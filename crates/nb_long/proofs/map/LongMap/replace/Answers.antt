@@ -8,7 +8,15 @@ use Rattle.nb_long.proofs.map.LongMap.replace.Goals as goal
 pub returns-clause-written : goal.returns-clause-written
 returns-clause-written g c =
     let m : LongMapOf = record { map = c.self.inside.map; store = c.self.inside.store } in
-    let stored : Stored g.row.V.Denot = record { before = c.replace-before.result; done = c.is_some.result; receipt = c.in_ok-receipt.receipt } in
-    subst (λ m. HasWritten m c.args.key want.Present c.args.value c.args.seat.now c.replace-before.new.seat stored) c.self.view_is
-    (written-as m c.args.key want.Present c.args.value c.args.seat.now c.replace-before.new.seat stored c.number.result c.number.ensures
-    c.in_ok-receipt.ensures.stored c.replace-before.ensures.found c.is_some.ensures c.replace-before.ensures.lock_free)
+    let stored : Stored g.row.V.Denot = record {
+      before = c.replace-before.result;
+      done =
+          c.is_some.result;
+      receipt = c.in_ok-receipt.receipt;
+    } in
+    subst (λ m. HasWritten m c.args.key want.Present c.args.value c.args.seat.now
+    c.replace-before.new.seat stored) c.self.view_is
+    (written-as m c.args.key want.Present c.args.value c.args.seat.now c.replace-before.new.seat
+    stored c.number.result c.number.ensures
+    c.in_ok-receipt.ensures.stored c.replace-before.ensures.found c.is_some.ensures
+    c.replace-before.ensures.lock_free)

@@ -7,4 +7,5 @@ use Rattle.nb_map.proofs.ended.Ended.entries.Goals as goal
 pub returns : goal.returns
 returns c =
     subst (λ m. IfOk c.entries.result (λ entries. entries.items ≡ map.entries m))
-    (left-map c.self.inside.closed c.self.invariant.left ∙ ap map_left c.self.view_is) c.entries.ensures
+    (left-map c.self.inside.closed c.self.invariant.left ∙ ap map_left c.self.view_is)
+    c.entries.ensures

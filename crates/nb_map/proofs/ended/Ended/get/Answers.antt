@@ -7,4 +7,5 @@ use Rattle.nb_map.proofs.ended.Ended.get.Goals as goal
 pub returns : goal.returns
 returns c =
     c.get.ensures
-    ∙ ap (λ m. map.get m c.args.key) (left-map c.self.inside.closed c.self.invariant.left ∙ ap map_left c.self.view_is)
+    ∙ ap (λ m. map.get m c.args.key) (left-map c.self.inside.closed c.self.invariant.left
+    ∙ ap map_left c.self.view_is)

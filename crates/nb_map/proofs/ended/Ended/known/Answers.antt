@@ -8,4 +8,5 @@ pub returns-clause-replayed : goal.returns-clause-replayed
 returns-clause-replayed c =
     let left = c.self.invariant.left in
     subst (λ ended. IsReplayed (log_left ended)) c.self.view_is
-    (log_is_replayed c.self.inside.closed.shape left.plan c.self.inside.closed.history left.legal).replayed
+    (log_is_replayed c.self.inside.closed.shape left.plan c.self.inside.closed.history
+    left.legal).replayed

@@ -19,15 +19,18 @@ close-requires-2 c =
 
 -- what is known of the seats, once both are closed
 gathered :
-    (c : goal.In-Ok-Ok) → AreGathered c.args.self.chain.shape c.args.seats.items c.parted-chain_seats.result.0.items c.parted-chain_seats.result.1.items c.in-Ok-Ok.closed
+    (c : goal.In-Ok-Ok) → AreGathered c.args.self.chain.shape c.args.seats.items
+    c.parted-chain_seats.result.0.items c.parted-chain_seats.result.1.items c.in-Ok-Ok.closed
 gathered c = record {
   parted = c.parted-chain_seats.ensures;
   shape = c.in-Ok-Ok.ensures.shape ∙ ap (λ m. m.chain.shape) c.self.view_is;
   closed_with = c.in-Ok-Ok.ensures.closed;
   all =
-      sym (length-map c.args.seats.items (λ seat. seat.chain)) ∙ ap length (sym c.parted-chain_seats.ensures.of_chain)
+      sym (length-map c.args.seats.items (λ seat. seat.chain))
+      ∙ ap length (sym c.parted-chain_seats.ensures.of_chain)
       ∙ c.in-Ok-Ok.ensures.all.0 refl ∙ ap (λ m. m.chain.shape.seats) c.self.view_is;
-  counted = All-weaker (IsMine c.args.self) HasCounted (λ seat mine. mine.counted) c.args.seats.items c.requires.own;
+  counted = All-weaker (IsMine c.args.self) HasCounted (λ seat mine. mine.counted)
+      c.args.seats.items c.requires.own;
 }
 
 pub invariant_of-result : goal.invariant_of-result
@@ -40,4 +43,9 @@ pub returns-clause-ended : goal.returns-clause-ended
 returns-clause-ended c = ended-with _ _ _ _ _ (gathered c) c.in-Ok-Ok.size c.in-Ok-Ok.ensures'.sum
 
 pub returns-clause-tables : goal.returns-clause-tables
-returns-clause-tables c = record { shape = (gathered c).shape; left = c.in-Ok-Ok.ensures.closed.left; seen = seen _ _ _ _ _ (gathered c) }
+returns-clause-tables c = record {
+  shape = (gathered c).shape;
+  left =
+      c.in-Ok-Ok.ensures.closed.left;
+  seen = seen _ _ _ _ _ (gathered c);
+}

@@ -19,11 +19,13 @@ returns-clause-replied c =
 pub returns-clause-worked : goal.returns-clause-worked
 returns-clause-worked c =
     let after : SeatOf = record { chain = c.get_in.new.seat; count = c.seat.inside.count } in
-    subst₂ (λ map before. HasWorked map (call.Get c.args.key) before after (get_steps map.chain.shape)) c.self.view_is c.seat.view_is
+    subst₂ (λ map before. HasWorked map (call.Get c.args.key) before after
+    (get_steps map.chain.shape)) c.self.view_is c.seat.view_is
     (worked-uncounted {after = after} c.get_in.ensures.made refl)
 
 pub returns-clause-own : goal.returns-clause-own
 returns-clause-own c =
     let mine = subst₂ IsMine (sym c.self.view_is) (sym c.seat.view_is) c.requires.own in
     let after : SeatOf = record { chain = c.get_in.new.seat; count = c.seat.inside.count } in
-    subst (λ map. IsMine map after) c.self.view_is (uncounted-mine {after = after} mine c.get_in.ensures.made refl refl)
+    subst (λ map. IsMine map after) c.self.view_is
+    (uncounted-mine {after = after} mine c.get_in.ensures.made refl refl)

@@ -28,7 +28,8 @@ loop-chain-init c =
 pub push_reserved-requires : goal.push_reserved-requires
 push_reserved-requires c =
     let many = dealing-count c.loop-chain.invariant.0 in
-    let shape = ap (λ v. v.shape.seats) c.chain.view_is ∙ ap (λ q. q.seats) c.in_ok-chain.ensures.chain in
+    let shape = ap (λ v. v.shape.seats) c.chain.view_is
+    ∙ ap (λ q. q.seats) c.in_ok-chain.ensures.chain in
     omega (arith, many, shape, c.loop-chain.invariant, c.in-Some.ensures, c.pop.ensures)
 
 pub loop-chain-smaller-in-Some-pop : goal.loop-chain-smaller-in-Some-pop
@@ -54,12 +55,14 @@ loop-chain-preserved c =
 pub invariant_of-map : goal.invariant_of-map
 invariant_of-map c = record {
   plan = subst IsPlan (sym c.in_ok-chain.ensures.chain) c.seats.ensures.plan;
-  seats = c.in_ok-counter.ensures.counter.1 ∙ c.seats-2.ensures.number ∙ ap (λ q. q.seats) (sym c.in_ok-chain.ensures.chain);
+  seats = c.in_ok-counter.ensures.counter.1 ∙ c.seats-2.ensures.number
+      ∙ ap (λ q. q.seats) (sym c.in_ok-chain.ensures.chain);
 }
 
 pub returns-clause-seats : goal.returns-clause-seats
 returns-clause-seats c =
-    let none = nil_from_length c.loop-chain.chain_seats.items (omega (arith, c.in_default.ensures)) in
+    let none = nil_from_length c.loop-chain.chain_seats.items
+    (omega (arith, c.in_default.ensures)) in
     let counter = c.in_ok-counter.counter in
     c.reverse.ensures.items ∙ dealing-done c.loop-chain.invariant.0 none
     ∙ ap (λ chain. new_seats (record { chain = chain; counter = counter }) chain.shape.seats)
@@ -70,7 +73,8 @@ returns-clause-seats c =
 pub returns-clause-own : goal.returns-clause-own
 returns-clause-own c =
     new-mine (record { chain = c.in_ok-chain.chain; counter = c.in_ok-counter.counter })
-    (subst IsPlan (sym c.in_ok-chain.ensures.chain) c.seats.ensures.plan) _ _ (returns-clause-seats c)
+    (subst IsPlan (sym c.in_ok-chain.ensures.chain) c.seats.ensures.plan) _ _
+    (returns-clause-seats c)
 
 pub returns-clause-plan : goal.returns-clause-plan
 returns-clause-plan c = subst IsPlan (sym c.in_ok-chain.ensures.chain) c.seats.ensures.plan

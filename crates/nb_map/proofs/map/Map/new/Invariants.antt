@@ -5,8 +5,10 @@ use Rattle.nb_map.proofs.map.Map.new.Given as goal
 
 abbrev pub invariant-loop-chain : goal.invariant-loop-chain
 invariant-loop-chain l =
-    IsDealing (record { chain = chain_of l.chain-inside; counter = l.counter }) l.chain_seats.items l.count_seats.items l.seats.items
-    × (l.fn.shape.seats ≤ vec_capacity l.chain_seats) × (l.fn.shape.seats ≤ vec_capacity l.count_seats)
+    IsDealing (record { chain = chain_of l.chain-inside; counter = l.counter })
+    l.chain_seats.items l.count_seats.items l.seats.items
+    × (l.fn.shape.seats ≤ vec_capacity l.chain_seats)
+    × (l.fn.shape.seats ≤ vec_capacity l.count_seats)
     × (l.fn.shape.seats ≤ vec_capacity l.seats)
 
 abbrev pub decreases-loop-chain : goal.decreases-loop-chain

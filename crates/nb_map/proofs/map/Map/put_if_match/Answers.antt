@@ -13,25 +13,46 @@ use Rattle.nb_map.proofs.map.Map.put_if_match.Goals as goal
 pub returns-in_err-reply-clause-refused : goal.returns-in_err-reply-clause-refused
 returns-in_err-reply-clause-refused c =
     let mine = subst₂ IsMine (sym c.self.view_is) (sym c.seat.view_is) c.requires.own in
-    let after : SeatOf = record { chain = c.put_if_match_in.new.seat; count = c.seat.inside.count } in
+    let after : SeatOf = record {
+      chain = c.put_if_match_in.new.seat;
+      count =
+          c.seat.inside.count;
+    } in
     let write = call.Write c.args.key c.args.want c.args.change in
     let p = err_from_is_err_and c.from_residual.result c.from_residual.ensures.1 in
     rw (p.1, p.2)
-    (subst₂ (λ map before. HasLogged before after [] × IsJust map.chain.shape write before.chain after.chain c.args.tries c.in_err-reply.field-0.0)
-    c.self.view_is c.seat.view_is (logged {after = after} mine c.in_err-reply.ensures.made, c.in_err-reply.ensures.refused))
+    (subst₂ (λ map before. HasLogged before after []
+    × IsJust map.chain.shape write before.chain after.chain c.args.tries
+    c.in_err-reply.field-0.0)
+    c.self.view_is c.seat.view_is (
+      logged {after = after} mine c.in_err-reply.ensures.made,
+      c.in_err-reply.ensures.refused,
+    ))
 
 pub returns-in_err-reply-clause-worked : goal.returns-in_err-reply-clause-worked
 returns-in_err-reply-clause-worked c =
-    let after : SeatOf = record { chain = c.put_if_match_in.new.seat; count = c.seat.inside.count } in
+    let after : SeatOf = record {
+      chain = c.put_if_match_in.new.seat;
+      count =
+          c.seat.inside.count;
+    } in
     let write = call.Write c.args.key c.args.want c.args.change in
-    subst₂ (λ map before. HasWorked map write before after (put_steps map.chain.shape (min c.args.tries (passed_since write before.chain after.chain + 1))))
-    c.self.view_is c.seat.view_is (worked-uncounted {after = after} c.in_err-reply.ensures.made refl)
+    subst₂ (λ map before. HasWorked map write before after
+    (put_steps map.chain.shape (min c.args.tries
+    (passed_since write before.chain after.chain + 1))))
+    c.self.view_is c.seat.view_is (worked-uncounted {after = after}
+    c.in_err-reply.ensures.made refl)
 
 pub returns-in_err-reply-clause-own : goal.returns-in_err-reply-clause-own
 returns-in_err-reply-clause-own c =
     let mine = subst₂ IsMine (sym c.self.view_is) (sym c.seat.view_is) c.requires.own in
-    let after : SeatOf = record { chain = c.put_if_match_in.new.seat; count = c.seat.inside.count } in
-    subst (λ map. IsMine map after) c.self.view_is (uncounted-mine {after = after} mine c.in_err-reply.ensures.made refl refl)
+    let after : SeatOf = record {
+      chain = c.put_if_match_in.new.seat;
+      count =
+          c.seat.inside.count;
+    } in
+    subst (λ map. IsMine map after) c.self.view_is
+    (uncounted-mine {after = after} mine c.in_err-reply.ensures.made refl refl)
 
 pub returns-clause-replied : goal.returns-clause-replied
 returns-clause-replied c =
@@ -47,4 +68,5 @@ returns-clause-own c =
     let added = ap (λ count. count.added) c.count.ensures in
     let after : SeatOf = record { chain = c.put_if_match_in.new.seat; count = c.count.new.seat } in
     subst (λ map. IsMine map after) c.self.view_is
-    (kept-mine {after = after} mine c.in_ok-reply.ensures.made (ap (λ count. count.counter) c.count.ensures) (omega (arith, ints, added)))
+    (kept-mine {after = after} mine c.in_ok-reply.ensures.made
+    (ap (λ count. count.counter) c.count.ensures) (omega (arith, ints, added)))

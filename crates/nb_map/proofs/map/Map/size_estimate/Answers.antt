@@ -8,4 +8,5 @@ pub returns-clause-logged : goal.returns-clause-logged
 returns-clause-logged c =
     let mine = subst₂ IsMine (sym c.self.view_is) (sym c.seat.view_is) c.requires.own in
     let after : SeatOf = record { chain = c.seat.inside.chain; count = c.estimate.new.seat } in
-    subst (λ before. HasLogged before after []) c.seat.view_is (logged-same {after = after} mine refl)
+    subst (λ before. HasLogged before after []) c.seat.view_is
+    (logged-same {after = after} mine refl)

@@ -17,19 +17,24 @@ returns-in_err-reply-clause-refused g c =
     let p = err_from_is_err_and c.from_residual.result c.from_residual.ensures.1 in
     rw (p.1, p.2)
     (subst₂ (λ map before. HasRefused map write before after c.in_err-reply.field-0.0)
-    c.self.view_is c.seat.view_is (logged {after = after} mine c.in_err-reply.ensures.made, c.in_err-reply.ensures.refused))
+    c.self.view_is c.seat.view_is (
+      logged {after = after} mine c.in_err-reply.ensures.made,
+      c.in_err-reply.ensures.refused,
+    ))
 
 pub returns-in_err-reply-clause-lock_free : goal.returns-in_err-reply-clause-lock_free
 returns-in_err-reply-clause-lock_free g c =
     let after : SeatOf = record { chain = c.write_through.new.seat; count = c.seat.inside.count } in
-    subst₂ (λ map before. IsLockFree map (call.Write c.args.key c.args.want c.args.change) before after) c.self.view_is c.seat.view_is
+    subst₂ (λ map before. IsLockFree map (call.Write c.args.key c.args.want c.args.change)
+    before after) c.self.view_is c.seat.view_is
     (worked-uncounted {after = after} c.in_err-reply.ensures.made refl)
 
 pub returns-in_err-reply-clause-own : goal.returns-in_err-reply-clause-own
 returns-in_err-reply-clause-own g c =
     let mine = subst₂ IsMine (sym c.self.view_is) (sym c.seat.view_is) c.requires.own in
     let after : SeatOf = record { chain = c.write_through.new.seat; count = c.seat.inside.count } in
-    subst (λ map. IsMine map after) c.self.view_is (uncounted-mine {after = after} mine c.in_err-reply.ensures.made refl refl)
+    subst (λ map. IsMine map after) c.self.view_is
+    (uncounted-mine {after = after} mine c.in_err-reply.ensures.made refl refl)
 
 pub returns-clause-replied : goal.returns-clause-replied
 returns-clause-replied g c =
@@ -45,7 +50,8 @@ returns-clause-own g c =
     let added = ap (λ count. count.added) c.count.ensures in
     let after : SeatOf = record { chain = c.write_through.new.seat; count = c.count.new.seat } in
     subst (λ map. IsMine map after) c.self.view_is
-    (kept-mine {after = after} mine c.in_ok-reply.ensures.made (ap (λ count. count.counter) c.count.ensures) (omega (arith, ints, added)))
+    (kept-mine {after = after} mine c.in_ok-reply.ensures.made
+    (ap (λ count. count.counter) c.count.ensures) (omega (arith, ints, added)))
 
 pub returns-clause-lock_free : goal.returns-clause-lock_free
 returns-clause-lock_free g c =

@@ -13,7 +13,9 @@ loop-worker-preserved g c =
     let number = c.args.self.number in
     let phase = c.args.phase.now in
     let i = c.loop-worker.worker-index in
-    let Running : List Answer → SeatOf → Type 0 = λ items seat. IsRunning m number phase (i + 1) c.args.self.answers.items items c.args.self.seat seat in
+    let Running : List Answer → SeatOf → Type 0 =
+    λ items seat. IsRunning m number phase (i + 1)
+    c.args.self.answers.items items c.args.self.seat seat in
     let inv = c.loop-worker.invariant in
     let item = c.loop-worker-item in
     elim c.if-worker-number.branch [
@@ -24,7 +26,8 @@ loop-worker-preserved g c =
           let capacity = ap vec_capacity b.answers-is ∙ b.push_reserved.ensures.capacity in (
             subst (IsMine m) (sym b.seat-is) b.answer_to-answer.ensures.own,
             subst₂ Running (sym items) (sym b.seat-is)
-                (running-more m number phase i item.result b.answer_to-answer.result _ _ _ _ _ c.loop-worker-test.true item.is own
+                (running-more m number phase i item.result b.answer_to-answer.result _ _ _ _ _
+                c.loop-worker-test.true item.is own
                 (b.answer_to-answer.ensures.answered, b.answer_to-answer.ensures.worked) inv.1),
             omega (
               arith,
@@ -43,7 +46,8 @@ loop-worker-preserved g c =
           let capacity = ap vec_capacity b.answers-is in (
             subst (IsMine m) (sym b.seat-is) inv.0,
             subst₂ Running (sym items) (sym b.seat-is)
-                (running-past m number phase i item.result _ _ _ _ c.loop-worker-test.true item.is other inv.1),
+                (running-past m number phase i item.result _ _ _ _ c.loop-worker-test.true item.is
+                other inv.1),
             omega (
               arith,
               inv.2,

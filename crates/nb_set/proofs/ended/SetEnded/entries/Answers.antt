@@ -12,7 +12,13 @@ loop-key-init c = (
   tt,
   tt,
   none-moved refl c.in_ok-keys.ensures.items,
-  omega (arith, c.len.ensures, c.in_ok-keys.ensures.capacity, ap length c.into_iter-key-iterator.ensures.into_iter_gives.0, c.in_ok-entries.entries.ok),
+  omega (
+    arith,
+    c.len.ensures,
+    c.in_ok-keys.ensures.capacity,
+    ap length c.into_iter-key-iterator.ensures.into_iter_gives.0,
+    c.in_ok-entries.entries.ok,
+  ),
 )
 
 pub push_reserved-requires : goal.push_reserved-requires
@@ -33,6 +39,8 @@ loop-key-preserved c = (
 pub returns : goal.returns
 returns c =
     subst (λ ended. c.loop-key.keys.items ≡ numbers.keys (set_left ended)) c.self.view_is
-    (all-moved c.loop-key.invariant.2 (omega (arith, c.in-None.ensures.steps, c.loop-key.key-iterator.rest.ok))
-    ∙ ap (map (λ entry. entry.0)) (c.into_iter-key-iterator.ensures.into_iter_gives.0 ∙ c.in_ok-entries.ensures)
+    (all-moved c.loop-key.invariant.2 (omega
+    (arith, c.in-None.ensures.steps, c.loop-key.key-iterator.rest.ok))
+    ∙ ap (map (λ entry. entry.0)) (c.into_iter-key-iterator.ensures.into_iter_gives.0
+    ∙ c.in_ok-entries.ensures)
     ∙ sym (keys-left (record { map = c.self.inside.map }) c.known.ensures.replayed))

@@ -13,12 +13,14 @@ returns-in_err-before-clause-full g c =
     let after : SeatOf = record { map = c.put_if_absent.new.seat } in
     let (logged, (fills, crowded)) = c.in_err-before.ensures.full in
     if-refused c.from_residual.result
-    (subst₂ (λ set seat. HasNoRoom set c.args.key seat after) c.self.view_is c.seat.view_is (logged-as logged, crowded))
+    (subst₂ (λ set seat. HasNoRoom set c.args.key seat after) c.self.view_is c.seat.view_is
+    (logged-as logged, crowded))
 
 pub returns-clause-replied : goal.returns-clause-replied
 returns-clause-replied g c =
     let after : SeatOf = record { map = c.put_if_absent.new.seat } in
     subst (λ seat. HasReplied (Add c.args.key) seat after c.is_none.result) c.seat.view_is
     (added c.args.key c.in_ok-before.before c.is_none.result c.is_none.ensures
-    (subst (λ n. of_map.HasFound (on_map.Write c.args.key want.Absent (change.Put n)) c.seat.inside.map c.put_if_absent.new.seat c.in_ok-before.before)
+    (subst (λ n. of_map.HasFound (on_map.Write c.args.key want.Absent (change.Put n))
+    c.seat.inside.map c.put_if_absent.new.seat c.in_ok-before.before)
     c.present.ensures c.in_ok-before.ensures.found))

@@ -11,9 +11,13 @@ pub finish-requires : goal.finish-requires
 finish-requires c =
     let set : SetOf = record { map = c.self.inside.map } in
     let mine = subst (λ set. AreMine set c.args.seats.items) (sym c.self.view_is) c.requires.own in
-    record { own = All-same (maps.IsMine c.self.inside.map) c.of_map.result.items (in-map c.args.seats.items) c.of_map.ensures (mine-in set c.args.seats.items mine) }
+    record {
+      own = All-same (maps.IsMine c.self.inside.map) c.of_map.result.items
+          (in-map c.args.seats.items) c.of_map.ensures (mine-in set c.args.seats.items mine);
+    }
 
 pub returns-clause-ended : goal.returns-clause-ended
 returns-clause-ended c =
     let ended : EndedOf = record { map = c.in-Ok.map } in
-    ended-with c.args.seats.items ended (subst (λ seats. of_map.EndedWith seats c.in-Ok.map) c.of_map.ensures c.in-Ok.ensures.ended)
+    ended-with c.args.seats.items ended (subst (λ seats. of_map.EndedWith seats c.in-Ok.map)
+    c.of_map.ensures c.in-Ok.ensures.ended)

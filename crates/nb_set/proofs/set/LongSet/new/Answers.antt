@@ -14,7 +14,14 @@ loop-seat-init c =
       tt,
       tt,
       none-moved refl c.in_ok-seats.ensures.items,
-      omega (arith, many, ap length c.in_ok-map.ensures.seats, c.in_ok-seats.ensures.capacity, c.seats.ensures.number, ap length c.into_iter-seat-iterator.ensures.into_iter_gives.0),
+      omega (
+        arith,
+        many,
+        ap length c.in_ok-map.ensures.seats,
+        c.in_ok-seats.ensures.capacity,
+        c.seats.ensures.number,
+        ap length c.into_iter-seat-iterator.ensures.into_iter_gives.0,
+      ),
     )
 
 pub push_reserved-requires : goal.push_reserved-requires
@@ -33,9 +40,12 @@ loop-seat-preserved c = (
 )
 
 -- the set's seats are those of its map
-seats-are : (c : goal.After-drop-seat-iterator) → c.loop-seat.seats.items ≡ map as_set c.in_ok-map.map_seats.items
+seats-are :
+    (c : goal.After-drop-seat-iterator) → c.loop-seat.seats.items
+    ≡ map as_set c.in_ok-map.map_seats.items
 seats-are c =
-    all-moved c.loop-seat.invariant.2 (omega (arith, c.in-None.ensures.steps, c.loop-seat.seat-iterator.rest.ok))
+    all-moved c.loop-seat.invariant.2 (omega
+    (arith, c.in-None.ensures.steps, c.loop-seat.seat-iterator.rest.ok))
     ∙ ap (map as_set) c.into_iter-seat-iterator.ensures.into_iter_gives.0
 
 pub returns-clause-seats : goal.returns-clause-seats

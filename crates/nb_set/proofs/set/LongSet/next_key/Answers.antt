@@ -14,13 +14,17 @@ pub returns-in_err-key-clause-shown : goal.returns-in_err-key-clause-shown
 returns-in_err-key-clause-shown c = λ shown has.
     let after : SeatOf = record { map = c.next_key.new.seat } in
     let walk : WalkOf = record { map = c.next_key.new.walk } in
-    subst (λ found. HasShown c.args.self.now after walk (with_shown found shown)) (sym c.from_residual.ensures)
-    (shown-after None (ap (λ set. set.map) c.self.view_is) (ap (λ seat. seat.map) c.seat.view_is) (ap (λ walk. walk.map) c.walk.view_is)
+    subst (λ found. HasShown c.args.self.now after walk (with_shown found shown))
+    (sym c.from_residual.ensures)
+    (shown-after None (ap (λ set. set.map) c.self.view_is) (ap (λ seat. seat.map) c.seat.view_is)
+    (ap (λ walk. walk.map) c.walk.view_is)
     c.in_err-key.ensures.own c.in_err-key.ensures.read c.in_err-key.ensures.walked shown has)
 
 pub returns-in_err-key-clause-worked : goal.returns-in_err-key-clause-worked
 returns-in_err-key-clause-worked c = λ key.
-    worked-after {walk = c.args.walk.now} c.next_key.new.walk key (ap (λ set. set.map) c.self.view_is) (ap (λ seat. seat.map) c.seat.view_is) (ap (λ walk. walk.map) c.walk.view_is)
+    worked-after {walk = c.args.walk.now} c.next_key.new.walk key
+    (ap (λ set. set.map) c.self.view_is) (ap (λ seat. seat.map) c.seat.view_is)
+    (ap (λ walk. walk.map) c.walk.view_is)
     (c.in_err-key.ensures.worked key)
 
 pub returns-clause-asked : goal.returns-clause-asked
@@ -31,10 +35,14 @@ returns-clause-asked c =
 
 pub returns-clause-shown : goal.returns-clause-shown
 returns-clause-shown c = λ shown has.
-    shown-after (Some (c.in_ok-key.key, c.in_ok-key.field-0-1)) (ap (λ set. set.map) c.self.view_is) (ap (λ seat. seat.map) c.seat.view_is)
-    (ap (λ walk. walk.map) c.walk.view_is) c.in_ok-key.ensures.own c.in_ok-key.ensures.read c.in_ok-key.ensures.walked shown has
+    shown-after (Some (c.in_ok-key.key, c.in_ok-key.field-0-1)) (ap (λ set. set.map) c.self.view_is)
+    (ap (λ seat. seat.map) c.seat.view_is)
+    (ap (λ walk. walk.map) c.walk.view_is)
+    c.in_ok-key.ensures.own c.in_ok-key.ensures.read c.in_ok-key.ensures.walked shown has
 
 pub returns-clause-worked : goal.returns-clause-worked
 returns-clause-worked c = λ key.
-    worked-after {walk = c.args.walk.now} c.next_key.new.walk key (ap (λ set. set.map) c.self.view_is) (ap (λ seat. seat.map) c.seat.view_is) (ap (λ walk. walk.map) c.walk.view_is)
+    worked-after {walk = c.args.walk.now} c.next_key.new.walk key
+    (ap (λ set. set.map) c.self.view_is) (ap (λ seat. seat.map) c.seat.view_is)
+    (ap (λ walk. walk.map) c.walk.view_is)
     (c.in_ok-key.ensures.worked key)

@@ -14,9 +14,11 @@ pub returns-clause-shown : goal.returns-clause-shown
 returns-clause-shown c =
     let map = c.self.inside.map in
     let seat = c.walk-map.new.seat in
-    subst (λ set. HasShown set (record { map = seat }) (record { map = c.walk-map.result }) []) c.self.view_is
+    subst (λ set. HasShown set (record { map = seat }) (record { map = c.walk-map.result }) [])
+    c.self.view_is
     (record {
       pairs = [];
       keys = refl;
-      is = subst (λ walk. walks.IsUnderway map seat walk []) (sym c.walk-map.ensures.begun) (walks.Begun c.walk-map.ensures.own);
+      is = subst (λ walk. walks.IsUnderway map seat walk []) (sym c.walk-map.ensures.begun)
+          (walks.Begun c.walk-map.ensures.own);
     })

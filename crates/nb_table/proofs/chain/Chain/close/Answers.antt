@@ -7,7 +7,12 @@ use Rattle.nb_table.proofs.chain.Chain.close.Goals as goal
 
 -- what is left of the chain
 abbrev left : goal.After-close_with-table → Inside
-left c = record { table = c.close_with-table.result; shape = c.self.inside.shape; seats = c.of-seen.result }
+left c = record {
+  table = c.close_with-table.result;
+  shape = c.self.inside.shape;
+  seats =
+      c.of-seen.result;
+}
 
 closes : (c : goal.After-close_with-table) → ClosedWith c.args.seats.items (closed_of (left c))
 closes c =

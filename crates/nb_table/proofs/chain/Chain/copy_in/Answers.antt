@@ -8,7 +8,8 @@ use Rattle.nb_table.proofs.chain.Chain.copy_in.Goals as goal
 pub exchanges-requires-clause-within : goal.exchanges-requires-clause-within
 exchanges-requires-clause-within c =
     let p = c.args.self.now.shape in
-    let place = c.value_place-place.ensures ∙ ap (λ v. value_place v.shape c.args.g c.args.i) c.self.view_is in
+    let place = c.value_place-place.ensures
+    ∙ ap (λ v. value_place v.shape c.args.g c.args.i) c.self.view_is in
     subst (λ x. x < word_count p) (sym place)
     (value-within p c.requires.own.plan c.args.g c.args.i c.requires.slot)
 
@@ -16,8 +17,10 @@ pub exchanges-requires-clause-can : goal.exchanges-requires-clause-can
 exchanges-requires-clause-can c =
     let p = c.args.self.now.shape in
     let seat = c.args.seat.now in
-    let place = c.value_place-place.ensures ∙ ap (λ v. value_place v.shape c.args.g c.args.i) c.self.view_is in
-    subst (λ x. Can p (copy_events seat.number c.args.g c.args.i c.args.key c.args.number) seat.number seat.seen x (λ found. cond
+    let place = c.value_place-place.ensures
+    ∙ ap (λ v. value_place v.shape c.args.g c.args.i) c.self.view_is in
+    subst (λ x. Can p (copy_events seat.number c.args.g c.args.i c.args.key c.args.number)
+    seat.number seat.seen x (λ found. cond
     (eqb found 0) c.encode_value-word.result found)) (sym place)
     (can-copy p seat.number
     seat.seen c.args.g c.args.i c.args.key c.args.number
@@ -29,8 +32,10 @@ pub decode_lawful_value-requires : goal.decode_lawful_value-requires
 decode_lawful_value-requires c =
     let p = c.args.self.now.shape in
     let events = copy_events c.args.seat.now.number c.args.g c.args.i c.args.key c.args.number in
-    let place = c.value_place-place.ensures ∙ ap (λ v. value_place v.shape c.args.g c.args.i) c.self.view_is in
-    let step = subst (λ x. Stepped p events x c.args.seat.now c.exchanges.result c.exchanges.new.seat) place
+    let place = c.value_place-place.ensures
+    ∙ ap (λ v. value_place v.shape c.args.g c.args.i) c.self.view_is in
+    let step = subst (λ x. Stepped p events x c.args.seat.now c.exchanges.result
+    c.exchanges.new.seat) place
     c.exchanges.ensures in
     found-is p c.requires.own.plan events c.args.seat.now c.exchanges.result
     c.exchanges.new.seat c.args.g c.args.i c.requires.slot step
@@ -39,8 +44,10 @@ pub returns-clause-won : goal.returns-clause-won
 returns-clause-won c =
     let p = c.args.self.now.shape in
     let events = copy_events c.args.seat.now.number c.args.g c.args.i c.args.key c.args.number in
-    let place = c.value_place-place.ensures ∙ ap (λ v. value_place v.shape c.args.g c.args.i) c.self.view_is in
-    let step = subst (λ x. Stepped p events x c.args.seat.now c.exchanges.result c.exchanges.new.seat) place
+    let place = c.value_place-place.ensures
+    ∙ ap (λ v. value_place v.shape c.args.g c.args.i) c.self.view_is in
+    let step = subst (λ x. Stepped p events x c.args.seat.now c.exchanges.result
+    c.exchanges.new.seat) place
     c.exchanges.ensures in
     copy-won p c.requires.own.plan c.args.seat.now c.exchanges.result
     c.exchanges.new.seat c.args.g c.args.i c.args.key c.args.number c.requires.slot step
@@ -51,8 +58,10 @@ pub returns-clause-lost : goal.returns-clause-lost
 returns-clause-lost c =
     let p = c.args.self.now.shape in
     let events = copy_events c.args.seat.now.number c.args.g c.args.i c.args.key c.args.number in
-    let place = c.value_place-place.ensures ∙ ap (λ v. value_place v.shape c.args.g c.args.i) c.self.view_is in
-    let step = subst (λ x. Stepped p events x c.args.seat.now c.exchanges.result c.exchanges.new.seat) place
+    let place = c.value_place-place.ensures
+    ∙ ap (λ v. value_place v.shape c.args.g c.args.i) c.self.view_is in
+    let step = subst (λ x. Stepped p events x c.args.seat.now c.exchanges.result
+    c.exchanges.new.seat) place
     c.exchanges.ensures in
     copy-lost p c.requires.own.plan c.args.seat.now c.exchanges.result
     c.exchanges.new.seat c.args.g c.args.i c.args.key c.args.number c.requires.slot step

@@ -6,7 +6,8 @@ use Rattle.nb_table.proofs.chain.Chain.count_done.Goals as goal
 pub adds-requires-clause-can : goal.adds-requires-clause-can
 adds-requires-clause-can c =
     let shape = ap (λ v. v.shape) c.self.view_is in
-    can-count c.args.self.now.shape c.args.seat.now.number c.args.g c.args.slots c.args.seat.now.seen
+    can-count c.args.self.now.shape c.args.seat.now.number c.args.g c.args.slots
+    c.args.seat.now.seen
     c.requires.table c.requires.some c.requires.turned c.header_place-place.result
     (c.header_place-place.ensures ∙ ap (λ p. header_place p c.args.g 2) shape)
 
@@ -22,4 +23,5 @@ pub adds-requires-clause-within : goal.adds-requires-clause-within
 adds-requires-clause-within c =
     let shape = ap (λ v. v.shape) c.self.view_is in
     header-within c.args.self.now.shape c.requires.own.plan c.args.g 2 _
-    c.requires.table (omega arith) (c.header_place-place.ensures ∙ ap (λ p. header_place p c.args.g 2) shape)
+    c.requires.table (omega arith) (c.header_place-place.ensures
+    ∙ ap (λ p. header_place p c.args.g 2) shape)

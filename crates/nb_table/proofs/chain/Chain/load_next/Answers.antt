@@ -12,7 +12,8 @@ loads-requires-clause-can c =
     let seat = c.args.seat.now in
     let g = c.args.g in
     let events = λ (found : ℕ). reads seat.number c.args.call (λ k. shown_by_next (found == 1)) in
-    let at_place = c.header_place-place.ensures ∙ ap (λ v. header_place v.shape g 0) c.self.view_is in
+    let at_place = c.header_place-place.ensures
+    ∙ ap (λ v. header_place v.shape g 0) c.self.view_is in
     subst (λ place. Can p events seat.number seat.seen place (λ found. found)) (sym at_place)
     (can-load_next p seat.number seat.seen g c.requires.table
     c.args.call c.requires.own.plan c.known_if_some.ensures
@@ -21,5 +22,6 @@ loads-requires-clause-can c =
 
 pub loads-requires-clause-within : goal.loads-requires-clause-within
 loads-requires-clause-within c =
-    header-within c.args.self.now.shape c.requires.own.plan c.args.g 0 _ c.requires.table (omega arith)
+    header-within c.args.self.now.shape c.requires.own.plan c.args.g 0 _ c.requires.table
+    (omega arith)
     (c.header_place-place.ensures ∙ ap (λ v. header_place v.shape c.args.g 0) c.self.view_is)

@@ -15,7 +15,8 @@ loads-requires-clause-can c =
     let seat = c.args.seat.now in
     let g = c.args.g in
     let i = c.args.i in
-    let events = λ (found : ℕ). reads seat.number c.args.call (λ k. shown_by_value (unwrap_or (value_state found) Null)) in
+    let events = λ (found : ℕ). reads seat.number c.args.call
+    (λ k. shown_by_value (unwrap_or (value_state found) Null)) in
     let at_place = c.value_place-place.ensures ∙ ap (λ v. value_place v.shape g i) c.self.view_is in
     subst (λ place. Can p events seat.number seat.seen place (λ found. found)) (sym at_place)
     (can-load_value p seat.number seat.seen g c.requires.slot.0
@@ -27,9 +28,12 @@ pub decode_lawful_value-requires : goal.decode_lawful_value-requires
 decode_lawful_value-requires c =
     let p = c.args.self.now.shape in
     let seat = c.args.seat.now in
-    let events = λ (found : ℕ). reads seat.number c.args.call (λ k. shown_by_value (unwrap_or (value_state found) Null)) in
-    let place = c.value_place-place.ensures ∙ ap (λ v. value_place v.shape c.args.g c.args.i) c.self.view_is in
-    let step = subst (λ x. Stepped p events x seat c.loads.result c.loads.new.seat) place c.loads.ensures in
+    let events = λ (found : ℕ). reads seat.number c.args.call
+    (λ k. shown_by_value (unwrap_or (value_state found) Null)) in
+    let place = c.value_place-place.ensures
+    ∙ ap (λ v. value_place v.shape c.args.g c.args.i) c.self.view_is in
+    let step = subst (λ x. Stepped p events x seat c.loads.result c.loads.new.seat)
+    place c.loads.ensures in
     found-is p c.requires.own.plan events seat c.loads.result c.loads.new.seat
     c.args.g c.args.i c.requires.slot step
 
@@ -37,9 +41,11 @@ pub returns-clause-found : goal.returns-clause-found
 returns-clause-found c =
     let p = c.args.self.now.shape in
     let seat = c.args.seat.now in
-    let place = c.value_place-place.ensures ∙ ap (λ v. value_place v.shape c.args.g c.args.i) c.self.view_is in
+    let place = c.value_place-place.ensures
+    ∙ ap (λ v. value_place v.shape c.args.g c.args.i) c.self.view_is in
     let shown = λ (found : ℕ) (k : ℕ). shown_by_value (unwrap_or (value_state found) Null) in
     let step = c.loads.ensures in
-    ap (λ t. t.value c.args.g c.args.i) (load-sees p seat.number c.args.call shown _ _ seat c.loads.new.seat
+    ap (λ t. t.value c.args.g c.args.i) (load-sees p seat.number c.args.call shown _ _ seat
+    c.loads.new.seat
     step) ∙ ap (λ x. unwrap_or (value_state x) Null) (ap (slice_index _) (sym place) ∙ step.word)
     ∙ ap (λ o. unwrap_or o Null) (c.decode_lawful_value.ensures)

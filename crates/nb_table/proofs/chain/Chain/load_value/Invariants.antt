@@ -7,5 +7,6 @@ use Rattle.nb_table.proofs.chain.Chain.load_value.Given as goal
 abbrev pub ghosts-loads : goal.ghosts-loads
 ghosts-loads a = record {
   shape = a.self.now.shape;
-  events = λ found. reads a.seat.now.number a._call (λ k. shown_by_value (unwrap_or (value_state found) Null));
+  events = λ found. reads a.seat.now.number a._call
+      (λ k. shown_by_value (unwrap_or (value_state found) Null));
 }

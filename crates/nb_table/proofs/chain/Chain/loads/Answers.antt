@@ -3,7 +3,8 @@ use Rattle.nb_table.proofs.chain.Chain.loads.Goals as goal
 
 pub load-requires : goal.load-requires
 load-requires g c =
-    asked-seat c.self.inside c.seat.inside _ _ _ _ _ (λ found. found) c.self.view_is c.seat.view_is c.self.invariant
+    asked-seat c.self.inside c.seat.inside _ _ _ _ _ (λ found. found)
+    c.self.view_is c.seat.view_is c.self.invariant
     c.seat.invariant c.requires.own c.requires.shape c.requires.within c.requires.can
 
 pub invariant_of-seat : goal.invariant_of-seat

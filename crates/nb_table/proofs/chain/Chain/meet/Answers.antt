@@ -37,19 +37,25 @@ join_seat-requires-2 c =
       joins _ _ _ _ _,
     )
 
-met-a : (c : goal.After-hears-2) → HasMet c.args.self.now.shape c.a.inside c.b.inside (record { seat = c.hears.new.seat })
+met-a : (c : goal.After-hears-2) → HasMet c.args.self.now.shape c.a.inside c.b.inside
+    (record { seat = c.hears.new.seat })
 met-a c =
-    let me = joined-me c.a.inside.seat.me c.b.inside.seat.me _ _ _ c.split_seat-of_a.ensures.2 c.split_seat-of_b.ensures.4
+    let me = joined-me c.a.inside.seat.me c.b.inside.seat.me _ _ _ c.split_seat-of_a.ensures.2
+    c.split_seat-of_b.ensures.4
     c.join_seat.ensures.2 in
     met _ c.a.inside c.b.inside _ _ _ c.a.invariant c.b.invariant
-    (c.hears.ensures.own ∙ c.join_seat.ensures.0 ∙ c.split_seat-of_a.ensures.0) me c.hears.ensures.heard
+    (c.hears.ensures.own ∙ c.join_seat.ensures.0 ∙ c.split_seat-of_a.ensures.0)
+    me c.hears.ensures.heard
 
-met-b : (c : goal.After-hears-2) → HasMet c.args.self.now.shape c.b.inside c.a.inside (record { seat = c.hears-2.new.seat })
+met-b : (c : goal.After-hears-2) → HasMet c.args.self.now.shape c.b.inside c.a.inside
+    (record { seat = c.hears-2.new.seat })
 met-b c =
-    let me = joined-me c.b.inside.seat.me c.a.inside.seat.me _ _ _ c.split_seat-of_b.ensures.2 c.split_seat-of_a.ensures.4
+    let me = joined-me c.b.inside.seat.me c.a.inside.seat.me _ _ _ c.split_seat-of_b.ensures.2
+    c.split_seat-of_a.ensures.4
     c.join_seat-2.ensures.2 in
     met _ c.b.inside c.a.inside _ _ _ c.b.invariant c.a.invariant
-    (c.hears-2.ensures.own ∙ c.join_seat-2.ensures.0 ∙ c.split_seat-of_b.ensures.0) me c.hears-2.ensures.heard
+    (c.hears-2.ensures.own ∙ c.join_seat-2.ensures.0 ∙ c.split_seat-of_b.ensures.0)
+    me c.hears-2.ensures.heard
 
 pub invariant_of-a : goal.invariant_of-a
 invariant_of-a c = (met-a c).seat

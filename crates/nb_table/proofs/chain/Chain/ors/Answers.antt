@@ -4,8 +4,10 @@ use Rattle.nb_table.proofs.chain.Chain.ors.Goals as goal
 
 pub fetch_or-requires : goal.fetch_or-requires
 fetch_or-requires g c =
-    asked-seat c.self.inside c.seat.inside _ _ _ _ _ (λ found. bit_or found c.args.bits) c.self.view_is c.seat.view_is
-    c.self.invariant c.seat.invariant c.requires.own c.requires.shape c.requires.within c.requires.can
+    asked-seat c.self.inside c.seat.inside _ _ _ _ _ (λ found. bit_or found c.args.bits)
+    c.self.view_is c.seat.view_is
+    c.self.invariant c.seat.invariant c.requires.own c.requires.shape c.requires.within
+    c.requires.can
 
 pub invariant_of-seat : goal.invariant_of-seat
 invariant_of-seat g c =

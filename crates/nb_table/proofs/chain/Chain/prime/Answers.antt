@@ -8,7 +8,8 @@ use Rattle.nb_table.proofs.chain.Chain.prime.Goals as goal
 pub ors-requires-clause-within : goal.ors-requires-clause-within
 ors-requires-clause-within c =
     let p = c.args.self.now.shape in
-    let place = c.value_place-place.ensures ∙ ap (λ v. value_place v.shape c.args.g c.args.i) c.self.view_is in
+    let place = c.value_place-place.ensures
+    ∙ ap (λ v. value_place v.shape c.args.g c.args.i) c.self.view_is in
     subst (λ x. x < word_count p) (sym place)
     (value-within p c.requires.own.plan c.args.g c.args.i c.requires.slot)
 
@@ -16,8 +17,10 @@ pub ors-requires-clause-can : goal.ors-requires-clause-can
 ors-requires-clause-can c =
     let p = c.args.self.now.shape in
     let seat = c.args.seat.now in
-    let place = c.value_place-place.ensures ∙ ap (λ v. value_place v.shape c.args.g c.args.i) c.self.view_is in
-    subst (λ x. Can p (prime_events seat.number c.args.g c.args.i) seat.number seat.seen x (λ found. bit_or found 1)) (sym place)
+    let place = c.value_place-place.ensures
+    ∙ ap (λ v. value_place v.shape c.args.g c.args.i) c.self.view_is in
+    subst (λ x. Can p (prime_events seat.number c.args.g c.args.i) seat.number seat.seen x
+    (λ found. bit_or found 1)) (sym place)
     (can-prime p seat.number seat.seen c.args.g c.args.i
     c.requires.slot c.requires.growing
     c.requires.claimed)
@@ -26,8 +29,10 @@ pub decode_lawful_value-requires : goal.decode_lawful_value-requires
 decode_lawful_value-requires c =
     let p = c.args.self.now.shape in
     let events = prime_events c.args.seat.now.number c.args.g c.args.i in
-    let place = c.value_place-place.ensures ∙ ap (λ v. value_place v.shape c.args.g c.args.i) c.self.view_is in
-    let step = subst (λ x. Stepped p events x c.args.seat.now c.ors.result c.ors.new.seat) place c.ors.ensures in
+    let place = c.value_place-place.ensures
+    ∙ ap (λ v. value_place v.shape c.args.g c.args.i) c.self.view_is in
+    let step = subst (λ x. Stepped p events x c.args.seat.now c.ors.result c.ors.new.seat)
+    place c.ors.ensures in
     found-is p c.requires.own.plan events c.args.seat.now c.ors.result c.ors.new.seat
     c.args.g c.args.i c.requires.slot step
 
@@ -35,8 +40,10 @@ pub returns-clause-won : goal.returns-clause-won
 returns-clause-won c =
     let p = c.args.self.now.shape in
     let events = prime_events c.args.seat.now.number c.args.g c.args.i in
-    let place = c.value_place-place.ensures ∙ ap (λ v. value_place v.shape c.args.g c.args.i) c.self.view_is in
-    let step = subst (λ x. Stepped p events x c.args.seat.now c.ors.result c.ors.new.seat) place c.ors.ensures in
+    let place = c.value_place-place.ensures
+    ∙ ap (λ v. value_place v.shape c.args.g c.args.i) c.self.view_is in
+    let step = subst (λ x. Stepped p events x c.args.seat.now c.ors.result c.ors.new.seat)
+    place c.ors.ensures in
     prime-won p c.requires.own.plan c.args.seat.now c.ors.result
     c.ors.new.seat c.args.g c.args.i c.requires.slot step
     c.decode_lawful_value.result c.decode_lawful_value.ensures
@@ -45,8 +52,10 @@ pub returns-clause-lost : goal.returns-clause-lost
 returns-clause-lost c =
     let p = c.args.self.now.shape in
     let events = prime_events c.args.seat.now.number c.args.g c.args.i in
-    let place = c.value_place-place.ensures ∙ ap (λ v. value_place v.shape c.args.g c.args.i) c.self.view_is in
-    let step = subst (λ x. Stepped p events x c.args.seat.now c.ors.result c.ors.new.seat) place c.ors.ensures in
+    let place = c.value_place-place.ensures
+    ∙ ap (λ v. value_place v.shape c.args.g c.args.i) c.self.view_is in
+    let step = subst (λ x. Stepped p events x c.args.seat.now c.ors.result c.ors.new.seat)
+    place c.ors.ensures in
     prime-lost p c.requires.own.plan c.args.seat.now c.ors.result
     c.ors.new.seat c.args.g c.args.i c.requires.slot step
     c.decode_lawful_value.result c.decode_lawful_value.ensures

@@ -7,12 +7,15 @@ use Rattle.nb_table.proofs.chain.Chain.take_work.Goals as goal
 pub adds-requires-clause-can : goal.adds-requires-clause-can
 adds-requires-clause-can c =
     let shape = ap (λ v. v.shape) c.self.view_is in
-    can-take c.args.self.now.shape c.args.seat.now.number c.args.g c.args.seat.now.seen c.requires.table
+    can-take c.args.self.now.shape c.args.seat.now.number c.args.g c.args.seat.now.seen
+    c.requires.table
     c.requires.growing
-    c.header_place-place.result c.chunk_of-chunk.result (c.header_place-place.ensures ∙ ap (λ p. header_place p c.args.g 1) shape)
+    c.header_place-place.result c.chunk_of-chunk.result (c.header_place-place.ensures
+    ∙ ap (λ p. header_place p c.args.g 1) shape)
     (c.chunk_of-chunk.ensures.chunk ∙ ap (λ p. chunk_of p c.args.g) shape)
 
 pub returns-clause-found : goal.returns-clause-found
 returns-clause-found c =
     taken c.args.self.now.shape c.args.g _ _ c.args.seat.now c.adds.new.seat
-    (c.header_place-place.ensures ∙ ap (λ p. header_place p c.args.g 1) (ap (λ v. v.shape) c.self.view_is)) c.adds.ensures
+    (c.header_place-place.ensures ∙ ap (λ p. header_place p c.args.g 1)
+    (ap (λ v. v.shape) c.self.view_is)) c.adds.ensures

@@ -9,7 +9,8 @@ use Rattle.nb_table.proofs.chain.Chain.win_value.Goals as goal
 pub exchanges-requires-clause-within : goal.exchanges-requires-clause-within
 exchanges-requires-clause-within c =
     let p = c.args.self.now.shape in
-    let place = c.value_place-place.ensures ∙ ap (λ v. value_place v.shape c.args.g c.args.i) c.self.view_is in
+    let place = c.value_place-place.ensures
+    ∙ ap (λ v. value_place v.shape c.args.g c.args.i) c.self.view_is in
     subst (λ x. x < word_count p) (sym place)
     (value-within p c.requires.own.plan c.args.g c.args.i c.requires.slot)
 
@@ -17,13 +18,17 @@ pub exchanges-requires-clause-can : goal.exchanges-requires-clause-can
 exchanges-requires-clause-can c =
     let p = c.args.self.now.shape in
     let seat = c.args.seat.now in
-    let place = c.value_place-place.ensures ∙ ap (λ v. value_place v.shape c.args.g c.args.i) c.self.view_is in
-    let events = wins-of seat.number c.args.g c.args.i c.encode_value-old.result c.encode_value-new.result c.args.from c.args.to
+    let place = c.value_place-place.ensures
+    ∙ ap (λ v. value_place v.shape c.args.g c.args.i) c.self.view_is in
+    let events = wins-of seat.number c.args.g c.args.i c.encode_value-old.result
+    c.encode_value-new.result c.args.from c.args.to
     c.args.call c.encode_value-old.ensures.back c.encode_value-new.ensures.back in
-    subst₂ (λ x told. Can p told seat.number seat.seen x (λ found. cond (eqb found c.encode_value-old.result)
+    subst₂ (λ x told. Can p told seat.number seat.seen x
+    (λ found. cond (eqb found c.encode_value-old.result)
     c.encode_value-new.result found)) (sym place) (sym events)
     (can-win p seat.number seat.seen
-    c.args.g c.args.i c.encode_value-old.result c.encode_value-new.result c.args.from c.args.to c.args.call c.requires.slot
+    c.args.g c.args.i c.encode_value-old.result c.encode_value-new.result c.args.from c.args.to
+    c.args.call c.requires.slot
     c.encode_value-old.ensures.back c.encode_value-new.ensures.back c.known.ensures
     c.requires.claimed c.requires.unprimed
     c.requires.settled c.requires.exchange)
@@ -32,23 +37,30 @@ pub decode_lawful_value-requires : goal.decode_lawful_value-requires
 decode_lawful_value-requires c =
     let p = c.args.self.now.shape in
     let seat = c.args.seat.now in
-    let place = c.value_place-place.ensures ∙ ap (λ v. value_place v.shape c.args.g c.args.i) c.self.view_is in
-    let events = wins-of seat.number c.args.g c.args.i c.encode_value-old.result c.encode_value-new.result c.args.from c.args.to
+    let place = c.value_place-place.ensures
+    ∙ ap (λ v. value_place v.shape c.args.g c.args.i) c.self.view_is in
+    let events = wins-of seat.number c.args.g c.args.i c.encode_value-old.result
+    c.encode_value-new.result c.args.from c.args.to
     c.args.call c.encode_value-old.ensures.back c.encode_value-new.ensures.back in
-    let step = subst₂ (λ x told. Stepped p told x seat c.exchanges.result c.exchanges.new.seat) place events
+    let step = subst₂ (λ x told. Stepped p told x seat c.exchanges.result c.exchanges.new.seat)
+    place events
     c.exchanges.ensures in
     found-is p c.requires.own.plan
-    (win_events seat.number c.args.g c.args.i c.args.from c.args.to c.args.call) seat c.exchanges.result c.exchanges.new.seat
+    (win_events seat.number c.args.g c.args.i c.args.from c.args.to c.args.call)
+    seat c.exchanges.result c.exchanges.new.seat
     c.args.g c.args.i c.requires.slot step
 
 pub returns-clause-won : goal.returns-clause-won
 returns-clause-won c =
     let p = c.args.self.now.shape in
     let seat = c.args.seat.now in
-    let place = c.value_place-place.ensures ∙ ap (λ v. value_place v.shape c.args.g c.args.i) c.self.view_is in
-    let events = wins-of seat.number c.args.g c.args.i c.encode_value-old.result c.encode_value-new.result c.args.from c.args.to
+    let place = c.value_place-place.ensures
+    ∙ ap (λ v. value_place v.shape c.args.g c.args.i) c.self.view_is in
+    let events = wins-of seat.number c.args.g c.args.i c.encode_value-old.result
+    c.encode_value-new.result c.args.from c.args.to
     c.args.call c.encode_value-old.ensures.back c.encode_value-new.ensures.back in
-    let step = subst₂ (λ x told. Stepped p told x seat c.exchanges.result c.exchanges.new.seat) place events
+    let step = subst₂ (λ x told. Stepped p told x seat c.exchanges.result c.exchanges.new.seat)
+    place events
     c.exchanges.ensures in
     win-won p c.requires.own.plan seat c.exchanges.result
     c.exchanges.new.seat c.args.g c.args.i c.args.from c.args.to c.args.call c.requires.slot step
@@ -59,10 +71,13 @@ pub returns-clause-lost : goal.returns-clause-lost
 returns-clause-lost c =
     let p = c.args.self.now.shape in
     let seat = c.args.seat.now in
-    let place = c.value_place-place.ensures ∙ ap (λ v. value_place v.shape c.args.g c.args.i) c.self.view_is in
-    let events = wins-of seat.number c.args.g c.args.i c.encode_value-old.result c.encode_value-new.result c.args.from c.args.to
+    let place = c.value_place-place.ensures
+    ∙ ap (λ v. value_place v.shape c.args.g c.args.i) c.self.view_is in
+    let events = wins-of seat.number c.args.g c.args.i c.encode_value-old.result
+    c.encode_value-new.result c.args.from c.args.to
     c.args.call c.encode_value-old.ensures.back c.encode_value-new.ensures.back in
-    let step = subst₂ (λ x told. Stepped p told x seat c.exchanges.result c.exchanges.new.seat) place events
+    let step = subst₂ (λ x told. Stepped p told x seat c.exchanges.result c.exchanges.new.seat)
+    place events
     c.exchanges.ensures in
     win-lost p c.requires.own.plan seat c.exchanges.result
     c.exchanges.new.seat c.args.g c.args.i c.args.from c.args.to c.args.call c.requires.slot step

@@ -21,12 +21,14 @@ loop-g-preserved c =
     let closed = c.args.self.now in
     let next = λ (found : Numbers). IsListing closed found (c.loop-g.g + 1) 0 in
     elim c.if-is_installed.branch [
-      | then-is_installed+in_ok-list_table w ↦ subst next (sym w.found-is) w.in_ok-list_table.ensures
+      | then-is_installed+in_ok-list_table w ↦ subst next (sym w.found-is)
+          w.in_ok-list_table.ensures
       | else-is_installed w ↦
           let is = lawful c.self.inside closed c.self.invariant c.self.view_is in
           let absent = sym w.if-is_installed.false ∙ c.is_installed.ensures in
           subst next (sym w.found-is)
-          (listing-skip closed (law-left closed is AreLinked linked) c.loop-g.found c.loop-g.g absent
+          (listing-skip closed (law-left closed is AreLinked linked)
+          c.loop-g.found c.loop-g.g absent
           c.loop-g.invariant)
     ]
 
@@ -37,4 +39,5 @@ returns c =
     let whole : generations_of closed.shape ≤ c.loop-g.g
     = omega (arith, c.generations-g-end.ensures, ap (λ v. generations_of v.shape) c.self.view_is) in
     let all = listing-all closed is c.loop-g.found c.loop-g.g whole c.loop-g.invariant in
-    subst (λ numbers. IfOk c.entries.result (λ entries. entries.items ≡ map.entries numbers)) all c.entries.ensures
+    subst (λ numbers. IfOk c.entries.result (λ entries. entries.items ≡ map.entries numbers))
+    all c.entries.ensures

@@ -13,5 +13,6 @@ returns c =
     let left = c.shown.ensures.left in
     c.shown.ensures.number
     ∙ of-left closed left
-    (λ t. shown_from closed.shape t c.args.key 0 (generations_of closed.shape) ≡ get (map_of closed.history) c.args.key)
+    (λ t. shown_from closed.shape t c.args.key 0 (generations_of closed.shape)
+    ≡ get (map_of closed.history) c.args.key)
     (stands closed.shape c.shown.ensures.plan closed.history left.legal c.args.key c.known.ensures)

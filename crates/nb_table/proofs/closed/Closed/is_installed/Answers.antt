@@ -8,6 +8,7 @@ pub word-requires : goal.word-requires
 word-requires c =
     let p = c.args.self.now.shape in
     let is = lawful c.self.inside c.args.self.now c.self.invariant c.self.view_is in
-    let place = c.header_place.ensures ∙ ap (λ v. header_place v.shape (c.args.g - 1) 0) c.self.view_is in
+    let place = c.header_place.ensures ∙ ap (λ v. header_place v.shape (c.args.g - 1) 0)
+    c.self.view_is in
     subst (λ x. x < word_count p) (sym place)
     ((places_are_distinct p is.plan).below (Header (c.args.g - 1) 0) (omega arith, omega arith))

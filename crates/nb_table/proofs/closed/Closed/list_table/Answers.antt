@@ -13,18 +13,22 @@ loop-i-preserved c =
     let next = λ (found : Numbers). IsListing closed found c.args.g (c.loop-i.i + 1) in
     elim c.match-key_at.branch [
       | in-Claimed+in-Some+in_ok-map_err w ↦
-          let put = on_ok (w.apply-put.new.self ≡ insert c.loop-i.found w.in-Claimed.key w.in-Some.number) w.apply-put.result
+          let put = on_ok (w.apply-put.new.self
+          ≡ insert c.loop-i.found w.in-Claimed.key w.in-Some.number) w.apply-put.result
           (sym w.map_err.ensures.variant ∙ ap is_ok w.in_ok-map_err.was) w.apply-put.ensures.map in
           subst next (sym w.found-is)
-          (listing-put closed c.loop-i.found w.apply-put.new.self c.args.g c.loop-i.i w.in-Claimed.key w.in-Some.number
+          (listing-put closed c.loop-i.found w.apply-put.new.self c.args.g c.loop-i.i
+          w.in-Claimed.key w.in-Some.number
           (sym c.key_at.ensures ∙ w.in-Claimed.is) w.in-Some.ensures put c.loop-i.invariant)
       | in-Claimed+in_default-get w ↦
           subst next (sym w.found-is)
-          (listing-without closed c.loop-i.found c.args.g c.loop-i.i w.in-Claimed.key (sym c.key_at.ensures ∙ w.in-Claimed.is)
+          (listing-without closed c.loop-i.found c.args.g c.loop-i.i w.in-Claimed.key
+          (sym c.key_at.ensures ∙ w.in-Claimed.is)
           w.in_default-get.ensures c.loop-i.invariant)
       | in_default w ↦
           subst next (sym w.found-is)
-          (listing-past closed c.loop-i.found c.args.g c.loop-i.i (λ k is. w.in_default.not-Claimed k (c.key_at.ensures ∙ is))
+          (listing-past closed c.loop-i.found c.args.g c.loop-i.i
+          (λ k is. w.in_default.not-Claimed k (c.key_at.ensures ∙ is))
           c.loop-i.invariant)
     ]
 

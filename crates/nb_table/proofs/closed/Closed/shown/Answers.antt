@@ -14,8 +14,10 @@ pub loop-g-init : goal.loop-g-init
 loop-g-init c =
     let closed = c.args.self.now in
     let is = lawful c.self.inside closed c.self.invariant c.self.view_is in
-    let complete = law-left closed is (λ p t. (g : ℕ) → g < t.top → (g < generations_of p) × IsComplete p t g) top_complete in
-    shown-from-top closed.shape (tables_left closed) c.args.key (law-left closed is AreLinked linked) complete c.top-g.result
+    let complete = law-left closed is (λ p t. (g : ℕ) → g < t.top → (g < generations_of p)
+    × IsComplete p t g) top_complete in
+    shown-from-top closed.shape (tables_left closed) c.args.key
+    (law-left closed is AreLinked linked) complete c.top-g.result
     (omega (arith, c.top-g.ensures))
 
 pub returns-then-not-is_installed-clause-number : goal.returns-then-not-is_installed-clause-number
@@ -24,7 +26,8 @@ returns-then-not-is_installed-clause-number c =
     let within : c.loop-g.g < generations_of closed.shape
     = omega (arith, c.generations-g-end.ensures, ap (λ v. generations_of v.shape) c.self.view_is) in
     let absent = sym c.if-not-is_installed.true ∙ c.is_installed.ensures in
-    sym (c.loop-g.invariant ∙ shown-absent closed.shape (tables_left closed) c.args.key c.loop-g.g within absent)
+    sym (c.loop-g.invariant ∙ shown-absent closed.shape (tables_left closed)
+    c.args.key c.loop-g.g within absent)
 
 pub returns-in-Null-clause-number : goal.returns-in-Null-clause-number
 returns-in-Null-clause-number c =
@@ -43,7 +46,8 @@ returns-in-Live-clause-number c =
     = omega (arith, c.generations-g-end.ensures, ap (λ v. generations_of v.shape) c.self.view_is) in
     let here = shown-value closed.shape (tables_left closed) c.args.key c.loop-g.g within in
     let installed = sym c.if-not-is_installed.false ∙ c.is_installed.ensures in
-    sym (c.loop-g.invariant ∙ here (Some (Live c.in-Live.number)) installed (ap Some (sym c.in-Live.is) ∙ c.in-Some.ensures))
+    sym (c.loop-g.invariant ∙ here (Some (Live c.in-Live.number)) installed
+    (ap Some (sym c.in-Live.is) ∙ c.in-Some.ensures))
 
 pub is_blank_in-requires : goal.is_blank_in-requires
 is_blank_in-requires c =
@@ -51,7 +55,8 @@ is_blank_in-requires c =
     let within : c.loop-g.g < generations_of closed.shape
     = omega (arith, c.generations-g-end.ensures, ap (λ v. generations_of v.shape) c.self.view_is) in
     let is = lawful c.self.inside closed c.self.invariant c.self.view_is in
-    primed-next closed.shape (tables_left closed) c.loop-g.g c.args.key within (law-left closed is AreLinked linked)
+    primed-next closed.shape (tables_left closed) c.loop-g.g c.args.key within
+    (law-left closed is AreLinked linked)
     c.in-Primed.number (ap Some (sym c.in-Primed.is) ∙ c.in-Some.ensures)
 
 pub returns-then-is_blank_in-clause-number : goal.returns-then-is_blank_in-clause-number
@@ -62,7 +67,8 @@ returns-then-is_blank_in-clause-number c =
     let here = shown-value closed.shape (tables_left closed) c.args.key c.loop-g.g within in
     let installed = sym c.if-not-is_installed.false ∙ c.is_installed.ensures in
     sym (c.loop-g.invariant
-    ∙ here (Some (Primed c.in-Primed.number)) installed (ap Some (sym c.in-Primed.is) ∙ c.in-Some.ensures)
+    ∙ here (Some (Primed c.in-Primed.number)) installed (ap Some (sym c.in-Primed.is)
+    ∙ c.in-Some.ensures)
     ∙ shows-primed _ _ c.in-Primed.number (sym c.is_blank_in.ensures ∙ c.if-is_blank_in.true))
 
 pub loop-g-preserved : goal.loop-g-preserved
@@ -74,10 +80,13 @@ loop-g-preserved c =
     let installed = sym c.if-not-is_installed.false ∙ c.is_installed.ensures in
     c.loop-g.invariant ∙ elim c.match-value_in.branch [
       | in-Some+in-Primed+else-is_blank_in w ↦
-          here (Some (Primed w.in-Primed.number)) installed (ap Some (sym w.in-Primed.is) ∙ w.in-Some.ensures)
-          ∙ passes-primed _ _ w.in-Primed.number (sym w.is_blank_in.ensures ∙ w.if-is_blank_in.false)
+          here (Some (Primed w.in-Primed.number)) installed (ap Some (sym w.in-Primed.is)
+          ∙ w.in-Some.ensures)
+          ∙ passes-primed _ _ w.in-Primed.number (sym w.is_blank_in.ensures
+          ∙ w.if-is_blank_in.false)
       | in-Some+in-PrimedNull w ↦
-          here (Some w.in-Some.value) installed w.in-Some.ensures ∙ passes-final _ _ w.in-Some.value w.in-PrimedNull.is
+          here (Some w.in-Some.value) installed w.in-Some.ensures
+          ∙ passes-final _ _ w.in-Some.value w.in-PrimedNull.is
       | in_default w ↦ here None installed w.in_default.ensures
     ]
 
@@ -86,4 +95,5 @@ returns-clause-number c =
     let closed = c.args.self.now in
     let none : generations_of closed.shape - c.loop-g.g ≡ 0
     = omega (arith, c.generations-g-end.ensures, ap (λ v. generations_of v.shape) c.self.view_is) in
-    sym (c.loop-g.invariant ∙ ap (shown_from closed.shape (tables_left closed) c.args.key c.loop-g.g) none)
+    sym (c.loop-g.invariant
+    ∙ ap (shown_from closed.shape (tables_left closed) c.args.key c.loop-g.g) none)

@@ -10,8 +10,10 @@ overflow_cast-result c =
     let closed = c.args.self.now in
     let is = lawful c.self.inside closed c.self.invariant c.self.view_is in
     let links = law-left closed is AreLinked linked in
-    let word = word-at _ 0 c.word.result c.word.ensures ∙ ap (λ v. slice_index v.words 0) c.self.view_is in
+    let word = word-at _ 0 c.word.result c.word.ensures
+    ∙ ap (λ v. slice_index v.words 0) c.self.view_is in
     omega (arith, links.within (tables_left closed).top links.top, is.plan.few_tables, word)
 
 pub returns : goal.returns
-returns c = word-at _ 0 c.word.result c.word.ensures ∙ ap (λ v. slice_index v.words 0) c.self.view_is
+returns c = word-at _ 0 c.word.result c.word.ensures
+    ∙ ap (λ v. slice_index v.words 0) c.self.view_is
