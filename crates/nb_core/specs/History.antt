@@ -75,8 +75,8 @@ pub record MayWin (p : Plan) (t : Tables) (g i : ℕ) (a b : ValueState) (c : Ca
 -- the key's slot in the table below is primed with this number
 abbrev pub IsPrimedBelow : Plan → Tables → ℕ → ℕ → ℕ → Type 0
 IsPrimedBelow p t zero k n = ⊥
-IsPrimedBelow p t (suc g) k n = (i : ℕ) × (i < size_of p g) × (t.key g i ≡ Claimed k)
-    × (t.value g i ≡ Primed n)
+IsPrimedBelow p t (suc g) k n =
+    (i : ℕ) × (i < size_of p g) × (t.key g i ≡ Claimed k) × (t.value g i ≡ Primed n)
 
 -- A copier stores over null alone.
 pub record MayCopyIn (p : Plan) (t : Tables) (g i k n : ℕ) : Type 0 where
@@ -143,8 +143,8 @@ seat_of_event (Read s c r) = s
 abbrev pub turned_slot : Plan → List Event → Event → Option (ℕ × ℕ)
 turned_slot p h (Kill s g i) = Some (g, i)
 turned_slot p h (Finish s g i) = Some (g, i)
-turned_slot p h (Prime s g i) = if is_finished_by_priming ((tables_at p h).value g i) then Some
-    (g, i) else None
+turned_slot p h (Prime s g i) =
+    if is_finished_by_priming ((tables_at p h).value g i) then Some (g, i) else None
 turned_slot p h _ = None
 
 -- whether the event turned this slot finished
@@ -221,15 +221,15 @@ IsChangeInRange (change.Add n) = n ≤ VALUE_MAX
 -- the call's key is a key of the map, and its numbers are numbers of the map
 abbrev pub IsCallInRange : Call → Type 0
 IsCallInRange (call.Get k) = k ≤ KEY_MAX
-IsCallInRange (call.Write k want change) = (k ≤ KEY_MAX) × IsWantInRange want
-    × IsChangeInRange change
+IsCallInRange (call.Write k want change) =
+    (k ≤ KEY_MAX) × IsWantInRange want × IsChangeInRange change
 
 -- the plan has the event's seat, table and slot, and its keys and numbers are those of the map
 abbrev pub IsInRange : Plan → Event → Type 0
 IsInRange p (Claim s g i k) = (s < p.seats) × IsSlot p g i × (k ≤ KEY_MAX)
 IsInRange p (Kill s g i) = (s < p.seats) × IsSlot p g i
-IsInRange p (Won s g i a b c r) = (s < p.seats) × IsSlot p g i × IsValueState a × IsValueState b
-    × IsCallInRange c
+IsInRange p (Won s g i a b c r) =
+    (s < p.seats) × IsSlot p g i × IsValueState a × IsValueState b × IsCallInRange c
 IsInRange p (CopyIn s g i k n) = (s < p.seats) × IsSlot p g i × (k ≤ KEY_MAX) × (n ≤ VALUE_MAX)
 IsInRange p (Prime s g i) = (s < p.seats) × IsSlot p g i
 IsInRange p (Finish s g i) = (s < p.seats) × IsSlot p g i

@@ -71,12 +71,12 @@ pub record Codings : Type 0 where
 
 -- how an event may change the value in slot i of table g: the slot is its own
 abbrev pub IsValueChange : Event → (g i : ℕ) → ValueState → ValueState → Type 0
-IsValueChange (Won s f j a b c r) g i from to = (f ≡ g) × (j ≡ i) × (from ≡ a) × (to ≡ b)
-    × IsWonChange a b
+IsValueChange (Won s f j a b c r) g i from to =
+    (f ≡ g) × (j ≡ i) × (from ≡ a) × (to ≡ b) × IsWonChange a b
 IsValueChange (CopyIn s f j k n) g i from to = (f ≡ g) × (j ≡ i) × (from ≡ Null) × (to ≡ Live n)
 IsValueChange (Prime s f j) g i from to = (f ≡ g) × (j ≡ i) × IsUnprimed from × (to ≡ primed from)
-IsValueChange (Finish s f j) g i from to = (f ≡ g) × (j ≡ i)
-    × ((n : ℕ) × (from ≡ Primed n) × (to ≡ Finished n))
+IsValueChange (Finish s f j) g i from to =
+    (f ≡ g) × (j ≡ i) × ((n : ℕ) × (from ≡ Primed n) × (to ≡ Finished n))
 IsValueChange _ g i from to = ⊥
 
 -- An event changes one word at most, and a key or a value only in its own slot and as its kind may.
@@ -92,15 +92,15 @@ pub record IsLawfulChange (p : Plan) (e : Event) (h : List Event) : Type 0 where
       (u.value g i ≡ t.value g i) ⊎ IsValueChange e g i (t.value g i) (u.value g i)
 
 abbrev pub LawfulChanges : Type 0
-LawfulChanges = (p : Plan) → IsPlan p → (e : Event) (h : List Event) → IsLegal p (e ∷ h)
-    → IsLawfulChange p e h
+LawfulChanges =
+    (p : Plan) → IsPlan p → (e : Event) (h : List Event) → IsLegal p (e ∷ h) → IsLawfulChange p e h
 
 -- ---- what the tables stand for
 
 -- At every moment the chain of tables stands for the map that the won exchanges make.
 abbrev pub TablesStand : Type 0
-TablesStand = (p : Plan) → IsPlan p → (h : List Event) → IsLegal p h
-    → Stands p (words_of p h) (map_of h)
+TablesStand =
+    (p : Plan) → IsPlan p → (h : List Event) → IsLegal p h → Stands p (words_of p h) (map_of h)
 
 -- A key has at most one slot in a table.
 abbrev pub HasOneSlot : Type 0
@@ -353,8 +353,8 @@ pub record AreLinked (p : Plan) (t : Tables) : Type 0 where
 -- Tables come one after another: only one that is there has keys, and only one that has a next one
 -- is copied.
 abbrev pub TablesAreLinked : Type 0
-TablesAreLinked = (p : Plan) → IsPlan p → (h : List Event) → IsLegal p h
-    → AreLinked p (tables_at p h)
+TablesAreLinked =
+    (p : Plan) → IsPlan p → (h : List Event) → IsLegal p h → AreLinked p (tables_at p h)
 
 -- A key's slot lies on its path, behind slots of other keys.
 abbrev pub ClaimedOnPath : Type 0

@@ -83,8 +83,8 @@ IsReplayed (entry ∷ log) = (entry.reply ≡ reply_of entry.call (map_of_log lo
 -- the calls of a seat in a log, with their replies
 abbrev pub calls_of : ℕ → List Entry → List (Call × Reply)
 calls_of seat [] = []
-calls_of seat (entry ∷ log) = if entry.seat == seat then (entry.call, entry.reply)
-    ∷ calls_of seat log else calls_of seat log
+calls_of seat (entry ∷ log) =
+    if entry.seat == seat then (entry.call, entry.reply) ∷ calls_of seat log else calls_of seat log
 
 -- the map has the key all the while, from the one log to the other that goes on from it (a walk
 -- must show such a key)

@@ -69,8 +69,8 @@ shown_from p t k g (suc tables) =
 
 -- The words stand for the map: at each key they show the map's number. One look at one moment.
 abbrev pub Stands : Plan → List ℕ → Numbers → Type 0
-Stands p w m = (k : ℕ) → k ≤ KEY_MAX → shown_from p (tables_of p w) k 0 (generations_of p)
-    ≡ map.get m k
+Stands p w m =
+    (k : ℕ) → k ≤ KEY_MAX → shown_from p (tables_of p w) k 0 (generations_of p) ≡ map.get m k
 
 -- ---- what calls do to the number of keys
 

@@ -9,8 +9,7 @@ abbrev pub plan_of : Inside → Plan
 plan_of a = record {
   exponents = take a.generations a.exponents;
   seats = a.seats;
-  stripes =
-      a.stripes;
+  stripes = a.stripes;
   reprobes = a.reprobes;
   chunk = a.chunk;
 }
@@ -21,8 +20,8 @@ kept_exponents p = map (slice_index p.exponents) (range_with_len 0 16)
 
 -- the places where the tables begin, and 0 at each place past the last table
 unfoldable pub kept_bases : Plan → List ℕ
-kept_bases p = map (λ g. if nat_lt g (generations_of p) then base_of p g else 0)
-    (range_with_len 0 16)
+kept_bases p =
+    map (λ g. if nat_lt g (generations_of p) then base_of p g else 0) (range_with_len 0 16)
 
 -- the fields of the shape of a plan
 abbrev pub inside_of : Plan → Inside

@@ -44,8 +44,8 @@ size_of p g = 2 ^ slice_index p.exponents g
 
 -- how many slots of its path a key may be claimed in by a fresh writer; in the last table, all
 abbrev pub limit_of : Plan → ℕ → ℕ
-limit_of p g = if suc g == generations_of p then size_of p g else min p.reprobes
-    (2 + size_of p g / 4)
+limit_of p g =
+    if suc g == generations_of p then size_of p g else min p.reprobes (2 + size_of p g / 4)
 
 -- how many words a table has: three header words (next, take, done), and a key word and a value
 -- word for each slot
@@ -111,8 +111,8 @@ PlacesAreDistinct = (p : Plan) → IsPlan p → HasDistinctPlaces p
 
 -- no table is smaller than the one before it
 abbrev pub SizesNeverFall : Type 0
-SizesNeverFall = (p : Plan) → IsPlan p → (g : ℕ) → suc g < generations_of p
-    → size_of p g ≤ size_of p (suc g)
+SizesNeverFall =
+    (p : Plan) → IsPlan p → (g : ℕ) → suc g < generations_of p → size_of p g ≤ size_of p (suc g)
 
 -- The limit of a table is a slot at least, and no more slots than the table has.
 abbrev pub LimitsFit : Type 0
@@ -138,8 +138,7 @@ plan exponents seats stripes =
       seats = seats;
       stripes = stripes;
       reprobes = 2 ^ 32 - 1;
-      chunk =
-          8;
+      chunk = 8;
     }
 
 -- the plan, or the first thing that is wrong with its seats and stripes
@@ -171,8 +170,8 @@ checked_shape bits generations seats stripes =
 
 -- the plan with this reprobe limit, which is a slot at least
 abbrev pub checked_reprobes : Plan → ℕ → Result Plan ShapeFault
-checked_reprobes p reprobes = if nat_le 1 reprobes then Ok (record p { reprobes = reprobes })
-    else Err fault.Reprobes
+checked_reprobes p reprobes =
+    if nat_le 1 reprobes then Ok (record p { reprobes = reprobes }) else Err fault.Reprobes
 
 -- the plan with chunks of so many slots, a power of two from 4 to 1024
 abbrev pub checked_chunk : Plan → ℕ → Result Plan ShapeFault

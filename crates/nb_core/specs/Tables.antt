@@ -142,8 +142,8 @@ HasSlotBelow p t (suc g) k = HasSlot p t g k
 -- the key has no slot in the table below that isn't finished
 abbrev pub IsSettledBelow : Plan → Tables → ℕ → ℕ → Type 0
 IsSettledBelow p t zero k = Unit {0}
-IsSettledBelow p t (suc g) k = (i : ℕ) → i < size_of p g → t.key g i ≡ Claimed k
-    → IsFinishedValue (t.value g i)
+IsSettledBelow p t (suc g) k =
+    (i : ℕ) → i < size_of p g → t.key g i ≡ Claimed k → IsFinishedValue (t.value g i)
 
 -- ---- what a seat may find
 

@@ -179,8 +179,8 @@ impl Shape {
 
     /// The same with a reprobe limit: a table that isn't the last takes no new key past so many
     /// slots of the key's path, nor past `2 + size / 4` of them; it grows instead. The limit is 1
-    /// at least. A small one keeps paths short, and has tables grow while they are still half
-    /// empty. The idea is `reprobe_limit` of high-scale-lib.
+    /// at least. A small one keeps paths short, and has tables grow while they are emptier. The
+    /// idea is `reprobe_limit` of high-scale-lib.
     pub fn with_reprobe_limit(self, reprobes: u32) -> Result<Shape, ShapeFault>
         ensures { result ≡ checked_reprobes self reprobes }
     {

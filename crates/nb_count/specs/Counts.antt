@@ -40,8 +40,7 @@ abbrev pub with_added : ℤ → CountSeatOf → CountSeatOf
 with_added amount seat = record seat {
   added = seat.added +ℤ amount;
   adds = seat.adds + 1;
-  steps =
-      seat.steps + 1;
+  steps = seat.steps + 1;
 }
 
 -- the seat after so many looks, which change no word: it has made no adding step

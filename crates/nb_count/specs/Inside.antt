@@ -12,8 +12,7 @@ abbrev pub counter_of : counter.Inside → CounterOf
 counter_of c = record {
   id = c.table.shared.table_id;
   stripes = c.size.stripes;
-  seats =
-      c.size.seats;
+  seats = c.size.seats;
 }
 
 -- the table is the counter's, with room for its stripes

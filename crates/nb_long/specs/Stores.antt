@@ -13,5 +13,5 @@ HasStored store value token = Shows store token × (token.value ≡ value)
 -- token of it.
 abbrev pub GivesBack : {V : Type 0} → Shelves → V → StoreFault V → Type 0
 GivesBack store value (fault.OutOfMemory back) = back ≡ value
-GivesBack store value (fault.ValueRange placed) = HasStored store value placed
-    × (VALUE_MAX < placed.index)
+GivesBack store value (fault.ValueRange placed) =
+    HasStored store value placed × (VALUE_MAX < placed.index)

@@ -92,8 +92,8 @@ pub record HasMadeLast (key : ℕ) (call : Call) (reply : Reply) (before after :
 
 -- the store shows a value under the number, and this is whether it is equal to the given one
 abbrev pub IsCompared : {V : Type 0} → (V → V → Bool) → Shelves → V → (number : ℕ) → Bool → Type 0
-IsCompared {V} eq store value number equal = (found : Where V) × Shows store found
-    × (found.index ≡ number) × (eq found.value value ≡ equal)
+IsCompared {V} eq store value number equal =
+    (found : Where V) × Shows store found × (found.index ≡ number) × (eq found.value value ≡ equal)
 
 -- What the key had at last, and whether the write was made. It was where the key's value was equal
 -- to the given one: the last call is a write that matched on its number. Else the last call is a
@@ -113,8 +113,8 @@ HasChangedIf eq m key value change before after None false =
 
 -- the last call is a read of a number that the store didn't show, and nothing was changed
 abbrev pub IsUnshown : (key : ℕ) → (before after : SeatOf) → Type 0
-IsUnshown key before after = (n : ℕ) × HasMadeLast key (call.Get key)
-    (reply_at (call.Get key) (Some n)) before after
+IsUnshown key before after =
+    (n : ℕ) × HasMadeLast key (call.Get key) (reply_at (call.Get key) (Some n)) before after
 
 -- What is given back where a value isn't written in place of an equal one. There is always a slot
 -- for it.
@@ -125,5 +125,5 @@ IsRefusedIf m key value before after (fault.OutOfMemory back) =
 IsRefusedIf m key value before after (fault.ValueRange placed) =
     GivesBack m.store value (store_fault.ValueRange placed) × (after ≡ before)
 IsRefusedIf m key value before after (fault.Full receipt) = ⊥
-IsRefusedIf m key value before after (fault.Unshown receipt) = HasStored m.store value receipt
-    × IsUnshown key before after
+IsRefusedIf m key value before after (fault.Unshown receipt) =
+    HasStored m.store value receipt × IsUnshown key before after

@@ -60,8 +60,8 @@ pub record HasMade (p : Plan) (call : Call) (before after : SeenBy) (made : List
 
 -- the same, whichever calls the steps made
 abbrev pub HasStepped : Plan → Call → (before after : SeenBy) → (most : ℕ) → Type 0
-HasStepped p call before after most = (made : List (Call × Reply))
-    × HasMade p call before after made most
+HasStepped p call before after most =
+    (made : List (Call × Reply)) × HasMade p call before after made most
 
 -- the call with its reply, where its key has this number, or none
 abbrev pub as_replied : Call → Option ℕ → List (Call × Reply)

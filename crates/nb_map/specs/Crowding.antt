@@ -30,8 +30,8 @@ IsFilled (call ∷ calls) k = ((fills call ≡ true) × (key_of_call call ≡ k)
 
 -- a claim of a key that the calls fill, or that has a slot in the table below
 abbrev pub IsClaimOf : Plan → Tables → List Call → Event → Type 0
-IsClaimOf p t calls (Claim s g i k) = (g < generations_of p)
-    × (HasSlotBelow p t g k ⊎ IsFilled calls k)
+IsClaimOf p t calls (Claim s g i k) =
+    (g < generations_of p) × (HasSlotBelow p t g k ⊎ IsFilled calls k)
 IsClaimOf p t calls _ = Unit {0}
 
 -- Whatever the seat was asked to do, of the keys that it claimed these calls fill each that is new

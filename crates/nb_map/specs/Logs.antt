@@ -23,10 +23,10 @@ HasReplied call before after reply = HasLogged before after ((call, reply) ∷ [
 
 -- it has made this one call, which found this number at its key, or none
 abbrev pub HasFound : Call → (before after : SeatOf) → Option ℕ → Type 0
-HasFound call before after number = (reply : Reply) × (reply.before ≡ number)
-    × HasReplied call before after reply
+HasFound call before after number =
+    (reply : Reply) × (reply.before ≡ number) × HasReplied call before after reply
 
 -- it has made this one call, and this is whether its condition held
 abbrev pub HasMatched : Call → (before after : SeatOf) → Bool → Type 0
-HasMatched call before after matched = (reply : Reply) × (reply.matched ≡ matched)
-    × HasReplied call before after reply
+HasMatched call before after matched =
+    (reply : Reply) × (reply.matched ≡ matched) × HasReplied call before after reply

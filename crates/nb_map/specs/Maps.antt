@@ -56,8 +56,7 @@ accounted net count =
     record count {
       added = count.added +ℤ net;
       adds = count.adds + count_steps net;
-      steps =
-          count.steps + count_steps net;
+      steps = count.steps + count_steps net;
     }
 
 -- The seat's events were such as this call may make, in at most so many steps on the chain. On the

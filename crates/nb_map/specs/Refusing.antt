@@ -42,8 +42,8 @@ made_in call (Err fault) = []
 
 -- the seat has made no call, and the refusal is just
 abbrev pub HasRefused : MapOf → Call → (before after : SeatOf) → AddFault → Type 0
-HasRefused map call before after fault = HasLogged before after []
-    × IsJustAdd map.chain.shape call after.chain fault
+HasRefused map call before after fault =
+    HasLogged before after [] × IsJustAdd map.chain.shape call after.chain fault
 
 -- ---- in one table
 
@@ -51,8 +51,8 @@ HasRefused map call before after fault = HasLogged before after []
 abbrev pub IsTarget : Plan → Call → SeenBy → (g k : ℕ) → Target → Type 0
 IsTarget p call seat g k (target.Slot i) = IsSlotOf p (seen_by p seat) g i k
 IsTarget p call seat g k (target.Absent reply) = Unit {0}
-IsTarget p call seat g k (target.Above below) = IsAbove p (seen_by p seat) g k
-    × HasBelow p (seen_by p seat) (suc g) k below
+IsTarget p call seat g k (target.Above below) =
+    IsAbove p (seen_by p seat) g k × HasBelow p (seen_by p seat) (suc g) k below
 IsTarget p call seat g k target.Full = Fills call × IsCrowded p seat.seen k
 
 -- the call, where the search was its read

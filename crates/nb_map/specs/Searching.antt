@@ -22,14 +22,14 @@ IsSlotOf p t g i k = (i < size_of p g) × (t.key g i ≡ Claimed k)
 
 -- the key's path in this table is closed, behind slots of other keys
 abbrev pub IsClosedTo : Plan → Tables → (g k : ℕ) → Type 0
-IsClosedTo p t g k = (d : ℕ) × (d < size_of p g) × AreOthers p t g k d
-    × (t.key g (path_slot p g k d) ≡ Dead)
+IsClosedTo p t g k =
+    (d : ℕ) × (d < size_of p g) × AreOthers p t g k d × (t.key g (path_slot p g k d) ≡ Dead)
 
 -- the tables show that a probe of the key's path in this table ends here
 abbrev pub EndsAt : Plan → Tables → (g k : ℕ) → PathEnd → Type 0
 EndsAt p t g k (ends.Slot i) = IsSlotOf p t g i k
-EndsAt p t g k (ends.Empty d) = (d < size_of p g) × AreOthers p t g k d
-    × (t.key g (path_slot p g k d) ≡ Empty)
+EndsAt p t g k (ends.Empty d) =
+    (d < size_of p g) × AreOthers p t g k d × (t.key g (path_slot p g k d) ≡ Empty)
 EndsAt p t g k ends.Closed = IsClosedTo p t g k × IsInstalled t (suc g)
 EndsAt p t g k ends.Whole = AreOthers p t g k (size_of p g)
 

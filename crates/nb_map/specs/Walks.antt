@@ -126,8 +126,8 @@ pub record HasRead (before after : SeatOf) (shown : Option (ℕ × ℕ)) : Type 
 -- the most steps from one place of a walk to another, with T slots in all tables and B the bound of
 -- a read: T + B + 4 for each slot, so T (T + B + 4) for all calls of a walk together
 abbrev pub passing_steps : Plan → (from to : Place) → ℕ
-passing_steps p from to = (slots_ahead p from - slots_ahead p to)
-    * (slots_below p (generations_of p) + get_steps p + 4)
+passing_steps p from to =
+    (slots_ahead p from - slots_ahead p to) * (slots_below p (generations_of p) + get_steps p + 4)
 
 -- ---- a whole walk
 
@@ -195,8 +195,8 @@ IsEarlier p t first g k false = (f : ℕ) → first ≤ f → f < g → IsAway p
 -- may have come there; or it is the first place of none
 abbrev pub IsFirstOf : Plan → SeenBy → (first g i : ℕ) → Option ℕ → Type 0
 IsFirstOf p seat first g i None = (k : ℕ) → place_of p seat.seen first k ≡ Some (g, i) → ⊥
-IsFirstOf p seat first g i (Some k) = (place_of p seat.seen first k ≡ Some (g, i))
-    × IsReached p (seen_by p seat) g k
+IsFirstOf p seat first g i (Some k) =
+    (place_of p seat.seen first k ≡ Some (g, i)) × IsReached p (seen_by p seat) g k
 
 -- the most steps at one slot: its key, a search for the key in the tables before, and a read of it
 abbrev pub visit_steps : Plan → ℕ

@@ -26,8 +26,8 @@ use Rattle.nb_map.specs.declared.claim.Found.TheVariants as found
 -- so; or its condition holds and it puts this value in place of any that has this number; or it
 -- would put more than the greatest number.
 abbrev pub IsDecided : Call → Option ℕ → Decision → Type 0
-IsDecided call number (decision.Leave reply) = (leaves_alone call number ≡ true)
-    × (reply ≡ reply_at call number)
+IsDecided call number (decision.Leave reply) =
+    (leaves_alone call number ≡ true) × (reply ≡ reply_at call number)
 IsDecided call number (decision.Exchange to) =
     (leaves_alone call number ≡ false) × (reply_at call number
     ≡ record { before = number; matched = true })
@@ -50,8 +50,8 @@ HasBelow p t g k below.Passed = Unit {0}
 -- this slot; or the call goes on in the next table; or other keys have all slots of the last table
 abbrev pub IsFound : Plan → SeenBy → (g k : ℕ) → Found → Type 0
 IsFound p seat g k (found.Slot i) = IsSlotOf p (seen_by p seat) g i k
-IsFound p seat g k (found.Above below) = IsAbove p (seen_by p seat) g k
-    × HasBelow p (seen_by p seat) (suc g) k below
+IsFound p seat g k (found.Above below) =
+    IsAbove p (seen_by p seat) g k × HasBelow p (seen_by p seat) (suc g) k below
 IsFound p seat g k found.Full = IsCrowded p seat.seen k
 
 -- the most steps to complete the table below one, if there is one
@@ -80,8 +80,8 @@ find_steps p g = 3 * size_of p g + steps_below p g + 4 + table_steps p g
 -- how many exchanges on the call's key other seats have won since the seat had seen no more than
 -- `before`
 abbrev pub passed_since : Call → (before after : SeenBy) → ℕ
-passed_since call before after = passed_over after.seen (length before.seen) (key_of_call call)
-    before.number
+passed_since call before after =
+    passed_over after.seen (length before.seen) (key_of_call call) before.number
 
 -- ---- at home
 

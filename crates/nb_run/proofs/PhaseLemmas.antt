@@ -89,7 +89,7 @@ answers-workers m (phase ∷ phases) (first ∷ answers) before after (apart, ne
     (subst (λ n. All (λ first. length first ≡ n) answers) same
     (answers-workers m phases answers next after later))
 
--- ---- answers joined_answers
+-- ---- answers joined
 
 pub joined-assoc :
     (xs ys zs : List (List Answer)) → length ys ≡ length xs

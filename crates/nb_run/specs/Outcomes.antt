@@ -18,8 +18,8 @@ lists_in lists = map (λ list. list.items) lists
 -- the text that is written of it: the answers, phase by phase and worker by worker, then the size
 -- and the entries
 abbrev pub text_of_outcome : List Phase → Outcome → Bytes
-text_of_outcome phases o = all_lines phases (lists_in o.answers.items)
-    ++ ending_of o.size o.entries.items
+text_of_outcome phases o =
+    all_lines phases (lists_in o.answers.items) ++ ending_of o.size o.entries.items
 
 -- each command's worker is one of so many
 abbrev pub HaveWorkers : ℕ → List Phase → Type 0

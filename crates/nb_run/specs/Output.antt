@@ -27,19 +27,19 @@ phase_lines phase w (mine ∷ others) = flat_map (answer_line w)
 -- what the lists have behind the phase's answers
 abbrev pub after_phase : Phase → (w : ℕ) → List (List Answer) → List (List Answer)
 after_phase phase w [] = []
-after_phase phase w (mine ∷ others) = drop (length (commands_of w phase)) mine ∷ after_phase phase
-    (suc w) others
+after_phase phase w (mine ∷ others) =
+    drop (length (commands_of w phase)) mine ∷ after_phase phase (suc w) others
 
 abbrev pub all_lines : List Phase → List (List Answer) → Bytes
 all_lines [] answers = []
-all_lines (phase ∷ phases) answers = phase_lines phase 0 answers ++ all_lines phases
-    (after_phase phase 0 answers)
+all_lines (phase ∷ phases) answers =
+    phase_lines phase 0 answers ++ all_lines phases (after_phase phase 0 answers)
 
 -- Each worker from number w on has as many answers as it has commands in these phases.
 abbrev pub AreAnswersOf : List Phase → (w : ℕ) → List (List Answer) → Type 0
 AreAnswersOf phases w [] = Unit {0}
-AreAnswersOf phases w (mine ∷ others) = (length mine ≡ length (flat_map (commands_of w) phases))
-    × AreAnswersOf phases (suc w) others
+AreAnswersOf phases w (mine ∷ others) =
+    (length mine ≡ length (flat_map (commands_of w) phases)) × AreAnswersOf phases (suc w) others
 
 -- ---- the lists, of which each worker has said so many
 

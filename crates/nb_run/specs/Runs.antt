@@ -62,8 +62,7 @@ ends unread written reader_failed writer_failed =
       unread = unread;
       written = written;
       reader_failed = reader_failed;
-      writer_failed =
-          writer_failed;
+      writer_failed = writer_failed;
     }
 
 -- What has come of a run, whose two ends hadn't failed before it.
@@ -71,5 +70,6 @@ pub record IsRunResult (p : Plan) (before after : Ends) (result : Result (Unit {
     Type 0 where
   pub ok : OnOk result (HasRun p before.unread after.unread before.written after.written)
   pub due : IfErr result (IsRunFaultOf p before.unread after.unread before.written after.written)
+  -- these two say that the reader, or the writer, failed while this ran
   pub read : IsErrOf result fault.Read ↔ IsTrue after.reader_failed
   pub write : IsErrOf result fault.Write ↔ IsTrue after.writer_failed

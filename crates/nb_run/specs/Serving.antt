@@ -66,8 +66,8 @@ pub record HasBrokenHelp (words : Words) (unread unread' written written' : Opti
 -- memory for the options. Where the words give none, nothing is read.
 abbrev pub IsServeFaultOf :
     Words → (unread unread' written written' : Option Bytes) → ServeFault → Type 0
-IsServeFaultOf words unread unread' written written' serve.Usage = GiveNone words option.Usage
-    × (unread' ≡ unread)
+IsServeFaultOf words unread unread' written written' serve.Usage =
+    GiveNone words option.Usage × (unread' ≡ unread)
 IsServeFaultOf words unread unread' written written' (serve.Run run.Read) =
     HasFault words unread unread' written written' run.Read
 IsServeFaultOf words unread unread' written written' (serve.Run run.Write) =

@@ -68,8 +68,8 @@ map_after_command c m = if overflows (call_of c) m then m else map_after (call_o
 -- room if full n is true
 abbrev pub map_behind : (ℕ → Bool) → Numbers → List Command → Numbers
 map_behind full m [] = m
-map_behind full m (c ∷ cs) = map_behind (λ n. full (suc n))
-    (if full 0 then m else map_after_command c m) cs
+map_behind full m (c ∷ cs) =
+    map_behind (λ n. full (suc n)) (if full 0 then m else map_after_command c m) cs
 
 -- ---- the text
 

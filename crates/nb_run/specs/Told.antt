@@ -40,8 +40,8 @@ pub record HasDone (w : ℕ) (calls : List (Call × Reply)) (before after : List
 
 -- it made one call, that of the command, and this is what is shown of its reply
 abbrev pub IsCallShown : (w : ℕ) → Command → Answer → (before after : List Entry) → Type 0
-IsCallShown w c a before after = (reply : Reply) × (shown c reply ≡ a)
-    × HasDone w ((call_of c, reply) ∷ []) before after
+IsCallShown w c a before after =
+    (reply : Reply) × (shown c reply ≡ a) × HasDone w ((call_of c, reply) ∷ []) before after
 
 -- Where a command may be refused for want of room: a fact of the command and of the log until then.
 abbrev pub Refusals : Type 1
@@ -55,8 +55,8 @@ IsTold full w c answer.Nothing before after = IsCallShown w c answer.Nothing bef
 IsTold full w c (answer.Value n) before after = IsCallShown w c (answer.Value n) before after
 IsTold full w c (answer.Matched b) before after = IsCallShown w c (answer.Matched b) before after
 IsTold full w c answer.Full before after = full c after × HasDone w [] before after
-IsTold full w c answer.Range before after = (overflows (call_of c) (map_of_log after) ≡ true)
-    × HasDone w [] before after
+IsTold full w c answer.Range before after =
+    (overflows (call_of c) (map_of_log after) ≡ true) × HasDone w [] before after
 
 -- So one command after another, and nothing behind the last one.
 abbrev pub AreTold :

@@ -20,8 +20,8 @@ use Rattle.nb_run.specs.declared.workers.Worker.{Worker}
 
 -- the seat made the command's call, and this is what is shown of its reply
 abbrev pub HasShownReply : Command → Answer → (before after : SeatOf) → Type 0
-HasShownReply c a before after = (reply : Reply) × (shown c reply ≡ a)
-    × HasReplied (call_of c) before after reply
+HasShownReply c a before after =
+    (reply : Reply) × (shown c reply ≡ a) × HasReplied (call_of c) before after reply
 
 -- The command was answered so: its call was made, or justly refused.
 abbrev pub IsAnswered : MapOf → Command → Answer → (before after : SeatOf) → Type 0
@@ -33,8 +33,8 @@ IsAnswered m c answer.Range before after = HasRefused m (call_of c) before after
 
 -- the seat's steps were such as the command's call may make
 abbrev pub HasWorkedFor : MapOf → Command → (before after : SeatOf) → Type 0
-HasWorkedFor m c before after = (most : ℕ)
-    × HasStepped m.chain.shape (call_of c) before.chain after.chain most
+HasWorkedFor m c before after =
+    (most : ℕ) × HasStepped m.chain.shape (call_of c) before.chain after.chain most
 
 -- it was answered so, by such steps
 abbrev pub HasAnswered : MapOf → Command → Answer → (before after : SeatOf) → Type 0
@@ -45,8 +45,8 @@ abbrev pub AreAnswered : MapOf → List Command → List Answer → (before afte
 AreAnswered m [] [] before after = after ≡ before
 AreAnswered m [] (a ∷ answers) before after = ⊥
 AreAnswered m (c ∷ cs) [] before after = ⊥
-AreAnswered m (c ∷ cs) (a ∷ answers) before after = (next : SeatOf) × HasAnswered m c a before next
-    × AreAnswered m cs answers next after
+AreAnswered m (c ∷ cs) (a ∷ answers) before after =
+    (next : SeatOf) × HasAnswered m c a before next × AreAnswered m cs answers next after
 
 -- a worker's commands of a phase, in their order
 abbrev pub commands_of : ℕ → Phase → List Command
@@ -80,8 +80,8 @@ HaveRun m [] [] before after = after ≡ before
 HaveRun m [] (first ∷ answers) before after = ⊥
 HaveRun m (phase ∷ phases) [] before after = ⊥
 HaveRun m (phase ∷ phases) (first ∷ answers) before after =
-    (apart joined_answers : List SeatOf) × PhaseRan m phase 0 first before apart
-    × HaveMet m apart joined_answers × HaveRun m phases answers joined_answers after
+    (apart met : List SeatOf) × PhaseRan m phase 0 first before apart × HaveMet m apart met
+    × HaveRun m phases answers met after
 
 -- ---- workers
 

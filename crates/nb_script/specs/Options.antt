@@ -98,8 +98,8 @@ AreRefused words = (k : ErrorKind) × IsAmong k (fault_of nbrun words) × (k ≢
 
 -- clap takes the words, but they give no plan
 abbrev pub GivesNone : List Text → Type 0
-GivesNone words = (fault_of nbrun words ≡ [])
-    × ((plan : Plan) → AreOptionsOf (matches_of nbrun words) plan → ⊥)
+GivesNone words =
+    (fault_of nbrun words ≡ []) × ((plan : Plan) → AreOptionsOf (matches_of nbrun words) plan → ⊥)
 
 -- when each fault comes
 abbrev pub IsDue : List Text → OptionFault → Type 0

@@ -15,8 +15,8 @@ joined_phases over current (first ∷ later) = over ++ (current ++ first) ∷ la
 
 -- the phases so far, if these lines follow
 abbrev pub with_lines : Lines → List Line → List Phase
-with_lines l lines = joined_phases (map (λ phase. phase.items) l.over.items) l.current.items
-    (phases_of lines)
+with_lines l lines =
+    joined_phases (map (λ phase. phase.items) l.over.items) l.current.items (phases_of lines)
 
 -- the whole script, if these lines follow
 abbrev pub with_texts : Lines → List Bytes → Result (List Phase) Fault

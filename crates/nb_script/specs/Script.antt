@@ -51,8 +51,8 @@ words_in line = filter (λ word. nat_lt 0 (length word)) (slice_split is_space l
 
 -- the number that a word spells: one or more digits, in base ten
 abbrev pub number_spelled : Bytes → Option ℕ
-number_spelled word = if nat_lt 0 (length word) && all_ascii_digits word then Some
-    (digits_value 10 word) else None
+number_spelled word =
+    if nat_lt 0 (length word) && all_ascii_digits word then Some (digits_value 10 word) else None
 
 abbrev pub below : ℕ → Cause → Option ℕ → Result ℕ Cause
 below limit too_great None = Err cause.Number
@@ -105,8 +105,8 @@ command_on op.Get k words = Ok (command.Get k)
 command_on op.Put k words = value_at words 1 >>= λ n. Ok (command.Put k n)
 command_on op.PutIfAbsent k words = value_at words 1 >>= λ n. Ok (command.PutIfAbsent k n)
 command_on op.Replace k words = value_at words 1 >>= λ n. Ok (command.Replace k n)
-command_on op.ReplaceIf k words = value_at words 1 >>= λ old. value_at words 2 >>= λ n. Ok
-    (command.ReplaceIf k old n)
+command_on op.ReplaceIf k words =
+    value_at words 1 >>= λ old. value_at words 2 >>= λ n. Ok (command.ReplaceIf k old n)
 command_on op.Remove k words = Ok (command.Remove k)
 command_on op.RemoveIf k words = value_at words 1 >>= λ n. Ok (command.RemoveIf k n)
 command_on op.Add k words = value_at words 1 >>= λ n. Ok (command.Add k n)
@@ -135,8 +135,8 @@ said_by seats (word ∷ words) =
     else task_of seats word words >>= λ task. Ok (Some (line.Command task.0 task.1))
 
 abbrev pub line_of : ℕ → Bytes → Result (Option Line) Cause
-line_of seats bytes = if nat_lt LINE_MAX (length bytes) then Err cause.LongLine else said_by seats
-    (words_in bytes)
+line_of seats bytes =
+    if nat_lt LINE_MAX (length bytes) then Err cause.LongLine else said_by seats (words_in bytes)
 
 -- the first fault of a script: the number of its line, counted from 1, and its cause
 abbrev pub Fault : Type 0

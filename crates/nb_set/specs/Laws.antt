@@ -12,7 +12,7 @@ pub record LogsAddUp : Type 0 where
       → HasLogged before between made → HasLogged between after made'
       → HasLogged before after (made' ++ made)
 
--- whether the call adds_key the key, or removes it
+-- whether the call adds the key, or removes it
 abbrev pub adds_key : ℕ → Call → Bool
 adds_key k (Add j) = k == j
 adds_key k (Remove j) = false

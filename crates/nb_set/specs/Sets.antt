@@ -59,8 +59,8 @@ HasReplied call before after reply = HasLogged before after ((call, reply) ∷ [
 -- the seat has made no call, and other keys have all slots of the last table, so that there is none
 -- for this one
 abbrev pub HasNoRoom : SetOf → ℕ → (before after : SeatOf) → Type 0
-HasNoRoom set k before after = HasLogged before after []
-    × IsCrowded (shape_of set) after.map.chain.seen k
+HasNoRoom set k before after =
+    HasLogged before after [] × IsCrowded (shape_of set) after.map.chain.seen k
 
 -- ---- seats
 
@@ -84,8 +84,8 @@ new_seats set count = map (new_seat set) (range_with_len 0 count)
 
 -- it has made at most so many steps on the tables, and one on the counter where it changed the size
 abbrev pub HasWorked : SetOf → Call → (before after : SeatOf) → (most : ℕ) → Type 0
-HasWorked set call before after most = maps.HasWorked set.map (call_for call)
-    before.map after.map most
+HasWorked set call before after most =
+    maps.HasWorked set.map (call_for call) before.map after.map most
 
 -- It is lock-free: only where other seats' writes of the key came first did it work for longer than
 -- its tables say.
@@ -99,8 +99,8 @@ IsAtHome set k before after = IsSeenAtHome (shape_of set) before.map.chain after
 
 -- the same, and no other seat has changed it meanwhile, so that a write of it takes four
 abbrev pub IsAloneAtHome : SetOf → Call → (before after : SeatOf) → Type 0
-IsAloneAtHome set call before after = IsSeenAlone (shape_of set) (call_for call)
-    before.map.chain after.map.chain
+IsAloneAtHome set call before after =
+    IsSeenAlone (shape_of set) (call_for call) before.map.chain after.map.chain
 
 -- it has made so many steps more on the tables at most
 abbrev pub HasStepped : (before after : SeatOf) → (most : ℕ) → Type 0

@@ -19,8 +19,7 @@ abbrev pub closed_of : closed.Inside → ClosedOf
 closed_of c = record {
   shape = c.shape;
   words = slots_items c.table.words;
-  history =
-      most_seen c.seats.value.items;
+  history = most_seen c.seats.value.items;
 }
 
 -- all words are there, and no slots; the history left the words

@@ -9,8 +9,8 @@ use Rattle.nb_core.specs.declared.states.KeyState.TheVariants.{Claimed}
 -- below it.
 abbrev pub HasSource : Plan → Tables → ℕ → ℕ → ℕ → Type 0
 HasSource p t zero k n = ⊥
-HasSource p t (suc g) k n = (i : ℕ) × (i < size_of p g) × (t.key g i ≡ Claimed k)
-    × IsPrimedOrFinished t g i n
+HasSource p t (suc g) k n =
+    (i : ℕ) × (i < size_of p g) × (t.key g i ≡ Claimed k) × IsPrimedOrFinished t g i n
 
 -- the slot holds this number, primed or finished, and in the next table its key has a slot whose
 -- value isn't null

@@ -24,8 +24,8 @@ only holds e = if holds then e ∷ [] else []
 -- the call's read, where what was shown of its key is something that the call leaves as it is
 abbrev pub read : ℕ → Call → Option (Option ℕ) → List Event
 read number call None = []
-read number call (Some shown) = only (leaves_alone call shown)
-    (Read number call (reply_at call shown))
+read number call (Some shown) =
+    only (leaves_alone call shown) (Read number call (reply_at call shown))
 
 -- the read of a load's call, if the load has one, by what the load shows of each key
 abbrev pub reads : ℕ → Option Call → (ℕ → Option (Option ℕ)) → List Event

@@ -30,8 +30,7 @@ seat_with chain part = record {
   chain = chain;
   number = part.number;
   seen = part.seen;
-  steps =
-      part.steps;
+  steps = part.steps;
 }
 
 -- the seat, as contracts see it

@@ -33,8 +33,8 @@ GoesOn =
 
 -- all seats but the one of this number know at the second moment just what they knew at the first
 abbrev pub OthersStay : ℕ → Moment → Moment → Type 0
-OthersStay number s s' = All (λ part. part.number ≢ number → Contains (parts_at s) part)
-    (parts_at s')
+OthersStay number s s' =
+    All (λ part. part.number ≢ number → Contains (parts_at s) part) (parts_at s')
 
 -- After each step, be it an event or none, the seat that made it has seen the history up to that
 -- step: where one more step has been made, or several, and all seats but one know just what they

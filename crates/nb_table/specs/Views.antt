@@ -92,8 +92,7 @@ moved part others own step =
     record {
       number = part.number;
       seen = own ++ (others ++ part.seen);
-      steps =
-          part.steps + 1;
+      steps = part.steps + 1;
       last_step = step;
     }
 
