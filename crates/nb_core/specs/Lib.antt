@@ -4,6 +4,7 @@ pub mod History
 pub mod Laws
 pub mod Log
 pub mod Meaning
+pub mod Mixing
 pub mod Places
 pub mod Plans
 pub mod Refusals

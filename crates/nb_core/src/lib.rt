@@ -10,6 +10,7 @@ mod calls;
 mod events;
 pub mod examples;
 pub mod laws;
+mod mixing;
 mod numbers;
 mod plain;
 pub mod refusals;
@@ -19,11 +20,13 @@ mod states;
 
 pub use calls::{Call, Change, Reply, Want};
 pub use events::Event;
+pub use mixing::{mix, unmix};
 pub use numbers::{KEY_MAX, Key, Num, RangeFault, VALUE_MAX};
 pub use plain::{PlainFault, PlainMap};
 pub use seats::NotAll;
 pub use shapes::{HeaderWord, MAX_GENERATIONS, MAX_SEATS, MAX_STRIPES, Shape, ShapeFault};
 pub use states::{
     KeyState, ValueState, decode_key, decode_lawful_value, decode_value, encode_key, encode_value,
+    number_in_word,
 };
 pub use std::alloc::AllocError as OutOfMemory;

@@ -1,5 +1,5 @@
 //! What the two words of a slot hold.
-ghost use Rattle.std.specs.Prelude.{◌≡◌, ◌≢◌, Some, IfSome, IfNone};
+ghost use Rattle.std.specs.Prelude.{◌≡◌, ◌≢◌, ◌⊎◌, ◌%◌, ◌<◌, ◌≤◌, Some, IfSome, IfNone};
 ghost use Rattle.nb_core.specs.States.{IsValueWord};
 ghost use Rattle.nb_core.specs.States.{
   IsKeyState,
@@ -9,7 +9,8 @@ ghost use Rattle.nb_core.specs.States.{
   value_state,
   value_word,
 };
-ghost use Rattle.nb_core.specs.Tables.{is_finished_value};
+ghost use Rattle.nb_core.specs.Tables.{IsUnprimed, is_finished_value};
+ghost use Rattle.nb_core.specs.declared.states.ValueState.TheVariants as value_is;
 
 use crate::numbers::{Key, Num};
 
@@ -137,6 +138,21 @@ pub fn decode_lawful_value(word: u64) -> ValueState
             _ => ValueState::Finished(number),
         }
     }
+}
+
+/// The number in the word of a value, or 0 where it has none, by a few instructions without a
+/// branch. The word is known to stand for a value. Whether it has one is seen by the word: one of a
+/// value that isn't primed is a multiple of 4, and those of a null and of a tombstone are below 8.
+#[inline]
+pub fn number_in_word(word: u64) -> Num
+    requires { IsValueWord word }
+    ensures live { word % 4 ≡ 0 → 8 ≤ word → value_state word ≡ Some (value_is.Live result) }
+    ensures none { word % 4 ≡ 0 → word < 8
+        → (value_state word ≡ Some value_is.Null) ⊎ (value_state word ≡ Some value_is.Tombstone) }
+    ensures primed { word % 4 ≢ 0
+        → (state : ValueState) × (value_state word ≡ Some state) × ¬ IsUnprimed state }
+{
+    Num::in_range((word / 4).saturating_sub(2))
 }
 
 #[cfg(test)]

@@ -1,4 +1,4 @@
-use Rattle.std.proofs.Common.{◌≡◌, ◌∙◌, ◌≤◌, ◌^◌, ap, min, arith, slice_index, sym}
+use Rattle.std.proofs.Common.{◌≡◌, ◌∙◌, ◌^◌, ap, min, arith, slice_index, sym}
 use Rattle.std.proofs.Math.Nat.{le-min, min-le_right}
 use Rattle.nb_core.proofs.Kept.{plan-kept}
 use Rattle.nb_core.proofs.Powers.{smaller-power}

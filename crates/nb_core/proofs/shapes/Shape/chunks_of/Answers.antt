@@ -1,4 +1,4 @@
-use Rattle.std.proofs.Common.{◌≡◌, ◌∙◌, ◌≤◌, ◌^◌, ◌/◌, ℕ, ap, arith, sym, w64}
+use Rattle.std.proofs.Common.{◌≡◌, ◌∙◌, ◌^◌, ◌/◌, ℕ, ap, arith, sym, w64}
 use Rattle.std.specs.Int.{trailing_zeros}
 use Rattle.nb_core.specs.Plans.{IsChunk, size_of}
 use Rattle.nb_core.proofs.Powers.{trailing-power}

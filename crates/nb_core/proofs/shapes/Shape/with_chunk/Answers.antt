@@ -1,6 +1,5 @@
-use Rattle.std.proofs.Common.{◌≡◌, ◌∙◌, ◌≤◌, arith, rules}
+use Rattle.std.proofs.Common.{◌≡◌, ◌≤◌, rules}
 use lib.Count.{ones}
-use Rattle.nb_core.specs.Plans.{IsChunk}
 use Rattle.nb_core.proofs.Kept.{inside-tuned}
 use Rattle.nb_core.proofs.Powers.{chunk-of-one_digit}
 use Rattle.nb_core.proofs.shapes.Shape.with_chunk.Goals as goal
