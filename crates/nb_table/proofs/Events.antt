@@ -1,6 +1,6 @@
 -- The events of each step but a load, by the word that it finds: a step is one only where it
 -- changes its word.
-use Rattle.std.specs.Prelude.{ℕ, ◌%◌, ◌==◌, nat_le, true, List, [], ◌∷◌}
+use Rattle.std.specs.Prelude.{ℕ, ◌%◌, ◌==◌, nat_le, true, if◌then◌else◌, List, [], ◌∷◌}
 use Rattle.nb_core.specs.History.{number_in_value}
 use Rattle.nb_core.specs.States.{value_word}
 use Rattle.nb_core.specs.declared.calls.Call.{Call}
@@ -8,7 +8,7 @@ use Rattle.nb_core.specs.declared.events.Event.{Event}
 use Rattle.nb_core.specs.declared.events.Event.TheVariants.{Claim, Kill, Won, CopyIn, Prime, Finish, Install, Take, Count, Promote}
 use Rattle.nb_core.specs.declared.states.ValueState.{ValueState}
 use Rattle.nb_core.specs.declared.states.ValueState.TheVariants.{Primed}
-use Rattle.nb_table.specs.Events.{only}
+use Rattle.nb_table.specs.Events.{only, read, shown_by_value, value_in}
 
 -- ---- steps on keys
 
@@ -22,12 +22,14 @@ kill_events number g i found = only (found == 0) (Kill number g i)
 
 -- ---- steps on values
 
--- a call wins its exchange where it finds the value that it replaces, and replies the content of
--- that
-abbrev pub win_events : (number g i : ℕ) (from to : ValueState) (call : Call) → ℕ → List Event
-win_events number g i from to call found =
-    only (found == value_word from) (Won number g i from to call
-    (record { before = number_in_value from; matched = true }))
+-- a call wins its exchange where it finds the word that it replaces, and replies the content of
+-- that; what it finds else may be its read
+abbrev pub win_events : (number g i old : ℕ) (to : ValueState) (call : Call) → ℕ → List Event
+win_events number g i old to call found =
+    if found == old
+    then Won number g i (value_in old) to call
+    (record { before = number_in_value (value_in old); matched = true }) ∷ []
+    else read number call (shown_by_value (value_in found))
 
 -- a number is copied only where the value is null
 abbrev pub copy_events : (number g i k n : ℕ) → ℕ → List Event

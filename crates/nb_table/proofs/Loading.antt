@@ -171,7 +171,7 @@ read-follows p plan number place call (Some n) h seated legal ranges is =
     (λ other. none-follows p number place (slice_index (words_of p h) place) h legal refl)
 
 -- a search that has come to a table has come there still
-reached-lasts :
+pub reached-lasts :
     (p : Plan) (t u : Tables) (g k : ℕ) → g < generations_of p → Lasts p t u → IsReached p t g k
     → IsReached p u g k
 reached-lasts p t u g k within lasting reached = record {

@@ -1,11 +1,11 @@
 -- What a seat may put in place of a value for a call, and what it finds there.
-use Rattle.std.proofs.Common.{◌≡◌, ◌∙◌, ℕ, true, cond, eqb, List, [], ◌∷◌, ◌++◌, slice_index, slice_set, Some, ap, sym, refl}
+use Rattle.std.proofs.Common.{◌≡◌, ◌≢◌, ◌∙◌, ℕ, zero, suc, ◌<◌, Bool, true, false, cond, eqb, List, [], ◌∷◌, ◌++◌, slice_index, slice_set, Some, ap, sym, subst, refl, arith}
 use Rattle.std.proofs.lemmas.Bool.{eq-eqb, eqb-true, ne_eqb}
 use Rattle.std.specs.Option.{unwrap_or}
-use Rattle.nb_core.specs.Plans.{Plan, IsPlan, value_place}
-use Rattle.nb_core.specs.States.{value_state, value_word}
+use Rattle.nb_core.specs.Plans.{Plan, IsPlan, generations_of, value_place}
+use Rattle.nb_core.specs.States.{IsValueWord, value_state, value_word}
 use Rattle.nb_core.specs.Tables.{IsSettledBelow, IsSlot, IsUnprimed, tables_at, words_of}
-use Rattle.nb_core.specs.History.{IsCallInRange, IsExchange, MayWin, number_in_value, key_of_call}
+use Rattle.nb_core.specs.History.{IsCallInRange, IsExchange, IsLegal, MayWin, number_in_value, key_of_call}
 use Rattle.nb_core.specs.declared.calls.Call.{Call}
 use Rattle.nb_core.specs.declared.events.Event.{Event}
 use Rattle.nb_core.specs.declared.events.Event.TheVariants.{Won}
@@ -13,99 +13,143 @@ use Rattle.nb_core.specs.declared.states.KeyState.TheVariants.{Claimed}
 use Rattle.nb_core.specs.declared.states.ValueState.{ValueState}
 use Rattle.nb_core.specs.declared.states.ValueState.TheVariants.{Null}
 use Rattle.nb_table.specs.Chains.{Extended, SeenBy, seen_by}
+use Rattle.nb_table.specs.Conditions.{IsReached}
+use Rattle.nb_table.specs.Events.{read, reads, shown_by_value, value_in}
+use Rattle.nb_table.specs.Steps.{Can, MayStep, Stepped}
 use Rattle.nb_table.proofs.Events.{win_events}
-use Rattle.nb_table.specs.Steps.{Can, Stepped}
-use Rattle.nb_table.proofs.Following.{if-follows, none-follows, one-follows}
-use Rattle.nb_table.proofs.Values.{value-kept, value-made}
-use Rattle.nb_core.proofs.Theorems.{codings, seen_lasts, win_replies}
+use Rattle.nb_table.proofs.Following.{one-follows}
+use Rattle.nb_table.proofs.Loading.{can-load_value, load-sees, reached-lasts}
+use Rattle.nb_table.proofs.Values.{value-made}
+use Rattle.nb_core.proofs.Theorems.{codings, passed_settled, seen_lasts, win_replies}
 
 -- the event of a call that puts a value in place of another
 abbrev win : ℕ → ℕ → ℕ → ValueState → ValueState → Call → Event
 win number g i from to call = Won number g i from to call
     (record { before = number_in_value from; matched = true })
 
--- the events by the words of two values are those by the values
+-- the events by the word of a value are those by the value
 pub wins-of :
-    (number g i old new : ℕ) (from to : ValueState) (call : Call) → value_state old ≡ Some from
-    → value_state new ≡ Some to
-    → win_events number g i (unwrap_or (value_state old) Null) (unwrap_or (value_state new) Null)
-    call ≡ win_events number g i from to call
-wins-of number g i old new from to call says_old says_new =
-    ap (λ a. win_events number g i (unwrap_or a Null) (unwrap_or (value_state new) Null) call)
-    says_old
-    ∙ ap (λ b. win_events number g i from (unwrap_or b Null) call) says_new
+    (number g i old new : ℕ) (to : ValueState) (call : Call) → value_state new ≡ Some to
+    → win_events number g i old (unwrap_or (value_state new) Null) call
+    ≡ win_events number g i old to call
+wins-of number g i old new to call says =
+    ap (λ b. win_events number g i old (unwrap_or b Null) call) says
 
--- A call may put in place of an unprimed value what it makes of it, in its key's slot, once the key
--- is settled below.
+-- a word that stands for a value stands for the one in it
+says-in : (x : ℕ) → IsValueWord x → value_state x ≡ Some (value_in x)
+says-in x word = word.decodes ∙ ap Some (sym (ap (λ o. unwrap_or o Null) word.decodes))
+
+-- a step that makes these events where a test holds, and else those
+either-follows :
+    (p : Plan) (test : Bool) (holding failing : List Event) (number place new found : ℕ) (h : List Event)
+    → (test ≡ true → MayStep p holding number place new h)
+    → (test ≡ false → MayStep p failing number place found h)
+    → MayStep p (cond test holding failing) number place (cond test new found) h
+either-follows p true holding failing number place new found h yes_it no_it = yes_it refl
+either-follows p false holding failing number place new found h yes_it no_it = no_it refl
+
+-- a key that is passed in the tables below has no unfinished slot there
+settled-below :
+    (p : Plan) → IsPlan p → (h : List Event) → IsLegal p h → (g k : ℕ) → g < generations_of p
+    → IsReached p (tables_at p h) g k → IsSettledBelow p (tables_at p h) g k
+settled-below p plan h legal zero k table reached = tt
+settled-below p plan h legal (suc g) k table reached =
+    passed_settled p plan h legal g k (omega (arith, table)) (reached.below g (omega arith))
+
+-- A call may put in place of an unprimed value what it makes of it, in its key's slot, to which the
+-- search for the key has come. Another value it may read.
 pub can-win :
     (p : Plan) → (number : ℕ) (seen : List Event) (g i old new : ℕ)
-    (from to : ValueState) (call : Call) → IsSlot p g i
-    → value_state old ≡ Some from → value_state new ≡ Some to → IsCallInRange call
-    → (tables_at p seen).key g i ≡ Claimed (key_of_call call) → IsUnprimed from
-    → IsSettledBelow p (tables_at p seen) g (key_of_call call)
-    → IsExchange call (key_of_call call) from to
-    → Can p (win_events number g i from to call) number seen (value_place p g i)
+    (to : ValueState) (call : Call) → IsSlot p g i
+    → IsValueWord old → value_state new ≡ Some to → IsCallInRange call
+    → (tables_at p seen).key g i ≡ Claimed (key_of_call call) → IsUnprimed (value_in old)
+    → IsReached p (tables_at p seen) g (key_of_call call)
+    → IsExchange call (key_of_call call) (value_in old) to
+    → Can p (win_events number g i old to call) number seen (value_place p g i)
     (λ found. cond (eqb found old) new found)
-can-win p number seen g i old new from to call slot says_old says_new ranges claimed unprimed
-    settled exchange plan seated others not_own legal =
+can-win p number seen g i old new to call slot word says_new ranges claimed unprimed
+    reached exchange plan seated others not_own legal =
     let h = others ++ seen in
+    let k = key_of_call call in
+    let from = value_in old in
     let place = value_place p g i in
     let found = slice_index (words_of p h) place in
-    let from_is = codings.word_of_state old from says_old in
+    let from_is = codings.word_of_state old from (says-in old word) in
     let to_is = codings.word_of_state new to says_new in
     let still = seen_lasts p plan others seen legal in
-    let test = ap (λ x. eqb found x) from_is.0 in
-    if-follows p (eqb found (value_word from)) (win number g i from to call) number place
-    (cond (eqb found old) new found) h
+    let come = reached-lasts p (tables_at p seen) (tables_at p h) g k slot.0 still reached in
+    either-follows p (eqb found old) (win number g i from to call ∷ [])
+    (read number call (shown_by_value (value_in found))) number place new found h
     (λ same.
-    let stands = ap value_state (eqb-true found (value_word from) same)
-    ∙ codings.state_of_word from from_is.1 in
     let may : MayWin p (tables_at p h) g i from to call = record {
-      key = key_of_call call;
-      claimed = still.claimed g i (key_of_call call) slot claimed;
-      stands = ap (λ o. unwrap_or o Null) stands;
+      key = k;
+      claimed = still.claimed g i k slot claimed;
+      stands = ap value_in (eqb-true found old same);
       unprimed = unprimed;
-      settled = still.settled g (key_of_call call) slot.0
-          (record { slot = i; in_table = slot.1; is = claimed }) settled;
+      settled = settled-below p plan h legal g k slot.0 come;
       exchange = exchange;
     } in
-    one-follows p (win number g i from to call) number place (cond (eqb found old) new found) h (
+    one-follows p (win number g i from to call) number place new h (
       legal,
       (seated, slot, from_is.1, to_is.1, ranges),
       may,
       win_replies p plan h legal number g i from to call slot may,
     )
-    (ap (slice_set (words_of p h) place) (sym (ap (λ b. cond b new found) (test ∙ same) ∙ to_is.0)))
-    refl)
-    (λ other. none-follows p number place (cond (eqb found old) new found) h legal
-    (ap (λ b. cond b new found) (test ∙ other)))
+    (ap (slice_set (words_of p h) place) (sym to_is.0)) refl)
+    (λ other. can-load_value p number seen g slot.0 i (Some call) slot ranges reached claimed plan
+    seated others not_own legal)
+
+-- What a step found, and the events that went with that.
+abbrev Found : Plan → (place : ℕ) (before : SeenBy) (found : ℕ) (after : SeenBy) → List Event
+    → Type 0
+Found p place before found after own =
+    (grows : Extended p before after own 1)
+    × (slice_index (words_of p (grows.others ++ before.seen)) place ≡ found)
+
+-- other events are as good that are the same for the word that was found
+as-found :
+    (p : Plan) (events events' : ℕ → List Event) (place : ℕ) (before : SeenBy) (found : ℕ)
+    (after : SeenBy)
+    → events found ≡ events' found → Stepped p events place before found after
+    → Stepped p events' place before found after
+as-found p events events' place before found after same step =
+    let other = subst (Found p place before found after) same (step.grows, step.word) in
+    record { grows = other.0; word = other.1 }
 
 -- What putting a value in place of another tells.
 module _
     (p : Plan) (plan : IsPlan p) (before : SeenBy)
-    (found : ℕ) (after : SeenBy) (g i : ℕ) (from to : ValueState) (call : Call)
+    (found : ℕ) (after : SeenBy) (g i old : ℕ) (to : ValueState) (call : Call)
     (slot : IsSlot p g i)
-    (step : Stepped p (win_events before.number g i from to call) (value_place p g i)
-    before found after)
-    (v : ValueState) (says : value_state found ≡ Some v) where
+    (step : Stepped p (win_events before.number g i old to call) (value_place p g i)
+    before found after) where
   pub win-won :
-      (new : ℕ) → value_state new ≡ Some to → v ≡ from
-      → Extended p before after (win before.number g i from to call ∷ []) 1
+      (new : ℕ) → value_state new ≡ Some to → found ≡ old
+      → Extended p before after (win before.number g i (value_in old) to call ∷ []) 1
       × ((seen_by p after).value g i ≡ to)
-  win-won new back is =
-      value-made p plan (λ x. eqb x (value_word from)) (win before.number g i from to call)
-      before found after
-      g i slot step (eq-eqb found (value_word from) ((codings.word_of_state found v says).0
-      ∙ ap value_word is))
-      (λ x. value_word to) to refl (codings.state_of_word to (codings.word_of_state new to back).1)
+  win-won new back same =
+      let test = eq-eqb found old same in
+      let e = win before.number g i (value_in old) to call in
+      value-made p plan (λ x. eqb x old) e before found after g i slot
+      (as-found p (win_events before.number g i old to call) (λ x. cond (eqb x old) (e ∷ []) [])
+      (value_place p g i) before found after
+      (ap (λ b. cond b (e ∷ []) (read before.number call (shown_by_value (value_in found)))) test
+      ∙ sym (ap (λ b. cond b (e ∷ []) []) test)) step)
+      test (λ x. value_word to) to refl (codings.state_of_word to (codings.word_of_state new to
+      back).1)
 
   pub win-lost :
-      (old : ℕ) → value_state old ≡ Some from → (v ≡ from → ⊥) → Extended p before after [] 1
-      × ((seen_by p after).value g i ≡ v)
-  win-lost old back other =
-      let says_from = codings.state_of_word from (codings.word_of_state old from back).1 in
-      value-kept p plan (λ x. eqb x (value_word from)) (win before.number g i from to call)
-      before found after
-      g i slot step (ne_eqb found (value_word from)
-      (λ same. other (ap (λ o. unwrap_or o Null) (sym says ∙ ap value_state same ∙ says_from))))
-      v says
+      found ≢ old
+      → Extended p before after (read before.number call (shown_by_value (value_in found))) 1
+      × ((seen_by p after).value g i ≡ value_in found)
+  win-lost other =
+      let shown = λ (word k : ℕ). shown_by_value (value_in word) in
+      let e = win before.number g i (value_in old) to call in
+      let load = as-found p (win_events before.number g i old to call)
+      (λ word. reads before.number (Some call) (shown word)) (value_place p g i) before found after
+      (ap (λ b. cond b (e ∷ []) (read before.number call (shown_by_value (value_in found))))
+      (ne_eqb found old other)) step in (
+        load.grows,
+        ap (λ t. t.value g i) (load-sees p before.number (Some call) shown (value_place p g i)
+            found before after load) ∙ ap value_in load.word,
+      )

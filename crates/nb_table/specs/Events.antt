@@ -1,10 +1,11 @@
 -- When a load is an event: as the read of a call, where what it shows of the call's key decides the
 -- call.
-use Rattle.std.specs.Prelude.{ℕ, suc, ◌-◌, ◌==◌, ◌&&◌, Bool, not, if◌then◌else◌, List, [], ◌∷◌, Option, Some, None}
+use Rattle.std.specs.Prelude.{ℕ, suc, ◌-◌, ◌==◌, ◌&&◌, Bool, not, if◌then◌else◌, unwrap_or, List, [], ◌∷◌, Option, Some, None}
 use Rattle.nb_core.specs.Calls.{leaves_alone}
 use Rattle.nb_core.specs.Log.{reply_at}
 use Rattle.nb_core.specs.History.{key_of_call}
 use Rattle.nb_core.specs.Plans.{Plan, generations_of, size_of}
+use Rattle.nb_core.specs.States.{value_state}
 use Rattle.nb_core.specs.Tables.{path_slot}
 use Rattle.nb_core.specs.declared.calls.Call.{Call}
 use Rattle.nb_core.specs.declared.events.Event.{Event}
@@ -42,6 +43,10 @@ abbrev pub shown_by_key : Plan → (g i : ℕ) → KeyState → ℕ → Option (
 shown_by_key p g i Empty k = Some None
 shown_by_key p g i Dead k = None
 shown_by_key p g i (Claimed j) k = if not (j == k) && is_last_slot p g i k then Some None else None
+
+-- the value that a value word stands for
+abbrev pub value_in : ℕ → ValueState
+value_in word = unwrap_or (value_state word) Null
 
 -- what the value in a key's slot shows of the key: the number in it, or that there is none; once it
 -- is primed, nothing

@@ -1,13 +1,16 @@
 //! The steps by which calls change the map.
 ghost use Rattle.std.specs.Prelude.{◌≡◌, ◌≢◌, true, [], ◌∷◌};
 ghost use Rattle.nb_core.specs.History.{IsCallInRange, IsExchange, number_in_value, key_of_call};
-ghost use Rattle.nb_core.specs.Tables.{IsSettledBelow, IsSlot, IsUnprimed};
+ghost use Rattle.nb_core.specs.States.{IsValueWord};
+ghost use Rattle.nb_core.specs.Tables.{IsSlot, IsUnprimed};
 ghost use Rattle.nb_core.specs.declared.events.Event.TheVariants as event;
 ghost use Rattle.nb_core.specs.declared.states.KeyState.TheVariants as key_is;
 ghost use Rattle.nb_table.specs.Chains.{Extended, IsOwn, seen_by};
+ghost use Rattle.nb_table.specs.Conditions.{IsReached};
+ghost use Rattle.nb_table.specs.Events.{read, shown_by_value, value_in};
 
 use crate::chain::{Chain, ChainSeat, Spot};
-use nb_core::{Call, Change, ValueState, Want, decode_lawful_value, encode_value};
+use nb_core::{Call, Change, ValueState, Want, encode_value};
 use std::marker::Brand;
 
 /// Reminds a proof of the ranges of a call's key and numbers. It does nothing.
@@ -31,36 +34,41 @@ pub(crate) fn known(call: &Call)
 
 impl Chain {
     /// Puts a value in place of another for a call, by one compare-exchange on the value word of
-    /// the key's slot `i` of table `g`, and answers what it was. Another value than `from` stays as
-    /// it is.
+    /// the key's slot `i` of table `g`, and answers the word as it was. Another word than `from`
+    /// stays as it is; what it shows of the key may be the call's read then, as at
+    /// `load_value_word`.
+    #[inline]
     pub fn win_value(
         &self,
         seat: &mut ChainSeat,
         g: u32,
         i: usize,
         call: Call,
-        from: ValueState,
+        from: u64,
         to: ValueState,
-    ) -> ValueState
+    ) -> u64
         requires own { IsOwn self.now seat.old }
         requires slot { IsSlot self.now.shape g i }
+        requires reached { IsReached self.now.shape (seen_by self.now.shape seat.old) g
+            (key_of_call call) }
         requires claimed { (seen_by self.now.shape seat.old).key g i
             ≡ key_is.Claimed (key_of_call call) }
-        requires unprimed { IsUnprimed from }
-        requires settled { IsSettledBelow self.now.shape (seen_by self.now.shape seat.old) g
-            (key_of_call call) }
-        requires exchange { IsExchange call (key_of_call call) from to }
+        requires word { IsValueWord from }
+        requires unprimed { IsUnprimed (value_in from) }
+        requires exchange { IsExchange call (key_of_call call) (value_in from) to }
+        ensures lawful { IsValueWord result }
         ensures won { result ≡ from
             → Extended self.now.shape seat.old seat.new
-            (event.Won seat.old.number g i from to call
-            (record { before = number_in_value from; matched = true }) ∷ []) 1
+            (event.Won seat.old.number g i (value_in from) to call
+            (record { before = number_in_value (value_in from); matched = true }) ∷ []) 1
             × ((seen_by self.now.shape seat.new).value g i ≡ to) }
-        ensures lost { result ≢ from → Extended self.now.shape seat.old seat.new [] 1
-            × ((seen_by self.now.shape seat.new).value g i ≡ result) }
+        ensures lost { result ≢ from
+            → Extended self.now.shape seat.old seat.new
+            (read seat.old.number call (shown_by_value (value_in result))) 1
+            × ((seen_by self.now.shape seat.new).value g i ≡ value_in result) }
     {
         known(&call);
         let place = self.shape.value_place(g, i);
-        let old = encode_value(from);
         let new = encode_value(to);
         let spot = Spot {
             g,
@@ -68,6 +76,6 @@ impl Chain {
             key: None,
             number: None,
         };
-        decode_lawful_value(self.exchanges::<Brand>(seat, place, old, new, spot, Some(call)))
+        self.exchanges::<Brand>(seat, place, from, new, spot, Some(call))
     }
 }

@@ -3,10 +3,17 @@ ghost use Rattle.std.specs.Prelude.{◌≡◌, ◌<◌, ◌↔◌, suc, [], true
 ghost use Rattle.nb_core.specs.History.{IsCallInRange, key_of_call};
 ghost use Rattle.nb_core.specs.Plans.{generations_of, size_of};
 ghost use Rattle.nb_core.specs.Tables.{AreOthers, IsInstalled, IsOnPath, IsSlot};
+ghost use Rattle.nb_core.specs.States.{IsValueWord, key_state};
 ghost use Rattle.nb_core.specs.declared.states.KeyState.TheVariants as key_is;
 ghost use Rattle.nb_table.specs.Chains.{Extended, IsOwn, seen_by};
 ghost use Rattle.nb_table.specs.Conditions.{IsReached};
-ghost use Rattle.nb_table.specs.Events.{reads, shown_by_key, shown_by_next, shown_by_value};
+ghost use Rattle.nb_table.specs.Events.{
+  reads,
+  shown_by_key,
+  shown_by_next,
+  shown_by_value,
+  value_in,
+};
 
 use crate::calls::known;
 use crate::chain::{Chain, ChainSeat, Spot};
@@ -23,10 +30,35 @@ fn known_if_some(call: &Option<Call>)
 }
 
 impl Chain {
-    /// What the key word of slot `i` of table `g` holds, by one load. With a call whose key's path
-    /// leads to the slot, an empty slot shows that the map doesn't have the key, and so does
-    /// another key in the path's last slot in the last table: where the call leaves that as it is,
-    /// the load is its read.
+    /// The key word of slot `i` of table `g`, by one load. With a call whose key's path leads to
+    /// the slot, an empty slot shows that the map doesn't have the key, and so does another key in
+    /// the path's last slot in the last table: where the call leaves that as it is, the load is its
+    /// read.
+    #[inline]
+    pub fn load_key_word(&self, seat: &mut ChainSeat, g: u32, i: usize, call: Option<Call>) -> u64
+        requires own { IsOwn self.now seat.old }
+        requires slot { IsSlot self.now.shape g i }
+        requires reached { IfSome call (λ c. IsReached self.now.shape
+            (seen_by self.now.shape seat.old) g (key_of_call c)) }
+        requires on_path { IfSome call (λ c. IsOnPath self.now.shape
+            (seen_by self.now.shape seat.old) g i (key_of_call c)) }
+        ensures grows { Extended self.now.shape seat.old seat.new
+            (reads seat.old.number call (shown_by_key self.now.shape g i (key_state result))) 1 }
+        ensures found { (seen_by self.now.shape seat.new).key g i ≡ key_state result }
+    {
+        known_if_some(&call);
+        let place = self.shape.key_place(g, i);
+        let spot = Spot {
+            g,
+            i,
+            key: None,
+            number: None,
+        };
+        self.loads::<Brand>(seat, place, spot, call)
+    }
+
+    /// What the key word of slot `i` of table `g` holds, by the same load.
+    #[inline]
     pub fn load_key(&self, seat: &mut ChainSeat, g: u32, i: usize, call: Option<Call>) -> KeyState
         requires own { IsOwn self.now seat.old }
         requires slot { IsSlot self.now.shape g i }
@@ -38,20 +70,38 @@ impl Chain {
             (reads seat.old.number call (shown_by_key self.now.shape g i result)) 1 }
         ensures found { (seen_by self.now.shape seat.new).key g i ≡ result }
     {
+        decode_key(self.load_key_word(seat, g, i, call))
+    }
+
+    /// The value word of slot `i` of table `g`, by one load. With a call whose key has the slot, a
+    /// value that isn't primed is what the map has at the key: where the call leaves that as it is,
+    /// the load is its read.
+    #[inline]
+    pub fn load_value_word(&self, seat: &mut ChainSeat, g: u32, i: usize, call: Option<Call>) -> u64
+        requires own { IsOwn self.now seat.old }
+        requires slot { IsSlot self.now.shape g i }
+        requires reached { IfSome call (λ c. IsReached self.now.shape
+            (seen_by self.now.shape seat.old) g (key_of_call c)) }
+        requires claimed { IfSome call (λ c. (seen_by self.now.shape seat.old).key g i
+            ≡ key_is.Claimed (key_of_call c)) }
+        ensures lawful { IsValueWord result }
+        ensures grows { Extended self.now.shape seat.old seat.new
+            (reads seat.old.number call (λ k. shown_by_value (value_in result))) 1 }
+        ensures found { (seen_by self.now.shape seat.new).value g i ≡ value_in result }
+    {
         known_if_some(&call);
-        let place = self.shape.key_place(g, i);
+        let place = self.shape.value_place(g, i);
         let spot = Spot {
             g,
             i,
             key: None,
             number: None,
         };
-        decode_key(self.loads::<Brand>(seat, place, spot, call))
+        self.loads::<Brand>(seat, place, spot, call)
     }
 
-    /// What the value word of slot `i` of table `g` holds, by one load. With a call whose key has
-    /// the slot, a value that isn't primed is what the map has at the key: where the call leaves
-    /// that as it is, the load is its read.
+    /// What the value word of slot `i` of table `g` holds, by the same load.
+    #[inline]
     pub fn load_value(
         &self,
         seat: &mut ChainSeat,
@@ -69,15 +119,7 @@ impl Chain {
             (reads seat.old.number call (λ k. shown_by_value result)) 1 }
         ensures found { (seen_by self.now.shape seat.new).value g i ≡ result }
     {
-        known_if_some(&call);
-        let place = self.shape.value_place(g, i);
-        let spot = Spot {
-            g,
-            i,
-            key: None,
-            number: None,
-        };
-        decode_lawful_value(self.loads::<Brand>(seat, place, spot, call))
+        decode_lawful_value(self.load_value_word(seat, g, i, call))
     }
 
     /// Whether table `g` has a next one, by one load of its next word. With a call whose key's

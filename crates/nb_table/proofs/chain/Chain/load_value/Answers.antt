@@ -1,51 +1,24 @@
-use Rattle.std.proofs.Common.{◌∙◌, ℕ, ap, slice_index, subst, sym}
+use Rattle.std.proofs.Common.{◌≡◌, ◌∙◌, ap, subst}
 use Rattle.std.specs.Option.{unwrap_or}
-use Rattle.nb_core.specs.Plans.{value_place}
 use Rattle.nb_core.specs.States.{value_state}
 use Rattle.nb_core.specs.declared.states.ValueState.TheVariants.{Null}
+use Rattle.nb_table.specs.Chains.{Extended}
 use Rattle.nb_table.specs.Events.{reads, shown_by_value}
-use Rattle.nb_table.specs.Steps.{Can, Stepped}
-use Rattle.nb_table.proofs.Loading.{can-load_value, load-sees}
-use Rattle.nb_table.proofs.Values.{found-is}
 use Rattle.nb_table.proofs.chain.Chain.load_value.Goals as goal
 
-pub loads-requires-clause-can : goal.loads-requires-clause-can
-loads-requires-clause-can c =
-    let p = c.args.self.now.shape in
-    let seat = c.args.seat.now in
-    let g = c.args.g in
-    let i = c.args.i in
-    let events = λ (found : ℕ). reads seat.number c.args.call
-    (λ k. shown_by_value (unwrap_or (value_state found) Null)) in
-    let at_place = c.value_place-place.ensures ∙ ap (λ v. value_place v.shape g i) c.self.view_is in
-    subst (λ place. Can p events seat.number seat.seen place (λ found. found)) (sym at_place)
-    (can-load_value p seat.number seat.seen g c.requires.slot.0
-    i c.args.call c.requires.slot c.known_if_some.ensures
-    c.requires.reached
-    c.requires.claimed)
+is :
+    (c : goal.After-decode_lawful_value) → unwrap_or (value_state c.load_value_word.result) Null
+    ≡ c.decode_lawful_value.result
+is c = ap (λ o. unwrap_or o Null) c.decode_lawful_value.ensures
 
-pub decode_lawful_value-requires : goal.decode_lawful_value-requires
-decode_lawful_value-requires c =
+pub returns-clause-grows : goal.returns-clause-grows
+returns-clause-grows c =
     let p = c.args.self.now.shape in
     let seat = c.args.seat.now in
-    let events = λ (found : ℕ). reads seat.number c.args.call
-    (λ k. shown_by_value (unwrap_or (value_state found) Null)) in
-    let place = c.value_place-place.ensures
-    ∙ ap (λ v. value_place v.shape c.args.g c.args.i) c.self.view_is in
-    let step = subst (λ x. Stepped p events x seat c.loads.result c.loads.new.seat)
-    place c.loads.ensures in
-    found-is p c.requires.own.plan events seat c.loads.result c.loads.new.seat
-    c.args.g c.args.i c.requires.slot step
+    subst
+    (λ state. Extended p seat c.load_value_word.new.seat
+    (reads seat.number c.args.call (λ k. shown_by_value state)) 1)
+    (is c) c.load_value_word.ensures.grows
 
 pub returns-clause-found : goal.returns-clause-found
-returns-clause-found c =
-    let p = c.args.self.now.shape in
-    let seat = c.args.seat.now in
-    let place = c.value_place-place.ensures
-    ∙ ap (λ v. value_place v.shape c.args.g c.args.i) c.self.view_is in
-    let shown = λ (found : ℕ) (k : ℕ). shown_by_value (unwrap_or (value_state found) Null) in
-    let step = c.loads.ensures in
-    ap (λ t. t.value c.args.g c.args.i) (load-sees p seat.number c.args.call shown _ _ seat
-    c.loads.new.seat
-    step) ∙ ap (λ x. unwrap_or (value_state x) Null) (ap (slice_index _) (sym place) ∙ step.word)
-    ∙ ap (λ o. unwrap_or o Null) (c.decode_lawful_value.ensures)
+returns-clause-found c = c.load_value_word.ensures.found ∙ is c

@@ -20,35 +20,28 @@ exchanges-requires-clause-can c =
     let seat = c.args.seat.now in
     let place = c.value_place-place.ensures
     ∙ ap (λ v. value_place v.shape c.args.g c.args.i) c.self.view_is in
-    let events = wins-of seat.number c.args.g c.args.i c.encode_value-old.result
-    c.encode_value-new.result c.args.from c.args.to
-    c.args.call c.encode_value-old.ensures.back c.encode_value-new.ensures.back in
+    let events = wins-of seat.number c.args.g c.args.i c.args.from c.encode_value-new.result
+    c.args.to c.args.call c.encode_value-new.ensures.back in
     subst₂ (λ x told. Can p told seat.number seat.seen x
-    (λ found. cond (eqb found c.encode_value-old.result)
-    c.encode_value-new.result found)) (sym place) (sym events)
-    (can-win p seat.number seat.seen
-    c.args.g c.args.i c.encode_value-old.result c.encode_value-new.result c.args.from c.args.to
-    c.args.call c.requires.slot
-    c.encode_value-old.ensures.back c.encode_value-new.ensures.back c.known.ensures
-    c.requires.claimed c.requires.unprimed
-    c.requires.settled c.requires.exchange)
+    (λ found. cond (eqb found c.args.from) c.encode_value-new.result found)) (sym place)
+    (sym events)
+    (can-win p seat.number seat.seen c.args.g c.args.i c.args.from c.encode_value-new.result
+    c.args.to c.args.call c.requires.slot c.requires.word c.encode_value-new.ensures.back
+    c.known.ensures c.requires.claimed c.requires.unprimed c.requires.reached c.requires.exchange)
 
-pub decode_lawful_value-requires : goal.decode_lawful_value-requires
-decode_lawful_value-requires c =
+pub returns-clause-lawful : goal.returns-clause-lawful
+returns-clause-lawful c =
     let p = c.args.self.now.shape in
     let seat = c.args.seat.now in
     let place = c.value_place-place.ensures
     ∙ ap (λ v. value_place v.shape c.args.g c.args.i) c.self.view_is in
-    let events = wins-of seat.number c.args.g c.args.i c.encode_value-old.result
-    c.encode_value-new.result c.args.from c.args.to
-    c.args.call c.encode_value-old.ensures.back c.encode_value-new.ensures.back in
+    let events = wins-of seat.number c.args.g c.args.i c.args.from c.encode_value-new.result
+    c.args.to c.args.call c.encode_value-new.ensures.back in
     let step = subst₂ (λ x told. Stepped p told x seat c.exchanges.result c.exchanges.new.seat)
-    place events
-    c.exchanges.ensures in
+    place events c.exchanges.ensures in
     found-is p c.requires.own.plan
     (win_events seat.number c.args.g c.args.i c.args.from c.args.to c.args.call)
-    seat c.exchanges.result c.exchanges.new.seat
-    c.args.g c.args.i c.requires.slot step
+    seat c.exchanges.result c.exchanges.new.seat c.args.g c.args.i c.requires.slot step
 
 pub returns-clause-won : goal.returns-clause-won
 returns-clause-won c =
@@ -56,16 +49,13 @@ returns-clause-won c =
     let seat = c.args.seat.now in
     let place = c.value_place-place.ensures
     ∙ ap (λ v. value_place v.shape c.args.g c.args.i) c.self.view_is in
-    let events = wins-of seat.number c.args.g c.args.i c.encode_value-old.result
-    c.encode_value-new.result c.args.from c.args.to
-    c.args.call c.encode_value-old.ensures.back c.encode_value-new.ensures.back in
+    let events = wins-of seat.number c.args.g c.args.i c.args.from c.encode_value-new.result
+    c.args.to c.args.call c.encode_value-new.ensures.back in
     let step = subst₂ (λ x told. Stepped p told x seat c.exchanges.result c.exchanges.new.seat)
-    place events
-    c.exchanges.ensures in
-    win-won p c.requires.own.plan seat c.exchanges.result
-    c.exchanges.new.seat c.args.g c.args.i c.args.from c.args.to c.args.call c.requires.slot step
-    c.decode_lawful_value.result c.decode_lawful_value.ensures
-    c.encode_value-new.result c.encode_value-new.ensures.back
+    place events c.exchanges.ensures in
+    win-won p c.requires.own.plan seat c.exchanges.result c.exchanges.new.seat c.args.g c.args.i
+    c.args.from c.args.to c.args.call c.requires.slot step c.encode_value-new.result
+    c.encode_value-new.ensures.back
 
 pub returns-clause-lost : goal.returns-clause-lost
 returns-clause-lost c =
@@ -73,13 +63,9 @@ returns-clause-lost c =
     let seat = c.args.seat.now in
     let place = c.value_place-place.ensures
     ∙ ap (λ v. value_place v.shape c.args.g c.args.i) c.self.view_is in
-    let events = wins-of seat.number c.args.g c.args.i c.encode_value-old.result
-    c.encode_value-new.result c.args.from c.args.to
-    c.args.call c.encode_value-old.ensures.back c.encode_value-new.ensures.back in
+    let events = wins-of seat.number c.args.g c.args.i c.args.from c.encode_value-new.result
+    c.args.to c.args.call c.encode_value-new.ensures.back in
     let step = subst₂ (λ x told. Stepped p told x seat c.exchanges.result c.exchanges.new.seat)
-    place events
-    c.exchanges.ensures in
-    win-lost p c.requires.own.plan seat c.exchanges.result
-    c.exchanges.new.seat c.args.g c.args.i c.args.from c.args.to c.args.call c.requires.slot step
-    c.decode_lawful_value.result c.decode_lawful_value.ensures c.encode_value-old.result
-    c.encode_value-old.ensures.back
+    place events c.exchanges.ensures in
+    win-lost p c.requires.own.plan seat c.exchanges.result c.exchanges.new.seat c.args.g c.args.i
+    c.args.from c.args.to c.args.call c.requires.slot step

@@ -8,7 +8,6 @@ use Rattle.nb_table.proofs.chain.Chain.win_value.Given as goal
 abbrev pub ghosts-exchanges : goal.ghosts-exchanges
 ghosts-exchanges a = record {
   shape = a.self.now.shape;
-  events = win_events a.seat.now.number a._spot.g a._spot.i (unwrap_or (value_state a.old) Null)
-      (unwrap_or (value_state a.new) Null)
-      (unwrap_or a._call (Get 0));
+  events = win_events a.seat.now.number a._spot.g a._spot.i a.old
+      (unwrap_or (value_state a.new) Null) (unwrap_or a._call (Get 0));
 }
