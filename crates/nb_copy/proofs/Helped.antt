@@ -55,12 +55,12 @@ four-handed p plan g table =
 
 -- what it costs to take and to count the chunks of a table is less than a step for each slot
 chunks-bound :
-    (size chunk n most : ℕ) → 4 ≤ chunk → n * chunk ≤ size
-    → n * (chunk * most + 3) ≤ size * (most + 1)
-chunks-bound size chunk n most four within =
+    (size chunk n most : ℕ) → 4 ≤ size → 4 ≤ chunk → n * chunk ≤ size
+    → n * (chunk * most + 3) < size * (most + 1)
+chunks-bound size chunk n most some four within =
     let copied = mul-le-mul_right most within in
     let counted = mul-le-mul_left n four in
-    grind (arith, within, copied, counted)
+    grind (arith, some, within, copied, counted)
 
 module _ (chain : ChainOf) (g : ℕ) (table : g < generations_of chain.shape) where
   abbrev p : Plan
@@ -138,15 +138,18 @@ module _ (chain : ChainOf) (g : ℕ) (table : g < generations_of chain.shape) wh
       {start after : SeenBy} (taken : ℕ) → IsOwn chain start → taken ≤ size_of p g / chunk_of p g
       → (slots : List ℕ) × HasCopied p g start after slots taken (length slots)
       (taken * chunk_steps p g)
-      → (slots : List ℕ) × (chunks : ℕ) × (chunks ≤ size_of p g / chunk_of p g)
-      × HasCopied p g start after slots chunks (length slots) (size_of p g * (slot_steps p g + 1))
+      → (slots : List ℕ) × (chunks : ℕ) × (most : ℕ) × (chunks ≤ size_of p g / chunk_of p g)
+      × (most < size_of p g * (slot_steps p g + 1))
+      × HasCopied p g start after slots chunks (length slots) most
   helped-all taken own few copied = (
     copied.0,
     taken,
+    taken * chunk_steps p g,
     few,
-    copied-within (taken * chunk_steps p g) (size_of p g * (slot_steps p g + 1))
-        (chunks-bound (size_of p g) (chunk_of p g) taken (slot_steps p g)
+    chunks-bound (size_of p g) (chunk_of p g) taken (slot_steps p g)
+        (le_trans (four-handed p own.plan g table) (min-le_left (size_of p g) p.chunk))
         (four-handed p own.plan g table)
         (le_trans (mul-le-mul_right (chunk_of p g) few)
-        (div-mul-le_self (size_of p g) (chunk_of p g)))) copied.1,
+        (div-mul-le_self (size_of p g) (chunk_of p g))),
+    copied.1,
   )

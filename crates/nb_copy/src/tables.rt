@@ -43,8 +43,8 @@ pub fn help(chain: &Chain, seat: &mut ChainSeat, g: u32) -> usize
 }
 
 /// Copies the whole of table `g`, which has a next one, together with whoever copies it too. It
-/// takes chunks while there are some, then goes through every slot itself, so that it waits for no
-/// other thread, and raises the top word. It costs at most a few steps for each pair of a slot of
+/// takes chunks while there are some. Unless the top word is past the table then, it goes through
+/// every slot itself, so that it waits for no other thread, and raises the top word. It costs at most a few steps for each pair of a slot of
 /// this table and one of the next.
 #[tactic(auto, using(nb_core::proofs::Theorems::linked))]
 pub fn complete(chain: &Chain, seat: &mut ChainSeat, g: u32)
@@ -53,8 +53,10 @@ pub fn complete(chain: &Chain, seat: &mut ChainSeat, g: u32)
     ensures completed { HasCompleted chain.now.shape g seat.old seat.new }
 {
     copy_chunks(chain, seat, g);
-    copy_all(chain, seat, g);
-    chain.promote(seat, g);
+    if chain.load_top(seat) <= g {
+        copy_all(chain, seat, g);
+        chain.promote(seat, g);
+    }
 }
 
 /// Finishes slot `i` of table `g` as `copy_slot` does, and counts it if a step of this call turned
@@ -142,10 +144,10 @@ fn count(chain: &Chain, seat: &mut ChainSeat, g: u32, slots: usize)
 fn copy_chunks(chain: &Chain, seat: &mut ChainSeat, g: u32)
     requires own { IsOwn chain.now seat.old }
     requires growing { IsInstalled (seen_by chain.now.shape seat.old) (suc g) }
-    ensures copied { (slots : List ℕ) × (chunks : ℕ)
+    ensures copied { (slots : List ℕ) × (chunks : ℕ) × (most : ℕ)
         × (chunks ≤ size_of chain.now.shape g / chunk_of chain.now.shape g)
-        × HasCopied chain.now.shape g seat.old seat.new slots chunks (length slots)
-        (size_of chain.now.shape g * (slot_steps chain.now.shape g + 1)) }
+        × (most < size_of chain.now.shape g * (slot_steps chain.now.shape g + 1))
+        × HasCopied chain.now.shape g seat.old seat.new slots chunks (length slots) most }
 {
     let chunks = chain.shape().chunks_of(g);
     for _taken in 0..chunks {
