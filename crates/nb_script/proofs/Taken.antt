@@ -1,5 +1,5 @@
 -- What the lines of a script say after some of the bytes that come.
-use Rattle.std.proofs.Common.{◌≡◌, ◌∙◌, ℕ, ◌+◌, ◌≤◌, arith, sym, ap, refl, List, [], ◌++◌, length, take, drop, subst, inl, inr, append_assoc, append-nil, Option, Ok, Err}
+use Rattle.std.proofs.Common.{◌≡◌, ◌∙◌, ℕ, ◌+◌, ◌≤◌, arith, sym, ap, refl, [], ◌++◌, length, take, drop, subst, inl, inr, append_assoc, append-nil, Option}
 use Rattle.std.proofs.KnownBytes.{Consumes-kept, Consumes-trans}
 use Rattle.std.specs.Io.KnownBytes.{Consumes, IsAtEnd, Keeps}
 use Rattle.nb_script.specs.Reading.{IsFirstFault, room, with_bytes, with_lines}

@@ -10,7 +10,7 @@ use Rattle.clap.specs.declared.error.kind.ErrorKind.TheVariants.{DisplayHelp}
 use Rattle.nb_script.specs.declared.options.OptionFault.{OptionFault}
 use Rattle.nb_script.specs.declared.options.OptionFault.TheVariants.{Usage, Help, OutOfMemory}
 use Rattle.nb_script.specs.Script.{number_spelled}
-use Rattle.nb_core.specs.Plans.{Plan, checked_plan, checked_shape}
+use Rattle.nb_core.specs.Plans.{Plan, checked_chunk, checked_plan, checked_reprobes, checked_shape}
 use Rattle.clap.specs.declared.builder.ArgAction.TheVariants.{Set}
 use Rattle.clap.specs.declared.builder.value_parser.ValueParser.{ValueParser}
 use Rattle.clap.specs.declared.builder.value_parser.ValueParser.TheVariants.{Signed}
@@ -32,11 +32,14 @@ number_rule name low high default = checked_rule name (Signed (pos low) (pos hig
 
 -- the command line of nbrun
 abbrev pub nbrun : App
-nbrun = with_rule (with_rule (with_rule (with_rule (with_rule (new_app (codes "nbrun"))
+nbrun = with_rule (with_rule (with_rule (with_rule (with_rule (with_rule (with_rule
+    (new_app (codes "nbrun"))
     (number_rule (codes "bits") 2 12 (codes "4")))
     (number_rule (codes "generations") 1 8 (codes "4")))
     (number_rule (codes "seats") 1 8 (codes "1")))
     (number_rule (codes "stripes") 1 8 (codes "1")))
+    (number_rule (codes "reprobes") 1 4294967295 (codes "4294967295")))
+    (number_rule (codes "chunk") 4 1024 (codes "8")))
     (option_rule (codes "plan"))
 
 -- ---- what a text says
@@ -73,18 +76,28 @@ plan_asked (Some text) bits generations seats stripes = plan_of_text text seats 
 plan_asked None bits generations seats stripes =
     result_ok (checked_shape bits generations seats stripes)
 
+-- the plan with this reprobe limit and this chunk
+abbrev pub tuned_plan : Plan → ℕ → ℕ → Option Plan
+tuned_plan plan reprobes chunk =
+    option_and_then (λ p. result_ok (checked_chunk p chunk))
+    (result_ok (checked_reprobes plan reprobes))
+
 -- the plan is of the text and the numbers that clap found
 pub record AreOptionsOf (rows : List Row) (plan : Plan) : Type 0 where
   pub bits : ℕ
   pub generations : ℕ
   pub seats : ℕ
   pub stripes : ℕ
+  pub reprobes : ℕ
+  pub chunk : ℕ
   pub bits_found : number_in (codes "bits") rows ≡ Some bits
   pub generations_found : number_in (codes "generations") rows ≡ Some generations
   pub seats_found : number_in (codes "seats") rows ≡ Some seats
   pub stripes_found : number_in (codes "stripes") rows ≡ Some stripes
-  pub plan_found :
-      plan_asked (first_of (codes "plan") rows) bits generations seats stripes ≡ Some plan
+  pub reprobes_found : number_in (codes "reprobes") rows ≡ Some reprobes
+  pub chunk_found : number_in (codes "chunk") rows ≡ Some chunk
+  pub plan_found : option_and_then (λ p. tuned_plan p reprobes chunk)
+      (plan_asked (first_of (codes "plan") rows) bits generations seats stripes) ≡ Some plan
 
 -- clap takes the words, and the plan is of what they give for each option, or its default
 abbrev pub AreGiven : List Text → Plan → Type 0

@@ -11,10 +11,13 @@ ghost use Rattle.std.specs.Prelude.{
   IfOk,
   IfSome,
   OnOk,
+  None,
+  Some,
+  codes,
   map,
   string_bytes,
 };
-ghost use Rattle.clap.specs.Words.{app_of, fault_of, found_of, kind_of, rows_of, rule_of};
+ghost use Rattle.clap.specs.Words.{app_of, fault_of, first_of, found_of, kind_of, rows_of, rule_of};
 ghost use Rattle.nb_core.specs.Plans.{Plan};
 ghost use Rattle.nb_script.specs.Options.{
   AreGiven,
@@ -23,7 +26,9 @@ ghost use Rattle.nb_script.specs.Options.{
   AreOptionsOf,
   nbrun,
   option_rule,
+  plan_asked,
   plan_of_text,
+  tuned_plan,
 };
 ghost use Rattle.nb_script.specs.Script.{number_spelled};
 
@@ -90,6 +95,22 @@ fn command<'a>(alloc: Global) -> Result<Command<'a>, AllocError>
     let stripes = option(alloc, "stripes", "P", "Words that a count is spread over")
         .value_parser(value_parser!(u32).range(1..=8))
         .default_value("1");
+    let reprobes = option(
+        alloc,
+        "reprobes",
+        "N",
+        "Slots of its path that a new key may be put in",
+    )
+    .value_parser(value_parser!(u32).range(1..=4294967295))
+    .default_value("4294967295");
+    let chunk = option(
+        alloc,
+        "chunk",
+        "C",
+        "Slots that are copied at once, a power of two",
+    )
+    .value_parser(value_parser!(u32).range(4..=1024))
+    .default_value("8");
     let plan = option(
         alloc,
         "plan",
@@ -102,6 +123,8 @@ fn command<'a>(alloc: Global) -> Result<Command<'a>, AllocError>
         .arg(generations)?
         .arg(seats)?
         .arg(stripes)?
+        .arg(reprobes)?
+        .arg(chunk)?
         .arg(plan)
 }
 
@@ -148,6 +171,35 @@ fn read_plan(text: &str, seats: usize, stripes: usize) -> Option<Shape>
     Shape::with_plan(&exponents[..count], seats, stripes).ok()
 }
 
+/// The tables, seats and stripes that clap's matches ask for.
+fn read_tables(
+    matches: &ArgMatches<'_>,
+    bits: u32,
+    generations: u32,
+    seats: usize,
+    stripes: usize,
+) -> Option<Shape>
+    ensures some { IfSome result (λ shape. plan_asked
+        (first_of (codes "plan") (rows_of (found_of matches.now))) bits generations seats stripes
+        ≡ Some shape) }
+    ensures none { IfNone result (plan_asked
+        (first_of (codes "plan") (rows_of (found_of matches.now))) bits generations seats stripes
+        ≡ None) }
+{
+    match matches.get_str("plan") {
+        Some(text) => read_plan(text, seats, stripes),
+        None => Shape::new(bits, generations, seats, stripes).ok(),
+    }
+}
+
+/// The shape with this reprobe limit and this chunk.
+fn tuned(shape: Shape, reprobes: u32, chunk: u32) -> Option<Shape>
+    ensures { result ≡ tuned_plan shape reprobes chunk }
+{
+    let limited = shape.with_reprobe_limit(reprobes).ok()?;
+    limited.with_chunk(chunk).ok()
+}
+
 /// The shape that clap's matches ask for.
 fn read_shape(matches: &ArgMatches<'_>) -> Option<Shape>
     ensures some { IfSome result (AreOptionsOf (rows_of (found_of matches.now))) }
@@ -158,10 +210,10 @@ fn read_shape(matches: &ArgMatches<'_>) -> Option<Shape>
     let generations = matches.get_one::<u32>("generations")?;
     let seats = matches.get_one::<u32>("seats")? as usize;
     let stripes = matches.get_one::<u32>("stripes")? as usize;
-    match matches.get_str("plan") {
-        Some(text) => read_plan(text, seats, stripes),
-        None => Shape::new(bits, generations, seats, stripes).ok(),
-    }
+    let reprobes = matches.get_one::<u32>("reprobes")?;
+    let chunk = matches.get_one::<u32>("chunk")?;
+    let tables = read_tables(matches, bits, generations, seats, stripes)?;
+    tuned(tables, reprobes, chunk)
 }
 
 /// The options that the words give, of which the first is the program's name.

@@ -37,8 +37,27 @@ fn a_plan_outweighs_bits(rt: HostRuntime) -> Result<(), Fail> {
 }
 
 #[test]
+fn a_plan_is_tuned(rt: HostRuntime) -> Result<(), Fail> {
+    let options = read(rt.alloc(), &["--reprobes", "18", "--chunk", "64"])?;
+    let plain = Shape::new(4, 4, 1, 1)?;
+    assert_eq!(rt;
+        options.shape,
+        plain.with_reprobe_limit(18)?.with_chunk(64)?
+    );
+    let options = read(rt.alloc(), &["--plan=2,3", "--reprobes=1"])?;
+    let plain = Shape::with_plan(&[2, 3], 1, 1)?;
+    assert_eq!(rt; options.shape, plain.with_reprobe_limit(1)?);
+    Ok(())
+}
+
+#[test]
 fn refuses_what_is_no_option(rt: HostRuntime) {
-    let refused: [&[&str]; 15] = [
+    let refused: [&[&str]; 20] = [
+        &["--reprobes", "0"],
+        &["--reprobes", "4294967296"],
+        &["--chunk", "2"],
+        &["--chunk", "12"],
+        &["--chunk", "2048"],
         &["--bits", "1"],
         &["--bits"],
         &["--bits", "2", "--bits", "3"],

@@ -30,6 +30,18 @@ returns c =
     c.value_parser-8.ensures.others c.value_parser-8.ensures.given
     (narrowed _ _ _ _ (pos 1) (pos 8) c.value_parser-7.ensures c.new-4.ensures.start
     c.new-4.ensures.end c.range-4.ensures) c.default_value-stripes.ensures in
-    IfOk-weaker c.arg-5.result _ _ (λ command added.
-    app_with _ command c.option-plan.result _ _ added stripes c.option-plan.ensures.rule
-    c.option-plan.ensures.local) c.arg-5.ensures
+    let reprobes = app_with_checked _ c.in_ok-arg-5.field-0 c.option-5.result
+    c.value_parser-10.result c.default_value-reprobes.result _ _ _ _ _
+    c.in_ok-arg-5.ensures stripes c.option-5.ensures.rule c.option-5.ensures.local
+    c.value_parser-10.ensures.others c.value_parser-10.ensures.given
+    (narrowed _ _ _ _ (pos 1) (pos 4294967295) c.value_parser-9.ensures c.new-5.ensures.start
+    c.new-5.ensures.end c.range-5.ensures) c.default_value-reprobes.ensures in
+    let chunk = app_with_checked _ c.in_ok-arg-6.field-0 c.option-6.result
+    c.value_parser-12.result c.default_value-chunk.result _ _ _ _ _
+    c.in_ok-arg-6.ensures reprobes c.option-6.ensures.rule c.option-6.ensures.local
+    c.value_parser-12.ensures.others c.value_parser-12.ensures.given
+    (narrowed _ _ _ _ (pos 4) (pos 1024) c.value_parser-11.ensures c.new-6.ensures.start
+    c.new-6.ensures.end c.range-6.ensures) c.default_value-chunk.ensures in
+    IfOk-weaker c.arg-7.result _ _ (λ command added.
+    app_with _ command c.option-plan.result _ _ added chunk c.option-plan.ensures.rule
+    c.option-plan.ensures.local) c.arg-7.ensures

@@ -1,8 +1,8 @@
-use Rattle.std.proofs.Common.{ap, codes, refl, None, Some}
-use Rattle.std.specs.Prelude.{option_map}
+use Rattle.std.proofs.Common.{◌∙◌, ap, codes, sym}
+use Rattle.std.specs.Prelude.{option_and_then}
 use Rattle.clap.specs.Words.{found_of}
-use Rattle.nb_script.proofs.FoundLemmas.{none_found, number_found, settled}
-use Rattle.nb_script.proofs.PlanLemmas.{by_ok}
+use Rattle.nb_script.proofs.FoundLemmas.{none_asked, none_found, number_found, settled}
+use Rattle.nb_script.specs.Options.{tuned_plan}
 use Rattle.nb_script.proofs.options.read_shape.Goals as goal
 
 pub returns-in_err-bits-clause-none : goal.returns-in_err-bits-clause-none
@@ -22,26 +22,19 @@ pub returns-in_err-stripes-clause-none : goal.returns-in_err-stripes-clause-none
 returns-in_err-stripes-clause-none c = none_found (found_of c.args.matches.now) (codes "stripes")
     _ c.in_err-stripes.ensures.value (λ plan x. (x.stripes, x.stripes_found))
 
-pub returns-in-Some : goal.returns-in-Some
-returns-in-Some c =
-    let f = found_of c.args.matches.now in
-    let by = settled f _ _ _ _ _ (Some c.in-Some.text.now)
-    (number_found f (codes "bits") c.in_ok-bits.bits c.in_ok-bits.ensures.none
-    c.in_ok-bits.ensures.value)
-    (number_found f (codes "generations")
-    c.in_ok-generations.generations c.in_ok-generations.ensures.none
-    c.in_ok-generations.ensures.value)
-    (number_found f (codes "seats") c.in_ok-seats.field-0 c.in_ok-seats.ensures.none
-    c.in_ok-seats.ensures.value)
-    (number_found f (codes "stripes") c.in_ok-stripes.field-0 c.in_ok-stripes.ensures.none
-    c.in_ok-stripes.ensures.value)
-    c.get_str.ensures (ap (option_map (λ s. s.now)) c.in-Some.is) c.read_plan.result in
-    record { some = by.0 c.read_plan.ensures.some; none = by.1 c.read_plan.ensures.none }
+pub returns-in_err-reprobes-clause-none : goal.returns-in_err-reprobes-clause-none
+returns-in_err-reprobes-clause-none c =
+    none_found (found_of c.args.matches.now) (codes "reprobes")
+    _ c.in_err-reprobes.ensures.value (λ plan x. (x.reprobes, x.reprobes_found))
 
-pub returns-in-None : goal.returns-in-None
-returns-in-None c =
+pub returns-in_err-chunk-clause-none : goal.returns-in_err-chunk-clause-none
+returns-in_err-chunk-clause-none c = none_found (found_of c.args.matches.now) (codes "chunk")
+    _ c.in_err-chunk.ensures.value (λ plan x. (x.chunk, x.chunk_found))
+
+pub returns-in_err-tables-clause-none : goal.returns-in_err-tables-clause-none
+returns-in_err-tables-clause-none c =
     let f = found_of c.args.matches.now in
-    let by = settled f _ _ _ _ _ None
+    none_asked f _ _ _ _ _ _
     (number_found f (codes "bits") c.in_ok-bits.bits c.in_ok-bits.ensures.none
     c.in_ok-bits.ensures.value)
     (number_found f (codes "generations")
@@ -51,6 +44,32 @@ returns-in-None c =
     c.in_ok-seats.ensures.value)
     (number_found f (codes "stripes") c.in_ok-stripes.field-0 c.in_ok-stripes.ensures.none
     c.in_ok-stripes.ensures.value)
-    c.get_str.ensures (ap (option_map (λ s. s.now)) c.in-None.is) c.ok.result in
-    let made = by_ok c.new.result _ c.ok.result _ refl c.ok.ensures.value c.new.ensures in
-    record { some = by.0 made.0; none = by.1 made.1 }
+    (number_found f (codes "reprobes") c.in_ok-reprobes.reprobes c.in_ok-reprobes.ensures.none
+    c.in_ok-reprobes.ensures.value)
+    (number_found f (codes "chunk") c.in_ok-chunk.chunk c.in_ok-chunk.ensures.none
+    c.in_ok-chunk.ensures.value) _
+    (ap (option_and_then (λ p. tuned_plan p c.in_ok-reprobes.reprobes c.in_ok-chunk.chunk))
+    c.in_err-tables.ensures.none)
+
+pub returns : goal.returns
+returns c =
+    let f = found_of c.args.matches.now in
+    let by = settled f _ _ _ _ _ _
+    (number_found f (codes "bits") c.in_ok-bits.bits c.in_ok-bits.ensures.none
+    c.in_ok-bits.ensures.value)
+    (number_found f (codes "generations")
+    c.in_ok-generations.generations c.in_ok-generations.ensures.none
+    c.in_ok-generations.ensures.value)
+    (number_found f (codes "seats") c.in_ok-seats.field-0 c.in_ok-seats.ensures.none
+    c.in_ok-seats.ensures.value)
+    (number_found f (codes "stripes") c.in_ok-stripes.field-0 c.in_ok-stripes.ensures.none
+    c.in_ok-stripes.ensures.value)
+    (number_found f (codes "reprobes") c.in_ok-reprobes.reprobes c.in_ok-reprobes.ensures.none
+    c.in_ok-reprobes.ensures.value)
+    (number_found f (codes "chunk") c.in_ok-chunk.chunk c.in_ok-chunk.ensures.none
+    c.in_ok-chunk.ensures.value)
+    c.tuned.result
+    (c.tuned.ensures
+    ∙ ap (option_and_then (λ p. tuned_plan p c.in_ok-reprobes.reprobes c.in_ok-chunk.chunk))
+    (sym c.in_ok-tables.ensures.some)) in
+    record { some = by.0; none = by.1 }
