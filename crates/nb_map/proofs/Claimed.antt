@@ -17,7 +17,7 @@ use Rattle.nb_copy.specs.Handing.{HasCompleted, table_steps}
 use Rattle.nb_map.proofs.Made.{made-copied, made-more, made-none, made-quiet, made-step, made-within, slot-below-lasts}
 use Rattle.nb_map.specs.Calling.{HasMade, IsBeforeNext, as_replied}
 use Rattle.nb_map.specs.Searching.{read_at, probe_steps}
-use Rattle.nb_map.specs.Writing.{HasBelow, IsFound, find_steps, grow_steps, owed_below, steps_below}
+use Rattle.nb_map.specs.Writing.{HasBelow, IsFound, search_steps, grow_steps, owed_below, steps_below}
 use Rattle.nb_map.specs.declared.claim.Below.{Below}
 use Rattle.nb_map.specs.declared.claim.Below.TheVariants.{Complete, HasKey, Passed}
 use Rattle.nb_map.specs.declared.claim.Found.TheVariants.{Above, Full}
@@ -276,9 +276,9 @@ module _ (chain : ChainOf) where
       {call : Call} {before then after : SeenBy} {g from : ℕ} {below : Below} → from ≤ size_of q g
       → (walked : HasProbed q call before then g from below)
       → HasMade q call before after [] (walked.most + (size_of q g - from))
-      → HasMade q call before after [] (find_steps q g)
+      → HasMade q call before after [] (search_steps q g)
   walked-here {g = g} {from} {below} within walked made =
-      made-within (walked.most + (size_of q g - from)) (find_steps q g)
+      made-within (walked.most + (size_of q g - from)) (search_steps q g)
       (few-here walked.most (owed_below q g below) from (size_of q g) (steps_below q g)
       (table_steps q g) walked.few within) made
 
@@ -289,9 +289,9 @@ module _ (chain : ChainOf) where
       → (walked : HasProbed q call before then g from below)
       → HasMade q call before whole [] (walked.most + (size_of q g - from))
       → HasMade q call whole after [] (grow_steps q g below)
-      → HasMade q call before after [] (find_steps q g)
+      → HasMade q call before after [] (search_steps q g)
   walked-whole {g = g} {from} {below} own within walked made left =
-      made-within (walked.most + (size_of q g - from) + grow_steps q g below) (find_steps q g)
+      made-within (walked.most + (size_of q g - from) + grow_steps q g below) (search_steps q g)
       (few-whole walked.most (owed_below q g below) from (size_of q g) (steps_below q g)
       (table_steps q g) walked.few within)
       (made-more chain own made left)
@@ -305,10 +305,10 @@ module _ (chain : ChainOf) where
       → HasMade q call before settled [] (walked.most + (d + 1 - from)
       + (owed_below q g below - owed_below q g below'))
       → HasMade q call settled after [] (2 + grow_steps q g below')
-      → HasMade q call before after [] (find_steps q g)
+      → HasMade q call before after [] (search_steps q g)
   walked-claimed {g = g} {from} {below} below' d own within near fewer walked made claimed =
       made-within (walked.most + (d + 1 - from) + (owed_below q g below - owed_below q g below')
-      + (2 + grow_steps q g below')) (find_steps q g)
+      + (2 + grow_steps q g below')) (search_steps q g)
       (few-empty walked.most (owed_below q g below) (owed_below q g below') from d (size_of q g)
       (steps_below q g) (table_steps q g) walked.few fewer
       within near)

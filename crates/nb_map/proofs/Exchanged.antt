@@ -1,6 +1,7 @@
 -- What a call does at its key's slot, and what others did meanwhile.
-use Rattle.std.proofs.Common.{◌≡◌, ◌≢◌, ◌∙◌, ℕ, suc, zero, ◌+◌, ◌≤◌, ◌<◌, true, false, cond, List, [], ◌∷◌, ◌++◌, length, Option, Some, None, is_some, ap, sym, subst, subst₂, refl, arith}
+use Rattle.std.proofs.Common.{◌≡◌, ◌≢◌, ◌∙◌, ℕ, suc, zero, Bool, ◌+◌, ◌≤◌, ◌<◌, true, false, cond, List, [], ◌∷◌, ◌++◌, length, Option, Some, None, ap, sym, subst, subst₂, refl, arith}
 use Rattle.std.specs.FinMap as map
+use Rattle.std.specs.Option.{unwrap_or}
 use Rattle.std.specs.List.{All}
 use Rattle.std.proofs.lemmas.Bool.{eq-eqb, ne_eqb}
 use Rattle.std.proofs.lemmas.List.Elements.{All-head, All-tail}
@@ -11,7 +12,7 @@ use Rattle.nb_core.specs.Laws.{Shows}
 use Rattle.nb_core.specs.Meaning.{passed_over}
 use Rattle.nb_core.specs.Plans.{IsPlan, Plan, generations_of}
 use Rattle.nb_core.specs.Tables.{IsSettledBelow, IsSlot, IsUnprimed, tables_at}
-use Rattle.nb_core.specs.contracts.states.ValueStatePartialEq.TheImpl as value_eq
+use Rattle.nb_core.specs.States.{IsValueWord, value_word}
 use Rattle.nb_core.specs.declared.calls.Call.{Call}
 use Rattle.nb_core.specs.declared.calls.Reply.{Reply}
 use Rattle.nb_core.specs.declared.events.Event.{Event}
@@ -21,12 +22,18 @@ use Rattle.nb_core.specs.declared.states.ValueState.{ValueState}
 use Rattle.nb_core.specs.declared.states.ValueState.TheVariants.{Null, Tombstone, Live, PrimedNull, PrimedTombstone, Primed, Finished}
 use Rattle.nb_table.specs.Chains.{ChainOf, Extended, Grown, IsOwn, SeenBy, seen_by}
 use Rattle.nb_table.specs.Conditions.{IsReached}
-use Rattle.nb_table.specs.Events.{read, shown_by_value}
-use Rattle.nb_map.proofs.Made.{made-read, made-stays, made-step, read_shown}
+use Rattle.nb_table.specs.Events.{only, read, shown_by_value, value_in}
+use Rattle.nb_map.proofs.Made.{made-more, made-own, made-read, made-stays, made-step, made-within}
 use Rattle.nb_map.proofs.Searched.{made-then, reached-lasts}
-use Rattle.nb_map.specs.Calling.{HasMade, as_replied}
-use Rattle.nb_map.specs.Writing.{passed_since}
-use Rattle.nb_core.proofs.Theorems.{decided, log_is_replayed, lost_exchange, passed_over_adds, passed_settled}
+use Rattle.nb_map.specs.Calling.{HasMade, as_replied, read_of}
+use Rattle.nb_map.specs.Refusing.{IsWritten}
+use Rattle.nb_map.specs.Searching.{IsAbove}
+use Rattle.nb_map.specs.Writing.{IsDecided, passed_since}
+use Rattle.nb_map.specs.declared.claim.Below.TheVariants.{HasKey}
+use Rattle.nb_map.specs.declared.decide.Decision.{Decision}
+use Rattle.nb_map.specs.declared.decide.Decision.TheVariants as decision
+use Rattle.nb_map.specs.declared.write.Written.TheVariants.{Above}
+use Rattle.nb_core.proofs.Theorems.{beginnings_are_legal, codings, decided, log_is_replayed, lost_exchange, passed_over_adds, passed_settled}
 use Rattle.nb_table.proofs.Theorems.{steps_add_up}
 
 -- ---- what a value shows
@@ -62,57 +69,44 @@ pub none-of : {A : Type 0} (o : Option A) → ((x : A) → o ≡ Some x → ⊥)
 none-of None not_some = refl
 none-of (Some x) not_some = absurd (not_some x refl)
 
-pub none-is : {A : Type 0} (o : Option A) → is_some o ≡ false → o ≡ None
-none-is None is = refl
-none-is (Some x) is = absurd cc
+-- words that differ stand for values that differ
+same-word :
+    (x y : ℕ) → IsValueWord x → IsValueWord y → value_in x ≡ value_in y → x ≡ y
+same-word x y a b same =
+    let is = λ (w : ℕ) (word : IsValueWord w). word.decodes
+    ∙ ap Some (sym (ap (λ o. unwrap_or o Null) word.decodes)) in
+    (codings.word_of_state x (value_in x) (is x a)).0 ∙ ap value_word same
+    ∙ sym (codings.word_of_state y (value_in y) (is y b)).0
 
--- where something is shown, the value isn't primed
-pub some-shown : (v : ValueState) → is_some (shown_by_value v) ≡ true → IsUnprimed v
-some-shown Null is = tt
-some-shown Tombstone is = tt
-some-shown (Live n) is = tt
-some-shown PrimedNull is = absurd cc
-some-shown PrimedTombstone is = absurd cc
-some-shown (Primed n) is = absurd cc
-some-shown (Finished n) is = absurd cc
+-- a call that is decided otherwise doesn't leave the number alone
+pub acts-unless :
+    (call : Call) (number : Option ℕ) (d : Decision) → IsDecided call number d
+    → ((reply : Reply) → d ≡ decision.Leave reply → ⊥) → leaves_alone call number ≡ false
+acts-unless call number (decision.Leave reply) is other = absurd (other reply refl)
+acts-unless call number (decision.Exchange to) is other = is.0
+acts-unless call number decision.Overflow is other = is.0
 
--- values that the test tells apart differ
-pub not-same : (v w : ValueState) → (value_eq.ghosts).eq v w ≡ false → v ≢ w
-not-same v w differ same =
-    let both : true ≡ false = sym (itself w) ∙ ap (λ x. (value_eq.ghosts).eq x w) (sym same)
-    ∙ differ in
-    cc
+-- a read changes no word
+read-tables :
+    (p : Plan) (number : ℕ) (call : Call) (shown : Option (Option ℕ)) (h : List Event)
+    → tables_at p (read number call shown ++ h) ≡ tables_at p h
+read-tables p number call None h = refl
+read-tables p number call (Some n) h = one (leaves_alone call n)
   where
-    itself : (x : ValueState) → (value_eq.ghosts).eq x x ≡ true
-    itself Null = refl
-    itself Tombstone = refl
-    itself (Live n) = eq-eqb n n refl
-    itself PrimedNull = refl
-    itself PrimedTombstone = refl
-    itself (Primed n) = eq-eqb n n refl
-    itself (Finished n) = eq-eqb n n refl
+    one : (b : Bool)
+        → tables_at p (only b (Read number call (reply_at call n)) ++ h) ≡ tables_at p h
+    one true = refl
+    one false = refl
 
--- ---- the read that a load was
-
-pub read-left :
-    (call : Call) (v : ValueState) (number : Option ℕ) (reply : Reply)
-    → shown_by_value v ≡ Some number → leaves_alone call number ≡ true
-    → reply ≡ reply_at call number → read_shown call (shown_by_value v) ≡ (call, reply) ∷ []
-read-left call v number reply shows alone is =
-    ap (read_shown call) shows ∙ ap (λ b. cond b (as_replied call number) []) alone
-    ∙ ap (λ r. (call, r) ∷ []) (sym is)
-
-pub read-acting :
-    (call : Call) (v : ValueState) (number : Option ℕ) → shown_by_value v ≡ Some number
-    → leaves_alone call number ≡ false
-    → read_shown call (shown_by_value v) ≡ []
-read-acting call v number shows acts = ap (read_shown call) shows
-    ∙ ap (λ b. cond b (as_replied call number) []) acts
-
-pub read-primed :
-    (call : Call) (v : ValueState) → shown_by_value v ≡ None
-    → read_shown call (shown_by_value v) ≡ []
-read-primed call v shows = ap (read_shown call) shows
+-- A write has lost so many tries at its key's slot, whose value was found last in this word, and
+-- shows this number, or none.
+pub record HasTried (p : Plan) (call : Call) (start now : SeenBy) (g i lost from : ℕ)
+    (number : Option ℕ) : Type 0 where
+  pub made : HasMade p call start now (read_of call number) (lost + 1)
+  pub word : IsValueWord from
+  pub held : (seen_by p now).value g i ≡ value_in from
+  pub shows : shown_by_value (value_in from) ≡ Some number
+  pub passed : lost ≤ passed_since call start now
 
 -- ---- the exchanges that others won
 
@@ -225,14 +219,6 @@ module _ (chain : ChainOf) where
             (reached-lasts p (seen_by p start) (seen_by p after) lasting g key slot.0 reached),
       )
 
-  -- a load of the value
-  pub looked :
-      {call : Call} {start before after : SeenBy} {most : ℕ} (v : ValueState) → IsOwn chain start
-      → HasMade p call start before [] most
-      → Extended p before after (read before.number call (shown_by_value v)) 1
-      → HasMade p call start after (read_shown call (shown_by_value v)) (most + 1)
-  looked {call} v own so_far load = made-then own so_far (made-read p call (shown_by_value v) load)
-
   -- an exchange that was won
   pub made-won :
       {call : Call} {before after : SeenBy} {g i : ℕ} {from to : ValueState} (number : Option ℕ)
@@ -247,21 +233,139 @@ module _ (chain : ChainOf) where
       ∙ ap (λ n. (call, record { before = n; matched = true }) ∷ []) is)
       tt (λ h. refl) (λ f. refl)
 
-  -- one that was lost to another unprimed value, after others that were lost
-  pub lost-more :
-      {call : Call} {start loaded after : SeenBy} {made : List (Call × Reply)} {most : ℕ}
-      (lost g i : ℕ)
-      (v : ValueState) → IsOwn chain start → HasMade p call start loaded made most
-      → Extended p loaded after [] 1 → IsSlot p g i
-      → (seen_by p loaded).key g i ≡ Claimed (key_of_call call)
-      → IsSettledBelow p (seen_by p loaded) g (key_of_call call)
-      → (seen_by p after).value g i ≡ v → IsUnprimed v → v ≢ (seen_by p loaded).value g i
-      → lost ≤ passed_since call start loaded → lost + 1 ≤ passed_since call start after
-  lost-more {call} {start} {loaded} {after} lost g i v own made step slot claimed settled held
-      unprimed differs below =
-      let one = lost-at p own.plan step.others loaded.seen after.seen step.seen g i
-      (key_of_call call) loaded.number slot
-      (calls-others loaded.number step.others step.not_own) step.legal claimed settled
-      (subst IsUnprimed (sym held) unprimed)
-      (λ same. differs (sym held ∙ same)) in
-      omega (arith, below, passed-sum call made.grown (steps_add_up.one step), one)
+  -- One that was lost to another unprimed value: another seat won one. What was found may have been
+  -- the call's read.
+  lost-one :
+      (call : Call) {before after : SeenBy} (g i : ℕ) (v : ValueState)
+      → IsOwn chain before → Extended p before after (read before.number call (shown_by_value v)) 1
+      → IsSlot p g i → (seen_by p before).key g i ≡ Claimed (key_of_call call)
+      → IsSettledBelow p (seen_by p before) g (key_of_call call)
+      → (seen_by p after).value g i ≡ v → IsUnprimed v → v ≢ (seen_by p before).value g i
+      → 1 ≤ passed_since call before after
+  lost-one call {before} {after} g i v own step slot claimed settled held unprimed differs =
+      let k = key_of_call call in
+      let mine = read before.number call (shown_by_value v) in
+      let met = step.others ++ before.seen in
+      let then : (tables_at p met).value g i ≡ v =
+      ap (λ t. t.value g i) (sym (ap (tables_at p) step.seen
+      ∙ read-tables p before.number call (shown_by_value v) met)) ∙ held in
+      let one = lost-at p own.plan step.others before.seen met refl g i k before.number slot
+      (calls-others before.number step.others step.not_own)
+      (beginnings_are_legal p mine met (subst (IsLegal p) step.seen step.legal)) claimed settled
+      (subst IsUnprimed (sym then) unprimed) (λ same. differs (sym then ∙ same)) in
+      let both = ap (λ h. passed_over h (length before.seen) k before.number) step.seen
+      ∙ passed_over_adds mine step.others before.seen k before.number in
+      omega (arith, one, both)
+
+  -- ---- the tries of a write
+
+  module _ {call : Call} {start now : SeenBy} {g i lost from : ℕ} {number : Option ℕ}
+      (own : IsOwn chain start) (tried : HasTried p call start now g i lost from number) where
+    -- what was found last was the call's read, if the call leaves it as it is
+    pub tried-left :
+        (reply : Reply) → leaves_alone call number ≡ true → reply ≡ reply_at call number
+        → HasMade p call start now ((call, reply) ∷ []) (lost + 1)
+    tried-left reply alone is =
+        subst (λ made. HasMade p call start now made (lost + 1))
+        (ap (λ b. cond b (as_replied call number) []) alone ∙ ap (λ r. (call, r) ∷ []) (sym is))
+        tried.made
+
+    -- and else there was no call yet
+    pub tried-none : leaves_alone call number ≡ false → HasMade p call start now [] (lost + 1)
+    tried-none acts =
+        subst (λ made. HasMade p call start now made (lost + 1))
+        (ap (λ b. cond b (as_replied call number) []) acts) tried.made
+
+    -- an exchange of it is won
+    pub tried-won :
+        {after : SeenBy} {to : ValueState} → leaves_alone call number ≡ false
+        → Extended p now after (Won now.number g i (value_in from) to call
+        (record { before = number_in_value (value_in from); matched = true }) ∷ []) 1
+        → HasMade p call start after ((call, record { before = number; matched = true }) ∷ [])
+        (lost + 1 + 1)
+    tried-won acts won =
+        made-more chain own (tried-none acts)
+        (made-won number (shown-some (value_in from) number tried.shows).1 won)
+
+    module _ (found : ℕ) {after : SeenBy} (acts : leaves_alone call number ≡ false)
+        (step : Extended p now after (read now.number call (shown_by_value (value_in found))) 1)
+      where
+        -- or lost, and what was found is primed
+        pub tried-primed :
+            shown_by_value (value_in found) ≡ None → HasMade p call start after [] (lost + 1 + 1)
+        tried-primed shows =
+            made-then own (tried-none acts)
+            (made-read p call None
+            (subst (λ shown. Extended p now after (read now.number call shown) 1) shows step))
+
+        -- or it isn't
+        pub tried-lost :
+            (shown : Option ℕ) → IsSlot p g i → (seen_by p now).key g i ≡ Claimed (key_of_call call)
+            → IsSettledBelow p (seen_by p now) g (key_of_call call)
+            → IsValueWord found → (seen_by p after).value g i ≡ value_in found → found ≢ from
+            → shown_by_value (value_in found) ≡ Some shown
+            → HasTried p call start after g i (lost + 1) found shown
+        tried-lost shown slot claimed settled word held differs shows =
+            let mine = steps_add_up.own own tried.made.grown in
+            let one = lost-one call g i (value_in found) mine step slot claimed settled held
+            (shown-some (value_in found) shown shows).0
+            (λ same. differs (same-word found from word tried.word (same ∙ tried.held))) in
+            record {
+              made = made-then own (tried-none acts)
+                  (made-read p call (Some shown)
+                  (subst (λ s. Extended p now after (read now.number call s) 1) shows step));
+              word = word;
+              held = held;
+              shows = shows;
+              passed = omega (
+                arith,
+                tried.passed,
+                passed-sum call tried.made.grown (steps_add_up.one step),
+                one,
+              );
+            }
+
+  -- a load comes first
+  pub tried-first :
+      {call : Call} {start after : SeenBy} (g i word : ℕ) (number : Option ℕ)
+      → Extended p start after (read start.number call (shown_by_value (value_in word))) 1
+      → IsValueWord word → (seen_by p after).value g i ≡ value_in word
+      → shown_by_value (value_in word) ≡ Some number
+      → HasTried p call start after g i 0 word number
+  tried-first {call} {start} {after} g i word number load is held shows = record {
+    made = made-within 1 (0 + 1) (omega arith)
+        (made-read p call (Some number)
+        (subst (λ s. Extended p start after (read start.number call s) 1) shows load));
+    word = is;
+    held = held;
+    shows = shows;
+    passed = omega arith;
+  }
+
+  -- or it finds a primed value
+  pub loaded-primed :
+      {call : Call} {start after : SeenBy} (word : ℕ)
+      → Extended p start after (read start.number call (shown_by_value (value_in word))) 1
+      → shown_by_value (value_in word) ≡ None → HasMade p call start after [] 1
+  loaded-primed {call} {start} {after} word load shows =
+      made-read p call None
+      (subst (λ s. Extended p start after (read start.number call s) 1) shows load)
+
+  -- and it goes on in the next table, once the slot is finished
+  pub above-written :
+      {call : Call} {start then after : SeenBy} {made : List (Call × Reply)} {most pass : ℕ}
+      → IsOwn chain start → HasMade p call start then made most → (g i key : ℕ)
+      → key_of_call call ≡ key → IsSlot p g i → (seen_by p start).key g i ≡ Claimed key
+      → HasMade p call then after [] pass
+      → ((k : ℕ) → (seen_by p then).key g i ≡ Claimed k → IsAbove p (seen_by p after) g k)
+      → (tries left : ℕ) → 1 ≤ left → left ≤ tries → tries ≤ left + passed_since call start then
+      → IsWritten p call start after g tries (Above HasKey left)
+  above-written {call} own steps g i key is slot claimed pass above tries left some fewer lost =
+      let here = (made-stays chain own steps).claimed g i key slot claimed in
+      let still = (made-stays chain (made-own chain own steps) pass).claimed g i key slot here in (
+        above (key_of_call call) (here ∙ ap Claimed (sym is)),
+        record { slot = i; in_table = slot.1; is = still ∙ ap Claimed (sym is) },
+        some,
+        fewer,
+        omega (arith, lost, passed-sum call steps.grown pass.grown),
+      )

@@ -26,13 +26,6 @@ own-first p t g k d own some others =
     let first = others 0 some in first.differs (let both : Claimed first.other ≡ Claimed k =
     sym first.is ∙ own in cc)
 
--- and no slot behind others is empty
-pub own-ends :
-    (p : Plan) (t : Tables) (g k d : ℕ) → IsHomeSlot p t g k → AreOthers p t g k d
-    → t.key g (path_slot p g k d) ≡ Empty → ⊥
-own-ends p t g k zero own others empty = let both : Empty ≡ Claimed k = sym empty ∙ own in cc
-own-ends p t g k (suc d) own others empty = own-first p t g k (suc d) own (omega arith) others
-
 -- ---- what isn't at home
 
 pub others-away :

@@ -1,9 +1,11 @@
+mod Aimed
 mod Bounds
 mod Claimed
 mod Counted
 mod Crowding
 mod Earlier
 mod Exchanged
+mod Glanced
 mod Home
 mod Logged
 mod Made

@@ -315,15 +315,6 @@ on-path p t g k i d key is near at others = record {
 pub others-none : (p : Plan) (t : Tables) (g key : ℕ) → AreOthers p t g key 0
 others-none p t g key e before = absurd (omega (arith, before))
 
--- a walk that ends behind no slot of another key makes one step
-pub walk-short :
-    (p : Plan) (t : Tables) (g k from d before after : ℕ) → AreOthers p t g k d
-    → after ≤ before + (d - from) + 1
-    → (AreOthers p t g k 1 → ⊥) → after ≤ before + 1
-walk-short p t g k from zero before after others few home = omega (arith, few)
-walk-short p t g k from (suc d) before after others few home =
-    absurd (home (λ e near. others e (omega (arith, near))))
-
 -- another key has the next slot of a key's path too
 pub others-more :
     (p : Plan) (t u : Tables) → Lasts p t u → (g key d i other : ℕ) → g < generations_of p

@@ -138,7 +138,7 @@ written-few :
     (p : Plan) → IsPlan p → (g : ℕ) → g ≤ generations_of p
     → written_below p g + steps_below p g
     ≤ 3 * slots_below p g + 2 * completed_below p g
-    + g * (2 * size_of p (generations_of p - 1) + 14)
+    + g * (2 * size_of p (generations_of p - 1) + 15)
 written-few p plan zero below = omega arith
 written-few p plan (suc g) below =
     let rest = written-few p plan g (omega (arith, below)) in
@@ -148,9 +148,9 @@ written-few p plan (suc g) below =
     (written_below p g) rest next
   where
     one : (size above n s g done here under written : ℕ)
-        → written + under ≤ 3 * s + 2 * done + g * (2 * n + 14) → above ≤ n
-        → 3 * size + under + 4 + here + 2 + (2 * above + 6 + 2) + written + here
-        ≤ 3 * (size + s) + 2 * (here + done) + suc g * (2 * n + 14)
+        → written + under ≤ 3 * s + 2 * done + g * (2 * n + 15) → above ≤ n
+        → 3 * size + under + 4 + here + 1 + 2 + (2 * above + 6 + 2) + written + here
+        ≤ 3 * (size + s) + 2 * (here + done) + suc g * (2 * n + 15)
     one size above n s g done here under written rest next = omega (arith, rest, next)
 
 -- a write comes to each table once at most
@@ -162,14 +162,14 @@ write-bound p plan g below =
     let completed = completed-few p plan g below in
     let slots = slots-more p (generations_of p) g below in
     let twice = mul-le-mul_right (4 * n + 15) slots in
-    let all = mul-le-mul_right (2 * n + 14) below in
+    let all = mul-le-mul_right (2 * n + 15) below in
     fits (written_below p g) (steps_below p g) (slots_below p g) (slots_below p (generations_of p))
     (completed_below p g) g (generations_of p) n written
     completed slots twice all below
   where
     fits : (written under s t done g tables n : ℕ)
-        → written + under ≤ 3 * s + 2 * done + g * (2 * n + 14) → done ≤ s * (4 * n + 15) + g
-        → s ≤ t → s * (4 * n + 15) ≤ t * (4 * n + 15) → g * (2 * n + 14) ≤ tables * (2 * n + 14)
+        → written + under ≤ 3 * s + 2 * done + g * (2 * n + 15) → done ≤ s * (4 * n + 15) + g
+        → s ≤ t → s * (4 * n + 15) ≤ t * (4 * n + 15) → g * (2 * n + 15) ≤ tables * (2 * n + 15)
         → g ≤ tables
         → written ≤ 8 * (t + tables) * (n + 8)
     fits written under s t done g tables n a b c d e f = omega (arith, a, b, c, d, e, f)
@@ -233,7 +233,7 @@ module _ (chain : ChainOf) {call : Call} {start now after : SeenBy} {first g tri
   -- it ends here, and has lost no more tries than others won exchanges
   pub come-end :
       {calls : List (Call × Reply)} → HasMade chain.shape call now after calls
-      (find_steps chain.shape g + 2 * (min left (passed_since call now after) + 1))
+      (find_steps chain.shape g + (min left (passed_since call now after) + 2))
       → HasMade chain.shape call start after calls
       (get_steps chain.shape + 2 * min tries (passed_since call start after))
   come-end {calls} made =
@@ -241,7 +241,7 @@ module _ (chain : ChainOf) {call : Call} {start now after : SeenBy} {first g tri
       let both = passed-sum call come.made.grown made.grown in
       made-within
       (written_below chain.shape g + 2 * (tries - left)
-      + (find_steps chain.shape g + 2 * (min left (passed_since call now after) + 1))) _
+      + (find_steps chain.shape g + (min left (passed_since call now after) + 2))) _
       (omega (arith, bound, both, come.fewer, come.lost))
       (made-then own come.made made)
 

@@ -84,12 +84,12 @@ made_by call (written.Above below left) = []
 -- ---- bounds of steps
 
 -- The most steps at a slot, where the write had so many tries and others won so many exchanges on
--- its key: a load and an exchange for each try that was lost and for one more. Where it goes on in
+-- its key: a load, and an exchange for each try that was lost and for one more. Where it goes on in
 -- the next table, it has lost the tries that are gone, and there is the end of a copy.
 abbrev pub exchange_steps : Plan → (g tries passed : ℕ) → Written → ℕ
-exchange_steps p g tries passed (written.Replied reply) = 2 * (min tries passed + 1)
-exchange_steps p g tries passed (written.Refused fault) = 2 * (min tries passed + 1)
-exchange_steps p g tries passed (written.Above below left) = 2 * (tries - left + 1) + pass_steps p g
+exchange_steps p g tries passed (written.Replied reply) = min tries passed + 2
+exchange_steps p g tries passed (written.Refused fault) = min tries passed + 2
+exchange_steps p g tries passed (written.Above below left) = tries - left + 2 + pass_steps p g
 
 -- the most steps of a write in table g
 abbrev pub write_steps : Plan → (g tries passed : ℕ) → Written → ℕ

@@ -70,10 +70,14 @@ owed_below p g below.Passed = steps_below p g
 abbrev pub grow_steps : Plan → ℕ → Below → ℕ
 grow_steps p g below = owed_below p g below + 2 + table_steps p g
 
--- the most steps to find or to claim a slot: for each slot of the table a load, one of the next
--- word and a claim; and then, it may be, the next table
+-- the most steps to find or to claim a slot along a path: for each slot of the table a load, one of
+-- the next word and a claim; and then, it may be, the next table
+abbrev pub search_steps : Plan → ℕ → ℕ
+search_steps p g = 3 * size_of p g + steps_below p g + 4 + table_steps p g
+
+-- the same, with a look at the home slot before
 abbrev pub find_steps : Plan → ℕ → ℕ
-find_steps p g = 3 * size_of p g + steps_below p g + 4 + table_steps p g
+find_steps p g = search_steps p g + 1
 
 -- ---- an exchange
 

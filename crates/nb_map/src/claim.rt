@@ -8,8 +8,7 @@ ghost use Rattle.nb_core.specs.declared.calls.Call.{Call};
 ghost use Rattle.nb_table.specs.Chains.{IsOwn, seen_by};
 ghost use Rattle.nb_table.specs.Conditions.{IsReached};
 ghost use Rattle.nb_map.specs.Calling.{HasMade};
-ghost use Rattle.nb_map.specs.Looking.{IsHomeSlot};
-ghost use Rattle.nb_map.specs.Writing.{HasBelow, IsFound, find_steps, grow_steps, owed_below};
+ghost use Rattle.nb_map.specs.Writing.{HasBelow, IsFound, search_steps, grow_steps, owed_below};
 ghost use Rattle.nb_map.specs.declared.claim.Below.TheVariants as below_is;
 
 use crate::search::{PathEnd, probe};
@@ -56,10 +55,8 @@ pub(crate) fn find_or_claim(
     requires reached { IsReached chain.now.shape (seen_by chain.now.shape seat.old) g key }
     requires below { HasBelow chain.now.shape (seen_by chain.now.shape seat.old) g key below }
     ensures made { HasMade chain.now.shape call.now seat.old seat.new []
-        (find_steps chain.now.shape g) }
+        (search_steps chain.now.shape g) }
     ensures found { IsFound chain.now.shape seat.new g key result }
-    ensures short { IsHomeSlot chain.now.shape (seen_by chain.now.shape seat.old) g key
-        → seat.new.steps ≤ seat.old.steps + 1 }
 {
     let mut below = below;
     let mut from = 0;

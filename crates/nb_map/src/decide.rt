@@ -26,6 +26,7 @@ fn known(number: &Option<Num>)
 }
 
 /// What the call does where its key has this number, or none.
+#[inline(always)]
 pub(crate) fn decide(call: &Call, number: &Option<Num>) -> Decision
     ensures { IsDecided call.now number.now result }
 {

@@ -1,12 +1,28 @@
 //! Reading a key.
-ghost use Rattle.std.specs.Prelude.{◌≡◌, ◌+◌, ◌<◌, ◌≤◌};
+ghost use Rattle.std.specs.Prelude.{
+  ◌≡◌,
+  ◌≢◌,
+  ◌⊎◌,
+  ◌+◌,
+  ◌<◌,
+  ◌≤◌,
+  ℕ,
+  [],
+  None,
+  Some,
+  IsTrue,
+  false,
+  if◌then◌else◌,
+};
 ghost use Rattle.nb_core.specs.Plans.{generations_of, size_of};
 ghost use Rattle.nb_core.specs.Tables.{AreOthers, IsSlot, path_slot};
 ghost use Rattle.nb_core.specs.declared.calls.Call.TheVariants as call;
+ghost use Rattle.nb_core.specs.States.{key_state};
 ghost use Rattle.nb_core.specs.declared.states.KeyState.TheVariants as key_is;
 ghost use Rattle.nb_table.specs.Chains.{IsOwn, seen_by};
 ghost use Rattle.nb_table.specs.Conditions.{IsReached};
 ghost use Rattle.nb_map.specs.Calling.{HasMade, as_replied};
+ghost use Rattle.nb_map.specs.declared.get.Glance.TheVariants as glance_is;
 ghost use Rattle.nb_map.specs.Looking.{
   IsGlance,
   IsLook,
@@ -20,7 +36,7 @@ ghost use Rattle.nb_map.specs.Looking.{
 ghost use Rattle.nb_map.specs.Searching.{pass_steps};
 
 use crate::search::{Sought, pass_slot, seek};
-use nb_core::{Call, Key, KeyState, Num, ValueState};
+use nb_core::{Call, Key, KeyState, Num, ValueState, encode_key, number_in_word};
 use nb_table::{Chain, ChainSeat};
 
 /// What a look at a table, or at a value, shows of a key.
@@ -60,7 +76,9 @@ pub fn get_in(chain: &Chain, seat: &mut ChainSeat, key: Key) -> Option<Num>
     }
 }
 
-/// What the key's home slot in table `g` shows of it.
+/// What the key's home slot in table `g` shows of it. Whether the map has the key is no branch: it
+/// looks at both words of the slot, and goes another way only where the slot is another key's, or
+/// is being copied.
 #[inline]
 #[tactic(auto, using(nb_core::proofs::Theorems::linked))]
 fn glance_in(chain: &Chain, seat: &mut ChainSeat, g: u32, key: Key) -> Glance
@@ -71,40 +89,104 @@ fn glance_in(chain: &Chain, seat: &mut ChainSeat, g: u32, key: Key) -> Glance
     ensures glance { IsGlance chain.now.shape (seen_by chain.now.shape seat.new) g key result }
 {
     let home = chain.shape().path_slot(g, key, 0);
-    match chain.load_key(seat, g, home, Some(Call::Get { key })) {
-        KeyState::Claimed(other) => {
-            if other == key {
-                glance_at(chain, seat, g, home, key)
-            } else {
-                Glance::From(1)
-            }
-        }
-        KeyState::Empty => Glance::Shows(None),
-        KeyState::Dead => Glance::From(0),
+    let word = chain.load_key_word(seat, g, home, Some(Call::Get { key }));
+    if !is_own_or_empty(word, key) {
+        return away(word);
+    }
+    glance_at(chain, seat, g, home, key, word != 0)
+}
+
+/// Whether a key word is this key's, or that of an empty slot. Two tests would become two branches,
+/// of which one is a toss where half of the keys are there.
+#[inline]
+fn is_own_or_empty(word: u64, key: Key) -> bool
+    ensures yes { IsTrue result → (key_state word ≡ key_is.Claimed key) ⊎ (word ≡ 0) }
+    ensures no { result ≡ false → (key_state word ≡ key_is.Dead)
+        ⊎ ((other : ℕ) × (key_state word ≡ key_is.Claimed other) × (other ≢ key)) }
+{
+    word.min(word.wrapping_sub(encode_key(KeyState::Claimed(key)))) == 0
+}
+
+/// Whether a key word is this key's.
+#[inline]
+pub(crate) fn is_own(word: u64, key: Key) -> bool
+    ensures yes { IsTrue result → key_state word ≡ key_is.Claimed key }
+    ensures no { result ≡ false → key_state word ≢ key_is.Claimed key }
+{
+    word == encode_key(KeyState::Claimed(key))
+}
+
+/// From where the search goes on, where a home slot has this key word of another key, or is closed
+/// to keys.
+#[inline]
+fn away(word: u64) -> Glance
+    ensures dead { key_state word ≡ key_is.Dead → result ≡ glance_is.From 0 }
+    ensures other { (other : ℕ) → key_state word ≡ key_is.Claimed other
+        → result ≡ glance_is.From 1 }
+{
+    if word == 1 {
+        Glance::From(0)
+    } else {
+        Glance::From(1)
     }
 }
 
-/// What the value in the key's home slot `i` of table `g` shows of the key.
+/// The read of a key, where a load is to decide it.
 #[inline]
-fn glance_at(chain: &Chain, seat: &mut ChainSeat, g: u32, i: usize, key: Key) -> Glance
+fn read_if(deciding: bool, key: Key) -> Option<Call>
+    ensures { result ≡ (if deciding then Some (call.Get key) else None) }
+{
+    if deciding {
+        Some(Call::Get { key })
+    } else {
+        None
+    }
+}
+
+/// What the value in slot `i` of table `g` shows of the key, whose home slot it is: of a slot that
+/// was seen empty nothing, and the map doesn't have the key.
+#[inline]
+fn glance_at(
+    chain: &Chain,
+    seat: &mut ChainSeat,
+    g: u32,
+    i: usize,
+    key: Key,
+    is_own: bool,
+) -> Glance
     requires own { IsOwn chain.now seat.old }
     requires slot { IsSlot chain.now.shape g i }
     requires home { path_slot chain.now.shape g key 0 ≡ i }
-    requires claimed { (seen_by chain.now.shape seat.old).key g i ≡ key_is.Claimed key }
+    requires claimed { IsTrue is_own → (seen_by chain.now.shape seat.old).key g i
+        ≡ key_is.Claimed key }
     requires reached { IsReached chain.now.shape (seen_by chain.now.shape seat.old) g key }
     ensures made { HasMade chain.now.shape (call.Get key) seat.old seat.new
-        (glanced_by (call.Get key) result) 1 }
-    ensures glance { IsGlance chain.now.shape (seen_by chain.now.shape seat.new) g key result }
+        (if is_own then glanced_by (call.Get key) result else []) 1 }
+    ensures glance { IsTrue is_own → IsGlance chain.now.shape (seen_by chain.now.shape seat.new)
+        g key result }
+    ensures empty { is_own ≡ false → result ≡ glance_is.Shows None }
 {
-    match chain.load_value(seat, g, i, Some(Call::Get { key })) {
-        ValueState::Null | ValueState::Tombstone => Glance::Shows(None),
-        ValueState::Live(number) => Glance::Shows(Some(number)),
-        _ => Glance::From(0),
+    let word = chain.load_value_word(seat, g, i, read_if(is_own, key));
+    let number = number_in_word(word);
+    if word % 4 != 0 {
+        return if is_own {
+            Glance::From(0)
+        } else {
+            Glance::Shows(None)
+        };
     }
+    Glance::Shows(number_if(is_own & (word >= 8), number))
+}
+
+/// The number, where it is one of the key.
+#[inline]
+pub(crate) fn number_if(is_there: bool, number: Num) -> Option<Num>
+    ensures { result ≡ (if is_there then Some number else None) }
+{
+    if is_there { Some(number) } else { None }
 }
 
 /// What the map has at a key, from a distance of its path in table `first` on.
-#[cold]
 #[inline(never)]
 fn get_from(
     chain: &Chain,

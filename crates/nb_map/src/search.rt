@@ -69,8 +69,6 @@ pub(crate) fn probe(
         (read_at chain.now.shape g call.now result)
         (probe_steps chain.now.shape g from result) }
     ensures ends { EndsAt chain.now.shape (seen_by chain.now.shape seat.new) g key result }
-    ensures short { (AreOthers chain.now.shape (seen_by chain.now.shape seat.new) g key 1 → ⊥)
-        → seat.new.steps ≤ seat.old.steps + 1 }
 {
     for distance in from..chain.shape().size_of(g) {
         let i = chain.shape().path_slot(g, key, distance);
@@ -107,8 +105,6 @@ pub(crate) fn seek(
     ensures made { HasMade chain.now.shape call.now seat.old seat.new (read_sought call.now result)
         (size_of chain.now.shape g - from + 1) }
     ensures sought { IsSought chain.now.shape (seen_by chain.now.shape seat.new) g key result }
-    ensures short { (AreOthers chain.now.shape (seen_by chain.now.shape seat.new) g key 1 → ⊥)
-        → seat.new.steps ≤ seat.old.steps + 1 }
 {
     match probe(chain, seat, g, key, call, from) {
         PathEnd::Slot(i) => Sought::Slot(i),

@@ -189,6 +189,7 @@ impl Map {
     }
 
     /// Puts a number where the condition holds.
+    #[inline(always)]
     fn put_where<R: Wait>(
         &self,
         rt: &R,
@@ -218,6 +219,7 @@ impl Map {
     }
 
     /// Makes a write that leaves an absent key absent.
+    #[inline(always)]
     fn change_where<R: Wait>(
         &self,
         rt: &R,
@@ -242,7 +244,9 @@ impl Map {
         }
     }
 
-    /// Makes a write, and counts what it did to the number of keys.
+    /// Makes a write, and counts what it did to the number of keys. Its condition and its change are
+    /// known in each call that stands on it, and so what is left of it there is short.
+    #[inline(always)]
     fn write<R: Wait>(
         &self,
         rt: &R,
@@ -268,6 +272,7 @@ impl Map {
 }
 
 /// Makes a write on a chain of tables, and tries again for as long as other seats come first.
+#[inline(always)]
 fn write_through<R: Wait>(
     rt: &R,
     chain: &Chain,

@@ -24,11 +24,13 @@ ghost use Rattle.nb_map.specs.Writing.{
   IsSeenAlone,
   find_steps,
   passed_since,
+  search_steps,
 };
 
 use crate::claim::{Below, Found, find_or_claim};
 use crate::decide::{Decision, decide};
 use crate::exchange::exchange;
+use crate::get::is_own;
 use crate::pause::Pause;
 use crate::search::{Sought, seek};
 use nb_core::{Call, Change, Key, Reply, Want};
@@ -104,6 +106,7 @@ pub fn put_if_match_in<P: Pause>(
 }
 
 /// Makes a write, in the top table `first` or above it.
+#[inline(always)]
 pub(crate) fn write_from<P: Pause>(
     chain: &Chain,
     seat: &mut ChainSeat,
@@ -142,6 +145,7 @@ pub(crate) fn write_from<P: Pause>(
 }
 
 /// Makes a write in table `g`, or finds that it goes on in the next one.
+#[inline(always)]
 #[tactic(auto, using(nb_core::proofs::Theorems::linked))]
 fn write_in<P: Pause>(
     chain: &Chain,
@@ -174,8 +178,9 @@ fn write_in<P: Pause>(
     }
 }
 
-/// Where a write that has come to table `g` has to look: it searches for the key's slot, and claims
-/// one for it if it puts a number there.
+/// Where a write that has come to table `g` has to look. Where the key's home slot there is its own,
+/// or is empty and the write leaves an absent key at that, one load tells it.
+#[inline]
 #[tactic(auto, using(nb_core::proofs::Theorems::linked))]
 fn aim(chain: &Chain, seat: &mut ChainSeat, g: u32, key: Key, call: &Call, below: Below) -> Target
     requires own { IsOwn chain.now seat.old }
@@ -191,14 +196,47 @@ fn aim(chain: &Chain, seat: &mut ChainSeat, g: u32, key: Key, call: &Call, below
         (key_of_call call.now))
         → seat.new.steps ≤ seat.old.steps + 1 }
 {
-    if let Decision::Leave(reply) = decide(call, &None) {
-        return match seek(chain, seat, g, key, call, 0) {
+    let home = chain.shape().path_slot(g, key, 0);
+    let word = chain.load_key_word(seat, g, home, Some(*call));
+    if is_own(word, key) {
+        return Target::Slot(home);
+    }
+    if word == 0 {
+        if let Decision::Leave(reply) = decide(call, &None) {
+            return Target::Absent(reply);
+        }
+    }
+    aim_along(chain, seat, g, key, *call, below)
+}
+
+/// The same by a search along the key's path. The call claims a slot for its key if it puts a number
+/// there.
+#[inline(never)]
+#[tactic(auto, using(nb_core::proofs::Theorems::linked))]
+fn aim_along(
+    chain: &Chain,
+    seat: &mut ChainSeat,
+    g: u32,
+    key: Key,
+    call: Call,
+    below: Below,
+) -> Target
+    requires own { IsOwn chain.now seat.old }
+    requires key { key_of_call call ≡ key }
+    requires reached { IsReached chain.now.shape (seen_by chain.now.shape seat.old) g key }
+    requires below { HasBelow chain.now.shape (seen_by chain.now.shape seat.old) g key below }
+    ensures made { HasMade chain.now.shape call seat.old seat.new (made_at call result)
+        (search_steps chain.now.shape g) }
+    ensures target { IsTarget chain.now.shape call seat.new g key result }
+{
+    if let Decision::Leave(reply) = decide(&call, &None) {
+        return match seek(chain, seat, g, key, &call, 0) {
             Sought::Slot(i) => Target::Slot(i),
             Sought::Absent => Target::Absent(reply),
             Sought::Above => Target::Above(Below::Passed),
         };
     }
-    match find_or_claim(chain, seat, g, key, call, below) {
+    match find_or_claim(chain, seat, g, key, &call, below) {
         Found::Slot(i) => Target::Slot(i),
         Found::Above(below) => Target::Above(below),
         Found::Full => Target::Full,

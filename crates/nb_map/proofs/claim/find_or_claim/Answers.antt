@@ -1,14 +1,11 @@
-use Rattle.std.proofs.Common.{◌+◌, ◌-◌, ◌<◌, ◌≤◌, [], refl, arith}
-use Rattle.std.proofs.lemmas.Nat.{pow_pos}
+use Rattle.std.proofs.Common.{◌+◌, ◌-◌, ◌<◌, ◌≤◌, [], arith}
 use Rattle.nb_core.specs.Plans.{size_of}
 use Rattle.nb_core.specs.Tables.{IsInstalled}
 use Rattle.nb_table.specs.Chains.{seen_by}
 use Rattle.nb_map.proofs.Claimed.{behind-fits, below-lasts, empty-behind, walked-claimed, walked-here, walked-none, walked-behind, walked-to, walked-whole}
-use Rattle.nb_map.proofs.Home.{home-in, own-ends, own-first}
 use Rattle.nb_map.proofs.Made.{made-more, made-own, made-stays}
 use Rattle.nb_map.proofs.Searched.{closed-above, reached-lasts, table-within}
 use Rattle.nb_map.specs.Calling.{HasMade}
-use Rattle.nb_map.specs.Looking.{IsHomeSlot}
 use Rattle.nb_map.specs.Writing.{HasBelow, owed_below}
 use Rattle.nb_map.specs.declared.search.PathEnd.TheVariants.{Closed, Empty, Slot, Whole}
 use Rattle.nb_map.proofs.claim.find_or_claim.Goals as goal
@@ -21,7 +18,6 @@ loop-i-init c = record {
   within = omega arith;
   others = λ e near. absurd (omega (arith, near));
   below = c.requires.below;
-  first = λ own. refl;
 }
 
 pub probe-requires-clause-reached : goal.probe-requires-clause-reached
@@ -149,67 +145,6 @@ returns-in-Some-clause-made c =
     (settled (goal.at.returns-in-Some-clause-made c).After-settle_below-below)
     c.in-Some.ensures.found.0
 
--- ---- where the home slot is the key's own
-
--- it is so still after the walk,
-home-still :
-    (c : After-probe) → IsHomeSlot c.args.chain.now.shape
-    (seen_by c.args.chain.now.shape c.args.seat.now) c.args.g c.args.key
-    → IsHomeSlot c.args.chain.now.shape (seen_by c.args.chain.now.shape c.probe.new.seat)
-    c.args.g c.args.key
-home-still c own =
-    let chain = c.args.chain.now in
-    let table = table-within chain c.args.seat.now c.requires.own c.args.g
-    c.requires.reached.installed in
-    (made-stays chain c.requires.own
-    (walked-to chain c.requires.own c.requires.acts c.loop-i.invariant.walked c.probe.result
-    c.probe.ensures.made)).claimed
-    c.args.g _ c.args.key (home-in chain.shape c.args.g c.args.key table) own
-
--- which is the first one and makes one step,
-walked-once :
-    (c : After-probe) → IsHomeSlot c.args.chain.now.shape
-    (seen_by c.args.chain.now.shape c.args.seat.now) c.args.g c.args.key
-    → c.probe.new.seat.steps ≤ c.args.seat.now.steps + 1
-walked-once c own =
-    let p = c.args.chain.now.shape in
-    omega (
-      arith,
-      c.loop-i.invariant.first own,
-      c.probe.ensures.short (own-first p (seen_by p c.probe.new.seat) c.args.g c.args.key 1
-          (home-still c own) (omega arith)),
-    )
-
--- and doesn't end at an empty slot
-not-empty :
-    (c : In-Empty) → IsHomeSlot c.args.chain.now.shape
-    (seen_by c.args.chain.now.shape c.probe.new.seat) c.args.g c.args.key → ⊥
-not-empty c own =
-    let p = c.args.chain.now.shape in
-    own-ends p (seen_by p c.probe.new.seat)
-    c.args.g c.args.key c.in-Empty.distance own c.in-Empty.ensures.ends.1
-    c.in-Empty.ensures.ends.2
-
-pub returns-in-Slot-clause-short : goal.returns-in-Slot-clause-short
-returns-in-Slot-clause-short c = walked-once (goal.at.returns-in-Slot-clause-short c).After-probe
-
-pub returns-in-Closed-clause-short : goal.returns-in-Closed-clause-short
-returns-in-Closed-clause-short c = walked-once
-    (goal.at.returns-in-Closed-clause-short c).After-probe
-
-pub returns-in-Whole-clause-short : goal.returns-in-Whole-clause-short
-returns-in-Whole-clause-short c own =
-    let p = c.args.chain.now.shape in
-    absurd
-    (own-first p (seen_by p c.probe.new.seat) c.args.g c.args.key _
-    (home-still (goal.at.returns-in-Whole-clause-short c).After-probe own)
-    (pow_pos _) c.in-Whole.ensures.ends)
-
-pub returns-in-Some-clause-short : goal.returns-in-Some-clause-short
-returns-in-Some-clause-short c own =
-    let at = goal.at.returns-in-Some-clause-short c in
-    absurd (not-empty at.In-Empty (home-still at.After-probe own))
-
 pub overflow_add-from : goal.overflow_add-from
 overflow_add-from c =
     let chain = c.args.chain.now in
@@ -247,7 +182,4 @@ loop-i-preserved c =
       below = below-lasts chain.shape _ _ (made-stays chain c.settle_below-below.ensures.own lost.0)
           c.args.g c.args.key table
           c.settle_below-below.result has;
-      first = λ own.
-          let at = goal.at.loop-i-preserved c in
-          absurd (not-empty at.In-Empty (home-still at.After-probe own));
     }

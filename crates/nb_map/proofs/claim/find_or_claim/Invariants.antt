@@ -1,9 +1,8 @@
-use Rattle.std.proofs.Common.{◌≡◌, ◌-◌, ◌≤◌}
+use Rattle.std.proofs.Common.{◌-◌, ◌≤◌}
 use Rattle.nb_core.specs.Plans.{size_of}
 use Rattle.nb_core.specs.Tables.{AreOthers}
 use Rattle.nb_table.specs.Chains.{seen_by}
 use Rattle.nb_map.proofs.Claimed.{HasProbed}
-use Rattle.nb_map.specs.Looking.{IsHomeSlot}
 use Rattle.nb_map.specs.Writing.{HasBelow}
 use Rattle.nb_map.proofs.claim.find_or_claim.Given as goal
 
@@ -13,8 +12,6 @@ invariant-loop-i l = record {
   within : l.from ≤ size_of l.chain.shape l.g;
   others : AreOthers l.chain.shape (seen_by l.chain.shape l.seat) l.g l.key l.from;
   below : HasBelow l.chain.shape (seen_by l.chain.shape l.seat) l.g l.key l.below;
-  first : IsHomeSlot l.chain.shape (seen_by l.chain.shape l.fn.seat) l.g l.key
-      → l.seat.steps ≡ l.fn.seat.steps;
 }
 
 abbrev pub decreases-loop-i : goal.decreases-loop-i

@@ -1,4 +1,4 @@
-use Rattle.std.proofs.Common.{◌≡◌, ◌∙◌, ◌+◌, ◌-◌, ◌<◌, ◌≤◌, ◌≢◌, None, Some, ap, sym, subst, arith, rules}
+use Rattle.std.proofs.Common.{◌≡◌, ◌∙◌, ◌+◌, ◌-◌, ◌<◌, ◌≢◌, None, Some, ap, sym, subst, arith, rules}
 use Rattle.std.proofs.lemmas.Bool.{eqb-false}
 use Rattle.nb_core.specs.History.{key_of_call}
 use Rattle.nb_core.specs.Tables.{AreOthers, path_slot}
@@ -9,7 +9,7 @@ use Rattle.nb_table.specs.Events.{read, shown_by_key}
 use Rattle.nb_table.specs.Chains.{Extended, seen_by}
 use Rattle.nb_map.specs.Calling.{HasMade}
 use Rattle.nb_map.proofs.Made.{made-none, made-own, made-stays, made-within}
-use Rattle.nb_map.proofs.Searched.{dead-next, on-path, others-more, reached-lasts, read-end, read-start, shown-own, table-within, walk-short, walked, walked-on}
+use Rattle.nb_map.proofs.Searched.{dead-next, on-path, others-more, reached-lasts, read-end, read-start, shown-own, table-within, walked, walked-on}
 use Rattle.nb_map.proofs.search.probe.Goals as goal
 use Rattle.nb_map.proofs.search.probe.Goals.{After-load_key}
 use Rattle.nb_table.proofs.Theorems.{steps_add_up}
@@ -159,33 +159,6 @@ returns-in-Dead-clause-ends c =
           (steps_add_up.own own (steps_add_up.one c.load_key.ensures.grows))
           c.args.g c.path_slot-i.result (table, in_table) (c.load_key.ensures.found ∙ c.in-Dead.is),
     )
-
--- behind the first slot of the path there is one of another key
-short :
-    (c : After-load_key)
-    → (AreOthers c.args.chain.now.shape (seen_by c.args.chain.now.shape c.load_key.new.seat)
-    c.args.g c.args.key 1 → ⊥)
-    → c.load_key.new.seat.steps ≤ c.args.seat.now.steps + 1
-short c =
-    let chain = c.args.chain.now in
-    let so_far = c.loop-distance.invariant in
-    let table = table-within chain c.args.seat.now c.requires.own c.args.g
-    c.requires.reached.installed in
-    let own = made-own chain c.requires.own so_far.0 in
-    let lasting = steps_add_up.stays own (steps_add_up.one c.load_key.ensures.grows) in
-    walk-short chain.shape (seen_by chain.shape c.load_key.new.seat)
-    c.args.g c.args.key c.args.from c.loop-distance.distance _ _
-    (lasting.others c.args.g c.args.key c.loop-distance.distance table so_far.1)
-    (omega (arith, so_far.0.grown.steps, so_far.0.few, c.load_key.ensures.grows.steps))
-
-pub returns-then-eq-clause-short : goal.returns-then-eq-clause-short
-returns-then-eq-clause-short c = short (goal.at.returns-then-eq-clause-short c).After-load_key
-
-pub returns-in-Empty-clause-short : goal.returns-in-Empty-clause-short
-returns-in-Empty-clause-short c = short (goal.at.returns-in-Empty-clause-short c).After-load_key
-
-pub returns-in-Dead-clause-short : goal.returns-in-Dead-clause-short
-returns-in-Dead-clause-short c = short (goal.at.returns-in-Dead-clause-short c).After-load_key
 
 pub loop-distance-preserved : goal.loop-distance-preserved
 loop-distance-preserved c =

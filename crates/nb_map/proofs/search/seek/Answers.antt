@@ -1,7 +1,6 @@
-use Rattle.std.proofs.Common.{◌≡◌, ◌+◌, ◌-◌, ◌≤◌, ◌==◌, None, Some, suc, sym, subst, refl, arith, rules}
+use Rattle.std.proofs.Common.{◌≡◌, ◌+◌, ◌-◌, ◌==◌, None, Some, suc, sym, subst, refl, arith, rules}
 use Rattle.nb_core.specs.Tables.{Whole}
 use Rattle.nb_core.specs.Plans.{generations_of, size_of}
-use Rattle.nb_core.specs.Tables.{AreOthers}
 use Rattle.nb_table.specs.Chains.{seen_by}
 use Rattle.nb_table.specs.Conditions.{IsReached}
 use Rattle.nb_map.specs.Calling.{HasMade}
@@ -63,26 +62,3 @@ returns-else-load_next-clause-made c =
     (read-alone c.args.call.now None c.requires.alone)
     (made-then c.requires.own walk (made-read chain.shape c.args.call.now (Some None)
     c.if-load_next.ensures.grows))
-
--- the first slot of the path is another key's
-away :
-    (c : After-load_next)
-    → (AreOthers c.args.chain.now.shape (seen_by c.args.chain.now.shape c.load_next.new.seat)
-    c.args.g c.args.key 1 → ⊥)
-    → c.load_next.new.seat.steps ≤ c.args.seat.now.steps + 1
-away c home =
-    let chain = c.args.chain.now in
-    let table = table-within chain c.args.seat.now c.requires.own c.args.g
-    c.requires.reached.installed in
-    let own = made-own chain c.requires.own c.probe.ensures.made in
-    let others = (steps_add_up.stays own (steps_add_up.one c.load_next.ensures.grows)).others
-    c.args.g c.args.key _ table c.in-Whole.ensures.ends in
-    absurd (home (λ e first. others e (omega (arith, first, c.requires.near))))
-
-pub returns-then-load_next-clause-short : goal.returns-then-load_next-clause-short
-returns-then-load_next-clause-short c = away
-    (goal.at.returns-then-load_next-clause-short c).After-load_next
-
-pub returns-else-load_next-clause-short : goal.returns-else-load_next-clause-short
-returns-else-load_next-clause-short c = away
-    (goal.at.returns-else-load_next-clause-short c).After-load_next
