@@ -1,8 +1,8 @@
 //! Workers: threads that call one map, each with a seat of its own.
-ghost use Rattle.std.specs.Prelude.{All, IfOk};
+ghost use Rattle.std.specs.Prelude.{◌≡◌, All, IfOk, length};
 ghost use Rattle.nb_map.specs.Maps.{AreMine, IsMine};
 
-use crate::faults::{Fault, WorkFault, Wrong};
+use crate::faults::{Fault, WorkFault};
 use crate::keys::{Spacing, number};
 use nb_core::{MAX_SEATS, OutOfMemory, Shape};
 use nb_map::{Ended, Map, Seat};
@@ -104,7 +104,8 @@ fn filled<R: Wait>(
     places: &[u32],
 ) -> Result<Vec<Seat>, Fault>
     requires own { AreMine map.now seats.items }
-    ensures own { IfOk result (λ seats. AreMine map.now seats.items) }
+    ensures own { IfOk result (λ back. AreMine map.now back.items) }
+    ensures count { IfOk result (λ back. length back.items ≡ length seats.items) }
 {
     let mut seats = seats;
     let Some(mut seat) = seats.pop() else {
@@ -119,6 +120,7 @@ fn filled<R: Wait>(
 fn hired(alloc: Global, map: &Map, seats: Vec<Seat>) -> Result<Vec<Worker>, OutOfMemory>
     requires own { AreMine map.now seats.items }
     ensures own { IfOk result (λ workers. All (λ w. IsMine map.now w.seat) workers.items) }
+    ensures count { IfOk result (λ workers. length workers.items ≡ length seats.items) }
 {
     let mut seats = seats;
     let mut workers = Vec::new(alloc);
@@ -181,6 +183,7 @@ fn parted(
 ) -> Result<(Vec<Seat>, Tally, Vec<u64>), Fault>
     requires own { All (λ w. IsMine map.now w.seat) workers.items }
     ensures own { IfOk result (λ parts. AreMine map.now parts.0.items) }
+    ensures count { IfOk result (λ parts. length parts.0.items ≡ length workers.items) }
 {
     let mut workers = workers;
     let mut seats = Vec::new(alloc);
@@ -217,8 +220,8 @@ pub(crate) fn do_job<R: Threads + Sync + Wait + Clock, J: Job + Sync>(
     let mut workers = hired(alloc, &map, seats)?;
     all_work(rt, &map, job, workers.as_mut_slice());
     let (seats, tally, told) = parted(alloc, &map, workers)?;
-    match map.finish(seats) {
-        Ok(ended) => Ok(Done { ended, tally, told }),
-        Err(_) => Err(Fault::Wrong(Wrong::Seats)),
-    }
+    let Ok(ended) = map.finish(seats) else {
+        unreachable!();
+    };
+    Ok(Done { ended, tally, told })
 }

@@ -1,5 +1,4 @@
 //! Calls at keys that are drawn, for a while.
-ghost use Rattle.std.specs.Prelude.{IfOk};
 ghost use Rattle.nb_map.specs.Maps.{IsMine};
 
 use crate::crew::{Job, Worker};

@@ -45,8 +45,6 @@ pub(crate) enum Wrong {
     Sum,
     #[error("the size isn't the number of keys")]
     Size,
-    #[error("the map can't be ended with its seats")]
-    Seats,
 }
 
 /// Why nothing was measured.

@@ -1,6 +1,5 @@
 //! Calls of one kind, one after another, each at its key's home slot: what a call of each kind
 //! takes.
-ghost use Rattle.std.specs.Prelude.{IfOk};
 ghost use Rattle.nb_map.specs.Maps.{IsMine};
 
 use crate::crew::put_all;
@@ -186,10 +185,10 @@ fn time_once<R: Wait + Clock>(
     times: &mut [u64; 6],
 ) -> Result<(), Fault> {
     let (map, mut seats) = Map::new(alloc, options.shape()?)?;
-    match seats.pop() {
-        Some(mut seat) => time_kinds(rt, &map, &mut seat, options.spacing, places, times),
-        None => Err(Fault::Wrong(Wrong::Seats)),
-    }
+    let Some(mut seat) = seats.pop() else {
+        unreachable!();
+    };
+    time_kinds(rt, &map, &mut seat, options.spacing, places, times)
 }
 
 /// Makes calls of all kinds at all keys in new maps, again and again until the time is up. It

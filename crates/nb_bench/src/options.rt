@@ -21,6 +21,10 @@ pub(crate) struct Options {
     pub(crate) exponents: Vec<u32>,
     /// Over how many words the size is counted.
     pub(crate) stripes: usize,
+    /// Past how many slots of its path no new key is put in a table that isn't the last.
+    pub(crate) reprobes: u32,
+    /// How many slots are handed out at once when a table is copied.
+    pub(crate) chunk: u32,
     pub(crate) spacing: Spacing,
     /// How many calls each thread makes at most, rounded up to whole batches or rounds.
     pub(crate) calls: u64,
@@ -31,14 +35,12 @@ pub(crate) struct Options {
 }
 
 impl Options {
-    /// The shape of the map. What else a map is made with, once it takes that, comes in here and as
-    /// an option below: how many slots a search looks at before it goes on to the next table
-    /// (`--reprobes`), and how many are copied at once (`--chunk`).
+    /// The shape of the map.
     pub(crate) fn shape(&self) -> Result<Shape, Fault> {
-        match Shape::with_plan(self.exponents.as_slice(), self.threads, self.stripes) {
-            Ok(shape) => Ok(shape),
-            Err(_) => Err(Fault::Usage),
-        }
+        Shape::with_plan(self.exponents.as_slice(), self.threads, self.stripes)
+            .and_then(|shape| shape.with_reprobe_limit(self.reprobes))
+            .and_then(|shape| shape.with_chunk(self.chunk))
+            .map_err(|_| Fault::Usage)
     }
 }
 
@@ -75,6 +77,16 @@ fn command<'a>(alloc: Global) -> Result<Command<'a>, AllocError> {
     let stripes = option(alloc, "stripes", "P", "Words that a count is spread over").value_parser(
         value_parser!(u32).range(1..=8),
     );
+    let reprobes = option(
+        alloc,
+        "reprobes",
+        "N",
+        "Slots of a path that are tried before a table grows",
+    )
+    .value_parser(value_parser!(u32));
+    let chunk = option(alloc, "chunk", "C", "Slots that are copied at once")
+        .value_parser(value_parser!(u32))
+        .default_value("8");
     let keys = option(alloc, "keys", "WHICH", "dense (from 0 on) or spread").default_value("dense");
     let calls = option(alloc, "calls", "N", "Calls of a thread, at most").value_parser(
         value_parser!(u64),
@@ -91,6 +103,8 @@ fn command<'a>(alloc: Global) -> Result<Command<'a>, AllocError> {
     with_words(alloc, command)?
         .arg(plan)?
         .arg(stripes)?
+        .arg(reprobes)?
+        .arg(chunk)?
         .arg(keys)?
         .arg(calls)?
         .arg(puts)?
@@ -163,6 +177,8 @@ fn options_of(alloc: Global, matches: &ArgMatches<'_>) -> Result<Options, Fault>
         stripes: matches
             .get_one::<u32>("stripes")
             .map_or(threads, |stripes| stripes as usize),
+        reprobes: matches.get_one::<u32>("reprobes").unwrap_or(u32::MAX),
+        chunk: matches.get_one::<u32>("chunk").unwrap_or(8),
         spacing: read_spacing(matches.get_str("keys").unwrap_or("dense"))?,
         calls: matches.get_one::<u64>("calls").unwrap_or(u64::MAX),
         puts: matches.get_one::<u32>("puts").unwrap_or(0),

@@ -1,0 +1,37 @@
+#!/usr/bin/env python3
+"""Runs the map and its peers by turns, and prints for each workload and number of threads the best and the middle time of a call.
+
+    compare.py [--seconds S] [--rounds N] [--threads 1,2,4] [--workloads ABCDE] [PEER..]
+
+The time of a call is NANOSECONDS / OPS: with several threads at once it is the machine's time for one call, not a thread's."""
+import argparse, os, statistics, subprocess
+
+HERE = os.path.dirname(os.path.abspath(__file__))
+OUT = os.path.join(HERE, 'out')
+JAVA = ['java', '-cp', OUT + ':/usr/share/java/jctools-core.jar', 'Bench']
+PEERS = {
+    'nb': [os.path.join(HERE, '..', 'out', 'nb_bench')],
+    'limit': [os.path.join(OUT, 'limit')],
+    'tbb': [os.path.join(OUT, 'tbb')],
+    'chm': JAVA + ['chm'],
+    'nbhml': JAVA + ['nbhml'],
+}
+words = argparse.ArgumentParser()
+words.add_argument('--seconds', default='0.5')
+words.add_argument('--rounds', type=int, default=5)
+words.add_argument('--threads', default='1,2,4')
+words.add_argument('--workloads', default='ABCDE')
+words.add_argument('peers', nargs='*')
+given = words.parse_args()
+peers = given.peers or list(PEERS)
+print('workload threads ' + ' '.join(f'{p:>15}' for p in peers) + '   ns a call: best (middle)')
+for workload in given.workloads:
+    for threads in given.threads.split(','):
+        times = {p: [] for p in peers}
+        for _ in range(given.rounds):
+            for p in peers:
+                line = subprocess.run(PEERS[p] + [workload, threads, given.seconds], capture_output=True, text=True, check=True).stdout
+                calls, nanoseconds = map(int, line.split()[3:5])
+                times[p].append(nanoseconds / calls)
+        cells = [f'{min(times[p]):6.1f} ({statistics.median(times[p]):6.1f})' for p in peers]
+        print(f'{workload:>8} {threads:>7} ' + ' '.join(f'{c:>15}' for c in cells), flush=True)
