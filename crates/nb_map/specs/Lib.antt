@@ -10,3 +10,4 @@ pub mod Maps
 pub mod Inside
 pub mod Ending
 pub mod Walks
+pub mod Trying

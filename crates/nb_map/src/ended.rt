@@ -1,5 +1,5 @@
 //! What is left of a map when all its seats are gathered.
-ghost use Rattle.std.specs.Prelude.{◌≡◌, ◌≤◌, [], length, IfOk, vec_capacity};
+ghost use Rattle.std.specs.Prelude.{◌≡◌, ◌==◌, ◌≤◌, [], length, is_some, IfOk, vec_capacity};
 ghost use Rattle.std.specs.FinMap as map;
 ghost use Rattle.nb_core.specs.Log.{IsReplayed};
 ghost use Rattle.nb_table.specs.Left.{IsLeft};
@@ -50,11 +50,25 @@ impl Ended {
         self.size
     }
 
+    /// Whether the map has no key: of the stored number.
+    pub fn is_empty(&self) -> bool
+        ensures { result ≡ (length (map.entries (map_left self.now)) == 0) }
+    {
+        self.size() == 0
+    }
+
     /// The number that the map has at the key. It takes no memory.
     pub fn get(&self, key: Key) -> Option<Num>
         ensures { result ≡ map.get (map_left self.now) key }
     {
         self.closed.get(key)
+    }
+
+    /// Whether the map has the key. It is a `get`.
+    pub fn contains_key(&self, key: Key) -> bool
+        ensures { result ≡ is_some (map.get (map_left self.now) key) }
+    {
+        self.get(key).is_some()
     }
 
     /// The map's keys with their numbers, ascending by key. It takes memory for a plain map of them
