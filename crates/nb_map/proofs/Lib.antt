@@ -18,5 +18,6 @@ mod Sizes
 pub mod Theorems
 mod Turned
 mod Walked
+mod Updated
 mod Written
 mod WholeWalk

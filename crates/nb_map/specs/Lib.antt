@@ -11,3 +11,4 @@ pub mod Inside
 pub mod Ending
 pub mod Walks
 pub mod Trying
+pub mod Updating

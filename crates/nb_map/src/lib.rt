@@ -19,6 +19,7 @@ mod room;
 mod search;
 pub mod steps;
 mod trying;
+mod updating;
 mod waiting;
 mod walk;
 mod write;
