@@ -9,6 +9,7 @@ mod Glanced
 mod Home
 mod Logged
 mod Made
+mod OneSeat
 mod Paired
 mod Passing
 mod Replied

@@ -11,4 +11,5 @@ pub mod Inside
 pub mod Ending
 pub mod Walks
 pub mod Trying
+pub mod OneSeat
 pub mod Updating

@@ -3,6 +3,7 @@
 //! the laws as theorems, from `proofs/Theorems.antt`.
 ghost use Rattle.nb_map.specs.Crowding.{AsksAddUp, CrowdedByCalls};
 ghost use Rattle.nb_map.specs.Laws.{LogsAddUp, RepliesFit};
+ghost use Rattle.nb_map.specs.OneSeat.{OneSeat};
 ghost use Rattle.nb_map.specs.Walks.{WalkLasts, WholeWalk};
 
 /// Calls add up: what a seat's log was, and which calls it made.
@@ -13,6 +14,11 @@ pub fn logs_add_up()
 /// The reply of a call that a seat made is the call's for what was at its key.
 pub fn replies_fit()
     ensures { RepliesFit }
+{}
+
+/// A map with one seat replies as a plain map does, call by call.
+pub fn one_seat()
+    ensures { OneSeat }
 {}
 
 /// What seats are asked adds up: a seat claims a key that is new to the tables only for a call that
