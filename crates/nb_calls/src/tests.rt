@@ -2,5 +2,6 @@
 mod calls;
 mod on_map;
 mod stress;
+mod tallies;
 mod visits;
 mod walks;

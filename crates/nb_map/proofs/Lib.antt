@@ -22,3 +22,4 @@ mod Walked
 mod Updated
 mod Written
 mod WholeWalk
+mod Held

@@ -13,3 +13,5 @@ pub mod Walks
 pub mod Trying
 pub mod OneSeat
 pub mod Updating
+pub mod Handles
+pub mod Held

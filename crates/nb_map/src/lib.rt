@@ -11,6 +11,7 @@ mod decide;
 mod ended;
 mod exchange;
 mod get;
+mod handle;
 pub mod laws;
 mod map;
 mod pause;
@@ -25,6 +26,7 @@ mod walk;
 mod write;
 
 pub use ended::Ended;
+pub use handle::Handle;
 pub use map::{Map, Seat};
 pub use waiting::{AddFault, Full};
 pub use walk::Walk;

@@ -1,0 +1,71 @@
+//! Threads add to one map by handles.
+use nb_core::{Key, Num, OutOfMemory, Shape};
+use nb_map::{Ended, Handle};
+use std::alloc::Global;
+use std::process::Abort;
+use std::sync::Wait;
+use std::test::Fail;
+use std::thread;
+use std::thread::Threads;
+
+/// Adds 1 to each of these keys' numbers.
+fn tally<R: Wait>(rt: &R, handle: &mut Handle, keys: &[Key], once: Num) {
+    for key in keys {
+        let _ = handle.add(rt, *key, once);
+    }
+}
+
+/// A handle goes to a thread by a move, with nothing borrowed.
+#[test]
+fn moved_to_a_thread(rt: HostRuntime) -> Result<(), Fail> {
+    let key = Key::new(7)?;
+    let once = Num::new(1)?;
+    let mut handles = Handle::open(rt.alloc(), Shape::new(4, 4, 2, 1)?)?;
+    let Some(mut mine) = handles.pop() else {
+        panic!(rt; "there is a handle")
+    };
+    let Some(mut theirs) = handles.pop() else {
+        panic!(rt; "there is a handle")
+    };
+    let child = thread::spawn(&rt, move || theirs.get(key).is_none());
+    if let Ok(child) = child {
+        child.join(&rt);
+    }
+    tally(&rt, &mut mine, &[key, key], once);
+    assert_eq!(rt; mine.get(key).map(Num::get), Some(2));
+    Ok(())
+}
+
+/// Four threads add to the same keys, and all handles close the map.
+#[test]
+fn tallies(rt: HostRuntime) -> Result<(), Fail> {
+    let key = Key::new(7)?;
+    let once = Num::new(1)?;
+    let mut handles = Handle::open(rt.alloc(), Shape::new(4, 4, 4, 1)?)?;
+    thread::for_each_mut(&rt, handles.as_mut_slice(), 4, &|_, handle: &mut Handle| {
+        let _ = handle.add(&rt, key, once);
+    });
+    let Ok(ended) = Handle::close(&rt, handles) else {
+        panic!(rt; "all handles are here")
+    };
+    assert_eq!(rt; ended.size(), 1);
+    assert_eq!(rt; ended.get(key).map(Num::get), Some(4));
+    Ok(())
+}
+
+/// A handle is missing: the others come back, and the map works on.
+#[test]
+fn closed_without_a_handle(rt: HostRuntime) -> Result<(), Fail> {
+    let key = Key::new(7)?;
+    let mut handles = Handle::open(rt.alloc(), Shape::new(4, 4, 3, 1)?)?;
+    drop(handles.pop());
+    let Err(mut back) = Handle::close(&rt, handles) else {
+        panic!(rt; "a handle is missing")
+    };
+    assert_eq!(rt; back.len(), 2);
+    let Some(mut handle) = back.pop() else {
+        panic!(rt; "there is a handle")
+    };
+    assert_eq!(rt; handle.get(key), None);
+    Ok(())
+}

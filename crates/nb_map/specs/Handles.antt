@@ -1,0 +1,24 @@
+-- How contracts see a handle of a map.
+use Rattle.std.specs.Prelude.{◌≡◌, ℕ, List, map, All}
+use Rattle.nb_map.specs.Maps.{MapOf, SeatOf, new_seats}
+
+-- a handle: the map that it is of, and its seat
+pub record HandleOf : Type 0 where
+  pub map : MapOf
+  pub seat : SeatOf
+
+-- the map's handle with this seat
+abbrev pub handle_on : MapOf → SeatOf → HandleOf
+handle_on m seat = record { map = m; seat = seat }
+
+-- so many handles of a map, whose seats have seen and counted nothing, numbered by their places
+abbrev pub new_handles : MapOf → ℕ → List HandleOf
+new_handles m count = map (handle_on m) (new_seats m count)
+
+-- the seats of handles
+abbrev pub seats_of : List HandleOf → List SeatOf
+seats_of handles = map (λ handle. handle.seat) handles
+
+-- all these handles are of one map
+abbrev pub AreOfOneMap : List HandleOf → Type 0
+AreOfOneMap handles = (m : MapOf) × All (λ handle. handle.map ≡ m) handles

@@ -1,0 +1,17 @@
+-- What is in a handle, and how it is seen.
+use Rattle.std.specs.Prelude.{◌≡◌, ◌≤◌, [], vec_capacity}
+use Rattle.std.specs.Arc.{arc_value}
+use Rattle.nb_core.specs.declared.shapes.TheConstants.{MAX_SEATS}
+use Rattle.nb_map.specs.Handles.{HandleOf}
+use Rattle.nb_map.specs.Maps.{IsMine}
+use Rattle.nb_map.specs.declared.handle.Handle.TheInside as handle
+
+-- the handle, as contracts see it
+abbrev pub handle_of : handle.Inside → HandleOf
+handle_of c = record { map = arc_value c.map; seat = c.seat }
+
+-- the seat is the map's, and there is room for all seats
+pub record IsHandle (c : handle.Inside) : Type 0 where
+  pub own : IsMine (arc_value c.map) c.seat
+  pub empty : c.room.items ≡ []
+  pub room : MAX_SEATS ≤ vec_capacity c.room
