@@ -1,6 +1,5 @@
 -- Handles of one map.
-use Rattle.std.proofs.Common.{◌≡◌, ◌∙◌, ℕ, List, All, [], ◌∷◌, ◌++◌, length, map, refl, sym}
-use Rattle.std.specs.List.{range_with_len}
+use Rattle.std.proofs.Common.{◌≡◌, ◌∙◌, ℕ, List, [], ◌∷◌, ◌++◌, length, refl}
 use Rattle.std.proofs.lemmas.List.{length-map}
 use Rattle.std.proofs.lemmas.List.Elements.{All-append, All-cons, All-map, All-nil, All-same}
 use Rattle.std.proofs.lemmas.List.FromFn.{length-map-range_with_len}

@@ -1,8 +1,7 @@
-use Rattle.std.proofs.Common.{◌≡◌, ◌∙◌, All, ap, length, map, refl, subst, sym, arith}
+use Rattle.std.proofs.Common.{◌∙◌, All, ap, length, subst, sym, arith}
 use Rattle.std.specs.Arc.{arc_value}
-use Rattle.std.proofs.lemmas.List.{length-map}
-use Rattle.std.proofs.lemmas.List.Elements.{All-map, All-same, All-tail}
-use Rattle.nb_core.proofs.Seating.{All-numbered, all-moved, moved-count, moved-more}
+use Rattle.std.proofs.lemmas.List.Elements.{All-tail}
+use Rattle.nb_core.proofs.Seating.{all-moved, moved-count, moved-more}
 use Rattle.nb_map.proofs.Held.{length-new, of-one}
 use Rattle.nb_map.specs.Handles.{handle_on}
 use Rattle.nb_map.specs.Inside.{seat_of}
