@@ -128,6 +128,7 @@ fn words_give_options(rt: HostRuntime) -> Result<(), Fail> {
     let plain = options(rt.alloc(), &["A"])?;
     assert_eq!(rt; plain.workload, Workload::Gets);
     assert_eq!(rt; (plain.threads, plain.stripes), (1, 1));
+    assert_eq!(rt; (plain.reprobes, plain.chunk), (u32::MAX, 8));
     assert_eq!(rt; plain.time, Duration::from_millis(1000));
     assert_eq!(rt; plain.exponents.as_slice(), [17].as_slice());
     assert_eq!(rt; plain.spacing, Spacing::Dense);
@@ -139,12 +140,17 @@ fn words_give_options(rt: HostRuntime) -> Result<(), Fail> {
         "3,5",
         "--stripes",
         "2",
+        "--reprobes",
+        "18",
+        "--chunk",
+        "64",
         "--keys",
         "spread",
     ];
     let given = options(rt.alloc(), words.as_slice())?;
     assert_eq!(rt; given.workload, Workload::Growth);
     assert_eq!(rt; (given.threads, given.stripes), (4, 2));
+    assert_eq!(rt; (given.reprobes, given.chunk), (18, 64));
     assert_eq!(rt; given.time, Duration::from_millis(250));
     assert_eq!(rt; given.exponents.as_slice(), [3, 5].as_slice());
     assert_eq!(rt; given.spacing, Spacing::Spread);
@@ -153,7 +159,7 @@ fn words_give_options(rt: HostRuntime) -> Result<(), Fail> {
 
 #[test]
 fn refuses_other_words(rt: HostRuntime) {
-    let refused: [&[&str]; 10] = [
+    let refused: [&[&str]; 12] = [
         &[],
         &["F"],
         &["A", "0"],
@@ -164,6 +170,8 @@ fn refuses_other_words(rt: HostRuntime) {
         &["A", "--plan", "3,2"],
         &["A", "--plan", "2,"],
         &["A", "--keys", "few"],
+        &["A", "--reprobes", "0"],
+        &["A", "--chunk", "3"],
     ];
     for words in refused {
         let result = options(rt.alloc(), words);

@@ -3,5 +3,6 @@ mod calls;
 mod on_map;
 mod stress;
 mod tallies;
+mod trying;
 mod visits;
 mod walks;

@@ -252,6 +252,20 @@ fn refilled_map(rt: HostRuntime) -> Result<(), Fail> {
     Ok(())
 }
 
+/// With a reprobe limit of 1 a key that isn't at home makes the map grow, but for the last table,
+/// where it is put behind others.
+#[test]
+fn tuned_growth(rt: HostRuntime) -> Result<(), Fail> {
+    let (map, mut seat) = with_one_tuned(&rt, rt.alloc())?;
+    for (k, tables_left) in [(0, 0), (4, 1), (8, 2), (12, 2), (16, 2)] {
+        assert_eq!(rt; put(&rt, &map, &mut seat, k, k + 1), Ok(None));
+        assert_eq!(rt; generation(&map, &mut seat), tables_left);
+    }
+    let left = [(0, 1), (4, 5), (8, 9), (12, 13), (16, 17)];
+    one_leaves(&rt, rt.alloc(), map, seat, &left)?;
+    Ok(())
+}
+
 #[test]
 fn meeting_shows_growth(rt: HostRuntime) -> Result<(), Fail> {
     let (map, mut a, mut b) = with_two(&rt, rt.alloc(), 3)?;

@@ -67,6 +67,19 @@ pub(super) fn with_one<R: Abort>(
     Ok((map, seat))
 }
 
+/// A map with one seat and three tables, which grows where a key isn't at home.
+pub(super) fn with_one_tuned<R: Abort>(rt: &R, alloc: Global) -> Result<(Map, Seat), OutOfMemory>
+    ensures { IfOk result (λ made. IsMine made.0 made.1) }
+{
+    let shape = Shape::new(2, 3, 1, 1)
+        .and_then(|shape| shape.with_reprobe_limit(1))
+        .and_then(|shape| shape.with_chunk(4))
+        .expect(rt, "a shape");
+    let (map, mut seats) = Map::new(alloc, shape)?;
+    let seat = taken(rt, &map, &mut seats);
+    Ok((map, seat))
+}
+
 /// A map with two seats.
 pub(super) fn with_two<R: Abort>(
     rt: &R,

@@ -1,12 +1,9 @@
 //! Threads add to one map by handles.
-use nb_core::{Key, Num, OutOfMemory, Shape};
-use nb_map::{Ended, Handle};
-use std::alloc::Global;
-use std::process::Abort;
+use nb_core::{Key, Num, Shape};
+use nb_map::Handle;
 use std::sync::Wait;
 use std::test::Fail;
 use std::thread;
-use std::thread::Threads;
 
 /// Adds 1 to each of these keys' numbers.
 fn tally<R: Wait>(rt: &R, handle: &mut Handle, keys: &[Key], once: Num) {
@@ -42,9 +39,14 @@ fn tallies(rt: HostRuntime) -> Result<(), Fail> {
     let key = Key::new(7)?;
     let once = Num::new(1)?;
     let mut handles = Handle::open(rt.alloc(), Shape::new(4, 4, 4, 1)?)?;
-    thread::for_each_mut(&rt, handles.as_mut_slice(), 4, &|_, handle: &mut Handle| {
-        let _ = handle.add(&rt, key, once);
-    });
+    thread::for_each_mut(
+        &rt,
+        handles.as_mut_slice(),
+        4,
+        &|_, handle: &mut Handle| {
+            let _ = handle.add(&rt, key, once);
+        },
+    );
     let Ok(ended) = Handle::close(&rt, handles) else {
         panic!(rt; "all handles are here")
     };
