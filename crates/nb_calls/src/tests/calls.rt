@@ -252,16 +252,26 @@ fn refilled_map(rt: HostRuntime) -> Result<(), Fail> {
     Ok(())
 }
 
+/// Puts a key that isn't there, after which so many tables are complete.
+fn puts_and_grows<R: Wait + Abort>(rt: &R, map: &Map, seat: &mut Seat, k: u64, complete: u32)
+    requires { IsMine map.now seat.old }
+    ensures { IsMine map.now seat.new }
+{
+    assert_eq!(rt; put(rt, map, seat, k, 10), Ok(None));
+    assert_eq!(rt; generation(map, seat), complete);
+}
+
 /// With a reprobe limit of 1 a key that isn't at home makes the map grow, but for the last table,
 /// where it is put behind others.
 #[test]
 fn tuned_growth(rt: HostRuntime) -> Result<(), Fail> {
     let (map, mut seat) = with_one_tuned(&rt, rt.alloc())?;
-    for (k, tables_left) in [(0, 0), (4, 1), (8, 2), (12, 2), (16, 2)] {
-        assert_eq!(rt; put(&rt, &map, &mut seat, k, k + 1), Ok(None));
-        assert_eq!(rt; generation(&map, &mut seat), tables_left);
-    }
-    let left = [(0, 1), (4, 5), (8, 9), (12, 13), (16, 17)];
+    puts_and_grows(&rt, &map, &mut seat, 0, 0);
+    puts_and_grows(&rt, &map, &mut seat, 4, 1);
+    puts_and_grows(&rt, &map, &mut seat, 8, 2);
+    puts_and_grows(&rt, &map, &mut seat, 12, 2);
+    puts_and_grows(&rt, &map, &mut seat, 16, 2);
+    let left = [(0, 10), (4, 10), (8, 10), (12, 10), (16, 10)];
     one_leaves(&rt, rt.alloc(), map, seat, &left)?;
     Ok(())
 }
