@@ -44,8 +44,8 @@ pub fn help(chain: &Chain, seat: &mut ChainSeat, g: u32) -> usize
 
 /// Copies the whole of table `g`, which has a next one, together with whoever copies it too. It
 /// takes chunks while there are some. Unless the top word is past the table then, it goes through
-/// every slot itself, so that it waits for no other thread, and raises the top word. It costs at most a few steps for each pair of a slot of
-/// this table and one of the next.
+/// every slot itself, so that it waits for no other thread, and raises the top word. It costs at
+/// most a few steps for each pair of a slot of this table and one of the next.
 #[tactic(auto, using(nb_core::proofs::Theorems::linked))]
 pub fn complete(chain: &Chain, seat: &mut ChainSeat, g: u32)
     requires own { IsOwn chain.now seat.old }

@@ -28,4 +28,5 @@ pub mine-more :
     → AreMine m seats → IsMine m seat → AreMine m seats'
 mine-more m seats seats' seat are mine one =
     All-same (IsMine m) seats' (seats ++ seat ∷ []) are
-    (All-append (IsMine m) seats (seat ∷ []) mine (All-cons (IsMine m) seat [] one (All-nil (IsMine m))))
+    (All-append (IsMine m) seats (seat ∷ []) mine
+    (All-cons (IsMine m) seat [] one (All-nil (IsMine m))))

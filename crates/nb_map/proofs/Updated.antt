@@ -1,5 +1,5 @@
 -- What the exchanges of an update add up to.
-use Rattle.std.proofs.Common.{◌≡◌, ◌∙◌, ◌+◌, ◌-◌, ◌*◌, ◌≤◌, ◌<◌, ℕ, suc, true, false, min, List, [], ◌∷◌, Option, Some, None, length, add-one, ap, ap₂, refl, sym, subst, inl, inr, arith}
+use Rattle.std.proofs.Common.{◌≡◌, ◌∙◌, ◌+◌, ◌-◌, ◌*◌, ◌≤◌, ◌<◌, ℕ, suc, true, false, min, List, [], ◌∷◌, Option, Some, None, add-one, ap, ap₂, refl, sym, subst, inl, inr, arith}
 use Rattle.std.proofs.Math.Nat.{mul-le-mul_right}
 use Rattle.std.proofs.lemmas.Bool.{eqb-true}
 use Rattle.std.proofs.lemmas.List.Elements.{All-cons, All-nil}
@@ -20,24 +20,21 @@ use Rattle.nb_map.specs.Maps.{HasWorked, MapOf, SeatOf}
 use Rattle.nb_map.specs.Refusing.{IsJust, put_steps}
 use Rattle.nb_map.specs.Searching.{slots_below}
 use Rattle.nb_map.specs.Trying.{HasGivenUp, IsWaitFree, exchange_call, want_of}
-use Rattle.nb_map.specs.Updating.{HasLeft, HasNotUpdated, HasUpdated, HaveLeft, update_steps}
+use Rattle.nb_map.specs.Updating.{AreLost, HasNotUpdated, HasUpdated, IsLost, update_steps}
 use Rattle.nb_map.specs.declared.write.PutFault.{PutFault}
 use Rattle.nb_map.specs.declared.write.PutFault.TheVariants as fault
 
 -- The seat has read a key, and then made so many exchanges with so many tries each, none of which
 -- found what it was to.
-pub record HasTried (m : MapOf) (before now : SeatOf) (tries rounds : ℕ) : Type 0 where
+pub record HasTried (m : MapOf) (Makes : Option ℕ → Option ℕ → Type 0) (k : ℕ)
+    (before now : SeatOf) (tries rounds : ℕ) : Type 0 where
   pub calls : List (Call × Reply)
-  pub count : length calls ≡ suc rounds
-  pub left : HaveLeft calls
+  pub lost : AreLost Makes k rounds calls
   pub logged : HasLogged before now calls
   pub own : List Event
   pub steps : ℕ
   pub grown : Grown m.chain.shape before.chain now.chain own steps
   pub few : steps ≤ get_steps m.chain.shape + rounds * put_steps m.chain.shape tries
-
-abbrev Left : Call × Reply → Type 0
-Left made = HasLeft made.0 made.1
 
 -- a write of fewer tries has a smaller bound
 tries-most : (p : Plan) (tries passed : ℕ) → put_steps p (min tries passed) ≤ put_steps p tries
@@ -51,13 +48,19 @@ tries-most p tries passed =
 
 -- after the read
 pub tried-first :
-    (m : MapOf) (k : ℕ) (before now : SeatOf) (tries : ℕ) (reply : Reply)
-    → HasReplied (Get k) before now reply
-    → HasWorked m (Get k) before now (get_steps m.chain.shape) → HasTried m before now tries 0
-tried-first m k before now tries reply replied worked = record {
+    (m : MapOf) (Makes : Option ℕ → Option ℕ → Type 0) (k : ℕ) (before now : SeatOf) (tries : ℕ)
+    (reply : Reply) → HasReplied (Get k) before now reply
+    → HasWorked m (Get k) before now (get_steps m.chain.shape)
+    → HasTried m Makes k before now tries 0
+tried-first m Makes k before now tries reply replied worked = record {
   calls = (Get k, reply) ∷ [];
-  count = refl;
-  left = All-cons Left (Get k, reply) [] tt (All-nil Left);
+  lost = record {
+    exchanges = [];
+    first = reply;
+    are = refl;
+    lost = All-nil (IsLost Makes k);
+    counted = refl;
+  };
   logged = replied;
   own = _;
   steps = _;
@@ -66,8 +69,9 @@ tried-first m k before now tries reply replied worked = record {
 }
 
 module _
-    {m : MapOf} {before now after : SeatOf} {tries rounds : ℕ} (k : ℕ) (was new : Option ℕ)
-    (tried : HasTried m before now tries rounds)
+    {m : MapOf} {Makes : Option ℕ → Option ℕ → Type 0} {k : ℕ} {before now after : SeatOf}
+    {tries rounds : ℕ} (was new : Option ℕ) (makes : Makes was new)
+    (tried : HasTried m Makes k before now tries rounds)
     (worked : IsWaitFree m (exchange_call k was new) now after tries)
   where
     abbrev call : Call
@@ -87,12 +91,18 @@ module _
     -- one more exchange that found something else
     pub tried-more :
         (reply : Reply) → HasReplied call now after reply → reply.matched ≡ false
-        → HasTried m before after tries (rounds + 1)
+        → HasTried m Makes k before after tries (rounds + 1)
     tried-more reply replied other =
-        subst (HasTried m before after tries) (sym (add-one rounds)) (record {
+        subst (HasTried m Makes k before after tries) (sym (add-one rounds)) (record {
           calls = (call, reply) ∷ tried.calls;
-          count = ap suc tried.count;
-          left = All-cons Left (call, reply) tried.calls other tried.left;
+          lost = record {
+            exchanges = (call, reply) ∷ tried.lost.exchanges;
+            first = tried.lost.first;
+            are = ap (λ calls. (call, reply) ∷ calls) tried.lost.are;
+            lost = All-cons (IsLost Makes k) (call, reply) tried.lost.exchanges
+                (was, new, makes, refl, other) tried.lost.lost;
+            counted = ap suc tried.lost.counted;
+          };
           logged = logs_add_up.more tried.logged replied;
           own = _;
           steps = _;
@@ -116,15 +126,16 @@ module _
 
     -- the exchange that found it
     pub tried-end :
-        (Makes : Option ℕ → Option ℕ → Type 0) (reply : Reply) → Makes was new
-        → HasReplied call now after reply → reply.matched ≡ true
-        → HasUpdated Makes k before after reply.before
-    tried-end Makes reply makes replied matched =
-        subst (HasUpdated Makes k before after) (sym there) (record {
+        (reply : Reply) → rounds < tries → HasReplied call now after reply → reply.matched ≡ true
+        → HasUpdated Makes k before after tries reply.before
+    tried-end reply fewer replied matched =
+        subst (HasUpdated Makes k before after tries) (sym there) (record {
           new = new;
           computed = makes;
           earlier = tried.calls;
-          left = tried.left;
+          count = rounds;
+          lost = tried.lost;
+          fewer = fewer;
           logged = subst (λ r. HasLogged before after ((call, r) ∷ tried.calls)) is
               (logs_add_up.more tried.logged replied);
         })
@@ -146,12 +157,12 @@ module _
 
     -- the exchange that was refused
     pub tried-refused :
-        (Makes : Option ℕ → Option ℕ → Type 0) (refusal : PutFault) → Makes was new
-        → HasGivenUp m call now after tries refusal
+        (refusal : PutFault) → HasGivenUp m call now after tries refusal
         → HasNotUpdated m Makes k before after tries refusal
-    tried-refused Makes refusal makes given = record {
+    tried-refused refusal given = record {
       calls = tried.calls;
-      left = tried.left;
+      count = rounds;
+      lost = tried.lost;
       logged = logs_add_up.more tried.logged given.0;
       just = inl (was, new, makes, longer refusal given.1);
     }
@@ -166,21 +177,22 @@ module _
 
 -- as many exchanges as there are tries found something else
 pub tried-all :
-    {m : MapOf} {before now : SeatOf} {tries rounds : ℕ} (k : ℕ)
-    (Makes : Option ℕ → Option ℕ → Type 0) → HasTried m before now tries rounds
-    → tries ≤ rounds → HasNotUpdated m Makes k before now tries fault.Contended
-tried-all k Makes tried all = record {
+    {m : MapOf} {Makes : Option ℕ → Option ℕ → Type 0} {k : ℕ} {before now : SeatOf}
+    {tries rounds : ℕ} → HasTried m Makes k before now tries rounds → rounds ≡ tries
+    → HasNotUpdated m Makes k before now tries fault.Contended
+tried-all {rounds = rounds} tried all = record {
   calls = tried.calls;
-  left = tried.left;
+  count = rounds;
+  lost = tried.lost;
   logged = tried.logged;
-  just = inr (refl, omega (arith, all, tried.count));
+  just = inr (refl, all);
 }
 
 pub tried-most :
-    {m : MapOf} {before now : SeatOf} {tries rounds : ℕ} → HasTried m before now tries rounds
-    → rounds ≤ tries
+    {m : MapOf} {Makes : Option ℕ → Option ℕ → Type 0} {k : ℕ} {before now : SeatOf}
+    {tries rounds : ℕ} → HasTried m Makes k before now tries rounds → rounds ≤ tries
     → now.chain.steps ≤ before.chain.steps + update_steps m.chain.shape tries
-tried-most {m} {before} {now} {tries} {rounds} tried below =
+tried-most {m} {before = before} {now = now} {tries = tries} {rounds = rounds} tried below =
     within (get_steps m.chain.shape) (put_steps m.chain.shape tries) before.chain.steps
     now.chain.steps tried.steps tried.grown.steps tried.few
     (mul-le-mul_right (put_steps m.chain.shape tries) below)

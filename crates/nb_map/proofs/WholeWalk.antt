@@ -22,7 +22,7 @@ use Rattle.nb_core.proofs.Theorems.{held_has_place, linked, log_is_replayed, pla
 use Rattle.nb_table.specs.Chains.{seen_by}
 use Rattle.nb_map.specs.Logs.{HasLogged, log}
 use Rattle.nb_map.specs.Maps.{IsMine, MapOf, SeatOf}
-use Rattle.nb_map.specs.Walks.{Begun, Ended, HasGone, HasPassed, HasRead, HasWalked, IsBefore, IsFirstTable, IsLater, IsMiss, IsPassedOver, IsPlace, IsShown, IsUnderway, IsWalkOf, Rested, Showed, WalkLasts, WalkOf, WholeWalk, begun_by, hit}
+use Rattle.nb_map.specs.Walks.{Begun, Ended, HasGone, HasPassed, HasRead, HasWalked, IsBefore, IsFirstTable, IsLater, IsMiss, IsPassedOver, IsPlace, IsShown, IsUnderway, IsWalkOf, Rested, Showed, WalkLasts, WalkOf, WholeWalk, begun_by, hit, with_shown}
 use Rattle.nb_map.specs.declared.walk.Place.{Place}
 use Rattle.nb_map.specs.declared.walk.Place.TheVariants.{Slot, End}
 use Rattle.nb_map.proofs.Counted.{uncounted-mine}
@@ -453,3 +453,12 @@ module _ (m : MapOf) {before after : SeatOf} (mine : IsMine m before)
         first = first-later m (gone-mine gone) later was.first;
         place = place;
       }
+
+-- one more call of a walk that is underway
+pub underway-on :
+    {m : MapOf} {before after : SeatOf} {walk walk' : WalkOf} (pairs : List (ℕ × ℕ))
+    (shown : Option (ℕ × ℕ)) → IsMine m after → HasRead before after shown
+    → HasWalked m.chain.shape before after walk walk' shown → IsUnderway m before walk pairs
+    → IsUnderway m after walk' (with_shown shown pairs)
+underway-on pairs None own read walked underway = Ended underway own walked
+underway-on pairs (Some pair) own read walked underway = Showed underway own read walked

@@ -1,6 +1,7 @@
 -- How contracts see a handle of a map.
 use Rattle.std.specs.Prelude.{◌≡◌, ℕ, List, map, All}
 use Rattle.nb_map.specs.Maps.{MapOf, SeatOf, new_seats}
+use Rattle.nb_map.specs.Walks.{WalkOf}
 
 -- a handle: the map that it is of, and its seat
 pub record HandleOf : Type 0 where
@@ -22,3 +23,9 @@ seats_of handles = map (λ handle. handle.seat) handles
 -- all these handles are of one map
 abbrev pub AreOfOneMap : List HandleOf → Type 0
 AreOfOneMap handles = (m : MapOf) × All (λ handle. handle.map ≡ m) handles
+
+-- a walk by a handle: the handle's map and seat, and the walk
+pub record HandleWalkOf : Type 0 where
+  pub map : MapOf
+  pub seat : SeatOf
+  pub walk : WalkOf

@@ -150,6 +150,11 @@ pub data IsUnderway (m : MapOf) : SeatOf → WalkOf → List (ℕ × ℕ) → Ty
       → IsUnderway m before walk shown → IsMine m after
       → HasWalked m.chain.shape before after walk walk' None → IsUnderway m after walk' shown
 
+-- what a walk has shown after one more call, the newest pair first
+abbrev pub with_shown : Option (ℕ × ℕ) → List (ℕ × ℕ) → List (ℕ × ℕ)
+with_shown None shown = shown
+with_shown (Some pair) shown = pair ∷ shown
+
 -- What a whole walk has shown, from its seat's log as it began to that as it ended: no key twice;
 -- pairs that the seat has read meanwhile; and each key that the map had all the while.
 pub record HasShownAll (begun ended : SeatOf) (shown : List (ℕ × ℕ)) : Type 0 where

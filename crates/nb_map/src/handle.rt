@@ -13,6 +13,7 @@ ghost use Rattle.std.specs.Prelude.{
   is_some,
   min,
   max,
+  false,
   true,
   is_ok,
   IfOk,
@@ -23,15 +24,17 @@ ghost use Rattle.std.specs.Prelude.{
 };
 ghost use Rattle.std.specs.Arc.{arc_value};
 ghost use Rattle.nb_core.specs.Log.{IsBeginning, reply_at};
+ghost use Rattle.nb_core.specs.Tables.{IsComplete};
+ghost use Rattle.nb_count.specs.Counts.{with_looks};
 ghost use Rattle.nb_core.specs.declared.calls.Call.TheVariants as call;
 ghost use Rattle.nb_core.specs.declared.calls.Change.TheVariants as change;
 ghost use Rattle.nb_core.specs.declared.calls.Want.TheVariants as want;
-ghost use Rattle.nb_map.specs.Ending.{EndedWith};
-ghost use Rattle.nb_map.specs.Writing.{passed_since};
+ghost use Rattle.nb_map.specs.Ending.{EndedWith, HasTablesLeft};
+ghost use Rattle.nb_map.specs.Writing.{IsSeenAlone, passed_since};
 ghost use Rattle.nb_table.specs.Chains.{Extended, seen_by};
 ghost use Rattle.nb_map.specs.Handles.{AreOfOneMap, new_handles, seats_of};
 ghost use Rattle.nb_map.specs.Logs.{HasFound, HasLogged, HasMatched, HasReplied, log};
-ghost use Rattle.nb_map.specs.Looking.{get_steps};
+ghost use Rattle.nb_map.specs.Looking.{IsSeenAtHome, get_steps};
 ghost use Rattle.nb_map.specs.Maps.{AreMine, HasWorked, IsMine, MapOf};
 ghost use Rattle.nb_map.specs.Refusing.{HasRefused, IsJust, IsLockFree, put_steps};
 ghost use Rattle.nb_map.specs.declared.waiting.AddFault.TheVariants as fault;
@@ -48,10 +51,10 @@ use std::sync::{Arc, Wait};
 /// One thread's way to a map that others share: a seat, and a counted reference to the map.
 #[derive(Drop)]
 pub struct Handle {
-    map: Arc<Map, Global>,
-    seat: Seat,
+    pub(crate) map: Arc<Map, Global>,
+    pub(crate) seat: Seat,
     /// Room in which `close` gathers the seats, so that it takes no memory.
-    room: Vec<Seat>,
+    pub(crate) room: Vec<Seat>,
 }
 
 impl Model for Handle {
@@ -95,6 +98,9 @@ impl Handle {
             (reply_at (call.Get key) result) }
         ensures worked { HasWorked self.old.map (call.Get key) self.old.seat self.new.seat
             (get_steps self.old.map.chain.shape) }
+        ensures three_steps { IsSeenAtHome self.old.map.chain.shape self.old.seat.chain
+            self.new.seat.chain key
+            → self.new.seat.chain.steps ≤ self.old.seat.chain.steps + 3 }
         ensures map { self.new.map ≡ self.old.map }
     {
         self.map.get(&mut self.seat, key)
@@ -107,8 +113,13 @@ impl Handle {
         ensures full { IfErr result (λ full. HasRefused self.old.map
             (call.Write key want.Any (change.Put number)) self.old.seat self.new.seat
             fault.Full) }
-        ensures lock_free { IsLockFree self.old.map (call.Write key want.Any (change.Put number))
+        ensures lock_free { IsLockFree self.old.map
+            (call.Write key want.Any (change.Put number))
             self.old.seat self.new.seat }
+        ensures four_steps { IsSeenAlone self.old.map.chain.shape
+            (call.Write key want.Any (change.Put number))
+            self.old.seat.chain self.new.seat.chain
+            → self.new.seat.chain.steps ≤ self.old.seat.chain.steps + 4 }
         ensures map { self.new.map ≡ self.old.map }
     {
         self.map.put(rt, &mut self.seat, key, number)
@@ -126,8 +137,13 @@ impl Handle {
         ensures full { IfErr result (λ full. HasRefused self.old.map
             (call.Write key want.Absent (change.Put number)) self.old.seat self.new.seat
             fault.Full) }
-        ensures lock_free { IsLockFree self.old.map (call.Write key want.Absent (change.Put number))
+        ensures lock_free { IsLockFree self.old.map
+            (call.Write key want.Absent (change.Put number))
             self.old.seat self.new.seat }
+        ensures four_steps { IsSeenAlone self.old.map.chain.shape
+            (call.Write key want.Absent (change.Put number))
+            self.old.seat.chain self.new.seat.chain
+            → self.new.seat.chain.steps ≤ self.old.seat.chain.steps + 4 }
         ensures map { self.new.map ≡ self.old.map }
     {
         self.map.put_if_absent(rt, &mut self.seat, key, number)
@@ -137,8 +153,13 @@ impl Handle {
     pub fn replace<R: Wait>(&mut self, rt: &R, key: Key, number: Num) -> Option<Num>
         ensures found { HasFound (call.Write key want.Present (change.Put number))
             self.old.seat self.new.seat result }
-        ensures lock_free { IsLockFree self.old.map (call.Write key want.Present (change.Put number))
+        ensures lock_free { IsLockFree self.old.map
+            (call.Write key want.Present (change.Put number))
             self.old.seat self.new.seat }
+        ensures four_steps { IsSeenAlone self.old.map.chain.shape
+            (call.Write key want.Present (change.Put number))
+            self.old.seat.chain self.new.seat.chain
+            → self.new.seat.chain.steps ≤ self.old.seat.chain.steps + 4 }
         ensures map { self.new.map ≡ self.old.map }
     {
         self.map.replace(rt, &mut self.seat, key, number)
@@ -148,8 +169,13 @@ impl Handle {
     pub fn replace_if<R: Wait>(&mut self, rt: &R, key: Key, old: Num, new: Num) -> bool
         ensures matched { HasMatched (call.Write key (want.Equal old) (change.Put new))
             self.old.seat self.new.seat result }
-        ensures lock_free { IsLockFree self.old.map (call.Write key (want.Equal old) (change.Put new))
+        ensures lock_free { IsLockFree self.old.map
+            (call.Write key (want.Equal old) (change.Put new))
             self.old.seat self.new.seat }
+        ensures four_steps { IsSeenAlone self.old.map.chain.shape
+            (call.Write key (want.Equal old) (change.Put new))
+            self.old.seat.chain self.new.seat.chain
+            → self.new.seat.chain.steps ≤ self.old.seat.chain.steps + 4 }
         ensures map { self.new.map ≡ self.old.map }
     {
         self.map.replace_if(rt, &mut self.seat, key, old, new)
@@ -159,8 +185,13 @@ impl Handle {
     pub fn remove<R: Wait>(&mut self, rt: &R, key: Key) -> Option<Num>
         ensures found { HasFound (call.Write key want.Any change.Remove)
             self.old.seat self.new.seat result }
-        ensures lock_free { IsLockFree self.old.map (call.Write key want.Any change.Remove)
+        ensures lock_free { IsLockFree self.old.map
+            (call.Write key want.Any change.Remove)
             self.old.seat self.new.seat }
+        ensures four_steps { IsSeenAlone self.old.map.chain.shape
+            (call.Write key want.Any change.Remove)
+            self.old.seat.chain self.new.seat.chain
+            → self.new.seat.chain.steps ≤ self.old.seat.chain.steps + 4 }
         ensures map { self.new.map ≡ self.old.map }
     {
         self.map.remove(rt, &mut self.seat, key)
@@ -170,8 +201,13 @@ impl Handle {
     pub fn remove_if<R: Wait>(&mut self, rt: &R, key: Key, number: Num) -> bool
         ensures matched { HasMatched (call.Write key (want.Equal number) change.Remove)
             self.old.seat self.new.seat result }
-        ensures lock_free { IsLockFree self.old.map (call.Write key (want.Equal number) change.Remove)
+        ensures lock_free { IsLockFree self.old.map
+            (call.Write key (want.Equal number) change.Remove)
             self.old.seat self.new.seat }
+        ensures four_steps { IsSeenAlone self.old.map.chain.shape
+            (call.Write key (want.Equal number) change.Remove)
+            self.old.seat.chain self.new.seat.chain
+            → self.new.seat.chain.steps ≤ self.old.seat.chain.steps + 4 }
         ensures map { self.new.map ≡ self.old.map }
     {
         self.map.remove_if(rt, &mut self.seat, key, number)
@@ -183,8 +219,13 @@ impl Handle {
             self.old.seat self.new.seat) }
         ensures refused { IfErr result (HasRefused self.old.map
             (call.Write key want.Any (change.Add number)) self.old.seat self.new.seat) }
-        ensures lock_free { IsLockFree self.old.map (call.Write key want.Any (change.Add number))
+        ensures lock_free { IsLockFree self.old.map
+            (call.Write key want.Any (change.Add number))
             self.old.seat self.new.seat }
+        ensures four_steps { IsSeenAlone self.old.map.chain.shape
+            (call.Write key want.Any (change.Add number))
+            self.old.seat.chain self.new.seat.chain
+            → self.new.seat.chain.steps ≤ self.old.seat.chain.steps + 4 }
         ensures map { self.new.map ≡ self.old.map }
     {
         self.map.add(rt, &mut self.seat, key, number)
@@ -197,6 +238,9 @@ impl Handle {
             (reply_at (call.Get key) number) }
         ensures worked { HasWorked self.old.map (call.Get key) self.old.seat self.new.seat
             (get_steps self.old.map.chain.shape) }
+        ensures three_steps { IsSeenAtHome self.old.map.chain.shape self.old.seat.chain
+            self.new.seat.chain key
+            → self.new.seat.chain.steps ≤ self.old.seat.chain.steps + 3 }
         ensures map { self.new.map ≡ self.old.map }
     {
         self.map.contains_key(&mut self.seat, key)
@@ -220,6 +264,9 @@ impl Handle {
             self.old.seat self.new.seat (put_steps self.old.map.chain.shape
             (min (max tries 1) (passed_since (call.Write key want change)
             self.old.seat.chain self.new.seat.chain + 1))) }
+        ensures four_steps { IsSeenAlone self.old.map.chain.shape (call.Write key want change)
+            self.old.seat.chain self.new.seat.chain
+            → self.new.seat.chain.steps ≤ self.old.seat.chain.steps + 4 }
         ensures map { self.new.map ≡ self.old.map }
     {
         self.map
@@ -232,6 +279,10 @@ impl Handle {
         ensures grows { Extended self.old.map.chain.shape self.old.seat.chain
             self.new.seat.chain [] 1 }
         ensures found { (seen_by self.old.map.chain.shape self.new.seat.chain).top ≡ result }
+        ensures complete { (g : ℕ) → g < result
+            → IsComplete self.old.map.chain.shape
+            (seen_by self.old.map.chain.shape self.new.seat.chain) g }
+        ensures count { self.new.seat.count ≡ self.old.seat.count }
         ensures map { self.new.map ≡ self.old.map }
     {
         self.map.generation(&mut self.seat)
@@ -241,6 +292,8 @@ impl Handle {
     pub fn size_estimate(&mut self) -> u64
         ensures logged { HasLogged self.old.seat self.new.seat [] }
         ensures chain { self.new.seat.chain ≡ self.old.seat.chain }
+        ensures count { self.new.seat.count
+            ≡ with_looks self.old.map.counter.stripes self.old.seat.count }
         ensures map { self.new.map ≡ self.old.map }
     {
         self.map.size_estimate(&mut self.seat)
@@ -254,6 +307,14 @@ impl Handle {
             × IsBeginning (log other.old.seat) (log self.new.seat) }
         ensures there { HasLogged other.old.seat other.new.seat []
             × IsBeginning (log self.old.seat) (log other.new.seat) }
+        ensures here_grows { Extended self.old.map.chain.shape self.old.seat.chain
+            self.new.seat.chain [] 1
+            × IsBeginning other.old.seat.chain.seen self.new.seat.chain.seen
+            × (self.new.seat.count ≡ self.old.seat.count) }
+        ensures there_grows { Extended self.old.map.chain.shape other.old.seat.chain
+            other.new.seat.chain [] 1
+            × IsBeginning self.old.seat.chain.seen other.new.seat.chain.seen
+            × (other.new.seat.count ≡ other.old.seat.count) }
         ensures map { (self.new.map ≡ self.old.map) × (other.new.map ≡ other.old.map) }
     {
         self.map.meet(&mut self.seat, &mut other.seat);
@@ -271,7 +332,10 @@ impl Handle {
         requires one { AreOfOneMap handles.items }
         ensures all { All (λ handle. (is_ok result ≡ true)
             ↔ (length handles.items ≡ handle.map.chain.shape.seats)) handles.items }
+        ensures some { handles.items ≡ [] → is_ok result ≡ false }
         ensures ended { IfOk result (EndedWith (seats_of handles.items)) }
+        ensures tables { IfOk result (λ ended. All (λ handle. HasTablesLeft handle.map.chain.shape
+            (seats_of handles.items) ended) handles.items) }
         ensures back { IfErr result (λ back. back.items ≡ handles.items) }
     {
         let mut handles = handles;

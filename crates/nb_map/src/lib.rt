@@ -12,6 +12,8 @@ mod ended;
 mod exchange;
 mod get;
 mod handle;
+mod handle_trying;
+mod handle_walk;
 pub mod laws;
 mod map;
 mod pause;
@@ -27,6 +29,7 @@ mod write;
 
 pub use ended::Ended;
 pub use handle::Handle;
+pub use handle_walk::HandleWalk;
 pub use map::{Map, Seat};
 pub use waiting::{AddFault, Full};
 pub use walk::Walk;

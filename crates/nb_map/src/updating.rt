@@ -41,7 +41,7 @@ impl Map {
         requires own { IsMine self.now seat.old }
         requires some { 1 ≤ tries }
         requires callable { F.IsAlwaysCallable new_of }
-        ensures updated { IfOk result (HasUpdated (F.post new_of) key seat.old seat.new) }
+        ensures updated { IfOk result (HasUpdated (F.post new_of) key seat.old seat.new tries) }
         ensures refused { IfErr result (HasNotUpdated self.now (F.post new_of) key
             seat.old seat.new tries) }
         ensures steps { seat.new.chain.steps

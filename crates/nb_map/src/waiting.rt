@@ -244,8 +244,8 @@ impl Map {
         }
     }
 
-    /// Makes a write, and counts what it did to the number of keys. Its condition and its change are
-    /// known in each call that stands on it, and so what is left of it there is short.
+    /// Makes a write, and counts what it did to the number of keys. Its condition and its change
+    /// are known in each call that stands on it, and so what is left of it there is short.
     #[inline(always)]
     fn write<R: Wait>(
         &self,

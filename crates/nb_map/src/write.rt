@@ -178,8 +178,8 @@ fn write_in<P: Pause>(
     }
 }
 
-/// Where a write that has come to table `g` has to look. Where the key's home slot there is its own,
-/// or is empty and the write leaves an absent key at that, one load tells it.
+/// Where a write that has come to table `g` has to look. Where the key's home slot there is its
+/// own, or is empty and the write leaves an absent key at that, one load tells it.
 #[inline]
 #[tactic(auto, using(nb_core::proofs::Theorems::linked))]
 fn aim(chain: &Chain, seat: &mut ChainSeat, g: u32, key: Key, call: &Call, below: Below) -> Target
@@ -209,8 +209,8 @@ fn aim(chain: &Chain, seat: &mut ChainSeat, g: u32, key: Key, call: &Call, below
     aim_along(chain, seat, g, key, *call, below)
 }
 
-/// The same by a search along the key's path. The call claims a slot for its key if it puts a number
-/// there.
+/// The same by a search along the key's path. The call claims a slot for its key if it puts a
+/// number there.
 #[inline(never)]
 #[tactic(auto, using(nb_core::proofs::Theorems::linked))]
 fn aim_along(

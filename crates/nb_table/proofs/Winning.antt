@@ -41,7 +41,8 @@ says-in x word = word.decodes ∙ ap Some (sym (ap (λ o. unwrap_or o Null) word
 
 -- a step that makes these events where a test holds, and else those
 either-follows :
-    (p : Plan) (test : Bool) (holding failing : List Event) (number place new found : ℕ) (h : List Event)
+    (p : Plan) (test : Bool) (holding failing : List Event) (number place new found : ℕ)
+    (h : List Event)
     → (test ≡ true → MayStep p holding number place new h)
     → (test ≡ false → MayStep p failing number place found h)
     → MayStep p (cond test holding failing) number place (cond test new found) h

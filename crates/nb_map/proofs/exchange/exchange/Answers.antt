@@ -12,7 +12,8 @@ use Rattle.nb_table.proofs.Theorems.{steps_add_up}
 pub returns-in_default-clause-made : goal.returns-in_default-clause-made
 returns-in_default-clause-made g c =
     let chain = c.args.chain.now in
-    let load = loaded-primed chain c.load_value_word-from.result c.load_value_word-from.ensures.grows
+    let load = loaded-primed chain c.load_value_word-from.result
+    c.load_value_word-from.ensures.grows
     (sym c.shown_in.ensures ∙ none-of c.shown_in.result c.in_default.not-Some) in
     made-within (1 + pass_steps chain.shape c.args.g) _ (omega arith)
     (made-more chain c.requires.own load (c.pass_word.ensures.made c.args.call.now))
@@ -20,7 +21,8 @@ returns-in_default-clause-made g c =
 pub returns-in_default-clause-written : goal.returns-in_default-clause-written
 returns-in_default-clause-written g c =
     let chain = c.args.chain.now in
-    let load = loaded-primed chain c.load_value_word-from.result c.load_value_word-from.ensures.grows
+    let load = loaded-primed chain c.load_value_word-from.result
+    c.load_value_word-from.ensures.grows
     (sym c.shown_in.ensures ∙ none-of c.shown_in.result c.in_default.not-Some) in
     above-written chain c.requires.own load c.args.g c.args.i c.args.key c.requires.key
     c.requires.slot c.requires.claimed (c.pass_word.ensures.made c.args.call.now)

@@ -25,7 +25,8 @@ loop-handle-init c = (
       (sym c.into_iter-handle-iterator.ensures.into_iter_gives.0)) c.requires.empty,
   c.requires.room,
   λ m are. (
-    All-same (λ handle. handle.map ≡ m) _ _ c.into_iter-handle-iterator.ensures.into_iter_gives.0 are,
+    All-same (λ handle. handle.map ≡ m) _ _
+        c.into_iter-handle-iterator.ensures.into_iter_gives.0 are,
     All-same (IsMine m) _ [] c.requires.empty (All-nil (IsMine m)),
   ),
 )
@@ -39,7 +40,8 @@ loop-handle-preserved c =
           c.push_reserved.ensures.items,
       omega (arith, c.loop-handle.invariant.3, c.push_reserved.ensures.capacity),
       λ m are.
-          let here = subst (All (λ handle. handle.map ≡ m)) next (c.loop-handle.invariant.4 m are).0 in
+          let here = subst (All (λ handle. handle.map ≡ m)) next
+          (c.loop-handle.invariant.4 m are).0 in
           let this = ap (λ handle. handle.map) c.handle.view_is
           ∙ All-head (λ handle. handle.map ≡ m) _ _ here in (
             All-tail (λ handle. handle.map ≡ m) _ _ here,
