@@ -1,6 +1,6 @@
 -- What a look at a key's home slot leaves open for a write.
 use Rattle.std.proofs.Common.{◌≡◌, ◌≢◌, ◌∙◌, ◌==◌, ◌-◌, ℕ, ◌<◌, Bool, true, false, cond, [], None, Some, ap, sym, subst, refl, inl, inr}
-use Rattle.std.proofs.lemmas.Bool.{eqb-true}
+use Rattle.std.proofs.lemmas.Bool.{eq-eqb, eqb-true}
 use Rattle.std.proofs.lemmas.Nat.{pow_pos}
 use Rattle.nb_core.specs.Calls.{Fills}
 use Rattle.nb_core.specs.History.{key_of_call}
@@ -17,7 +17,19 @@ use Rattle.nb_map.specs.Calling.{HasMade, as_replied}
 use Rattle.nb_map.specs.Looking.{IsAtHome, IsHomeSlot}
 use Rattle.nb_map.proofs.Home.{home-before, home-in}
 use Rattle.nb_map.proofs.Made.{made-quiet, made-read, read_shown}
-use Rattle.nb_map.proofs.Searched.{read-before, shown-other, two-slots}
+use Rattle.nb_map.proofs.Searched.{read-before, shown-other, shown-own, two-slots}
+
+-- A load of the key word of the call's own slot isn't its read.
+pub made-at-own :
+    (p : Plan) (call : Call) {before after : SeenBy} (g i key : ℕ) (s : KeyState)
+    → key_of_call call ≡ key → s ≡ Claimed key
+    → Extended p before after (read before.number call (shown_by_key p g i s (key_of_call call))) 1
+    → HasMade p call before after [] 1
+made-at-own p call {before} {after} g i key s is own step =
+    made-quiet p call
+    (subst (λ shown. Extended p before after (read before.number call shown) 1)
+    (ap (λ s. shown_by_key p g i s (key_of_call call)) own
+    ∙ shown-own p g i (key_of_call call) key key is (sym (eq-eqb key key refl))) step)
 
 -- A load of the home slot's key word isn't the call's read, where it finds another key, or that the
 -- slot is closed, or empty and the call puts a number there.

@@ -16,6 +16,7 @@ mod Replied
 mod Rounds
 mod Searched
 mod Sizes
+mod Straight
 pub mod Theorems
 mod Turned
 mod Walked

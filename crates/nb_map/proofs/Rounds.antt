@@ -1,22 +1,21 @@
 -- What the rounds of a write add up to that tries again where it was contended.
-use Rattle.std.proofs.Common.{◌≡◌, ℕ, zero, suc, ◌+◌, ◌-◌, ◌*◌, ◌^◌, ◌≤◌, min, List, [], subst, arith}
+use Rattle.std.proofs.Common.{ℕ, zero, suc, ◌+◌, ◌-◌, ◌*◌, ◌^◌, ◌<◌, ◌≤◌, min, List, [], arith}
 use Rattle.std.proofs.Math.Nat.{mul-le-mul_right}
 use Rattle.std.proofs.Math.Pow.{pow_mono}
 use Rattle.std.proofs.lemmas.List.Elements.{All-get_or}
 use Rattle.nb_core.specs.Plans.{IsPlan, Plan, generations_of, size_of}
 use Rattle.nb_core.specs.declared.calls.Call.{Call}
 use Rattle.nb_core.specs.declared.calls.Reply.{Reply}
-use Rattle.nb_table.proofs.Theorems.{steps_add_up}
-use Rattle.nb_table.specs.Chains.{ChainOf, Extended, IsOwn, SeenBy, seen_by}
-use Rattle.nb_map.proofs.Made.{made-quiet, made-within}
+use Rattle.nb_table.specs.Chains.{ChainOf, IsOwn, SeenBy}
+use Rattle.nb_map.proofs.Made.{made-within}
 use Rattle.nb_map.proofs.Exchanged.{passed-sum}
-use Rattle.nb_map.proofs.Searched.{made-then, reached-top, table-within}
-use Rattle.nb_map.proofs.Written.{alone-then, alone-top}
+use Rattle.nb_map.proofs.Searched.{made-then}
+use Rattle.nb_map.proofs.Bounds.{next-size}
 use Rattle.nb_map.specs.Calling.{HasMade}
 use Rattle.nb_map.specs.Looking.{get_steps}
-use Rattle.nb_map.specs.Refusing.{put_steps}
+use Rattle.nb_map.specs.Refusing.{home_steps, put_steps}
 use Rattle.nb_map.specs.Searching.{slots_below}
-use Rattle.nb_map.specs.Writing.{IsAloneAtHome, IsSeenAlone, passed_since}
+use Rattle.nb_map.specs.Writing.{passed_since}
 
 -- a chain has few slots
 slots-few : (p : Plan) → IsPlan p → (g : ℕ) → g ≤ generations_of p → slots_below p g ≤ g * 2 ^ 19
@@ -50,74 +49,58 @@ round-bound p plan passed passed' all contended both =
         ≤ 8 * all * (n + 8)
     fits t tables n passed passed' all less both = omega (arith, less, both)
 
--- the last round, and the load of the top word
+-- the last round
 last-bound :
     (p : Plan) (passed passed' all : ℕ) → passed + passed' ≤ all
-    → 1 + (round_steps p passed + (get_steps p + 2 * min (2 ^ 32 - 1) passed'))
-    ≤ put_steps p (all + 1)
+    → round_steps p passed + (get_steps p + 2 * min (2 ^ 32 - 1) passed') ≤ put_steps p all
 last-bound p passed passed' all both =
     let n = size_of p (generations_of p - 1) in
     fits (slots_below p (generations_of p)) (generations_of p) n passed passed' all
     (mul-le-mul_right (n + 8) both)
   where
     fits : (t tables n passed passed' all : ℕ) → (passed + passed') * (n + 8) ≤ all * (n + 8)
-        → 1 + (8 * passed * (n + 8) + (8 * (t + tables) * (n + 8) + 2 * min (2 ^ 32 - 1) passed'))
-        ≤ 8 * (t + (all + 1) + tables) * (n + 8)
+        → 8 * passed * (n + 8) + (8 * (t + tables) * (n + 8) + 2 * min (2 ^ 32 - 1) passed')
+        ≤ 8 * (t + all + tables) * (n + 8)
     fits t tables n passed passed' all both = omega (arith, both)
 
--- The seat has loaded the top word, and made some contended rounds.
-module _ (chain : ChainOf) {call : Call} {start first now after : SeenBy}
+-- the load of the top word and the look at the home slot come before all rounds
+pub before-bound :
+    (p : Plan) → IsPlan p → (g passed passed' all : ℕ) → g < generations_of p
+    → passed + passed' ≤ all
+    → 1 + (home_steps p g (2 ^ 32 - 1) passed + put_steps p passed') ≤ put_steps p (all + 1)
+before-bound p plan g passed passed' all table both =
+    let n = size_of p (generations_of p - 1) in
+    fits (slots_below p (generations_of p)) (generations_of p) n (size_of p (suc g)) passed passed'
+    all (next-size p plan g table) (mul-le-mul_right (n + 8) both)
+  where
+    fits : (t tables n above passed passed' all : ℕ) → above ≤ n
+        → (passed + passed') * (n + 8) ≤ all * (n + 8)
+        → 1 + (min (2 ^ 32 - 1) passed + 3 + (2 * above + 6 + 2)
+        + 8 * (t + passed' + tables) * (n + 8)) ≤ 8 * (t + (all + 1) + tables) * (n + 8)
+    fits t tables n above passed passed' all next both = omega (arith, next, both)
+
+-- The seat has made some contended rounds, and then another one.
+module _ (chain : ChainOf) {call : Call} {start now after : SeenBy}
     {calls : List (Call × Reply)} (own : IsOwn chain start)
-    (load : Extended chain.shape start first [] 1)
-    (rounds : HasMade chain.shape call first now []
-    (round_steps chain.shape (passed_since call first now)))
+    (rounds : HasMade chain.shape call start now []
+    (round_steps chain.shape (passed_since call start now)))
     (round : HasMade chain.shape call now after calls
     (get_steps chain.shape + 2 * min (2 ^ 32 - 1) (passed_since call now after))) where
-  -- another one was contended
+  -- it was contended, too
   pub rounds-more :
       2 ^ 32 - 1 ≤ passed_since call now after
-      → HasMade chain.shape call first after calls
-      (round_steps chain.shape (passed_since call first after))
+      → HasMade chain.shape call start after calls
+      (round_steps chain.shape (passed_since call start after))
   rounds-more contended =
-      made-within (round_steps chain.shape (passed_since call first now)
-      + (get_steps chain.shape + 2 * min (2 ^ 32 - 1) (passed_since call now after))) _
+      made-within _ _
       (round-bound chain.shape own.plan _ _ _ contended
       (omega (arith, passed-sum call rounds.grown round.grown)))
-      (made-then (steps_add_up.own own (steps_add_up.one load)) rounds round)
+      (made-then own rounds round)
 
-  -- the last one
+  -- or it was the last one
   pub rounds-end : HasMade chain.shape call start after calls
-      (put_steps chain.shape (passed_since call start after + 1))
+      (put_steps chain.shape (passed_since call start after))
   rounds-end =
-      let mine = steps_add_up.own own (steps_add_up.one load) in
-      let all = made-then mine rounds round in
-      let both = passed-sum call rounds.grown round.grown in
-      let longer = passed-sum call (steps_add_up.one load) all.grown in
-      made-within
-      (1 + (round_steps chain.shape (passed_since call first now)
-      + (get_steps chain.shape + 2 * min (2 ^ 32 - 1) (passed_since call now after)))) _
-      (last-bound chain.shape _ _ _ (omega (arith, both, longer)))
-      (made-then own (made-quiet chain.shape call load) all)
-
-  -- who is alone with its key makes no other one
-  pub rounds-short :
-      (top : ℕ) → (seen_by chain.shape first).top ≡ top
-      → (IsAloneAtHome chain.shape top call now after → after.steps ≤ now.steps + 3)
-      → IsSeenAlone chain.shape call start after
-      → after.steps ≤ start.steps + 4
-  rounds-short top is short alone =
-      let mine = steps_add_up.own own (steps_add_up.one load) in
-      let all = made-then mine rounds round in
-      let home = alone-top top own load is all.grown alone in
-      let table = table-within chain first mine top
-      (reached-top chain first mine 0 top is).installed in
-      let none : passed_since call first now ≡ 0 =
-      omega (arith, passed-sum call rounds.grown round.grown, home.alone) in
-      let few = subst (λ passed. rounds.count ≤ round_steps chain.shape passed) none rounds.few in
-      omega (
-        arith,
-        load.steps,
-        rounds.grown.steps,
-        few,
-        short (alone-then top table mine rounds.grown round.grown home),
-      )
+      made-within _ _
+      (last-bound chain.shape _ _ _ (omega (arith, passed-sum call rounds.grown round.grown)))
+      (made-then own rounds round)

@@ -1,5 +1,5 @@
 -- What a write comes to, table after table.
-use Rattle.std.proofs.Common.{◌≡◌, ◌⊎◌, inl, inr, ℕ, zero, suc, ◌+◌, ◌-◌, ◌*◌, ◌<◌, ◌≤◌, min, List, [], sym, subst, arith}
+use Rattle.std.proofs.Common.{◌≡◌, ℕ, zero, suc, ◌+◌, ◌-◌, ◌*◌, ◌<◌, ◌≤◌, min, List, [], subst, arith}
 use Rattle.std.proofs.Math.Nat.{mul-le-mul_left, mul-le-mul_right}
 use Rattle.nb_core.specs.History.{key_of_call}
 use Rattle.nb_core.specs.Plans.{IsPlan, Plan, generations_of, size_of}
@@ -18,9 +18,9 @@ use Rattle.nb_map.proofs.Made.{made-none, made-own, made-stays, made-within}
 use Rattle.nb_map.proofs.Searched.{made-then, reached-above, reached-lasts, reached-top, table-within}
 use Rattle.nb_map.specs.Calling.{HasMade}
 use Rattle.nb_map.specs.Looking.{get_steps}
-use Rattle.nb_map.specs.Refusing.{IsJust, IsWritten, exchange_steps, made_by, put_steps, write_steps}
+use Rattle.nb_map.specs.Refusing.{IsJust, IsWritten, exchange_steps, home_steps, made_by, put_steps, write_steps}
 use Rattle.nb_map.specs.Searching.{pass_steps, slots_below}
-use Rattle.nb_map.specs.Writing.{HasBelow, IsAloneAtHome, IsSeenAlone, find_steps, passed_since, steps_below}
+use Rattle.nb_map.specs.Writing.{HasBelow, IsAloneAtHome, IsSeenAlone, search_steps, passed_since, steps_below}
 use Rattle.nb_map.specs.declared.claim.Below.{Below}
 use Rattle.nb_map.specs.declared.claim.Below.TheVariants.{Complete}
 use Rattle.nb_map.specs.declared.write.PutFault.{PutFault}
@@ -59,7 +59,7 @@ written-longer p call g tries a b (Above below left) is =
 pub made-written :
     {chain : ChainOf} {call : Call} {start then after : SeenBy} (g tries : ℕ) (written : Written)
     → IsOwn chain start
-    → HasMade chain.shape call start then [] (find_steps chain.shape g)
+    → HasMade chain.shape call start then [] (search_steps chain.shape g)
     → HasMade chain.shape call then after (made_by call written)
     (exchange_steps chain.shape g tries (passed_since call then after) written)
     → HasMade chain.shape call start after (made_by call written)
@@ -107,7 +107,7 @@ alone-written {chain} {call} {after = after} g tries table own (Above below left
 
 -- the most steps of a write in a table but for its exchanges, and in all tables below one
 abbrev pub table_share : Plan → ℕ → ℕ
-table_share p g = find_steps p g + 2 + pass_steps p g
+table_share p g = search_steps p g + 2 + pass_steps p g
 
 abbrev pub written_below : Plan → ℕ → ℕ
 written_below p zero = 0
@@ -149,7 +149,7 @@ written-few p plan (suc g) below =
   where
     one : (size above n s g done here under written : ℕ)
         → written + under ≤ 3 * s + 2 * done + g * (2 * n + 15) → above ≤ n
-        → 3 * size + under + 4 + here + 1 + 2 + (2 * above + 6 + 2) + written + here
+        → 3 * size + under + 4 + here + 2 + (2 * above + 6 + 2) + written + here
         ≤ 3 * (size + s) + 2 * (here + done) + suc g * (2 * n + 15)
     one size above n s g done here under written rest next = omega (arith, rest, next)
 
@@ -176,12 +176,10 @@ write-bound p plan g below =
 
 -- ---- from table to table
 
--- A write that began in table `first` has come to table g, with so many tries left. In the first
--- table it has only lost tries.
+-- A write that began in table `first` has come to table g, with so many tries left.
 pub record HasCome (p : Plan) (call : Call) (start now : SeenBy) (first g tries left : ℕ)
     (known : Below) : Type 0 where
   pub made : HasMade p call start now [] (written_below p g + 2 * (tries - left))
-  pub direct : g ≡ first → now.steps ≤ start.steps + 2 * (tries - left)
   pub from : first ≤ g
   pub reached : IsReached p (seen_by p now) g (key_of_call call)
   pub below : HasBelow p (seen_by p now) g (key_of_call call) known
@@ -198,7 +196,6 @@ pub come-first :
 come-first chain call start own g tries reached ready some = record {
   made = made-within 0 (written_below chain.shape g + 2 * (tries - tries)) (omega arith)
       (made-none chain call start own);
-  direct = λ same. omega arith;
   from = omega arith;
   reached = reached;
   below = ready;
@@ -219,7 +216,6 @@ module _ (chain : ChainOf) {call : Call} {start now after : SeenBy} {first g tri
       → HasCome chain.shape call start after first (suc g) tries left' below'
   come-above {left'} {below'} made is = record {
     made = made-within _ _ (omega (arith, come.fewer, is.3)) (made-then own come.made made);
-    direct = λ same. absurd (omega (arith, same, come.from));
     from = omega (arith, come.from);
     reached = reached-above chain.shape _ g (key_of_call call)
         (reached-lasts chain.shape _ _ (made-stays chain (made-own chain own come.made) made) g
@@ -233,7 +229,7 @@ module _ (chain : ChainOf) {call : Call} {start now after : SeenBy} {first g tri
   -- it ends here, and has lost no more tries than others won exchanges
   pub come-end :
       {calls : List (Call × Reply)} → HasMade chain.shape call now after calls
-      (find_steps chain.shape g + (min left (passed_since call now after) + 2))
+      (search_steps chain.shape g + (min left (passed_since call now after) + 2))
       → HasMade chain.shape call start after calls
       (get_steps chain.shape + 2 * min tries (passed_since call start after))
   come-end {calls} made =
@@ -241,52 +237,44 @@ module _ (chain : ChainOf) {call : Call} {start now after : SeenBy} {first g tri
       let both = passed-sum call come.made.grown made.grown in
       made-within
       (written_below chain.shape g + 2 * (tries - left)
-      + (find_steps chain.shape g + (min left (passed_since call now after) + 2))) _
+      + (search_steps chain.shape g + (min left (passed_since call now after) + 2))) _
       (omega (arith, bound, both, come.fewer, come.lost))
       (made-then own come.made made)
 
-  -- and is short where it is alone with its key at home in the first table
-  pub come-short :
-      {calls : List (Call × Reply)} {most : ℕ} → HasMade chain.shape call now after calls most
-      → (IsAloneAtHome chain.shape g call now after → after.steps ≤ now.steps + 3)
-      → IsAloneAtHome chain.shape first call start after → after.steps ≤ start.steps + 3
-  come-short made short alone = elim (same-or-less first g come.from) [
-    | inl same ↦
-        let here = subst (λ f. IsAloneAtHome chain.shape f call start after) same alone in
-        omega (
-          arith,
-          come.direct (sym same),
-          come.lost,
-          passed-sum call come.made.grown made.grown,
-          alone.alone,
-          short (alone-then g table own come.made.grown made.grown here),
-        )
-    | inr less ↦
-        let then = made-own chain own come.made in
-        let lower : first < generations_of chain.shape = omega (arith, less, table) in
-        absurd
-        (passed-away chain after (made-own chain then made) first (key_of_call call) lower
-        ((made-stays chain then made).passed first (key_of_call call) lower
-        (come.reached.below first less)) alone.home)
-  ]
-    where
-      same-or-less : (a b : ℕ) → a ≤ b → (a ≡ b) ⊎ (a < b)
-      same-or-less a b from = grind (arith, from)
-
 -- ---- one write
 
--- a load of the top word comes on top, and each try that was lost is within the bound
-pub put-bound :
-    (p : Plan) (tries passed passed' : ℕ) → 1 ≤ tries → passed ≤ passed'
-    → 1 + (get_steps p + 2 * min tries passed) ≤ put_steps p (min tries (passed' + 1))
-put-bound p tries passed passed' some fewer =
-    fits (slots_below p (generations_of p)) (generations_of p) (size_of p (generations_of p - 1))
-    (min tries passed) (min tries (passed' + 1))
-    (omega (arith, some)) (omega (arith, fewer))
+-- the load of the top word, what a write does at its key's home slot, and what it does from there
+-- on
+pub elsewhere-bound :
+    (p : Plan) → IsPlan p → (g tries passed passed' all left : ℕ) → g < generations_of p
+    → 1 ≤ tries → passed + passed' ≤ all → left ≤ tries
+    → 1 + (home_steps p g tries passed + (get_steps p + 2 * min left passed'))
+    ≤ put_steps p (min tries (all + 1))
+elsewhere-bound p plan g tries passed passed' all left table some both fewer =
+    let n = size_of p (generations_of p - 1) in
+    let most = min tries (all + 1) in
+    let one : 1 ≤ most = omega (arith, some) in
+    fits (slots_below p (generations_of p)) (generations_of p) n (size_of p (suc g))
+    (min tries passed) (min left passed') most one
+    (omega (arith, both)) (omega (arith, both, fewer)) (next-size p plan g table)
+    (mul-le-mul_right n one)
   where
-    fits : (t tables n lost most : ℕ) → 1 ≤ most → lost ≤ most
-        → 1 + (8 * (t + tables) * (n + 8) + 2 * lost) ≤ 8 * (t + most + tables) * (n + 8)
-    fits t tables n lost most some fewer = omega (arith, some, fewer)
+    fits : (t tables n above lost lost' most : ℕ) → 1 ≤ most → lost ≤ most → lost' ≤ most
+        → above ≤ n → 1 * n ≤ most * n
+        → 1 + (lost + 3 + (2 * above + 6 + 2) + (8 * (t + tables) * (n + 8) + 2 * lost'))
+        ≤ 8 * (t + most + tables) * (n + 8)
+    fits t tables n above lost lost' most one a b c d = omega (arith, one, a, b, c, d)
+
+-- the same, where it ends at the home slot
+pub home-bound :
+    (p : Plan) → IsPlan p → (g tries passed all : ℕ) → g < generations_of p → 1 ≤ tries
+    → passed ≤ all
+    → 1 + home_steps p g tries passed ≤ put_steps p (min tries (all + 1))
+home-bound p plan g tries passed all table some fewer =
+    omega (
+      arith,
+      elsewhere-bound p plan g tries passed 0 all 0 table some (omega (arith, fewer)) (omega arith),
+    )
 
 -- who was alone with its key at home in the top table that it knew is so in the one that it has
 -- loaded

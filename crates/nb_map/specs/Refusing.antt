@@ -11,7 +11,9 @@ use Rattle.nb_table.specs.Chains.{SeenBy, seen_by}
 use Rattle.nb_map.specs.Logs.{HasLogged}
 use Rattle.nb_map.specs.Maps.{HasWorked, MapOf, SeatOf}
 use Rattle.nb_map.specs.Searching.{IsAbove, IsSlotOf, pass_steps, slots_below}
-use Rattle.nb_map.specs.Writing.{HasBelow, find_steps, passed_since}
+use Rattle.nb_map.specs.Writing.{HasBelow, passed_since, search_steps}
+use Rattle.nb_map.specs.declared.at_home.AtHome.{AtHome}
+use Rattle.nb_map.specs.declared.at_home.AtHome.TheVariants as at_home
 use Rattle.nb_map.specs.declared.waiting.AddFault.{AddFault}
 use Rattle.nb_map.specs.declared.waiting.AddFault.TheVariants as add_fault
 use Rattle.nb_map.specs.declared.write.PutFault.{PutFault}
@@ -44,6 +46,35 @@ made_in call (Err fault) = []
 abbrev pub HasRefused : MapOf → Call → (before after : SeatOf) → AddFault → Type 0
 HasRefused map call before after fault =
     HasLogged before after [] × IsJustAdd map.chain.shape call after.chain fault
+
+-- ---- at home
+
+-- what the seat has seen where a write with so many tries came to this at its key's home slot: a
+-- reason for its refusal; or that it looks further, with as many tries fewer at most as others won
+-- exchanges
+abbrev pub IsToldAtHome : Plan → Call → (before after : SeenBy) → (tries : ℕ) → AtHome → Type 0
+IsToldAtHome p call before after tries (at_home.Replied reply) = Unit {0}
+IsToldAtHome p call before after tries (at_home.Refused fault) =
+    IsJust p call before after tries fault
+IsToldAtHome p call before after tries (at_home.Elsewhere left) =
+    (1 ≤ left) × (left ≤ tries) × (tries ≤ left + passed_since call before after)
+
+-- it is made or refused there
+abbrev pub IsTold : AtHome → Type 0
+IsTold (at_home.Replied reply) = Unit {0}
+IsTold (at_home.Refused fault) = Unit {0}
+IsTold (at_home.Elsewhere left) = ⊥
+
+-- the call, where it was made there
+abbrev pub made_at_home : Call → AtHome → List (Call × Reply)
+made_at_home call (at_home.Replied reply) = (call, reply) ∷ []
+made_at_home call (at_home.Refused fault) = []
+made_at_home call (at_home.Elsewhere left) = []
+
+-- the most steps there: a load of the key, and one of its value; an exchange for each try that was
+-- lost and for one more; and, it may be, the end of a copy
+abbrev pub home_steps : Plan → (g tries passed : ℕ) → ℕ
+home_steps p g tries passed = min tries passed + 3 + pass_steps p g
 
 -- ---- in one table
 
@@ -93,7 +124,7 @@ exchange_steps p g tries passed (written.Above below left) = tries - left + 2 + 
 
 -- the most steps of a write in table g
 abbrev pub write_steps : Plan → (g tries passed : ℕ) → Written → ℕ
-write_steps p g tries passed written = find_steps p g + exchange_steps p g tries passed written
+write_steps p g tries passed written = search_steps p g + exchange_steps p g tries passed written
 
 -- the most steps of a write, with T slots in all tables, G tables, and N slots in the last one: 8
 -- (T + tries + G) (N + 8)

@@ -75,10 +75,6 @@ grow_steps p g below = owed_below p g below + 2 + table_steps p g
 abbrev pub search_steps : Plan → ℕ → ℕ
 search_steps p g = 3 * size_of p g + steps_below p g + 4 + table_steps p g
 
--- the same, with a look at the home slot before
-abbrev pub find_steps : Plan → ℕ → ℕ
-find_steps p g = search_steps p g + 1
-
 -- ---- an exchange
 
 -- how many exchanges on the call's key other seats have won since the seat had seen no more than

@@ -6,6 +6,7 @@
 //! high-scale-lib.
 #![tactic(auto)]
 
+mod at_home;
 mod claim;
 mod decide;
 mod ended;

@@ -4,17 +4,21 @@
 //! or none if it is refused.
 ghost use Rattle.std.specs.Prelude.{◌≡◌, ◌+◌, ◌≤◌, false, true, None, IfOk, IfErr};
 ghost use Rattle.nb_core.specs.Calls.{leaves_alone, overflows};
+ghost use Rattle.nb_core.specs.History.{key_of_call};
 ghost use Rattle.nb_core.specs.Log.{Numbers};
+ghost use Rattle.nb_core.specs.Tables.{IsReady};
 ghost use Rattle.nb_core.specs.declared.calls.Call.TheVariants as call;
 ghost use Rattle.nb_core.specs.declared.calls.Change.TheVariants as change;
 ghost use Rattle.nb_core.specs.declared.calls.Want.TheVariants as want;
-ghost use Rattle.nb_table.specs.Chains.{IsOwn};
+ghost use Rattle.nb_table.specs.Chains.{IsOwn, seen_by};
+ghost use Rattle.nb_table.specs.Conditions.{IsReached};
 ghost use Rattle.nb_map.specs.Calling.{HasMade};
 ghost use Rattle.nb_map.specs.Logs.{HasFound, HasMatched, HasReplied};
 ghost use Rattle.nb_map.specs.Maps.{IsMine};
 ghost use Rattle.nb_map.specs.Refusing.{HasRefused, IsJustAdd, IsLockFree, made_in, put_steps};
 ghost use Rattle.nb_map.specs.Writing.{IsSeenAlone, passed_since};
 
+use crate::at_home::{AtHome, write_home};
 use crate::map::{Map, Seat};
 use crate::pause::NoPause;
 use crate::write::{PutFault, write_from};
@@ -293,6 +297,34 @@ fn write_through<R: Wait>(
 {
     let call = Call::Write { key, want, change };
     let top = chain.load_top(seat);
+    match write_home(chain, seat, top, key, &call, u32::MAX, &mut NoPause) {
+        AtHome::Replied(reply) => return Ok(reply),
+        AtHome::Refused(PutFault::Full) => return Err(AddFault::Full),
+        AtHome::Refused(PutFault::ValueRange) => return Err(AddFault::ValueRange),
+        AtHome::Refused(PutFault::Contended) => {}
+        AtHome::Elsewhere(_) => {}
+    }
+    write_rounds(rt, chain, seat, top, key, call)
+}
+
+/// Makes a write in the top table `top` or above it, in rounds of as many tries as there can be.
+#[inline(never)]
+fn write_rounds<R: Wait>(
+    rt: &R,
+    chain: &Chain,
+    seat: &mut ChainSeat,
+    top: u32,
+    key: Key,
+    call: Call,
+) -> Result<Reply, AddFault>
+    requires own { IsOwn chain.now seat.old }
+    requires key { key_of_call call ≡ key }
+    requires reached { IsReached chain.now.shape (seen_by chain.now.shape seat.old) top key }
+    requires ready { IsReady chain.now.shape (seen_by chain.now.shape seat.old) top }
+    ensures made { HasMade chain.now.shape call seat.old seat.new (made_in call result)
+        (put_steps chain.now.shape (passed_since call seat.old seat.new)) }
+    ensures refused { IfErr result (IsJustAdd chain.now.shape call seat.new) }
+{
     for _ in rt.forever() {
         match write_from(chain, seat, top, key, &call, u32::MAX, &mut NoPause) {
             Ok(reply) => return Ok(reply),

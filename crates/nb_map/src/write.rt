@@ -1,13 +1,12 @@
 //! Writing a key.
 ghost use Rattle.std.specs.Prelude.{◌≡◌, ◌≤◌, ◌+◌, ◌*◌, min, IfErr};
-ghost use Rattle.nb_core.specs.Calls.{Fills};
 ghost use Rattle.nb_core.specs.History.{key_of_call};
 ghost use Rattle.nb_core.specs.Tables.{IsReady};
 ghost use Rattle.nb_core.specs.declared.calls.Call.TheVariants as call;
 ghost use Rattle.nb_table.specs.Chains.{IsOwn, seen_by};
 ghost use Rattle.nb_table.specs.Conditions.{IsReached};
 ghost use Rattle.nb_map.specs.Calling.{HasMade};
-ghost use Rattle.nb_map.specs.Looking.{IsAtHome, IsHomeSlot, get_steps};
+ghost use Rattle.nb_map.specs.Looking.{get_steps};
 ghost use Rattle.nb_map.specs.Refusing.{
   IsJust,
   IsTarget,
@@ -20,9 +19,7 @@ ghost use Rattle.nb_map.specs.Refusing.{
 };
 ghost use Rattle.nb_map.specs.Writing.{
   HasBelow,
-  IsAloneAtHome,
   IsSeenAlone,
-  find_steps,
   passed_since,
   search_steps,
 };
@@ -30,7 +27,7 @@ ghost use Rattle.nb_map.specs.Writing.{
 use crate::claim::{Below, Found, find_or_claim};
 use crate::decide::{Decision, decide};
 use crate::exchange::exchange;
-use crate::get::is_own;
+use crate::at_home::{AtHome, write_home};
 use crate::pause::Pause;
 use crate::search::{Sought, seek};
 use nb_core::{Call, Change, Key, Reply, Want};
@@ -102,11 +99,15 @@ pub fn put_if_match_in<P: Pause>(
 {
     let call = Call::Write { key, want, change };
     let top = chain.load_top(seat);
-    write_from(chain, seat, top, key, &call, tries, pause)
+    match write_home(chain, seat, top, key, &call, tries, pause) {
+        AtHome::Replied(reply) => Ok(reply),
+        AtHome::Refused(fault) => Err(fault),
+        AtHome::Elsewhere(left) => write_from(chain, seat, top, key, &call, left, pause),
+    }
 }
 
 /// Makes a write, in the top table `first` or above it.
-#[inline(always)]
+#[inline(never)]
 pub(crate) fn write_from<P: Pause>(
     chain: &Chain,
     seat: &mut ChainSeat,
@@ -125,8 +126,6 @@ pub(crate) fn write_from<P: Pause>(
     ensures made { HasMade chain.now.shape call.now seat.old seat.new (made_in call.now result)
         (get_steps chain.now.shape + 2 * min tries (passed_since call.now seat.old seat.new)) }
     ensures refused { IfErr result (IsJust chain.now.shape call.now seat.old seat.new tries) }
-    ensures short { IsAloneAtHome chain.now.shape first call.now seat.old seat.new
-        → seat.new.steps ≤ seat.old.steps + 3 }
     ensures serves { P.serves pause.new chain.now }
 {
     let mut below = Below::Complete;
@@ -145,7 +144,6 @@ pub(crate) fn write_from<P: Pause>(
 }
 
 /// Makes a write in table `g`, or finds that it goes on in the next one.
-#[inline(always)]
 #[tactic(auto, using(nb_core::proofs::Theorems::linked))]
 fn write_in<P: Pause>(
     chain: &Chain,
@@ -166,8 +164,6 @@ fn write_in<P: Pause>(
     ensures made { HasMade chain.now.shape call.now seat.old seat.new (made_by call.now result)
         (write_steps chain.now.shape g tries (passed_since call.now seat.old seat.new) result) }
     ensures written { IsWritten chain.now.shape call.now seat.old seat.new g tries result }
-    ensures short { IsAloneAtHome chain.now.shape g call.now seat.old seat.new
-        → seat.new.steps ≤ seat.old.steps + 3 }
     ensures serves { P.serves pause.new chain.now }
 {
     match aim(chain, seat, g, key, call, below) {
@@ -178,65 +174,32 @@ fn write_in<P: Pause>(
     }
 }
 
-/// Where a write that has come to table `g` has to look. Where the key's home slot there is its
-/// own, or is empty and the write leaves an absent key at that, one load tells it.
-#[inline]
-#[tactic(auto, using(nb_core::proofs::Theorems::linked))]
-fn aim(chain: &Chain, seat: &mut ChainSeat, g: u32, key: Key, call: &Call, below: Below) -> Target
+/// Where a write that has come to table `g` has to look, by a search along its key's path. The call
+/// claims a slot for its key if it puts a number there.
+fn aim(
+    chain: &Chain,
+    seat: &mut ChainSeat,
+    g: u32,
+    key: Key,
+    call: &Call,
+    below: Below,
+) -> Target
     requires own { IsOwn chain.now seat.old }
     requires key { key_of_call call.now ≡ key }
     requires reached { IsReached chain.now.shape (seen_by chain.now.shape seat.old) g key }
     requires below { HasBelow chain.now.shape (seen_by chain.now.shape seat.old) g key below }
     ensures made { HasMade chain.now.shape call.now seat.old seat.new (made_at call.now result)
-        (find_steps chain.now.shape g) }
-    ensures target { IsTarget chain.now.shape call.now seat.new g key result }
-    ensures short { IsAtHome chain.now.shape (seen_by chain.now.shape seat.new) g
-        (key_of_call call.now)
-        → (Fills call.now → IsHomeSlot chain.now.shape (seen_by chain.now.shape seat.old) g
-        (key_of_call call.now))
-        → seat.new.steps ≤ seat.old.steps + 1 }
-{
-    let home = chain.shape().path_slot(g, key, 0);
-    let word = chain.load_key_word(seat, g, home, Some(*call));
-    if is_own(word, key) {
-        return Target::Slot(home);
-    }
-    if word == 0 {
-        if let Decision::Leave(reply) = decide(call, &None) {
-            return Target::Absent(reply);
-        }
-    }
-    aim_along(chain, seat, g, key, *call, below)
-}
-
-/// The same by a search along the key's path. The call claims a slot for its key if it puts a
-/// number there.
-#[inline(never)]
-#[tactic(auto, using(nb_core::proofs::Theorems::linked))]
-fn aim_along(
-    chain: &Chain,
-    seat: &mut ChainSeat,
-    g: u32,
-    key: Key,
-    call: Call,
-    below: Below,
-) -> Target
-    requires own { IsOwn chain.now seat.old }
-    requires key { key_of_call call ≡ key }
-    requires reached { IsReached chain.now.shape (seen_by chain.now.shape seat.old) g key }
-    requires below { HasBelow chain.now.shape (seen_by chain.now.shape seat.old) g key below }
-    ensures made { HasMade chain.now.shape call seat.old seat.new (made_at call result)
         (search_steps chain.now.shape g) }
-    ensures target { IsTarget chain.now.shape call seat.new g key result }
+    ensures target { IsTarget chain.now.shape call.now seat.new g key result }
 {
-    if let Decision::Leave(reply) = decide(&call, &None) {
-        return match seek(chain, seat, g, key, &call, 0) {
+    if let Decision::Leave(reply) = decide(call, &None) {
+        return match seek(chain, seat, g, key, call, 0) {
             Sought::Slot(i) => Target::Slot(i),
             Sought::Absent => Target::Absent(reply),
             Sought::Above => Target::Above(Below::Passed),
         };
     }
-    match find_or_claim(chain, seat, g, key, &call, below) {
+    match find_or_claim(chain, seat, g, key, call, below) {
         Found::Slot(i) => Target::Slot(i),
         Found::Above(below) => Target::Above(below),
         Found::Full => Target::Full,

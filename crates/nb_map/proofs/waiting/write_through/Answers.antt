@@ -1,81 +1,104 @@
-use Rattle.std.proofs.Common.{arith}
+use Rattle.std.proofs.Common.{◌+◌, ◌≤◌, ◌^◌, ◌-◌, [], arith}
 use Rattle.nb_core.specs.declared.calls.Call.TheVariants as call
-use Rattle.nb_map.proofs.Made.{made-none, made-within}
-use Rattle.nb_map.proofs.Rounds.{rounds-end, rounds-more, rounds-short}
-use Rattle.nb_map.proofs.Searched.{reached-lasts, reached-top, ready-top, table-within}
+use Rattle.nb_map.proofs.Straight.{alone-there, made-in-rounds, made-once, reached-then, reached-there, ready-then, short-there}
 use Rattle.nb_map.proofs.waiting.write_through.Goals as goal
-use Rattle.nb_table.proofs.Theorems.{steps_add_up}
+use Rattle.nb_map.proofs.waiting.write_through.Goals.{in-Refused-Contended, in-Elsewhere}
+use Rattle.nb_map.specs.Calling.{HasMade}
+use Rattle.nb_map.specs.Refusing.{home_steps}
+use Rattle.nb_map.specs.Writing.{IsAloneAtHome, passed_since}
 
-pub loop-init : goal.loop-init
-loop-init g c = record {
-  can_next = tt;
-  is_finite = tt;
-  rounds = made-within 0 _ (omega arith)
-      (made-none c.args.chain.now (call.Write c.args.key c.args.want c.args.change)
-      c.load_top-top.new.seat
-      (steps_add_up.own c.requires.own (steps_add_up.one c.load_top-top.ensures.grows)));
-}
+pub write_home-requires-clause-reached : goal.write_home-requires-clause-reached
+write_home-requires-clause-reached g c =
+    reached-there c.args.chain.now c.load_top-top.result c.requires.own c.load_top-top.ensures.grows
+    c.load_top-top.ensures.found c.args.key
 
-pub write_from-requires-clause-reached : goal.write_from-requires-clause-reached
-write_from-requires-clause-reached g c =
-    let chain = c.args.chain.now in
-    let mine = steps_add_up.own c.requires.own (steps_add_up.one c.load_top-top.ensures.grows) in
-    let top = c.load_top-top.result in
-    let reached = reached-top chain c.load_top-top.new.seat mine c.args.key top
-    c.load_top-top.ensures.found in
-    reached-lasts chain.shape _ _ (steps_add_up.stays mine c.loop.invariant.rounds.grown)
-    top c.args.key
-    (table-within chain c.load_top-top.new.seat mine top reached.installed) reached
+-- ---- at home
 
-pub write_from-requires-clause-ready : goal.write_from-requires-clause-ready
-write_from-requires-clause-ready g c =
-    let chain = c.args.chain.now in
-    let mine = steps_add_up.own c.requires.own (steps_add_up.one c.load_top-top.ensures.grows) in
-    let top = c.load_top-top.result in
-    let reached = reached-top chain c.load_top-top.new.seat mine c.args.key top
-    c.load_top-top.ensures.found in
-    (steps_add_up.stays mine c.loop.invariant.rounds.grown).ready top
-    (table-within chain c.load_top-top.new.seat mine top reached.installed)
-    (ready-top chain c.load_top-top.new.seat mine top c.load_top-top.ensures.found)
+pub returns-in-Replied-clause-made : goal.returns-in-Replied-clause-made
+returns-in-Replied-clause-made g c =
+    made-once c.args.chain.now c.load_top-top.result c.requires.own c.load_top-top.ensures.grows
+    c.load_top-top.ensures.found c.in-Replied.ensures.made
 
-pub loop-preserved : goal.loop-preserved
-loop-preserved g c = record {
-  can_next = tt;
-  is_finite = tt;
-  rounds = rounds-more c.args.chain.now c.requires.own c.load_top-top.ensures.grows
-      c.loop.invariant.rounds c.in-Err-Contended.ensures.made
-      (rw c.in-Err-Contended.field-0-is at c.in-Err-Contended.ensures.refused);
-}
+pub returns-in-Replied-clause-four_steps : goal.returns-in-Replied-clause-four_steps
+returns-in-Replied-clause-four_steps g c =
+    short-there c.args.chain.now c.load_top-top.result c.requires.own c.load_top-top.ensures.grows
+    c.load_top-top.ensures.found c.write_home.result c.write_home.ensures.made
+    c.write_home.ensures.short
 
-pub returns-in-Ok-clause-made : goal.returns-in-Ok-clause-made
-returns-in-Ok-clause-made g c =
-    rounds-end c.args.chain.now c.requires.own c.load_top-top.ensures.grows c.loop.invariant.rounds
-    c.in-Ok.ensures.made
+pub returns-in-Refused-Full-clause-made : goal.returns-in-Refused-Full-clause-made
+returns-in-Refused-Full-clause-made g c =
+    made-once c.args.chain.now c.load_top-top.result c.requires.own c.load_top-top.ensures.grows
+    c.load_top-top.ensures.found c.in-Refused-Full.ensures.made
 
-pub returns-in-Ok-clause-four_steps : goal.returns-in-Ok-clause-four_steps
-returns-in-Ok-clause-four_steps g c =
-    rounds-short c.args.chain.now c.requires.own c.load_top-top.ensures.grows
-    c.loop.invariant.rounds c.in-Ok.ensures.made c.load_top-top.result
-    c.load_top-top.ensures.found c.in-Ok.ensures.short
+pub returns-in-Refused-Full-clause-four_steps : goal.returns-in-Refused-Full-clause-four_steps
+returns-in-Refused-Full-clause-four_steps g c =
+    short-there c.args.chain.now c.load_top-top.result c.requires.own c.load_top-top.ensures.grows
+    c.load_top-top.ensures.found c.write_home.result c.write_home.ensures.made
+    c.write_home.ensures.short
 
-pub returns-in-Err-Full-clause-made : goal.returns-in-Err-Full-clause-made
-returns-in-Err-Full-clause-made g c =
-    rounds-end c.args.chain.now c.requires.own c.load_top-top.ensures.grows c.loop.invariant.rounds
-    c.in-Err-Full.ensures.made
+pub returns-in-Refused-ValueRange-clause-made : goal.returns-in-Refused-ValueRange-clause-made
+returns-in-Refused-ValueRange-clause-made g c =
+    made-once c.args.chain.now c.load_top-top.result c.requires.own c.load_top-top.ensures.grows
+    c.load_top-top.ensures.found c.in-Refused-ValueRange.ensures.made
 
-pub returns-in-Err-Full-clause-four_steps : goal.returns-in-Err-Full-clause-four_steps
-returns-in-Err-Full-clause-four_steps g c =
-    rounds-short c.args.chain.now c.requires.own c.load_top-top.ensures.grows
-    c.loop.invariant.rounds c.in-Err-Full.ensures.made c.load_top-top.result
-    c.load_top-top.ensures.found c.in-Err-Full.ensures.short
+pub returns-in-Refused-ValueRange-clause-four_steps :
+    goal.returns-in-Refused-ValueRange-clause-four_steps
+returns-in-Refused-ValueRange-clause-four_steps g c =
+    short-there c.args.chain.now c.load_top-top.result c.requires.own c.load_top-top.ensures.grows
+    c.load_top-top.ensures.found c.write_home.result c.write_home.ensures.made
+    c.write_home.ensures.short
 
-pub returns-in-Err-ValueRange-clause-made : goal.returns-in-Err-ValueRange-clause-made
-returns-in-Err-ValueRange-clause-made g c =
-    rounds-end c.args.chain.now c.requires.own c.load_top-top.ensures.grows c.loop.invariant.rounds
-    c.in-Err-ValueRange.ensures.made
+-- ---- in rounds
 
-pub returns-in-Err-ValueRange-clause-four_steps : goal.returns-in-Err-ValueRange-clause-four_steps
-returns-in-Err-ValueRange-clause-four_steps g c =
-    rounds-short c.args.chain.now c.requires.own c.load_top-top.ensures.grows
-    c.loop.invariant.rounds c.in-Err-ValueRange.ensures.made
-    c.load_top-top.result c.load_top-top.ensures.found c.in-Err-ValueRange.ensures.short
+pub write_rounds-requires-clause-reached : goal.write_rounds-requires-clause-reached
+write_rounds-requires-clause-reached g c =
+    reached-then c.args.chain.now c.load_top-top.result c.requires.own
+    c.load_top-top.ensures.grows c.load_top-top.ensures.found c.write_home.ensures.made.grown
+    c.args.key
+
+pub write_rounds-requires-clause-ready : goal.write_rounds-requires-clause-ready
+write_rounds-requires-clause-ready g c =
+    ready-then c.args.chain.now c.load_top-top.result c.requires.own
+    c.load_top-top.ensures.grows c.load_top-top.ensures.found c.write_home.ensures.made.grown
+
+pub returns-clause-made : goal.returns-clause-made
+returns-clause-made g c =
+    let p = c.args.chain.now.shape in
+    let write = call.Write c.args.key c.args.want c.args.change in
+    let first = c.load_top-top.new.seat in
+    let then = c.write_home.new.seat in
+    let home : HasMade p write first then []
+        (home_steps p c.load_top-top.result (2 ^ 32 - 1) (passed_since write first then)) =
+    elim c.match-write_home.branch [
+      | in-Refused-Contended w ↦ w.in-Refused-Contended.ensures.made
+      | in-Elsewhere w ↦ w.in-Elsewhere.ensures.made
+    ] in
+    made-in-rounds c.args.chain.now c.load_top-top.result c.requires.own
+    c.load_top-top.ensures.grows c.load_top-top.ensures.found home c.write_rounds.ensures.made
+
+pub returns-clause-four_steps : goal.returns-clause-four_steps
+returns-clause-four_steps g c alone =
+    let p = c.args.chain.now.shape in
+    let write = call.Write c.args.key c.args.want c.args.change in
+    let first = c.load_top-top.new.seat in
+    let then = c.write_home.new.seat in
+    let home : HasMade p write first then []
+        (home_steps p c.load_top-top.result (2 ^ 32 - 1) (passed_since write first then)) =
+    elim c.match-write_home.branch [
+      | in-Refused-Contended w ↦ w.in-Refused-Contended.ensures.made
+      | in-Elsewhere w ↦ w.in-Elsewhere.ensures.made
+    ] in
+    let away : IsAloneAtHome p c.load_top-top.result write first then
+        → ⊥ × (then.steps ≤ first.steps + 3) =
+    elim c.match-write_home.branch [
+      | in-Refused-Contended w ↦ λ here.
+          absurd (omega (
+            arith,
+            here.alone,
+            (rw w.in-Refused-Contended.field-0-is at w.in-Refused-Contended.ensures.told),
+          ))
+      | in-Elsewhere w ↦ w.in-Elsewhere.ensures.short
+    ] in
+    absurd (alone-there c.args.chain.now c.load_top-top.result c.requires.own
+    c.load_top-top.ensures.grows c.load_top-top.ensures.found home ⊥ away
+    c.write_rounds.ensures.made alone)

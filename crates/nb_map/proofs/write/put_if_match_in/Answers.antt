@@ -1,49 +1,81 @@
 use Rattle.std.proofs.Common.{arith}
 use Rattle.std.proofs.lemmas.Result.{IfErr-weaker}
 use Rattle.nb_core.specs.declared.calls.Call.TheVariants as call
-use Rattle.nb_map.proofs.Made.{made-quiet, made-within}
-use Rattle.nb_map.proofs.Exchanged.{passed-sum}
-use Rattle.nb_map.proofs.Searched.{made-then, reached-top, ready-top}
-use Rattle.nb_map.proofs.Written.{alone-top, just-longer, put-bound}
+use Rattle.nb_map.proofs.Straight.{alone-there, made-elsewhere, made-there, reached-then, reached-there, ready-then, short-there}
+use Rattle.nb_map.proofs.Written.{just-longer}
 use Rattle.nb_map.proofs.write.put_if_match_in.Goals as goal
 use Rattle.nb_table.proofs.Theorems.{steps_add_up}
 
+pub write_home-requires-clause-reached : goal.write_home-requires-clause-reached
+write_home-requires-clause-reached g c =
+    reached-there c.args.chain.now c.load_top-top.result c.requires.own c.load_top-top.ensures.grows
+    c.load_top-top.ensures.found c.args.key
+
+-- ---- at home
+
+pub returns-in-Replied-clause-made : goal.returns-in-Replied-clause-made
+returns-in-Replied-clause-made g c =
+    made-there c.args.chain.now c.load_top-top.result c.requires.own c.load_top-top.ensures.grows
+    c.load_top-top.ensures.found c.requires.some c.in-Replied.ensures.made
+
+pub returns-in-Replied-clause-four_steps : goal.returns-in-Replied-clause-four_steps
+returns-in-Replied-clause-four_steps g c =
+    short-there c.args.chain.now c.load_top-top.result c.requires.own c.load_top-top.ensures.grows
+    c.load_top-top.ensures.found c.write_home.result c.write_home.ensures.made
+    c.write_home.ensures.short
+
+pub returns-in-Refused-clause-made : goal.returns-in-Refused-clause-made
+returns-in-Refused-clause-made g c =
+    made-there c.args.chain.now c.load_top-top.result c.requires.own c.load_top-top.ensures.grows
+    c.load_top-top.ensures.found c.requires.some c.in-Refused.ensures.made
+
+pub returns-in-Refused-clause-refused : goal.returns-in-Refused-clause-refused
+returns-in-Refused-clause-refused g c =
+    just-longer c.args.chain.now.shape (call.Write c.args.key c.args.want c.args.change)
+    c.args.tries c.args.tries (steps_add_up.one c.load_top-top.ensures.grows)
+    c.in-Refused.ensures.made.grown (omega arith) c.in-Refused.fault c.in-Refused.ensures.told
+
+pub returns-in-Refused-clause-four_steps : goal.returns-in-Refused-clause-four_steps
+returns-in-Refused-clause-four_steps g c =
+    short-there c.args.chain.now c.load_top-top.result c.requires.own c.load_top-top.ensures.grows
+    c.load_top-top.ensures.found c.write_home.result c.write_home.ensures.made
+    c.write_home.ensures.short
+
+-- ---- elsewhere
+
 pub write_from-requires-clause-reached : goal.write_from-requires-clause-reached
 write_from-requires-clause-reached g c =
-    let chain = c.args.chain.now in
-    reached-top chain c.load_top-top.new.seat
-    (steps_add_up.own c.requires.own (steps_add_up.one c.load_top-top.ensures.grows)) c.args.key
-    c.load_top-top.result c.load_top-top.ensures.found
+    reached-then c.args.chain.now c.load_top-top.result c.requires.own
+    c.load_top-top.ensures.grows c.load_top-top.ensures.found c.in-Elsewhere.ensures.made.grown
+    c.args.key
 
 pub write_from-requires-clause-ready : goal.write_from-requires-clause-ready
 write_from-requires-clause-ready g c =
-    let chain = c.args.chain.now in
-    ready-top chain c.load_top-top.new.seat
-    (steps_add_up.own c.requires.own (steps_add_up.one c.load_top-top.ensures.grows))
-    c.load_top-top.result c.load_top-top.ensures.found
+    ready-then c.args.chain.now c.load_top-top.result c.requires.own
+    c.load_top-top.ensures.grows c.load_top-top.ensures.found c.in-Elsewhere.ensures.made.grown
 
-pub returns-clause-made : goal.returns-clause-made
-returns-clause-made g c =
+pub returns-in-Elsewhere-clause-made : goal.returns-in-Elsewhere-clause-made
+returns-in-Elsewhere-clause-made g c =
+    made-elsewhere c.args.chain.now c.load_top-top.result c.requires.own
+    c.load_top-top.ensures.grows c.load_top-top.ensures.found
+    c.in-Elsewhere.left c.requires.some c.in-Elsewhere.ensures.told.1
+    c.in-Elsewhere.ensures.made c.write_from.ensures.made
+
+pub returns-in-Elsewhere-clause-refused : goal.returns-in-Elsewhere-clause-refused
+returns-in-Elsewhere-clause-refused g c =
     let p = c.args.chain.now.shape in
     let write = call.Write c.args.key c.args.want c.args.change in
-    let load = c.load_top-top.ensures.grows in
-    let made = c.write_from.ensures.made in
-    made-within _ _ (put-bound p c.args.tries _ _ c.requires.some
-    (omega (arith, passed-sum write (steps_add_up.one load) made.grown)))
-    (made-then c.requires.own (made-quiet p write load) made)
-
-pub returns-clause-refused : goal.returns-clause-refused
-returns-clause-refused g c =
-    let p = c.args.chain.now.shape in
-    let write = call.Write c.args.key c.args.want c.args.change in
+    let home = c.in-Elsewhere.ensures.made in
     IfErr-weaker c.write_from.result _ _
-    (just-longer p write c.args.tries c.args.tries (steps_add_up.one c.load_top-top.ensures.grows)
-    c.write_from.ensures.made.grown (omega arith))
+    (λ fault just. just-longer p write c.args.tries c.args.tries
+    (steps_add_up.one c.load_top-top.ensures.grows)
+    (steps_add_up.more home.grown c.write_from.ensures.made.grown) (omega arith) fault
+    (just-longer p write c.args.tries c.in-Elsewhere.left home.grown
+    c.write_from.ensures.made.grown c.in-Elsewhere.ensures.told.2 fault just))
     c.write_from.ensures.refused
 
-pub returns-clause-four_steps : goal.returns-clause-four_steps
-returns-clause-four_steps g c alone =
-    let load = c.load_top-top.ensures.grows in
-    let here = alone-top c.load_top-top.result c.requires.own load c.load_top-top.ensures.found
-    c.write_from.ensures.made.grown alone in
-    omega (arith, load.steps, c.write_from.ensures.short here)
+pub returns-in-Elsewhere-clause-four_steps : goal.returns-in-Elsewhere-clause-four_steps
+returns-in-Elsewhere-clause-four_steps g c alone =
+    absurd (alone-there c.args.chain.now c.load_top-top.result c.requires.own
+    c.load_top-top.ensures.grows c.load_top-top.ensures.found c.in-Elsewhere.ensures.made
+    ⊥ c.in-Elsewhere.ensures.short c.write_from.ensures.made alone)

@@ -5,7 +5,7 @@ use Rattle.nb_table.specs.Conditions.{IsReached}
 use Rattle.nb_map.specs.Writing.{HasBelow}
 use Rattle.nb_map.proofs.Made.{made-own}
 use Rattle.nb_map.proofs.Searched.{table-within}
-use Rattle.nb_map.proofs.Written.{HasCome, come-above, come-end, come-first, come-short, just-longer}
+use Rattle.nb_map.proofs.Written.{HasCome, come-above, come-end, come-first, just-longer}
 use Rattle.nb_map.proofs.write.write_from.Goals as goal
 
 pub loop-g-init : goal.loop-g-init
@@ -40,11 +40,6 @@ returns-in-Replied-clause-made g c =
     come-end c.args.chain.now c.requires.own c.loop-g.invariant.come (search rules)
     c.in-Replied.ensures.made
 
-pub returns-in-Replied-clause-short : goal.returns-in-Replied-clause-short
-returns-in-Replied-clause-short g c =
-    come-short c.args.chain.now c.requires.own c.loop-g.invariant.come (search rules)
-    c.in-Replied.ensures.made c.in-Replied.ensures.short
-
 pub returns-in-Refused-clause-made : goal.returns-in-Refused-clause-made
 returns-in-Refused-clause-made g c =
     come-end c.args.chain.now c.requires.own c.loop-g.invariant.come (search rules)
@@ -56,11 +51,6 @@ returns-in-Refused-clause-refused g c =
     just-longer c.args.chain.now.shape c.args.call.now c.args.tries c.loop-g.left come.made.grown
     c.in-Refused.ensures.made.grown come.lost
     c.in-Refused.fault c.in-Refused.ensures.written
-
-pub returns-in-Refused-clause-short : goal.returns-in-Refused-clause-short
-returns-in-Refused-clause-short g c =
-    come-short c.args.chain.now c.requires.own c.loop-g.invariant.come (search rules)
-    c.in-Refused.ensures.made c.in-Refused.ensures.short
 
 pub loop-g-preserved : goal.loop-g-preserved
 loop-g-preserved g c =

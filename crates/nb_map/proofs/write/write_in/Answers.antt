@@ -1,8 +1,6 @@
-use Rattle.std.proofs.Common.{arith}
-use Rattle.nb_map.proofs.Home.{home-before}
 use Rattle.nb_map.proofs.Made.{made-own, made-stays}
 use Rattle.nb_map.proofs.Searched.{reached-lasts, table-within}
-use Rattle.nb_map.proofs.Written.{alone-then, alone-written, made-written, written-longer}
+use Rattle.nb_map.proofs.Written.{made-written, written-longer}
 use Rattle.nb_map.proofs.write.write_in.Goals as goal
 
 pub exchange-requires-clause-own : goal.exchange-requires-clause-own
@@ -28,20 +26,3 @@ returns-in-Slot-clause-written g c =
     written-longer c.args.chain.now.shape c.args.call.now c.args.g c.args.tries
     c.in-Slot.ensures.made.grown
     c.exchange.ensures.made.grown c.exchange.result c.exchange.ensures.written
-
-pub returns-in-Slot-clause-short : goal.returns-in-Slot-clause-short
-returns-in-Slot-clause-short g c alone =
-    let chain = c.args.chain.now in
-    let table = table-within chain c.args.seat.now c.requires.own c.args.g
-    c.requires.reached.installed in
-    let aimed = c.in-Slot.ensures.made in
-    let made = c.exchange.ensures.made in
-    omega (
-      arith,
-      c.in-Slot.ensures.short
-          (home-before chain.shape _ _ (made-stays chain (made-own chain c.requires.own aimed) made)
-          c.args.g _ table alone.home) alone.known,
-      alone-written c.args.g c.args.tries table (made-own chain c.requires.own aimed)
-          c.exchange.result made c.exchange.ensures.written
-          (alone-then c.args.g table c.requires.own aimed.grown made.grown alone),
-    )

@@ -1,0 +1,144 @@
+-- A write that looks at its key's home slot in the top table first.
+use Rattle.std.proofs.Common.{◌≡◌, ℕ, ◌+◌, ◌*◌, ◌^◌, ◌-◌, ◌<◌, ◌≤◌, min, List, [], arith}
+use Rattle.nb_core.specs.History.{key_of_call}
+use Rattle.nb_core.specs.Plans.{generations_of}
+use Rattle.nb_core.specs.Tables.{IsReady}
+use Rattle.nb_core.specs.declared.calls.Call.{Call}
+use Rattle.nb_core.specs.declared.calls.Reply.{Reply}
+use Rattle.nb_core.specs.declared.events.Event.{Event}
+use Rattle.nb_table.proofs.Theorems.{steps_add_up}
+use Rattle.nb_table.specs.Chains.{ChainOf, Extended, Grown, IsOwn, SeenBy, seen_by}
+use Rattle.nb_table.specs.Conditions.{IsReached}
+use Rattle.nb_map.proofs.Exchanged.{passed-sum}
+use Rattle.nb_map.proofs.Home.{home-before}
+use Rattle.nb_map.proofs.Made.{made-own, made-quiet, made-stays, made-within}
+use Rattle.nb_map.proofs.Rounds.{before-bound}
+use Rattle.nb_map.proofs.Searched.{made-then, reached-lasts, reached-top, ready-top, table-within}
+use Rattle.nb_map.proofs.Written.{alone-top, elsewhere-bound, home-bound}
+use Rattle.nb_map.specs.Calling.{HasMade}
+use Rattle.nb_map.specs.Looking.{get_steps}
+use Rattle.nb_map.specs.Refusing.{IsTold, home_steps, put_steps}
+use Rattle.nb_map.specs.Writing.{IsAloneAtHome, IsSeenAlone, passed_since}
+use Rattle.nb_map.specs.declared.at_home.AtHome.{AtHome}
+
+-- The seat has loaded the top word.
+module _ (chain : ChainOf) {start first : SeenBy} (top : ℕ) (own : IsOwn chain start)
+    (load : Extended chain.shape start first [] 1)
+    (is : (seen_by chain.shape first).top ≡ top) where
+  mine : IsOwn chain first
+  mine = steps_add_up.own own (steps_add_up.one load)
+
+  -- each key is reached in the table that it found
+  pub reached-there : (k : ℕ) → IsReached chain.shape (seen_by chain.shape first) top k
+  reached-there k = reached-top chain first mine k top is
+
+  pub table-there : top < generations_of chain.shape
+  table-there = table-within chain first mine top (reached-there 0).installed
+
+  module _ {then : SeenBy} {events : List Event} {count : ℕ}
+      (grown : Grown chain.shape first then events count) where
+    -- and is so after the look at its home slot
+    pub reached-then : (k : ℕ) → IsReached chain.shape (seen_by chain.shape then) top k
+    reached-then k =
+        reached-lasts chain.shape _ _ (steps_add_up.stays mine grown) top k table-there
+        (reached-there k)
+
+    pub ready-then : IsReady chain.shape (seen_by chain.shape then) top
+    ready-then =
+        (steps_add_up.stays mine grown).ready top table-there (ready-top chain first mine top is)
+
+  module _ {call : Call} {then : SeenBy} {most : ℕ}
+      (home : HasMade chain.shape call first then [] most) where
+    -- who is alone with its key at home makes all of it there
+    pub alone-there :
+        {after : SeenBy} {calls : List (Call × Reply)} {most' : ℕ} (elsewhere : Type 0)
+        → (IsAloneAtHome chain.shape top call first then
+        → elsewhere × (then.steps ≤ first.steps + 3))
+        → HasMade chain.shape call then after calls most'
+        → IsSeenAlone chain.shape call start after → elsewhere
+    alone-there elsewhere short made alone =
+        let both = made-then mine home made in
+        let here = alone-top top own load is both.grown alone in
+        (short (record {
+          home = home-before chain.shape _ _
+              (made-stays chain (made-own chain mine home) made) top (key_of_call call) table-there
+              here.home;
+          known = here.known;
+          alone = omega (arith, here.alone, passed-sum call home.grown made.grown);
+        })).0
+
+  module _ {call : Call} {after : SeenBy} {calls : List (Call × Reply)} where
+    -- where it ends at the home slot
+    pub made-there :
+        {tries : ℕ} → 1 ≤ tries → HasMade chain.shape call first after calls
+        (home_steps chain.shape top tries (passed_since call first after))
+        → HasMade chain.shape call start after calls
+        (put_steps chain.shape (min tries (passed_since call start after + 1)))
+    made-there {tries} some made =
+        made-within _ _
+        (home-bound chain.shape own.plan top tries _ _ table-there some
+        (omega (arith, passed-sum call (steps_add_up.one load) made.grown)))
+        (made-then own (made-quiet chain.shape call load) made)
+
+    pub short-there :
+        {most : ℕ} (told : AtHome) → HasMade chain.shape call first after calls most
+        → (IsAloneAtHome chain.shape top call first after
+        → IsTold told × (after.steps ≤ first.steps + 3))
+        → IsSeenAlone chain.shape call start after → after.steps ≤ start.steps + 4
+    short-there told made short alone =
+        omega (arith, load.steps, (short (alone-top top own load is made.grown alone)).1)
+
+    -- with what the write does from there on
+    pub made-elsewhere :
+        {then : SeenBy} {tries : ℕ} (left : ℕ) → 1 ≤ tries → left ≤ tries
+        → HasMade chain.shape call first then []
+        (home_steps chain.shape top tries (passed_since call first then))
+        → HasMade chain.shape call then after calls
+        (get_steps chain.shape + 2 * min left (passed_since call then after))
+        → HasMade chain.shape call start after calls
+        (put_steps chain.shape (min tries (passed_since call start after + 1)))
+    made-elsewhere {then = then} {tries = tries} left some fewer home made =
+        let both = made-then mine home made in
+        made-within _ _
+        (elsewhere-bound chain.shape own.plan top tries (passed_since call first then) _ _ left
+        table-there some
+        (omega (
+          arith,
+          passed-sum call home.grown made.grown,
+          passed-sum call (steps_add_up.one load) both.grown,
+        )) fewer)
+        (made-then own (made-quiet chain.shape call load) both)
+
+    -- in a write that tries again for as long as it takes
+    pub made-once :
+        HasMade chain.shape call first after calls
+        (home_steps chain.shape top (2 ^ 32 - 1) (passed_since call first after))
+        → HasMade chain.shape call start after calls
+        (put_steps chain.shape (passed_since call start after + 1))
+    made-once made =
+        made-within _ _
+        (omega (
+          arith,
+          before-bound chain.shape own.plan top (passed_since call first after) 0
+              (passed_since call start after) table-there
+              (omega (arith, passed-sum call (steps_add_up.one load) made.grown)),
+        ))
+        (made-then own (made-quiet chain.shape call load) made)
+
+    pub made-in-rounds :
+        {then : SeenBy} → HasMade chain.shape call first then []
+        (home_steps chain.shape top (2 ^ 32 - 1) (passed_since call first then))
+        → HasMade chain.shape call then after calls
+        (put_steps chain.shape (passed_since call then after))
+        → HasMade chain.shape call start after calls
+        (put_steps chain.shape (passed_since call start after + 1))
+    made-in-rounds {then} home made =
+        let both = made-then mine home made in
+        made-within _ _
+        (before-bound chain.shape own.plan top (passed_since call first then) _ _ table-there
+        (omega (
+          arith,
+          passed-sum call home.grown made.grown,
+          passed-sum call (steps_add_up.one load) both.grown,
+        )))
+        (made-then own (made-quiet chain.shape call load) both)
