@@ -2,7 +2,6 @@
 mod calls;
 mod on_map;
 mod stress;
-mod tallies;
 mod trying;
 mod visits;
 mod walks;

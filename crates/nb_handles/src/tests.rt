@@ -1,0 +1,3 @@
+//! Programs that work with handles.
+mod named;
+mod tallies;
