@@ -107,7 +107,7 @@ pub fn put_if_match_in<P: Pause>(
 }
 
 /// Makes a write, in the top table `first` or above it.
-#[inline(never)]
+#[inline(always)]
 pub(crate) fn write_from<P: Pause>(
     chain: &Chain,
     seat: &mut ChainSeat,
@@ -144,6 +144,7 @@ pub(crate) fn write_from<P: Pause>(
 }
 
 /// Makes a write in table `g`, or finds that it goes on in the next one.
+#[inline(always)]
 #[tactic(auto, using(nb_core::proofs::Theorems::linked))]
 fn write_in<P: Pause>(
     chain: &Chain,
@@ -176,6 +177,7 @@ fn write_in<P: Pause>(
 
 /// Where a write that has come to table `g` has to look, by a search along its key's path. The call
 /// claims a slot for its key if it puts a number there.
+#[inline(always)]
 fn aim(
     chain: &Chain,
     seat: &mut ChainSeat,
