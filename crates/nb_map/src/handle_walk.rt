@@ -96,7 +96,10 @@ impl HandleWalk {
         ensures { result ≡ handle_on self.map self.seat }
     {
         let HandleWalk {
-            map, seat, room, ..
+            map,
+            seat,
+            room,
+            ..
         } = self;
         Handle { map, seat, room }
     }

@@ -24,10 +24,10 @@ ghost use Rattle.nb_map.specs.Writing.{
   search_steps,
 };
 
+use crate::at_home::{AtHome, write_home};
 use crate::claim::{Below, Found, find_or_claim};
 use crate::decide::{Decision, decide};
 use crate::exchange::exchange;
-use crate::at_home::{AtHome, write_home};
 use crate::pause::Pause;
 use crate::search::{Sought, seek};
 use nb_core::{Call, Change, Key, Reply, Want};
@@ -178,14 +178,7 @@ fn write_in<P: Pause>(
 /// Where a write that has come to table `g` has to look, by a search along its key's path. The call
 /// claims a slot for its key if it puts a number there.
 #[inline(always)]
-fn aim(
-    chain: &Chain,
-    seat: &mut ChainSeat,
-    g: u32,
-    key: Key,
-    call: &Call,
-    below: Below,
-) -> Target
+fn aim(chain: &Chain, seat: &mut ChainSeat, g: u32, key: Key, call: &Call, below: Below) -> Target
     requires own { IsOwn chain.now seat.old }
     requires key { key_of_call call.now ≡ key }
     requires reached { IsReached chain.now.shape (seen_by chain.now.shape seat.old) g key }

@@ -36,7 +36,10 @@ fn tries_once(rt: HostRuntime) -> Result<(), Fail> {
         before: Some(two),
         matched: true,
     };
-    assert_eq!(rt; handle.compare_exchange(key, Some(two), Some(one), 1), Ok(reply));
+    assert_eq!(rt;
+        handle.compare_exchange(key, Some(two), Some(one), 1),
+        Ok(reply)
+    );
     assert_eq!(rt; handle.update(key, 1, one_more), Ok(Some(one)));
     assert_eq!(rt; handle.get_or(key, one), two);
     assert_eq!(rt; handle.try_remove(key, 1), Ok(Some(two)));
@@ -53,7 +56,10 @@ fn is_refused(rt: HostRuntime) -> Result<(), Fail> {
         assert_eq!(rt; handle.try_put(Key::new(k)?, one, 1), Ok(None));
     }
     assert_eq!(rt; handle.try_put(Key::new(4)?, one, 1), Err(PutFault::Full));
-    assert_eq!(rt; handle.update(Key::new(4)?, 1, one_more), Err(PutFault::Full));
+    assert_eq!(rt;
+        handle.update(Key::new(4)?, 1, one_more),
+        Err(PutFault::Full)
+    );
     Ok(())
 }
 

@@ -68,7 +68,7 @@ returns-clause-made g c =
     let first = c.load_top-top.new.seat in
     let then = c.write_home.new.seat in
     let home : HasMade p write first then []
-        (home_steps p c.load_top-top.result (2 ^ 32 - 1) (passed_since write first then)) =
+    (home_steps p c.load_top-top.result (2 ^ 32 - 1) (passed_since write first then)) =
     elim c.match-write_home.branch [
       | in-Refused-Contended w ↦ w.in-Refused-Contended.ensures.made
       | in-Elsewhere w ↦ w.in-Elsewhere.ensures.made
@@ -83,13 +83,13 @@ returns-clause-four_steps g c alone =
     let first = c.load_top-top.new.seat in
     let then = c.write_home.new.seat in
     let home : HasMade p write first then []
-        (home_steps p c.load_top-top.result (2 ^ 32 - 1) (passed_since write first then)) =
+    (home_steps p c.load_top-top.result (2 ^ 32 - 1) (passed_since write first then)) =
     elim c.match-write_home.branch [
       | in-Refused-Contended w ↦ w.in-Refused-Contended.ensures.made
       | in-Elsewhere w ↦ w.in-Elsewhere.ensures.made
     ] in
     let away : IsAloneAtHome p c.load_top-top.result write first then
-        → ⊥ × (then.steps ≤ first.steps + 3) =
+    → ⊥ × (then.steps ≤ first.steps + 3) =
     elim c.match-write_home.branch [
       | in-Refused-Contended w ↦ λ here.
           absurd (omega (
