@@ -9,13 +9,25 @@ import argparse, os, statistics, subprocess
 HERE = os.path.dirname(os.path.abspath(__file__))
 OUT = os.path.join(HERE, 'out')
 JAVA = ['java', '-cp', OUT + ':/usr/share/java/jctools-core.jar', 'Bench']
+NB = [os.path.join(HERE, '..', 'out', 'nb_bench')]
 PEERS = {
-    'nb': [os.path.join(HERE, '..', 'out', 'nb_bench')],
+    'nb': NB,
+    'tuned': NB + ['--reprobes', '18', '--chunk', '64'],
     'limit': [os.path.join(OUT, 'limit')],
     'tbb': [os.path.join(OUT, 'tbb')],
+    'dash': [os.path.join(OUT, 'dash')],
     'chm': JAVA + ['chm'],
     'nbhml': JAVA + ['nbhml'],
 }
+
+
+def command(peer, *words):
+    """The words of a run; options of `nb_bench` come last."""
+    run = PEERS[peer]
+    at = next((i for i, word in enumerate(run) if word.startswith('--')), len(run))
+    return run[:at] + list(words) + run[at:]
+
+
 words = argparse.ArgumentParser()
 words.add_argument('--seconds', default='0.5')
 words.add_argument('--rounds', type=int, default=5)
@@ -30,7 +42,7 @@ for workload in given.workloads:
         times = {p: [] for p in peers}
         for _ in range(given.rounds):
             for p in peers:
-                line = subprocess.run(PEERS[p] + [workload, threads, given.seconds], capture_output=True, text=True, check=True).stdout
+                line = subprocess.run(command(p, workload, threads, given.seconds), capture_output=True, text=True, check=True).stdout
                 calls, nanoseconds = map(int, line.split()[3:5])
                 times[p].append(nanoseconds / calls)
         cells = [f'{min(times[p]):6.1f} ({statistics.median(times[p]):6.1f})' for p in peers]

@@ -1,7 +1,9 @@
 //! Calls of the map with their replies, one after another and by several threads.
 mod calls;
-mod on_map;
+mod rows;
+mod seats;
 mod stress;
+mod tallies;
 mod trying;
 mod visits;
 mod walks;

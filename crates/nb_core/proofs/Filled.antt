@@ -1,5 +1,5 @@
 -- The arrays of a shape while its tables are laid out.
-use Rattle.std.proofs.Common.{◌≡◌, ◌∙◌, ℕ, ◌+◌, ◌*◌, ◌^◌, ◌<◌, ◌≤◌, List, length, take, set, slice_index, get_or, cond, ltb, ap, refl, sym, arith, inl, inr, subst}
+use Rattle.std.proofs.Common.{◌≡◌, ◌∙◌, ℕ, ◌+◌, ◌-◌, ◌*◌, ◌^◌, ◌<◌, ◌≤◌, List, length, take, set, slice_index, get_or, cond, ltb, ap, refl, sym, arith, inl, inr, subst}
 use Rattle.std.specs.List.{sum_by, All}
 use Rattle.std.proofs.Math.Pow.{pow_mono}
 use Rattle.std.proofs.lemmas.Bool.{cases_lt, cases_eq, lt-ltb, le-ltb}
@@ -8,8 +8,8 @@ use Rattle.std.proofs.lemmas.List.Elements.{All-take}
 use Rattle.std.proofs.lemmas.List.FromFn.{fill_by_all}
 use Rattle.std.proofs.lemmas.List.Sums.{sum_by_more, sum_by-le}
 use Rattle.nb_core.specs.declared.shapes.Shape.TheInside.{Inside}
-use Rattle.nb_core.specs.Plans.{Plan, IsPlan, base_of, generations_of, table_words, word_count}
-use Rattle.nb_core.specs.Places.{IsInside, plan_of, inside_of, kept_bases, kept_exponents}
+use Rattle.nb_core.specs.Plans.{Plan, IsPlan, base_of, generations_of, size_of, table_words, word_count}
+use Rattle.nb_core.specs.Places.{IsInside, plan_of, inside_of, kept_bases, kept_exponents, kept_lasts}
 
 -- an array of 16 with f at each place below n, and 0 from there on
 pub record IsFilled (f : ℕ → ℕ) (xs : List ℕ) (n : ℕ) : Type 0 where
@@ -35,20 +35,27 @@ IsFilled-more f xs n v h within e = record {
 abbrev end_of : List ℕ → ℕ → ℕ
 end_of exponents n = 1 + sum_by table_words (take n exponents)
 
+-- the last slot of a table
+abbrev last_in : List ℕ → ℕ → ℕ
+last_in exponents k = 2 ^ slice_index exponents k - 1
+
 -- the first n tables are laid out
-pub record AreLaid (exponents xs ys : List ℕ) (end n : ℕ) : Type 0 where
+pub record AreLaid (exponents xs zs ys : List ℕ) (end n : ℕ) : Type 0 where
   pub kept : IsFilled (slice_index exponents) xs n
+  pub lasts : IsFilled (last_in exponents) zs n
   pub bases : IsFilled (end_of exponents) ys n
   pub words : end ≡ end_of exponents n
 
 -- one more table, of so many words past its headers
 pub AreLaid-more :
-    (exponents xs ys : List ℕ) (end n words : ℕ) → AreLaid exponents xs ys end n
-    → n < length exponents → length exponents ≤ 16 → words ≡ 2 * 2 ^ slice_index exponents n
-    → AreLaid exponents (set xs n (slice_index exponents n)) (set ys n end) (end + (3 + words))
-    (n + 1)
-AreLaid-more exponents xs ys end n words h within few e = record {
+    (exponents xs zs ys : List ℕ) (end n last words : ℕ) → AreLaid exponents xs zs ys end n
+    → n < length exponents → length exponents ≤ 16 → last ≡ last_in exponents n
+    → words ≡ 2 * 2 ^ slice_index exponents n
+    → AreLaid exponents (set xs n (slice_index exponents n)) (set zs n last) (set ys n end)
+    (end + (3 + words)) (n + 1)
+AreLaid-more exponents xs zs ys end n last words h within few top e = record {
   kept = IsFilled-more _ xs n _ h.kept (omega arith) refl;
+  lasts = IsFilled-more _ zs n _ h.lasts (omega arith) top;
   bases = IsFilled-more _ ys n _ h.bases (omega arith) h.words;
   words = omega (arith, h.words, sum_by_more table_words exponents n 0 within);
 }
@@ -83,6 +90,18 @@ kept_exponents-filled p xs h = fill_by_all (slice_index p.exponents) xs 16 0 h.s
       | inr above ↦ h.empty k above inside ∙ sym (get_or_past p.exponents k 0 above)
     ])
 
+kept_lasts-filled :
+    (p : Plan) (xs : List ℕ) → IsFilled (last_in p.exponents) xs (generations_of p)
+    → xs ≡ kept_lasts p
+unfolding kept_lasts
+kept_lasts-filled p xs h = fill_by_all (λ k. cond (ltb k (generations_of p)) (size_of p k - 1) 0)
+    xs 16 0 h.size (λ k inside. elim (cases_lt k (generations_of p)) [
+      | inl below ↦ h.filled k below ∙ ap (λ b. cond b (size_of p k - 1) 0)
+          (sym (lt-ltb k (generations_of p) below))
+      | inr above ↦ h.empty k above inside ∙ ap (λ b. cond b (size_of p k - 1) 0)
+          (sym (le-ltb k (generations_of p) above))
+    ])
+
 kept_bases-filled :
     (p : Plan) (xs : List ℕ) → IsFilled (base_of p) xs (generations_of p) → xs ≡ kept_bases p
 unfolding kept_bases
@@ -105,9 +124,10 @@ take-filled exponents xs h few =
     get_or-take (length exponents) xs i 0 within ∙ h.filled i within)
 
 -- the fields of a shape whose tables are all laid out
-abbrev laid : Plan → List ℕ → List ℕ → ℕ → Inside
-laid p xs ys end = record {
+abbrev laid : Plan → List ℕ → List ℕ → List ℕ → ℕ → Inside
+laid p xs zs ys end = record {
   exponents = xs;
+  lasts = zs;
   bases = ys;
   words = end;
   reprobes = p.reprobes;
@@ -118,21 +138,23 @@ laid p xs ys end = record {
 }
 
 pub plan_of-laid :
-    (p : Plan) (xs ys : List ℕ) (end n : ℕ) → IsPlan p → n ≡ generations_of p
-    → AreLaid p.exponents xs ys end n → plan_of (laid p xs ys end) ≡ p
-plan_of-laid p xs ys end n plan all h =
+    (p : Plan) (xs zs ys : List ℕ) (end n : ℕ) → IsPlan p → n ≡ generations_of p
+    → AreLaid p.exponents xs zs ys end n → plan_of (laid p xs zs ys end) ≡ p
+plan_of-laid p xs zs ys end n plan all h =
     ap (λ (es : List ℕ). record p { exponents = es })
     (take-filled p.exponents xs (subst (IsFilled (slice_index p.exponents) xs) all h.kept)
     plan.few_tables)
 
 pub IsInside-laid :
-    (p : Plan) (xs ys : List ℕ) (end n : ℕ) → IsPlan p → n ≡ generations_of p
-    → AreLaid p.exponents xs ys end n → IsInside (laid p xs ys end)
-IsInside-laid p xs ys end n plan all h =
-    let same : plan_of (laid p xs ys end) ≡ p = plan_of-laid p xs ys end n plan all h in
+    (p : Plan) (xs zs ys : List ℕ) (end n : ℕ) → IsPlan p → n ≡ generations_of p
+    → AreLaid p.exponents xs zs ys end n → IsInside (laid p xs zs ys end)
+IsInside-laid p xs zs ys end n plan all h =
+    let same : plan_of (laid p xs zs ys end) ≡ p = plan_of-laid p xs zs ys end n plan all h in
     let exponents = kept_exponents-filled p xs
     (subst (IsFilled (slice_index p.exponents) xs) all h.kept) in
+    let lasts = kept_lasts-filled p zs
+    (subst (IsFilled (last_in p.exponents) zs) all h.lasts) in
     let bases = kept_bases-filled p ys (subst (IsFilled (base_of p) ys) all h.bases) in
     let words : end ≡ word_count p = h.words ∙ ap (base_of p) all in
-    let fields : laid p xs ys end ≡ inside_of p = cc in
+    let fields : laid p xs zs ys end ≡ inside_of p = cc in
     record { plan = subst IsPlan (sym same) plan; fields = fields ∙ ap inside_of (sym same) }

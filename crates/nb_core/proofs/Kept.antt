@@ -1,12 +1,12 @@
 -- What the fields of a shape say of its plan.
-use Rattle.std.proofs.Common.{◌≡◌, ◌∙◌, ℕ, ◌^◌, ◌<◌, ◌≤◌, ap, sym, subst, cond, ltb, slice_index, arith}
+use Rattle.std.proofs.Common.{◌≡◌, ◌∙◌, ℕ, ◌-◌, ◌^◌, ◌<◌, ◌≤◌, ap, sym, subst, cond, ltb, slice_index, arith}
 use Rattle.std.proofs.lemmas.Bool.{lt-ltb}
 use Rattle.std.proofs.lemmas.List.{get_or-take, length-take}
 use Rattle.std.proofs.lemmas.List.Elements.{All-get_or}
 use Rattle.std.proofs.lemmas.List.FromFn.{get_or-map-range_with_len}
 use Rattle.nb_core.specs.declared.shapes.Shape.TheInside.{Inside}
-use Rattle.nb_core.specs.Plans.{Plan, IsChunk, IsPlan, base_of, generations_of}
-use Rattle.nb_core.specs.Places.{IsInside, inside_of, kept_bases, kept_exponents, plan_of}
+use Rattle.nb_core.specs.Plans.{Plan, IsChunk, IsPlan, base_of, generations_of, size_of}
+use Rattle.nb_core.specs.Places.{IsInside, inside_of, kept_bases, kept_exponents, kept_lasts, plan_of}
 
 pub plan-kept : (a : Inside) (p : Plan) → IsInside a → plan_of a ≡ p → IsPlan p
 plan-kept a p h e = subst IsPlan e h.plan
@@ -16,7 +16,7 @@ pub inside-tuned :
     (a : Inside) (reprobes chunk : ℕ) → IsInside a → (1 ≤ reprobes) × (reprobes < 2 ^ 32)
     → IsChunk chunk
     → IsInside (record a { reprobes = reprobes; chunk = chunk })
-unfolding kept_exponents kept_bases
+unfolding kept_exponents kept_lasts kept_bases
 inside-tuned a reprobes chunk h some is = record {
   plan = record {
     some_tables = h.plan.some_tables;
@@ -48,6 +48,23 @@ exponents-few a p g h e within =
     let all = (plan-kept a p h e).sizes in
     subst (λ n. n ≤ 19) (exponents-at a p g e within)
     (All-get_or (λ n. (2 ≤ n) × (n ≤ 19)) p.exponents g 0 within all).1
+
+kept_lasts-at :
+    (p : Plan) (g : ℕ) → IsPlan p → g < generations_of p
+    → slice_index (kept_lasts p) g ≡ size_of p g - 1
+unfolding kept_lasts
+kept_lasts-at p g plan within =
+    get_or-map-range_with_len (λ k. cond (ltb k (generations_of p)) (size_of p k - 1) 0) 0 16 g g 0
+    (omega (arith, plan.few_tables)) (omega arith)
+    ∙ ap (λ b. cond b (size_of p g - 1) 0) (lt-ltb g (generations_of p) within)
+
+-- a table's last slot stands where the shape keeps it
+pub lasts-at :
+    (a : Inside) (p : Plan) (g : ℕ) → IsInside a → plan_of a ≡ p → g < generations_of p
+    → slice_index a.lasts g ≡ size_of p g - 1
+lasts-at a p g h e within =
+    ap (λ (b : Inside). slice_index b.lasts g) (h.fields ∙ ap inside_of e)
+    ∙ kept_lasts-at p g (plan-kept a p h e) within
 
 kept_bases-at :
     (p : Plan) (g : ℕ) → IsPlan p → g < generations_of p

@@ -8,6 +8,7 @@ mod Following
 mod Frames
 mod Keeping
 mod Kept
+mod Keyed
 mod Keys
 mod Lasting
 mod Later

@@ -1,8 +1,8 @@
--- How a shape keeps its plan: the exponents, and where the table of each begins.
-use Rattle.std.specs.Prelude.{◌≡◌, ℕ, List, if◌then◌else◌, map, nat_lt, slice_index, take}
+-- How a shape keeps its plan: the exponents, the last slot of the table of each, and where it begins.
+use Rattle.std.specs.Prelude.{◌≡◌, ◌-◌, ℕ, List, if◌then◌else◌, map, nat_lt, slice_index, take}
 use Rattle.std.specs.List.{range_with_len}
 use Rattle.nb_core.specs.declared.shapes.Shape.TheInside.{Inside}
-use Rattle.nb_core.specs.Plans.{Plan, IsPlan, base_of, generations_of, word_count}
+use Rattle.nb_core.specs.Plans.{Plan, IsPlan, base_of, generations_of, size_of, word_count}
 
 -- the plan that the fields keep
 abbrev pub plan_of : Inside → Plan
@@ -18,6 +18,11 @@ plan_of a = record {
 unfoldable pub kept_exponents : Plan → List ℕ
 kept_exponents p = map (slice_index p.exponents) (range_with_len 0 16)
 
+-- the last slots of the tables, and 0 at each place past the last table
+unfoldable pub kept_lasts : Plan → List ℕ
+kept_lasts p =
+    map (λ g. if nat_lt g (generations_of p) then size_of p g - 1 else 0) (range_with_len 0 16)
+
 -- the places where the tables begin, and 0 at each place past the last table
 unfoldable pub kept_bases : Plan → List ℕ
 kept_bases p =
@@ -27,6 +32,7 @@ kept_bases p =
 abbrev pub inside_of : Plan → Inside
 inside_of p = record {
   exponents = kept_exponents p;
+  lasts = kept_lasts p;
   bases = kept_bases p;
   words = word_count p;
   generations = generations_of p;

@@ -4,6 +4,7 @@ use Rattle.std.specs.Prelude.{◌≡◌, ℕ, ◌+◌, ◌*◌, ◌/◌, ◌-◌
 use Rattle.std.specs.Int.{is_power_of_two}
 use Rattle.std.specs.List.{list_all}
 use Rattle.std.specs.List.Sorted.{IsNonDecreasing}
+use Rattle.nb_core.specs.declared.shapes.TheConstants.{MOST_KEYS}
 use Rattle.nb_core.specs.declared.shapes.HeaderWord.{HeaderWord}
 use Rattle.nb_core.specs.declared.shapes.HeaderWord.TheVariants as header
 use Rattle.nb_core.specs.declared.shapes.ShapeFault.{ShapeFault}
@@ -178,3 +179,40 @@ abbrev pub checked_chunk : Plan → ℕ → Result Plan ShapeFault
 checked_chunk p slots =
     if is_within 4 1024 slots && is_power_of_two slots then Ok (record p { chunk = slots })
     else Err fault.Chunk
+
+-- how many slots so many keys are given: half as many again
+abbrev pub slots_for : ℕ → ℕ
+slots_for most = most + most / 2
+
+-- the first exponent from e on whose table has so many slots, of so many that are tried
+unfoldable pub first_exponent : (tries e slots : ℕ) → ℕ
+first_exponent zero e slots = e
+first_exponent (suc tries) e slots =
+    if nat_le slots (2 ^ e) then e else first_exponent tries (suc e) slots
+
+-- the exponent of the smallest table that has room for so many keys, of 32 slots at least
+abbrev pub exponent_for : ℕ → ℕ
+exponent_for most = first_exponent 14 5 (slots_for most)
+
+-- the plan for so many keys: the last table has room for them, the first is an eighth of it, there
+-- is a stripe for each seat, paths are short and chunks large
+abbrev pub plan_for_keys : ℕ → ℕ → Plan
+plan_for_keys most seats =
+    record {
+      exponents = (exponent_for most - 3) ∷ exponent_for most ∷ [];
+      seats = seats;
+      stripes = seats;
+      reprobes = 18;
+      chunk = 64;
+    }
+
+-- the plan for so many keys and seats, or the first thing that is wrong with these
+abbrev pub checked_for_keys : ℕ → ℕ → Result Plan ShapeFault
+checked_for_keys most seats =
+    if not (nat_le most MOST_KEYS) then Err fault.Keys
+    else if not (is_within 1 8 seats) then Err fault.Seats
+    else Ok (plan_for_keys most seats)
+
+-- so many keys fill no more than two thirds of the last table
+abbrev pub HasRoomFor : Plan → ℕ → Type 0
+HasRoomFor p most = slots_for most ≤ size_of p (generations_of p - 1)

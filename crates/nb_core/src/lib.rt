@@ -7,6 +7,7 @@
 #![tactic(auto)]
 
 mod calls;
+mod conversions;
 mod events;
 pub mod examples;
 pub mod laws;
@@ -24,7 +25,9 @@ pub use mixing::{mix, unmix};
 pub use numbers::{KEY_MAX, Key, Num, RangeFault, VALUE_MAX};
 pub use plain::{PlainFault, PlainMap};
 pub use seats::NotAll;
-pub use shapes::{HeaderWord, MAX_GENERATIONS, MAX_SEATS, MAX_STRIPES, Shape, ShapeFault};
+pub use shapes::{
+    HeaderWord, MAX_GENERATIONS, MAX_SEATS, MAX_STRIPES, MOST_KEYS, Shape, ShapeFault,
+};
 pub use states::{
     KeyState, ValueState, decode_key, decode_lawful_value, decode_value, encode_key, encode_value,
     number_in_word,

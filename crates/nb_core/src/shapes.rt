@@ -1,11 +1,13 @@
 //! The shape of a chain of tables.
-ghost use Rattle.std.specs.Prelude.{◌≡◌, ◌/◌, ◌^◌, ◌<◌, ◌≤◌, All, length};
+ghost use Rattle.std.specs.Prelude.{◌≡◌, ◌/◌, ◌-◌, ◌^◌, ◌<◌, ◌≤◌, All, IfOk, length};
 ghost use Rattle.std.specs.List.Sorted.{IsNonDecreasing};
 ghost use Rattle.nb_core.specs.Plans.{
+  HasRoomFor,
   IsChunk,
   IsPlan,
   base_of,
   checked_chunk,
+  checked_for_keys,
   checked_plan,
   checked_reprobes,
   checked_shape,
@@ -42,6 +44,8 @@ pub enum ShapeFault {
     Reprobes,
     #[error("chunk out of range")]
     Chunk,
+    #[error("number of keys out of range")]
+    Keys,
 }
 
 /// The most tables of a chain.
@@ -53,11 +57,24 @@ pub const MAX_SEATS: usize = 8;
 /// The most stripes of a counter.
 pub const MAX_STRIPES: usize = 8;
 
+/// The most keys that [`Shape::for_keys`] makes room for: the largest table has half as many slots
+/// again.
+pub const MOST_KEYS: usize = (1 << 20) / 3;
+
 /// The most slots that are handed out for copying at once, where a shape asks for nothing else.
 const CHUNK: u16 = 8;
 
 /// The most slots that a shape may ask for.
 const MAX_CHUNK: u32 = 1024;
+
+/// The fewest slots of the last of two tables, of which the first has an eighth.
+const SMALLEST_LAST: usize = 32;
+
+/// The reprobe limit of a shape for a number of keys.
+const SHORT_PATH: u32 = 18;
+
+/// The chunk of a shape for a number of keys.
+const LARGE_CHUNK: u32 = 64;
 
 /// The words that a table begins with, by what they tell.
 #[derive(Clone, Copy, Debug, PartialEq, Eq, Hash)]
@@ -72,10 +89,13 @@ pub enum HeaderWord {
 
 /// The shape of a chain of tables: how many slots each table has, how many seats may call, and over
 /// how many stripes a size is counted. A contract sees its plan. It takes no memory, and it answers
-/// in a few instructions: it keeps where each table begins.
+/// in a few instructions: it keeps where each table begins, and
+/// its last slot.
 #[derive(Clone, Copy, Debug, PartialEq, Eq, Hash)]
 pub struct Shape {
     exponents: [u8; MAX_GENERATIONS],
+    /// The last slot of each table, whose digits mask a key's home.
+    lasts: [u32; MAX_GENERATIONS],
     bases: [u32; MAX_GENERATIONS],
     words: u32,
     reprobes: u32,
@@ -141,15 +161,18 @@ impl Shape {
             return Err(ShapeFault::Stripes);
         }
         let mut kept = [0; MAX_GENERATIONS];
+        let mut lasts = [0; MAX_GENERATIONS];
         let mut bases = [0; MAX_GENERATIONS];
         let mut words = 1;
         for (g, exponent) in exponents.iter().enumerate() {
             kept[g] = *exponent as u8;
+            lasts[g] = (1 << *exponent) - 1;
             bases[g] = words;
             words += 3 + (2 << *exponent);
         }
         Ok(Shape {
             exponents: kept,
+            lasts,
             bases,
             words,
             reprobes: u32::MAX,
@@ -177,6 +200,25 @@ impl Shape {
         Self::seated(exponents, seats, stripes)
     }
 
+    /// The shape for so many different keys, up to [`MOST_KEYS`], with a stripe for each seat. Its
+    /// last table has half as many slots again as there are keys, and more by the next power of
+    /// two: a map of this shape refuses no key as full while no more than that many were ever put.
+    /// The table before it has an eighth of its slots, so a map that fills grows once. Paths are
+    /// kept short and chunks large, by the numbers that measured best.
+    pub fn for_keys(most: usize, seats: usize) -> Result<Shape, ShapeFault>
+        ensures shape { result ≡ checked_for_keys most seats }
+        ensures room { IfOk result (λ p. HasRoomFor p most) }
+    {
+        if most > MOST_KEYS {
+            return Err(ShapeFault::Keys);
+        }
+        let slots = (most + most / 2).max(SMALLEST_LAST);
+        let last = (slots - 1).ilog2() + 1;
+        Self::with_plan(&[last - 3, last], seats, seats)?
+            .with_reprobe_limit(SHORT_PATH)?
+            .with_chunk(LARGE_CHUNK)
+    }
+
     /// The same with a reprobe limit: a table that isn't the last takes no new key past so many
     /// slots of the key's path, nor past `2 + size / 4` of them; it grows instead. The limit is 1
     /// at least. A small one keeps paths short, and has tables grow while they are emptier. The
@@ -191,8 +233,9 @@ impl Shape {
     }
 
     /// The same with larger or smaller chunks: at most so many slots are handed out for copying at
-    /// once, a power of two from 4 to 1024. Who writes while a table grows copies a chunk first, so
-    /// large chunks make growth cheaper, and single calls dearer.
+    /// once, a power of two from 4 to 1024. Who brings a new key to a table that grows helps to
+    /// copy all of it, a chunk at a time: large chunks take fewer steps, and small ones share the
+    /// work among more threads.
     pub fn with_chunk(self, slots: u32) -> Result<Shape, ShapeFault>
         ensures { result ≡ checked_chunk self slots }
     {
@@ -234,6 +277,15 @@ impl Shape {
         ensures few { result ≤ 2 ^ 19 }
     {
         1 << self.exponents[g as usize]
+    }
+
+    /// The last slot of table `g`.
+    fn last_of(&self, g: u32) -> usize
+        requires { g < generations_of self.now }
+        ensures last { result ≡ size_of self.now g - 1 }
+        ensures few { size_of self.now g ≤ 2 ^ 19 }
+    {
+        self.lasts[g as usize] as usize
     }
 
     /// How many slots of table `g` are handed out for copying at once: a chunk, or all of a smaller
@@ -278,8 +330,7 @@ impl Shape {
         ensures slot { result ≡ path_slot self.now g key distance }
         ensures in_table { result < size_of self.now g }
     {
-        let last = self.size_of(g) - 1;
-        (key.get() as usize).wrapping_add(distance) & last
+        (key.get() as usize).wrapping_add(distance) & self.last_of(g)
     }
 
     /// The place of a header word of table `g`.

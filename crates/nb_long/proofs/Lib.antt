@@ -1,2 +1,3 @@
 mod Compared
+mod Held
 mod Written

@@ -5,9 +5,11 @@
 //! with the keys.
 #![tactic(auto)]
 
+mod handle;
 mod map;
 mod store;
 
+pub use handle::Handle;
 pub use map::{LongFault, LongMap, Stored, Unshown};
 pub use store::{Found, Placed, Receipt, Store, StoreFault};
 

@@ -258,6 +258,13 @@ impl<V> LongMap<V> {
         &self.store
     }
 
+    /// The shape that the map was made with.
+    pub fn shape(&self) -> &Shape
+        ensures { result.now ≡ self.now.map.chain.shape }
+    {
+        self.map.shape()
+    }
+
     /// What the map has at a key. It is a `get` of the map of numbers, and a look at the store; it
     /// waits for nobody.
     pub fn get(&self, seat: &mut Seat, key: Key) -> Result<Option<Found<'_, V>>, Unshown>
@@ -278,6 +285,21 @@ impl<V> LongMap<V> {
             Some(found) => Ok(Some(found)),
             None => Err(Unshown),
         }
+    }
+
+    /// The number of the value that the map has at a key: a `get` without the look at the store.
+    pub(crate) fn number_at(&self, seat: &mut Seat, key: Key) -> Option<Num>
+        requires own { IsMine self.now.map seat.old }
+        ensures replied { HasReplied (call.Get key) seat.old seat.new
+            (reply_at (call.Get key) result) }
+        ensures worked { HasWorked self.now.map (call.Get key) seat.old seat.new
+            (get_steps self.now.map.chain.shape) }
+        ensures three_steps { IsSeenAtHome self.now.map.chain.shape seat.old.chain seat.new.chain
+            key
+            → seat.new.chain.steps ≤ seat.old.chain.steps + 3 }
+        ensures own { IsMine self.now.map seat.new }
+    {
+        self.map.get(seat, key)
     }
 
     /// Takes out a key, and answers the number that was there. `ConcurrentMap.remove`. The value

@@ -3,6 +3,7 @@
 #![tactic(auto)]
 
 pub mod faults;
+mod help;
 pub mod options;
 pub mod reader;
 pub mod script;

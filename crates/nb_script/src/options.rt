@@ -32,6 +32,7 @@ ghost use Rattle.nb_script.specs.Options.{
 };
 ghost use Rattle.nb_script.specs.Script.{number_spelled};
 
+use crate::help;
 use clap::error::ErrorKind;
 use clap::{Arg, ArgAction, ArgMatches, Command, value_parser};
 use nb_core::{MAX_GENERATIONS, Shape};
@@ -83,42 +84,28 @@ fn option<'a>(alloc: Global, name: &'a str, value: &'a str, help: &'a str) -> Ar
 fn command<'a>(alloc: Global) -> Result<Command<'a>, AllocError>
     ensures { IfOk result (λ command. app_of command ≡ nbrun) }
 {
-    let bits = option(alloc, "bits", "B", "The first table has 2^B slots")
+    let bits = option(alloc, "bits", "B", help::BITS)
         .value_parser(value_parser!(u32).range(2..=12))
         .default_value("4");
-    let generations = option(alloc, "generations", "G", "Tables, each twice the last")
+    let generations = option(alloc, "generations", "G", help::GENERATIONS)
         .value_parser(value_parser!(u32).range(1..=8))
         .default_value("4");
-    let seats = option(alloc, "seats", "S", "Workers at once")
+    let seats = option(alloc, "seats", "S", help::SEATS)
         .value_parser(value_parser!(u32).range(1..=8))
         .default_value("1");
-    let stripes = option(alloc, "stripes", "P", "Words that a count is spread over")
+    let stripes = option(alloc, "stripes", "P", help::STRIPES)
         .value_parser(value_parser!(u32).range(1..=8))
         .default_value("1");
-    let reprobes = option(
-        alloc,
-        "reprobes",
-        "N",
-        "Slots of its path that a new key may be put in",
-    )
-    .value_parser(value_parser!(u32).range(1..=4294967295))
-    .default_value("4294967295");
-    let chunk = option(
-        alloc,
-        "chunk",
-        "C",
-        "Slots that are copied at once, a power of two",
-    )
-    .value_parser(value_parser!(u32).range(4..=1024))
-    .default_value("8");
-    let plan = option(
-        alloc,
-        "plan",
-        "E,E,..",
-        "A table of 2^E slots for each E, in place of --bits and --generations",
-    );
+    let reprobes = option(alloc, "reprobes", "N", help::REPROBES)
+        .value_parser(value_parser!(u32).range(1..=4294967295))
+        .default_value("4294967295");
+    let chunk = option(alloc, "chunk", "C", help::CHUNK)
+        .value_parser(value_parser!(u32).range(4..=1024))
+        .default_value("8");
+    let plan = option(alloc, "plan", "E,E,..", help::PLAN);
     Command::new(alloc, "nbrun")
-        .about("Runs a script of commands, read from standard input, on a map of whole numbers")
+        .after_help(help::SCRIPTS)
+        .about("Runs a script, read from standard input, on a map that its workers share")
         .arg(bits)?
         .arg(generations)?
         .arg(seats)?

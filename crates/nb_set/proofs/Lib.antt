@@ -1,5 +1,6 @@
 mod Added
 mod Dealt
+mod Held
 mod Items
 mod Logged
 mod Read

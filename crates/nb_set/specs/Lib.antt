@@ -5,3 +5,5 @@ pub mod Walks
 pub mod Ending
 pub mod Inside
 pub mod Laws
+pub mod Handles
+pub mod Held

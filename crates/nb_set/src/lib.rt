@@ -8,11 +8,15 @@
 #![tactic(auto)]
 
 mod ended;
+mod handle;
+mod handle_walk;
 pub mod laws;
 mod room;
 mod set;
 
 pub use ended::SetEnded;
+pub use handle::Handle;
+pub use handle_walk::HandleWalk;
 pub use nb_map::Full;
 pub use set::{LongSet, Seat, Walk};
 

@@ -275,7 +275,7 @@ impl LongSet {
 }
 
 /// The number that the map has at each key of a set.
-fn present() -> Num
+pub(crate) fn present() -> Num
     ensures { result ≡ 0 }
 {
     match Num::new(0) {

@@ -1,5 +1,6 @@
 //! Calls of the set.
 mod calls;
+mod handles;
 mod on_set;
 mod threads;
 mod walks;

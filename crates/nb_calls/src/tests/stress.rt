@@ -1,182 +1,127 @@
 //! Eight threads call a map at once on few keys, and what it has in the end is compared with what
 //! they were told.
-ghost use Rattle.std.specs.Prelude.{All, IfOk};
-ghost use Rattle.nb_map.specs.Maps.{AreMine, IsMine};
+ghost use Rattle.std.specs.Prelude.{◌≡◌};
+ghost use Rattle.nb_map.specs.Handles.{AreOfOneMap};
 
-use super::on_map::*;
-use nb_core::OutOfMemory;
-use nb_map::{Ended, Map, Seat};
+use super::rows::Answer::{Is, Nothing, Refused, Was};
+use super::rows::Call::{Add, Generation, Put, PutIfAbsent, Remove, RemoveIf, Replace, ReplaceIf};
+use super::rows::*;
+use nb_core::Shape;
+use nb_map::{Ended, Handle};
 use std::alloc::Global;
 use std::process::Abort;
-use std::sync::Wait;
+use std::sync::{Mutex, Wait};
 use std::test::Fail;
 use std::thread;
 use std::thread::Threads;
 
-/// What threads were told, modulo 2^64. To the keys 0 to 2 they only add, and these are the sums.
-/// Each of the keys 3 to 6 came so many times, less the times that it went.
-#[derive(Clone, Copy)]
-struct Told {
-    added: [u64; 3],
-    kept: [u64; 4],
+/// What threads were told of the keys 0 to 6, modulo 2^64. To the keys 0 to 2 they only add, and
+/// these are the sums. Each of the others came so many times, less the times that it went.
+type Told = [u64; 7];
+
+/// What two were told.
+fn both(a: &Told, b: &Told) -> Told {
+    let mut told = *a;
+    for k in 0..7 {
+        told[k] = a[k].wrapping_add(b[k]);
+    }
+    told
 }
 
-/// What a thread is told before it calls.
-const NOTHING: Told = Told {
-    added: [0; 3],
-    kept: [0; 4],
-};
+/// The calls at the keys 3 to 6.
+const CALLS: [Call; 8] = [
+    Put(1),
+    PutIfAbsent(2),
+    Add(1),
+    Remove,
+    RemoveIf(1),
+    RemoveIf(2),
+    ReplaceIf(2, 1),
+    Replace(2),
+];
 
-/// A seat, and what its thread was told.
-#[derive(Drop)]
-struct Caller {
-    seat: Seat,
-    told: Told,
-}
-
-/// Whether a key came, by a write that found this before it.
-fn came(before: Option<u64>) -> u64 {
-    u64::from(before.is_none())
-}
-
-/// Takes one away where a key went.
-fn went(is_gone: bool) -> u64 {
-    0u64.wrapping_sub(u64::from(is_gone))
-}
-
-/// Makes a call at the key, which is one of eight, and answers whether the key came by it, less
-/// whether it went.
-fn calls_one<R: Wait + Abort>(rt: &R, map: &Map, seat: &mut Seat, k: u64, choice: u64) -> u64
-    requires own { IsMine map.now seat.old }
-    ensures own { IsMine map.now seat.new }
-{
-    match choice % 8 {
-        0 => came(put(rt, map, seat, k, 1).expect(rt, "room")),
-        1 => came(put_if_absent(rt, map, seat, k, 2).expect(rt, "room")),
-        2 => came(add(rt, map, seat, k, 1).expect(rt, "room")),
-        3 => went(remove(rt, map, seat, k).is_some()),
-        4 => went(remove_if(rt, map, seat, k, 1)),
-        5 => went(remove_if(rt, map, seat, k, 2)),
-        6 => {
-            replace_if(rt, map, seat, k, 2, 1);
-            0
-        }
-        _ => {
-            replace(rt, map, seat, k, 2);
-            0
-        }
+/// Whether a key came by a call that answers so, less whether it went, modulo 2^64.
+fn came<R: Abort>(rt: &R, made: Call, answer: Answer) -> u64 {
+    match (made, answer) {
+        (_, Refused(fault)) => panic!(rt; "{fault}"),
+        (Put(_) | PutIfAbsent(_) | Add(_), Nothing) => 1,
+        (Remove, Was(_)) | (RemoveIf(_), Is(true)) => u64::MAX,
+        _ => 0,
     }
 }
 
 /// Makes many calls, as the thread's own row of numbers chooses them. Between them it puts three
 /// keys that no other thread puts, so that the map has to grow.
-fn calls_often<R: Wait + Abort>(rt: &R, map: &Map, caller: &mut Caller, thread: u64)
-    requires own { IsMine map.now caller.old.seat }
-    ensures own { IsMine map.now caller.new.seat }
+fn calls_often<R: Wait + Abort>(rt: &R, handle: &mut Handle, thread: u64) -> Told
+    ensures { handle.new.map ≡ handle.old.map }
 {
     let amount = thread % 8 + 1;
+    let mut told = [0u64; 7];
     let mut row = thread;
     for round in 0..3000 {
         row = row
             .wrapping_mul(6_364_136_223_846_793_005)
             .wrapping_add(1_442_695_040_888_963_407);
         let choice = row >> 33;
-        let a = (choice / 8 % 3) as usize;
-        let before = add(rt, map, &mut caller.seat, a as u64, amount);
-        assert!(rt; before.is_ok());
-        caller.told.added[a] = caller.told.added[a].wrapping_add(amount);
-        let i = (choice / 32 % 4) as usize;
-        let kept = calls_one(rt, map, &mut caller.seat, 3 + i as u64, choice);
-        caller.told.kept[i] = caller.told.kept[i].wrapping_add(kept);
+        let k = (choice / 8 % 3) as usize;
+        let before = makes(rt, handle, k as u64, Add(amount));
+        assert!(rt; matches!(before, Was(_) | Nothing), "key {k}");
+        told[k] = told[k].wrapping_add(amount);
+        let k = 3 + (choice / 32 % 4) as usize;
+        let made = CALLS[(choice % 8) as usize];
+        let kept = came(rt, made, makes(rt, handle, k as u64, made));
+        told[k] = told[k].wrapping_add(kept);
         if round % 1000 == 20 {
             let own = 6 + amount + 8 * (round / 1000);
-            puts(rt, map, &mut caller.seat, &[(own, amount)]);
+            puts(rt, handle, &[(own, amount)]);
         }
-    }
-}
-
-/// Each caller calls in a thread of its own.
-fn all_call<R: Threads + Sync + Wait + Abort>(rt: &R, map: &Map, callers: &mut [Caller])
-    requires own { All (λ c. IsMine map.now c.seat) callers.old }
-    ensures own { All (λ c. IsMine map.now c.seat) callers.new }
-{
-    thread::for_each_mut(
-        rt,
-        callers,
-        8,
-        &|thread: usize, caller: &mut Caller|
-            requires { IsMine map.now caller.now.seat }
-            ensures { IsMine map.entry.now caller.exit.now.seat }
-        { calls_often(rt, map, caller, thread as u64) },
-    );
-}
-
-/// A caller with each seat.
-fn callers_with(alloc: Global, map: &Map, seats: Vec<Seat>) -> Result<Vec<Caller>, OutOfMemory>
-    requires own { AreMine map.now seats.items }
-    ensures own { IfOk result (λ callers. All (λ c. IsMine map.now c.seat) callers.items) }
-{
-    let mut seats = seats;
-    let mut callers = Vec::new(alloc);
-    while let Some(seat) = seats.pop() {
-        callers.push(Caller {
-            seat,
-            told: NOTHING,
-        })?;
-    }
-    Ok(callers)
-}
-
-/// What two were told.
-fn both(a: &Told, b: &Told) -> Told {
-    let mut told = *a;
-    for i in 0..3 {
-        told.added[i] = a.added[i].wrapping_add(b.added[i]);
-    }
-    for i in 0..4 {
-        told.kept[i] = a.kept[i].wrapping_add(b.kept[i]);
     }
     told
 }
 
-/// The seats of the callers, and what these were told in all.
-fn seats_of_all(
-    alloc: Global,
-    map: &Map,
-    callers: Vec<Caller>,
-) -> Result<(Vec<Seat>, Told), OutOfMemory>
-    requires own { All (λ c. IsMine map.now c.seat) callers.items }
-    ensures own { IfOk result (λ parts. AreMine map.now parts.0.items) }
+/// Each handle calls in a thread of its own. Answers what they were told in all.
+fn all_call<R: Threads + Sync + Wait + Abort>(rt: &R, handles: &mut [Handle]) -> Told
+    requires { AreOfOneMap handles.old }
+    ensures { AreOfOneMap handles.new }
 {
-    let mut callers = callers;
-    let mut seats = Vec::new(alloc);
-    let mut told = NOTHING;
-    while let Some(caller) = callers.pop() {
-        let Caller { seat, told: of_one } = caller;
-        told = both(&told, &of_one);
-        seats.push(seat)?;
-    }
-    Ok((seats, told))
+    let all = Mutex::new([0u64; 7]);
+    thread::for_each_mut(
+        rt,
+        handles,
+        8,
+        &|thread: usize, handle: &mut Handle|
+            ensures { handle.exit.now.map ≡ handle.entry.now.map }
+        {
+            let told = calls_often(rt, handle, thread as u64);
+            let mut all = all.lock(rt);
+            *all = both(&all, &told);
+        },
+    );
+    all.into_inner()
 }
 
-/// Sees that the map has just what was told.
-fn has_just<R: Abort>(
-    rt: &R,
-    alloc: Global,
-    ended: &Ended,
-    told: &Told,
-) -> Result<(), OutOfMemory> {
-    // The three keys that all only add at, and three of each thread's own.
-    let mut keys: u64 = 3 + 3 * 8;
-    for i in 0..3 {
-        let sum = ended.get(key(rt, i as u64));
-        assert_eq!(rt; sum, Some(number(rt, told.added[i])), "key {i}");
+/// Sees that the keys 0 to 2 have the sums that were told.
+fn has_sums<R: Abort>(rt: &R, ended: &Ended, told: &Told) {
+    for k in 0..3 {
+        let sum = ended.get(key(rt, k as u64));
+        assert_eq!(rt; sum, Some(number(rt, told[k])), "key {k}");
     }
-    for i in 0..4 {
-        let has = u64::from(ended.get(key(rt, 3 + i as u64)).is_some());
-        assert_eq!(rt; told.kept[i], has, "key {i}");
+}
+
+/// Sees that of the keys 3 to 6 just those are there that came once more than they went. Answers
+/// how many are.
+fn has_kept<R: Abort>(rt: &R, ended: &Ended, told: &Told) -> u64 {
+    let mut keys = 0u64;
+    for k in 3..7 {
+        let has = u64::from(ended.contains_key(key(rt, k as u64)));
+        assert_eq!(rt; told[k], has, "key {k}");
         keys = keys.wrapping_add(has);
     }
+    keys
+}
+
+/// Sees that the map has so many keys.
+fn has_keys<R: Abort>(rt: &R, alloc: Global, ended: &Ended, keys: u64) -> Result<(), Fail> {
     let entries = ended.entries(alloc)?;
     assert_eq!(rt; ended.size(), keys);
     assert_eq!(rt; entries.len() as u64, keys);
@@ -186,17 +131,18 @@ fn has_just<R: Abort>(
     Ok(())
 }
 
+/// The keys that are there in any case: three that all only add at, and three of each thread's own.
+const ALWAYS: u64 = 3 + 3 * 8;
+
 /// Eight threads call while the map grows through all its tables.
-fn eight_call<R: Threads + Sync + Wait + Abort>(rt: &R, alloc: Global) -> Result<(), OutOfMemory> {
-    let (map, seats) = map_of(rt, alloc, 4, 8, 3)?;
-    let mut callers = callers_with(alloc, &map, seats)?;
-    all_call(rt, &map, callers.as_mut_slice());
-    let (mut seats, told) = seats_of_all(alloc, &map, callers)?;
-    let mut seat = taken(rt, &map, &mut seats);
-    assert_eq!(rt; generation(&map, &mut seat), 3);
-    given_back(&map, &mut seats, seat)?;
-    let ended = ended(rt, map, seats);
-    has_just(rt, alloc, &ended, &told)
+fn eight_call<R: Threads + Sync + Wait + Abort>(rt: &R, alloc: Global) -> Result<(), Fail> {
+    let mut handles = Handle::open(alloc, Shape::new(2, 4, 8, 3)?)?;
+    let told = all_call(rt, handles.as_mut_slice());
+    last_sees(rt, &mut handles, &[(0, Generation, Was(3))])?;
+    let ended = ended(rt, handles);
+    has_sums(rt, &ended, &told);
+    let kept = has_kept(rt, &ended, &told);
+    has_keys(rt, alloc, &ended, ALWAYS.wrapping_add(kept))
 }
 
 #[test]

@@ -1,10 +1,10 @@
 //! Two threads count visits of pages in one map.
 ghost use Rattle.nb_map.specs.Maps.{IsMine};
 
-use super::on_map::taken;
+use super::rows::{key, number};
+use super::seats::{ended, gives_back, taken};
 use nb_core::{Key, Num, Shape};
 use nb_map::{Map, Seat};
-use std::process::Abort;
 use std::sync::Wait;
 use std::test::Fail;
 use std::thread;
@@ -49,19 +49,15 @@ fn visits<R: Threads + Sync + Wait>(
 /// Up to four tables, the first of 16 slots, and a seat for each thread.
 #[test]
 fn two_visits(rt: HostRuntime) -> Result<(), Fail> {
-    let page = Key::new(7)?;
-    let once = Num::new(1)?;
+    let (page, once) = (key(&rt, 7), number(&rt, 1));
     let (map, mut seats) = Map::new(rt.alloc(), Shape::new(4, 4, 2, 1)?)?;
     let b = taken(&rt, &map, &mut seats);
     let a = taken(&rt, &map, &mut seats);
     let (mut a, b) = visits(&rt, &map, a, b, page, once);
     assert!(rt; map.get(&mut a, page).is_some());
-    let mut seats = Vec::new(rt.alloc());
-    seats.push(a)?;
-    seats.push(b)?;
-    let Ok(ended) = map.finish(seats) else {
-        panic!(rt; "both seats are here")
-    };
+    gives_back(&map, &mut seats, a)?;
+    gives_back(&map, &mut seats, b)?;
+    let ended = ended(&rt, map, seats);
     assert_eq!(rt; ended.size(), 1);
     assert_eq!(rt; ended.get(page).map(Num::get), Some(2));
     Ok(())

@@ -115,6 +115,36 @@ fn tuning_refusals(rt: HostRuntime) -> Result<(), Fail> {
     Ok(())
 }
 
+fn tuned(exponents: &[u32], seats: usize) -> Result<Shape, ShapeFault> {
+    Shape::with_plan(exponents, seats, seats)?
+        .with_reprobe_limit(18)?
+        .with_chunk(64)
+}
+
+#[test]
+fn shapes_for_keys(rt: HostRuntime) {
+    for (most, exponents) in [
+        (0, [2, 5]),
+        (1, [2, 5]),
+        (21, [2, 5]),
+        (22, [3, 6]),
+        (43, [3, 6]),
+        (1000, [8, 11]),
+        (65536, [14, 17]),
+        (174763, [15, 18]),
+        (174764, [16, 19]),
+        (MOST_KEYS, [16, 19]),
+    ] {
+        let shape = Shape::for_keys(most, 4);
+        assert_eq!(rt; shape, tuned(&exponents, 4), "for {most} keys");
+    }
+    assert_eq!(rt; MOST_KEYS, 349525);
+    assert_eq!(rt; Shape::for_keys(MOST_KEYS + 1, 0), Err(ShapeFault::Keys));
+    assert_eq!(rt; Shape::for_keys(usize::MAX, 1), Err(ShapeFault::Keys));
+    assert_eq!(rt; Shape::for_keys(100, 0), Err(ShapeFault::Seats));
+    assert_eq!(rt; Shape::for_keys(100, 9), Err(ShapeFault::Seats));
+}
+
 #[test]
 fn fault_texts(rt: HostRuntime) -> Result<(), Fail> {
     for (fault, text) in [
@@ -125,6 +155,7 @@ fn fault_texts(rt: HostRuntime) -> Result<(), Fail> {
         (ShapeFault::Plan, "a table smaller than the one before it"),
         (ShapeFault::Reprobes, "reprobe limit out of range"),
         (ShapeFault::Chunk, "chunk out of range"),
+        (ShapeFault::Keys, "number of keys out of range"),
     ] {
         assert_eq!(rt; fault.to_string(rt.alloc())?.as_str(), text);
     }

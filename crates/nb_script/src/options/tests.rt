@@ -80,13 +80,45 @@ fn refuses_what_is_no_option(rt: HostRuntime) {
     }
 }
 
+/// The help as far as the options go.
+const OPTIONS: &str = "\
+Runs a script, read from standard input, on a map that its workers share
+
+Usage: nbrun [OPTIONS]
+
+Options:
+      --bits <B>         The first table of the map has 2^B slots; 2 to 12 [default: 4]
+      --generations <G>  How many tables there may be, each twice as large as the one before; \
+1 to 8 [default: 4]
+      --seats <S>        How many workers run the script, at the same time; 1 to 8 [default: 1]
+      --stripes <P>      Over how many words the number of keys is counted; 1 to 8 [default: 1]
+      --reprobes <N>     How many slots a new key may try before the map grows; \
+from 1, and the default is no limit [default: 4294967295]
+      --chunk <C>        How many slots are copied at once where the map grows; \
+a power of two from 4 to 1024 [default: 8]
+      --plan <E,E,..>    A table of 2^E slots for each E, in place of --bits and --generations; \
+1 to 16 numbers from 2 to 19, none below the one before it
+  -h, --help             Print help
+
+Script:
+";
+
 #[test]
 fn helps(rt: HostRuntime) -> Result<(), Fail> {
     for word in ["--help", "-h"] {
         let Err(OptionFault::Help(text)) = read(rt.alloc(), &[word]) else {
             return Err("no help".into());
         };
-        assert!(rt; text.as_str().contains("--plan"));
+        let text = text.as_str();
+        assert!(rt; text.starts_with(OPTIONS), "{text}");
+        for part in [
+            "  putifabsent K V ",
+            "\nOutput:\n",
+            "\nExit status:\n  0 ",
+            "| nbrun\n",
+        ] {
+            assert!(rt; text.contains(part), "{part}");
+        }
     }
     Ok(())
 }

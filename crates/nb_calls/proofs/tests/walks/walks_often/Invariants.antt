@@ -1,5 +1,5 @@
-use Rattle.nb_map.specs.Maps.{IsMine}
+use Rattle.std.proofs.Common.{◌≡◌}
 use Rattle.nb_calls.proofs.tests.walks.walks_often.Given as goal
 
 abbrev pub invariant-loop-round : goal.invariant-loop-round
-invariant-loop-round g l = IsMine l.map l.seat
+invariant-loop-round g l = l.handle.map ≡ l.fn.handle.map

@@ -19,12 +19,9 @@ overflow_add-words-in-loop-g c =
 
 pub loop-g-preserved : goal.loop-g-preserved
 loop-g-preserved c =
-    AreLaid-more _ _ _ _ _ _ c.loop-g.invariant c.loop-g-test.true c.requires.few_tables
-    (omega (
-      arith,
-      table-fits c.args.exponents.now c.loop-g.g c.requires.sizes
-          c.loop-g-test.true,
-    ))
+    let fits = table-fits c.args.exponents.now c.loop-g.g c.requires.sizes c.loop-g-test.true in
+    AreLaid-more _ _ _ _ _ _ _ _ c.loop-g.invariant c.loop-g-test.true c.requires.few_tables
+    (omega (arith, fits)) (omega (arith, fits))
 
 abbrev seated_plan : goal.After-loop-g → Plan
 seated_plan c = plan c.args.exponents.now c.args.seats c.args.stripes
@@ -42,11 +39,11 @@ plan_is c = record {
 }
 
 pub invariant_of-result : goal.invariant_of-result
-invariant_of-result c = IsInside-laid (seated_plan c) _ _ _ _ (plan_is c) (omega arith)
+invariant_of-result c = IsInside-laid (seated_plan c) _ _ _ _ _ (plan_is c) (omega arith)
     c.loop-g.invariant
 
 pub returns : goal.returns
 returns c =
-    ap (λ (p : Plan). Ok p) (plan_of-laid (seated_plan c) _ _ _ _ (plan_is c) (omega arith)
+    ap (λ (p : Plan). Ok p) (plan_of-laid (seated_plan c) _ _ _ _ _ (plan_is c) (omega arith)
     c.loop-g.invariant) ∙ sym (seated-plan c.args.exponents.now c.args.seats c.args.stripes
     (plan_is c))

@@ -1,0 +1,26 @@
+//! `nb_cache` replays a trace of gets and puts on a cache of texts, and prints how many gets found
+//! something.
+//!
+//! It shows how threads share values of a type of the program's own: a `LongMap` ties a value to
+//! each number that a map has at a key. A `get` reads the value by reference, and no lock is taken
+//! for it. A value that was put stays until the map is dropped, also where its key was put again:
+//! the program tells how many there are.
+//!
+//! Each key is one worker's, so the trace's order holds for each key, and what is printed is the
+//! same whatever the schedule.
+#![tactic(auto)]
+
+pub(crate) mod options;
+pub(crate) mod printing;
+pub(crate) mod replaying;
+pub(crate) mod serve;
+pub(crate) mod trace;
+
+use std::process::ExitCode;
+
+fn main(rt: HostRuntime) -> ExitCode {
+    ExitCode::from(serve::serve(&rt, rt.stdin()))
+}
+
+#[cfg(test)]
+mod tests;

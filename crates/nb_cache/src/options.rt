@@ -1,0 +1,79 @@
+//! The words of the command line.
+
+use clap::{Arg, ArgAction, ArgMatches, Command, value_parser};
+use nb_core::Shape;
+use nb_lines::{Fault, fault_of_words, option};
+use std::alloc::{AllocError, Global};
+
+/// How a trace is to be replayed.
+#[derive(Clone, Copy, Debug, PartialEq, Eq)]
+pub(crate) struct Options {
+    /// How many threads replay it.
+    pub(crate) workers: usize,
+    /// Whether it is printed what each get found.
+    pub(crate) tells_replies: bool,
+}
+
+impl Options {
+    /// A map that begins small, and grows where a key isn't within a few slots of its home, up to
+    /// the most keys that any map has room for.
+    pub(crate) fn shape(&self) -> Result<Shape, Fault> {
+        Shape::with_plan(&[10, 13, 16, 19], self.workers, self.workers)
+            .and_then(|shape| shape.with_reprobe_limit(16))
+            .map_err(|_| Fault::Usage)
+    }
+}
+
+/// What `--help` tells behind the options.
+const MORE: &str = "\
+A line of the trace is 'get KEY' or 'put KEY TEXT', with one blank between the
+words; the text is the rest of the line. Keys go from 0 to 18446744073709551613,
+at most 524288 different ones. The lines of one key are replayed in their order,
+by one worker. A text that was put stays in memory to the end: 'stale' tells how
+many texts are there that no get finds any more.
+
+Exit status: 0 done; 1 a read or a write failed; 2 a line is neither; 3 bad
+usage; 4 out of memory; 5 more different keys than there is room for; 6 a text
+that is stored isn't shown, which no test has seen.
+
+Example: printf 'put 7 tea\\nget 7\\nget 8\\n' | nb_cache --replies
+8 -
+7 tea
+gets 2
+hits 1
+ratio 50.0%
+puts 1
+keys 1
+stale 0";
+
+/// The command line.
+fn command<'a>(alloc: Global) -> Result<Command<'a>, AllocError> {
+    let workers = option(alloc, "workers", "N", "Threads that replay it, 1 to 8")
+        .value_parser(value_parser!(u32).range(1..=8))
+        .default_value("4");
+    let replies = Arg::new(alloc, "replies")
+        .long("replies")
+        .action(ArgAction::SetTrue)
+        .help("Also print what each get found, worker by worker");
+    Command::new(alloc, "nb_cache")
+        .about("Replays a trace of gets and puts on a cache of texts")
+        .after_help(MORE)
+        .arg(workers)?
+        .arg(replies)
+}
+
+/// The options of clap's matches.
+fn options_of(matches: &ArgMatches<'_>) -> Option<Options> {
+    Some(Options {
+        workers: matches.get_one::<u32>("workers")? as usize,
+        tells_replies: matches.get_flag("replies"),
+    })
+}
+
+/// The options that the words give, of which the first is the program's name.
+pub(crate) fn read_options(alloc: Global, words: &[String]) -> Result<Options, Fault> {
+    match command(alloc)?.try_get_matches_from(words) {
+        Ok(matches) => options_of(&matches).ok_or(Fault::Usage),
+        Err(error) => Err(fault_of_words(alloc, &error)),
+    }
+}

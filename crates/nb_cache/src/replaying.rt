@@ -1,0 +1,297 @@
+//! Replaying: workers that share a cache, each with keys of its own.
+ghost use Rattle.std.specs.Prelude.{
+  ◌≡◌,
+  ◌+◌,
+  ◌%◌,
+  ◌^◌,
+  ℕ,
+  All,
+  IfOk,
+  OnOk,
+  Option,
+  if◌then◌else◌,
+  is_some,
+};
+ghost use Rattle.nb_core.specs.Log.{reply_at};
+ghost use Rattle.nb_core.specs.declared.calls.Call.TheVariants as map_call;
+ghost use Rattle.nb_map.specs.Logs.{HasReplied};
+ghost use Rattle.nb_map.specs.Maps.{AreMine, IsMine};
+
+use crate::options::Options;
+use crate::trace::{Action, read_request};
+use itoa::Buffer;
+use nb_core::{Key, MAX_SEATS, OutOfMemory};
+use nb_lines::{Fault, Lines, key_of, number_of};
+use nb_long::{LongFault, LongMap};
+use nb_map::Seat;
+use std::alloc::Global;
+use std::sync::Wait;
+use std::thread;
+use std::thread::Threads;
+
+/// What a put stores.
+#[derive(Debug, Drop)]
+pub(crate) struct Page {
+    text: Vec<u8>,
+}
+
+/// What was counted in a replay.
+#[derive(Clone, Copy, Debug, PartialEq, Eq)]
+pub(crate) struct Counts {
+    pub(crate) gets: u64,
+    /// The gets that found something.
+    pub(crate) hits: u64,
+    pub(crate) puts: u64,
+    /// The puts that were their keys' first.
+    pub(crate) keys: u64,
+}
+
+impl Counts {
+    /// Nothing is counted.
+    const NOTHING: Counts = Counts {
+        gets: 0,
+        hits: 0,
+        puts: 0,
+        keys: 0,
+    };
+
+    /// What two workers counted.
+    fn with(self, other: Counts) -> Counts {
+        Counts {
+            gets: self.gets.wrapping_add(other.gets),
+            hits: self.hits.wrapping_add(other.hits),
+            puts: self.puts.wrapping_add(other.puts),
+            keys: self.keys.wrapping_add(other.keys),
+        }
+    }
+}
+
+/// What came of a replay.
+#[derive(Debug, Drop)]
+pub(crate) struct Replayed {
+    pub(crate) counts: Counts,
+    /// What the gets found, a line for each, where that is asked for.
+    pub(crate) replies: Vec<u8>,
+}
+
+/// A thread's own: its seat of the cache, and what came of its part.
+#[derive(Drop)]
+struct Worker {
+    seat: Seat,
+    replayed: Replayed,
+    /// Why it stopped early.
+    fault: Option<Fault>,
+}
+
+/// Replays a trace on a new cache.
+pub(crate) fn replay<R: Threads + Sync + Wait>(
+    rt: &R,
+    alloc: Global,
+    options: &Options,
+    trace: &[u8],
+) -> Result<Replayed, Fault> {
+    let (cache, seats) = LongMap::<Page>::new(alloc, options.shape()?)?;
+    let mut workers = hired(alloc, &cache, seats)?;
+    all_work(rt, alloc, &cache, options, trace, workers.as_mut_slice());
+    gathered(alloc, workers)
+}
+
+/// A worker for each of the seats.
+fn hired(alloc: Global, cache: &LongMap<Page>, seats: Vec<Seat>) -> Result<Vec<Worker>, OutOfMemory>
+    requires own { AreMine cache.now.map seats.items }
+    ensures own { IfOk result (λ workers. All (λ w. IsMine cache.now.map w.seat) workers.items) }
+{
+    let mut seats = seats;
+    let mut workers = Vec::new(alloc);
+    while let Some(seat) = seats.pop() {
+        let replayed = Replayed {
+            counts: Counts::NOTHING,
+            replies: Vec::new(alloc),
+        };
+        workers.push(Worker {
+            seat,
+            replayed,
+            fault: None,
+        })?;
+    }
+    Ok(workers)
+}
+
+/// All workers replay their parts at the same time, each in a thread of its own.
+fn all_work<R: Threads + Sync + Wait>(
+    rt: &R,
+    alloc: Global,
+    cache: &LongMap<Page>,
+    options: &Options,
+    trace: &[u8],
+    workers: &mut [Worker],
+)
+    requires own { All (λ w. IsMine cache.now.map w.seat) workers.old }
+{
+    thread::for_each_mut(
+        rt,
+        workers,
+        MAX_SEATS,
+        &|number: usize, worker: &mut Worker|
+            requires { IsMine cache.now.map worker.now.seat }
+        { work(rt, alloc, cache, options, trace, worker, number) },
+    );
+}
+
+/// Replays the part of the worker with this number, and keeps why it stopped early.
+fn work<R: Wait>(
+    rt: &R,
+    alloc: Global,
+    cache: &LongMap<Page>,
+    options: &Options,
+    trace: &[u8],
+    worker: &mut Worker,
+    number: usize,
+)
+    requires own { IsMine cache.now.map worker.old.seat }
+{
+    if let Err(fault) = replay_part(rt, alloc, cache, options, trace, worker, number) {
+        worker.fault = Some(fault);
+    }
+}
+
+/// Makes the calls of the lines whose keys are this worker's: those whose numbers leave its own
+/// when they are divided by the number of workers. Each worker reads all lines, so each stops at
+/// the first broken one.
+fn replay_part<R: Wait>(
+    rt: &R,
+    alloc: Global,
+    cache: &LongMap<Page>,
+    options: &Options,
+    trace: &[u8],
+    worker: &mut Worker,
+    number: usize,
+) -> Result<(), Fault>
+    requires own { IsMine cache.now.map worker.old.seat }
+    ensures own { IsMine cache.now.map worker.new.seat }
+{
+    let mut lines = 1u64;
+    for line in Lines::new(trace) {
+        let request = read_request(line).map_err(|cause| Fault::Line(lines, cause))?;
+        let key = key_of(request.number).map_err(|fault| Fault::Line(lines, fault.into()))?;
+        if request.number % options.workers.max(1) as u64 == number as u64 {
+            call(rt, alloc, cache, options, worker, key, request.action)?;
+        }
+        lines = lines.wrapping_add(1);
+    }
+    Ok(())
+}
+
+/// Does what is asked for at a key.
+fn call<R: Wait>(
+    rt: &R,
+    alloc: Global,
+    cache: &LongMap<Page>,
+    options: &Options,
+    worker: &mut Worker,
+    key: Key,
+    action: Action<'_>,
+) -> Result<(), Fault>
+    requires own { IsMine cache.now.map worker.old.seat }
+    ensures own { IsMine cache.now.map worker.new.seat }
+{
+    match action {
+        Action::Get => get(cache, worker, key, options.tells_replies),
+        Action::Put(text) => put(rt, alloc, cache, worker, key, text),
+    }
+}
+
+/// Gets a key's text, and says what it is where that is asked for. It counts as a hit just where
+/// the map replied that it has something at the key.
+fn get(
+    cache: &LongMap<Page>,
+    worker: &mut Worker,
+    key: Key,
+    tells_replies: bool,
+) -> Result<(), Fault>
+    requires own { IsMine cache.now.map worker.old.seat }
+    ensures hit { OnOk result ((number : Option ℕ)
+        × HasReplied (map_call.Get key) worker.old.seat worker.new.seat (reply_at (map_call.Get key) number)
+        × (worker.new.replayed.counts.hits ≡ (if is_some number
+        then (worker.old.replayed.counts.hits + 1) % 2 ^ 64
+        else worker.old.replayed.counts.hits))) }
+    ensures own { IsMine cache.now.map worker.new.seat }
+{
+    let Worker { seat, replayed, .. } = worker;
+    let counts = &mut replayed.counts;
+    counts.gets = counts.gets.wrapping_add(1);
+    let found = cache.get(seat, key).map_err(|_| Fault::Unshown)?;
+    if found.is_some() {
+        counts.hits = counts.hits.wrapping_add(1);
+    }
+    if tells_replies {
+        let text = found.as_ref().map(|page| page.value().text.as_slice());
+        say_reply(&mut replayed.replies, key, text.unwrap_or(b"-"))?;
+    }
+    Ok(())
+}
+
+/// Puts a text at a key.
+fn put<R: Wait>(
+    rt: &R,
+    alloc: Global,
+    cache: &LongMap<Page>,
+    worker: &mut Worker,
+    key: Key,
+    text: &[u8],
+) -> Result<(), Fault>
+    requires own { IsMine cache.now.map worker.old.seat }
+    ensures own { IsMine cache.now.map worker.new.seat }
+{
+    let page = Page {
+        text: Vec::from_slice(alloc, text)?,
+    };
+    let stored = cache
+        .put(rt, &mut worker.seat, key, page)
+        .map_err(fault_of)?;
+    let counts = &mut worker.replayed.counts;
+    counts.puts = counts.puts.wrapping_add(1);
+    if stored.before.is_none() {
+        counts.keys = counts.keys.wrapping_add(1);
+    }
+    Ok(())
+}
+
+/// What a refused put comes to. So many puts that their numbers are past the greatest are out of
+/// reach.
+fn fault_of(refused: LongFault<Page>) -> Fault {
+    match refused {
+        LongFault::OutOfMemory(_) => Fault::OutOfMemory,
+        LongFault::ValueRange(_) | LongFault::Full(_) => Fault::Full,
+        LongFault::Unshown(_) => Fault::Unshown,
+    }
+}
+
+/// Says what a get found.
+fn say_reply(replies: &mut Vec<u8>, key: Key, text: &[u8]) -> Result<(), OutOfMemory> {
+    let mut digits = Buffer::new();
+    let number = digits.format(number_of(key)).as_bytes();
+    for piece in [number, b" ", text, b"\n"] {
+        replies.extend_from_slice(piece)?;
+    }
+    Ok(())
+}
+
+/// What came of all parts, worker by worker.
+fn gathered(alloc: Global, workers: Vec<Worker>) -> Result<Replayed, Fault> {
+    let mut counts = Counts::NOTHING;
+    let mut replies = Vec::new(alloc);
+    for worker in workers {
+        let Worker {
+            replayed,
+            fault,
+            ..
+        } = worker;
+        if let Some(fault) = fault {
+            return Err(fault);
+        }
+        counts = counts.with(replayed.counts);
+        replies.extend_from_slice(replayed.replies.as_slice())?;
+    }
+    Ok(Replayed { counts, replies })
+}

@@ -1,0 +1,21 @@
+//! `nb_dedup` prints each number of standard input once, as `sort -nu` does: the jobs that workers
+//! take from a list in which jobs come again, each by whoever comes first.
+//!
+//! It shows how threads share a set. `LongSet::add` answers whether the key came by this call, and
+//! of all calls at the same time one alone is told so: its worker takes the job. What a worker
+//! keeps is just that, by the contract of `take`.
+#![tactic(auto)]
+
+pub(crate) mod options;
+pub(crate) mod printing;
+pub(crate) mod serve;
+pub(crate) mod taking;
+
+use std::process::ExitCode;
+
+fn main(rt: HostRuntime) -> ExitCode {
+    ExitCode::from(serve::serve(&rt, rt.stdin()))
+}
+
+#[cfg(test)]
+mod tests;

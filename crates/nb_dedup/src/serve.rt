@@ -1,0 +1,37 @@
+//! The program: its words, what it reads and prints, and its exit status.
+
+use crate::options::read_options;
+use crate::printing::print;
+use crate::taking::take_all;
+use nb_lines::{Fault, end_of, words};
+use std::io;
+use std::io::Read;
+use std::rt::Env;
+use std::sync::Wait;
+use std::thread::Threads;
+
+/// Does what the words ask for.
+fn attend<R, I>(rt: &R, reader: I) -> Result<(), Fault>
+where
+    R: Env + Threads + Sync + Wait + Print + AllocGlobal,
+    I: Read + Send + Drop,
+{
+    let words = words(rt)?;
+    let options = read_options(rt.alloc(), words.as_slice())?;
+    let jobs = take_all(rt, rt.alloc(), &options, reader)?;
+    print(
+        rt.alloc(),
+        io::writer(rt),
+        jobs.as_slice(),
+        options.tells_who,
+    )
+}
+
+/// Serves a process, and answers its exit status.
+pub(crate) fn serve<R, I>(rt: &R, reader: I) -> u8
+where
+    R: Env + Threads + Sync + Wait + Print + Eprint + AllocGlobal,
+    I: Read + Send + Drop,
+{
+    end_of(rt, "nb_dedup", attend(rt, reader))
+}

@@ -1,0 +1,104 @@
+//! Jobs that are taken from texts, each once, and what is refused.
+
+use crate::options::{Options, read_options};
+use crate::printing::print;
+use crate::taking::take_all;
+use nb_lines::{Cause, Fault};
+use std::alloc::Global;
+use std::sync::Wait;
+use std::test::Fail;
+use std::thread::Threads;
+
+/// The options that these words give after the program's name.
+fn options(alloc: Global, words: &[&str]) -> Result<Options, Fault> {
+    let mut texts = Vec::new(alloc);
+    for word in ["nb_dedup"].iter().chain(words) {
+        texts.push(String::from_str(alloc, *word)?)?;
+    }
+    read_options(alloc, texts.as_slice())
+}
+
+/// What is printed of an input under these words.
+fn printed<R: Threads + Sync + Wait>(
+    rt: &R,
+    alloc: Global,
+    words: &[&str],
+    input: &str,
+) -> Result<Vec<u8>, Fault> {
+    let options = options(alloc, words)?;
+    let jobs = take_all(rt, alloc, &options, input.as_bytes())?;
+    let mut output = Vec::new(alloc);
+    print(alloc, &mut output, jobs.as_slice(), options.tells_who)?;
+    Ok(output)
+}
+
+#[test]
+fn each_number_is_printed_once(rt: HostRuntime) -> Result<(), Fail> {
+    let input = "7\n3\n7\n12\n3\n18446744073709551613\n7";
+    let all = "3\n7\n12\n18446744073709551613\n";
+    for workers in ["1", "3", "8"] {
+        let output = printed(&rt, rt.alloc(), &["--workers", workers], input)?;
+        assert_eq!(rt; output.as_slice(), all.as_bytes());
+    }
+    let output = printed(&rt, rt.alloc(), &["--workers", "1", "--who"], "7\n3\n7")?;
+    assert_eq!(rt; output.as_slice(), b"3 1\n7 1\n".as_slice());
+    Ok(())
+}
+
+/// Numbers that come eight times each, in blocks that the workers take at the same time while the
+/// set grows.
+fn many(alloc: Global) -> Result<String, Fault> {
+    let mut text = String::new(alloc);
+    for _ in 0..8 {
+        for number in 0..20_000 {
+            writeln!(text, "{number}").map_err(|_| Fault::OutOfMemory)?;
+        }
+    }
+    Ok(text)
+}
+
+#[test]
+fn no_job_is_taken_twice(rt: HostRuntime) -> Result<(), Fail> {
+    let text = many(rt.alloc())?;
+    let jobs = take_all(&rt, rt.alloc(), &options(rt.alloc(), &[])?, text.as_bytes())?;
+    let numbers = jobs.iter().map(|job| job.number);
+    assert!(rt; numbers.eq(0..20_000));
+    Ok(())
+}
+
+#[test]
+fn broken_lines_are_refused(rt: HostRuntime) {
+    let broken = [
+        ("1\n\n2\n", 2, Cause::NotANumber),
+        ("1\n2\n-3\n4\nx", 3, Cause::NotANumber),
+        ("18446744073709551614", 1, Cause::TooLarge),
+    ];
+    for (input, wanted, cause) in broken {
+        match printed(&rt, rt.alloc(), &[], input) {
+            Err(Fault::Line(line, found)) => assert!(rt; line == wanted && found == cause),
+            _ => panic!(rt; "a broken line"),
+        }
+    }
+}
+
+#[test]
+fn words_give_options(rt: HostRuntime) {
+    let refused: [&[&str]; 4] = [
+        &["x"],
+        &["--workers", "0"],
+        &["--workers", "9"],
+        &["--who", "1"],
+    ];
+    for words in refused {
+        assert!(rt;
+            matches!(&options(rt.alloc(), words), Err(Fault::Usage)),
+            "{words:?}"
+        );
+    }
+    let Err(Fault::Help(text)) = options(rt.alloc(), &["--help"]) else {
+        panic!(rt; "--help asks for help")
+    };
+    for word in ["--workers", "--who", "Exit status", "Example"] {
+        assert!(rt; text.as_str().contains(word), "{word}");
+    }
+}

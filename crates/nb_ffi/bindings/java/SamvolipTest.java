@@ -1,0 +1,73 @@
+import java.util.OptionalLong;
+
+/** Four threads add to one map; and some calls and refusals. */
+public final class SamvolipTest {
+    private static void expect(boolean holds) {
+        if (!holds) throw new AssertionError();
+    }
+
+    private static int refused(Runnable call) {
+        try {
+            call.run();
+        } catch (Samvolip.Refused refused) {
+            return refused.code;
+        }
+        return 0;
+    }
+
+    private static void threads() throws InterruptedException {
+        Samvolip.Seat[] seats = new Samvolip.Seat[4];
+        seats[0] = Samvolip.Seat.open(new int[] {4, 6, 8, 10, 12}, 4, 2);
+        for (int i = 1; i < 4; i++) seats[i] = seats[0].split();
+        expect(refused(() -> seats[0].split()) == Samvolip.NO_SEAT);
+        Thread[] threads = new Thread[4];
+        boolean[] well = new boolean[4];
+        for (int t = 0; t < 4; t++) {
+            final int number = t;
+            threads[t] = new Thread(() -> {
+                for (int i = 0; i < 50000; i++) {
+                    seats[number].add((i * 7 + number) % 1000, 1);
+                    expect(seats[number].get((i * 7 + number) % 1000).isPresent());
+                }
+                well[number] = true;
+            });
+            threads[t].start();
+        }
+        for (int t = 0; t < 4; t++) {
+            threads[t].join();
+            expect(well[t]);
+        }
+        long[] shown = new long[1];
+        seats[0].forEach((key, number) -> shown[0]++);
+        expect(shown[0] == 1000);
+        expect(refused(() -> seats[0].end()) == Samvolip.NOT_ALL_SEATS);
+        for (int i = 1; i < 4; i++) seats[0].join(seats[i]);
+        try (Samvolip.Ended ended = seats[0].end()) {
+            expect(ended.size() == 1000);
+            long sum = 0;
+            for (int key = 0; key < 1000; key++) sum += ended.get(key).getAsLong();
+            expect(sum == 200000);
+            expect(ended.get(1000).isEmpty());
+        }
+    }
+
+    private static void calls() {
+        Samvolip.Seat seat = Samvolip.Seat.open(new int[] {4, 5}, 1, 1);
+        expect(seat.put(1, 2).isEmpty());
+        expect(seat.putIfAbsent(1, 3).equals(OptionalLong.of(2)));
+        expect(seat.replace(1, 4).equals(OptionalLong.of(2)));
+        expect(!seat.replace(1, 2, 5) && seat.replace(1, 4, 5));
+        expect(!seat.remove(1, 4) && seat.remove(1).equals(OptionalLong.of(5)));
+        expect(refused(() -> seat.get(-1)) == Samvolip.KEY_RANGE);
+        expect(refused(() -> seat.put(1, -1)) == Samvolip.VALUE_RANGE);
+        expect(refused(() -> Samvolip.Seat.open(new int[] {5, 4}, 1, 1)) == Samvolip.FALLING);
+        seat.close();
+        seat.close();
+    }
+
+    public static void main(String[] words) throws InterruptedException {
+        threads();
+        calls();
+        System.out.println("java: well");
+    }
+}

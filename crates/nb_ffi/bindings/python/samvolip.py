@@ -1,0 +1,249 @@
+"""The map of samvolip.h, over ctypes. SAMVOLIP_LIB is the path of libsamvolip.so, which is libsamvolip.so by default.
+
+A map is opened as a seat that has all its seats; each thread takes one by split, and with all seats joined the map is closed.
+ctypes lets go of the interpreter's lock during a call, so a lock of its own keeps each seat to one call at a time.
+"""
+
+import ctypes
+import enum
+import itertools
+import os
+import threading
+from ctypes import POINTER, Structure, byref, c_int, c_size_t, c_uint32, c_uint64, c_void_p
+
+KEY_MAX = 2**64 - 3
+VALUE_MAX = 2**60 - 1
+
+
+class Code(enum.IntEnum):
+    TABLES = -1
+    EXPONENTS = -2
+    FALLING = -3
+    SEATS = -4
+    STRIPES = -5
+    REPROBES = -6
+    CHUNK = -7
+    OUT_OF_MEMORY = -8
+    KEY_RANGE = -9
+    VALUE_RANGE = -10
+    WANT = -11
+    CHANGE = -12
+    FULL = -13
+    CONTENDED = -14
+    SUM_RANGE = -15
+    NO_SEAT = -16
+    NOT_ALL_SEATS = -17
+    ROOM = -18
+    LOST = -19
+
+
+class Want(enum.IntEnum):
+    ANY = 0
+    ABSENT = 1
+    PRESENT = 2
+    EQUAL = 3
+
+
+class Change(enum.IntEnum):
+    PUT = 0
+    REMOVE = 1
+    ADD = 2
+
+
+class Refused(Exception):
+    """A call was refused, with this code."""
+
+    def __init__(self, code):
+        super().__init__(Code(code).name)
+        self.code = Code(code)
+
+
+class _Shape(Structure):
+    _fields_ = [("exponents", c_uint32 * 16)] + [(name, c_uint32) for name in ("tables", "seats", "stripes", "reprobes", "chunk")]
+
+
+class _Reply(Structure):
+    _fields_ = [("before", c_uint64), ("had", c_uint32), ("matched", c_uint32)]
+
+
+class _Entry(Structure):
+    _fields_ = [("key", c_uint64), ("number", c_uint64)]
+
+
+_HANDLE = POINTER(c_void_p)
+_lib = ctypes.CDLL(os.environ.get("SAMVOLIP_LIB", "libsamvolip.so"))
+for _name, _result, _takes in [
+    ("open", c_int, [POINTER(_Shape), _HANDLE]),
+    ("split", c_int, [_HANDLE, _HANDLE]),
+    ("join", c_int, [_HANDLE, _HANDLE]),
+    ("close", c_int, [_HANDLE, _HANDLE]),
+    ("free_open", None, [_HANDLE]),
+    ("get", c_int, [_HANDLE, c_uint64, POINTER(c_uint64)]),
+    ("put_if_match", c_int, [_HANDLE, c_uint64, c_uint32, c_uint64, c_uint32, c_uint64, c_uint32, POINTER(_Reply)]),
+    ("size_estimate", c_uint64, [_HANDLE]),
+    ("generation", c_uint32, [_HANDLE]),
+    ("walk", None, [_HANDLE]),
+    ("next", c_int, [_HANDLE, POINTER(c_uint64), POINTER(c_uint64)]),
+    ("ended_size", c_uint64, [_HANDLE]),
+    ("ended_get", c_int, [_HANDLE, c_uint64, POINTER(c_uint64)]),
+    ("ended_entries", c_int, [_HANDLE, POINTER(_Entry), c_size_t]),
+    ("ended_free_open", None, [_HANDLE]),
+]:
+    _function = getattr(_lib, f"samvolip_{_name}")
+    _function.restype = _result
+    _function.argtypes = _takes
+_maps = itertools.count()
+
+
+def _made(code):
+    if code < 0:
+        raise Refused(code)
+    return code
+
+
+def _number(number):
+    """A number that fits a word of C: ctypes would cut it down without a word."""
+    if not 0 <= number < 2**64:
+        raise OverflowError(f"{number} isn't from 0 to 2^64 - 1")
+    return number
+
+
+def exponents_for_keys(most):
+    """Two tables with room to spare for so many keys, 349,525 at most."""
+    if most > 349525:
+        raise Refused(Code.TABLES)
+    last = next(e for e in range(5, 20) if 2**e >= most + most // 2)
+    return [last - 3, last]
+
+
+class Seat:
+    """One thread's way to a map."""
+
+    def __init__(self, handle, number_of_map):
+        self._handle = handle
+        self._map = number_of_map
+        self._lock = threading.Lock()
+
+    @staticmethod
+    def open(exponents, seats=1, stripes=None, reprobes=18, chunk=64):
+        """A new map, as the seat that has all others in reserve."""
+        if len(exponents) > 16:
+            raise Refused(Code.TABLES)
+        shape = _Shape((c_uint32 * 16)(*exponents), len(exponents), seats, stripes or seats, reprobes, chunk)
+        handle = c_void_p()
+        _made(_lib.samvolip_open(byref(shape), byref(handle)))
+        return Seat(handle, next(_maps))
+
+    def _call(self, name, *words):
+        with self._lock:
+            if not self._handle:
+                raise ValueError("the seat is empty")
+            return getattr(_lib, f"samvolip_{name}")(byref(self._handle), *words)
+
+    def split(self):
+        """A seat that this one has in reserve."""
+        handle = c_void_p()
+        _made(self._call("split", byref(handle)))
+        return Seat(handle, self._map)
+
+    def join(self, other):
+        """Takes another seat of the map, with those that it has, into reserve. The other is empty then."""
+        if other is self or other._map != self._map:
+            raise ValueError("not two seats of one map")
+        with other._lock:
+            if not other._handle:
+                raise ValueError("the seat is empty")
+            _made(self._call("join", byref(other._handle)))
+
+    def close(self):
+        """With all seats: what is left of the map. The seat is empty then."""
+        handle = c_void_p()
+        _made(self._call("close", byref(handle)))
+        return Ended(handle)
+
+    def get(self, key):
+        """What is at a key, or None."""
+        number = c_uint64()
+        return number.value if _made(self._call("get", _number(key), byref(number))) else None
+
+    def put_if_match(self, key, want, change, old=0, number=0, tries=2**32 - 1):
+        """The write behind all others: what was at the key, or None, and whether its condition held."""
+        reply = _Reply()
+        _made(self._call("put_if_match", _number(key), want, _number(old), change, _number(number), tries, byref(reply)))
+        return (reply.before if reply.had else None), bool(reply.matched)
+
+    def _write(self, *words, **named):
+        while True:
+            try:
+                return self.put_if_match(*words, **named)
+            except Refused as refused:
+                if refused.code != Code.CONTENDED:
+                    raise
+
+    def put(self, key, number):
+        return self._write(key, Want.ANY, Change.PUT, number=number)[0]
+
+    def put_if_absent(self, key, number):
+        return self._write(key, Want.ABSENT, Change.PUT, number=number)[0]
+
+    def replace(self, key, number):
+        return self._write(key, Want.PRESENT, Change.PUT, number=number)[0]
+
+    def replace_if(self, key, old, number):
+        return self._write(key, Want.EQUAL, Change.PUT, old=old, number=number)[1]
+
+    def remove(self, key):
+        return self._write(key, Want.ANY, Change.REMOVE)[0]
+
+    def remove_if(self, key, number):
+        return self._write(key, Want.EQUAL, Change.REMOVE, old=number)[1]
+
+    def add(self, key, number):
+        return self._write(key, Want.ANY, Change.ADD, number=number)[0]
+
+    def size_estimate(self):
+        return self._call("size_estimate")
+
+    def generation(self):
+        return self._call("generation")
+
+    def walk(self):
+        """The keys with their numbers, while others write the map. A new walk ends this one."""
+        self._call("walk")
+        key, number = c_uint64(), c_uint64()
+        while self._call("next", byref(key), byref(number)):
+            yield key.value, number.value
+
+    def free(self):
+        """Frees the seat. The map goes with its last one."""
+        with self._lock:
+            if self._handle:
+                _lib.samvolip_free_open(byref(self._handle))
+
+    __del__ = free
+
+
+class Ended:
+    """What is left of a map. It stays on its thread."""
+
+    def __init__(self, handle):
+        self._handle = handle
+
+    def __len__(self):
+        return _lib.samvolip_ended_size(byref(self._handle))
+
+    def get(self, key):
+        """What is at a key, or None."""
+        number = c_uint64()
+        return number.value if _made(_lib.samvolip_ended_get(byref(self._handle), _number(key), byref(number))) else None
+
+    def entries(self):
+        """All keys, ascending, with their numbers."""
+        count = len(self)
+        entries = (_Entry * max(count, 1))()
+        _made(_lib.samvolip_ended_entries(byref(self._handle), entries, count))
+        return [(entry.key, entry.number) for entry in entries[:count]]
+
+    def __del__(self):
+        if self._handle:
+            _lib.samvolip_ended_free_open(byref(self._handle))

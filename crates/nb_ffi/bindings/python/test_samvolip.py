@@ -1,0 +1,62 @@
+"""Four threads add to one map; and each call and refusal once."""
+
+import threading
+
+from samvolip import Code, Refused, Seat, exponents_for_keys
+
+
+def refused(call, *words, **named):
+    try:
+        call(*words, **named)
+    except Refused as refusal:
+        return refusal.code
+    return None
+
+
+def work(seat, number):
+    for i in range(5000):
+        seat.add((i * 7 + number) % 1000, 1)
+        assert seat.get((i * 7 + number) % 1000) >= 1
+
+
+def threads():
+    first = Seat.open([4, 6, 8, 10, 12], seats=4, stripes=2)
+    seats = [first] + [first.split() for _ in range(3)]
+    assert refused(first.split) == Code.NO_SEAT
+    workers = [threading.Thread(target=work, args=(seat, number)) for number, seat in enumerate(seats)]
+    for worker in workers:
+        worker.start()
+    for worker in workers:
+        worker.join()
+    assert sorted(key for key, _ in first.walk()) == list(range(1000))
+    assert refused(first.close) == Code.NOT_ALL_SEATS
+    for seat in seats[1:]:
+        first.join(seat)
+    ended = first.close()
+    assert len(ended) == 1000
+    assert sum(number for _, number in ended.entries()) == 20000
+    assert ended.get(1000) is None
+
+
+def calls():
+    seat = Seat.open(exponents_for_keys(10))
+    assert seat.put(1, 2) is None
+    assert seat.put_if_absent(1, 3) == 2
+    assert seat.replace(1, 4) == 2
+    assert not seat.replace_if(1, 2, 5) and seat.replace_if(1, 4, 5)
+    assert not seat.remove_if(1, 4) and seat.remove(1) == 5
+    assert refused(seat.get, 2**64 - 1) == Code.KEY_RANGE
+    assert refused(seat.put, 1, 2**60) == Code.VALUE_RANGE
+    assert refused(Seat.open, [5, 4]) == Code.FALLING
+    assert refused(exponents_for_keys, 2**20) == Code.TABLES
+    seat.free()
+    try:
+        seat.get(1)
+    except ValueError:
+        return
+    raise AssertionError("a call with an empty seat")
+
+
+threads()
+calls()
+print("python: well")

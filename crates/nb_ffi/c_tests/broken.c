@@ -1,0 +1,53 @@
+/* Breaks the rule whose number it is given: the checks abort, with a line that says which. */
+#define SAMVOLIP_CHECKED
+#include "samvolip.h"
+
+#include "expect.h"
+
+#include <pthread.h>
+
+static samvolip_seat mine = SAMVOLIP_SEAT_INIT, yours = SAMVOLIP_SEAT_INIT;
+static samvolip_seat theirs = SAMVOLIP_SEAT_INIT;
+
+static void *get_forever(void *seat)
+{
+    uint64_t number;
+    for (;;)
+        samvolip_get(seat, 1, &number);
+    return NULL;
+}
+
+static void two_threads(void)
+{
+    pthread_t thread;
+    EXPECT(pthread_create(&thread, NULL, get_forever, &mine) == 0);
+    get_forever(&mine);
+}
+
+int main(int count, char **words)
+{
+    samvolip_shape shape = samvolip_shape_for_keys(10, 2);
+    uint64_t number = 0;
+    samvolip_reply reply;
+    samvolip_ended ended = SAMVOLIP_ENDED_INIT;
+    EXPECT(count == 2);
+    EXPECT(samvolip_open(&shape, &mine) == 0 && samvolip_split(&mine, &yours) == 0);
+    EXPECT(samvolip_open(&shape, &theirs) == 0);
+    switch (atoi(words[1])) {
+    case 1: samvolip_get(NULL, 1, &number); break;
+    case 2: samvolip_get(&mine, 1, NULL); break;
+    case 3: samvolip_free(&mine), samvolip_get(&mine, 1, &number); break;
+    case 4: samvolip_put_if_match(&mine, 1, 4, 0, 0, 0, 1, &reply); break;
+    case 5: samvolip_put_if_match(&mine, 1, 0, 0, 3, 0, 1, &reply); break;
+    case 6: two_threads(); break;
+    case 7: samvolip_meet(&mine, &theirs); break;
+    case 8: samvolip_join(&theirs, &yours); break;
+    case 9: samvolip_meet(&mine, &mine); break;
+    case 10: samvolip_open(&shape, &mine); break;
+    case 11: samvolip_split(&mine, &yours); break;
+    case 12: samvolip_ended_size(&ended); break;
+    case 13: samvolip_join(&mine, &yours), samvolip_put(&yours, 1, 1, NULL); break;
+    default: return 0;
+    }
+    return 1;
+}

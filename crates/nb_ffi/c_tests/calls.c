@@ -1,0 +1,206 @@
+/* Each call once, with each of its answers and refusals, by one thread. */
+#include "samvolip.h"
+
+#include "expect.h"
+
+#include <string.h>
+
+static void refuses_shapes(void)
+{
+    static const struct {
+        int code;
+        samvolip_shape shape;
+    } wrong[] = {
+        {SAMVOLIP_TABLES, {{4}, 0, 1, 1, 1, 8}},
+        {SAMVOLIP_TABLES, {{4}, 17, 1, 1, 1, 8}},
+        {SAMVOLIP_EXPONENTS, {{1}, 1, 1, 1, 1, 8}},
+        {SAMVOLIP_EXPONENTS, {{20}, 1, 1, 1, 1, 8}},
+        {SAMVOLIP_FALLING, {{5, 4}, 2, 1, 1, 1, 8}},
+        {SAMVOLIP_SEATS, {{4}, 1, 0, 1, 1, 8}},
+        {SAMVOLIP_SEATS, {{4}, 1, 9, 1, 1, 8}},
+        {SAMVOLIP_STRIPES, {{4}, 1, 1, 0, 1, 8}},
+        {SAMVOLIP_STRIPES, {{4}, 1, 1, 9, 1, 8}},
+        {SAMVOLIP_REPROBES, {{4}, 1, 1, 1, 0, 8}},
+        {SAMVOLIP_CHUNK, {{4}, 1, 1, 1, 1, 2}},
+        {SAMVOLIP_CHUNK, {{4}, 1, 1, 1, 1, 24}},
+        {SAMVOLIP_CHUNK, {{4}, 1, 1, 1, 1, 2048}},
+    };
+    for (size_t i = 0; i < sizeof wrong / sizeof *wrong; i++) {
+        samvolip_seat seat = SAMVOLIP_SEAT_INIT;
+        EXPECT(samvolip_open(&wrong[i].shape, &seat) == wrong[i].code);
+        EXPECT(seat.handle == NULL);
+    }
+    samvolip_shape most = samvolip_shape_for_keys(SAMVOLIP_MOST_KEYS + 1, 1);
+    samvolip_seat seat = SAMVOLIP_SEAT_INIT;
+    EXPECT(samvolip_open(&most, &seat) == SAMVOLIP_TABLES);
+    most = samvolip_shape_for_keys(SAMVOLIP_MOST_KEYS, 1);
+    EXPECT(most.tables == 2 && most.exponents[0] == 16 && most.exponents[1] == 19);
+}
+
+static void has_room_for_keys(void)
+{
+    for (uint64_t most = 0; most < 3000; most += 7) {
+        samvolip_shape shape = samvolip_shape_for_keys(most, 1);
+        samvolip_seat seat = SAMVOLIP_SEAT_INIT;
+        EXPECT(samvolip_open(&shape, &seat) == SAMVOLIP_OK);
+        for (uint64_t key = 0; key < most; key++)
+            EXPECT(samvolip_put(&seat, key * 977, key, NULL) == SAMVOLIP_ABSENT);
+        samvolip_free(&seat);
+    }
+}
+
+static void puts_and_gets(samvolip_seat *seat)
+{
+    uint64_t number = 99, before = 98;
+    samvolip_reply reply = {1, 2, 3};
+    EXPECT(samvolip_get(seat, 7, &number) == SAMVOLIP_ABSENT && number == 0);
+    EXPECT(samvolip_put(seat, 7, 5, &before) == SAMVOLIP_ABSENT && before == 98);
+    EXPECT(samvolip_put(seat, 7, 6, &before) == SAMVOLIP_PRESENT && before == 5);
+    EXPECT(samvolip_get(seat, 7, &number) == SAMVOLIP_PRESENT && number == 6);
+    EXPECT(samvolip_put_if_absent(seat, 7, 1, &before) == SAMVOLIP_PRESENT && before == 6);
+    EXPECT(samvolip_put_if_absent(seat, 8, 1, NULL) == SAMVOLIP_ABSENT);
+    EXPECT(samvolip_replace(seat, 9, 1, NULL) == SAMVOLIP_ABSENT);
+    EXPECT(samvolip_replace(seat, 8, 2, &before) == SAMVOLIP_PRESENT && before == 1);
+    EXPECT(samvolip_replace_if(seat, 8, 1, 3) == 0);
+    EXPECT(samvolip_replace_if(seat, 8, 2, 3) == 1);
+    EXPECT(samvolip_remove_if(seat, 8, 2) == 0);
+    EXPECT(samvolip_remove_if(seat, 8, 3) == 1);
+    EXPECT(samvolip_add(seat, 8, 4, NULL) == SAMVOLIP_ABSENT);
+    EXPECT(samvolip_add(seat, 8, 4, &before) == SAMVOLIP_PRESENT && before == 4);
+    EXPECT(samvolip_remove(seat, 8, &before) == SAMVOLIP_PRESENT && before == 8);
+    EXPECT(samvolip_remove(seat, 8, &before) == SAMVOLIP_ABSENT && before == 8);
+    EXPECT(samvolip_put_if_match(seat, 7, SAMVOLIP_ANY, 0, SAMVOLIP_PUT, 1, 0, &reply) == 0);
+    EXPECT(reply.had == 1 && reply.before == 6 && reply.matched == 1);
+    const uint64_t one = 1, two = 2;
+    EXPECT(samvolip_compare_exchange(seat, 7, &two, &one, 1, &reply) == 0 && !reply.matched);
+    EXPECT(samvolip_compare_exchange(seat, 7, &one, &two, 1, &reply) == 0 && reply.matched);
+    EXPECT(samvolip_compare_exchange(seat, 7, &two, NULL, 1, &reply) == 0 && reply.matched);
+    EXPECT(samvolip_compare_exchange(seat, 7, NULL, &one, 1, &reply) == 0 && reply.matched);
+    EXPECT(reply.had == 0);
+    EXPECT(samvolip_size_estimate(seat) == 1);
+    EXPECT(samvolip_generation(seat) == 0);
+}
+
+static void refuses_calls(samvolip_seat *seat)
+{
+    uint64_t number = 99;
+    const uint64_t past_key = SAMVOLIP_KEY_MAX + 1, past = SAMVOLIP_VALUE_MAX + 1;
+    const samvolip_reply as_before = {1, 2, 3};
+    samvolip_reply reply = as_before;
+    EXPECT(samvolip_get(seat, past_key, &number) == SAMVOLIP_KEY_RANGE && number == 99);
+    EXPECT(samvolip_put_if_match(seat, past_key, 9, past, 9, past, 1, &reply)
+           == SAMVOLIP_KEY_RANGE);
+    EXPECT(samvolip_put_if_match(seat, 0, 9, past, 9, past, 1, &reply) == SAMVOLIP_WANT);
+    EXPECT(samvolip_put_if_match(seat, 0, SAMVOLIP_EQUAL, past, 9, past, 1, &reply)
+           == SAMVOLIP_VALUE_RANGE);
+    EXPECT(samvolip_put_if_match(seat, 0, 0, past, 9, past, 1, &reply) == SAMVOLIP_CHANGE);
+    EXPECT(samvolip_put_if_match(seat, 0, 0, past, SAMVOLIP_PUT, past, 1, &reply)
+           == SAMVOLIP_VALUE_RANGE);
+    EXPECT(samvolip_put_if_match(seat, 0, 0, past, SAMVOLIP_ADD, past, 1, &reply)
+           == SAMVOLIP_VALUE_RANGE);
+    EXPECT(samvolip_put(seat, 0, SAMVOLIP_VALUE_MAX, NULL) == SAMVOLIP_ABSENT);
+    EXPECT(samvolip_put_if_match(seat, 0, 0, 0, SAMVOLIP_ADD, 1, 1, &reply)
+           == SAMVOLIP_SUM_RANGE);
+    EXPECT(memcmp(&reply, &as_before, sizeof reply) == 0);
+    EXPECT(samvolip_get(seat, 0, &number) == SAMVOLIP_PRESENT && number == SAMVOLIP_VALUE_MAX);
+    EXPECT(samvolip_put(seat, SAMVOLIP_KEY_MAX, 0, NULL) == SAMVOLIP_ABSENT);
+    EXPECT(samvolip_get(seat, SAMVOLIP_KEY_MAX, &number) == SAMVOLIP_PRESENT && number == 0);
+}
+
+static void refuses_when_full(void)
+{
+    const samvolip_shape shape = {{2}, 1, 1, 1, UINT32_MAX, 8};
+    samvolip_seat seat = SAMVOLIP_SEAT_INIT;
+    EXPECT(samvolip_open(&shape, &seat) == SAMVOLIP_OK);
+    for (uint64_t key = 0; key < 4; key++)
+        EXPECT(samvolip_put(&seat, key, key, NULL) == SAMVOLIP_ABSENT);
+    EXPECT(samvolip_put(&seat, 4, 4, NULL) == SAMVOLIP_FULL);
+    EXPECT(samvolip_put_if_absent(&seat, 4, 4, NULL) == SAMVOLIP_FULL);
+    EXPECT(samvolip_add(&seat, 4, 4, NULL) == SAMVOLIP_FULL);
+    EXPECT(samvolip_replace(&seat, 4, 4, NULL) == SAMVOLIP_ABSENT);
+    EXPECT(samvolip_put(&seat, 3, 4, NULL) == SAMVOLIP_PRESENT);
+    samvolip_free(&seat);
+}
+
+static void walks(samvolip_seat *seat)
+{
+    uint64_t key = 99, number = 99;
+    EXPECT(samvolip_next(seat, &key, &number) == SAMVOLIP_ABSENT && key == 99 && number == 99);
+    for (uint64_t k = 100; k < 200; k++)
+        EXPECT(samvolip_put(seat, k, k + 1, NULL) == SAMVOLIP_ABSENT);
+    int seen[100] = {0};
+    samvolip_walk(seat);
+    EXPECT(samvolip_next(seat, &key, &number) == SAMVOLIP_PRESENT);
+    memset(seen, 0, sizeof seen);
+    samvolip_walk(seat);
+    while (samvolip_next(seat, &key, &number) == SAMVOLIP_PRESENT) {
+        EXPECT(samvolip_get(seat, key, &number) == SAMVOLIP_PRESENT);
+        if (key < 100 || key >= 200)
+            continue;
+        EXPECT(number == key + 1);
+        EXPECT(seen[key - 100]++ == 0);
+    }
+    for (int k = 0; k < 100; k++)
+        EXPECT(seen[k] == 1);
+    EXPECT(samvolip_next(seat, &key, &number) == SAMVOLIP_ABSENT);
+}
+
+static void splits_and_joins(void)
+{
+    samvolip_shape shape = samvolip_shape_for_keys(100, 4);
+    samvolip_seat seats[4] = {SAMVOLIP_SEAT_INIT};
+    samvolip_ended ended = SAMVOLIP_ENDED_INIT;
+    EXPECT(samvolip_open(&shape, &seats[0]) == SAMVOLIP_OK);
+    for (int i = 1; i < 4; i++)
+        EXPECT(samvolip_split(&seats[0], &seats[i]) == SAMVOLIP_OK);
+    samvolip_seat fifth = SAMVOLIP_SEAT_INIT;
+    EXPECT(samvolip_split(&seats[0], &fifth) == SAMVOLIP_NO_SEAT && fifth.handle == NULL);
+    EXPECT(samvolip_split(&seats[1], &fifth) == SAMVOLIP_NO_SEAT);
+    EXPECT(samvolip_close(&seats[0], &ended) == SAMVOLIP_NOT_ALL_SEATS && ended.handle == NULL);
+    for (int i = 0; i < 4; i++)
+        EXPECT(samvolip_put(&seats[i], 3 - i, i, NULL) == SAMVOLIP_ABSENT);
+    samvolip_meet(&seats[2], &seats[3]);
+    EXPECT(samvolip_join(&seats[2], &seats[3]) == SAMVOLIP_OK && seats[3].handle == NULL);
+    EXPECT(samvolip_split(&seats[2], &seats[3]) == SAMVOLIP_OK);
+    EXPECT(samvolip_join(&seats[2], &seats[3]) == SAMVOLIP_OK);
+    for (int i = 1; i < 3; i++)
+        EXPECT(samvolip_join(&seats[0], &seats[i]) == SAMVOLIP_OK);
+    EXPECT(samvolip_close(&seats[0], &ended) == SAMVOLIP_OK && seats[0].handle == NULL);
+    EXPECT(samvolip_ended_size(&ended) == 4);
+    uint64_t number = 99;
+    EXPECT(samvolip_ended_get(&ended, 3, &number) == SAMVOLIP_PRESENT && number == 0);
+    EXPECT(samvolip_ended_get(&ended, 4, &number) == SAMVOLIP_ABSENT && number == 0);
+    EXPECT(samvolip_ended_get(&ended, UINT64_MAX, &number) == SAMVOLIP_KEY_RANGE);
+    samvolip_entry entries[5] = {{0, 0}};
+    EXPECT(samvolip_ended_entries(&ended, entries, 3) == SAMVOLIP_ROOM);
+    EXPECT(entries[1].key == 0);
+    EXPECT(samvolip_ended_entries(&ended, entries, 5) == SAMVOLIP_OK);
+    for (uint64_t i = 0; i < 4; i++)
+        EXPECT(entries[i].key == i && entries[i].number == 3 - i);
+    samvolip_ended_free(&ended);
+    samvolip_ended_free(&ended);
+    EXPECT(ended.handle == NULL);
+}
+
+int main(void)
+{
+    EXPECT(samvolip_version() == SAMVOLIP_VERSION);
+    refuses_shapes();
+    has_room_for_keys();
+    samvolip_shape shape = samvolip_shape_for_keys(1000, 1);
+    samvolip_seat seat = SAMVOLIP_SEAT_INIT;
+    EXPECT(samvolip_open(&shape, &seat) == SAMVOLIP_OK);
+    puts_and_gets(&seat);
+    refuses_calls(&seat);
+    walks(&seat);
+    samvolip_free(&seat);
+    samvolip_free(&seat);
+    EXPECT(seat.handle == NULL);
+    refuses_when_full();
+    splits_and_joins();
+    for (int code = SAMVOLIP_LOST; code <= SAMVOLIP_PRESENT; code++)
+        EXPECT(strcmp(samvolip_strerror(code), "no such code") != 0);
+    EXPECT(strcmp(samvolip_strerror(2), "no such code") == 0);
+    puts("calls: well");
+    return 0;
+}

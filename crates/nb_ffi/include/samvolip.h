@@ -1,0 +1,518 @@
+/*
+ * samvolip.h - a concurrent map from whole numbers to whole numbers.
+ *
+ * Many threads read and write one map at the same time, and none holds up another: it is Cliff
+ * Click's non-blocking hash map, proved in Rattle. docs/c.md says what is proved, and what a caller
+ * has to keep. The header is for C11 and C++11, with GCC's or Clang's builtins.
+ *
+ *
+ * A map in ten lines
+ *
+ *     samvolip_shape shape = samvolip_shape_for_keys(10000, 2);      room for 10000 keys; two seats
+ *     samvolip_seat mine = SAMVOLIP_SEAT_INIT, yours = SAMVOLIP_SEAT_INIT;
+ *     if (samvolip_open(&shape, &mine) || samvolip_split(&mine, &yours)) ...
+ *     // yours goes to another thread; both threads call as they like:
+ *     samvolip_add(&mine, 7, 1, NULL);
+ *     // the other thread is joined; then the seats come together again:
+ *     samvolip_ended ended = SAMVOLIP_ENDED_INIT;
+ *     if (samvolip_join(&mine, &yours) || samvolip_close(&mine, &ended)) ...
+ *     uint64_t size = samvolip_ended_size(&ended);
+ *     samvolip_ended_free(&ended);
+ *
+ *
+ * Rules
+ *
+ * Seats. Each thread calls with a seat of its own. A map has as many seats as its shape says, 8 at
+ * most; samvolip_open gives them all to one handle, and samvolip_split hands one out to another.
+ * There is no other way to a map: no seat, no call.
+ *
+ * One call at a time. A seat is in one call at a time. It may go from one thread to another, if a
+ * lock, the start or the join of a thread, or a sequentially consistent atomic comes between. An
+ * ended map stays on the thread that closed it.
+ *
+ * One map. samvolip_meet and samvolip_join take two seats of one map, and two different ones.
+ *
+ * Empty and full. A handle is a variable that the caller declares, empty by SAMVOLIP_SEAT_INIT or
+ * SAMVOLIP_ENDED_INIT. samvolip_open, samvolip_split and samvolip_close fill an empty one;
+ * samvolip_join, samvolip_close and samvolip_free empty one. All other calls take a full one. So
+ * nothing is freed twice, and a call after a free is a call with an empty handle, which is an error
+ * of the program. Don't copy a handle: two copies would be two seats of one.
+ *
+ * Pointers. No pointer is NULL but where it says so. What a call writes to (a number, a reply, a
+ * handle, an array) overlaps nothing else that it is given. Nothing that was passed is kept.
+ *
+ * Refusals. A call that may be refused answers an int: 0 or 1 where it was made, and a negative
+ * enum samvolip_code where it was refused. A refused call changes nothing: the map, the handles and
+ * what the caller passed are as they were. (A write that is refused as full or contended may have
+ * had tables copied; no other call sees the difference.)
+ *
+ * Memory. samvolip_open reserves all tables of the map, and the map keeps them until it is freed.
+ * samvolip_open, samvolip_split, samvolip_close and samvolip_ended_entries take memory, by malloc;
+ * no other call does (but samvolip_join, for a moment, where seats come together that never were
+ * one handle's).
+ *
+ * Signals and forks. No call from a signal handler, nor from the child of a fork of a process with
+ * threads.
+ *
+ * Checks. With SAMVOLIP_CHECKED defined before the header is included, the calls test these rules
+ * as far as they can, and abort with a line on standard error that says which was broken: NULL and
+ * empty handles, codes out of range, two threads in one seat, seats of two maps in one call. Define
+ * it in all files of a program or in none. Without it, nothing is tested and nothing is paid.
+ */
+#ifndef SAMVOLIP_H
+#define SAMVOLIP_H
+
+#include <stddef.h>
+#include <stdint.h>
+
+#ifdef __cplusplus
+extern "C" {
+#endif
+
+/* Version 0.1.0, as one number. samvolip_version tells that of the library. */
+#define SAMVOLIP_VERSION 0x000100u
+
+/* The greatest key and the greatest number. */
+#define SAMVOLIP_KEY_MAX (UINT64_MAX - 2)
+#define SAMVOLIP_VALUE_MAX ((UINT64_C(1) << 60) - 1)
+
+/* The most keys that samvolip_shape_for_keys makes room for. */
+#define SAMVOLIP_MOST_KEYS 349525
+
+/* The most tables, seats and stripes of a map. */
+#define SAMVOLIP_MAX_TABLES 16
+#define SAMVOLIP_MAX_SEATS 8
+#define SAMVOLIP_MAX_STRIPES 8
+
+/* What a call came to. */
+enum samvolip_code {
+    SAMVOLIP_OK = 0,      /* it was made */
+    SAMVOLIP_ABSENT = 0,  /* it was made, and there was no number */
+    SAMVOLIP_PRESENT = 1, /* it was made, and there was a number */
+
+    /* what is wrong with a shape: the first of these, in this order, but that a wrong exponent is
+       told before a falling one */
+    SAMVOLIP_TABLES = -1,    /* not 1 to 16 tables */
+    SAMVOLIP_EXPONENTS = -2, /* an exponent that isn't from 2 to 19 */
+    SAMVOLIP_FALLING = -3,   /* a table smaller than the one before it */
+    SAMVOLIP_SEATS = -4,     /* not 1 to 8 seats */
+    SAMVOLIP_STRIPES = -5,   /* not 1 to 8 stripes */
+    SAMVOLIP_REPROBES = -6,  /* a reprobe limit of 0 */
+    SAMVOLIP_CHUNK = -7,     /* a chunk that isn't a power of two from 4 to 1024 */
+
+    SAMVOLIP_OUT_OF_MEMORY = -8, /* malloc gave none */
+
+    /* what is wrong with a call */
+    SAMVOLIP_KEY_RANGE = -9,    /* a key past SAMVOLIP_KEY_MAX */
+    SAMVOLIP_VALUE_RANGE = -10, /* a number past SAMVOLIP_VALUE_MAX */
+    SAMVOLIP_WANT = -11,        /* a condition that is none of enum samvolip_want */
+    SAMVOLIP_CHANGE = -12,      /* a change that is none of enum samvolip_change */
+
+    /* why a write is refused */
+    SAMVOLIP_FULL = -13,      /* other keys have all slots of the last table */
+    SAMVOLIP_CONTENDED = -14, /* other writes of the key came first, as often as there were tries */
+    SAMVOLIP_SUM_RANGE = -15, /* the sum of an add is past SAMVOLIP_VALUE_MAX */
+
+    /* why a handle isn't split or closed */
+    SAMVOLIP_NO_SEAT = -16,       /* the handle has no seat in reserve */
+    SAMVOLIP_NOT_ALL_SEATS = -17, /* the handle hasn't all seats of the map */
+
+    SAMVOLIP_ROOM = -18, /* the array is too small */
+
+    /* The map was given up while it was closed. No program that keeps the rules sees it: it takes
+       somebody who has the map without having a seat. */
+    SAMVOLIP_LOST = -19
+};
+
+/* What a write asks of its key. */
+enum samvolip_want {
+    SAMVOLIP_ANY = 0,          /* nothing */
+    SAMVOLIP_WANT_ABSENT = 1,  /* that there is no number */
+    SAMVOLIP_WANT_PRESENT = 2, /* that there is a number */
+    SAMVOLIP_EQUAL = 3         /* that it is this one */
+};
+
+/* What a write does to its key, where the condition holds. */
+enum samvolip_change {
+    SAMVOLIP_PUT = 0,    /* sets it to the number */
+    SAMVOLIP_REMOVE = 1, /* takes it out */
+    SAMVOLIP_ADD = 2     /* adds the number to what is there, none counting as 0 */
+};
+
+/*
+ * The shape of a map. It has `tables` tables, the first of them with 2 to the power exponents[0]
+ * slots, and none smaller than the one before it. A map grows from one to the next when a table
+ * gets crowded, and never shrinks. The last table is the end: where other keys have all its slots,
+ * a new key is refused as full. A removed key keeps its slot until its table is left.
+ *
+ * The size is counted over `stripes` words; as many as there are writers is best. No table but the
+ * last takes a new key past `reprobes` slots of its path, nor past a quarter of its slots and two.
+ * Who brings a new key to a table that grows helps to copy all of it, `chunk` slots at a time: large
+ * ones take fewer steps, and small ones share the work among more threads.
+ */
+typedef struct samvolip_shape {
+    uint32_t exponents[SAMVOLIP_MAX_TABLES];
+    uint32_t tables;
+    uint32_t seats;
+    uint32_t stripes;
+    uint32_t reprobes;
+    uint32_t chunk;
+} samvolip_shape;
+
+/* One thread's way to a map. The fields are the library's. */
+typedef struct samvolip_seat {
+    void *handle;
+    uintptr_t map;   /* for the checks: which map it is of */
+    uint32_t in_use; /* for the checks: whether a call is under way */
+} samvolip_seat;
+
+/* What is left of a map. The field is the library's. All calls with it are made by the thread that
+   closed the map. */
+typedef struct samvolip_ended {
+    void *handle;
+} samvolip_ended;
+
+#define SAMVOLIP_SEAT_INIT {NULL, 0, 0}
+#define SAMVOLIP_ENDED_INIT {NULL}
+
+/* What a write found: the number that was at its key, if `had` is 1; and whether the condition
+   held, so that the write did what it does. */
+typedef struct samvolip_reply {
+    uint64_t before;
+    uint32_t had;
+    uint32_t matched;
+} samvolip_reply;
+
+/* A key of an ended map, and its number. */
+typedef struct samvolip_entry {
+    uint64_t key;
+    uint64_t number;
+} samvolip_entry;
+
+/*
+ * A shape with room to spare for so many different keys, and for this many threads: a last table of
+ * half as many slots again as there are keys, or more, and one of an eighth of it before. No key is
+ * refused as full while no more than that many were ever put. It takes 16 bytes a slot, of both
+ * tables. For more than SAMVOLIP_MOST_KEYS there is no shape, and samvolip_open refuses what this
+ * answers, by SAMVOLIP_TABLES.
+ */
+static inline samvolip_shape samvolip_shape_for_keys(uint64_t most, unsigned seats)
+{
+    samvolip_shape shape = {{0}, 0, 0, 0, 0, 0};
+    uint32_t last = 5;
+    if (most > SAMVOLIP_MOST_KEYS)
+        return shape;
+    while ((UINT64_C(1) << last) < most + most / 2)
+        last++;
+    shape.exponents[0] = last - 3;
+    shape.exponents[1] = last;
+    shape.tables = 2;
+    shape.seats = seats;
+    shape.stripes = seats;
+    shape.reprobes = 18;
+    shape.chunk = 64;
+    return shape;
+}
+
+/* ---- handles ------------------------------------------------------------------------------- */
+
+/*
+ * Makes an empty map. `seat`, which is empty, gets all its seats: one to call with, and the others
+ * in reserve, for samvolip_split.
+ *
+ * Cost: malloc of all tables, and clearing them.
+ * Refused: by what is wrong with the shape; SAMVOLIP_OUT_OF_MEMORY.
+ */
+int samvolip_open(const samvolip_shape *shape, samvolip_seat *seat);
+
+/*
+ * Gives `other`, which is empty, a seat that `seat` has in reserve. Any handle with seats in reserve
+ * may be split.
+ *
+ * Cost: two calls of malloc.
+ * Refused: SAMVOLIP_NO_SEAT, SAMVOLIP_OUT_OF_MEMORY.
+ */
+int samvolip_split(samvolip_seat *seat, samvolip_seat *other);
+
+/*
+ * Puts all seats of `other` in the reserve of `seat`, which is of the same map. `other` is empty
+ * afterwards. What `other` has seen isn't passed on: samvolip_meet does that, before.
+ *
+ * Cost: a few steps, and a free or two.
+ * Refused: SAMVOLIP_OUT_OF_MEMORY, which doesn't come where the seats were once one handle's.
+ */
+int samvolip_join(samvolip_seat *seat, samvolip_seat *other);
+
+/*
+ * Ends the map whose seats `seat` has, all of them, and gives what is left of it to `ended`, which
+ * is empty. `seat` is empty afterwards.
+ *
+ * Cost: a few steps for each seat, and a malloc.
+ * Refused: SAMVOLIP_NOT_ALL_SEATS, SAMVOLIP_OUT_OF_MEMORY.
+ */
+int samvolip_close(samvolip_seat *seat, samvolip_ended *ended);
+
+/* Frees a full handle: use samvolip_free, which takes an empty one too. */
+void samvolip_free_open(samvolip_seat *seat);
+
+/*
+ * Frees a seat, which is empty afterwards; an empty one stays so. The map goes with its last handle.
+ * The seats of a handle that was freed are lost to the map: it works on, and can't be closed any
+ * more.
+ */
+static inline void samvolip_free(samvolip_seat *seat)
+{
+    if (seat->handle)
+        samvolip_free_open(seat);
+}
+
+/* ---- calls --------------------------------------------------------------------------------- */
+
+/*
+ * What is at a key: SAMVOLIP_PRESENT, and the number is written; or SAMVOLIP_ABSENT, and 0 is
+ * written. Where it is refused, `number` is as it was.
+ *
+ * Cost: wait-free. In the common case three loads.
+ * Refused: SAMVOLIP_KEY_RANGE.
+ */
+int samvolip_get(samvolip_seat *seat, uint64_t key, uint64_t *number);
+
+/*
+ * The write behind all others: where what is at the key is as `want` asks (`old` is the number of
+ * SAMVOLIP_EQUAL), does what `change` says (with `number`, which SAMVOLIP_REMOVE doesn't read), in
+ * one atomic step. SAMVOLIP_OK, and what it found is written to `reply`; else `reply` is as it was.
+ * Where another thread's write of the key comes in between, it tries again, `tries` times in all, 0
+ * counting as one.
+ *
+ * Cost: wait-free. In the common case three loads and an exchange, and one more where a key comes
+ * or goes. A new key that finds its table growing has it copied first.
+ * Refused: SAMVOLIP_KEY_RANGE, SAMVOLIP_VALUE_RANGE, SAMVOLIP_WANT, SAMVOLIP_CHANGE, SAMVOLIP_FULL,
+ * SAMVOLIP_CONTENDED, SAMVOLIP_SUM_RANGE.
+ */
+int samvolip_put_if_match(samvolip_seat *seat, uint64_t key, uint32_t want, uint64_t old,
+                          uint32_t change, uint64_t number, uint32_t tries,
+                          samvolip_reply *reply);
+
+/*
+ * About how many keys the map has, modulo 2^64. While others write it is no more than a guess.
+ *
+ * Cost: a load for each stripe.
+ */
+uint64_t samvolip_size_estimate(samvolip_seat *seat);
+
+/*
+ * How many tables the map has left behind: from 0 to one less than the shape has.
+ *
+ * Cost: a load.
+ */
+uint32_t samvolip_generation(samvolip_seat *seat);
+
+/*
+ * Lets each of two seats of one map know all that the other has seen. What one thread has seen,
+ * another sees by itself as it calls; this is for proofs, and for two seats whose threads have
+ * ended.
+ *
+ * Cost: six loads.
+ */
+void samvolip_meet(samvolip_seat *seat, samvolip_seat *other);
+
+/*
+ * Begins a walk over the map's keys, while others write it. A seat has one walk at a time: one that
+ * was under way is given up. The seat may make other calls during its walk.
+ *
+ * Cost: a load.
+ */
+void samvolip_walk(samvolip_seat *seat);
+
+/*
+ * The next key of the seat's walk: SAMVOLIP_PRESENT, and the key and its number are written; or
+ * SAMVOLIP_ABSENT at the end of the walk, and with none under way. No key is shown twice; each key
+ * that the map has all the while is shown; a key that comes or goes meanwhile may be shown or not.
+ * The order is none.
+ *
+ * Cost: wait-free; a load for each slot on the way, and one more for the key.
+ */
+int samvolip_next(samvolip_seat *seat, uint64_t *key, uint64_t *number);
+
+/* ---- an ended map -------------------------------------------------------------------------- */
+
+/* How many keys the map has. */
+uint64_t samvolip_ended_size(samvolip_ended *ended);
+
+/*
+ * What is at a key, as samvolip_get.
+ *
+ * Refused: SAMVOLIP_KEY_RANGE.
+ */
+int samvolip_ended_get(samvolip_ended *ended, uint64_t key, uint64_t *number);
+
+/*
+ * Writes all keys, ascending, with their numbers into the caller's array, which has room for so
+ * many; it takes samvolip_ended_size of them. `entries` isn't NULL, even for no room.
+ *
+ * Cost: that of a search for each key and of putting them in order, and memory for them twice.
+ * Refused: SAMVOLIP_ROOM, SAMVOLIP_OUT_OF_MEMORY.
+ */
+int samvolip_ended_entries(samvolip_ended *ended, samvolip_entry *entries, size_t room);
+
+/* Frees a full handle: use samvolip_ended_free, which takes an empty one too. */
+void samvolip_ended_free_open(samvolip_ended *ended);
+
+/* Frees what is left of a map. The handle is empty afterwards; an empty one stays so. */
+static inline void samvolip_ended_free(samvolip_ended *ended)
+{
+    if (ended->handle)
+        samvolip_ended_free_open(ended);
+}
+
+/* The library's SAMVOLIP_VERSION. */
+uint32_t samvolip_version(void);
+
+/* What a code means, for people. */
+static inline const char *samvolip_strerror(int code)
+{
+    switch (code) {
+    case SAMVOLIP_OK: return "made";
+    case SAMVOLIP_PRESENT: return "made, and there was a number";
+    case SAMVOLIP_TABLES: return "number of tables out of range";
+    case SAMVOLIP_EXPONENTS: return "exponent out of range";
+    case SAMVOLIP_FALLING: return "a table smaller than the one before it";
+    case SAMVOLIP_SEATS: return "number of seats out of range";
+    case SAMVOLIP_STRIPES: return "number of stripes out of range";
+    case SAMVOLIP_REPROBES: return "reprobe limit out of range";
+    case SAMVOLIP_CHUNK: return "chunk out of range";
+    case SAMVOLIP_OUT_OF_MEMORY: return "out of memory";
+    case SAMVOLIP_KEY_RANGE: return "key too large";
+    case SAMVOLIP_VALUE_RANGE: return "value too large";
+    case SAMVOLIP_WANT: return "no such condition";
+    case SAMVOLIP_CHANGE: return "no such change";
+    case SAMVOLIP_FULL: return "the map is full";
+    case SAMVOLIP_CONTENDED: return "other writes of the key came first";
+    case SAMVOLIP_SUM_RANGE: return "sum too large";
+    case SAMVOLIP_NO_SEAT: return "no seat in reserve";
+    case SAMVOLIP_NOT_ALL_SEATS: return "not all seats of the map";
+    case SAMVOLIP_ROOM: return "the array is too small";
+    case SAMVOLIP_LOST: return "the map was given up";
+    default: return "no such code";
+    }
+}
+
+#ifdef __cplusplus
+}
+#endif
+
+#ifdef SAMVOLIP_CHECKED
+#include "samvolip_checked.h"
+#endif
+
+/* ---- writes by name ------------------------------------------------------------------------ */
+
+/*
+ * The calls of java.util.concurrent.ConcurrentMap, and an add. Each is one samvolip_put_if_match,
+ * which is made again while other writes of the key come first. So none is refused as contended;
+ * they are lock-free: only the success of others costs them anything.
+ *
+ * Each answers SAMVOLIP_PRESENT where there was a number at the key, which is written to `before`,
+ * and else SAMVOLIP_ABSENT, and `before` is as it was. `before` may be NULL. replace_if and
+ * remove_if answer 1 where they did it, and else 0.
+ */
+
+/* The write as long as it is contended, and its reply. */
+static inline int samvolip_write(samvolip_seat *seat, uint64_t key, uint32_t want, uint64_t old,
+                                 uint32_t change, uint64_t number, samvolip_reply *reply)
+{
+    int code;
+    do
+        code = samvolip_put_if_match(seat, key, want, old, change, number, UINT32_MAX, reply);
+    while (code == SAMVOLIP_CONTENDED);
+    return code;
+}
+
+/* The same, and what it found. */
+static inline int samvolip_write_found(samvolip_seat *seat, uint64_t key, uint32_t want,
+                                       uint32_t change, uint64_t number, uint64_t *before)
+{
+    samvolip_reply reply;
+    int code = samvolip_write(seat, key, want, 0, change, number, &reply);
+    if (code < 0)
+        return code;
+    if (!reply.had)
+        return SAMVOLIP_ABSENT;
+    if (before)
+        *before = reply.before;
+    return SAMVOLIP_PRESENT;
+}
+
+/* The same, and whether its condition held. */
+static inline int samvolip_write_matched(samvolip_seat *seat, uint64_t key, uint64_t old,
+                                         uint32_t change, uint64_t number)
+{
+    samvolip_reply reply;
+    int code = samvolip_write(seat, key, SAMVOLIP_EQUAL, old, change, number, &reply);
+    return code < 0 ? code : (int)reply.matched;
+}
+
+/* Puts a number at a key. Refused: KEY_RANGE, VALUE_RANGE, FULL. */
+static inline int samvolip_put(samvolip_seat *seat, uint64_t key, uint64_t number,
+                               uint64_t *before)
+{
+    return samvolip_write_found(seat, key, SAMVOLIP_ANY, SAMVOLIP_PUT, number, before);
+}
+
+/* Puts a number at a key that has none: SAMVOLIP_ABSENT where it did. Refused as samvolip_put. */
+static inline int samvolip_put_if_absent(samvolip_seat *seat, uint64_t key, uint64_t number,
+                                         uint64_t *before)
+{
+    return samvolip_write_found(seat, key, SAMVOLIP_WANT_ABSENT, SAMVOLIP_PUT, number, before);
+}
+
+/* Puts a number in place of another: SAMVOLIP_PRESENT where it did. Refused: KEY_RANGE,
+   VALUE_RANGE. */
+static inline int samvolip_replace(samvolip_seat *seat, uint64_t key, uint64_t number,
+                                   uint64_t *before)
+{
+    return samvolip_write_found(seat, key, SAMVOLIP_WANT_PRESENT, SAMVOLIP_PUT, number, before);
+}
+
+/* Puts a number in place of this one. Refused: KEY_RANGE, VALUE_RANGE. */
+static inline int samvolip_replace_if(samvolip_seat *seat, uint64_t key, uint64_t old,
+                                      uint64_t number)
+{
+    return samvolip_write_matched(seat, key, old, SAMVOLIP_PUT, number);
+}
+
+/* Takes a key out. Refused: KEY_RANGE. */
+static inline int samvolip_remove(samvolip_seat *seat, uint64_t key, uint64_t *before)
+{
+    return samvolip_write_found(seat, key, SAMVOLIP_ANY, SAMVOLIP_REMOVE, 0, before);
+}
+
+/* Takes out a key that has this number. Refused: KEY_RANGE, VALUE_RANGE. */
+static inline int samvolip_remove_if(samvolip_seat *seat, uint64_t key, uint64_t number)
+{
+    return samvolip_write_matched(seat, key, number, SAMVOLIP_REMOVE, 0);
+}
+
+/* Adds a number to what is at a key, none counting as 0. Refused: KEY_RANGE, VALUE_RANGE, FULL,
+   SUM_RANGE. */
+static inline int samvolip_add(samvolip_seat *seat, uint64_t key, uint64_t number,
+                               uint64_t *before)
+{
+    return samvolip_write_found(seat, key, SAMVOLIP_ANY, SAMVOLIP_ADD, number, before);
+}
+
+/*
+ * Sets a key to *next where it is at *expected; NULL stands for no number. As
+ * atomic_compare_exchange it is one step, but `reply` tells what was found. It is a
+ * samvolip_put_if_match, with its tries and refusals.
+ */
+static inline int samvolip_compare_exchange(samvolip_seat *seat, uint64_t key,
+                                            const uint64_t *expected, const uint64_t *next,
+                                            uint32_t tries, samvolip_reply *reply)
+{
+    return samvolip_put_if_match(seat, key, expected ? SAMVOLIP_EQUAL : SAMVOLIP_WANT_ABSENT,
+                                 expected ? *expected : 0, next ? SAMVOLIP_PUT : SAMVOLIP_REMOVE,
+                                 next ? *next : 0, tries, reply);
+}
+
+#endif

@@ -1,0 +1,235 @@
+/* The checks of SAMVOLIP_CHECKED. samvolip.h includes it. */
+#ifndef SAMVOLIP_CHECKED_H
+#define SAMVOLIP_CHECKED_H
+
+#include <stdio.h>
+#include <stdlib.h>
+
+#ifdef __cplusplus
+extern "C" {
+#endif
+
+static inline void samvolip_broken(const char *call, const char *rule)
+{
+    fprintf(stderr, "%s: %s\n", call, rule);
+    abort();
+}
+
+static inline void samvolip_check(int holds, const char *call, const char *rule)
+{
+    if (!holds)
+        samvolip_broken(call, rule);
+}
+
+/* The seat is full, and this call is its only one until samvolip_leave. */
+static inline void samvolip_enter(samvolip_seat *seat, const char *call)
+{
+    samvolip_check(seat != NULL, call, "the seat is NULL");
+    samvolip_check(seat->handle != NULL, call, "the seat is empty");
+    samvolip_check(!__atomic_exchange_n(&seat->in_use, 1, __ATOMIC_SEQ_CST), call,
+                   "two threads are in one seat");
+}
+
+static inline void samvolip_leave(samvolip_seat *seat)
+{
+    __atomic_store_n(&seat->in_use, 0, __ATOMIC_SEQ_CST);
+}
+
+static inline void samvolip_enter_both(samvolip_seat *seat, samvolip_seat *other,
+                                       const char *call)
+{
+    samvolip_check(seat != other, call, "the seats are one");
+    samvolip_enter(seat, call);
+    samvolip_enter(other, call);
+    samvolip_check(seat->handle != other->handle, call, "the seats are copies of one");
+    samvolip_check(seat->map == other->map, call, "the seats are of two maps");
+}
+
+static inline void samvolip_check_empty(const samvolip_seat *seat, const char *call)
+{
+    samvolip_check(seat != NULL, call, "the seat is NULL");
+    samvolip_check(seat->handle == NULL, call, "the seat is full already");
+}
+
+static inline void samvolip_check_ended(const samvolip_ended *ended, const char *call)
+{
+    samvolip_check(ended != NULL, call, "the handle is NULL");
+    samvolip_check(ended->handle != NULL, call, "the handle is empty");
+}
+
+/* A name for a new map: of the address of what its first handle stands for, and a count of the maps
+   that this file has opened. Two maps have one name hardly ever, and then a check is missed. */
+static inline uintptr_t samvolip_name_of_map(const samvolip_seat *seat)
+{
+    static uintptr_t maps;
+    return (uintptr_t)seat->handle + __atomic_add_fetch(&maps, 1, __ATOMIC_SEQ_CST);
+}
+
+static inline int samvolip_checked_open(const samvolip_shape *shape, samvolip_seat *seat)
+{
+    int code;
+    samvolip_check(shape != NULL, "samvolip_open", "the shape is NULL");
+    samvolip_check_empty(seat, "samvolip_open");
+    code = samvolip_open(shape, seat);
+    if (code == SAMVOLIP_OK) {
+        seat->map = samvolip_name_of_map(seat);
+        seat->in_use = 0;
+    }
+    return code;
+}
+
+static inline int samvolip_checked_split(samvolip_seat *seat, samvolip_seat *other)
+{
+    int code;
+    samvolip_check_empty(other, "samvolip_split");
+    samvolip_enter(seat, "samvolip_split");
+    code = samvolip_split(seat, other);
+    if (code == SAMVOLIP_OK) {
+        other->map = seat->map;
+        other->in_use = 0;
+    }
+    samvolip_leave(seat);
+    return code;
+}
+
+static inline int samvolip_checked_join(samvolip_seat *seat, samvolip_seat *other)
+{
+    int code;
+    samvolip_enter_both(seat, other, "samvolip_join");
+    code = samvolip_join(seat, other);
+    samvolip_leave(other);
+    samvolip_leave(seat);
+    return code;
+}
+
+static inline int samvolip_checked_close(samvolip_seat *seat, samvolip_ended *ended)
+{
+    int code;
+    samvolip_check(ended != NULL, "samvolip_close", "the handle is NULL");
+    samvolip_check(ended->handle == NULL, "samvolip_close", "the handle is full already");
+    samvolip_enter(seat, "samvolip_close");
+    code = samvolip_close(seat, ended);
+    samvolip_leave(seat);
+    return code;
+}
+
+static inline void samvolip_checked_free(samvolip_seat *seat)
+{
+    samvolip_check(seat != NULL, "samvolip_free", "the seat is NULL");
+    if (!seat->handle)
+        return;
+    samvolip_enter(seat, "samvolip_free");
+    samvolip_free(seat);
+    samvolip_leave(seat);
+}
+
+static inline int samvolip_checked_get(samvolip_seat *seat, uint64_t key, uint64_t *number)
+{
+    int code;
+    samvolip_check(number != NULL, "samvolip_get", "the number is NULL");
+    samvolip_enter(seat, "samvolip_get");
+    code = samvolip_get(seat, key, number);
+    samvolip_leave(seat);
+    return code;
+}
+
+static inline int samvolip_checked_put_if_match(samvolip_seat *seat, uint64_t key, uint32_t want,
+                                                uint64_t old, uint32_t change, uint64_t number,
+                                                uint32_t tries, samvolip_reply *reply)
+{
+    int code;
+    samvolip_check(reply != NULL, "samvolip_put_if_match", "the reply is NULL");
+    samvolip_check(want <= SAMVOLIP_EQUAL, "samvolip_put_if_match", "no such condition");
+    samvolip_check(change <= SAMVOLIP_ADD, "samvolip_put_if_match", "no such change");
+    samvolip_enter(seat, "samvolip_put_if_match");
+    code = samvolip_put_if_match(seat, key, want, old, change, number, tries, reply);
+    samvolip_leave(seat);
+    return code;
+}
+
+static inline uint64_t samvolip_checked_size_estimate(samvolip_seat *seat)
+{
+    uint64_t size;
+    samvolip_enter(seat, "samvolip_size_estimate");
+    size = samvolip_size_estimate(seat);
+    samvolip_leave(seat);
+    return size;
+}
+
+static inline uint32_t samvolip_checked_generation(samvolip_seat *seat)
+{
+    uint32_t generation;
+    samvolip_enter(seat, "samvolip_generation");
+    generation = samvolip_generation(seat);
+    samvolip_leave(seat);
+    return generation;
+}
+
+static inline void samvolip_checked_meet(samvolip_seat *seat, samvolip_seat *other)
+{
+    samvolip_enter_both(seat, other, "samvolip_meet");
+    samvolip_meet(seat, other);
+    samvolip_leave(other);
+    samvolip_leave(seat);
+}
+
+static inline void samvolip_checked_walk(samvolip_seat *seat)
+{
+    samvolip_enter(seat, "samvolip_walk");
+    samvolip_walk(seat);
+    samvolip_leave(seat);
+}
+
+static inline int samvolip_checked_next(samvolip_seat *seat, uint64_t *key, uint64_t *number)
+{
+    int code;
+    samvolip_check(key != NULL && number != NULL, "samvolip_next", "the key or number is NULL");
+    samvolip_enter(seat, "samvolip_next");
+    code = samvolip_next(seat, key, number);
+    samvolip_leave(seat);
+    return code;
+}
+
+static inline uint64_t samvolip_checked_ended_size(samvolip_ended *ended)
+{
+    samvolip_check_ended(ended, "samvolip_ended_size");
+    return samvolip_ended_size(ended);
+}
+
+static inline int samvolip_checked_ended_get(samvolip_ended *ended, uint64_t key,
+                                             uint64_t *number)
+{
+    samvolip_check(number != NULL, "samvolip_ended_get", "the number is NULL");
+    samvolip_check_ended(ended, "samvolip_ended_get");
+    return samvolip_ended_get(ended, key, number);
+}
+
+static inline int samvolip_checked_ended_entries(samvolip_ended *ended, samvolip_entry *entries,
+                                                 size_t room)
+{
+    samvolip_check(entries != NULL, "samvolip_ended_entries", "the array is NULL");
+    samvolip_check_ended(ended, "samvolip_ended_entries");
+    return samvolip_ended_entries(ended, entries, room);
+}
+
+#ifdef __cplusplus
+}
+#endif
+
+#define samvolip_open samvolip_checked_open
+#define samvolip_split samvolip_checked_split
+#define samvolip_join samvolip_checked_join
+#define samvolip_close samvolip_checked_close
+#define samvolip_free samvolip_checked_free
+#define samvolip_get samvolip_checked_get
+#define samvolip_put_if_match samvolip_checked_put_if_match
+#define samvolip_size_estimate samvolip_checked_size_estimate
+#define samvolip_generation samvolip_checked_generation
+#define samvolip_meet samvolip_checked_meet
+#define samvolip_walk samvolip_checked_walk
+#define samvolip_next samvolip_checked_next
+#define samvolip_ended_size samvolip_checked_ended_size
+#define samvolip_ended_get samvolip_checked_ended_get
+#define samvolip_ended_entries samvolip_checked_ended_entries
+
+#endif

@@ -1,0 +1,24 @@
+-- Seats that are gathered are still their map's.
+use Rattle.std.proofs.Common.{◌≡◌, List, [], ◌∷◌, ◌++◌, ap, ◌∙◌, sym, subst}
+use Rattle.std.proofs.lemmas.List.Elements.{All-append, All-cons, All-nil, All-same}
+use Rattle.nb_map.specs.Maps.{AreMine, IsMine, MapOf, SeatOf}
+
+-- with one seat more of the map's at their end
+pub mine-more :
+    (m n : MapOf) (seats seats' : List SeatOf) (seat : SeatOf) → n ≡ m
+    → seats' ≡ seats ++ seat ∷ [] → AreMine m seats → IsMine m seat
+    → AreMine n seats'
+mine-more m n seats seats' seat is are mine one =
+    subst (λ k. AreMine k seats') (sym is)
+    (All-same (IsMine m) seats' (seats ++ seat ∷ []) are
+    (All-append (IsMine m) seats (seat ∷ []) mine
+    (All-cons (IsMine m) seat [] one (All-nil (IsMine m)))))
+
+-- with those of another handle of the map
+pub mine-both :
+    (m n : MapOf) (seats others both : List SeatOf) → n ≡ m → both ≡ seats ++ others
+    → AreMine m seats → AreMine n others
+    → AreMine m both
+mine-both m n seats others both is are mine theirs =
+    All-same (IsMine m) both (seats ++ others) are
+    (All-append (IsMine m) seats others mine (subst (λ k. AreMine k others) is theirs))

@@ -1,0 +1,41 @@
+-- What a write by a handle comes to.
+use Rattle.std.proofs.Common.{◌≡◌, ℕ, ◌+◌, min, max, [], Result, Ok, Err, IfOk, IfErr, refl}
+use Rattle.nb_core.specs.declared.calls.Call.{Call}
+use Rattle.nb_core.specs.declared.calls.Reply.{Reply}
+use Rattle.nb_map.specs.Logs.{HasLogged, HasReplied}
+use Rattle.nb_map.specs.Maps.{HasWorked, MapOf, SeatOf}
+use Rattle.nb_map.specs.Refusing.{IsJust, put_steps}
+use Rattle.nb_map.specs.Writing.{passed_since}
+use Rattle.nb_map.specs.declared.write.PutFault.{PutFault}
+use Rattle.nb_ffi.specs.Handles.{HasPut, HasRefused, HeldOf, with_seat}
+
+module _ {m : MapOf} {c : Call} {t : ℕ} {after : SeatOf} (old : HeldOf) (tries : ℕ) (is : m ≡ old.map)
+    (most : t ≡ max tries 1)
+    (worked : HasWorked m c old.seat after
+    (put_steps m.chain.shape (min t (passed_since c old.seat.chain after.chain + 1)))) where
+  -- what was made, the handle tells as its own
+  pub put-made :
+      (result : Result Reply PutFault) → IfOk result (HasReplied c old.seat after)
+      → IfOk result (λ reply. HasPut c tries reply old (with_seat old after))
+  put-made (Ok reply) replied =
+      record {
+        replied = replied;
+        worked = rw (← is, ← most) worked;
+        rest = record { map = refl; spare = refl; walk = refl };
+      }
+  put-made (Err fault) replied = tt
+
+  -- and what was refused
+  pub put-refused :
+      (result : Result Reply PutFault)
+      → IfErr result (λ fault. HasLogged old.seat after []
+      × IsJust m.chain.shape c old.seat.chain after.chain t fault)
+      → IfErr result (λ fault. HasRefused c tries fault old (with_seat old after))
+  put-refused (Ok reply) refused = tt
+  put-refused (Err fault) refused =
+      record {
+        logged = refused.0;
+        just = rw (← is, ← most) refused.1;
+        worked = rw (← is, ← most) worked;
+        rest = record { map = refl; spare = refl; walk = refl };
+      }

@@ -1,0 +1,19 @@
+-- What a handle owns: the same as a `Box<EndedMap>`, or nothing where it is empty.
+use base.Fml.{Fml, ftrue}
+use base.Stored.{Coded}
+use denote.RawPtr.{Ptr}
+use Rattle.std.specs.Prelude.{Option, Some, None}
+use Rattle.std.specs.Box.Ownership.{box_owns}
+use Rattle.std.specs.Coded.{coded_option}
+use Rattle.std.specs.Global.{Global}
+use Rattle.std_heap.specs.contracts.GlobalAllocator.TheImpl.{ghosts}
+use Rattle.nb_ffi.specs.contracts.ended_map.EndedMap.{the_row}
+
+-- what a handle at this pointer owns
+abbrev pub left_owns : Global → Ptr → Option the_row.Denot → Fml
+left_owns alloc ptr None = ftrue
+left_owns alloc ptr (Some left) = box_owns (ghosts.dealloc_token alloc) the_row ptr left
+
+-- the code of what it stands for
+abbrev pub left_coded : Coded (Option the_row.Denot)
+left_coded = coded_option the_row.coded

@@ -1,0 +1,100 @@
+-- What the exports tell of a handle.
+use Rattle.std.specs.Prelude.{◌≡◌, ℕ, ◌+◌, max, min, List, [], ◌∷◌, ◌++◌, Option, Some, None}
+use Rattle.nb_core.specs.Log.{reply_at}
+use Rattle.nb_core.specs.declared.calls.Call.{Call}
+use Rattle.nb_core.specs.declared.calls.Call.TheVariants as call
+use Rattle.nb_core.specs.declared.calls.Reply.{Reply}
+use Rattle.nb_map.specs.Logs.{HasLogged, HasReplied}
+use Rattle.nb_map.specs.Looking.{get_steps}
+use Rattle.nb_map.specs.Maps.{HasWorked, MapOf, SeatOf, new_seats}
+use Rattle.nb_map.specs.Refusing.{IsJust, put_steps}
+use Rattle.nb_map.specs.Writing.{passed_since}
+use Rattle.nb_map.specs.declared.write.PutFault.{PutFault}
+use Rattle.nb_core.specs.Plans.{Plan}
+use Rattle.nb_map.specs.Walks.{WalkOf}
+
+-- what a handle stands for: the map that it is of, its seat, the seats that it has in reserve, and
+-- the walk that its seat has begun, if it has
+pub record HeldOf : Type 0 where
+  pub map : MapOf
+  pub seat : SeatOf
+  pub spare : List SeatOf
+  pub walk : Option WalkOf
+
+-- the shape of its map
+abbrev pub plan_of : HeldOf → Plan
+plan_of held = held.map.chain.shape
+
+-- the same with another seat
+abbrev pub with_seat : HeldOf → SeatOf → HeldOf
+with_seat held seat =
+    record { map = held.map; seat = seat; spare = held.spare; walk = held.walk }
+
+-- all seats that a handle has
+abbrev pub all_seats : HeldOf → List SeatOf
+all_seats held = held.spare ++ held.seat ∷ []
+
+-- the handle stands for something
+abbrev pub IsOpen : Option HeldOf → Type 0
+IsOpen handle = (held : HeldOf) × (handle ≡ Some held)
+
+-- the handle was open and is, and this is so of what it stood for and what it stands for
+pub record Turned (before after : Option HeldOf) (P : HeldOf → HeldOf → Type 0) : Type 0 where
+  pub old : HeldOf
+  pub new : HeldOf
+  pub was : before ≡ Some old
+  pub is : after ≡ Some new
+  pub holds : P old new
+
+-- The handle is of the same map, has the same seats in reserve, and its walk is where it was.
+pub record KeepsRest (before after : HeldOf) : Type 0 where
+  pub map : after.map ≡ before.map
+  pub spare : after.spare ≡ before.spare
+  pub walk : after.walk ≡ before.walk
+
+-- The handle's seat has made this one call with this reply, in at most so many steps.
+pub record HasCalled (c : Call) (reply : Reply) (most : ℕ) (before after : HeldOf) : Type 0 where
+  pub replied : HasReplied c before.seat after.seat reply
+  pub worked : HasWorked before.map c before.seat after.seat most
+  pub rest : KeepsRest before after
+
+-- the seat has read this at a key
+abbrev pub HasGot : (key : ℕ) → Option ℕ → (before after : HeldOf) → Type 0
+HasGot key number before after =
+    HasCalled (call.Get key) (reply_at (call.Get key) number) (get_steps (plan_of before)) before
+    after
+
+-- the most steps of a write, which has one try at least
+abbrev pub write_steps : Call → (tries : ℕ) → (before after : HeldOf) → ℕ
+write_steps c tries before after = put_steps (plan_of before)
+    (min (max tries 1) (passed_since c before.seat.chain after.seat.chain + 1))
+
+-- the seat has made this write, with this reply
+abbrev pub HasPut : Call → (tries : ℕ) → Reply → (before after : HeldOf) → Type 0
+HasPut c tries reply before after =
+    HasCalled c reply (write_steps c tries before after) before after
+
+-- The seat has made no call, and that this write was refused is just.
+pub record HasRefused (c : Call) (tries : ℕ) (fault : PutFault) (before after : HeldOf) :
+    Type 0 where
+  pub logged : HasLogged before.seat after.seat []
+  pub just :
+      IsJust (plan_of before) c before.seat.chain after.seat.chain (max tries 1) fault
+  pub worked : HasWorked before.map c before.seat after.seat
+      (write_steps c tries before after)
+  pub rest : KeepsRest before after
+
+-- a handle of a new map of this shape, which has all its seats
+pub record IsNew (p : Plan) (held : HeldOf) : Type 0 where
+  pub shape : plan_of held ≡ p
+  pub seats : all_seats held ≡ new_seats held.map p.seats
+  pub walk : held.walk ≡ None
+
+-- a handle was split: another one of the same map has the last seat in reserve
+pub record IsPartOf (before after other : HeldOf) : Type 0 where
+  pub map : after.map ≡ before.map
+  pub other_map : other.map ≡ before.map
+  pub seat : after.seat ≡ before.seat
+  pub walk : after.walk ≡ before.walk
+  pub spare : before.spare ≡ after.spare ++ all_seats other
+  pub other_walk : other.walk ≡ None

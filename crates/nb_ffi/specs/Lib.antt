@@ -1,0 +1,12 @@
+pub mod Handles
+pub mod Inside
+pub mod SeatOwning
+pub mod SeatLending
+pub mod EndedOwning
+pub mod EndedLending
+pub mod Codes
+pub mod Shapes
+pub mod Closing
+pub mod Entries
+pub mod Walking
+pub mod Telling

@@ -1,0 +1,131 @@
+-- What the exports come to, by their codes.
+use Rattle.std.specs.Prelude.{◌≡◌, ◌++◌, ◌⊎◌, ℕ, ℤ, List, [], length, Option, Some, None, Result, Ok, Err}
+use Rattle.std.specs.FinMap as numbers
+use Rattle.nb_core.specs.Log.{IsBeginning}
+use Rattle.nb_core.specs.Plans.{Plan}
+use Rattle.nb_core.specs.declared.calls.Call.{Call}
+use Rattle.nb_table.specs.Chains.{seen_by}
+use Rattle.nb_map.specs.Ending.{EndedOf, map_left}
+use Rattle.nb_map.specs.Logs.{HasLogged, log}
+use Rattle.nb_map.specs.declared.write.PutFault.{PutFault}
+use Rattle.nb_ffi.specs.Closing.{HasAllSeats, IsEndOf}
+use Rattle.nb_ffi.specs.Codes.{fault_code, reply_told}
+use Rattle.nb_ffi.specs.Handles.{HasGot, HasPut, HasRefused, HeldOf, IsNew, IsPartOf, KeepsRest, Turned, all_seats, plan_of}
+use Rattle.nb_ffi.specs.declared.codes.WriteReply.{WriteReply}
+use Rattle.nb_ffi.specs.declared.codes.TheConstants.{ABSENT, KEY_RANGE, LOST, NOT_ALL_SEATS, NO_SEAT, OK, OUT_OF_MEMORY, PRESENT}
+use Rattle.nb_ffi.specs.declared.ended_map.EndedMap.{EndedMap}
+
+-- A read came to this code: it found the number that is written, or none, and 0 is written; or the
+-- key is none, and nothing happened.
+abbrev pub IsGet :
+    Result ℕ ℤ → (code : ℤ) → (number number' : ℕ) → (before after : Option HeldOf) → Type 0
+IsGet (Ok key) code number number' before after =
+    ((code ≡ PRESENT) × Turned before after (HasGot key (Some number')))
+    ⊎ ((code ≡ ABSENT) × (number' ≡ 0) × Turned before after (HasGot key None))
+IsGet (Err refusal) code number number' before after =
+    (code ≡ refusal) × (number' ≡ number) × (after ≡ before)
+
+-- A write came to this code: it was made, and its reply is written; or it was refused; or a number
+-- or a code of it is none, and nothing happened.
+abbrev pub IsWrite :
+    Result Call ℤ → (tries : ℕ) → (code : ℤ) → (reply reply' : WriteReply)
+    → (before after : Option HeldOf)
+    → Type 0
+IsWrite (Ok call) tries code reply reply' before after =
+    ((code ≡ OK) × Turned before after (HasPut call tries (reply_told reply')))
+    ⊎ ((fault : PutFault) × (code ≡ fault_code fault) × (reply' ≡ reply)
+    × Turned before after (HasRefused call tries fault))
+IsWrite (Err refusal) tries code reply reply' before after =
+    (code ≡ refusal) × (reply' ≡ reply) × (after ≡ before)
+
+-- the seat has made no call, and all else is as it was
+pub record HasOnlyLooked (before after : HeldOf) : Type 0 where
+  pub logged : HasLogged before.seat after.seat []
+  pub rest : KeepsRest before after
+
+-- the same, and it found this many tables complete
+pub record HasFoundTop (top : ℕ) (before after : HeldOf) : Type 0 where
+  pub looked : HasOnlyLooked before after
+  pub found : (seen_by (plan_of before) after.seat.chain).top ≡ top
+
+-- both handles are of one map
+abbrev pub AreOfOneMap : Option HeldOf → Option HeldOf → Type 0
+AreOfOneMap a b =
+    (one : HeldOf) (other : HeldOf) → a ≡ Some one → b ≡ Some other → one.map ≡ other.map
+
+-- the seat has made no call, and has learned all that the other one knew
+pub record HasLearned (other : Option HeldOf) (before after : HeldOf) : Type 0 where
+  pub looked : HasOnlyLooked before after
+  pub learned : (known : HeldOf) → other ≡ Some known
+      → IsBeginning (log known.seat) (log after.seat)
+
+-- A map was opened with this code, or not: the handle has all seats of a new map of the shape; or
+-- it is as it was, and the code is the shape's, or there was no memory.
+abbrev pub IsOpening : Result Plan ℤ → (code : ℤ) → (before after : Option HeldOf) → Type 0
+IsOpening (Ok p) code before after =
+    ((code ≡ OK) × ((held : HeldOf) × (after ≡ Some held) × IsNew p held))
+    ⊎ ((code ≡ OUT_OF_MEMORY) × (after ≡ before))
+IsOpening (Err refusal) code before after = (code ≡ refusal) × (after ≡ before)
+
+-- a handle was split with this code, or not
+pub data IsSplit (code : ℤ) (before after other other' : Option HeldOf) : Type 0 where
+  Split :
+      code ≡ OK → (part : HeldOf) → other' ≡ Some part
+      → Turned before after (λ old new. IsPartOf old new part)
+      → IsSplit code before after other other'
+  Kept :
+      (code ≡ OUT_OF_MEMORY) ⊎ (code ≡ NO_SEAT) → after ≡ before → other' ≡ other
+      → IsSplit code before after other other'
+
+-- the handle has the seats of another one in reserve
+pub record HasJoined (other : HeldOf) (before after : HeldOf) : Type 0 where
+  pub map : after.map ≡ before.map
+  pub seat : after.seat ≡ before.seat
+  pub walk : after.walk ≡ before.walk
+  pub spare : after.spare ≡ before.spare ++ all_seats other
+
+-- two handles were joined with this code, and the other is empty; or they are as they were
+pub data IsJoin (code : ℤ) (before after other other' : Option HeldOf) : Type 0 where
+  Joined :
+      code ≡ OK → (given : HeldOf) → other ≡ Some given → other' ≡ None
+      → Turned before after (HasJoined given)
+      → IsJoin code before after other other'
+  Kept :
+      code ≡ OUT_OF_MEMORY → after ≡ before → other' ≡ other
+      → IsJoin code before after other other'
+
+-- A map was closed with this code, and its handle is empty; or all is as it was, for want of memory
+-- or of seats. That a map is given up whose handle has all seats, since somebody else holds it, no
+-- right caller sees.
+pub data IsClose (code : ℤ) (before after : Option HeldOf) (left left' : Option EndedMap) :
+    Type 0 where
+  Closed :
+      code ≡ OK → (held : HeldOf) → before ≡ Some held → after ≡ None → (end : EndedMap)
+      → left' ≡ Some end → IsEndOf held end
+      → IsClose code before after left left'
+  Kept :
+      code ≡ OUT_OF_MEMORY → after ≡ before → left' ≡ left
+      → IsClose code before after left left'
+  Lacks :
+      code ≡ NOT_ALL_SEATS → (held : HeldOf) → before ≡ Some held → (HasAllSeats held → ⊥)
+      → after ≡ before → left' ≡ left
+      → IsClose code before after left left'
+  Lost :
+      code ≡ LOST → (held : HeldOf) → before ≡ Some held → HasAllSeats held → after ≡ None
+      → left' ≡ left
+      → IsClose code before after left left'
+
+-- the handle has this ended map
+abbrev pub IsEnd : EndedOf → Option EndedMap → Type 0
+IsEnd end handle = handle ≡ Some (record { ended = Some end })
+
+-- the handle has an ended map
+abbrev pub HasEnd : Option EndedMap → Type 0
+HasEnd handle = (end : EndedOf) × IsEnd end handle
+
+-- A look at an ended map came to this code: its number at the key, or none; or the key is none.
+abbrev pub IsEndGet : Result ℕ ℤ → (code : ℤ) → (number number' : ℕ) → EndedOf → Type 0
+IsEndGet (Ok key) code number number' end =
+    ((code ≡ PRESENT) × (numbers.get (map_left end) key ≡ Some number'))
+    ⊎ ((code ≡ ABSENT) × (number' ≡ 0) × (numbers.get (map_left end) key ≡ None))
+IsEndGet (Err refusal) code number number' end = (code ≡ refusal) × (number' ≡ number)

@@ -1,0 +1,70 @@
+//! The calls of a handle.
+ghost use Rattle.std.specs.Prelude.{◌≡◌, IfErr, IfOk, [], max};
+ghost use Rattle.nb_core.specs.declared.calls.Call.TheVariants as call;
+ghost use Rattle.nb_map.specs.Logs.{HasLogged, log};
+ghost use Rattle.nb_core.specs.Log.{IsBeginning};
+ghost use Rattle.nb_core.specs.Tables.{IsComplete};
+ghost use Rattle.nb_table.specs.Chains.{seen_by};
+ghost use Rattle.nb_ffi.specs.Handles.{HasGot, HasPut, HasRefused, KeepsRest, plan_of};
+
+use crate::held::Held;
+use nb_core::{Change, Key, Num, Reply, Want};
+use nb_map::PutFault;
+
+impl Held {
+    /// `Map::get`.
+    #[inline]
+    pub(crate) fn get(&mut self, key: Key) -> Option<Num>
+        ensures { HasGot key result self.old self.new }
+    {
+        self.map.get(&mut self.seat, key)
+    }
+
+    /// `Map::put_if_match`. No tries count as one.
+    #[inline]
+    pub(crate) fn put_if_match(
+        &mut self,
+        key: Key,
+        want: Want,
+        change: Change,
+        tries: u32,
+    ) -> Result<Reply, PutFault>
+        ensures made { IfOk result (λ reply. HasPut (call.Write key want change) tries reply
+            self.old self.new) }
+        ensures refused { IfErr result (λ fault. HasRefused (call.Write key want change) tries
+            fault self.old self.new) }
+    {
+        self.map
+            .put_if_match(&mut self.seat, key, want, change, tries.max(1))
+    }
+
+    /// `Map::size_estimate`.
+    pub(crate) fn size_estimate(&mut self) -> u64
+        ensures logged { HasLogged self.old.seat self.new.seat [] }
+        ensures rest { KeepsRest self.old self.new }
+    {
+        self.map.size_estimate(&mut self.seat)
+    }
+
+    /// `Map::generation`.
+    pub(crate) fn generation(&mut self) -> u32
+        ensures logged { HasLogged self.old.seat self.new.seat [] }
+        ensures found { (seen_by (plan_of self.old) self.new.seat.chain).top ≡ result }
+        ensures rest { KeepsRest self.old self.new }
+    {
+        self.map.generation(&mut self.seat)
+    }
+
+    /// `Map::meet`.
+    pub(crate) fn meet(&mut self, other: &mut Held)
+        requires one { self.old.map ≡ other.old.map }
+        ensures here { HasLogged self.old.seat self.new.seat []
+            × IsBeginning (log other.old.seat) (log self.new.seat) }
+        ensures there { HasLogged other.old.seat other.new.seat []
+            × IsBeginning (log self.old.seat) (log other.new.seat) }
+        ensures rest { KeepsRest self.old self.new }
+        ensures other_rest { KeepsRest other.old other.new }
+    {
+        self.map.meet(&mut self.seat, &mut other.seat);
+    }
+}

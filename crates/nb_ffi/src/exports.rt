@@ -1,0 +1,8 @@
+//! What C calls. Each export does what the map's call does, and says so of the handle; what a code
+//! means, `specs/Codes.antt` says.
+
+mod calls;
+mod ended;
+mod handles;
+mod library;
+mod walks;

@@ -1,0 +1,106 @@
+//! How handles come and go.
+ghost use Rattle.std.specs.Prelude.{◌≡◌, None};
+ghost use Rattle.nb_ffi.specs.Handles.{IsOpen};
+ghost use Rattle.nb_ffi.specs.Shapes.{plan_told};
+ghost use Rattle.nb_ffi.specs.Telling.{AreOfOneMap, IsClose, IsJoin, IsOpening, IsSplit};
+
+use crate::codes::{LOST, NO_SEAT, NOT_ALL_SEATS, OK, OUT_OF_MEMORY};
+use crate::ended_handle::EndedHandle;
+use crate::life::{CloseFault, SplitFault, closed, opened};
+use crate::map_shape::MapShape;
+use crate::seat_handle::SeatHandle;
+use std::alloc::Global;
+
+/// `Map::new`, as one handle with all seats.
+#[unsafe(no_mangle)]
+pub extern "C" fn samvolip_open(alloc: Global, shape: &MapShape, seat: &mut SeatHandle) -> i32
+    requires empty { seat.old.held ≡ None }
+    ensures { IsOpening (plan_told shape.now) result seat.old.held seat.new.held }
+{
+    let shape = match shape.checked() {
+        Ok(shape) => shape,
+        Err(code) => return code,
+    };
+    match opened(alloc, shape) {
+        Ok(held) => {
+            seat.fill(held);
+            OK
+        }
+        Err(_) => OUT_OF_MEMORY,
+    }
+}
+
+/// A handle of its own for the last seat in reserve.
+#[unsafe(no_mangle)]
+pub extern "C" fn samvolip_split(
+    alloc: Global,
+    seat: &mut SeatHandle,
+    other: &mut SeatHandle,
+) -> i32
+    requires open { IsOpen seat.old.held }
+    requires empty { other.old.held ≡ None }
+    ensures { IsSplit result seat.old.held seat.new.held other.old.held other.new.held }
+{
+    match seat.lend().split(alloc) {
+        Ok(held) => {
+            other.fill(held);
+            OK
+        }
+        Err(SplitFault::OutOfMemory) => OUT_OF_MEMORY,
+        Err(SplitFault::NoSeat) => NO_SEAT,
+    }
+}
+
+/// All seats of the other handle go into the reserve of the first.
+#[unsafe(no_mangle)]
+pub extern "C" fn samvolip_join(alloc: Global, seat: &mut SeatHandle, other: &mut SeatHandle) -> i32
+    requires open { IsOpen seat.old.held }
+    requires other_open { IsOpen other.old.held }
+    requires one { AreOfOneMap seat.old.held other.old.held }
+    ensures { IsJoin result seat.old.held seat.new.held other.old.held other.new.held }
+{
+    match seat.lend().join(other.take(alloc)) {
+        Ok(()) => OK,
+        Err(back) => {
+            other.fill(back);
+            OUT_OF_MEMORY
+        }
+    }
+}
+
+/// `Map::finish`, with a handle that has all seats.
+#[unsafe(no_mangle)]
+pub extern "C" fn samvolip_close(
+    alloc: Global,
+    seat: &mut SeatHandle,
+    ended: &mut EndedHandle,
+) -> i32
+    requires open { IsOpen seat.old.held }
+    requires empty { ended.old.left ≡ None }
+    ensures { IsClose result seat.old.held seat.new.held ended.old.left ended.new.left }
+{
+    match closed(alloc, seat.take(alloc)) {
+        Ok(left) => {
+            ended.fill(left);
+            OK
+        }
+        Err(CloseFault::OutOfMemory(back)) => {
+            seat.fill(back);
+            OUT_OF_MEMORY
+        }
+        Err(CloseFault::NotAllSeats(back)) => {
+            seat.fill(back);
+            NOT_ALL_SEATS
+        }
+        Err(CloseFault::Lost) => LOST,
+    }
+}
+
+/// Frees what a handle stands for. The map goes with its last handle.
+#[unsafe(no_mangle)]
+pub extern "C" fn samvolip_free_open(alloc: Global, seat: &mut SeatHandle)
+    requires open { IsOpen seat.old.held }
+    ensures { seat.new.held ≡ None }
+{
+    drop(seat.take(alloc));
+}

@@ -1,0 +1,31 @@
+//! Walks over the map's keys.
+ghost use Rattle.nb_ffi.specs.Handles.{IsOpen, Turned};
+ghost use Rattle.nb_ffi.specs.Walking.{HasBegun, IsNext};
+
+use crate::codes::{ABSENT, PRESENT};
+use crate::seat_handle::SeatHandle;
+
+/// `Map::walk`.
+#[unsafe(no_mangle)]
+pub extern "C" fn samvolip_walk(seat: &mut SeatHandle)
+    requires open { IsOpen seat.old.held }
+    ensures { Turned seat.old.held seat.new.held HasBegun }
+{
+    seat.lend().begin_walk();
+}
+
+/// `Map::next_key`, of the walk that the handle has begun.
+#[unsafe(no_mangle)]
+pub extern "C" fn samvolip_next(seat: &mut SeatHandle, key: &mut u64, number: &mut u64) -> i32
+    requires open { IsOpen seat.old.held }
+    ensures { IsNext result key.new number.new seat.old.held seat.new.held }
+{
+    match seat.lend().next_key() {
+        Some((found, its)) => {
+            *key = found.get();
+            *number = its.get();
+            PRESENT
+        }
+        None => ABSENT,
+    }
+}

@@ -1,0 +1,17 @@
+//! The map for C: a static library of thin exports over handles. `include/samvolip.h` is its page
+//! for callers.
+#![tactic(auto)]
+
+mod calls;
+mod codes;
+mod ended_handle;
+mod ended_lend;
+mod ended_map;
+mod exports;
+mod held;
+mod life;
+mod map_shape;
+mod parts;
+mod seat_handle;
+mod seat_lend;
+mod walks;

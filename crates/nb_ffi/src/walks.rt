@@ -1,0 +1,25 @@
+//! Walks by a handle.
+ghost use Rattle.std.specs.Prelude.{◌≡◌, None, Some};
+ghost use Rattle.nb_ffi.specs.Walking.{HasBegun, HasNext};
+
+use crate::held::Held;
+use nb_core::{Key, Num};
+
+impl Held {
+    /// `Map::walk`. A walk that was underway is given up.
+    pub(crate) fn begin_walk(&mut self)
+        ensures { HasBegun self.old self.new }
+    {
+        self.walk = Some(self.map.walk(&mut self.seat));
+    }
+
+    /// `Map::next_key`, of the walk that is underway. With none it answers `None`.
+    pub(crate) fn next_key(&mut self) -> Option<(Key, Num)>
+        ensures { HasNext result self.old self.new }
+    {
+        match &mut self.walk {
+            Some(walk) => self.map.next_key(&mut self.seat, walk),
+            None => None,
+        }
+    }
+}

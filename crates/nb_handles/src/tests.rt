@@ -1,3 +1,0 @@
-//! Programs that work with handles.
-mod named;
-mod tallies;

@@ -1,0 +1,40 @@
+//! Numbers as keys.
+ghost use Rattle.std.specs.Prelude.{◌≡◌, IfOk};
+ghost use Rattle.nb_lines.specs.Keys.{number_at};
+
+use crate::faults::Cause;
+use crate::lines::read_number;
+use nb_core::{KEY_MAX, Key, RangeFault, mix, unmix};
+
+/// The key of a number up to [`KEY_MAX`]. It is mixed, so that numbers that share their low bits
+/// have home slots of their own. Where that is past the greatest key it is mixed again.
+#[inline]
+pub fn key_of(number: u64) -> Result<Key, RangeFault>
+    ensures { IfOk result (λ key. number_at key ≡ number) }
+{
+    if number > KEY_MAX {
+        return Err(RangeFault::KeyRange);
+    }
+    let mixed = mix(number);
+    if mixed > KEY_MAX {
+        return Key::new(mix(mixed));
+    }
+    Key::new(mixed)
+}
+
+/// The number whose key this is.
+pub fn number_of(key: Key) -> u64
+    ensures { result ≡ number_at key }
+{
+    let number = unmix(key.get());
+    if number > KEY_MAX {
+        return unmix(number);
+    }
+    number
+}
+
+/// The key of the number that a line writes.
+pub fn read_key(line: &[u8]) -> Result<Key, Cause> {
+    let number = read_number(line)?;
+    Ok(key_of(number)?)
+}

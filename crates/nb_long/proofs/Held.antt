@@ -1,0 +1,34 @@
+-- Handles of one typed map.
+use Rattle.std.proofs.Common.{◌≡◌, ◌∙◌, ℕ, List, [], ◌∷◌, ◌++◌, length, refl}
+use Rattle.std.proofs.lemmas.List.{length-map}
+use Rattle.std.proofs.lemmas.List.Elements.{All-append, All-cons, All-map, All-nil, All-same}
+use Rattle.std.proofs.lemmas.List.FromFn.{length-map-range_with_len}
+use Rattle.nb_long.specs.Handles.{AreOfOneMap, HandleOf, handle_on, new_handles}
+use Rattle.nb_long.specs.Typed.{LongMapOf}
+use Rattle.nb_map.specs.Maps.{AreMine, IsMine, MapOf, SeatOf, new_seat, new_seats}
+
+-- as many as were asked for
+pub length-new : (m : LongMapOf) (count : ℕ) → length (new_handles m count) ≡ count
+length-new m count =
+    length-map (new_seats m.map count) (handle_on m)
+    ∙ length-map-range_with_len (new_seat m.map) 0 count
+
+-- new handles are of one map
+pub of-one :
+    (m : LongMapOf) (count : ℕ) (handles : List HandleOf) → handles ≡ new_handles m count
+    → AreOfOneMap handles
+of-one m count handles are = (
+  m,
+  All-same (λ handle. handle.map ≡ m) handles (new_handles m count) are
+      (All-map (λ handle. handle.map ≡ m) (handle_on m) (new_seats m.map count)
+      (λ k d lt. refl)),
+)
+
+-- with one seat more of the map's at their end, all are still the map's
+pub mine-more :
+    (m : MapOf) (seats seats' : List SeatOf) (seat : SeatOf) → seats' ≡ seats ++ seat ∷ []
+    → AreMine m seats → IsMine m seat → AreMine m seats'
+mine-more m seats seats' seat are mine one =
+    All-same (IsMine m) seats' (seats ++ seat ∷ []) are
+    (All-append (IsMine m) seats (seat ∷ []) mine
+    (All-cons (IsMine m) seat [] one (All-nil (IsMine m))))

@@ -1,0 +1,47 @@
+use Rattle.std.proofs.Common.{◌≡◌, ◌∙◌, Some, ap, length, refl, subst, sym, arith}
+use Rattle.std.proofs.lemmas.List.Elements.{All-pop}
+use Rattle.nb_map.specs.Maps.{AreMine, IsMine}
+use Rattle.nb_long.specs.Typed.{LongMapOf}
+use Rattle.nb_long.proofs.handle.Handle.close.Goals as goal
+
+pub finish-requires : goal.finish-requires
+finish-requires g c =
+    let m = c.requires.one.0 in
+    let both = All-pop (λ handle. handle.map ≡ m) c.args.handles.items c.pop.new.self.items
+    (Some c.in-Some.last) c.in-Some.ensures.items c.requires.one.1 in
+    let this = ap (λ handle. handle.map) c.last.view_is ∙ both.1 in
+    record {
+      own = subst (λ (n : LongMapOf). AreMine n.map c.gathered-seats.result.items)
+          (sym (c.sole.ensures ∙ this))
+          (c.gathered-seats.ensures.own m both.0
+          (subst (λ (n : LongMapOf). IsMine n.map c.last.inside.seat) this c.last.invariant.own));
+    }
+
+pub returns-clause-all : goal.returns-clause-all
+returns-clause-all g c = λ k d lt.
+    let this = ap (λ handle. handle.map) c.last.view_is in
+    let both = All-pop (λ handle. handle.map ≡ c.requires.one.0) c.args.handles.items
+    c.pop.new.self.items (Some c.in-Some.last) c.in-Some.ensures.items c.requires.one.1 in
+    let seats : length c.gathered-seats.result.items ≡ c.sole.result.map.chain.shape.seats =
+    c.in-Ok.ensures.all.0 refl in
+    let same = ap (λ m. m.map.chain.shape.seats)
+    (c.sole.ensures ∙ this ∙ both.1 ∙ sym (c.requires.one.1 k d lt)) in (
+      λ is. omega (
+        arith,
+        seats,
+        same,
+        c.gathered-seats.ensures.count,
+        c.in-Some.ensures.len,
+        c.args.handles.ok,
+        c.pop.new.self.ok,
+      ),
+      λ is. refl,
+    )
+
+pub returns-clause-store : goal.returns-clause-store
+returns-clause-store g c = λ k d lt.
+    let this = ap (λ handle. handle.map) c.last.view_is in
+    let both = All-pop (λ handle. handle.map ≡ c.requires.one.0) c.args.handles.items
+    c.pop.new.self.items (Some c.in-Some.last) c.in-Some.ensures.items c.requires.one.1 in
+    c.in-Ok.ensures.store
+    ∙ ap (λ m. m.store) (c.sole.ensures ∙ this ∙ both.1 ∙ sym (c.requires.one.1 k d lt))

@@ -1,0 +1,290 @@
+//! Handles: the ways of threads to a typed map that they share.
+ghost use Rattle.std.specs.Prelude.{
+  ◌≡◌,
+  ◌↔◌,
+  ◌+◌,
+  ◌<◌,
+  ◌≤◌,
+  ◌∷◌,
+  ◌++◌,
+  ℕ,
+  [],
+  All,
+  IfErr,
+  IfOk,
+  IfSome,
+  Option,
+  false,
+  is_ok,
+  length,
+  true,
+  vec_capacity,
+};
+ghost use Rattle.std.specs.Arc.{arc_value};
+ghost use Rattle.boxcar.specs.Table.{Shows};
+ghost use Rattle.nb_core.specs.Log.{IsBeginning, reply_at};
+ghost use Rattle.nb_core.specs.declared.calls.Call.TheVariants as call;
+ghost use Rattle.nb_core.specs.declared.calls.Change.TheVariants as change;
+ghost use Rattle.nb_core.specs.declared.calls.Want.TheVariants as want;
+ghost use Rattle.nb_map.specs.Ending.{EndedWith};
+ghost use Rattle.nb_map.specs.Logs.{HasFound, HasLogged, HasReplied, log};
+ghost use Rattle.nb_map.specs.Looking.{IsSeenAtHome, get_steps};
+ghost use Rattle.nb_map.specs.Maps.{AreMine, HasWorked, IsMine, MapOf};
+ghost use Rattle.nb_map.specs.Refusing.{IsLockFree};
+ghost use Rattle.nb_long.specs.Handles.{AreOfOneMap, new_handles, seats_of};
+ghost use Rattle.nb_long.specs.Stores.{HasStored};
+ghost use Rattle.nb_long.specs.Typed.{
+  HasChangedIf,
+  HasWritten,
+  IsRefusedIf,
+  IsUnshown,
+  IsWriteRefused,
+  LongMapOf,
+};
+
+use crate::map::{LongFault, LongMap, Stored, Unshown};
+use crate::store::{Found, Store};
+use nb_core::{Key, MAX_SEATS, Num, OutOfMemory, Shape};
+use nb_map::{Ended, Seat};
+use std::alloc::Global;
+use std::marker::Model;
+use std::sync::{Arc, Wait};
+
+/// One thread's way to a typed map that others share: a seat, and a counted reference to the map.
+#[derive(Drop)]
+pub struct Handle<V> {
+    map: Arc<LongMap<V>, Global>,
+    seat: Seat,
+    /// Room in which `close` gathers the seats, so that it takes no memory.
+    room: Vec<Seat>,
+}
+
+impl<V> Model for Handle<V> {
+    ghost use Rattle.std.specs.Prelude.{vec_capacity};
+    ghost use Rattle.std.specs.Arc.{arc_value};
+    ghost use Rattle.nb_long.specs.Handles.{HandleOf, IsHeld};
+
+    ghost Value = { HandleOf };
+
+    ghost view = { λ h. record { map = arc_value h.map; seat = h.seat } };
+
+    ghost invariant = { λ h. IsHeld (arc_value h.map) h.seat h.room.items (vec_capacity h.room) };
+}
+
+impl<V: Drop> Handle<V> {
+    /// A new map with an empty store, as its handles: one for each seat of the shape.
+    pub fn open(alloc: Global, shape: Shape) -> Result<Vec<Handle<V>>, OutOfMemory>
+        ensures new { IfOk result (λ handles. (m : LongMapOf) × (m.map.chain.shape ≡ shape)
+            × (handles.items ≡ new_handles m shape.seats)) }
+        ensures one { IfOk result (λ handles. AreOfOneMap handles.items) }
+    {
+        let mut handles = Vec::with_capacity(alloc, shape.seats())?;
+        let (map, seats) = LongMap::new(alloc, shape)?;
+        let Ok(map) = Arc::new(alloc, map) else {
+            return Err(OutOfMemory);
+        };
+        for seat in seats {
+            handles.push_reserved(Handle {
+                map: Arc::try_clone(&map)?,
+                seat,
+                room: Vec::with_capacity(alloc, MAX_SEATS)?,
+            });
+        }
+        Ok(handles)
+    }
+
+    /// The number of the value that the map has at a key, which `show` reads. It is `LongMap::get`
+    /// in two calls: what is shown is borrowed from the handle, and a read changes the handle.
+    pub fn number_at(&mut self, key: Key) -> Option<Num>
+        ensures replied { HasReplied (call.Get key) self.old.seat self.new.seat
+            (reply_at (call.Get key) result) }
+        ensures worked { HasWorked self.old.map.map (call.Get key) self.old.seat self.new.seat
+            (get_steps self.old.map.map.chain.shape) }
+        ensures three_steps { IsSeenAtHome self.old.map.map.chain.shape self.old.seat.chain
+            self.new.seat.chain key
+            → self.new.seat.chain.steps ≤ self.old.seat.chain.steps + 3 }
+        ensures map { self.new.map ≡ self.old.map }
+    {
+        self.map.number_at(&mut self.seat, key)
+    }
+
+    /// What the store has under a number, if it shows anything: `Store::show`.
+    pub fn show(&self, number: Num) -> Option<Found<'_, V>>
+        ensures { IfSome result (λ found. Shows self.now.map.store found
+            × (found.index ≡ number)) }
+    {
+        self.map.store().show(number)
+    }
+
+    /// Stores a value and puts its number at a key: `LongMap::put`.
+    pub fn put<R: Wait>(&mut self, rt: &R, key: Key, value: V) -> Result<Stored<V>, LongFault<V>>
+        ensures written { IfOk result (HasWritten self.old.map key want.Any value
+            self.old.seat self.new.seat) }
+        ensures refused { IfErr result (IsWriteRefused self.old.map key want.Any value
+            self.old.seat self.new.seat) }
+        ensures map { self.new.map ≡ self.old.map }
+    {
+        self.map.put(rt, &mut self.seat, key, value)
+    }
+
+    /// The same at a key that has none: `LongMap::put_if_absent`.
+    pub fn put_if_absent<R: Wait>(
+        &mut self,
+        rt: &R,
+        key: Key,
+        value: V,
+    ) -> Result<Stored<V>, LongFault<V>>
+        ensures written { IfOk result (HasWritten self.old.map key want.Absent value
+            self.old.seat self.new.seat) }
+        ensures refused { IfErr result (IsWriteRefused self.old.map key want.Absent value
+            self.old.seat self.new.seat) }
+        ensures map { self.new.map ≡ self.old.map }
+    {
+        self.map.put_if_absent(rt, &mut self.seat, key, value)
+    }
+
+    /// The same in place of another number: `LongMap::replace`.
+    pub fn replace<R: Wait>(
+        &mut self,
+        rt: &R,
+        key: Key,
+        value: V,
+    ) -> Result<Stored<V>, LongFault<V>>
+        ensures written { IfOk result (HasWritten self.old.map key want.Present value
+            self.old.seat self.new.seat) }
+        ensures refused { IfErr result (IsWriteRefused self.old.map key want.Present value
+            self.old.seat self.new.seat) }
+        ensures map { self.new.map ≡ self.old.map }
+    {
+        self.map.replace(rt, &mut self.seat, key, value)
+    }
+
+    /// The same where the key has a value equal to `old`: `LongMap::replace_if`.
+    pub fn replace_if<R: Wait>(
+        &mut self,
+        rt: &R,
+        key: Key,
+        old: &V,
+        new: V,
+    ) -> Result<Stored<V>, LongFault<V>>
+    where
+        V: PartialEq,
+        ensures stored { IfOk result (λ stored. HasStored self.old.map.store new stored.receipt) }
+        ensures changed { IfOk result (λ stored. HasChangedIf V.eq self.old.map key old.now
+            (change.Put stored.receipt.index) self.old.seat self.new.seat
+            stored.before stored.done) }
+        ensures refused { IfErr result (IsRefusedIf self.old.map key new
+            self.old.seat self.new.seat) }
+        ensures map { self.new.map ≡ self.old.map }
+    {
+        self.map.replace_if(rt, &mut self.seat, key, old, new)
+    }
+
+    /// Takes out a key, and answers the number that was there: `LongMap::remove`.
+    pub fn remove<R: Wait>(&mut self, rt: &R, key: Key) -> Option<Num>
+        ensures found { HasFound (call.Write key want.Any change.Remove)
+            self.old.seat self.new.seat result }
+        ensures lock_free { IsLockFree self.old.map.map (call.Write key want.Any change.Remove)
+            self.old.seat self.new.seat }
+        ensures map { self.new.map ≡ self.old.map }
+    {
+        self.map.remove(rt, &mut self.seat, key)
+    }
+
+    /// Takes out a key that has a value equal to this one, and answers whether it did:
+    /// `LongMap::remove_if`.
+    pub fn remove_if<R: Wait>(&mut self, rt: &R, key: Key, value: &V) -> Result<bool, Unshown>
+    where
+        V: PartialEq,
+        ensures changed { IfOk result (λ done. (number : Option ℕ)
+            × HasChangedIf V.eq self.old.map key value.now change.Remove
+            self.old.seat self.new.seat number done) }
+        ensures unshown { IfErr result (λ fault. IsUnshown key self.old.seat self.new.seat) }
+        ensures map { self.new.map ≡ self.old.map }
+    {
+        self.map.remove_if(rt, &mut self.seat, key, value)
+    }
+
+    /// Lets each of two handles of a map see all that the other has seen. Where they are of one map
+    /// can't be told when it runs, so it is asked for.
+    pub fn meet(&mut self, other: &mut Handle<V>)
+        requires one { self.old.map ≡ other.old.map }
+        ensures here { HasLogged self.old.seat self.new.seat []
+            × IsBeginning (log other.old.seat) (log self.new.seat) }
+        ensures there { HasLogged other.old.seat other.new.seat []
+            × IsBeginning (log self.old.seat) (log other.new.seat) }
+        ensures map { (self.new.map ≡ self.old.map) × (other.new.map ≡ other.old.map) }
+    {
+        self.map.meet(&mut self.seat, &mut other.seat);
+    }
+
+    /// The store of the map's values.
+    pub fn store(&self) -> &Store<V>
+        ensures { result.now ≡ self.now.map.store }
+    {
+        self.map.store()
+    }
+
+    /// With all handles of a map: what is left of the map of numbers, and the store.
+    pub fn close<R: Wait>(
+        rt: &R,
+        handles: Vec<Handle<V>>,
+    ) -> Result<(Ended, Store<V>), Vec<Handle<V>>>
+        requires one { AreOfOneMap handles.items }
+        ensures all { All (λ handle. (is_ok result ≡ true)
+            ↔ (length handles.items ≡ handle.map.map.chain.shape.seats)) handles.items }
+        ensures some { handles.items ≡ [] → is_ok result ≡ false }
+        ensures ended { IfOk result (λ left. EndedWith (seats_of handles.items) left.0) }
+        ensures store { IfOk result (λ left. All (λ handle. left.1 ≡ handle.map.store)
+            handles.items) }
+        ensures back { IfErr result (λ back. back.items ≡ handles.items) }
+    {
+        let mut handles = handles;
+        let count = handles.len();
+        let Some(last) = handles.pop() else {
+            return Err(handles);
+        };
+        if count != last.map.shape().seats() {
+            handles.push_reserved(last);
+            return Err(handles);
+        }
+        let Handle { map, seat, room } = last;
+        let seats = gathered(handles, seat, room);
+        let Ok(left) = sole(rt, map).finish(seats) else {
+            unreachable!();
+        };
+        Ok(left)
+    }
+}
+
+/// The seats of handles, and one more at their end.
+fn gathered<V: Drop>(handles: Vec<Handle<V>>, last: Seat, room: Vec<Seat>) -> Vec<Seat>
+    requires empty { room.items ≡ [] }
+    requires room { length handles.items < vec_capacity room }
+    ensures seats { result.items ≡ seats_of handles.items ++ last ∷ [] }
+    ensures count { length result.items ≡ length handles.items + 1 }
+    ensures own { (m : LongMapOf) → All (λ handle. handle.map ≡ m) handles.items
+        → IsMine m.map last → AreMine m.map result.items }
+{
+    let mut seats = room;
+    for handle in handles {
+        let Handle { seat, .. } = handle;
+        seats.push_reserved(seat);
+    }
+    seats.push_reserved(last);
+    seats
+}
+
+/// The map, once no other reference to it is left. Where that is so already, it doesn't wait.
+fn sole<V: Drop, R: Wait>(rt: &R, map: Arc<LongMap<V>, Global>) -> LongMap<V>
+    ensures { result ≡ arc_value map }
+{
+    let mut map = map;
+    for _ in rt.forever() {
+        match Arc::try_unwrap(map) {
+            Ok(map) => return map,
+            Err(shared) => map = shared,
+        }
+    }
+    unreachable!()
+}

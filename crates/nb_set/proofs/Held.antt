@@ -1,0 +1,68 @@
+-- Handles of one set.
+use Rattle.std.proofs.Common.{◌≡◌, ◌∙◌, ℕ, List, [], ◌∷◌, ◌++◌, ap, length, map, refl, sym}
+use Rattle.std.specs.List.{range_with_len}
+use Rattle.std.proofs.lemmas.List.{length-map, map-append}
+use Rattle.std.proofs.lemmas.List.Elements.{All-map, All-same}
+use Rattle.std.proofs.lemmas.List.FromFn.{length-map-range_with_len}
+use mathlib.Core.List.{map-map}
+use Rattle.nb_map.specs.Handles as handles
+use Rattle.nb_map.specs.Maps as maps
+use Rattle.nb_set.specs.Handles.{AreOfOneSet, HandleOf, handle_on, new_handles, on_map, seats_of}
+use Rattle.nb_set.specs.Sets.{SetOf, new_seat, new_seats}
+use Rattle.nb_set.proofs.Dealt.{in-map}
+
+-- a handle of a map as one of the set
+abbrev pub as_handle : handles.HandleOf → HandleOf
+as_handle handle =
+    record { set = record { map = handle.map }; seat = record { map = handle.seat } }
+
+-- the new handles of a map are those of the set
+pub handles-dealt :
+    (set : SetOf) (count : ℕ)
+    → map as_handle (handles.new_handles set.map count) ≡ new_handles set count
+handles-dealt set count =
+    map-map as_handle (handles.handle_on set.map) (maps.new_seats set.map count)
+    ∙ map-map (λ seat. as_handle (handles.handle_on set.map seat)) (maps.new_seat set.map)
+    (range_with_len 0 count)
+    ∙ sym (map-map (handle_on set) (new_seat set) (range_with_len 0 count))
+
+-- as many as were asked for
+pub handles-many : (m : maps.MapOf) (count : ℕ) → length (handles.new_handles m count) ≡ count
+handles-many m count =
+    length-map (maps.new_seats m count) (handles.handle_on m)
+    ∙ length-map-range_with_len (maps.new_seat m) 0 count
+
+-- new handles are of one set
+pub of-one :
+    (set : SetOf) (count : ℕ) (these : List HandleOf) → these ≡ new_handles set count
+    → AreOfOneSet these
+of-one set count these are = (
+  set,
+  All-same (λ handle. handle.set ≡ set) these (new_handles set count) are
+      (All-map (λ handle. handle.set ≡ set) (handle_on set) (new_seats set count)
+      (λ k d lt. refl)),
+)
+
+-- handles of one set are of one map
+pub on-one-map :
+    (these : List HandleOf) → AreOfOneSet these → handles.AreOfOneMap (map on_map these)
+on-one-map these (set, all) = (
+  set.map,
+  All-map (λ handle. handle.map ≡ set.map) on_map these
+      (λ k d lt. ap (λ set. set.map) (all k d lt)),
+)
+
+-- their seats are those of the map's handles
+pub seats-on-map :
+    (these : List HandleOf) → handles.seats_of (map on_map these) ≡ in-map (seats_of these)
+seats-on-map these =
+    map-map (λ handle. handle.seat) on_map these
+    ∙ sym (map-map (λ seat. seat.map) (λ handle. handle.seat) these)
+
+-- the map's handles in all handles but the last, and that in the last, are those in all
+pub gathered-all :
+    (these rest : List HandleOf) (last : HandleOf) (on : handles.HandleOf)
+    → these ≡ rest ++ last ∷ [] → on_map last ≡ on → map on_map rest ++ on ∷ [] ≡ map on_map these
+gathered-all these rest last on are is =
+    sym (ap (map on_map) are ∙ map-append on_map rest (last ∷ [])
+    ∙ ap (λ handle. map on_map rest ++ handle ∷ []) is)

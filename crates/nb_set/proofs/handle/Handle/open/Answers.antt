@@ -1,0 +1,63 @@
+use Rattle.std.proofs.Common.{◌≡◌, ◌∙◌, ap, arith, length, map, refl}
+use Rattle.std.proofs.lemmas.List.{length-map}
+use Rattle.std.specs.Vec.Iter.{into_iter_items}
+use Rattle.nb_core.proofs.Seating.{all-moved, moved-count, moved-more, none-moved}
+use Rattle.nb_set.specs.Sets.{SetOf}
+use Rattle.nb_set.proofs.Held.{as_handle, handles-dealt, handles-many, of-one}
+use Rattle.nb_set.proofs.handle.Handle.open.Goals as goal
+
+pub push_reserved-requires : goal.push_reserved-requires
+push_reserved-requires c =
+    let many = moved-count c.loop-map.invariant.2
+    ∙ length-map (into_iter_items c.into_iter-map-iterator.result) as_handle in
+    let next = ap length c.in-Some.ensures.steps.0 in
+    omega (arith, many, next, c.loop-map.invariant, c.loop-map.handles.ok)
+
+pub loop-map-init : goal.loop-map-init
+loop-map-init c =
+    let (m, is, items) = c.in_ok-map-items.ensures.new in (
+      tt,
+      tt,
+      none-moved refl c.in_ok-handles.ensures.items,
+      omega (
+        arith,
+        handles-many m c.args.shape.seats,
+        ap length items,
+        ap length c.into_iter-map-iterator.ensures.into_iter_gives.0,
+        c.in_ok-handles.ensures.capacity,
+        c.seats.ensures.number,
+      ),
+    )
+
+pub loop-map-preserved : goal.loop-map-preserved
+loop-map-preserved c = (
+  tt,
+  tt,
+  moved-more c.loop-map.invariant.2 c.in-Some.ensures.steps.0 refl c.push_reserved.ensures.items,
+  omega (arith, c.loop-map.invariant.3, c.push_reserved.ensures.capacity),
+)
+
+-- the set's handles are those of its map
+handles-are :
+    (c : goal.After-drop-map-iterator-2) → c.loop-map.handles.items
+    ≡ map as_handle c.in_ok-map-items.map-items.items
+handles-are c =
+    all-moved c.loop-map.invariant.2
+    (omega (arith, c.in-None.ensures.steps, c.loop-map.map-iterator.rest.ok))
+    ∙ ap (map as_handle) c.into_iter-map-iterator.ensures.into_iter_gives.0
+
+pub returns-clause-new : goal.returns-clause-new
+returns-clause-new c =
+    let (m, is, items) = c.in_ok-map-items.ensures.new in
+    let set : SetOf = record { map = m } in (
+      set,
+      is,
+      handles-are c ∙ ap (map as_handle) items ∙ handles-dealt set c.args.shape.seats,
+    )
+
+pub returns-clause-one : goal.returns-clause-one
+returns-clause-one c =
+    let (m, is, items) = c.in_ok-map-items.ensures.new in
+    let set : SetOf = record { map = m } in
+    of-one set c.args.shape.seats c.loop-map.handles.items
+    (handles-are c ∙ ap (map as_handle) items ∙ handles-dealt set c.args.shape.seats)

@@ -1,0 +1,75 @@
+//! Threads read and change one set by handles.
+use crate::Handle;
+use nb_core::{Key, RangeFault, Shape};
+use std::process::Abort;
+use std::test::Fail;
+use std::thread;
+
+fn key(number: u64) -> Result<Key, RangeFault> {
+    Key::new(number)
+}
+
+/// Takes a handle out of these.
+fn one_of<R: Abort>(rt: &R, handles: &mut Vec<Handle>) -> Handle {
+    let Some(handle) = handles.pop() else {
+        panic!(rt; "there is a handle")
+    };
+    handle
+}
+
+/// Four threads add the same key, and all handles close the set.
+#[test]
+fn four_threads_by_handles(rt: HostRuntime) -> Result<(), Fail> {
+    let key = key(7)?;
+    let mut handles = Handle::open(rt.alloc(), Shape::new(4, 4, 4, 1)?)?;
+    thread::for_each_mut(
+        &rt,
+        handles.as_mut_slice(),
+        4,
+        &|_, handle: &mut Handle| {
+            let _ = handle.add(&rt, key);
+        },
+    );
+    let Ok(ended) = Handle::close(&rt, handles) else {
+        panic!(rt; "all handles are here")
+    };
+    assert_eq!(rt; ended.size(), 1);
+    assert!(rt; ended.contains(key));
+    Ok(())
+}
+
+/// The calls of one handle, and what another one sees.
+#[test]
+fn calls_by_name(rt: HostRuntime) -> Result<(), Fail> {
+    let (five, six) = (key(5)?, key(6)?);
+    let mut handles = Handle::open(rt.alloc(), Shape::new(4, 4, 2, 1)?)?;
+    let mut mine = one_of(&rt, &mut handles);
+    let mut theirs = one_of(&rt, &mut handles);
+    assert_eq!(rt; mine.add(&rt, five)?, true);
+    assert_eq!(rt; mine.add(&rt, five)?, false);
+    assert_eq!(rt; theirs.contains(five), true);
+    assert_eq!(rt; theirs.remove(&rt, six), false);
+    assert_eq!(rt; theirs.add(&rt, six)?, true);
+    assert_eq!(rt; theirs.remove(&rt, six), true);
+    assert_eq!(rt; (mine.size_estimate(), mine.generation()), (1, 0));
+    assert_eq!(rt; mine.shape().seats(), 2);
+    let mut walk = mine.walk();
+    assert_eq!(rt; walk.next_key().map(Key::get), Some(5));
+    assert!(rt; walk.next_key().is_none());
+    assert_eq!(rt; walk.end().contains(five), true);
+    Ok(())
+}
+
+/// A handle is missing: the others come back, and the set works on.
+#[test]
+fn closed_without_a_handle(rt: HostRuntime) -> Result<(), Fail> {
+    let mut handles = Handle::open(rt.alloc(), Shape::new(4, 4, 3, 1)?)?;
+    drop(handles.pop());
+    let Err(mut back) = Handle::close(&rt, handles) else {
+        panic!(rt; "a handle is missing")
+    };
+    assert_eq!(rt; back.len(), 2);
+    let mut handle = one_of(&rt, &mut back);
+    assert_eq!(rt; handle.add(&rt, key(7)?)?, true);
+    Ok(())
+}

@@ -1,0 +1,23 @@
+//! `nb_tally` counts how often each number comes on standard input, as `sort -n | uniq -c` does.
+//!
+//! It shows how threads share a map by handles: each worker takes a block of lines from the input,
+//! which a lock guards, and adds 1 at the key of each number, for which it takes no lock. When all
+//! workers are done a walk by one of the handles shows the counts.
+#![tactic(auto)]
+
+pub(crate) mod counting;
+pub(crate) mod options;
+pub(crate) mod printing;
+pub(crate) mod progress;
+pub(crate) mod serve;
+
+use std::io::IsTerminal;
+use std::process::ExitCode;
+
+fn main(rt: HostRuntime) -> ExitCode {
+    let shows_progress = rt.stderr().is_terminal();
+    ExitCode::from(serve::serve(&rt, rt.stdin(), shows_progress))
+}
+
+#[cfg(test)]
+mod tests;

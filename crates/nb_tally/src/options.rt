@@ -1,0 +1,85 @@
+//! The words of the command line.
+
+use clap::{ArgMatches, Command, value_parser};
+use nb_core::Shape;
+use nb_lines::{Fault, fault_of_words, option};
+use std::alloc::{AllocError, Global};
+
+/// The most different numbers that any map has room for.
+const KEYS_MAX: u32 = 1 << 19;
+
+/// What is to be counted, and how.
+#[derive(Clone, Copy, Debug, PartialEq, Eq)]
+pub(crate) struct Options {
+    /// How many threads count.
+    pub(crate) workers: usize,
+    /// How many of the most frequent numbers are printed, if not all are.
+    pub(crate) top: Option<usize>,
+    /// For how many different numbers there has to be room.
+    keys: u32,
+}
+
+impl Options {
+    /// One table, since it is known from the start how large it has to be: with twice as many
+    /// slots as keys, where the map may have that many. So most keys stand at home.
+    pub(crate) fn shape(&self) -> Result<Shape, Fault> {
+        let slots = self.keys.saturating_mul(2).clamp(4, KEYS_MAX);
+        let exponent = slots.next_power_of_two().trailing_zeros();
+        Shape::with_plan(&[exponent], self.workers, self.workers).map_err(|_| Fault::Usage)
+    }
+}
+
+/// What `--help` tells behind the options.
+const MORE: &str = "\
+Numbers go from 0 to 18446744073709551613, one a line, in digits alone.
+
+Exit status: 0 done; 1 a read or a write failed; 2 a line is no such number;
+3 bad usage; 4 out of memory; 5 more different numbers than there is room for.
+
+Example: printf '3\\n7\\n3\\n' | nb_tally --top 1
+      2 3";
+
+/// The command line.
+fn command<'a>(alloc: Global) -> Result<Command<'a>, AllocError> {
+    let workers = option(alloc, "workers", "N", "Threads that count, 1 to 8")
+        .value_parser(value_parser!(u32).range(1..=8))
+        .default_value("4");
+    let top = option(
+        alloc,
+        "top",
+        "K",
+        "Only the K most frequent numbers, the most frequent first",
+    )
+    .value_parser(value_parser!(u32));
+    let keys = option(
+        alloc,
+        "keys",
+        "N",
+        "Room for N different numbers at least, 1 to 524288",
+    )
+    .value_parser(value_parser!(u32).range(1..=524_288))
+    .default_value("524288");
+    Command::new(alloc, "nb_tally")
+        .about("Counts how often each number comes on standard input: sort -n | uniq -c")
+        .after_help(MORE)
+        .arg(workers)?
+        .arg(top)?
+        .arg(keys)
+}
+
+/// The options of clap's matches.
+fn options_of(matches: &ArgMatches<'_>) -> Option<Options> {
+    Some(Options {
+        workers: matches.get_one::<u32>("workers")? as usize,
+        top: matches.get_one::<u32>("top").map(|top| top as usize),
+        keys: matches.get_one::<u32>("keys")?,
+    })
+}
+
+/// The options that the words give, of which the first is the program's name.
+pub(crate) fn read_options(alloc: Global, words: &[String]) -> Result<Options, Fault> {
+    match command(alloc)?.try_get_matches_from(words) {
+        Ok(matches) => options_of(&matches).ok_or(Fault::Usage),
+        Err(error) => Err(fault_of_words(alloc, &error)),
+    }
+}
