@@ -1,29 +1,15 @@
 //! Replaying: workers that share a cache, each with keys of its own.
-ghost use Rattle.std.specs.Prelude.{
-  ◌≡◌,
-  ◌+◌,
-  ◌%◌,
-  ◌^◌,
-  ℕ,
-  All,
-  IfOk,
-  OnOk,
-  Option,
-  if◌then◌else◌,
-  is_some,
-};
+ghost use Rattle.std.specs.Prelude.{◌≡◌, ◌+◌, ◌%◌, ◌^◌, ℕ, OnOk, Option, if◌then◌else◌, is_some};
 ghost use Rattle.nb_core.specs.Log.{reply_at};
 ghost use Rattle.nb_core.specs.declared.calls.Call.TheVariants as map_call;
 ghost use Rattle.nb_map.specs.Logs.{HasReplied};
-ghost use Rattle.nb_map.specs.Maps.{AreMine, IsMine};
 
 use crate::options::Options;
 use crate::trace::{Action, read_request};
 use itoa::Buffer;
-use nb_core::{Key, MAX_SEATS, OutOfMemory};
+use nb_core::{Key, MAX_SEATS, Num, OutOfMemory, Shape};
 use nb_lines::{Fault, Lines, key_of, number_of};
-use nb_long::{LongFault, LongMap};
-use nb_map::Seat;
+use nb_long::{Found, Handle, LongFault};
 use std::alloc::Global;
 use std::sync::Wait;
 use std::thread;
@@ -74,10 +60,10 @@ pub(crate) struct Replayed {
     pub(crate) replies: Vec<u8>,
 }
 
-/// A thread's own: its seat of the cache, and what came of its part.
+/// A thread's own: its handle of the cache, and what came of its part.
 #[derive(Drop)]
 struct Worker {
-    seat: Seat,
+    handle: Handle<Page>,
     replayed: Replayed,
     /// Why it stopped early.
     fault: Option<Fault>,
@@ -90,26 +76,21 @@ pub(crate) fn replay<R: Threads + Sync + Wait>(
     options: &Options,
     trace: &[u8],
 ) -> Result<Replayed, Fault> {
-    let (cache, seats) = LongMap::<Page>::new(alloc, options.shape()?)?;
-    let mut workers = hired(alloc, &cache, seats)?;
-    all_work(rt, alloc, &cache, options, trace, workers.as_mut_slice());
+    let mut workers = hired(alloc, options.shape()?)?;
+    all_work(rt, alloc, options, trace, workers.as_mut_slice());
     gathered(alloc, workers)
 }
 
-/// A worker for each of the seats.
-fn hired(alloc: Global, cache: &LongMap<Page>, seats: Vec<Seat>) -> Result<Vec<Worker>, OutOfMemory>
-    requires own { AreMine cache.now.map seats.items }
-    ensures own { IfOk result (λ workers. All (λ w. IsMine cache.now.map w.seat) workers.items) }
-{
-    let mut seats = seats;
-    let mut workers = Vec::new(alloc);
-    while let Some(seat) = seats.pop() {
+/// A worker for each seat of a new cache.
+fn hired(alloc: Global, shape: Shape) -> Result<Vec<Worker>, OutOfMemory> {
+    let mut workers = Vec::with_capacity(alloc, shape.seats())?;
+    for handle in Handle::open(alloc, shape)? {
         let replayed = Replayed {
             counts: Counts::NOTHING,
             replies: Vec::new(alloc),
         };
         workers.push(Worker {
-            seat,
+            handle,
             replayed,
             fault: None,
         })?;
@@ -121,20 +102,15 @@ fn hired(alloc: Global, cache: &LongMap<Page>, seats: Vec<Seat>) -> Result<Vec<W
 fn all_work<R: Threads + Sync + Wait>(
     rt: &R,
     alloc: Global,
-    cache: &LongMap<Page>,
     options: &Options,
     trace: &[u8],
     workers: &mut [Worker],
-)
-    requires own { All (λ w. IsMine cache.now.map w.seat) workers.old }
-{
+) {
     thread::for_each_mut(
         rt,
         workers,
         MAX_SEATS,
-        &|number: usize, worker: &mut Worker|
-            requires { IsMine cache.now.map worker.now.seat }
-        { work(rt, alloc, cache, options, trace, worker, number) },
+        &|number: usize, worker: &mut Worker| { work(rt, alloc, options, trace, worker, number) },
     );
 }
 
@@ -142,15 +118,12 @@ fn all_work<R: Threads + Sync + Wait>(
 fn work<R: Wait>(
     rt: &R,
     alloc: Global,
-    cache: &LongMap<Page>,
     options: &Options,
     trace: &[u8],
     worker: &mut Worker,
     number: usize,
-)
-    requires own { IsMine cache.now.map worker.old.seat }
-{
-    if let Err(fault) = replay_part(rt, alloc, cache, options, trace, worker, number) {
+) {
+    if let Err(fault) = replay_part(rt, alloc, options, trace, worker, number) {
         worker.fault = Some(fault);
     }
 }
@@ -161,21 +134,17 @@ fn work<R: Wait>(
 fn replay_part<R: Wait>(
     rt: &R,
     alloc: Global,
-    cache: &LongMap<Page>,
     options: &Options,
     trace: &[u8],
     worker: &mut Worker,
     number: usize,
-) -> Result<(), Fault>
-    requires own { IsMine cache.now.map worker.old.seat }
-    ensures own { IsMine cache.now.map worker.new.seat }
-{
+) -> Result<(), Fault> {
     let mut lines = 1u64;
     for line in Lines::new(trace) {
         let request = read_request(line).map_err(|cause| Fault::Line(lines, cause))?;
         let key = key_of(request.number).map_err(|fault| Fault::Line(lines, fault.into()))?;
         if request.number % options.workers.max(1) as u64 == number as u64 {
-            call(rt, alloc, cache, options, worker, key, request.action)?;
+            call(rt, alloc, options, worker, key, request.action)?;
         }
         lines = lines.wrapping_add(1);
     }
@@ -186,69 +155,79 @@ fn replay_part<R: Wait>(
 fn call<R: Wait>(
     rt: &R,
     alloc: Global,
-    cache: &LongMap<Page>,
     options: &Options,
     worker: &mut Worker,
     key: Key,
     action: Action<'_>,
-) -> Result<(), Fault>
-    requires own { IsMine cache.now.map worker.old.seat }
-    ensures own { IsMine cache.now.map worker.new.seat }
-{
+) -> Result<(), Fault> {
     match action {
-        Action::Get => get(cache, worker, key, options.tells_replies),
-        Action::Put(text) => put(rt, alloc, cache, worker, key, text),
+        Action::Get => get(worker, key, options.tells_replies),
+        Action::Put(text) => put(rt, alloc, worker, key, text),
     }
 }
 
 /// Gets a key's text, and says what it is where that is asked for. It counts as a hit just where
 /// the map replied that it has something at the key.
-fn get(
-    cache: &LongMap<Page>,
-    worker: &mut Worker,
-    key: Key,
-    tells_replies: bool,
-) -> Result<(), Fault>
-    requires own { IsMine cache.now.map worker.old.seat }
+fn get(worker: &mut Worker, key: Key, tells_replies: bool) -> Result<(), Fault>
     ensures hit { OnOk result ((number : Option ℕ)
-        × HasReplied (map_call.Get key) worker.old.seat worker.new.seat (reply_at (map_call.Get key) number)
+        × HasReplied (map_call.Get key) worker.old.handle.seat worker.new.handle.seat
+        (reply_at (map_call.Get key) number)
         × (worker.new.replayed.counts.hits ≡ (if is_some number
         then (worker.old.replayed.counts.hits + 1) % 2 ^ 64
         else worker.old.replayed.counts.hits))) }
-    ensures own { IsMine cache.now.map worker.new.seat }
 {
-    let Worker { seat, replayed, .. } = worker;
-    let counts = &mut replayed.counts;
+    let found = worker.handle.number_at(key);
+    let counts = &mut worker.replayed.counts;
     counts.gets = counts.gets.wrapping_add(1);
-    let found = cache.get(seat, key).map_err(|_| Fault::Unshown)?;
     if found.is_some() {
         counts.hits = counts.hits.wrapping_add(1);
     }
+    let Worker {
+        handle,
+        replayed,
+        ..
+    } = worker;
+    read_page(handle, &mut replayed.replies, key, found, tells_replies)
+}
+
+/// Reads what the store shows of the number that a key has, if it has one, and says what it is
+/// where that is asked for.
+fn read_page(
+    cache: &Handle<Page>,
+    replies: &mut Vec<u8>,
+    key: Key,
+    number: Option<Num>,
+    tells_replies: bool,
+) -> Result<(), Fault> {
+    let page = shown(cache, number)?;
     if tells_replies {
-        let text = found.as_ref().map(|page| page.value().text.as_slice());
-        say_reply(&mut replayed.replies, key, text.unwrap_or(b"-"))?;
+        let text = page.as_ref().map(|page| page.value().text.as_slice());
+        say_reply(replies, key, text.unwrap_or(b"-"))?;
     }
     Ok(())
+}
+
+/// What the store shows under a number, if there is one.
+fn shown(cache: &Handle<Page>, number: Option<Num>) -> Result<Option<Found<'_, Page>>, Fault> {
+    let Some(number) = number else {
+        return Ok(None);
+    };
+    let page = cache.show(number).ok_or(Fault::Unshown)?;
+    Ok(Some(page))
 }
 
 /// Puts a text at a key.
 fn put<R: Wait>(
     rt: &R,
     alloc: Global,
-    cache: &LongMap<Page>,
     worker: &mut Worker,
     key: Key,
     text: &[u8],
-) -> Result<(), Fault>
-    requires own { IsMine cache.now.map worker.old.seat }
-    ensures own { IsMine cache.now.map worker.new.seat }
-{
+) -> Result<(), Fault> {
     let page = Page {
         text: Vec::from_slice(alloc, text)?,
     };
-    let stored = cache
-        .put(rt, &mut worker.seat, key, page)
-        .map_err(fault_of)?;
+    let stored = worker.handle.put(rt, key, page).map_err(fault_of)?;
     let counts = &mut worker.replayed.counts;
     counts.puts = counts.puts.wrapping_add(1);
     if stored.before.is_none() {

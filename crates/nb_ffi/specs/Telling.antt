@@ -67,14 +67,19 @@ IsOpening (Ok p) code before after =
     ⊎ ((code ≡ OUT_OF_MEMORY) × (after ≡ before))
 IsOpening (Err refusal) code before after = (code ≡ refusal) × (after ≡ before)
 
--- a handle was split with this code, or not
+-- A handle was split with this code; or both are as they were, for want of memory or of a seat in
+-- reserve.
 pub data IsSplit (code : ℤ) (before after other other' : Option HeldOf) : Type 0 where
   Split :
       code ≡ OK → (part : HeldOf) → other' ≡ Some part
       → Turned before after (λ old new. IsPartOf old new part)
       → IsSplit code before after other other'
   Kept :
-      (code ≡ OUT_OF_MEMORY) ⊎ (code ≡ NO_SEAT) → after ≡ before → other' ≡ other
+      code ≡ OUT_OF_MEMORY → after ≡ before → other' ≡ other
+      → IsSplit code before after other other'
+  Lacks :
+      code ≡ NO_SEAT → (held : HeldOf) → before ≡ Some held → held.spare ≡ [] → after ≡ before
+      → other' ≡ other
       → IsSplit code before after other other'
 
 -- the handle has the seats of another one in reserve
@@ -123,7 +128,8 @@ IsEnd end handle = handle ≡ Some (record { ended = Some end })
 abbrev pub HasEnd : Option EndedMap → Type 0
 HasEnd handle = (end : EndedOf) × IsEnd end handle
 
--- A look at an ended map came to this code: its number at the key, or none; or the key is none.
+-- A look at an ended map came to this code: its number at the key is written, or there is none, and
+-- 0 is written; or the key is none, and nothing is written.
 abbrev pub IsEndGet : Result ℕ ℤ → (code : ℤ) → (number number' : ℕ) → EndedOf → Type 0
 IsEndGet (Ok key) code number number' end =
     ((code ≡ PRESENT) × (numbers.get (map_left end) key ≡ Some number'))

@@ -1,7 +1,8 @@
 //! How handles are opened, split, joined and closed.
-ghost use Rattle.std.specs.Prelude.{◌≡◌, ◌↔◌, ◌++◌, IfErr, IfOk, IfSome, true};
+ghost use Rattle.std.specs.Prelude.{◌≡◌, ◌↔◌, ◌++◌, [], Err, IfErr, IfOk, IfSome, true};
 ghost use Rattle.nb_ffi.specs.Closing.{HasAllSeats, IsEndOf, IsEndWith, IsHandedBack};
 ghost use Rattle.nb_ffi.specs.Handles.{IsNew, IsPartOf, all_seats};
+ghost use Rattle.nb_ffi.specs.declared.life.SplitFault.TheVariants.{NoSeat};
 
 use crate::ended_map::EndedMap;
 use crate::held::Held;
@@ -57,6 +58,7 @@ impl Held {
     pub(crate) fn split(&mut self, alloc: Global) -> Result<Box<Held, Global>, SplitFault>
         ensures split { IfOk result (λ other. IsPartOf self.old self.new other.value) }
         ensures refused { IfErr result (λ fault. self.new ≡ self.old) }
+        ensures no_seat { result ≡ Err NoSeat → self.old.spare ≡ [] }
     {
         if self.spare.is_empty() {
             return Err(SplitFault::NoSeat);
@@ -68,7 +70,7 @@ impl Held {
             return Err(SplitFault::OutOfMemory);
         };
         let Some(seat) = self.spare.pop() else {
-            return Err(SplitFault::NoSeat);
+            unreachable!();
         };
         let other = Held {
             map,

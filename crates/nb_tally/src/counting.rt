@@ -106,19 +106,10 @@ fn count_one<R: Wait>(rt: &R, handle: &mut Handle, key: Key) -> Result<(), Stop>
         × HasFound (call.Write key want.Any (change.Add 1)) handle.old.seat handle.new.seat
         before) }
 {
-    match handle.add(rt, key, one()) {
+    match handle.add(rt, key, Num::from(1_u32)) {
         Ok(_) => Ok(()),
         Err(AddFault::Full) => Err(Stop::Full),
         Err(AddFault::ValueRange) => Err(Stop::TooOften),
-    }
-}
-
-fn one() -> Num
-    ensures { result ≡ 1 }
-{
-    match Num::new(1) {
-        Ok(one) => one,
-        Err(_) => unreachable!(),
     }
 }
 

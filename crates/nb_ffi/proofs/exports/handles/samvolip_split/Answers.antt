@@ -1,5 +1,5 @@
-use Rattle.std.proofs.Common.{refl}
-use Rattle.nb_ffi.specs.Telling.IsSplit.{Split}
+use Rattle.std.proofs.Common.{◌≡◌, Some, refl}
+use Rattle.nb_ffi.specs.Telling.IsSplit.{Lacks, Split}
 use Rattle.nb_ffi.proofs.exports.handles.samvolip_split.Goals as goal
 
 pub returns-in-Ok : goal.returns-in-Ok
@@ -10,3 +10,9 @@ returns-in-Ok c = Split refl c.in-Ok.held.value c.fill.ensures (record {
   is = refl;
   holds = c.in-Ok.ensures.split;
 })
+
+pub returns-in-Err-NoSeat : goal.returns-in-Err-NoSeat
+returns-in-Err-NoSeat c = Lacks refl c.lend.result.now c.lend.ensures.value
+    (c.in-Err-NoSeat.ensures.no_seat cc) same refl where
+      same : Some c.split.new.self ≡ c.args.seat.now.held
+      same = rw (c.in-Err-NoSeat.ensures.refused, c.lend.ensures.value) refl
