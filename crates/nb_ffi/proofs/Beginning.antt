@@ -1,6 +1,5 @@
 -- Walks by a handle.
 use Rattle.std.proofs.Common.{◌≡◌, ℕ, List, [], Option, Some, None, refl, subst, sym}
-use Rattle.nb_core.specs.Plans.{Plan}
 use Rattle.nb_map.specs.Logs.{HasLogged}
 use Rattle.nb_map.specs.Maps.{IsMine, MapOf, SeatOf}
 use Rattle.nb_map.specs.Walks.{HasRead, HasWalked, IsUnderway, WalkOf, begun_by, with_shown}

@@ -1,5 +1,5 @@
 -- Seats that are gathered are still their map's.
-use Rattle.std.proofs.Common.{◌≡◌, List, [], ◌∷◌, ◌++◌, ap, ◌∙◌, sym, subst}
+use Rattle.std.proofs.Common.{◌≡◌, List, [], ◌∷◌, ◌++◌, sym, subst}
 use Rattle.std.proofs.lemmas.List.Elements.{All-append, All-cons, All-nil, All-same}
 use Rattle.nb_map.specs.Maps.{AreMine, IsMine, MapOf, SeatOf}
 

@@ -1,5 +1,5 @@
 -- What the codes of C mean.
-use Rattle.std.specs.Prelude.{◌≡◌, ◌==◌, ℕ, ℤ, nat_le, if◌then◌else◌, Option, Some, None, Result, Ok, Err}
+use Rattle.std.specs.Prelude.{◌==◌, ℕ, ℤ, nat_le, if◌then◌else◌, Some, None, Result, Ok, Err}
 use Rattle.nb_core.specs.declared.calls.Call.{Call}
 use Rattle.nb_core.specs.declared.calls.Call.TheVariants as call
 use Rattle.nb_core.specs.declared.calls.Change.{Change}

@@ -1,5 +1,5 @@
 -- What the exports come to, by their codes.
-use Rattle.std.specs.Prelude.{◌≡◌, ◌++◌, ◌⊎◌, ℕ, ℤ, List, [], length, Option, Some, None, Result, Ok, Err}
+use Rattle.std.specs.Prelude.{◌≡◌, ◌++◌, ◌⊎◌, ℕ, ℤ, [], Option, Some, None, Result, Ok, Err}
 use Rattle.std.specs.FinMap as numbers
 use Rattle.nb_core.specs.Log.{IsBeginning}
 use Rattle.nb_core.specs.Plans.{Plan}
@@ -12,7 +12,7 @@ use Rattle.nb_ffi.specs.Closing.{HasAllSeats, IsEndOf}
 use Rattle.nb_ffi.specs.Codes.{fault_code, reply_told}
 use Rattle.nb_ffi.specs.Handles.{HasGot, HasPut, HasRefused, HeldOf, IsNew, IsPartOf, KeepsRest, Turned, all_seats, plan_of}
 use Rattle.nb_ffi.specs.declared.codes.WriteReply.{WriteReply}
-use Rattle.nb_ffi.specs.declared.codes.TheConstants.{ABSENT, KEY_RANGE, LOST, NOT_ALL_SEATS, NO_SEAT, OK, OUT_OF_MEMORY, PRESENT}
+use Rattle.nb_ffi.specs.declared.codes.TheConstants.{ABSENT, LOST, NOT_ALL_SEATS, NO_SEAT, OK, OUT_OF_MEMORY, PRESENT}
 use Rattle.nb_ffi.specs.declared.ended_map.EndedMap.{EndedMap}
 
 -- A read came to this code: it found the number that is written, or none, and 0 is written; or the

@@ -1,4 +1,4 @@
-use Rattle.std.proofs.Common.{◌≡◌, ◌∙◌, ap, map, ◌++◌, length, drop, arith, refl}
+use Rattle.std.proofs.Common.{arith, refl}
 use Rattle.nb_ffi.proofs.Writing.{all-written, written-more}
 use Rattle.nb_ffi.proofs.ended_map.write_entries.Goals as goal
 

@@ -8,7 +8,7 @@ use base.Fraction.{full_share}
 use mir.Syntax.{named}
 use mir.Val.{Val, vptr}
 use mir.Raw.{raw as bare}
-use base.Logic.{SProp, ent, sep, emp, id⊢}
+use base.Logic.{SProp, ent, sep, id⊢}
 use base.Fml.{Lft, GName, Share, Fml, ftrue, flft, fsep}
 use prog.Memory.{Memory}
 use prog.Routine.{Routine}

@@ -1,4 +1,4 @@
-use Rattle.std.proofs.Common.{◌≡◌, ◌∙◌, subst, ap, sym}
+use Rattle.std.proofs.Common.{◌∙◌, subst, ap, sym}
 use Rattle.nb_map.specs.Maps.{IsMine}
 use Rattle.nb_ffi.proofs.Walking.{lasting, looked}
 use Rattle.nb_ffi.proofs.held.Held.meet.Goals as goal
