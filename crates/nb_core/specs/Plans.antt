@@ -213,6 +213,6 @@ checked_for_keys most seats =
     else if not (is_within 1 8 seats) then Err fault.Seats
     else Ok (plan_for_keys most seats)
 
--- so many keys fill no more than two thirds of the last table
+-- the last table has room for so many keys and for half as many again
 abbrev pub HasRoomFor : Plan → ℕ → Type 0
 HasRoomFor p most = slots_for most ≤ size_of p (generations_of p - 1)

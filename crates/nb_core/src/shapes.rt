@@ -202,8 +202,7 @@ impl Shape {
 
     /// The shape for so many different keys, up to [`MOST_KEYS`], with a stripe for each seat. Its
     /// last table has half as many slots again as there are keys, and more by the next power of
-    /// two: a map of this shape refuses no key as full while no more than that many were ever put.
-    /// The table before it has an eighth of its slots, so a map that fills grows once. Paths are
+    /// two. The table before it has an eighth of its slots, so a map that fills grows once. Paths are
     /// kept short and chunks large, by the numbers that measured best.
     pub fn for_keys(most: usize, seats: usize) -> Result<Shape, ShapeFault>
         ensures shape { result ≡ checked_for_keys most seats }

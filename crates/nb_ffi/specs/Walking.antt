@@ -35,9 +35,10 @@ HasNextOf (Some walk) shown before after =
 abbrev pub HasNext : Option (ℕ × ℕ) → (before after : HeldOf) → Type 0
 HasNext shown before after = HasNextOf before.walk shown before after
 
--- A walk went on with this code: it shows the pair that is written, or it has ended.
+-- A walk went on with this code: it shows the pair that is written, or it has ended, and nothing is
+-- written.
 abbrev pub IsNext :
-    (code : ℤ) → (key number : ℕ) → (before after : Option HeldOf) → Type 0
-IsNext code key number before after =
-    ((code ≡ PRESENT) × Turned before after (HasNext (Some (key, number))))
-    ⊎ ((code ≡ ABSENT) × Turned before after (HasNext None))
+    (code : ℤ) → (key key' number number' : ℕ) → (before after : Option HeldOf) → Type 0
+IsNext code key key' number number' before after =
+    ((code ≡ PRESENT) × Turned before after (HasNext (Some (key', number'))))
+    ⊎ ((code ≡ ABSENT) × (key' ≡ key) × (number' ≡ number) × Turned before after (HasNext None))

@@ -18,7 +18,7 @@ pub extern "C" fn samvolip_walk(seat: &mut SeatHandle)
 #[unsafe(no_mangle)]
 pub extern "C" fn samvolip_next(seat: &mut SeatHandle, key: &mut u64, number: &mut u64) -> i32
     requires open { IsOpen seat.old.held }
-    ensures { IsNext result key.new number.new seat.old.held seat.new.held }
+    ensures { IsNext result key.old key.new number.old number.new seat.old.held seat.new.held }
 {
     match seat.lend().next_key() {
         Some((found, its)) => {
