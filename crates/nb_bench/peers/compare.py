@@ -3,7 +3,8 @@
 
     compare.py [--seconds S] [--rounds N] [--threads 1,2,4] [--workloads ABCDE] [PEER..]
 
-The time of a call is NANOSECONDS / OPS: with several threads at once it is the machine's time for one call, not a thread's."""
+The time of a call is NANOSECONDS / OPS: with several threads at once it is the machine's time for one call, not a thread's. A peer
+NAME=PATH is the program at this path, such as the `nb_bench` of another commit."""
 import argparse, os, statistics, subprocess
 
 HERE = os.path.dirname(os.path.abspath(__file__))
@@ -36,6 +37,10 @@ words.add_argument('--workloads', default='ABCDE')
 words.add_argument('peers', nargs='*')
 given = words.parse_args()
 peers = given.peers or list(PEERS)
+for at, peer in enumerate(peers):
+    if '=' in peer:
+        peers[at], path = peer.split('=', 1)
+        PEERS[peers[at]] = [path]
 print('workload threads ' + ' '.join(f'{p:>15}' for p in peers) + '   ns a call: best (middle)')
 for workload in given.workloads:
     for threads in given.threads.split(','):

@@ -191,10 +191,10 @@ typedef struct samvolip_entry {
 
 /*
  * A shape with room to spare for so many different keys, and for this many threads: a last table of
- * half as many slots again as there are keys, or more, and one of an eighth of it before. No key is
- * refused as full while no more than that many were ever put. It takes 16 bytes a slot, of both
- * tables. For more than SAMVOLIP_MOST_KEYS there is no shape, and samvolip_open refuses what this
- * answers, by SAMVOLIP_TABLES.
+ * half as many slots again as there are keys, or more, and one of an eighth of it before. A put is
+ * refused as full only where other keys have all slots of the last table. It takes 16 bytes a slot,
+ * of both tables. For more than SAMVOLIP_MOST_KEYS there is no shape, and samvolip_open refuses what
+ * this answers, by SAMVOLIP_TABLES.
  */
 static inline samvolip_shape samvolip_shape_for_keys(uint64_t most, unsigned seats)
 {

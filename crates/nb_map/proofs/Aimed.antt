@@ -1,77 +1,59 @@
 -- What a look at a key's home slot leaves open for a write.
-use Rattle.std.proofs.Common.{◌≡◌, ◌≢◌, ◌∙◌, ◌==◌, ◌-◌, ℕ, ◌<◌, Bool, true, false, cond, [], None, Some, ap, sym, subst, refl, inl, inr}
-use Rattle.std.proofs.lemmas.Bool.{eq-eqb, eqb-true}
+use Rattle.std.proofs.Common.{◌≡◌, ◌∙◌, ◌==◌, ◌-◌, ℕ, ◌<◌, Bool, true, false, cond, List, [], None, Some, ap, sym, subst, refl, inl, inr}
+use Rattle.std.proofs.lemmas.Bool.{eqb-false, eqb-true}
 use Rattle.std.proofs.lemmas.Nat.{pow_pos}
 use Rattle.nb_core.specs.Calls.{Fills}
 use Rattle.nb_core.specs.History.{key_of_call}
-use Rattle.nb_core.specs.Laws.{Lasts}
 use Rattle.nb_core.specs.Plans.{Plan, generations_of}
 use Rattle.nb_core.specs.States.{key_state}
-use Rattle.nb_core.specs.Tables.{Tables, path_slot}
+use Rattle.nb_core.specs.Tables.{path_slot}
 use Rattle.nb_core.specs.declared.calls.Call.{Call}
+use Rattle.nb_core.specs.declared.calls.Reply.{Reply}
 use Rattle.nb_core.specs.declared.states.KeyState.{KeyState}
 use Rattle.nb_core.specs.declared.states.KeyState.TheVariants.{Claimed, Dead, Empty}
-use Rattle.nb_table.specs.Chains.{ChainOf, Extended, IsOwn, SeenBy}
+use Rattle.nb_table.proofs.Theorems.{steps_add_up}
+use Rattle.nb_table.specs.Chains.{ChainOf, Extended, IsOwn, SeenBy, seen_by}
 use Rattle.nb_table.specs.Events.{read, shown_by_key}
 use Rattle.nb_map.specs.Calling.{HasMade, as_replied}
-use Rattle.nb_map.specs.Looking.{IsAtHome, IsHomeSlot}
+use Rattle.nb_map.specs.Writing.{IsAloneAtHome}
 use Rattle.nb_map.proofs.Home.{home-before, home-in}
-use Rattle.nb_map.proofs.Made.{made-quiet, made-read, read_shown}
-use Rattle.nb_map.proofs.Searched.{read-before, shown-other, shown-own, two-slots}
+use Rattle.nb_map.proofs.Made.{made-quiet, made-read, made-stays, read_shown}
+use Rattle.nb_map.proofs.Searched.{made-then, read-before, shown-other, shown-own, two-slots}
 
--- A load of the key word of the call's own slot isn't its read.
-pub made-at-own :
-    (p : Plan) (call : Call) {before after : SeenBy} (g i key : ℕ) (s : KeyState)
-    → key_of_call call ≡ key → s ≡ Claimed key
-    → Extended p before after (read before.number call (shown_by_key p g i s (key_of_call call))) 1
-    → HasMade p call before after [] 1
-made-at-own p call {before} {after} g i key s is own step =
-    made-quiet p call
-    (subst (λ shown. Extended p before after (read before.number call shown) 1)
-    (ap (λ s. shown_by_key p g i s (key_of_call call)) own
-    ∙ shown-own p g i (key_of_call call) key key is (sym (eq-eqb key key refl))) step)
-
--- A load of the home slot's key word isn't the call's read, where it finds another key, or that the
--- slot is closed, or empty and the call puts a number there.
-pub made-away :
+-- A load of the home slot's key word isn't the call's read, but where the slot is empty and the
+-- call leaves an absent key at that.
+made-at-home :
     (chain : ChainOf) (call : Call) {before after : SeenBy} (g i : ℕ) (s : KeyState)
     → IsOwn chain before → g < generations_of chain.shape
-    → path_slot chain.shape g (key_of_call call) 0 ≡ i → s ≢ Claimed (key_of_call call)
-    → (s ≡ Empty → Fills call)
+    → path_slot chain.shape g (key_of_call call) 0 ≡ i → (s ≡ Empty → Fills call)
     → Extended chain.shape before after
     (read before.number call (shown_by_key chain.shape g i s (key_of_call call))) 1
     → HasMade chain.shape call before after [] 1
-made-away chain call {before} {after} g i Empty own table at differs fills step =
+made-at-home chain call {before} {after} g i Empty own table at fills step =
     subst (λ made. HasMade chain.shape call before after made 1)
     (ap (λ b. cond b (as_replied call None) []) (fills refl))
     (made-read chain.shape call (Some None) step)
-made-away chain call g i Dead own table at differs fills step =
-    made-quiet chain.shape call step
-made-away chain call {before} {after} g i (Claimed other) own table at differs fills step =
-    let p = chain.shape in
-    let k = key_of_call call in
-    let none = ap (λ i. read_shown call (shown_by_key p g i (Claimed other) k)) (sym at)
-    ∙ shown-other chain g table call 0 other (pow_pos _) (λ same. differs (ap Claimed same))
-    ∙ read-before p g call 1 (two-slots p own.plan g table) in
-    subst (λ made. HasMade p call before after made 1) none
-    (made-read p call (shown_by_key p g i (Claimed other) k) step)
+made-at-home chain call g i Dead own table at fills step = made-quiet chain.shape call step
+made-at-home chain call {before} {after} g i (Claimed other) own table at fills step =
+    own-or-not (other == k) refl
+  where
+    p : Plan
+    p = chain.shape
 
--- and then the key isn't at home, or wasn't known there
-pub aimed-away :
-    (p : Plan) (call : Call) (t u v : Tables) → Lasts p t u → Lasts p u v → (g : ℕ)
-    → g < generations_of p → (s : KeyState) → u.key g (path_slot p g (key_of_call call) 0) ≡ s
-    → s ≢ Claimed (key_of_call call) → (s ≡ Empty → Fills call)
-    → IsAtHome p v g (key_of_call call)
-    → (Fills call → IsHomeSlot p t g (key_of_call call)) → ⊥
-aimed-away p call t u v first second g table s is differs fills home known =
-    let k = key_of_call call in
-    elim (home-before p u v second g k table home) [
-      | inl empty ↦
-          let still = first.claimed g _ k (home-in p g k table) (known (fills (sym is ∙ empty))) in
-          let both : Empty ≡ Claimed k = sym empty ∙ still in
-          cc
-      | inr own ↦ differs (sym is ∙ own.0)
-    ]
+    k : ℕ
+    k = key_of_call call
+
+    own-or-not : (b : Bool) → (other == k) ≡ b → HasMade p call before after [] 1
+    own-or-not true is =
+        made-quiet p call
+        (subst (λ shown. Extended p before after (read before.number call shown) 1)
+        (shown-own p g i k k other refl (sym is)) step)
+    own-or-not false is =
+        let none = ap (λ i. read_shown call (shown_by_key p g i (Claimed other) k)) (sym at)
+        ∙ shown-other chain g table call 0 other (pow_pos _) (eqb-false other k is)
+        ∙ read-before p g call 1 (two-slots p own.plan g table) in
+        subst (λ made. HasMade p call before after made 1) none
+        (made-read p call (shown_by_key p g i (Claimed other) k) step)
 
 -- only the word of an empty slot says that it is empty
 pub empty-word : (word : ℕ) → key_state word ≡ Empty → word ≡ 0
@@ -85,3 +67,47 @@ empty-word word is =
     one : (b : Bool) → cond b Dead (Claimed (word - 2)) ≡ Empty → word ≡ 0
     one true same = absurd cc
     one false same = absurd cc
+
+-- A write has loaded the word of its key's home slot, and it may be claimed the slot.
+module _ (chain : ChainOf) {call : Call} {start looked there : SeenBy} (g i key word : ℕ)
+    (own : IsOwn chain start) (table : g < generations_of chain.shape)
+    (is : key_of_call call ≡ key) (at : path_slot chain.shape g key 0 ≡ i)
+    (load : Extended chain.shape start looked
+    (read start.number call (shown_by_key chain.shape g i (key_state word) (key_of_call call))) 1)
+    (found : (seen_by chain.shape looked).key g i ≡ key_state word)
+    (acts : word ≡ 0 → Fills call)
+    (claim : HasMade chain.shape call looked there [] 2) where
+  mine : IsOwn chain looked
+  mine = steps_add_up.own own (steps_add_up.one load)
+
+  home : path_slot chain.shape g (key_of_call call) 0 ≡ i
+  home = ap (λ k. path_slot chain.shape g k 0) is ∙ at
+
+  fills : key_state word ≡ Empty → Fills call
+  fills empty = acts (empty-word word empty)
+
+  -- that was no call
+  pub made-look : HasMade chain.shape call start there [] 3
+  made-look =
+      made-then own (made-at-home chain call g i (key_state word) own table home fills load) claim
+
+  -- and where the key is at home in the end, and was known there if the call puts a number at an
+  -- absent key, the word was the key's
+  pub own-word :
+      {after : SeenBy} {calls : List (Call × Reply)} {most : ℕ}
+      → HasMade chain.shape call there after calls most
+      → IsAloneAtHome chain.shape g call start after → key_state word ≡ Claimed key
+  own-word {after} made alone =
+      let p = chain.shape in
+      let k = key_of_call call in
+      let first = steps_add_up.stays own (steps_add_up.one load) in
+      let second = made-stays chain mine (made-then mine claim made) in
+      elim (home-before p (seen_by p looked) (seen_by p after) second g k table alone.home) [
+        | inl empty ↦
+            let none = sym found ∙ sym (ap ((seen_by p looked).key g) home) ∙ empty in
+            let still = first.claimed g _ k (home-in p g k table) (alone.known (fills none)) in
+            let both : Empty ≡ Claimed k = sym empty ∙ still in
+            absurd cc
+        | inr here ↦
+            sym found ∙ sym (ap ((seen_by p looked).key g) home) ∙ here.0 ∙ ap Claimed is
+      ]

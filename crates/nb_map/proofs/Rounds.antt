@@ -75,7 +75,7 @@ before-bound p plan g passed passed' all table both =
   where
     fits : (t tables n above passed passed' all : ℕ) → above ≤ n
         → (passed + passed') * (n + 8) ≤ all * (n + 8)
-        → 1 + (min (2 ^ 32 - 1) passed + 3 + (2 * above + 6 + 2)
+        → 1 + (min (2 ^ 32 - 1) passed + 5 + (2 * above + 6 + 2)
         + 8 * (t + passed' + tables) * (n + 8)) ≤ 8 * (t + (all + 1) + tables) * (n + 8)
     fits t tables n above passed passed' all next both = omega (arith, next, both)
 

@@ -35,6 +35,9 @@ module _ (chain : ChainOf) {start first : SeenBy} (top : ℕ) (own : IsOwn chain
   pub table-there : top < generations_of chain.shape
   table-there = table-within chain first mine top (reached-there 0).installed
 
+  pub ready-there : IsReady chain.shape (seen_by chain.shape first) top
+  ready-there = ready-top chain first mine top is
+
   module _ {then : SeenBy} {events : List Event} {count : ℕ}
       (grown : Grown chain.shape first then events count) where
     -- and is so after the look at its home slot
@@ -45,7 +48,7 @@ module _ (chain : ChainOf) {start first : SeenBy} (top : ℕ) (own : IsOwn chain
 
     pub ready-then : IsReady chain.shape (seen_by chain.shape then) top
     ready-then =
-        (steps_add_up.stays mine grown).ready top table-there (ready-top chain first mine top is)
+        (steps_add_up.stays mine grown).ready top table-there ready-there
 
   module _ {call : Call} {then : SeenBy} {most : ℕ}
       (home : HasMade chain.shape call first then [] most) where

@@ -261,7 +261,7 @@ elsewhere-bound p plan g tries passed passed' all left table some both fewer =
   where
     fits : (t tables n above lost lost' most : ℕ) → 1 ≤ most → lost ≤ most → lost' ≤ most
         → above ≤ n → 1 * n ≤ most * n
-        → 1 + (lost + 3 + (2 * above + 6 + 2) + (8 * (t + tables) * (n + 8) + 2 * lost'))
+        → 1 + (lost + 5 + (2 * above + 6 + 2) + (8 * (t + tables) * (n + 8) + 2 * lost'))
         ≤ 8 * (t + most + tables) * (n + 8)
     fits t tables n above lost lost' most one a b c d = omega (arith, one, a, b, c, d)
 

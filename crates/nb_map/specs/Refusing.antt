@@ -72,9 +72,9 @@ made_at_home call (at_home.Refused fault) = []
 made_at_home call (at_home.Elsewhere left) = []
 
 -- the most steps there: a load of the key, and one of its value; an exchange for each try that was
--- lost and for one more; and, it may be, the end of a copy
+-- lost and for one more; and, it may be, a look at the next word and a claim, and the end of a copy
 abbrev pub home_steps : Plan → (g tries passed : ℕ) → ℕ
-home_steps p g tries passed = min tries passed + 3 + pass_steps p g
+home_steps p g tries passed = min tries passed + 5 + pass_steps p g
 
 -- ---- in one table
 

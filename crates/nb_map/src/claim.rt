@@ -1,5 +1,19 @@
 //! A slot for the key of a call that puts a number at an absent key.
-ghost use Rattle.std.specs.Prelude.{◌≡◌, ◌≢◌, ℕ, ◌+◌, ◌-◌, ◌<◌, ◌≤◌, [], suc, IfSome, IfNone};
+ghost use Rattle.std.specs.Prelude.{
+  ◌≡◌,
+  ◌≢◌,
+  ℕ,
+  ◌+◌,
+  ◌-◌,
+  ◌<◌,
+  ◌≤◌,
+  [],
+  suc,
+  IfSome,
+  IfNone,
+  IsTrue,
+  false,
+};
 ghost use Rattle.nb_core.specs.Calls.{Fills};
 ghost use Rattle.nb_core.specs.History.{key_of_call};
 ghost use Rattle.nb_core.specs.Plans.{generations_of, limit_of, size_of};
@@ -107,7 +121,7 @@ fn claim_at(
         grow(chain, seat, g, key, call, below);
         return Some(Found::Above(Below::Complete));
     }
-    if g + 1 < chain.shape().generations() && chain.load_next(seat, g, None) {
+    if has_next(chain, seat, g) {
         complete(chain, seat, g);
         return Some(Found::Above(Below::Complete));
     }
@@ -123,6 +137,18 @@ fn claim_at(
             }
         }
     }
+}
+
+/// Whether table `g` has a next one, by a load unless it is the last table.
+#[inline]
+pub(crate) fn has_next(chain: &Chain, seat: &mut ChainSeat, g: u32) -> bool
+    requires own { IsOwn chain.now seat.old }
+    requires table { g < generations_of chain.now.shape }
+    ensures made { (call : Call) → HasMade chain.now.shape call seat.old seat.new [] 1 }
+    ensures next { IsTrue result → IsInstalled (seen_by chain.now.shape seat.new) (suc g) }
+    ensures none { result ≡ false → IsInstalled (seen_by chain.now.shape seat.new) (suc g) → ⊥ }
+{
+    g + 1 < chain.shape().generations() && chain.load_next(seat, g, None)
 }
 
 /// What a search comes to where other keys have the key's whole path in table `g`: in the last

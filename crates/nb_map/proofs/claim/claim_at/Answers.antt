@@ -1,17 +1,15 @@
-use Rattle.std.proofs.Common.{◌≡◌, ◌≢◌, ◌∙◌, ◌+◌, ◌<◌, [], suc, ap, sym, subst, arith, rules}
+use Rattle.std.proofs.Common.{◌≡◌, ◌≢◌, ◌∙◌, ◌+◌, ◌<◌, suc, ap, sym, arith, rules}
 use Rattle.std.proofs.lemmas.Bool.{eqb-false}
-use Rattle.nb_core.specs.Tables.{IsInstalled, UpToDead, path_slot}
+use Rattle.nb_core.specs.Tables.{UpToDead, path_slot}
 use Rattle.nb_core.specs.Plans.{generations_of, limit_of, size_of}
 use Rattle.nb_core.specs.declared.states.KeyState.TheVariants.{Claimed, Dead}
-use Rattle.nb_table.specs.Chains.{SeenBy, seen_by}
+use Rattle.nb_table.specs.Chains.{seen_by}
 use Rattle.nb_copy.specs.Handing.{table_steps}
 use Rattle.nb_map.proofs.Claimed.{above-complete, below-lasts, claimed-empty, complete-next, dead-empty, made-claim, made-complete, way-to}
-use Rattle.nb_map.proofs.Made.{made-more, made-none, made-own, made-quiet, made-stays, made-within}
+use Rattle.nb_map.proofs.Made.{made-more, made-own, made-quiet, made-stays, made-within}
 use Rattle.nb_map.proofs.Searched.{dead-next, others-more, table-within}
-use Rattle.nb_map.specs.Calling.{HasMade}
 use Rattle.nb_map.specs.Writing.{grow_steps}
 use Rattle.nb_map.proofs.claim.claim_at.Goals as goal
-use Rattle.nb_map.proofs.claim.claim_at.Goals.{After-path_slot-i, else-g-generations-via-then-g-generations+else-load_next, else-g-generations-via-else-g-generations}
 
 pub returns-then-distance-limit_of-clause-found : goal.returns-then-distance-limit_of-clause-found
 returns-then-distance-limit_of-clause-found c =
@@ -24,14 +22,24 @@ returns-then-distance-limit_of-clause-found c =
           c.grow.ensures.complete.0 c.grow.ensures.complete.1,
     )
 
-pub returns-then-load_next-clause-found : goal.returns-then-load_next-clause-found
-returns-then-load_next-clause-found c =
+pub has_next-requires-clause-table : goal.has_next-requires-clause-table
+has_next-requires-clause-table c =
+    table-within c.args.chain.now c.args.seat.now c.requires.own c.args.g c.requires.installed
+
+pub complete-requires-clause-own : goal.complete-requires-clause-own
+complete-requires-clause-own c =
+    made-own c.args.chain.now c.requires.own (c.has_next.ensures.made c.args.call.now)
+
+pub returns-then-has_next-clause-found : goal.returns-then-has_next-clause-found
+returns-then-has_next-clause-found c =
     let chain = c.args.chain.now in
     let p = chain.shape in
     let g = c.args.g in
-    let next : suc g < generations_of p = search rules in
+    let looked = c.has_next.ensures.made c.args.call.now in
+    let mine = made-own chain c.requires.own looked in
+    let next = table-within chain c.has_next.new.seat mine (suc g)
+    (c.has_next.ensures.next c.if-has_next.true) in
     let table : g < generations_of p = omega (arith, next) in
-    let looked = made-quiet p c.args.call.now c.load_next.ensures.grows in
     let made = made-complete chain next c.requires.own looked c.complete.ensures.completed in
     let own = made-own chain c.requires.own made in
     let complete = c.complete.ensures.completed.complete in (
@@ -40,46 +48,14 @@ returns-then-load_next-clause-found c =
           (complete-next chain c.complete.new.seat own g table complete),
     )
 
--- before the claim there was at most a look at the next word
-looked :
-    (c : After-path_slot-i) → HasMade c.args.chain.now.shape c.args.call.now c.args.seat.now
-    c.else-g-generations.seat [] 1
-looked c =
-    let p = c.args.chain.now.shape in
-    elim c.else-g-generations.branch [
-      | else-g-generations-via-then-g-generations+else-load_next w ↦
-          subst (λ (s : SeenBy). HasMade p c.args.call.now c.args.seat.now s [] 1) (sym w.seat-is)
-          (made-quiet p c.args.call.now w.load_next.ensures.grows)
-      | else-g-generations-via-else-g-generations w ↦
-          subst (λ (s : SeenBy). HasMade p c.args.call.now c.args.seat.now s [] 1) (sym w.seat-is)
-          (made-within 0 1 (omega arith) (made-none c.args.chain.now c.args.call.now c.args.seat.now
-          c.requires.own))
-    ]
-
--- and it showed none, or there is none behind the last table
-no-next :
-    (c : After-path_slot-i) → IsInstalled (seen_by c.args.chain.now.shape c.else-g-generations.seat)
-    (suc c.args.g) → ⊥
-no-next c next =
-    let chain = c.args.chain.now in
-    let seat = c.else-g-generations.seat in
-    let more = table-within chain seat (made-own chain c.requires.own (looked c)) (suc c.args.g)
-    next in
-    let tables : c.generations.result ≡ generations_of chain.shape = search rules in
-    elim c.else-g-generations.branch [
-      | else-g-generations-via-then-g-generations+else-load_next w ↦
-          let shown = w.load_next.ensures.installed.1
-          (subst (λ (s : SeenBy). IsInstalled (seen_by chain.shape s) (suc c.args.g))
-          w.seat-is next) in
-          absurd (let looked = w.if-load_next.false in cc)
-      | else-g-generations-via-else-g-generations w ↦ absurd (let last = w.if-g-generations.false in
-          omega (arith, last, more, tables))
-    ]
+pub claim_key-requires-clause-own : goal.claim_key-requires-clause-own
+claim_key-requires-clause-own c =
+    made-own c.args.chain.now c.requires.own (c.has_next.ensures.made c.args.call.now)
 
 pub claim_key-requires-clause-installed : goal.claim_key-requires-clause-installed
 claim_key-requires-clause-installed c =
     (made-stays c.args.chain.now c.requires.own
-    (looked (goal.at.claim_key-requires-clause-installed c).After-path_slot-i)).installed
+    (c.has_next.ensures.made c.args.call.now)).installed
     c.args.g c.requires.installed
 
 pub claim_key-requires-clause-way : goal.claim_key-requires-clause-way
@@ -89,10 +65,10 @@ claim_key-requires-clause-way c =
     let g = c.args.g in
     let table = table-within chain c.args.seat.now c.requires.own g c.requires.installed in
     let lasting = made-stays chain c.requires.own
-    (looked (goal.at.claim_key-requires-clause-way c).After-path_slot-i) in
+    (c.has_next.ensures.made c.args.call.now) in
     let within : c.args.distance < limit_of p g = search rules in
     let at : path_slot p g c.args.key c.args.distance ≡ c.path_slot-i.result = search rules in
-    way-to p (seen_by c.args.chain.now.shape c.else-g-generations.seat)
+    way-to p (seen_by c.args.chain.now.shape c.has_next.new.seat)
     g c.path_slot-i.result c.args.key c.args.distance c.args.below c.requires.known
     (below-lasts p _ _ lasting g c.args.key table c.args.below c.requires.below)
     c.requires.near within at
@@ -106,10 +82,10 @@ returns-in-Empty-clause-found c =
     let in_table : c.path_slot-i.result < size_of chain.shape c.args.g = search rules in (
       made-within 2 _ (omega arith)
           (made-more chain c.requires.own
-          (looked (goal.at.returns-in-Empty-clause-found c).After-path_slot-i)
+          (c.has_next.ensures.made c.args.call.now)
           (made-claim chain c.args.call.now c.args.key c.args.g c.path_slot-i.result c.requires.key
           c.requires.acts table
-          (no-next (goal.at.returns-in-Empty-clause-found c).After-path_slot-i) claimed.0)),
+          (c.has_next.ensures.none c.if-has_next.false) claimed.0)),
       (in_table, claimed.1),
     )
 
@@ -122,7 +98,7 @@ returns-in-Dead-clause-found c =
     let table = table-within chain c.args.seat.now c.requires.own g c.requires.installed in
     let lost = c.claim_key.ensures.lost (dead-empty c.claim_key.result c.in-Dead.is) in
     let made = made-more chain c.requires.own
-    (looked (goal.at.returns-in-Dead-clause-found c).After-path_slot-i)
+    (c.has_next.ensures.made c.args.call.now)
     (made-quiet p c.args.call.now lost.0) in
     let lasting = made-stays chain c.requires.own made in
     let at : path_slot p g c.args.key c.args.distance ≡ i = search rules in
@@ -151,7 +127,7 @@ returns-then-eq-clause-found c =
     let in_table : c.path_slot-i.result < size_of chain.shape c.args.g = search rules in (
       made-within 2 _ (omega arith)
           (made-more chain c.requires.own
-          (looked (goal.at.returns-then-eq-clause-found c).After-path_slot-i)
+          (c.has_next.ensures.made c.args.call.now)
           (made-quiet chain.shape c.args.call.now lost.0)),
       (in_table, lost.1 ∙ c.in-Claimed.is ∙ ap Claimed same),
     )
@@ -165,7 +141,7 @@ returns-else-eq-clause-other c =
     let lost = c.claim_key.ensures.lost (claimed-empty c.claim_key.result c.in-Claimed.other
     c.in-Claimed.is) in
     let made = made-more chain c.requires.own
-    (looked (goal.at.returns-else-eq-clause-other c).After-path_slot-i)
+    (c.has_next.ensures.made c.args.call.now)
     (made-quiet p c.args.call.now lost.0) in
     let at : path_slot p g c.args.key c.args.distance ≡ c.path_slot-i.result = search rules in
     let differs : c.in-Claimed.other ≢ c.args.key =

@@ -1,6 +1,6 @@
 use Rattle.std.proofs.Common.{◌+◌, ◌≤◌, ◌^◌, ◌-◌, [], arith}
 use Rattle.nb_core.specs.declared.calls.Call.TheVariants as call
-use Rattle.nb_map.proofs.Straight.{alone-there, made-in-rounds, made-once, reached-then, reached-there, ready-then, short-there}
+use Rattle.nb_map.proofs.Straight.{alone-there, made-in-rounds, made-once, reached-then, reached-there, ready-then, ready-there, short-there}
 use Rattle.nb_map.proofs.waiting.write_through.Goals as goal
 use Rattle.nb_map.proofs.waiting.write_through.Goals.{in-Refused-Contended, in-Elsewhere}
 use Rattle.nb_map.specs.Calling.{HasMade}
@@ -11,6 +11,11 @@ pub write_home-requires-clause-reached : goal.write_home-requires-clause-reached
 write_home-requires-clause-reached g c =
     reached-there c.args.chain.now c.load_top-top.result c.requires.own c.load_top-top.ensures.grows
     c.load_top-top.ensures.found c.args.key
+
+pub write_home-requires-clause-ready : goal.write_home-requires-clause-ready
+write_home-requires-clause-ready g c =
+    ready-there c.args.chain.now c.load_top-top.result c.requires.own c.load_top-top.ensures.grows
+    c.load_top-top.ensures.found
 
 -- ---- at home
 

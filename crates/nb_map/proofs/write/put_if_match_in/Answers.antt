@@ -1,7 +1,7 @@
 use Rattle.std.proofs.Common.{arith}
 use Rattle.std.proofs.lemmas.Result.{IfErr-weaker}
 use Rattle.nb_core.specs.declared.calls.Call.TheVariants as call
-use Rattle.nb_map.proofs.Straight.{alone-there, made-elsewhere, made-there, reached-then, reached-there, ready-then, short-there}
+use Rattle.nb_map.proofs.Straight.{alone-there, made-elsewhere, made-there, reached-then, reached-there, ready-then, ready-there, short-there}
 use Rattle.nb_map.proofs.Written.{just-longer}
 use Rattle.nb_map.proofs.write.put_if_match_in.Goals as goal
 use Rattle.nb_table.proofs.Theorems.{steps_add_up}
@@ -10,6 +10,11 @@ pub write_home-requires-clause-reached : goal.write_home-requires-clause-reached
 write_home-requires-clause-reached g c =
     reached-there c.args.chain.now c.load_top-top.result c.requires.own c.load_top-top.ensures.grows
     c.load_top-top.ensures.found c.args.key
+
+pub write_home-requires-clause-ready : goal.write_home-requires-clause-ready
+write_home-requires-clause-ready g c =
+    ready-there c.args.chain.now c.load_top-top.result c.requires.own c.load_top-top.ensures.grows
+    c.load_top-top.ensures.found
 
 -- ---- at home
 
