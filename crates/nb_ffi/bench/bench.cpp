@@ -8,7 +8,7 @@
 
 namespace {
 
-// A map whose threads take a seat each, at their first call; the seats stay in the map's reserve.
+// A map whose threads take a seat each at their first call; all were split when it was made.
 class Map {
     samvolip_seat seats[SAMVOLIP_MAX_SEATS];
     uint64_t number;

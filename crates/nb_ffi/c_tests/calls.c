@@ -1,4 +1,5 @@
-/* Each call once, with each of its answers and refusals, by one thread. */
+/* Each call once, with each of its answers and refusals but want of memory (memory.c), a write
+ * that others came before, and SAMVOLIP_LOST; by one thread. */
 #include "samvolip.h"
 
 #include "expect.h"

@@ -34,22 +34,23 @@
  *
  * Empty and full. A handle is a variable that the caller declares, empty by SAMVOLIP_SEAT_INIT or
  * SAMVOLIP_ENDED_INIT. samvolip_open, samvolip_split and samvolip_close fill an empty one;
- * samvolip_join, samvolip_close and samvolip_free empty one. All other calls take a full one. So
- * nothing is freed twice, and a call after a free is a call with an empty handle, which is an error
- * of the program. Don't copy a handle: two copies would be two seats of one.
+ * samvolip_join, samvolip_close, samvolip_free and samvolip_ended_free empty one, and both frees
+ * take an empty one too. All other calls take a full one. So nothing is freed twice, and a call
+ * after a free is a call with an empty handle, which is an error of the program. Don't copy a
+ * handle: two copies would be two seats of one.
  *
  * Pointers. No pointer is NULL but where it says so. What a call writes to (a number, a reply, a
  * handle, an array) overlaps nothing else that it is given. Nothing that was passed is kept.
  *
  * Refusals. A call that may be refused answers an int: 0 or 1 where it was made, and a negative
  * enum samvolip_code where it was refused. A refused call changes nothing: the map, the handles and
- * what the caller passed are as they were. (A write that is refused as full or contended may have
- * had tables copied; no other call sees the difference.)
+ * what the caller passed are as they were, but for SAMVOLIP_LOST, which leaves both handles empty.
+ * (For a refused write tables may have grown, and its key may keep a slot without a number:
+ * samvolip_generation shows the one, and a later new key may find less room by the other.)
  *
  * Memory. samvolip_open reserves all tables of the map, and the map keeps them until it is freed.
  * samvolip_open, samvolip_split, samvolip_close and samvolip_ended_entries take memory, by malloc;
- * no other call does (but samvolip_join, for a moment, where seats come together that never were
- * one handle's).
+ * no other call does.
  *
  * Signals and forks. No call from a signal handler, nor from the child of a fork of a process with
  * threads.
@@ -90,8 +91,7 @@ enum samvolip_code {
     SAMVOLIP_ABSENT = 0,  /* it was made, and there was no number */
     SAMVOLIP_PRESENT = 1, /* it was made, and there was a number */
 
-    /* what is wrong with a shape: the first of these, in this order, but that a wrong exponent is
-       told before a falling one */
+    /* what is wrong with a shape: the first of these, in this order */
     SAMVOLIP_TABLES = -1,    /* not 1 to 16 tables */
     SAMVOLIP_EXPONENTS = -2, /* an exponent that isn't from 2 to 19 */
     SAMVOLIP_FALLING = -3,   /* a table smaller than the one before it */
@@ -193,8 +193,8 @@ typedef struct samvolip_entry {
  * A shape with room to spare for so many different keys, and for this many threads: a last table of
  * half as many slots again as there are keys, or more, and one of an eighth of it before. A put is
  * refused as full only where other keys have all slots of the last table. It takes 16 bytes a slot,
- * of both tables. For more than SAMVOLIP_MOST_KEYS there is no shape, and samvolip_open refuses what
- * this answers, by SAMVOLIP_TABLES.
+ * of both tables. For more than SAMVOLIP_MOST_KEYS there is no shape, and samvolip_open refuses
+ * what this answers, by SAMVOLIP_TABLES.
  */
 static inline samvolip_shape samvolip_shape_for_keys(uint64_t most, unsigned seats)
 {
@@ -220,7 +220,7 @@ static inline samvolip_shape samvolip_shape_for_keys(uint64_t most, unsigned sea
  * Makes an empty map. `seat`, which is empty, gets all its seats: one to call with, and the others
  * in reserve, for samvolip_split.
  *
- * Cost: malloc of all tables, and clearing them.
+ * Cost: malloc of all tables, for a moment twice, and clearing and copying them.
  * Refused: by what is wrong with the shape; SAMVOLIP_OUT_OF_MEMORY.
  */
 int samvolip_open(const samvolip_shape *shape, samvolip_seat *seat);
@@ -239,7 +239,8 @@ int samvolip_split(samvolip_seat *seat, samvolip_seat *other);
  * afterwards. What `other` has seen isn't passed on: samvolip_meet does that, before.
  *
  * Cost: a few steps, and a free or two.
- * Refused: SAMVOLIP_OUT_OF_MEMORY, which doesn't come where the seats were once one handle's.
+ * Refused: SAMVOLIP_OUT_OF_MEMORY by its contract. In fact it takes no memory, since each handle
+ * has room for all seats.
  */
 int samvolip_join(samvolip_seat *seat, samvolip_seat *other);
 
@@ -248,7 +249,8 @@ int samvolip_join(samvolip_seat *seat, samvolip_seat *other);
  * is empty. `seat` is empty afterwards.
  *
  * Cost: a few steps for each seat, and a malloc.
- * Refused: SAMVOLIP_NOT_ALL_SEATS, SAMVOLIP_OUT_OF_MEMORY.
+ * Refused: SAMVOLIP_NOT_ALL_SEATS, SAMVOLIP_OUT_OF_MEMORY. SAMVOLIP_LOST, which a right caller
+ * never sees, leaves both handles empty.
  */
 int samvolip_close(samvolip_seat *seat, samvolip_ended *ended);
 
@@ -284,8 +286,9 @@ int samvolip_get(samvolip_seat *seat, uint64_t key, uint64_t *number);
  * Where another thread's write of the key comes in between, it tries again, `tries` times in all, 0
  * counting as one.
  *
- * Cost: wait-free. In the common case three loads and an exchange, and one more where a key comes
- * or goes. A new key that finds its table growing has it copied first.
+ * Cost: wait-free. In the common case three loads and an exchange, and one step more on the count
+ * where a key comes or goes. A key that has no slot takes a load and an exchange more. A new key
+ * that finds its table growing has it copied first.
  * Refused: SAMVOLIP_KEY_RANGE, SAMVOLIP_VALUE_RANGE, SAMVOLIP_WANT, SAMVOLIP_CHANGE, SAMVOLIP_FULL,
  * SAMVOLIP_CONTENDED, SAMVOLIP_SUM_RANGE.
  */
@@ -330,7 +333,8 @@ void samvolip_walk(samvolip_seat *seat);
  * that the map has all the while is shown; a key that comes or goes meanwhile may be shown or not.
  * The order is none.
  *
- * Cost: wait-free; a load for each slot on the way, and one more for the key.
+ * Cost: wait-free. Where no table is being copied, a load for each slot on the way, and one more
+ * for each key that has a slot; a key of a later table is sought in the earlier ones as well.
  */
 int samvolip_next(samvolip_seat *seat, uint64_t *key, uint64_t *number);
 
@@ -351,7 +355,8 @@ int samvolip_ended_get(samvolip_ended *ended, uint64_t key, uint64_t *number);
  * many; it takes samvolip_ended_size of them. `entries` isn't NULL, even for no room.
  *
  * Cost: that of a search for each key and of putting them in order, and memory for them twice.
- * Refused: SAMVOLIP_ROOM, SAMVOLIP_OUT_OF_MEMORY.
+ * Refused: SAMVOLIP_ROOM, SAMVOLIP_OUT_OF_MEMORY. ROOM is told only once the list was made: ask
+ * samvolip_ended_size first.
  */
 int samvolip_ended_entries(samvolip_ended *ended, samvolip_entry *entries, size_t room);
 

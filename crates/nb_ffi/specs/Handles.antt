@@ -97,4 +97,5 @@ pub record IsPartOf (before after other : HeldOf) : Type 0 where
   pub seat : after.seat ≡ before.seat
   pub walk : after.walk ≡ before.walk
   pub spare : before.spare ≡ after.spare ++ all_seats other
+  pub other_spare : other.spare ≡ []
   pub other_walk : other.walk ≡ None

@@ -131,13 +131,15 @@ impl<R: Read + Drop> Input<R> {
     }
 
     /// Hands out no more blocks, since a worker stopped. Of two lines at fault the first counts.
+    /// Any other fault counts before them: its block wasn't read to the end, so that the number of
+    /// a line behind it isn't known.
     pub fn stop(&mut self, stop: Stop) {
         self.has_ended = true;
         let is_first = match (self.stopped, stop) {
             (None, _) => true,
             (Some(Stop::Line(before, _)), Stop::Line(place, _)) => place.is_before(before),
-            (Some(_), Stop::Line(..)) => true,
-            _ => false,
+            (Some(Stop::Line(..)), _) => true,
+            (Some(_), _) => false,
         };
         if is_first {
             self.stopped = Some(stop);

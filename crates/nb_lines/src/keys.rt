@@ -1,5 +1,7 @@
 //! Numbers as keys.
-ghost use Rattle.std.specs.Prelude.{◌≡◌, IfOk};
+ghost use Rattle.std.specs.Prelude.{◌≡◌, true, IfOk};
+ghost use Rattle.std.specs.Str.{all_ascii_digits};
+ghost use Rattle.std.specs.Str.Parse.{digits_value};
 ghost use Rattle.nb_lines.specs.Keys.{number_at};
 
 use crate::faults::Cause;
@@ -34,7 +36,10 @@ pub fn number_of(key: Key) -> u64
 }
 
 /// The key of the number that a line writes.
-pub fn read_key(line: &[u8]) -> Result<Key, Cause> {
+pub fn read_key(line: &[u8]) -> Result<Key, Cause>
+    ensures read { IfOk result (λ key. number_at key ≡ digits_value 10 line.now) }
+    ensures digits { IfOk result (λ key. all_ascii_digits line.now ≡ true) }
+{
     let number = read_number(line)?;
     Ok(key_of(number)?)
 }

@@ -1,6 +1,8 @@
 //! The lines of a text, and the numbers that they write.
-ghost use Rattle.std.specs.Prelude.{length};
+ghost use Rattle.std.specs.Prelude.{◌≡◌, length, true, IfOk};
 ghost use Rattle.std.specs.Iterator.{at_most};
+ghost use Rattle.std.specs.Str.{all_ascii_digits};
+ghost use Rattle.std.specs.Str.Parse.{digits_value};
 
 use crate::faults::Cause;
 
@@ -42,7 +44,10 @@ impl<'a> Iterator for Lines<'a> {
 }
 
 /// The number that a line writes: digits, and nothing else.
-pub fn read_number(line: &[u8]) -> Result<u64, Cause> {
+pub fn read_number(line: &[u8]) -> Result<u64, Cause>
+    ensures read { IfOk result (λ number. number ≡ digits_value 10 line.now) }
+    ensures digits { IfOk result (λ number. all_ascii_digits line.now ≡ true) }
+{
     if line.is_empty() {
         return Err(Cause::NotANumber);
     }

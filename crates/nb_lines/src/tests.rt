@@ -151,6 +151,27 @@ fn the_first_fault_counts(rt: HostRuntime) -> Result<(), Fail> {
 }
 
 #[test]
+fn no_room_counts_before_a_line(rt: HostRuntime) -> Result<(), Fail> {
+    let text = ascending(rt.alloc())?;
+    for room_first in [true, false] {
+        let mut input = Input::new(rt.alloc(), text.as_bytes());
+        let (mut a, mut b) = (Block::new(rt.alloc())?, Block::new(rt.alloc())?);
+        assert!(rt; input.refill(&mut a) == Ok(true) && input.refill(&mut b) == Ok(true));
+        let line = b.stop_at(0, Cause::TooLarge);
+        let (first, second) = if room_first {
+            (Stop::Full, line)
+        } else {
+            (line, Stop::Full)
+        };
+        input.stop(first);
+        input.stop(second);
+        let fault = input.finish();
+        assert!(rt; matches!(&fault, Err(Fault::Full)));
+    }
+    Ok(())
+}
+
+#[test]
 fn a_read_fails(rt: HostRuntime) {
     let reader = Failing {
         bytes: b"0\n1\n2\n",

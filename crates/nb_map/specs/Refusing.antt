@@ -31,7 +31,7 @@ IsJustAdd p call after add_fault.Full = Fills call × IsCrowded p after.seen (ke
 IsJustAdd p call after add_fault.ValueRange = overflows call (map_of_log (log_of after.seen)) ≡ true
 
 -- Why a write with so many tries may be refused: for these reasons, and contended only where others
--- have won as many exchanges on the key since it began.
+-- have won as many exchanges on the key since the seat's last step before it.
 abbrev pub IsJust : Plan → Call → (before after : SeenBy) → (tries : ℕ) → PutFault → Type 0
 IsJust p call before after tries fault.Full = IsJustAdd p call after add_fault.Full
 IsJust p call before after tries fault.Contended = tries ≤ passed_since call before after

@@ -129,13 +129,17 @@ public final class Samvolip {
         }
 
         /** Takes another seat of the map, with those that it has, into reserve. The other is empty then. */
-        public synchronized void join(Seat other) {
+        public void join(Seat other) {
             if (other == this || other.map != map) throw new IllegalArgumentException("not two seats of one map");
-            synchronized (other) {
-                try {
-                    made((int) JOIN.invokeExact(full(), other.full()));
-                } catch (Throwable thrown) {
-                    throw wrong(thrown);
+            synchronized (map) {
+                synchronized (this) {
+                    synchronized (other) {
+                        try {
+                            made((int) JOIN.invokeExact(full(), other.full()));
+                        } catch (Throwable thrown) {
+                            throw wrong(thrown);
+                        }
+                    }
                 }
             }
         }
@@ -254,10 +258,15 @@ public final class Samvolip {
         private final MemorySegment handle = MemorySegment.allocateNative(8, 8, scope);
         private final MemorySegment number = MemorySegment.allocateNative(8, 8, scope);
 
+        private MemoryAddress full() {
+            if (MemoryAccess.getLong(handle) == 0) throw new IllegalStateException("the map was freed");
+            return handle.address();
+        }
+
         /** How many keys the map has. */
         public long size() {
             try {
-                return (long) ENDED_SIZE.invokeExact(handle.address());
+                return (long) ENDED_SIZE.invokeExact(full());
             } catch (Throwable thrown) {
                 throw wrong(thrown);
             }
@@ -266,7 +275,7 @@ public final class Samvolip {
         /** What is at a key. */
         public OptionalLong get(long key) {
             try {
-                return found(made((int) ENDED_GET.invokeExact(handle.address(), key, number.address())), number);
+                return found(made((int) ENDED_GET.invokeExact(full(), key, number.address())), number);
             } catch (Throwable thrown) {
                 throw wrong(thrown);
             }

@@ -123,6 +123,7 @@ class Seat:
         self._handle = handle
         self._map = number_of_map
         self._lock = threading.Lock()
+        self._walk = None
 
     @staticmethod
     def open(exponents, seats=1, stripes=None, reprobes=18, chunk=64):
@@ -134,11 +135,14 @@ class Seat:
         _made(_lib.samvolip_open(byref(shape), byref(handle)))
         return Seat(handle, next(_maps))
 
+    def _locked_call(self, name, *words):
+        if not self._handle:
+            raise ValueError("the seat is empty")
+        return getattr(_lib, f"samvolip_{name}")(byref(self._handle), *words)
+
     def _call(self, name, *words):
         with self._lock:
-            if not self._handle:
-                raise ValueError("the seat is empty")
-            return getattr(_lib, f"samvolip_{name}")(byref(self._handle), *words)
+            return self._locked_call(name, *words)
 
     def split(self):
         """A seat that this one has in reserve."""
@@ -150,10 +154,11 @@ class Seat:
         """Takes another seat of the map, with those that it has, into reserve. The other is empty then."""
         if other is self or other._map != self._map:
             raise ValueError("not two seats of one map")
-        with other._lock:
+        first, second = sorted((self, other), key=id)
+        with first._lock, second._lock:
             if not other._handle:
                 raise ValueError("the seat is empty")
-            _made(self._call("join", byref(other._handle)))
+            _made(self._locked_call("join", byref(other._handle)))
 
     def close(self):
         """With all seats: what is left of the map. The seat is empty then."""
@@ -208,10 +213,15 @@ class Seat:
         return self._call("generation")
 
     def walk(self):
-        """The keys with their numbers, while others write the map. A new walk ends this one."""
-        self._call("walk")
-        key, number = c_uint64(), c_uint64()
-        while self._call("next", byref(key), byref(number)):
+        """The keys with their numbers, while others write the map. A new walk ends the one before."""
+        key, number, mine = c_uint64(), c_uint64(), object()
+        with self._lock:
+            self._locked_call("walk")
+            self._walk = mine
+        while True:
+            with self._lock:
+                if self._walk is not mine or not self._locked_call("next", byref(key), byref(number)):
+                    return
             yield key.value, number.value
 
     def free(self):
@@ -224,24 +234,30 @@ class Seat:
 
 
 class Ended:
-    """What is left of a map. It stays on its thread."""
+    """What is left of a map. Its calls stay on the thread that closed it."""
 
     def __init__(self, handle):
         self._handle = handle
+        self._thread = threading.get_ident()
+
+    def _call(self, name, *words):
+        if threading.get_ident() != self._thread:
+            raise ValueError("an ended map stays on its thread")
+        return getattr(_lib, f"samvolip_ended_{name}")(byref(self._handle), *words)
 
     def __len__(self):
-        return _lib.samvolip_ended_size(byref(self._handle))
+        return self._call("size")
 
     def get(self, key):
         """What is at a key, or None."""
         number = c_uint64()
-        return number.value if _made(_lib.samvolip_ended_get(byref(self._handle), _number(key), byref(number))) else None
+        return number.value if _made(self._call("get", _number(key), byref(number))) else None
 
     def entries(self):
         """All keys, ascending, with their numbers."""
         count = len(self)
         entries = (_Entry * max(count, 1))()
-        _made(_lib.samvolip_ended_entries(byref(self._handle), entries, count))
+        _made(self._call("entries", entries, count))
         return [(entry.key, entry.number) for entry in entries[:count]]
 
     def __del__(self):

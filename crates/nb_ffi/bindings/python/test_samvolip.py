@@ -57,6 +57,17 @@ def calls():
     raise AssertionError("a call with an empty seat")
 
 
+def walks():
+    seat = Seat.open(exponents_for_keys(10))
+    for key in range(3):
+        seat.put(key, key)
+    older = seat.walk()
+    next(older)
+    assert sorted(seat.walk()) == [(0, 0), (1, 1), (2, 2)]
+    assert list(older) == []
+
+
 threads()
 calls()
+walks()
 print("python: well")

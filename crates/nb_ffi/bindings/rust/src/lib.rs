@@ -1,5 +1,5 @@
-//! The map of `samvolip.h` as safe Rust. A [`Map`] is opened with all its seats; each thread takes one;
-//! with all seats back the map is closed.
+//! The map of `samvolip.h` as safe Rust. A map is opened by [`Seat::open`], with all its seats; each
+//! thread takes one by [`Seat::split`]; with all seats joined again the map is closed.
 //!
 //! A seat goes from thread to thread, and serves one call at a time, so it is `Send` and not `Sync`.
 
@@ -10,7 +10,7 @@ use std::sync::atomic::{AtomicU64, Ordering};
 
 mod sys;
 
-/// Why a call was refused: a code of `samvolip.h`.
+/// Why a call was refused: a code of `samvolip.h`, or two seats of two maps.
 #[derive(Clone, Copy, Debug, PartialEq, Eq)]
 pub enum Fault {
     Tables,
@@ -193,6 +193,7 @@ impl Seat {
         // SAFETY: this handle is full, and the other is empty.
         match made(unsafe { sys::samvolip_close(&mut seat.raw, &mut raw) }) {
             Ok(_) => Ok(Ended { raw }),
+            Err(Fault::Lost) => unreachable!("nobody else has a seat of the map"),
             Err(fault) => Err((fault, seat)),
         }
     }
