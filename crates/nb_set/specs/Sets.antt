@@ -97,8 +97,8 @@ IsLockFree set call before after = refusing.IsLockFree set.map (call_for call) b
 abbrev pub IsAtHome : SetOf → ℕ → (before after : SeatOf) → Type 0
 IsAtHome set k before after = IsSeenAtHome (shape_of set) before.map.chain after.map.chain k
 
--- the same, no other seat has changed it meanwhile, and for an `add` the slot was known as the key's:
--- so a write of it takes four
+-- the same, no other seat has changed it meanwhile, and for an `add` the slot was known as the
+-- key's: so a write of it takes four
 abbrev pub IsAloneAtHome : SetOf → Call → (before after : SeatOf) → Type 0
 IsAloneAtHome set call before after =
     IsSeenAlone (shape_of set) (call_for call) before.map.chain after.map.chain
