@@ -1,9 +1,11 @@
 -- The number that digits write, one digit after another.
-use Rattle.std.proofs.Common.{◌≡◌, ◌∙◌, ℕ, ◌+◌, ◌-◌, ◌*◌, ◌<◌, ◌≤◌, List, sym, ap, refl, true, ◌∷◌, length, drop, get_or, arith, add-one}
+use Rattle.std.proofs.Common.{◌≡◌, ◌∙◌, ℕ, ◌+◌, ◌-◌, ◌*◌, ◌^◌, ◌<◌, ◌≤◌, Option, None, Some, Err, List, [], sym, ap, refl, true, ◌∷◌, length, drop, get_or, arith, add-one}
 use Rattle.std.specs.Str.{all_ascii_digits}
 use Rattle.std.specs.Str.Parse.{digits_value, digits_value_after}
 use Rattle.std.specs.Char.{is_ascii_digit, digit_value}
 use Rattle.std.specs.Int.{IsInRange}
+use Rattle.std.specs.Option.{SomeIff, ok_or}
+use Rattle.nb_lines.specs.Lines.{Writes}
 use Rattle.std.proofs.Math.Seq.{drop-cons}
 use Rattle.std.proofs.lemmas.Bool.Decides.{nat_tests}
 use Rattle.std.proofs.lemmas.List.{drop_all}
@@ -48,6 +50,27 @@ pub all_read :
     → number ≡ digits_value 10 line
 all_read line i number h past =
     sym (ap (digits_value_after 10 number) (drop_all i line past)) ∙ h.value
+
+-- more digits never make a number smaller
+grows : (number : ℕ) (ds : List ℕ) → number ≤ digits_value_after 10 number ds
+grows number [] = omega arith
+grows number (c ∷ cs) = omega (arith, grows (number * 10 + digit_value c) cs)
+
+-- so a line whose digits so far and one more make too large a number writes none that fits
+pub too_large :
+    (line : List ℕ) (i number digit written : ℕ) → HasRead line i number → i < length line
+    → is_ascii_digit (get_or line i 0) ≡ true → digit ≡ get_or line i 0 - 48
+    → 2 ^ 64 ≤ number * 10 + digit → Writes line written → written < 2 ^ 64 → ⊥
+too_large line i number digit written h in_line is_digit d large writes fits =
+    let next = one_read line i number digit (number * 10 + digit) h in_line is_digit d refl in
+    omega (arith, large, fits, writes.2, next.value, grows (number * 10 + digit) (drop (i + 1) line))
+
+-- a checked sum or product that is refused is past the bound
+pub beyond :
+    {E : Type 0} (e : E) (o : Option ℕ) (fault : E) (v bound : ℕ) → SomeIff o (v < bound) v
+    → ok_or o e ≡ Err fault → bound ≤ v
+beyond e None fault v bound none is = omega (arith, none)
+beyond e (Some n) fault v bound some is = absurd cc
 
 pub all_digits :
     (line : List ℕ) (i number : ℕ) → HasRead line i number → length line ≤ i

@@ -1,8 +1,8 @@
 //! Numbers as keys.
-ghost use Rattle.std.specs.Prelude.{◌≡◌, true, IfOk};
-ghost use Rattle.std.specs.Str.{all_ascii_digits};
-ghost use Rattle.std.specs.Str.Parse.{digits_value};
+ghost use Rattle.std.specs.Prelude.{◌≡◌, ◌≤◌, ℕ, IfOk, IsTrue, is_ok};
+ghost use Rattle.nb_core.specs.declared.numbers.TheConstants.{KEY_MAX};
 ghost use Rattle.nb_lines.specs.Keys.{number_at};
+ghost use Rattle.nb_lines.specs.Lines.{Writes};
 
 use crate::faults::Cause;
 use crate::lines::read_number;
@@ -12,7 +12,8 @@ use nb_core::{KEY_MAX, Key, RangeFault, mix, unmix};
 /// have home slots of their own. Where that is past the greatest key it is mixed again.
 #[inline]
 pub fn key_of(number: u64) -> Result<Key, RangeFault>
-    ensures { IfOk result (λ key. number_at key ≡ number) }
+    ensures back { IfOk result (λ key. number_at key ≡ number) }
+    ensures taken { number ≤ KEY_MAX → IsTrue (is_ok result) }
 {
     if number > KEY_MAX {
         return Err(RangeFault::KeyRange);
@@ -37,8 +38,9 @@ pub fn number_of(key: Key) -> u64
 
 /// The key of the number that a line writes.
 pub fn read_key(line: &[u8]) -> Result<Key, Cause>
-    ensures read { IfOk result (λ key. number_at key ≡ digits_value 10 line.now) }
-    ensures digits { IfOk result (λ key. all_ascii_digits line.now ≡ true) }
+    ensures read { IfOk result (λ key. Writes line.now (number_at key)) }
+    ensures taken { (number : ℕ) → Writes line.now number → number ≤ KEY_MAX
+        → IsTrue (is_ok result) }
 {
     let number = read_number(line)?;
     Ok(key_of(number)?)

@@ -1,8 +1,7 @@
 //! The lines of a text, and the numbers that they write.
-ghost use Rattle.std.specs.Prelude.{◌≡◌, length, true, IfOk};
+ghost use Rattle.std.specs.Prelude.{◌≡◌, ◌<◌, ◌^◌, ℕ, length, IfOk, Ok};
 ghost use Rattle.std.specs.Iterator.{at_most};
-ghost use Rattle.std.specs.Str.{all_ascii_digits};
-ghost use Rattle.std.specs.Str.Parse.{digits_value};
+ghost use Rattle.nb_lines.specs.Lines.{Writes};
 
 use crate::faults::Cause;
 
@@ -43,10 +42,10 @@ impl<'a> Iterator for Lines<'a> {
     }
 }
 
-/// The number that a line writes: digits, and nothing else.
+/// The number that a line writes: digits, and nothing else. Each of 64 bits is read.
 pub fn read_number(line: &[u8]) -> Result<u64, Cause>
-    ensures read { IfOk result (λ number. number ≡ digits_value 10 line.now) }
-    ensures digits { IfOk result (λ number. all_ascii_digits line.now ≡ true) }
+    ensures read { IfOk result (λ number. Writes line.now number) }
+    ensures taken { (number : ℕ) → Writes line.now number → number < 2 ^ 64 → result ≡ Ok number }
 {
     if line.is_empty() {
         return Err(Cause::NotANumber);
@@ -57,10 +56,8 @@ pub fn read_number(line: &[u8]) -> Result<u64, Cause>
             return Err(Cause::NotANumber);
         }
         let digit = u64::from(*byte - b'0');
-        let raised = number
-            .checked_mul(10)
-            .and_then(|tens| tens.checked_add(digit));
-        number = raised.ok_or(Cause::TooLarge)?;
+        let tens = number.checked_mul(10).ok_or(Cause::TooLarge)?;
+        number = tens.checked_add(digit).ok_or(Cause::TooLarge)?;
     }
     Ok(number)
 }

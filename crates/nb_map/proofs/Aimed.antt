@@ -15,7 +15,7 @@ use Rattle.nb_table.proofs.Theorems.{steps_add_up}
 use Rattle.nb_table.specs.Chains.{ChainOf, Extended, IsOwn, SeenBy, seen_by}
 use Rattle.nb_table.specs.Events.{read, shown_by_key}
 use Rattle.nb_map.specs.Calling.{HasMade, as_replied}
-use Rattle.nb_map.specs.Writing.{IsAloneAtHome}
+use Rattle.nb_map.specs.Writing.{IsAloneAtHome, IsKnownHome}
 use Rattle.nb_map.proofs.Home.{home-before, home-in}
 use Rattle.nb_map.proofs.Made.{made-quiet, made-read, made-stays, read_shown}
 use Rattle.nb_map.proofs.Searched.{made-then, read-before, shown-other, shown-own, two-slots}
@@ -96,8 +96,9 @@ module _ (chain : ChainOf) {call : Call} {start looked there : SeenBy} (g i key 
   pub own-word :
       {after : SeenBy} {calls : List (Call × Reply)} {most : ℕ}
       → HasMade chain.shape call there after calls most
-      → IsAloneAtHome chain.shape g call start after → key_state word ≡ Claimed key
-  own-word {after} made alone =
+      → IsAloneAtHome chain.shape g call start after → IsKnownHome chain.shape g call start
+      → key_state word ≡ Claimed key
+  own-word {after} made alone known =
       let p = chain.shape in
       let k = key_of_call call in
       let first = steps_add_up.stays own (steps_add_up.one load) in
@@ -105,7 +106,7 @@ module _ (chain : ChainOf) {call : Call} {start looked there : SeenBy} (g i key 
       elim (home-before p (seen_by p looked) (seen_by p after) second g k table alone.home) [
         | inl empty ↦
             let none = sym found ∙ sym (ap ((seen_by p looked).key g) home) ∙ empty in
-            let still = first.claimed g _ k (home-in p g k table) (alone.known (fills none)) in
+            let still = first.claimed g _ k (home-in p g k table) (known.known (fills none)) in
             let both : Empty ≡ Claimed k = sym empty ∙ still in
             absurd cc
         | inr here ↦

@@ -1,5 +1,5 @@
 -- What is so where a key is at home in a table.
-use Rattle.std.proofs.Common.{◌≡◌, ◌∙◌, ℕ, zero, suc, ◌+◌, ◌<◌, ap, subst, sym, inl, inr, refl, arith}
+use Rattle.std.proofs.Common.{◌≡◌, ◌≢◌, ◌∙◌, ℕ, zero, suc, ◌+◌, ◌<◌, ap, subst, sym, inl, inr, refl, arith}
 use Rattle.std.proofs.lemmas.Nat.{mod_below, pow_pos}
 use Rattle.nb_core.proofs.Theorems.{on_path}
 use Rattle.nb_core.specs.Tables.{AtSlot, IsPassed, UpToDead, Whole}
@@ -41,6 +41,14 @@ pub dead-away :
 dead-away p t g k dead home = elim home [
   | inl empty ↦ (let both : Empty ≡ Dead = sym empty ∙ dead in cc)
   | inr own ↦ (let both : Claimed k ≡ Dead = sym own.0 ∙ dead in cc)
+]
+
+pub other-away :
+    (p : Plan) (t : Tables) (g k other : ℕ) → t.key g (path_slot p g k 0) ≡ Claimed other
+    → other ≢ k → IsAtHome p t g k → ⊥
+other-away p t g k other claimed differs home = elim home [
+  | inl empty ↦ (let both : Empty ≡ Claimed other = sym empty ∙ claimed in cc)
+  | inr own ↦ differs (let both : Claimed other ≡ Claimed k = sym claimed ∙ own.0 in cc)
 ]
 
 pub primed-away :

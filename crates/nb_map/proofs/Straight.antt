@@ -1,5 +1,5 @@
 -- A write that looks at its key's home slot in the top table first.
-use Rattle.std.proofs.Common.{◌≡◌, ℕ, ◌+◌, ◌*◌, ◌^◌, ◌-◌, ◌<◌, ◌≤◌, min, List, [], arith}
+use Rattle.std.proofs.Common.{◌≡◌, ◌∙◌, ◌⊎◌, ℕ, ◌+◌, ◌*◌, ◌^◌, ◌-◌, ◌<◌, ◌≤◌, min, List, [], inl, inr, subst, arith}
 use Rattle.nb_core.specs.History.{key_of_call}
 use Rattle.nb_core.specs.Plans.{generations_of}
 use Rattle.nb_core.specs.Tables.{IsReady}
@@ -14,11 +14,11 @@ use Rattle.nb_map.proofs.Home.{home-before}
 use Rattle.nb_map.proofs.Made.{made-own, made-quiet, made-stays, made-within}
 use Rattle.nb_map.proofs.Rounds.{before-bound}
 use Rattle.nb_map.proofs.Searched.{made-then, reached-lasts, reached-top, ready-top, table-within}
-use Rattle.nb_map.proofs.Written.{alone-top, elsewhere-bound, home-bound}
+use Rattle.nb_map.proofs.Written.{alone-top, elsewhere-bound, home-bound, known-then, last-before, same-top}
 use Rattle.nb_map.specs.Calling.{HasMade}
 use Rattle.nb_map.specs.Looking.{get_steps}
-use Rattle.nb_map.specs.Refusing.{IsTold, home_steps, put_steps}
-use Rattle.nb_map.specs.Writing.{IsAloneAtHome, IsSeenAlone, passed_since}
+use Rattle.nb_map.specs.Refusing.{IsShortThere, home_steps, put_steps}
+use Rattle.nb_map.specs.Writing.{IsAloneAtHome, IsKnownHome, IsLastSeen, IsSeenAlone, IsShortAtHome, passed_since}
 use Rattle.nb_map.specs.declared.at_home.AtHome.{AtHome}
 
 -- The seat has loaded the top word.
@@ -50,25 +50,58 @@ module _ (chain : ChainOf) {start first : SeenBy} (top : ℕ) (own : IsOwn chain
     ready-then =
         (steps_add_up.stays mine grown).ready top table-there ready-there
 
+  module _ {call : Call} {after : SeenBy} {own' : List Event} {count : ℕ}
+      (grown : Grown chain.shape first after own' count)
+      (alone : IsSeenAlone chain.shape call start after) where
+    -- who has known the key's home slot in the top table knows it there
+    pub known-there :
+        IsKnownHome chain.shape (seen_by chain.shape start).top call start
+        → IsKnownHome chain.shape top call first
+    known-there known =
+        let same : (seen_by chain.shape start).top ≡ top =
+        alone.0 ∙ same-top {call = call} top own load is grown alone in
+        known-then call top table-there own (steps_add_up.one load)
+        (subst (λ g. IsKnownHome chain.shape g call start) same known)
+
+    -- and who knows of no table above it in the end knows of none above the one that it found
+    pub last-there :
+        IsLastSeen chain.shape (seen_by chain.shape after).top after
+        → IsLastSeen chain.shape top after
+    last-there last =
+        subst (λ g. IsLastSeen chain.shape g after)
+        (same-top {call = call} top own load is grown alone) last
+
   module _ {call : Call} {then : SeenBy} {most : ℕ}
       (home : HasMade chain.shape call first then [] most) where
     -- who is alone with its key at home makes all of it there
-    pub alone-there :
-        {after : SeenBy} {calls : List (Call × Reply)} {most' : ℕ} (elsewhere : Type 0)
+    pub short-elsewhere :
+        {after : SeenBy} {calls : List (Call × Reply)} {most' : ℕ}
         → (IsAloneAtHome chain.shape top call first then
-        → elsewhere × (then.steps ≤ first.steps + 3))
+        → IsKnownHome chain.shape top call first ⊎ IsLastSeen chain.shape top then → ⊥)
         → HasMade chain.shape call then after calls most'
-        → IsSeenAlone chain.shape call start after → elsewhere
-    alone-there elsewhere short made alone =
-        let both = made-then mine home made in
-        let here = alone-top top own load is both.grown alone in
-        (short (record {
-          home = home-before chain.shape _ _
-              (made-stays chain (made-own chain mine home) made) top (key_of_call call) table-there
-              here.home;
-          known = here.known;
-          alone = omega (arith, here.alone, passed-sum call home.grown made.grown);
-        })).0
+        → IsShortAtHome chain.shape call start after
+    short-elsewhere {after} away made =
+        let grown = (made-then mine home made).grown in
+        record {
+          four_steps = λ alone known.
+              absurd (away (here made alone) (inl (known-there grown alone known)));
+          six_steps = λ alone last.
+              absurd (away (here made alone) (inr (last-before top (made-own chain mine home)
+              made.grown (last-there grown alone last))));
+        }
+      where
+        here :
+            {calls : List (Call × Reply)} {most' : ℕ}
+            → HasMade chain.shape call then after calls most'
+            → IsSeenAlone chain.shape call start after → IsAloneAtHome chain.shape top call first then
+        here made alone =
+            let there = alone-top top own load is (made-then mine home made).grown alone in
+            record {
+              home = home-before chain.shape _ _
+                  (made-stays chain (made-own chain mine home) made) top (key_of_call call)
+                  table-there there.home;
+              alone = omega (arith, there.alone, passed-sum call home.grown made.grown);
+            }
 
   module _ {call : Call} {after : SeenBy} {calls : List (Call × Reply)} where
     -- where it ends at the home slot
@@ -85,11 +118,24 @@ module _ (chain : ChainOf) {start first : SeenBy} (top : ℕ) (own : IsOwn chain
 
     pub short-there :
         {most : ℕ} (told : AtHome) → HasMade chain.shape call first after calls most
-        → (IsAloneAtHome chain.shape top call first after
-        → IsTold told × (after.steps ≤ first.steps + 3))
-        → IsSeenAlone chain.shape call start after → after.steps ≤ start.steps + 4
-    short-there told made short alone =
-        omega (arith, load.steps, (short (alone-top top own load is made.grown alone)).1)
+        → IsShortThere chain.shape top call first after told
+        → IsShortAtHome chain.shape call start after
+    short-there told made short = record {
+      four_steps = λ alone known.
+          omega (
+            arith,
+            load.steps,
+            (short.known (alone-top top own load is made.grown alone)
+                (known-there made.grown alone known)).1,
+          );
+      six_steps = λ alone last.
+          omega (
+            arith,
+            load.steps,
+            (short.claimed (alone-top top own load is made.grown alone)
+                (last-there made.grown alone last)).1,
+          );
+    }
 
     -- with what the write does from there on
     pub made-elsewhere :

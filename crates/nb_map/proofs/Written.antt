@@ -20,7 +20,7 @@ use Rattle.nb_map.specs.Calling.{HasMade}
 use Rattle.nb_map.specs.Looking.{get_steps}
 use Rattle.nb_map.specs.Refusing.{IsJust, IsWritten, exchange_steps, home_steps, made_by, put_steps, write_steps}
 use Rattle.nb_map.specs.Searching.{pass_steps, slots_below}
-use Rattle.nb_map.specs.Writing.{HasBelow, IsAloneAtHome, IsSeenAlone, search_steps, passed_since, steps_below}
+use Rattle.nb_map.specs.Writing.{HasBelow, IsAloneAtHome, IsKnownHome, IsLastSeen, IsSeenAlone, search_steps, passed_since, steps_below}
 use Rattle.nb_map.specs.declared.claim.Below.{Below}
 use Rattle.nb_map.specs.declared.claim.Below.TheVariants.{Complete}
 use Rattle.nb_map.specs.declared.write.PutFault.{PutFault}
@@ -81,10 +81,28 @@ pub alone-then :
     → IsAloneAtHome chain.shape g call start after → IsAloneAtHome chain.shape g call then after
 alone-then {chain} {call} {start} {then} {after} g table own a b alone = record {
   home = alone.home;
+  alone = omega (arith, passed-sum call a b, alone.alone);
+}
+
+-- and a home slot that was known as the key's stays so
+pub known-then :
+    {chain : ChainOf} (call : Call) {start then : SeenBy} {own : List Event} {count : ℕ} (g : ℕ)
+    → g < generations_of chain.shape → IsOwn chain start
+    → Grown chain.shape start then own count → IsKnownHome chain.shape g call start
+    → IsKnownHome chain.shape g call then
+known-then {chain} call g table own a before = record {
   known = λ fills.
       (steps_add_up.stays own a).claimed g _ (key_of_call call)
-      (home-in chain.shape g (key_of_call call) table) (alone.known fills);
-  alone = omega (arith, passed-sum call a b, alone.alone);
+      (home-in chain.shape g (key_of_call call) table) (before.known fills);
+}
+
+-- of a table above, who doesn't know it in the end didn't know it before
+pub last-before :
+    {chain : ChainOf} {then after : SeenBy} {own : List Event} {count : ℕ} (g : ℕ)
+    → IsOwn chain then → Grown chain.shape then after own count → IsLastSeen chain.shape g after
+    → IsLastSeen chain.shape g then
+last-before g own a last = record {
+  none_above = λ above. last.none_above ((steps_add_up.stays own a).installed (suc g) above);
 }
 
 -- a load and an exchange are enough for it at its slot
@@ -276,8 +294,24 @@ home-bound p plan g tries passed all table some fewer =
       elsewhere-bound p plan g tries passed 0 all 0 table some (omega (arith, fewer)) (omega arith),
     )
 
--- who was alone with its key at home in the top table that it knew is so in the one that it has
--- loaded
+-- who has learned of no new top table has loaded the one that it knew
+pub same-top :
+    {chain : ChainOf} {call : Call} {start then after : SeenBy} {own : List Event} {count : ℕ}
+    (top : ℕ) → IsOwn chain start
+    → Extended chain.shape start then [] 1 → (seen_by chain.shape then).top ≡ top
+    → Grown chain.shape then after own count
+    → IsSeenAlone chain.shape call start after → (seen_by chain.shape after).top ≡ top
+same-top {chain} {call} {start} {then} {after} top own load is grown alone =
+    let mine = steps_add_up.own own (steps_add_up.one load) in
+    omega (
+      arith,
+      alone.0,
+      (steps_add_up.stays own (steps_add_up.one load)).top,
+      (steps_add_up.stays mine grown).top,
+      is,
+    )
+
+-- and who was alone with its key at home there is so from then on
 pub alone-top :
     {chain : ChainOf} {call : Call} {start then after : SeenBy} {own : List Event} {count : ℕ}
     (top : ℕ) → IsOwn chain start
@@ -286,14 +320,7 @@ pub alone-top :
     → IsSeenAlone chain.shape call start after → IsAloneAtHome chain.shape top call then after
 alone-top {chain} {call} {start} {then} {after} top own load is grown alone =
     let mine = steps_add_up.own own (steps_add_up.one load) in
-    let same : (seen_by chain.shape after).top ≡ top =
-    omega (
-      arith,
-      alone.0,
-      (steps_add_up.stays own (steps_add_up.one load)).top,
-      (steps_add_up.stays mine grown).top,
-      is,
-    ) in
+    let same = same-top {call = call} top own load is grown alone in
     let table = table-within chain then mine top
     (reached-top chain then mine (key_of_call call) top is).installed in
     alone-then top table own (steps_add_up.one load) grown

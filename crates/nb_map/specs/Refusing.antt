@@ -11,7 +11,7 @@ use Rattle.nb_table.specs.Chains.{SeenBy, seen_by}
 use Rattle.nb_map.specs.Logs.{HasLogged}
 use Rattle.nb_map.specs.Maps.{HasWorked, MapOf, SeatOf}
 use Rattle.nb_map.specs.Searching.{IsAbove, IsSlotOf, pass_steps, slots_below}
-use Rattle.nb_map.specs.Writing.{HasBelow, passed_since, search_steps}
+use Rattle.nb_map.specs.Writing.{HasBelow, IsAloneAtHome, IsKnownHome, IsLastSeen, passed_since, search_steps}
 use Rattle.nb_map.specs.declared.at_home.AtHome.{AtHome}
 use Rattle.nb_map.specs.declared.at_home.AtHome.TheVariants as at_home
 use Rattle.nb_map.specs.declared.waiting.AddFault.{AddFault}
@@ -64,6 +64,17 @@ abbrev pub IsTold : AtHome → Type 0
 IsTold (at_home.Replied reply) = Unit {0}
 IsTold (at_home.Refused fault) = Unit {0}
 IsTold (at_home.Elsewhere left) = ⊥
+
+-- who is alone with its key at home is told there: in three steps, and where it may have to claim
+-- the home slot first, in five, while the seat knows of no table above
+pub record IsShortThere (p : Plan) (g : ℕ) (call : Call) (before after : SeenBy) (told : AtHome)
+    : Type 0 where
+  pub known :
+      IsAloneAtHome p g call before after → IsKnownHome p g call before
+      → IsTold told × (after.steps ≤ before.steps + 3)
+  pub claimed :
+      IsAloneAtHome p g call before after → IsLastSeen p g after
+      → IsTold told × (after.steps ≤ before.steps + 5)
 
 -- the call, where it was made there
 abbrev pub made_at_home : Call → AtHome → List (Call × Reply)

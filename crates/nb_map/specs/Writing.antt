@@ -1,12 +1,12 @@
 -- What a write does in one table, and how long it takes.
-use Rattle.std.specs.Prelude.{◌≡◌, ℕ, zero, suc, ◌+◌, ◌*◌, true, false, length, Option}
+use Rattle.std.specs.Prelude.{◌≡◌, ℕ, zero, suc, ◌+◌, ◌*◌, ◌≤◌, true, false, length, Option}
 use Rattle.std.specs.FinMap as map
 use Rattle.nb_core.specs.Calls.{Fills, leaves_alone, overflows}
 use Rattle.nb_core.specs.Log.{Numbers, reply_at}
 use Rattle.nb_core.specs.History.{IsExchange, number_in_value, key_of_call}
 use Rattle.nb_core.specs.Meaning.{IsCrowded, passed_over}
 use Rattle.nb_core.specs.Plans.{Plan, size_of}
-use Rattle.nb_core.specs.Tables.{HasSlotBelow, IsReady, IsUnprimed, Tables}
+use Rattle.nb_core.specs.Tables.{HasSlotBelow, IsInstalled, IsReady, IsUnprimed, Tables}
 use Rattle.nb_core.specs.declared.calls.Call.{Call}
 use Rattle.nb_core.specs.declared.states.ValueState.{ValueState}
 use Rattle.nb_table.specs.Chains.{SeenBy, seen_by}
@@ -85,13 +85,19 @@ passed_since call before after =
 
 -- ---- at home
 
--- The call's key is at home in the table after these steps, and others have won no exchange on it
--- meanwhile. If the call puts a number at an absent key, the home slot was known as the key's
--- before.
+-- the call's key is at home in the table after these steps, and others have won no exchange on it
+-- meanwhile
 pub record IsAloneAtHome (p : Plan) (g : ℕ) (call : Call) (before after : SeenBy) : Type 0 where
   pub home : IsAtHome p (seen_by p after) g (key_of_call call)
-  pub known : Fills call → IsHomeSlot p (seen_by p before) g (key_of_call call)
   pub alone : passed_since call before after ≡ 0
+
+-- if the call puts a number at an absent key, the seat knows the home slot as the key's
+pub record IsKnownHome (p : Plan) (g : ℕ) (call : Call) (seat : SeenBy) : Type 0 where
+  pub known : Fills call → IsHomeSlot p (seen_by p seat) g (key_of_call call)
+
+-- the seat knows of no table above
+pub record IsLastSeen (p : Plan) (g : ℕ) (seat : SeenBy) : Type 0 where
+  pub none_above : IsInstalled (seen_by p seat) (suc g) → ⊥
 
 -- the seat has learned of no new top table, and was alone with the call's key at home in the one
 -- that it knows
@@ -99,3 +105,14 @@ abbrev pub IsSeenAlone : Plan → Call → (before after : SeenBy) → Type 0
 IsSeenAlone p call before after =
     ((seen_by p before).top ≡ (seen_by p after).top)
     × IsAloneAtHome p (seen_by p after).top call before after
+
+-- How short a write is that is alone with its key at home in the top table: four steps, where it
+-- knew the home slot as the key's if it may have to claim it; and else six, while the seat knows of
+-- no table above.
+pub record IsShortAtHome (p : Plan) (call : Call) (before after : SeenBy) : Type 0 where
+  pub four_steps :
+      IsSeenAlone p call before after → IsKnownHome p (seen_by p before).top call before
+      → after.steps ≤ before.steps + 4
+  pub six_steps :
+      IsSeenAlone p call before after → IsLastSeen p (seen_by p after).top after
+      → after.steps ≤ before.steps + 6

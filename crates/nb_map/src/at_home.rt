@@ -1,5 +1,5 @@
 //! The straight way of a write: at its key's home slot in the top table.
-ghost use Rattle.std.specs.Prelude.{◌≡◌, ◌≤◌, ◌+◌, [], IsTrue};
+ghost use Rattle.std.specs.Prelude.{◌≡◌, ◌≤◌, [], IsTrue, false};
 ghost use Rattle.nb_core.specs.Calls.{Fills};
 ghost use Rattle.nb_core.specs.History.{key_of_call};
 ghost use Rattle.nb_core.specs.States.{key_state};
@@ -8,8 +8,9 @@ ghost use Rattle.nb_core.specs.declared.states.KeyState.TheVariants as key_is;
 ghost use Rattle.nb_table.specs.Chains.{IsOwn, seen_by};
 ghost use Rattle.nb_table.specs.Conditions.{IsReached};
 ghost use Rattle.nb_map.specs.Calling.{HasMade};
-ghost use Rattle.nb_map.specs.Refusing.{IsTold, IsToldAtHome, home_steps, made_at_home};
-ghost use Rattle.nb_map.specs.Writing.{IsAloneAtHome, passed_since};
+ghost use Rattle.nb_map.specs.Looking.{IsAtHome};
+ghost use Rattle.nb_map.specs.Refusing.{IsShortThere, IsToldAtHome, home_steps, made_at_home};
+ghost use Rattle.nb_map.specs.Writing.{IsLastSeen, passed_since};
 
 use crate::claim::has_next;
 use crate::decide::{Decision, decide};
@@ -54,8 +55,7 @@ pub(crate) fn write_home<P: Pause>(
         (made_at_home call.now result)
         (home_steps chain.now.shape g tries (passed_since call.now seat.old seat.new)) }
     ensures told { IsToldAtHome chain.now.shape call.now seat.old seat.new tries result }
-    ensures short { IsAloneAtHome chain.now.shape g call.now seat.old seat.new
-        → IsTold result × (seat.new.steps ≤ seat.old.steps + 3) }
+    ensures short { IsShortThere chain.now.shape g call.now seat.old seat.new result }
     ensures serves { P.serves pause.new chain.now }
 {
     let home = chain.shape().path_slot(g, key, 0);
@@ -100,6 +100,8 @@ fn has_home(
     ensures claimed { IsTrue result
         → (seen_by chain.now.shape seat.new).key g i ≡ key_is.Claimed key }
     ensures kept { key_state word ≡ key_is.Claimed key → IsTrue result × (seat.new ≡ seat.old) }
+    ensures away { result ≡ false → IsLastSeen chain.now.shape g seat.new
+        → IsAtHome chain.now.shape (seen_by chain.now.shape seat.new) g key → ⊥ }
 {
     if is_own(word, key) {
         return true;
@@ -124,6 +126,8 @@ fn claim_home(chain: &Chain, seat: &mut ChainSeat, g: u32, i: usize, key: Key, c
     ensures made { HasMade chain.now.shape call.now seat.old seat.new [] 2 }
     ensures claimed { IsTrue result
         → (seen_by chain.now.shape seat.new).key g i ≡ key_is.Claimed key }
+    ensures away { result ≡ false → IsLastSeen chain.now.shape g seat.new
+        → IsAtHome chain.now.shape (seen_by chain.now.shape seat.new) g key → ⊥ }
 {
     if has_next(chain, seat, g) {
         return false;

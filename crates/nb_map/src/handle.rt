@@ -30,7 +30,7 @@ ghost use Rattle.nb_core.specs.declared.calls.Call.TheVariants as call;
 ghost use Rattle.nb_core.specs.declared.calls.Change.TheVariants as change;
 ghost use Rattle.nb_core.specs.declared.calls.Want.TheVariants as want;
 ghost use Rattle.nb_map.specs.Ending.{EndedWith, HasTablesLeft};
-ghost use Rattle.nb_map.specs.Writing.{IsSeenAlone, passed_since};
+ghost use Rattle.nb_map.specs.Writing.{IsShortAtHome, passed_since};
 ghost use Rattle.nb_table.specs.Chains.{Extended, seen_by};
 ghost use Rattle.nb_map.specs.Handles.{AreOfOneMap, new_handles, seats_of};
 ghost use Rattle.nb_map.specs.Logs.{HasFound, HasLogged, HasMatched, HasReplied, log};
@@ -116,10 +116,9 @@ impl Handle {
         ensures lock_free { IsLockFree self.old.map
             (call.Write key want.Any (change.Put number))
             self.old.seat self.new.seat }
-        ensures four_steps { IsSeenAlone self.old.map.chain.shape
+        ensures short { IsShortAtHome self.old.map.chain.shape
             (call.Write key want.Any (change.Put number))
-            self.old.seat.chain self.new.seat.chain
-            → self.new.seat.chain.steps ≤ self.old.seat.chain.steps + 4 }
+            self.old.seat.chain self.new.seat.chain }
         ensures map { self.new.map ≡ self.old.map }
     {
         self.map.put(rt, &mut self.seat, key, number)
@@ -140,10 +139,9 @@ impl Handle {
         ensures lock_free { IsLockFree self.old.map
             (call.Write key want.Absent (change.Put number))
             self.old.seat self.new.seat }
-        ensures four_steps { IsSeenAlone self.old.map.chain.shape
+        ensures short { IsShortAtHome self.old.map.chain.shape
             (call.Write key want.Absent (change.Put number))
-            self.old.seat.chain self.new.seat.chain
-            → self.new.seat.chain.steps ≤ self.old.seat.chain.steps + 4 }
+            self.old.seat.chain self.new.seat.chain }
         ensures map { self.new.map ≡ self.old.map }
     {
         self.map.put_if_absent(rt, &mut self.seat, key, number)
@@ -156,10 +154,9 @@ impl Handle {
         ensures lock_free { IsLockFree self.old.map
             (call.Write key want.Present (change.Put number))
             self.old.seat self.new.seat }
-        ensures four_steps { IsSeenAlone self.old.map.chain.shape
+        ensures short { IsShortAtHome self.old.map.chain.shape
             (call.Write key want.Present (change.Put number))
-            self.old.seat.chain self.new.seat.chain
-            → self.new.seat.chain.steps ≤ self.old.seat.chain.steps + 4 }
+            self.old.seat.chain self.new.seat.chain }
         ensures map { self.new.map ≡ self.old.map }
     {
         self.map.replace(rt, &mut self.seat, key, number)
@@ -172,10 +169,9 @@ impl Handle {
         ensures lock_free { IsLockFree self.old.map
             (call.Write key (want.Equal old) (change.Put new))
             self.old.seat self.new.seat }
-        ensures four_steps { IsSeenAlone self.old.map.chain.shape
+        ensures short { IsShortAtHome self.old.map.chain.shape
             (call.Write key (want.Equal old) (change.Put new))
-            self.old.seat.chain self.new.seat.chain
-            → self.new.seat.chain.steps ≤ self.old.seat.chain.steps + 4 }
+            self.old.seat.chain self.new.seat.chain }
         ensures map { self.new.map ≡ self.old.map }
     {
         self.map.replace_if(rt, &mut self.seat, key, old, new)
@@ -188,10 +184,9 @@ impl Handle {
         ensures lock_free { IsLockFree self.old.map
             (call.Write key want.Any change.Remove)
             self.old.seat self.new.seat }
-        ensures four_steps { IsSeenAlone self.old.map.chain.shape
+        ensures short { IsShortAtHome self.old.map.chain.shape
             (call.Write key want.Any change.Remove)
-            self.old.seat.chain self.new.seat.chain
-            → self.new.seat.chain.steps ≤ self.old.seat.chain.steps + 4 }
+            self.old.seat.chain self.new.seat.chain }
         ensures map { self.new.map ≡ self.old.map }
     {
         self.map.remove(rt, &mut self.seat, key)
@@ -204,10 +199,9 @@ impl Handle {
         ensures lock_free { IsLockFree self.old.map
             (call.Write key (want.Equal number) change.Remove)
             self.old.seat self.new.seat }
-        ensures four_steps { IsSeenAlone self.old.map.chain.shape
+        ensures short { IsShortAtHome self.old.map.chain.shape
             (call.Write key (want.Equal number) change.Remove)
-            self.old.seat.chain self.new.seat.chain
-            → self.new.seat.chain.steps ≤ self.old.seat.chain.steps + 4 }
+            self.old.seat.chain self.new.seat.chain }
         ensures map { self.new.map ≡ self.old.map }
     {
         self.map.remove_if(rt, &mut self.seat, key, number)
@@ -222,10 +216,9 @@ impl Handle {
         ensures lock_free { IsLockFree self.old.map
             (call.Write key want.Any (change.Add number))
             self.old.seat self.new.seat }
-        ensures four_steps { IsSeenAlone self.old.map.chain.shape
+        ensures short { IsShortAtHome self.old.map.chain.shape
             (call.Write key want.Any (change.Add number))
-            self.old.seat.chain self.new.seat.chain
-            → self.new.seat.chain.steps ≤ self.old.seat.chain.steps + 4 }
+            self.old.seat.chain self.new.seat.chain }
         ensures map { self.new.map ≡ self.old.map }
     {
         self.map.add(rt, &mut self.seat, key, number)
@@ -264,9 +257,8 @@ impl Handle {
             self.old.seat self.new.seat (put_steps self.old.map.chain.shape
             (min (max tries 1) (passed_since (call.Write key want change)
             self.old.seat.chain self.new.seat.chain + 1))) }
-        ensures four_steps { IsSeenAlone self.old.map.chain.shape (call.Write key want change)
-            self.old.seat.chain self.new.seat.chain
-            → self.new.seat.chain.steps ≤ self.old.seat.chain.steps + 4 }
+        ensures short { IsShortAtHome self.old.map.chain.shape (call.Write key want change)
+            self.old.seat.chain self.new.seat.chain }
         ensures map { self.new.map ≡ self.old.map }
     {
         self.map

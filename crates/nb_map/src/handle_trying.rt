@@ -10,7 +10,7 @@ ghost use Rattle.nb_map.specs.Looking.{IsSeenAtHome, get_steps};
 ghost use Rattle.nb_map.specs.Maps.{HasWorked};
 ghost use Rattle.nb_map.specs.Trying.{HasGivenUp, IsWaitFree, exchange_call};
 ghost use Rattle.nb_map.specs.Updating.{HasNotUpdated, HasUpdated, update_steps};
-ghost use Rattle.nb_map.specs.Writing.{IsSeenAlone};
+ghost use Rattle.nb_map.specs.Writing.{IsShortAtHome};
 
 use crate::handle::Handle;
 use crate::write::PutFault;
@@ -27,9 +27,8 @@ impl Handle {
         ensures wait_free { IsWaitFree self.old.map
             (call.Write key want.Any (change.Put number)) self.old.seat self.new.seat
             (max tries 1) }
-        ensures four_steps { IsSeenAlone self.old.map.chain.shape
-            (call.Write key want.Any (change.Put number)) self.old.seat.chain self.new.seat.chain
-            → self.new.seat.chain.steps ≤ self.old.seat.chain.steps + 4 }
+        ensures short { IsShortAtHome self.old.map.chain.shape
+            (call.Write key want.Any (change.Put number)) self.old.seat.chain self.new.seat.chain }
         ensures map { self.new.map ≡ self.old.map }
     {
         self.map.try_put(&mut self.seat, key, number, tries.max(1))
@@ -50,10 +49,9 @@ impl Handle {
         ensures wait_free { IsWaitFree self.old.map
             (call.Write key want.Absent (change.Put number)) self.old.seat self.new.seat
             (max tries 1) }
-        ensures four_steps { IsSeenAlone self.old.map.chain.shape
+        ensures short { IsShortAtHome self.old.map.chain.shape
             (call.Write key want.Absent (change.Put number)) self.old.seat.chain
-            self.new.seat.chain
-            → self.new.seat.chain.steps ≤ self.old.seat.chain.steps + 4 }
+            self.new.seat.chain }
         ensures map { self.new.map ≡ self.old.map }
     {
         self.map
@@ -70,9 +68,8 @@ impl Handle {
         ensures wait_free { IsWaitFree self.old.map
             (call.Write key want.Any (change.Add number)) self.old.seat self.new.seat
             (max tries 1) }
-        ensures four_steps { IsSeenAlone self.old.map.chain.shape
-            (call.Write key want.Any (change.Add number)) self.old.seat.chain self.new.seat.chain
-            → self.new.seat.chain.steps ≤ self.old.seat.chain.steps + 4 }
+        ensures short { IsShortAtHome self.old.map.chain.shape
+            (call.Write key want.Any (change.Add number)) self.old.seat.chain self.new.seat.chain }
         ensures map { self.new.map ≡ self.old.map }
     {
         self.map.try_add(&mut self.seat, key, number, tries.max(1))
@@ -87,9 +84,8 @@ impl Handle {
             (max tries 1)) }
         ensures wait_free { IsWaitFree self.old.map (call.Write key want.Any change.Remove)
             self.old.seat self.new.seat (max tries 1) }
-        ensures four_steps { IsSeenAlone self.old.map.chain.shape
-            (call.Write key want.Any change.Remove) self.old.seat.chain self.new.seat.chain
-            → self.new.seat.chain.steps ≤ self.old.seat.chain.steps + 4 }
+        ensures short { IsShortAtHome self.old.map.chain.shape
+            (call.Write key want.Any change.Remove) self.old.seat.chain self.new.seat.chain }
         ensures map { self.new.map ≡ self.old.map }
     {
         self.map.try_remove(&mut self.seat, key, tries.max(1))
@@ -109,9 +105,8 @@ impl Handle {
             self.old.seat self.new.seat (max tries 1)) }
         ensures wait_free { IsWaitFree self.old.map (exchange_call key old new)
             self.old.seat self.new.seat (max tries 1) }
-        ensures four_steps { IsSeenAlone self.old.map.chain.shape (exchange_call key old new)
-            self.old.seat.chain self.new.seat.chain
-            → self.new.seat.chain.steps ≤ self.old.seat.chain.steps + 4 }
+        ensures short { IsShortAtHome self.old.map.chain.shape (exchange_call key old new)
+            self.old.seat.chain self.new.seat.chain }
         ensures map { self.new.map ≡ self.old.map }
     {
         self.map

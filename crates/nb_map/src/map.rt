@@ -39,7 +39,7 @@ ghost use Rattle.nb_map.specs.Walks.{
   passing_steps,
   slots_ahead,
 };
-ghost use Rattle.nb_map.specs.Writing.{IsSeenAlone, passed_since};
+ghost use Rattle.nb_map.specs.Writing.{IsShortAtHome, passed_since};
 
 use crate::ended::{Ended, parted};
 use crate::get::get_in;
@@ -168,11 +168,12 @@ impl Map {
     /// tried again, `tries` times in all, so this waits for nobody: it takes at most 8 (T + `tries`
     /// + G) (N + 8) steps on the chain, whose G tables have T slots and the last of them N; and
     /// however many tries it has, at most 8 (T + w + 1 + G) (N + 8) where other seats have won `w`
-    /// exchanges on the key since this seat's last step. Where they have won none and the seat
-    /// knows the key at home in the top table, these are four: loads of the top word, of the key
-    /// and of its value, and the exchange. A key that came is counted afterwards, and one that
-    /// went, by one step on the counter. A refused write leaves the map as it is; but tables may
-    /// have been installed and copied for it, and its key may keep a slot without a number.
+    /// exchanges on the key since this seat's last step. Where they have won none and the key is at
+    /// home in the top table, these are four: loads of the top word, of the key and of its value,
+    /// and the exchange; or six, where its home slot is claimed for it first. A key that came is
+    /// counted afterwards, and one that went, by one step on the counter. A refused write leaves
+    /// the map as it is; but tables may have been installed and copied for it, and its key may keep
+    /// a slot without a number.
     pub fn put_if_match(
         &self,
         seat: &mut Seat,
@@ -191,9 +192,8 @@ impl Map {
             (put_steps self.now.chain.shape
             (min tries (passed_since (call.Write key want change) seat.old.chain seat.new.chain
             + 1))) }
-        ensures four_steps { IsSeenAlone self.now.chain.shape (call.Write key want change)
-            seat.old.chain seat.new.chain
-            → seat.new.chain.steps ≤ seat.old.chain.steps + 4 }
+        ensures short { IsShortAtHome self.now.chain.shape (call.Write key want change)
+            seat.old.chain seat.new.chain }
         ensures own { IsMine self.now seat.new }
     {
         let reply = put_if_match_in(

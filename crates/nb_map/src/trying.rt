@@ -8,7 +8,7 @@ ghost use Rattle.nb_core.specs.declared.calls.Want.TheVariants as want;
 ghost use Rattle.nb_map.specs.Logs.{HasFound, HasReplied};
 ghost use Rattle.nb_map.specs.Maps.{IsMine};
 ghost use Rattle.nb_map.specs.Trying.{HasGivenUp, IsWaitFree, exchange_call};
-ghost use Rattle.nb_map.specs.Writing.{IsSeenAlone};
+ghost use Rattle.nb_map.specs.Writing.{IsShortAtHome};
 
 use crate::map::{Map, Seat};
 use crate::write::PutFault;
@@ -32,9 +32,8 @@ impl Map {
             (call.Write key want.Any (change.Put number)) seat.old seat.new tries) }
         ensures wait_free { IsWaitFree self.now (call.Write key want.Any (change.Put number))
             seat.old seat.new tries }
-        ensures four_steps { IsSeenAlone self.now.chain.shape
-            (call.Write key want.Any (change.Put number)) seat.old.chain seat.new.chain
-            → seat.new.chain.steps ≤ seat.old.chain.steps + 4 }
+        ensures short { IsShortAtHome self.now.chain.shape
+            (call.Write key want.Any (change.Put number)) seat.old.chain seat.new.chain }
         ensures own { IsMine self.now seat.new }
     {
         let reply = self.put_if_match(seat, key, Want::Any, Change::Put(number), tries)?;
@@ -58,9 +57,8 @@ impl Map {
             (call.Write key want.Absent (change.Put number)) seat.old seat.new tries) }
         ensures wait_free { IsWaitFree self.now (call.Write key want.Absent (change.Put number))
             seat.old seat.new tries }
-        ensures four_steps { IsSeenAlone self.now.chain.shape
-            (call.Write key want.Absent (change.Put number)) seat.old.chain seat.new.chain
-            → seat.new.chain.steps ≤ seat.old.chain.steps + 4 }
+        ensures short { IsShortAtHome self.now.chain.shape
+            (call.Write key want.Absent (change.Put number)) seat.old.chain seat.new.chain }
         ensures own { IsMine self.now seat.new }
     {
         let reply = self.put_if_match(seat, key, Want::Absent, Change::Put(number), tries)?;
@@ -84,9 +82,8 @@ impl Map {
             (call.Write key want.Any (change.Add number)) seat.old seat.new tries) }
         ensures wait_free { IsWaitFree self.now (call.Write key want.Any (change.Add number))
             seat.old seat.new tries }
-        ensures four_steps { IsSeenAlone self.now.chain.shape
-            (call.Write key want.Any (change.Add number)) seat.old.chain seat.new.chain
-            → seat.new.chain.steps ≤ seat.old.chain.steps + 4 }
+        ensures short { IsShortAtHome self.now.chain.shape
+            (call.Write key want.Any (change.Add number)) seat.old.chain seat.new.chain }
         ensures own { IsMine self.now seat.new }
     {
         let reply = self.put_if_match(seat, key, Want::Any, Change::Add(number), tries)?;
@@ -104,9 +101,8 @@ impl Map {
             (call.Write key want.Any change.Remove) seat.old seat.new tries) }
         ensures wait_free { IsWaitFree self.now (call.Write key want.Any change.Remove)
             seat.old seat.new tries }
-        ensures four_steps { IsSeenAlone self.now.chain.shape
-            (call.Write key want.Any change.Remove) seat.old.chain seat.new.chain
-            → seat.new.chain.steps ≤ seat.old.chain.steps + 4 }
+        ensures short { IsShortAtHome self.now.chain.shape
+            (call.Write key want.Any change.Remove) seat.old.chain seat.new.chain }
         ensures own { IsMine self.now seat.new }
     {
         let reply = self.put_if_match(seat, key, Want::Any, Change::Remove, tries)?;
@@ -132,9 +128,8 @@ impl Map {
             seat.old seat.new tries) }
         ensures wait_free { IsWaitFree self.now (exchange_call key old new)
             seat.old seat.new tries }
-        ensures four_steps { IsSeenAlone self.now.chain.shape (exchange_call key old new)
-            seat.old.chain seat.new.chain
-            → seat.new.chain.steps ≤ seat.old.chain.steps + 4 }
+        ensures short { IsShortAtHome self.now.chain.shape (exchange_call key old new)
+            seat.old.chain seat.new.chain }
         ensures own { IsMine self.now seat.new }
     {
         let want = match old {

@@ -16,7 +16,7 @@ ghost use Rattle.nb_map.specs.Calling.{HasMade};
 ghost use Rattle.nb_map.specs.Logs.{HasFound, HasMatched, HasReplied};
 ghost use Rattle.nb_map.specs.Maps.{IsMine};
 ghost use Rattle.nb_map.specs.Refusing.{HasRefused, IsJustAdd, IsLockFree, made_in, put_steps};
-ghost use Rattle.nb_map.specs.Writing.{IsSeenAlone, passed_since};
+ghost use Rattle.nb_map.specs.Writing.{IsShortAtHome, passed_since};
 
 use crate::at_home::{AtHome, write_home};
 use crate::map::{Map, Seat};
@@ -51,7 +51,8 @@ impl Map {
     /// key since this seat's last step, it takes at most 8 (T + w + 1 + G) (N + 8) steps on the
     /// chain, whose G tables have T slots and the last of them N. So only the success of others
     /// costs it anything, and no seat that stops, wherever that is, can hold it up. Where others
-    /// have won none and the seat knows the key at home in the top table, these are four steps.
+    /// have won none and the key is at home in the top table, these are four steps, and six for a
+    /// new key.
     pub fn put<R: Wait>(
         &self,
         rt: &R,
@@ -67,9 +68,8 @@ impl Map {
             AddFault.Full) }
         ensures lock_free { IsLockFree self.now (call.Write key want.Any (change.Put number))
             seat.old seat.new }
-        ensures four_steps { IsSeenAlone self.now.chain.shape
-            (call.Write key want.Any (change.Put number)) seat.old.chain seat.new.chain
-            → seat.new.chain.steps ≤ seat.old.chain.steps + 4 }
+        ensures short { IsShortAtHome self.now.chain.shape
+            (call.Write key want.Any (change.Put number)) seat.old.chain seat.new.chain }
         ensures own { IsMine self.now seat.new }
     {
         Ok(self.put_where(rt, seat, key, Want::Any, number)?.before)
@@ -92,9 +92,8 @@ impl Map {
             AddFault.Full) }
         ensures lock_free { IsLockFree self.now (call.Write key want.Absent (change.Put number))
             seat.old seat.new }
-        ensures four_steps { IsSeenAlone self.now.chain.shape
-            (call.Write key want.Absent (change.Put number)) seat.old.chain seat.new.chain
-            → seat.new.chain.steps ≤ seat.old.chain.steps + 4 }
+        ensures short { IsShortAtHome self.now.chain.shape
+            (call.Write key want.Absent (change.Put number)) seat.old.chain seat.new.chain }
         ensures own { IsMine self.now seat.new }
     {
         Ok(self.put_where(rt, seat, key, Want::Absent, number)?.before)
@@ -108,9 +107,8 @@ impl Map {
             seat.old seat.new result }
         ensures lock_free { IsLockFree self.now (call.Write key want.Present (change.Put number))
             seat.old seat.new }
-        ensures four_steps { IsSeenAlone self.now.chain.shape
-            (call.Write key want.Present (change.Put number)) seat.old.chain seat.new.chain
-            → seat.new.chain.steps ≤ seat.old.chain.steps + 4 }
+        ensures short { IsShortAtHome self.now.chain.shape
+            (call.Write key want.Present (change.Put number)) seat.old.chain seat.new.chain }
         ensures own { IsMine self.now seat.new }
     {
         self.change_where(rt, seat, key, Want::Present, Change::Put(number))
@@ -125,9 +123,8 @@ impl Map {
             seat.old seat.new result }
         ensures lock_free { IsLockFree self.now (call.Write key (want.Equal old) (change.Put new))
             seat.old seat.new }
-        ensures four_steps { IsSeenAlone self.now.chain.shape
-            (call.Write key (want.Equal old) (change.Put new)) seat.old.chain seat.new.chain
-            → seat.new.chain.steps ≤ seat.old.chain.steps + 4 }
+        ensures short { IsShortAtHome self.now.chain.shape
+            (call.Write key (want.Equal old) (change.Put new)) seat.old.chain seat.new.chain }
         ensures own { IsMine self.now seat.new }
     {
         self.change_where(rt, seat, key, Want::Equal(old), Change::Put(new))
@@ -141,9 +138,8 @@ impl Map {
         ensures found { HasFound (call.Write key want.Any change.Remove) seat.old seat.new result }
         ensures lock_free { IsLockFree self.now (call.Write key want.Any change.Remove)
             seat.old seat.new }
-        ensures four_steps { IsSeenAlone self.now.chain.shape
-            (call.Write key want.Any change.Remove) seat.old.chain seat.new.chain
-            → seat.new.chain.steps ≤ seat.old.chain.steps + 4 }
+        ensures short { IsShortAtHome self.now.chain.shape
+            (call.Write key want.Any change.Remove) seat.old.chain seat.new.chain }
         ensures own { IsMine self.now seat.new }
     {
         self.change_where(rt, seat, key, Want::Any, Change::Remove)
@@ -158,9 +154,8 @@ impl Map {
             seat.old seat.new result }
         ensures lock_free { IsLockFree self.now (call.Write key (want.Equal number) change.Remove)
             seat.old seat.new }
-        ensures four_steps { IsSeenAlone self.now.chain.shape
-            (call.Write key (want.Equal number) change.Remove) seat.old.chain seat.new.chain
-            → seat.new.chain.steps ≤ seat.old.chain.steps + 4 }
+        ensures short { IsShortAtHome self.now.chain.shape
+            (call.Write key (want.Equal number) change.Remove) seat.old.chain seat.new.chain }
         ensures own { IsMine self.now seat.new }
     {
         self.change_where(rt, seat, key, Want::Equal(number), Change::Remove)
@@ -183,9 +178,8 @@ impl Map {
             (call.Write key want.Any (change.Add number)) seat.old seat.new) }
         ensures lock_free { IsLockFree self.now (call.Write key want.Any (change.Add number))
             seat.old seat.new }
-        ensures four_steps { IsSeenAlone self.now.chain.shape
-            (call.Write key want.Any (change.Add number)) seat.old.chain seat.new.chain
-            → seat.new.chain.steps ≤ seat.old.chain.steps + 4 }
+        ensures short { IsShortAtHome self.now.chain.shape
+            (call.Write key want.Any (change.Add number)) seat.old.chain seat.new.chain }
         ensures own { IsMine self.now seat.new }
     {
         let reply = self.write(rt, seat, key, Want::Any, Change::Add(number))?;
@@ -210,9 +204,8 @@ impl Map {
             AddFault.Full) }
         ensures lock_free { IsLockFree self.now (call.Write key want (change.Put number))
             seat.old seat.new }
-        ensures four_steps { IsSeenAlone self.now.chain.shape
-            (call.Write key want (change.Put number)) seat.old.chain seat.new.chain
-            → seat.new.chain.steps ≤ seat.old.chain.steps + 4 }
+        ensures short { IsShortAtHome self.now.chain.shape
+            (call.Write key want (change.Put number)) seat.old.chain seat.new.chain }
         ensures own { IsMine self.now seat.new }
     {
         match self.write(rt, seat, key, want, Change::Put(number)) {
@@ -237,9 +230,8 @@ impl Map {
         requires in_range { (m : Numbers) → overflows (call.Write key want change) m ≡ false }
         ensures replied { HasReplied (call.Write key want change) seat.old seat.new result }
         ensures lock_free { IsLockFree self.now (call.Write key want change) seat.old seat.new }
-        ensures four_steps { IsSeenAlone self.now.chain.shape (call.Write key want change)
-            seat.old.chain seat.new.chain
-            → seat.new.chain.steps ≤ seat.old.chain.steps + 4 }
+        ensures short { IsShortAtHome self.now.chain.shape (call.Write key want change)
+            seat.old.chain seat.new.chain }
         ensures own { IsMine self.now seat.new }
     {
         match self.write(rt, seat, key, want, change) {
@@ -264,9 +256,8 @@ impl Map {
         ensures refused { IfErr result (HasRefused self.now (call.Write key want change)
             seat.old seat.new) }
         ensures lock_free { IsLockFree self.now (call.Write key want change) seat.old seat.new }
-        ensures four_steps { IsSeenAlone self.now.chain.shape (call.Write key want change)
-            seat.old.chain seat.new.chain
-            → seat.new.chain.steps ≤ seat.old.chain.steps + 4 }
+        ensures short { IsShortAtHome self.now.chain.shape (call.Write key want change)
+            seat.old.chain seat.new.chain }
         ensures own { IsMine self.now seat.new }
     {
         let reply = write_through(rt, &self.chain, &mut seat.chain, key, want, change)?;
@@ -292,8 +283,7 @@ fn write_through<R: Wait>(
         + 1)) }
     ensures refused { IfErr result (IsJustAdd chain.now.shape (call.Write key want change)
         seat.new) }
-    ensures four_steps { IsSeenAlone chain.now.shape (call.Write key want change) seat.old seat.new
-        → seat.new.steps ≤ seat.old.steps + 4 }
+    ensures short { IsShortAtHome chain.now.shape (call.Write key want change) seat.old seat.new }
 {
     let call = Call::Write { key, want, change };
     let top = chain.load_top(seat);

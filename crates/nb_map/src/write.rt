@@ -19,7 +19,7 @@ ghost use Rattle.nb_map.specs.Refusing.{
 };
 ghost use Rattle.nb_map.specs.Writing.{
   HasBelow,
-  IsSeenAlone,
+  IsShortAtHome,
   passed_since,
   search_steps,
 };
@@ -93,8 +93,7 @@ pub fn put_if_match_in<P: Pause>(
         (passed_since (call.Write key want change) seat.old seat.new + 1))) }
     ensures refused { IfErr result (IsJust chain.now.shape (call.Write key want change)
         seat.old seat.new tries) }
-    ensures four_steps { IsSeenAlone chain.now.shape (call.Write key want change) seat.old seat.new
-        → seat.new.steps ≤ seat.old.steps + 4 }
+    ensures short { IsShortAtHome chain.now.shape (call.Write key want change) seat.old seat.new }
     ensures serves { P.serves pause.new chain.now }
 {
     let call = Call::Write { key, want, change };

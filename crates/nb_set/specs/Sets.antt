@@ -10,7 +10,7 @@ use Rattle.nb_map.specs.Looking.{IsSeenAtHome}
 use Rattle.nb_map.specs.Maps.{MapOf}
 use Rattle.nb_map.specs.Maps as maps
 use Rattle.nb_map.specs.Refusing as refusing
-use Rattle.nb_map.specs.Writing.{IsSeenAlone}
+use Rattle.nb_map.specs.Writing as writing
 use Rattle.nb_set.specs.Log.{Call, Entry, IsReplayed, calls_of}
 use Rattle.nb_set.specs.OfMap.{call_for, log_as}
 
@@ -97,11 +97,12 @@ IsLockFree set call before after = refusing.IsLockFree set.map (call_for call) b
 abbrev pub IsAtHome : SetOf → ℕ → (before after : SeatOf) → Type 0
 IsAtHome set k before after = IsSeenAtHome (shape_of set) before.map.chain after.map.chain k
 
--- the same, no other seat has changed it meanwhile, and for an `add` the slot was known as the
--- key's: so a write of it takes four
-abbrev pub IsAloneAtHome : SetOf → Call → (before after : SeatOf) → Type 0
-IsAloneAtHome set call before after =
-    IsSeenAlone (shape_of set) (call_for call) before.map.chain after.map.chain
+-- It is short where it is alone with its key at home in the top table, which is the one that the
+-- seat knew: four steps on the tables; and for an `add` whose seat didn't know the slot as the
+-- key's, six, while it knows of no table above.
+abbrev pub IsShortAtHome : SetOf → Call → (before after : SeatOf) → Type 0
+IsShortAtHome set call before after =
+    writing.IsShortAtHome (shape_of set) (call_for call) before.map.chain after.map.chain
 
 -- it has made so many steps more on the tables at most
 abbrev pub HasStepped : (before after : SeatOf) → (most : ℕ) → Type 0

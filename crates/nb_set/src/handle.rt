@@ -27,7 +27,7 @@ ghost use Rattle.nb_set.specs.Sets.{
   HasReplied,
   HasStepped,
   HasWorked,
-  IsAloneAtHome,
+  IsShortAtHome,
   IsAtHome,
   IsLockFree,
   SetOf,
@@ -85,8 +85,7 @@ impl Handle {
         ensures full { IfErr result (λ fault. HasNoRoom self.old.set key
             self.old.seat self.new.seat) }
         ensures lock_free { IsLockFree self.old.set (call.Add key) self.old.seat self.new.seat }
-        ensures four_steps { IsAloneAtHome self.old.set (call.Add key) self.old.seat self.new.seat
-            → HasStepped self.old.seat self.new.seat 4 }
+        ensures short { IsShortAtHome self.old.set (call.Add key) self.old.seat self.new.seat }
         ensures set { self.new.set ≡ self.old.set }
     {
         let before = self.map.put_if_absent(rt, key, present())?;
@@ -97,9 +96,8 @@ impl Handle {
     pub fn remove<R: Wait>(&mut self, rt: &R, key: Key) -> bool
         ensures replied { HasReplied (call.Remove key) self.old.seat self.new.seat result }
         ensures lock_free { IsLockFree self.old.set (call.Remove key) self.old.seat self.new.seat }
-        ensures four_steps { IsAloneAtHome self.old.set (call.Remove key)
-            self.old.seat self.new.seat
-            → HasStepped self.old.seat self.new.seat 4 }
+        ensures short { IsShortAtHome self.old.set (call.Remove key)
+            self.old.seat self.new.seat }
         ensures set { self.new.set ≡ self.old.set }
     {
         self.map.remove(rt, key).is_some()

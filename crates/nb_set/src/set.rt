@@ -31,7 +31,7 @@ ghost use Rattle.nb_set.specs.Sets.{
   HasReplied,
   HasStepped,
   HasWorked,
-  IsAloneAtHome,
+  IsShortAtHome,
   IsAtHome,
   IsLockFree,
   IsMine,
@@ -143,8 +143,7 @@ impl LongSet {
         ensures replied { IfOk result (HasReplied (call.Add key) seat.old seat.new) }
         ensures full { IfErr result (λ fault. HasNoRoom self.now key seat.old seat.new) }
         ensures lock_free { IsLockFree self.now (call.Add key) seat.old seat.new }
-        ensures four_steps { IsAloneAtHome self.now (call.Add key) seat.old seat.new
-            → HasStepped seat.old seat.new 4 }
+        ensures short { IsShortAtHome self.now (call.Add key) seat.old seat.new }
         ensures own { IsMine self.now seat.new }
     {
         let before = self.map.put_if_absent(rt, &mut seat.map, key, present())?;
@@ -157,8 +156,7 @@ impl LongSet {
         requires own { IsMine self.now seat.old }
         ensures replied { HasReplied (call.Remove key) seat.old seat.new result }
         ensures lock_free { IsLockFree self.now (call.Remove key) seat.old seat.new }
-        ensures four_steps { IsAloneAtHome self.now (call.Remove key) seat.old seat.new
-            → HasStepped seat.old seat.new 4 }
+        ensures short { IsShortAtHome self.now (call.Remove key) seat.old seat.new }
         ensures own { IsMine self.now seat.new }
     {
         self.map.remove(rt, &mut seat.map, key).is_some()

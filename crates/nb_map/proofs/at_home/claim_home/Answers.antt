@@ -1,8 +1,10 @@
-use Rattle.std.proofs.Common.{arith}
+use Rattle.std.proofs.Common.{◌∙◌, ap, sym, arith}
+use Rattle.std.proofs.lemmas.Bool.{eqb-false}
 use Rattle.nb_core.proofs.Theorems.{limits_fit}
 use Rattle.nb_table.specs.Chains.{seen_by}
 use Rattle.nb_map.specs.declared.claim.Below.TheVariants as below_is
 use Rattle.nb_map.proofs.Claimed.{claimed-empty, dead-empty, made-claim, way-to}
+use Rattle.nb_map.proofs.Home.{dead-away, other-away}
 use Rattle.nb_map.proofs.Made.{made-more, made-own, made-quiet, made-stays, made-within}
 use Rattle.nb_map.proofs.Searched.{others-none}
 use Rattle.nb_map.proofs.at_home.claim_home.Goals as goal
@@ -55,3 +57,25 @@ returns-in-Claimed-clause-made c =
     (made-quiet c.args.chain.now.shape call
     (c.claim_key.ensures.lost (claimed-empty c.claim_key.result c.in-Claimed.other
     c.in-Claimed.is)).0)
+
+-- ---- where the key hasn't the slot
+
+pub returns-then-has_next-clause-away : goal.returns-then-has_next-clause-away
+returns-then-has_next-clause-away c lost last home = last.none_above (c.has_next.ensures.next c.if-has_next.true)
+
+pub returns-in-Dead-clause-away : goal.returns-in-Dead-clause-away
+returns-in-Dead-clause-away c lost last home =
+    let p = c.args.chain.now.shape in
+    let seen = seen_by p c.claim_key.new.seat in
+    let word = (c.claim_key.ensures.lost (dead-empty c.claim_key.result c.in-Dead.is)).1 in
+    dead-away p seen c.args.g c.args.key
+    (ap (seen.key c.args.g) c.requires.home ∙ word ∙ c.in-Dead.is) home
+
+pub returns-in-Claimed-clause-away : goal.returns-in-Claimed-clause-away
+returns-in-Claimed-clause-away c lost last home =
+    let p = c.args.chain.now.shape in
+    let seen = seen_by p c.claim_key.new.seat in
+    let word = (c.claim_key.ensures.lost
+    (claimed-empty c.claim_key.result c.in-Claimed.other c.in-Claimed.is)).1 in
+    other-away p seen c.args.g c.args.key c.in-Claimed.other
+    (ap (seen.key c.args.g) c.requires.home ∙ word ∙ c.in-Claimed.is) (eqb-false c.in-Claimed.other c.args.key (sym c.eq.ensures ∙ lost)) home

@@ -5,10 +5,14 @@ use Rattle.nb_core.specs.States.{key_state}
 use Rattle.nb_core.specs.Tables.{path_slot}
 use Rattle.nb_core.specs.declared.calls.Call.{Call}
 use Rattle.nb_core.specs.declared.calls.Reply.{Reply}
-use Rattle.nb_table.specs.Chains.{Extended, SeenBy}
+use Rattle.nb_table.specs.Chains.{Extended, SeenBy, seen_by}
 use Rattle.nb_table.specs.Events.{read, shown_by_key}
 use Rattle.nb_map.specs.Calling.{HasMade, as_replied}
-use Rattle.nb_map.specs.Writing.{IsAloneAtHome, IsDecided}
+use Rattle.nb_map.specs.Looking.{IsAtHome}
+use Rattle.nb_map.specs.Refusing.{IsShortThere, IsTold, IsWritten, exchange_steps, made_by}
+use Rattle.nb_map.specs.Writing.{IsAloneAtHome, IsDecided, IsKnownHome, passed_since}
+use Rattle.nb_map.specs.declared.at_home.AtHome.{AtHome}
+use Rattle.nb_map.specs.declared.write.Written.{Written}
 use Rattle.nb_map.proofs.Aimed.{made-look, own-word}
 use Rattle.nb_map.proofs.Exchanged.{acts-unless, passed-sum}
 use Rattle.nb_map.proofs.Home.{passed-away}
@@ -36,6 +40,14 @@ returns-in-Leave-clause-made g c =
     (subst (λ s. Extended p old c.load_key_word-word.new.seat (read old.number call
     (shown_by_key p c.args.g c.path_slot-home.result s (key_of_call call))) 1) empty
     c.load_key_word-word.ensures.grows)))
+
+pub returns-in-Leave-clause-short : goal.returns-in-Leave-clause-short
+returns-in-Leave-clause-short g c =
+    let load = (steps_add_up.one c.load_key_word-word.ensures.grows).steps in
+    record {
+      known = λ alone known. (tt, omega (arith, load));
+      claimed = λ alone last. (tt, omega (arith, load));
+    }
 
 pub has_home-mine-requires-clause-installed : goal.has_home-mine-requires-clause-installed
 has_home-mine-requires-clause-installed g c =
@@ -73,26 +85,56 @@ looked g c =
     c.requires.reached.installed) c.requires.key at c.load_key_word-word.ensures.grows
     c.load_key_word-word.ensures.found (acts g c) c.has_home-mine.ensures.made
 
--- and who is alone with the key at home made one step
+-- and who is alone with the key at home, which it knew as the key's, made one step
 one-step :
     (g : Over) (c : After-has_home-mine g) {after : SeenBy} {calls : List (Call × Reply)} {most : ℕ}
     → HasMade c.args.chain.now.shape c.args.call.now c.has_home-mine.new.seat after calls most
     → IsAloneAtHome c.args.chain.now.shape c.args.g c.args.call.now c.args.seat.now after
+    → IsKnownHome c.args.chain.now.shape c.args.g c.args.call.now c.args.seat.now
     → IsTrue c.has_home-mine.result
     × (c.has_home-mine.new.seat.steps ≤ c.args.seat.now.steps + 1)
-one-step g c made alone =
+one-step g c made alone known =
     let at : path_slot c.args.chain.now.shape c.args.g c.args.key 0 ≡ c.path_slot-home.result =
     search rules in
     let word = own-word c.args.chain.now c.args.g c.path_slot-home.result c.args.key
     c.load_key_word-word.result c.requires.own
     (table-within c.args.chain.now c.args.seat.now c.requires.own c.args.g
     c.requires.reached.installed) c.requires.key at c.load_key_word-word.ensures.grows
-    c.load_key_word-word.ensures.found (acts g c) c.has_home-mine.ensures.made made alone in
+    c.load_key_word-word.ensures.found (acts g c) c.has_home-mine.ensures.made made alone known in
     let kept = c.has_home-mine.ensures.kept word in
     let load = (steps_add_up.one c.load_key_word-word.ensures.grows).steps in
     let same : c.has_home-mine.new.seat.steps ≡ c.load_key_word-word.new.seat.steps =
     ap (λ (s : SeenBy). s.steps) kept.1 in
     (kept.0, omega (arith, load, same))
+
+-- with the exchange, three steps, and five where the slot was claimed
+written-short :
+    (g : Over) (c : After-has_home-mine g) {after : SeenBy} (written : Written)
+    → HasMade c.args.chain.now.shape c.args.call.now c.has_home-mine.new.seat after
+    (made_by c.args.call.now written)
+    (exchange_steps c.args.chain.now.shape c.args.g c.args.tries
+    (passed_since c.args.call.now c.has_home-mine.new.seat after) written)
+    → IsWritten c.args.chain.now.shape c.args.call.now c.has_home-mine.new.seat after c.args.g
+    c.args.tries written
+    → (told : AtHome) → IsTold told
+    → IsShortThere c.args.chain.now.shape c.args.g c.args.call.now c.args.seat.now after told
+written-short g c {after} written made is told there =
+    let look = looked g c in
+    record {
+      known = λ alone known. (there, omega (arith, (one-step g c made alone known).1, at-slot alone));
+      claimed = λ alone last. (there, omega (arith, look.grown.steps, look.few, at-slot alone));
+    }
+  where
+    at-slot :
+        IsAloneAtHome c.args.chain.now.shape c.args.g c.args.call.now c.args.seat.now after
+        → after.steps ≤ c.has_home-mine.new.seat.steps + 2
+    at-slot alone =
+        let chain = c.args.chain.now in
+        let look = looked g c in
+        let table = table-within chain c.args.seat.now c.requires.own c.args.g
+        c.requires.reached.installed in
+        alone-written c.args.g c.args.tries table (made-own chain c.requires.own look) written made
+        is (alone-then c.args.g table c.requires.own look.grown made.grown alone)
 
 pub returns-then-not-mine-clause-made : goal.returns-then-not-mine-clause-made
 returns-then-not-mine-clause-made g c =
@@ -100,14 +142,21 @@ returns-then-not-mine-clause-made g c =
     (looked g (goal.at.returns-then-not-mine-clause-made g c).After-has_home-mine)
 
 pub returns-then-not-mine-clause-short : goal.returns-then-not-mine-clause-short
-returns-then-not-mine-clause-short g c alone =
+returns-then-not-mine-clause-short g c =
     let there = (goal.at.returns-then-not-mine-clause-short g c).After-has_home-mine in
     let chain = c.args.chain.now in
     let own = made-own chain c.requires.own (looked g there) in
-    let had = (one-step g there
-    (made-none chain c.args.call.now c.has_home-mine.new.seat own) alone).0 in
     let not = c.if-not-mine.true in
-    absurd cc
+    let none = c.has_home-mine.ensures.away (search (rules, not)) in
+    record {
+      known = λ alone known.
+          let had = (one-step g there
+          (made-none chain c.args.call.now c.has_home-mine.new.seat own) alone known).0 in
+          absurd cc;
+      claimed = λ alone last.
+          absurd (none last (subst (IsAtHome chain.shape
+          (seen_by chain.shape c.has_home-mine.new.seat) c.args.g) c.requires.key alone.home));
+    }
 
 -- ---- the exchange there
 
@@ -167,48 +216,26 @@ returns-in-Above-clause-told g c =
     )
 
 pub returns-in-Replied-clause-short : goal.returns-in-Replied-clause-short
-returns-in-Replied-clause-short g c alone =
-    let chain = c.args.chain.now in
-    let there = (goal.at.returns-in-Replied-clause-short g c).After-has_home-mine in
-    let look = looked g there in
-    let made = c.exchange.ensures.made in
-    let table = table-within chain c.args.seat.now c.requires.own c.args.g
-    c.requires.reached.installed in (
-      tt,
-      omega (
-        arith,
-        (one-step g there made alone).1,
-        alone-written c.args.g c.args.tries table (made-own chain c.requires.own look)
-            c.exchange.result made c.exchange.ensures.written
-            (alone-then c.args.g table c.requires.own look.grown made.grown alone),
-      ),
-    )
+returns-in-Replied-clause-short g c =
+    written-short g (goal.at.returns-in-Replied-clause-short g c).After-has_home-mine
+    c.exchange.result c.exchange.ensures.made c.exchange.ensures.written _ tt
 
 pub returns-in-Refused-clause-short : goal.returns-in-Refused-clause-short
-returns-in-Refused-clause-short g c alone =
-    let chain = c.args.chain.now in
-    let there = (goal.at.returns-in-Refused-clause-short g c).After-has_home-mine in
-    let look = looked g there in
-    let made = c.exchange.ensures.made in
-    let table = table-within chain c.args.seat.now c.requires.own c.args.g
-    c.requires.reached.installed in (
-      tt,
-      omega (
-        arith,
-        (one-step g there made alone).1,
-        alone-written c.args.g c.args.tries table (made-own chain c.requires.own look)
-            c.exchange.result made c.exchange.ensures.written
-            (alone-then c.args.g table c.requires.own look.grown made.grown alone),
-      ),
-    )
+returns-in-Refused-clause-short g c =
+    written-short g (goal.at.returns-in-Refused-clause-short g c).After-has_home-mine
+    c.exchange.result c.exchange.ensures.made c.exchange.ensures.written _ tt
 
 pub returns-in-Above-clause-short : goal.returns-in-Above-clause-short
-returns-in-Above-clause-short g c alone =
+returns-in-Above-clause-short g c =
     let chain = c.args.chain.now in
     let look = looked g (goal.at.returns-in-Above-clause-short g c).After-has_home-mine in
     let mine = made-own chain c.requires.own look in
     let table = table-within chain c.args.seat.now c.requires.own c.args.g
     c.requires.reached.installed in
-    absurd (passed-away chain c.exchange.new.seat
+    let away = passed-away chain c.exchange.new.seat
     (made-own chain mine c.in-Above.ensures.made) c.args.g
-    (key_of_call c.args.call.now) table c.in-Above.ensures.written.0.0 alone.home)
+    (key_of_call c.args.call.now) table c.in-Above.ensures.written.0.0 in
+    record {
+      known = λ alone known. absurd (away alone.home);
+      claimed = λ alone last. absurd (away alone.home);
+    }

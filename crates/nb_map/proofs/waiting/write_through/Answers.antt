@@ -1,11 +1,11 @@
-use Rattle.std.proofs.Common.{◌+◌, ◌≤◌, ◌^◌, ◌-◌, [], arith}
+use Rattle.std.proofs.Common.{◌⊎◌, ◌^◌, ◌-◌, [], inl, inr, arith}
 use Rattle.nb_core.specs.declared.calls.Call.TheVariants as call
-use Rattle.nb_map.proofs.Straight.{alone-there, made-in-rounds, made-once, reached-then, reached-there, ready-then, ready-there, short-there}
+use Rattle.nb_map.proofs.Straight.{made-in-rounds, made-once, reached-then, reached-there, ready-then, ready-there, short-elsewhere, short-there}
 use Rattle.nb_map.proofs.waiting.write_through.Goals as goal
 use Rattle.nb_map.proofs.waiting.write_through.Goals.{in-Refused-Contended, in-Elsewhere}
 use Rattle.nb_map.specs.Calling.{HasMade}
 use Rattle.nb_map.specs.Refusing.{home_steps}
-use Rattle.nb_map.specs.Writing.{IsAloneAtHome, passed_since}
+use Rattle.nb_map.specs.Writing.{IsAloneAtHome, IsKnownHome, IsLastSeen, passed_since}
 
 pub write_home-requires-clause-reached : goal.write_home-requires-clause-reached
 write_home-requires-clause-reached g c =
@@ -24,8 +24,8 @@ returns-in-Replied-clause-made g c =
     made-once c.args.chain.now c.load_top-top.result c.requires.own c.load_top-top.ensures.grows
     c.load_top-top.ensures.found c.in-Replied.ensures.made
 
-pub returns-in-Replied-clause-four_steps : goal.returns-in-Replied-clause-four_steps
-returns-in-Replied-clause-four_steps g c =
+pub returns-in-Replied-clause-short : goal.returns-in-Replied-clause-short
+returns-in-Replied-clause-short g c =
     short-there c.args.chain.now c.load_top-top.result c.requires.own c.load_top-top.ensures.grows
     c.load_top-top.ensures.found c.write_home.result c.write_home.ensures.made
     c.write_home.ensures.short
@@ -35,8 +35,8 @@ returns-in-Refused-Full-clause-made g c =
     made-once c.args.chain.now c.load_top-top.result c.requires.own c.load_top-top.ensures.grows
     c.load_top-top.ensures.found c.in-Refused-Full.ensures.made
 
-pub returns-in-Refused-Full-clause-four_steps : goal.returns-in-Refused-Full-clause-four_steps
-returns-in-Refused-Full-clause-four_steps g c =
+pub returns-in-Refused-Full-clause-short : goal.returns-in-Refused-Full-clause-short
+returns-in-Refused-Full-clause-short g c =
     short-there c.args.chain.now c.load_top-top.result c.requires.own c.load_top-top.ensures.grows
     c.load_top-top.ensures.found c.write_home.result c.write_home.ensures.made
     c.write_home.ensures.short
@@ -46,9 +46,9 @@ returns-in-Refused-ValueRange-clause-made g c =
     made-once c.args.chain.now c.load_top-top.result c.requires.own c.load_top-top.ensures.grows
     c.load_top-top.ensures.found c.in-Refused-ValueRange.ensures.made
 
-pub returns-in-Refused-ValueRange-clause-four_steps :
-    goal.returns-in-Refused-ValueRange-clause-four_steps
-returns-in-Refused-ValueRange-clause-four_steps g c =
+pub returns-in-Refused-ValueRange-clause-short :
+    goal.returns-in-Refused-ValueRange-clause-short
+returns-in-Refused-ValueRange-clause-short g c =
     short-there c.args.chain.now c.load_top-top.result c.requires.own c.load_top-top.ensures.grows
     c.load_top-top.ensures.found c.write_home.result c.write_home.ensures.made
     c.write_home.ensures.short
@@ -81,29 +81,33 @@ returns-clause-made g c =
     made-in-rounds c.args.chain.now c.load_top-top.result c.requires.own
     c.load_top-top.ensures.grows c.load_top-top.ensures.found home c.write_rounds.ensures.made
 
-pub returns-clause-four_steps : goal.returns-clause-four_steps
-returns-clause-four_steps g c alone =
+pub returns-clause-short : goal.returns-clause-short
+returns-clause-short g c =
     let p = c.args.chain.now.shape in
     let write = call.Write c.args.key c.args.want c.args.change in
+    let top = c.load_top-top.result in
     let first = c.load_top-top.new.seat in
     let then = c.write_home.new.seat in
     let home : HasMade p write first then []
-    (home_steps p c.load_top-top.result (2 ^ 32 - 1) (passed_since write first then)) =
+    (home_steps p top (2 ^ 32 - 1) (passed_since write first then)) =
     elim c.match-write_home.branch [
       | in-Refused-Contended w ↦ w.in-Refused-Contended.ensures.made
       | in-Elsewhere w ↦ w.in-Elsewhere.ensures.made
     ] in
-    let away : IsAloneAtHome p c.load_top-top.result write first then
-    → ⊥ × (then.steps ≤ first.steps + 3) =
+    let away : IsAloneAtHome p top write first then
+    → IsKnownHome p top write first ⊎ IsLastSeen p top then → ⊥ =
     elim c.match-write_home.branch [
-      | in-Refused-Contended w ↦ λ here.
+      | in-Refused-Contended w ↦ λ here way.
           absurd (omega (
             arith,
             here.alone,
             (rw w.in-Refused-Contended.field-0-is at w.in-Refused-Contended.ensures.told),
           ))
-      | in-Elsewhere w ↦ w.in-Elsewhere.ensures.short
+      | in-Elsewhere w ↦ λ here way.
+          elim way [
+            | inl known ↦ (w.in-Elsewhere.ensures.short.known here known).0
+            | inr last ↦ (w.in-Elsewhere.ensures.short.claimed here last).0
+          ]
     ] in
-    absurd (alone-there c.args.chain.now c.load_top-top.result c.requires.own
-    c.load_top-top.ensures.grows c.load_top-top.ensures.found home ⊥ away
-    c.write_rounds.ensures.made alone)
+    short-elsewhere c.args.chain.now top c.requires.own c.load_top-top.ensures.grows
+    c.load_top-top.ensures.found home away c.write_rounds.ensures.made

@@ -1,7 +1,7 @@
-use Rattle.std.proofs.Common.{arith}
+use Rattle.std.proofs.Common.{inl, inr, arith}
 use Rattle.std.proofs.lemmas.Result.{IfErr-weaker}
 use Rattle.nb_core.specs.declared.calls.Call.TheVariants as call
-use Rattle.nb_map.proofs.Straight.{alone-there, made-elsewhere, made-there, reached-then, reached-there, ready-then, ready-there, short-there}
+use Rattle.nb_map.proofs.Straight.{made-elsewhere, made-there, reached-then, reached-there, ready-then, ready-there, short-elsewhere, short-there}
 use Rattle.nb_map.proofs.Written.{just-longer}
 use Rattle.nb_map.proofs.write.put_if_match_in.Goals as goal
 use Rattle.nb_table.proofs.Theorems.{steps_add_up}
@@ -23,8 +23,8 @@ returns-in-Replied-clause-made g c =
     made-there c.args.chain.now c.load_top-top.result c.requires.own c.load_top-top.ensures.grows
     c.load_top-top.ensures.found c.requires.some c.in-Replied.ensures.made
 
-pub returns-in-Replied-clause-four_steps : goal.returns-in-Replied-clause-four_steps
-returns-in-Replied-clause-four_steps g c =
+pub returns-in-Replied-clause-short : goal.returns-in-Replied-clause-short
+returns-in-Replied-clause-short g c =
     short-there c.args.chain.now c.load_top-top.result c.requires.own c.load_top-top.ensures.grows
     c.load_top-top.ensures.found c.write_home.result c.write_home.ensures.made
     c.write_home.ensures.short
@@ -40,8 +40,8 @@ returns-in-Refused-clause-refused g c =
     c.args.tries c.args.tries (steps_add_up.one c.load_top-top.ensures.grows)
     c.in-Refused.ensures.made.grown (omega arith) c.in-Refused.fault c.in-Refused.ensures.told
 
-pub returns-in-Refused-clause-four_steps : goal.returns-in-Refused-clause-four_steps
-returns-in-Refused-clause-four_steps g c =
+pub returns-in-Refused-clause-short : goal.returns-in-Refused-clause-short
+returns-in-Refused-clause-short g c =
     short-there c.args.chain.now c.load_top-top.result c.requires.own c.load_top-top.ensures.grows
     c.load_top-top.ensures.found c.write_home.result c.write_home.ensures.made
     c.write_home.ensures.short
@@ -79,8 +79,12 @@ returns-in-Elsewhere-clause-refused g c =
     c.write_from.ensures.made.grown c.in-Elsewhere.ensures.told.2 fault just))
     c.write_from.ensures.refused
 
-pub returns-in-Elsewhere-clause-four_steps : goal.returns-in-Elsewhere-clause-four_steps
-returns-in-Elsewhere-clause-four_steps g c alone =
-    absurd (alone-there c.args.chain.now c.load_top-top.result c.requires.own
+pub returns-in-Elsewhere-clause-short : goal.returns-in-Elsewhere-clause-short
+returns-in-Elsewhere-clause-short g c =
+    let short = c.in-Elsewhere.ensures.short in
+    short-elsewhere c.args.chain.now c.load_top-top.result c.requires.own
     c.load_top-top.ensures.grows c.load_top-top.ensures.found c.in-Elsewhere.ensures.made
-    ⊥ c.in-Elsewhere.ensures.short c.write_from.ensures.made alone)
+    (λ alone way. elim way [
+      | inl known ↦ (short.known alone known).0
+      | inr last ↦ (short.claimed alone last).0
+    ]) c.write_from.ensures.made

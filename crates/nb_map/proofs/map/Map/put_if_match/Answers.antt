@@ -70,3 +70,13 @@ returns-clause-own c =
     subst (λ map. IsMine map after) c.self.view_is
     (kept-mine {after = after} mine c.in_ok-reply.ensures.made
     (ap (λ count. count.counter) c.count.ensures) (omega (arith, ints, added)))
+
+pub returns-clause-worked : goal.returns-clause-worked
+returns-clause-worked c =
+    let after : SeatOf = record { chain = c.put_if_match_in.new.seat; count = c.count.new.seat } in
+    let write = call.Write c.args.key c.args.want c.args.change in
+    subst₂ (λ map before. HasWorked map write before after
+    (put_steps map.chain.shape (min c.args.tries
+    (passed_since write before.chain after.chain + 1))))
+    c.self.view_is c.seat.view_is
+    (record { steps = (_, c.in_ok-reply.ensures.made); net = _; count = c.count.ensures })

@@ -24,3 +24,8 @@ returns-clause-replied g c =
     (subst (λ n. of_map.HasFound (on_map.Write c.args.key want.Absent (change.Put n))
     c.seat.inside.map c.put_if_absent.new.seat c.in_ok-before.before)
     c.present.ensures c.in_ok-before.ensures.found))
+
+pub returns-in_err-before-clause-lock_free : goal.returns-in_err-before-clause-lock_free
+returns-in_err-before-clause-lock_free g c =
+    rw (← c.self.view_is, ← c.seat.view_is)
+    (rw c.present.ensures at c.put_if_absent.ensures.lock_free)
