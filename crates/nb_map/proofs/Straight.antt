@@ -73,7 +73,7 @@ module _ (chain : ChainOf) {start first : SeenBy} (top : ℕ) (own : IsOwn chain
 
   module _ {call : Call} {then : SeenBy} {most : ℕ}
       (home : HasMade chain.shape call first then [] most) where
-    -- who is alone with its key at home makes all of it there
+    -- a write that goes on elsewhere was not alone with its key at home
     pub short-elsewhere :
         {after : SeenBy} {calls : List (Call × Reply)} {most' : ℕ}
         → (IsAloneAtHome chain.shape top call first then

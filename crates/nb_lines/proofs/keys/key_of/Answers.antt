@@ -12,4 +12,8 @@ returns-then-mixed-gt-KEY_MAX-clause-back c =
 
 pub returns-then-mixed-gt-KEY_MAX-clause-taken : goal.returns-then-mixed-gt-KEY_MAX-clause-taken
 returns-then-mixed-gt-KEY_MAX-clause-taken c in_range =
-    rw (c.new.ensures, again_fits c.mix-mixed.result c.mix.result c.if-mixed-gt-KEY_MAX.true c.mix-mixed.type_inv c.mix.ensures.value) refl
+    rw (
+      c.new.ensures,
+      again_fits c.mix-mixed.result c.mix.result c.if-mixed-gt-KEY_MAX.true c.mix-mixed.type_inv
+          c.mix.ensures.value,
+    ) refl

@@ -61,7 +61,8 @@ returns-in-Claimed-clause-made c =
 -- ---- where the key hasn't the slot
 
 pub returns-then-has_next-clause-away : goal.returns-then-has_next-clause-away
-returns-then-has_next-clause-away c lost last home = last.none_above (c.has_next.ensures.next c.if-has_next.true)
+returns-then-has_next-clause-away c lost last home =
+    last.none_above (c.has_next.ensures.next c.if-has_next.true)
 
 pub returns-in-Dead-clause-away : goal.returns-in-Dead-clause-away
 returns-in-Dead-clause-away c lost last home =
@@ -78,4 +79,5 @@ returns-in-Claimed-clause-away c lost last home =
     let word = (c.claim_key.ensures.lost
     (claimed-empty c.claim_key.result c.in-Claimed.other c.in-Claimed.is)).1 in
     other-away p seen c.args.g c.args.key c.in-Claimed.other
-    (ap (seen.key c.args.g) c.requires.home ∙ word ∙ c.in-Claimed.is) (eqb-false c.in-Claimed.other c.args.key (sym c.eq.ensures ∙ lost)) home
+    (ap (seen.key c.args.g) c.requires.home ∙ word ∙ c.in-Claimed.is)
+    (eqb-false c.in-Claimed.other c.args.key (sym c.eq.ensures ∙ lost)) home

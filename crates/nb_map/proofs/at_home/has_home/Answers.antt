@@ -20,7 +20,6 @@ returns-then-word-ne0-clause-away c lost last home =
     let seen = seen_by p c.args.seat.now in
     let word = ap (seen.key c.args.g) c.requires.home ∙ c.requires.found in
     elim home [
-      | inl empty ↦
-          c.if-word-ne0.true (empty-word c.args.word (sym word ∙ empty))
+      | inl empty ↦ c.if-word-ne0.true (empty-word c.args.word (sym word ∙ empty))
       | inr own ↦ c.is_own.ensures.no c.if-is_own.false (sym word ∙ own.0)
     ]
