@@ -15,7 +15,7 @@ use Rattle.nb_map.proofs.Bounds.{next-size, slots-more}
 use Rattle.nb_map.proofs.Exchanged.{passed-sum}
 use Rattle.nb_map.proofs.Home.{home-in, passed-away}
 use Rattle.nb_map.proofs.Made.{made-none, made-own, made-stays, made-within}
-use Rattle.nb_map.proofs.Searched.{made-then, reached-above, reached-lasts, reached-top, table-within}
+use Rattle.nb_map.proofs.Searched.{made-then, reached-above, reached-lasts}
 use Rattle.nb_map.specs.Calling.{HasMade}
 use Rattle.nb_map.specs.Looking.{get_steps}
 use Rattle.nb_map.specs.Refusing.{IsJust, IsWritten, exchange_steps, home_steps, made_by, put_steps, write_steps}
@@ -74,12 +74,11 @@ made-written g tries (Above below left) own found made = made-then own found mad
 
 -- who is alone with its key at home is so from a later moment on
 pub alone-then :
-    {chain : ChainOf} {call : Call} {start then after : SeenBy} {own own' : List Event}
-    {count count' : ℕ} (g : ℕ) → g < generations_of chain.shape
-    → IsOwn chain start → Grown chain.shape start then own count
+    (chain : ChainOf) {call : Call} {start then after : SeenBy} {own own' : List Event}
+    {count count' : ℕ} (g : ℕ) → Grown chain.shape start then own count
     → Grown chain.shape then after own' count'
     → IsAloneAtHome chain.shape g call start after → IsAloneAtHome chain.shape g call then after
-alone-then {chain} {call} {start} {then} {after} g table own a b alone = record {
+alone-then chain {call} {start} {then} {after} g a b alone = record {
   home = alone.home;
   alone = omega (arith, passed-sum call a b, alone.alone);
 }
@@ -319,9 +318,6 @@ pub alone-top :
     → Grown chain.shape then after own count
     → IsSeenAlone chain.shape call start after → IsAloneAtHome chain.shape top call then after
 alone-top {chain} {call} {start} {then} {after} top own load is grown alone =
-    let mine = steps_add_up.own own (steps_add_up.one load) in
     let same = same-top {call = call} top own load is grown alone in
-    let table = table-within chain then mine top
-    (reached-top chain then mine (key_of_call call) top is).installed in
-    alone-then top table own (steps_add_up.one load) grown
+    alone-then chain top (steps_add_up.one load) grown
     (subst (λ g. IsAloneAtHome chain.shape g call start after) same alone.1)

@@ -134,7 +134,7 @@ written-short g c {after} written made is told there =
         let table = table-within chain c.args.seat.now c.requires.own c.args.g
         c.requires.reached.installed in
         alone-written c.args.g c.args.tries table (made-own chain c.requires.own look) written made
-        is (alone-then c.args.g table c.requires.own look.grown made.grown alone)
+        is (alone-then chain c.args.g look.grown made.grown alone)
 
 pub returns-then-not-mine-clause-made : goal.returns-then-not-mine-clause-made
 returns-then-not-mine-clause-made g c =
