@@ -169,11 +169,11 @@ impl Map {
     /// + G) (N + 8) steps on the chain, whose G tables have T slots and the last of them N; and
     /// however many tries it has, at most 8 (T + w + 1 + G) (N + 8) where other seats have won `w`
     /// exchanges on the key since this seat's last step. Where they have won none and the key is at
-    /// home in the top table, these are four: loads of the top word, of the key and of its value,
-    /// and the exchange; or six, where it may have to claim its slot first. A key that came is
-    /// counted afterwards, and one that went, by one step on the counter. A refused write leaves
-    /// the map as it is; but tables may have been installed and copied for it, and its key may keep
-    /// a slot without a number.
+    /// home in the top table, these are at most four: loads of the top word, of the key and of its
+    /// value, and the exchange; or six, where it may have to claim its slot first (`IsShortAtHome`
+    /// says all that is asked). A key that came is counted afterwards, and one that went, by one
+    /// step on the counter. A refused write leaves the map as it is; but tables may have been
+    /// installed and copied for it, and its key may keep a slot without a number.
     pub fn put_if_match(
         &self,
         seat: &mut Seat,
