@@ -87,7 +87,7 @@ net-append : (a b : List (Call × Reply)) → net_of (a ++ b) ≡ net_of a +ℤ 
 net-append [] b = omega (arith, ints)
 net-append (c ∷ a) b = let rest = net-append a b in omega (arith, ints, rest)
 
-net-made :
+pub net-made :
     {p : Plan} {call : Call} {before after : SeenBy} {made : List (Call × Reply)} {most : ℕ}
     → HasMade p call before after made most
     → net_of (calls_of after.number (log_of after.seen))

@@ -11,6 +11,7 @@ mod Logged
 mod Made
 mod OneSeat
 mod Paired
+mod Passed
 mod Passing
 mod Replied
 mod Rounds

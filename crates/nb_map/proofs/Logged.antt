@@ -76,7 +76,7 @@ logged-more {before} {then} {after} {made} a b =
 -- ---- the tries of a write that waits
 
 -- the same seat of the counter, where nothing is counted
-counted-none : (count : CountSeatOf) → accounted (pos 0) count ≡ count
+pub counted-none : (count : CountSeatOf) → accounted (pos 0) count ≡ count
 counted-none count =
     let same : (n : ℕ) → n + 0 ≡ n = λ n. omega arith in
     ap₂ (λ added adds. record count { added = added; adds = adds; steps = count.steps + 0 })

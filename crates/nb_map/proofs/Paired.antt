@@ -12,6 +12,7 @@ use Rattle.nb_count.specs.Counts as counted
 use Rattle.nb_table.specs.Chains.{SeenBy}
 use Rattle.nb_table.specs.Chains as chained
 use Rattle.nb_map.specs.Ending.{IsParted}
+use Rattle.nb_map.specs.Logs.{HaveEmptyLogs, log}
 use Rattle.nb_map.specs.Maps.{AreMine, IsMine, MapOf, SeatOf, new_seat, new_seats}
 
 -- ---- dealing
@@ -111,6 +112,13 @@ new-mine m plan seats count are =
       counter = refl;
       counted = refl;
     }))
+
+-- and they know of no call
+pub new-logs :
+    (m : MapOf) (seats : List SeatOf) (count : ℕ) → seats ≡ new_seats m count → HaveEmptyLogs seats
+new-logs m seats count are =
+    All-same (λ seat. log seat ≡ []) seats (new_seats m count) are
+    (All-numbered (λ seat. log seat ≡ []) (new_seat m) 0 count (λ n low high. refl))
 
 -- the parts of a map's seats are its chain's and its counter's
 module _

@@ -20,6 +20,12 @@ new_handles m count = map (handle_on m) (new_seats m count)
 abbrev pub seats_of : List HandleOf → List SeatOf
 seats_of handles = map (λ handle. handle.seat) handles
 
+-- The handle is of the map that it was of. A function that takes a handle by `&mut` promises it, so
+-- that its callers can let the handle meet others and close them: it could put another map's handle
+-- in its place.
+abbrev pub IsSameMap : (before after : HandleOf) → Type 0
+IsSameMap before after = after.map ≡ before.map
+
 -- all these handles are of one map
 abbrev pub AreOfOneMap : List HandleOf → Type 0
 AreOfOneMap handles = (m : MapOf) × All (λ handle. handle.map ≡ m) handles

@@ -1,5 +1,5 @@
 -- What a call of the map does, told by the log of all calls.
-use Rattle.std.specs.Prelude.{◌≡◌, ℕ, Bool, List, [], ◌∷◌, ◌++◌, Option}
+use Rattle.std.specs.Prelude.{◌≡◌, ℕ, Bool, List, [], ◌∷◌, ◌++◌, Option, All}
 use Rattle.nb_core.specs.Log.{Entry, IsReplayed, calls_of, log_of}
 use Rattle.nb_core.specs.declared.calls.Call.{Call}
 use Rattle.nb_core.specs.declared.calls.Reply.{Reply}
@@ -8,6 +8,10 @@ use Rattle.nb_map.specs.Maps.{SeatOf}
 -- the log that a seat knows: the calls of all seats until its last step
 abbrev pub log : SeatOf → List Entry
 log seat = log_of seat.chain.seen
+
+-- no call is in the log of any of these seats: neither its own nor another's
+abbrev pub HaveEmptyLogs : List SeatOf → Type 0
+HaveEmptyLogs seats = All (λ seat. log seat ≡ []) seats
 
 -- The log has gone on. All of it is replayed, and of what is new just these calls are the seat's.
 pub record HasLogged (before after : SeatOf) (made : List (Call × Reply)) : Type 0 where

@@ -3,6 +3,7 @@ use Rattle.std.specs.Prelude.{◌≡◌, ℕ, zero, ◌+◌, ℤ, pos, ◌+ℤ�
 use Rattle.std.specs.List.{range_with_len}
 use Rattle.nb_core.specs.Log.{calls_of, log_of}
 use Rattle.nb_core.specs.Meaning.{net_of}
+use Rattle.nb_core.specs.Plans.{IsPlan, Plan}
 use Rattle.nb_core.specs.declared.calls.Call.{Call}
 use Rattle.nb_count.specs.Counts.{CounterOf, CountSeatOf}
 use Rattle.nb_count.specs.Counts as counts
@@ -14,6 +15,13 @@ use Rattle.nb_map.specs.Calling.{HasStepped}
 pub record MapOf : Type 0 where
   pub chain : ChainOf
   pub counter : CounterOf
+
+-- The map is of this shape, which is a plan, and its counter has as many stripes and seats.
+pub record IsMadeFor (map : MapOf) (p : Plan) : Type 0 where
+  pub shape : map.chain.shape ≡ p
+  pub plan : IsPlan p
+  pub stripes : map.counter.stripes ≡ p.stripes
+  pub seats : map.counter.seats ≡ p.seats
 
 -- a map's seat: what it has seen of the chain, and what it has counted
 pub record SeatOf : Type 0 where

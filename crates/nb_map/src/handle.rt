@@ -32,10 +32,17 @@ ghost use Rattle.nb_core.specs.declared.calls.Want.TheVariants as want;
 ghost use Rattle.nb_map.specs.Ending.{EndedWith, HasTablesLeft};
 ghost use Rattle.nb_map.specs.Writing.{IsShortAtHome, passed_since};
 ghost use Rattle.nb_table.specs.Chains.{Extended, seen_by};
-ghost use Rattle.nb_map.specs.Handles.{AreOfOneMap, new_handles, seats_of};
-ghost use Rattle.nb_map.specs.Logs.{HasFound, HasLogged, HasMatched, HasReplied, log};
+ghost use Rattle.nb_map.specs.Handles.{AreOfOneMap, IsSameMap, new_handles, seats_of};
+ghost use Rattle.nb_map.specs.Logs.{
+  HasFound,
+  HasLogged,
+  HasMatched,
+  HasReplied,
+  HaveEmptyLogs,
+  log,
+};
 ghost use Rattle.nb_map.specs.Looking.{IsSeenAtHome, get_steps};
-ghost use Rattle.nb_map.specs.Maps.{AreMine, HasWorked, IsMine, MapOf};
+ghost use Rattle.nb_map.specs.Maps.{AreMine, HasWorked, IsMadeFor, IsMine, MapOf};
 ghost use Rattle.nb_map.specs.Refusing.{HasRefused, IsJust, IsLockFree, put_steps};
 ghost use Rattle.nb_map.specs.declared.waiting.AddFault.TheVariants as fault;
 
@@ -74,6 +81,9 @@ impl Handle {
     pub fn open(alloc: Global, shape: Shape) -> Result<Vec<Handle>, OutOfMemory>
         ensures new { IfOk result (λ handles. (m : MapOf) × (m.chain.shape ≡ shape)
             × (handles.items ≡ new_handles m shape.seats)) }
+        ensures made { IfOk result (λ handles. All (λ handle. IsMadeFor handle.map shape)
+            handles.items) }
+        ensures begun { IfOk result (λ handles. HaveEmptyLogs (seats_of handles.items)) }
         ensures one { IfOk result (λ handles. AreOfOneMap handles.items) }
     {
         let mut handles = Vec::with_capacity(alloc, shape.seats())?;
@@ -91,6 +101,14 @@ impl Handle {
         Ok(handles)
     }
 
+    /// What every handle is: its seat is a seat of its map. Nothing runs. A proof over several calls
+    /// of a handle, as one by the laws `logs_add_up` and `one_seat`, sets out from it.
+    pub fn known(&self)
+        ensures { IsMine self.now.map self.now.seat }
+    {
+        let _ = &self.seat;
+    }
+
     /// What the map has at a key.
     #[inline]
     pub fn get(&mut self, key: Key) -> Option<Num>
@@ -101,7 +119,7 @@ impl Handle {
         ensures three_steps { IsSeenAtHome self.old.map.chain.shape self.old.seat.chain
             self.new.seat.chain key
             → self.new.seat.chain.steps ≤ self.old.seat.chain.steps + 3 }
-        ensures map { self.new.map ≡ self.old.map }
+        ensures map { IsSameMap self.old self.new }
     {
         self.map.get(&mut self.seat, key)
     }
@@ -119,7 +137,7 @@ impl Handle {
         ensures short { IsShortAtHome self.old.map.chain.shape
             (call.Write key want.Any (change.Put number))
             self.old.seat.chain self.new.seat.chain }
-        ensures map { self.new.map ≡ self.old.map }
+        ensures map { IsSameMap self.old self.new }
     {
         self.map.put(rt, &mut self.seat, key, number)
     }
@@ -142,7 +160,7 @@ impl Handle {
         ensures short { IsShortAtHome self.old.map.chain.shape
             (call.Write key want.Absent (change.Put number))
             self.old.seat.chain self.new.seat.chain }
-        ensures map { self.new.map ≡ self.old.map }
+        ensures map { IsSameMap self.old self.new }
     {
         self.map.put_if_absent(rt, &mut self.seat, key, number)
     }
@@ -157,7 +175,7 @@ impl Handle {
         ensures short { IsShortAtHome self.old.map.chain.shape
             (call.Write key want.Present (change.Put number))
             self.old.seat.chain self.new.seat.chain }
-        ensures map { self.new.map ≡ self.old.map }
+        ensures map { IsSameMap self.old self.new }
     {
         self.map.replace(rt, &mut self.seat, key, number)
     }
@@ -172,7 +190,7 @@ impl Handle {
         ensures short { IsShortAtHome self.old.map.chain.shape
             (call.Write key (want.Equal old) (change.Put new))
             self.old.seat.chain self.new.seat.chain }
-        ensures map { self.new.map ≡ self.old.map }
+        ensures map { IsSameMap self.old self.new }
     {
         self.map.replace_if(rt, &mut self.seat, key, old, new)
     }
@@ -187,7 +205,7 @@ impl Handle {
         ensures short { IsShortAtHome self.old.map.chain.shape
             (call.Write key want.Any change.Remove)
             self.old.seat.chain self.new.seat.chain }
-        ensures map { self.new.map ≡ self.old.map }
+        ensures map { IsSameMap self.old self.new }
     {
         self.map.remove(rt, &mut self.seat, key)
     }
@@ -202,7 +220,7 @@ impl Handle {
         ensures short { IsShortAtHome self.old.map.chain.shape
             (call.Write key (want.Equal number) change.Remove)
             self.old.seat.chain self.new.seat.chain }
-        ensures map { self.new.map ≡ self.old.map }
+        ensures map { IsSameMap self.old self.new }
     {
         self.map.remove_if(rt, &mut self.seat, key, number)
     }
@@ -219,7 +237,7 @@ impl Handle {
         ensures short { IsShortAtHome self.old.map.chain.shape
             (call.Write key want.Any (change.Add number))
             self.old.seat.chain self.new.seat.chain }
-        ensures map { self.new.map ≡ self.old.map }
+        ensures map { IsSameMap self.old self.new }
     {
         self.map.add(rt, &mut self.seat, key, number)
     }
@@ -234,7 +252,7 @@ impl Handle {
         ensures three_steps { IsSeenAtHome self.old.map.chain.shape self.old.seat.chain
             self.new.seat.chain key
             → self.new.seat.chain.steps ≤ self.old.seat.chain.steps + 3 }
-        ensures map { self.new.map ≡ self.old.map }
+        ensures map { IsSameMap self.old self.new }
     {
         self.map.contains_key(&mut self.seat, key)
     }
@@ -259,7 +277,7 @@ impl Handle {
             self.old.seat.chain self.new.seat.chain + 1))) }
         ensures short { IsShortAtHome self.old.map.chain.shape (call.Write key want change)
             self.old.seat.chain self.new.seat.chain }
-        ensures map { self.new.map ≡ self.old.map }
+        ensures map { IsSameMap self.old self.new }
     {
         self.map
             .put_if_match(&mut self.seat, key, want, change, tries.max(1))
@@ -275,7 +293,7 @@ impl Handle {
             → IsComplete self.old.map.chain.shape
             (seen_by self.old.map.chain.shape self.new.seat.chain) g }
         ensures count { self.new.seat.count ≡ self.old.seat.count }
-        ensures map { self.new.map ≡ self.old.map }
+        ensures map { IsSameMap self.old self.new }
     {
         self.map.generation(&mut self.seat)
     }
@@ -286,7 +304,7 @@ impl Handle {
         ensures chain { self.new.seat.chain ≡ self.old.seat.chain }
         ensures count { self.new.seat.count
             ≡ with_looks self.old.map.counter.stripes self.old.seat.count }
-        ensures map { self.new.map ≡ self.old.map }
+        ensures map { IsSameMap self.old self.new }
     {
         self.map.size_estimate(&mut self.seat)
     }
@@ -307,7 +325,7 @@ impl Handle {
             other.new.seat.chain [] 1
             × IsBeginning self.old.seat.chain.seen other.new.seat.chain.seen
             × (other.new.seat.count ≡ other.old.seat.count) }
-        ensures map { (self.new.map ≡ self.old.map) × (other.new.map ≡ other.old.map) }
+        ensures map { IsSameMap self.old self.new × IsSameMap other.old other.new }
     {
         self.map.meet(&mut self.seat, &mut other.seat);
     }

@@ -5,11 +5,12 @@ ghost use Rattle.nb_core.specs.Log.{reply_at};
 ghost use Rattle.nb_core.specs.declared.calls.Call.TheVariants as call;
 ghost use Rattle.nb_core.specs.declared.calls.Change.TheVariants as change;
 ghost use Rattle.nb_core.specs.declared.calls.Want.TheVariants as want;
+ghost use Rattle.nb_map.specs.Handles.{IsSameMap};
 ghost use Rattle.nb_map.specs.Logs.{HasFound, HasReplied};
 ghost use Rattle.nb_map.specs.Looking.{IsSeenAtHome, get_steps};
 ghost use Rattle.nb_map.specs.Maps.{HasWorked};
 ghost use Rattle.nb_map.specs.Trying.{HasGivenUp, IsWaitFree, exchange_call};
-ghost use Rattle.nb_map.specs.Updating.{HasNotUpdated, HasUpdated, update_steps};
+ghost use Rattle.nb_map.specs.Updating.{HasNotUpdated, HasUpdated};
 ghost use Rattle.nb_map.specs.Writing.{IsShortAtHome};
 
 use crate::handle::Handle;
@@ -29,7 +30,7 @@ impl Handle {
             (max tries 1) }
         ensures short { IsShortAtHome self.old.map.chain.shape
             (call.Write key want.Any (change.Put number)) self.old.seat.chain self.new.seat.chain }
-        ensures map { self.new.map ≡ self.old.map }
+        ensures map { IsSameMap self.old self.new }
     {
         self.map.try_put(&mut self.seat, key, number, tries.max(1))
     }
@@ -52,7 +53,7 @@ impl Handle {
         ensures short { IsShortAtHome self.old.map.chain.shape
             (call.Write key want.Absent (change.Put number)) self.old.seat.chain
             self.new.seat.chain }
-        ensures map { self.new.map ≡ self.old.map }
+        ensures map { IsSameMap self.old self.new }
     {
         self.map
             .try_put_if_absent(&mut self.seat, key, number, tries.max(1))
@@ -70,7 +71,7 @@ impl Handle {
             (max tries 1) }
         ensures short { IsShortAtHome self.old.map.chain.shape
             (call.Write key want.Any (change.Add number)) self.old.seat.chain self.new.seat.chain }
-        ensures map { self.new.map ≡ self.old.map }
+        ensures map { IsSameMap self.old self.new }
     {
         self.map.try_add(&mut self.seat, key, number, tries.max(1))
     }
@@ -86,7 +87,7 @@ impl Handle {
             self.old.seat self.new.seat (max tries 1) }
         ensures short { IsShortAtHome self.old.map.chain.shape
             (call.Write key want.Any change.Remove) self.old.seat.chain self.new.seat.chain }
-        ensures map { self.new.map ≡ self.old.map }
+        ensures map { IsSameMap self.old self.new }
     {
         self.map.try_remove(&mut self.seat, key, tries.max(1))
     }
@@ -107,7 +108,7 @@ impl Handle {
             self.old.seat self.new.seat (max tries 1) }
         ensures short { IsShortAtHome self.old.map.chain.shape (exchange_call key old new)
             self.old.seat.chain self.new.seat.chain }
-        ensures map { self.new.map ≡ self.old.map }
+        ensures map { IsSameMap self.old self.new }
     {
         self.map
             .compare_exchange(&mut self.seat, key, old, new, tries.max(1))
@@ -123,26 +124,24 @@ impl Handle {
         ensures three_steps { IsSeenAtHome self.old.map.chain.shape self.old.seat.chain
             self.new.seat.chain key
             → self.new.seat.chain.steps ≤ self.old.seat.chain.steps + 3 }
-        ensures map { self.new.map ≡ self.old.map }
+        ensures map { IsSameMap self.old self.new }
     {
         self.map.get_or(&mut self.seat, key, number)
     }
 
     /// `Map::update`.
-    pub fn update<F: Fn(Option<Num>) -> Option<Num>>(
+    pub fn update<F: FnMut(Option<Num>) -> Option<Num>>(
         &mut self,
         key: Key,
         tries: u32,
         new_of: F,
     ) -> Result<Option<Num>, PutFault>
         requires callable { F.IsAlwaysCallable new_of }
-        ensures updated { IfOk result (HasUpdated (F.post new_of) key
+        ensures updated { IfOk result (HasUpdated self.old.map F.step new_of key
             self.old.seat self.new.seat (max tries 1)) }
-        ensures refused { IfErr result (HasNotUpdated self.old.map (F.post new_of) key
+        ensures refused { IfErr result (HasNotUpdated self.old.map F.step new_of key
             self.old.seat self.new.seat (max tries 1)) }
-        ensures steps { self.new.seat.chain.steps
-            ≤ self.old.seat.chain.steps + update_steps self.old.map.chain.shape (max tries 1) }
-        ensures map { self.new.map ≡ self.old.map }
+        ensures map { IsSameMap self.old self.new }
     {
         self.map.update(&mut self.seat, key, tries.max(1), new_of)
     }

@@ -4,11 +4,12 @@ ghost use Rattle.nb_core.specs.declared.calls.Call.TheVariants as call;
 ghost use Rattle.nb_table.specs.Chains.{Extended};
 ghost use Rattle.nb_map.specs.Handles.{handle_on};
 ghost use Rattle.nb_map.specs.Logs.{HasLogged};
-ghost use Rattle.nb_map.specs.Maps.{HasWorked};
+ghost use Rattle.nb_map.specs.Maps.{HasWorked, IsMine};
 ghost use Rattle.nb_map.specs.Walks.{
   HasRead,
   HasWalked,
   IsUnderway,
+  IsWalkOf,
   begun_by,
   passing_steps,
   slots_ahead,
@@ -71,6 +72,15 @@ impl Handle {
 }
 
 impl HandleWalk {
+    /// What every walk by a handle is: its seat is a seat of its map, and has begun the walk.
+    /// Nothing runs.
+    pub fn known(&self)
+        ensures own { IsMine self.now.map self.now.seat }
+        ensures walk { IsWalkOf self.now.map self.now.seat self.now.walk }
+    {
+        let _ = &self.seat;
+    }
+
     /// The next key of the walk, with its number, until `None` ends it: `Map::next_key`. What a
     /// whole walk is worth is the law `whole_walk`, of a walk that is underway.
     pub fn next_key(&mut self) -> Option<(Key, Num)>

@@ -28,7 +28,7 @@ ghost use Rattle.nb_count.specs.Counts.{with_looks};
 ghost use Rattle.nb_table.specs.Chains.{Extended, seen_by};
 ghost use Rattle.nb_map.specs.Looking.{IsSeenAtHome, get_steps};
 ghost use Rattle.nb_map.specs.Ending.{EndedWith, HasTablesLeft};
-ghost use Rattle.nb_map.specs.Logs.{HasLogged, HasReplied, log};
+ghost use Rattle.nb_map.specs.Logs.{HasLogged, HasReplied, HaveEmptyLogs, log};
 ghost use Rattle.nb_map.specs.Maps.{AreMine, HasWorked, IsMine, accounted, new_seats};
 ghost use Rattle.nb_map.specs.Refusing.{IsJust, put_steps};
 ghost use Rattle.nb_map.specs.Walks.{
@@ -106,6 +106,7 @@ impl Map {
         ensures counter { IfOk result (λ made. (made.0.counter.stripes ≡ shape.stripes)
             × (made.0.counter.seats ≡ shape.seats)) }
         ensures seats { IfOk result (λ made. made.1.items ≡ new_seats made.0 shape.seats) }
+        ensures begun { IfOk result (λ made. HaveEmptyLogs made.1.items) }
         ensures own { IfOk result (λ made. AreMine made.0 made.1.items) }
     {
         let mut seats = Vec::with_capacity(alloc, shape.seats())?;

@@ -6,7 +6,7 @@ ghost use Rattle.nb_map.specs.Logs.{HasReplied};
 ghost use Rattle.nb_map.specs.Looking.{IsSeenAtHome, get_steps};
 ghost use Rattle.nb_map.specs.Maps.{HasWorked, IsMine};
 ghost use Rattle.nb_map.specs.Trying.{exchange_call};
-ghost use Rattle.nb_map.specs.Updating.{HasExchanged, HasNotUpdated, HasUpdated, update_steps};
+ghost use Rattle.nb_map.specs.Updating.{HasExchanged, HasNotUpdated, HasUpdated};
 
 use crate::map::{Map, Seat};
 use crate::write::PutFault;
@@ -28,54 +28,57 @@ impl Map {
     }
 
     /// Sets a key to what the function makes of what is there, `None` being absent, and answers
-    /// what was there. It reads the key, and then exchanges what it has read; where something else
-    /// has come there it goes on from that, with so many exchanges in all, each of so many tries.
-    /// The function may be called as often. `ConcurrentMap.compute`, but for the wait.
-    pub fn update<F: Fn(Option<Num>) -> Option<Num>>(
+    /// what was there. It reads the key, and exchanges what it has read for what the function makes
+    /// of it; where something else has come there it goes on from that, with so many exchanges in
+    /// all, each of so many tries. So the function is called once for each exchange, and not for
+    /// the read. `ConcurrentMap.compute`, except that it waits for nobody: it is refused as
+    /// contended where others won as many exchanges on the key.
+    pub fn update<F: FnMut(Option<Num>) -> Option<Num>>(
         &self,
         seat: &mut Seat,
         key: Key,
         tries: u32,
-        new_of: F,
+        mut new_of: F,
     ) -> Result<Option<Num>, PutFault>
         requires own { IsMine self.now seat.old }
         requires some { 1 ≤ tries }
         requires callable { F.IsAlwaysCallable new_of }
-        ensures updated { IfOk result (HasUpdated (F.post new_of) key seat.old seat.new tries) }
-        ensures refused { IfErr result (HasNotUpdated self.now (F.post new_of) key
+        ensures updated { IfOk result (HasUpdated self.now F.step new_of key
             seat.old seat.new tries) }
-        ensures steps { seat.new.chain.steps
-            ≤ seat.old.chain.steps + update_steps self.now.chain.shape tries }
+        ensures refused { IfErr result (HasNotUpdated self.now F.step new_of key
+            seat.old seat.new tries) }
         ensures own { IsMine self.now seat.new }
     {
-        let mut was = self.get(seat, key);
+        let mut found = self.get(seat, key);
         for _lost in 0..tries {
-            let reply = self.exchange_from(seat, key, &was, tries, &new_of)?;
+            let reply = self.exchange_from(seat, key, &found, tries, &mut new_of)?;
             if reply.matched {
                 return Ok(reply.before);
             }
-            was = reply.before;
+            found = reply.before;
         }
         Err(PutFault::Contended)
     }
 
     /// Exchanges this, if it is at the key, for what the function makes of it.
-    fn exchange_from<F: Fn(Option<Num>) -> Option<Num>>(
+    fn exchange_from<F: FnMut(Option<Num>) -> Option<Num>>(
         &self,
         seat: &mut Seat,
         key: Key,
-        was: &Option<Num>,
+        found: &Option<Num>,
         tries: u32,
-        new_of: &F,
+        new_of: &mut F,
     ) -> Result<Reply, PutFault>
         requires own { IsMine self.now seat.old }
         requires some { 1 ≤ tries }
-        requires callable { F.IsAlwaysCallable new_of.now }
-        ensures exchanged { (new : Option ℕ) × F.post new_of.now was.now new
-            × HasExchanged self.now (exchange_call key was.now new) seat.old seat.new tries result }
+        requires callable { F.IsAlwaysCallable new_of.old }
+        ensures exchanged { (new : Option ℕ) × F.step new_of.old found.now new new_of.new
+            × HasExchanged self.now (exchange_call key found.now new) seat.old seat.new
+            tries result }
+        ensures callable { F.IsAlwaysCallable new_of.new }
         ensures own { IsMine self.now seat.new }
     {
-        let new = new_of(*was);
-        self.compare_exchange(seat, key, *was, new, tries)
+        let new = new_of(*found);
+        self.compare_exchange(seat, key, *found, new, tries)
     }
 }

@@ -2,10 +2,10 @@ use Rattle.std.proofs.Common.{◌∙◌, All, ap, length, subst, sym, arith}
 use Rattle.std.specs.Arc.{arc_value}
 use Rattle.std.proofs.lemmas.List.Elements.{All-tail}
 use Rattle.nb_core.proofs.Seating.{all-moved, moved-count, moved-more}
-use Rattle.nb_map.proofs.Held.{length-new, of-one}
+use Rattle.nb_map.proofs.Held.{handle-logs, length-new, made-for, of-one}
 use Rattle.nb_map.specs.Handles.{handle_on}
 use Rattle.nb_map.specs.Inside.{seat_of}
-use Rattle.nb_map.specs.Maps.{IsMine}
+use Rattle.nb_map.specs.Maps.{IsMadeFor, IsMine}
 use Rattle.nb_map.proofs.handle.Handle.open.Goals as goal
 
 pub push_reserved-requires : goal.push_reserved-requires
@@ -36,5 +36,23 @@ loop-seat-preserved c =
 pub returns-clause-one : goal.returns-clause-one
 returns-clause-one c =
     of-one (arc_value c.in-Ok.map) c.args.shape.seats c.loop-seat.handles.items
+    (all-moved c.loop-seat.invariant.2
+    (omega (arith, c.in-None.ensures.steps, c.loop-seat.seat-iterator.rest.ok)))
+
+pub returns-clause-made : goal.returns-clause-made
+returns-clause-made c =
+    made-for (arc_value c.in-Ok.map) c.args.shape c.loop-seat.handles.items
+    (subst (λ m. IsMadeFor m c.args.shape) (sym c.in-Ok.ensures.ok) (record {
+      shape = c.in_ok-map.ensures.map;
+      plan = c.seats.ensures.plan;
+      stripes = c.in_ok-map.ensures.counter.0;
+      seats = c.in_ok-map.ensures.counter.1;
+    }))
+    (all-moved c.loop-seat.invariant.2
+    (omega (arith, c.in-None.ensures.steps, c.loop-seat.seat-iterator.rest.ok)))
+
+pub returns-clause-begun : goal.returns-clause-begun
+returns-clause-begun c =
+    handle-logs (arc_value c.in-Ok.map) c.args.shape.seats c.loop-seat.handles.items
     (all-moved c.loop-seat.invariant.2
     (omega (arith, c.in-None.ensures.steps, c.loop-seat.seat-iterator.rest.ok)))

@@ -5,7 +5,7 @@ use Rattle.nb_count.specs.Counts as counts
 use Rattle.nb_table.specs.Chains as chains
 use Rattle.nb_table.specs.Inside.{chain_of}
 use Rattle.nb_map.specs.Maps.{MapOf, new_seats}
-use Rattle.nb_map.proofs.Paired.{dealing-count, dealing-done, dealing-first, dealing-more, new-mine}
+use Rattle.nb_map.proofs.Paired.{dealing-count, dealing-done, dealing-first, dealing-more, new-logs, new-mine}
 use Rattle.nb_map.proofs.map.Map.new.Goals as goal
 
 pub loop-chain-init : goal.loop-chain-init
@@ -74,6 +74,11 @@ pub returns-clause-own : goal.returns-clause-own
 returns-clause-own c =
     new-mine (record { chain = c.in_ok-chain.chain; counter = c.in_ok-counter.counter })
     (subst IsPlan (sym c.in_ok-chain.ensures.chain) c.seats.ensures.plan) _ _
+    (returns-clause-seats c)
+
+pub returns-clause-begun : goal.returns-clause-begun
+returns-clause-begun c =
+    new-logs (record { chain = c.in_ok-chain.chain; counter = c.in_ok-counter.counter }) _ _
     (returns-clause-seats c)
 
 pub returns-clause-plan : goal.returns-clause-plan

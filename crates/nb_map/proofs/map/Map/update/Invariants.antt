@@ -1,8 +1,8 @@
-use Rattle.nb_map.proofs.Updated.{HasTried}
-use Rattle.nb_map.specs.Maps.{IsMine}
+use Rattle.nb_map.proofs.Updated.{HasCome}
 use Rattle.nb_map.proofs.map.Map.update.Given as goal
 
 abbrev pub invariant-loop-lost : goal.invariant-loop-lost
 invariant-loop-lost g l =
-    IsMine l.self l.seat
-    × HasTried l.self (λ was. g.F.Fn.post l.new_of (was, tt)) l.key l.fn.seat l.seat l.fn.tries l._lost
+    goal.F-IsAlwaysCallable g l.new_of
+    × HasCome l.self (goal.F-step g) l.fn.new_of l.key l.fn.seat l.fn.tries l.seat l.new_of l.found
+    l._lost
