@@ -1,5 +1,5 @@
 -- What the exchanges of an update add up to.
-use Rattle.std.proofs.Common.{◌≡◌, ◌∙◌, ◌+◌, ◌-◌, ◌*◌, ◌≤◌, ◌<◌, ◌⊎◌, ℕ, suc, Bool, true, false, if◌then◌else◌, min, List, [], ◌∷◌, ◌++◌, length, pos, Option, Some, None, add-one, ap, ap₂, refl, sym, subst, inl, inr, arith}
+use Rattle.std.proofs.Common.{◌≡◌, ◌∙◌, ◌+◌, ◌-◌, ◌*◌, ◌≤◌, ◌<◌, ◌⊎◌, ℕ, suc, Bool, true, false, if◌then◌else◌, min, List, [], ◌∷◌, ◌++◌, length, pos, Option, Some, None, Ok, Err, add-one, ap, ap₂, refl, sym, subst, inl, inr, arith}
 use Rattle.std.specs.List.{Contains}
 use Rattle.std.proofs.Math.Nat.{mul-le-mul_right}
 use Rattle.std.proofs.lemmas.Bool.{eqb-true}
@@ -30,7 +30,7 @@ use Rattle.nb_map.specs.Maps.{HasWorked, IsMine, MapOf, SeatOf, accounted}
 use Rattle.nb_map.specs.Refusing.{IsJust, put_steps}
 use Rattle.nb_map.specs.Searching.{slots_below}
 use Rattle.nb_map.specs.Trying.{HasGivenUp, IsWaitFree, change_to, exchange_call, want_of}
-use Rattle.nb_map.specs.Updating.{HasNotUpdated, HasTried, HasUpdated, Lost, Read, asked_in, update_steps}
+use Rattle.nb_map.specs.Updating.{HasTried, IsUpdate, Lost, Read, asked_for, update_steps}
 use Rattle.nb_map.specs.Writing.{passed_since}
 use Rattle.nb_map.specs.declared.write.PutFault.{PutFault}
 use Rattle.nb_map.specs.declared.write.PutFault.TheVariants as fault
@@ -142,7 +142,7 @@ module _ {F : Type 0} (m : MapOf) (Step : F → Option ℕ → Option ℕ → F 
     pub tried : HasTried Step k first calls found function
     pub lost : length calls ≡ suc rounds
     pub call : Call
-    pub asked : Contains (asked_in calls) call
+    pub asked : Contains (asked_for None calls) call
     pub key : key_of_call call ≡ k
     pub made : HasMade p call before.chain now.chain calls (get_steps p + rounds * put_steps p tries)
     pub count : now.count ≡ before.count
@@ -176,27 +176,24 @@ module _ {F : Type 0} {m : MapOf} {Step : F → Option ℕ → Option ℕ → F 
     shape = m.chain.shape
 
     -- it has lost as many as it has tries
-    pub come-all :
-        rounds ≡ tries → HasNotUpdated m Step first k before now tries fault.Contended
+    pub come-all : rounds ≡ tries → IsUpdate m Step first k before now tries (Err fault.Contended)
     come-all all = record {
       calls = come.calls;
       found = found;
       function = f;
       tried = come.tried;
-      logged = logged mine come.made;
-      refused = None;
-      just = (refl, come.lost ∙ ap suc all, passed);
+      last = None;
+      computed = tt;
+      ended = (logged mine come.made, refl, come.lost ∙ ap suc all, passed);
+      call = come.call;
+      asked = come.asked;
       worked = record {
-        call = come.call;
-        asked = come.asked;
-        worked = record {
-          steps = (
-            come.calls,
-            made-within _ _ (within (get_steps shape) (put_steps shape tries) rounds all) come.made,
-          );
-          net = pos 0;
-          count = come.count ∙ sym (counted-none before.count);
-        };
+        steps = (
+          come.calls,
+          made-within _ _ (within (get_steps shape) (put_steps shape tries) rounds all) come.made,
+        );
+        net = pos 0;
+        count = come.count ∙ sym (counted-none before.count);
       };
     }
       where
@@ -243,11 +240,11 @@ module _ {F : Type 0} {m : MapOf} {Step : F → Option ℕ → Option ℕ → F 
             (made-logged worked.steps.1 logged)))
 
         -- it is among the calls
-        chosen-asked : Contains (call ∷ asked_in come.calls) chosen.0
+        chosen-asked : Contains (asked_for (Some call) come.calls) chosen.0
         chosen-asked = elim chosen.1.is [
-          | inl is ↦ subst (Contains (call ∷ asked_in come.calls)) (sym is)
-              (Contains-append_right (call ∷ []) (asked_in come.calls) come.call come.asked)
-          | inr is ↦ subst (Contains (call ∷ asked_in come.calls)) (sym is) (0, omega arith, refl)
+          | inl is ↦ subst (Contains (asked_for (Some call) come.calls)) (sym is)
+              (Contains-append_right (call ∷ []) (asked_for None come.calls) come.call come.asked)
+          | inr is ↦ subst (Contains (asked_for (Some call) come.calls)) (sym is) (0, omega arith, refl)
         ]
 
         -- the counter, where the exchange did nothing to the number of keys
@@ -292,27 +289,23 @@ module _ {F : Type 0} {m : MapOf} {Step : F → Option ℕ → Option ℕ → F 
         -- it found what it was to
         pub come-end :
             (reply : Reply) → rounds < tries → HasReplied call now after reply → reply.matched ≡ true
-            → HasUpdated m Step first k before after tries reply.before
-        come-end reply less replied matched =
-            subst (HasUpdated m Step first k before after tries) (sym there) (record {
-              calls = come.calls;
-              function = f;
-              tried = come.tried;
-              fewer = omega (arith, come.lost, less);
-              new = new;
-              left = g;
-              made = step;
-              logged = logged mine (both is-replied);
-              worked = record {
-                call = chosen.0;
-                asked = chosen-asked;
-                worked = record {
-                  steps = (_, made-within _ _ (all-steps less) (both is-replied));
-                  net = worked.net;
-                  count = worked.count ∙ ap (accounted worked.net) come.count;
-                };
-              };
-            })
+            → IsUpdate m Step first k before after tries (Ok reply.before)
+        come-end reply less replied matched = record {
+          calls = come.calls;
+          found = found;
+          function = f;
+          tried = come.tried;
+          last = Some call;
+          computed = (new, g, step, refl);
+          ended = (there, omega (arith, come.lost, less), logged mine (both is-replied));
+          call = chosen.0;
+          asked = chosen-asked;
+          worked = record {
+            steps = (_, made-within _ _ (all-steps less) (both is-replied));
+            net = worked.net;
+            count = worked.count ∙ ap (accounted worked.net) come.count;
+          };
+        }
           where
             at : (was found : Option ℕ) → holds_of (want_of was) found ≡ true → found ≡ was
             at None None holds = refl
@@ -335,23 +328,21 @@ module _ {F : Type 0} {m : MapOf} {Step : F → Option ℕ → Option ℕ → F 
         -- it was refused
         pub come-refused :
             (refusal : PutFault) → rounds < tries → HasGivenUp m call now after tries refusal
-            → HasNotUpdated m Step first k before after tries refusal
+            → IsUpdate m Step first k before after tries (Err refusal)
         come-refused refusal less given = record {
           calls = come.calls;
           found = found;
           function = f;
           tried = come.tried;
-          logged = logged mine (both given.0);
-          refused = Some call;
-          just = (new, g, step, refl, longer refusal given.1);
+          last = Some call;
+          computed = (new, g, step, refl);
+          ended = (logged mine (both given.0), longer refusal given.1);
+          call = chosen.0;
+          asked = chosen-asked;
           worked = record {
-            call = chosen.0;
-            asked = chosen-asked;
-            worked = record {
-              steps = (_, made-within _ _ (all-steps less) (both given.0));
-              net = pos 0;
-              count = still given.0 refl ∙ sym (counted-none before.count);
-            };
+            steps = (_, made-within _ _ (all-steps less) (both given.0));
+            net = pos 0;
+            count = still given.0 refl ∙ sym (counted-none before.count);
           };
         }
           where

@@ -1,10 +1,9 @@
 -- Updates of what is at a key by a function.
-use Rattle.std.specs.Prelude.{◌≡◌, ℕ, suc, ◌+◌, ◌*◌, ◌≤◌, true, false, List, [], ◌∷◌, Option, Some, None, length, map, Contains, IfOk, IfErr, Result}
+use Rattle.std.specs.Prelude.{◌≡◌, ℕ, suc, ◌+◌, ◌*◌, ◌≤◌, true, false, List, [], ◌∷◌, Option, Some, None, length, map, Contains, IfOk, IfErr, IfSome, Result, Ok, Err}
 use Rattle.nb_core.specs.Plans.{Plan}
 use Rattle.nb_core.specs.declared.calls.Call.{Call}
 use Rattle.nb_core.specs.declared.calls.Call.TheVariants.{Get}
 use Rattle.nb_core.specs.declared.calls.Reply.{Reply}
-use Rattle.nb_table.specs.Chains.{SeenBy}
 use Rattle.nb_map.specs.Logs.{HasLogged, HasReplied}
 use Rattle.nb_map.specs.Looking.{get_steps}
 use Rattle.nb_map.specs.Maps.{HasWorked, MapOf, SeatOf}
@@ -29,72 +28,57 @@ pub data HasTried {F : Type 0} (Step : F → Option ℕ → Option ℕ → F →
       → (new : Option ℕ) (g : F) (reply : Reply) → Step f was new g → reply.matched ≡ false
       → HasTried Step k first ((exchange_call k was new, reply) ∷ calls) reply.before g
 
--- The calls that were made.
-abbrev pub asked_in : List (Call × Reply) → List Call
-asked_in made = map (λ call. call.0) made
+-- an exchange of what was found for what the function makes of it, in one call of the function
+abbrev pub IsComputed :
+    {F : Type 0} → (F → Option ℕ → Option ℕ → F → Type 0) → (k : ℕ) → (found : Option ℕ)
+    → (function : F) → Call → Type 0
+IsComputed {F} Step k found function call =
+    (new : Option ℕ) × (left : F) × Step function found new left
+    × (call ≡ exchange_call k found new)
 
--- All that the seat's steps did is what one call of these may do, and took no more steps.
-pub record HasWorkedAsOne (m : MapOf) (calls : List Call) (before after : SeatOf) (most : ℕ) :
-    Type 0 where
-  pub call : Call
-  pub asked : Contains calls call
-  pub worked : HasWorked m call before after most
+-- How an update ends after these calls, the last of which found this. Its last exchange is won, and
+-- it has lost fewer than it has tries. Or that exchange is refused for a just reason, and the map is
+-- as it was. Or there is no further one: it has lost as many as it has tries, and others have won as
+-- many exchanges on the key.
+abbrev pub IsEnd :
+    (m : MapOf) → (k : ℕ) → (before after : SeatOf) → (tries : ℕ) → (calls : List (Call × Reply))
+    → (found : Option ℕ) → (last : Option Call) → Result (Option ℕ) PutFault → Type 0
+IsEnd m k before after tries calls found (Some call) (Ok was) =
+    (was ≡ found) × (length calls ≤ tries)
+    × HasLogged before after ((call, record { before = found; matched = true }) ∷ calls)
+IsEnd m k before after tries calls found (Some call) (Err refusal) =
+    HasLogged before after calls
+    × IsJust m.chain.shape call before.chain after.chain tries refusal
+IsEnd m k before after tries calls found None (Ok was) = ⊥
+IsEnd m k before after tries calls found None (Err refusal) =
+    HasLogged before after calls × (refusal ≡ fault.Contended) × (length calls ≡ suc tries)
+    × (tries ≤ passed_since (Get k) before.chain after.chain)
+
+-- the calls that were asked for: these, and the last exchange
+abbrev pub asked_for : Option Call → List (Call × Reply) → List Call
+asked_for None calls = map (λ made. made.0) calls
+asked_for (Some call) calls = call ∷ map (λ made. made.0) calls
 
 -- the most steps of an update: a read, and so many exchanges with so many tries
 abbrev pub update_steps : Plan → (tries : ℕ) → ℕ
 update_steps p tries = get_steps p + tries * put_steps p tries
 
--- The update has set the key from what was there to what the function made of that. It has read the
--- key and lost fewer exchanges than it has tries; what the last of these calls found is what was
--- there; and the function was called once more.
-pub record HasUpdated {F : Type 0} (m : MapOf) (Step : F → Option ℕ → Option ℕ → F → Type 0) (f : F)
-    (k : ℕ) (before after : SeatOf) (tries : ℕ) (was : Option ℕ) : Type 0 where
-  pub calls : List (Call × Reply)
-  pub function : F
-  pub tried : HasTried Step k f calls was function
-  pub fewer : length calls ≤ tries
-  pub new : Option ℕ
-  pub left : F
-  pub made : Step function was new left
-  pub logged : HasLogged before after
-      ((exchange_call k was new, record { before = was; matched = true }) ∷ calls)
-  pub worked : HasWorkedAsOne m (exchange_call k was new ∷ asked_in calls) before after
-      (update_steps m.chain.shape tries)
-
--- Why an update ended that found this at the key last. The next exchange, of that for what the
--- function made of it, was refused, and justly. Or there was no next one: it has lost as many as it
--- has tries, and as many exchanges on the key were won by others.
-abbrev pub IsJustEnd :
-    {F : Type 0} → Plan → (F → Option ℕ → Option ℕ → F → Type 0) → (k : ℕ)
-    → (before after : SeenBy) → (tries : ℕ) → (calls : List (Call × Reply)) → (found : Option ℕ)
-    → (function : F) → (refused : Option Call) → PutFault → Type 0
-IsJustEnd {F} p Step k before after tries calls found function (Some call) refusal =
-    (new : Option ℕ) × (left : F) × Step function found new left
-    × (call ≡ exchange_call k found new)
-    × IsJust p call before after tries refusal
-IsJustEnd p Step k before after tries calls found function None refusal =
-    (refusal ≡ fault.Contended) × (length calls ≡ suc tries)
-    × (tries ≤ passed_since (Get k) before after)
-
--- the refused call before the others, if there was one
-abbrev pub with_refused : Option Call → List Call → List Call
-with_refused None calls = calls
-with_refused (Some call) calls = call ∷ calls
-
--- The update has left the map as it was. It has read the key, and lost some exchanges, if any; and
--- then it ended for a just reason.
-pub record HasNotUpdated {F : Type 0} (m : MapOf) (Step : F → Option ℕ → Option ℕ → F → Type 0)
-    (f : F) (k : ℕ) (before after : SeatOf) (tries : ℕ) (refusal : PutFault) : Type 0 where
+-- An update with so many tries has come to this.
+pub record IsUpdate {F : Type 0} (m : MapOf) (Step : F → Option ℕ → Option ℕ → F → Type 0) (f : F)
+    (k : ℕ) (before after : SeatOf) (tries : ℕ) (result : Result (Option ℕ) PutFault) : Type 0 where
+  -- it has read the key and lost some exchanges, if any
   pub calls : List (Call × Reply)
   pub found : Option ℕ
   pub function : F
   pub tried : HasTried Step k f calls found function
-  pub logged : HasLogged before after calls
-  pub refused : Option Call
-  pub just : IsJustEnd m.chain.shape Step k before.chain after.chain tries calls found function
-      refused refusal
-  pub worked : HasWorkedAsOne m (with_refused refused (asked_in calls)) before after
-      (update_steps m.chain.shape tries)
+  -- then it has made one more exchange, or none
+  pub last : Option Call
+  pub computed : IfSome last (IsComputed Step k found function)
+  pub ended : IsEnd m k before after tries calls found last result
+  -- all that its steps did one of these calls may do
+  pub call : Call
+  pub asked : Contains (asked_for last calls) call
+  pub worked : HasWorked m call before after (update_steps m.chain.shape tries)
 
 -- ---- one exchange
 

@@ -10,7 +10,7 @@ ghost use Rattle.nb_map.specs.Logs.{HasFound, HasReplied};
 ghost use Rattle.nb_map.specs.Looking.{IsSeenAtHome, get_steps};
 ghost use Rattle.nb_map.specs.Maps.{HasWorked};
 ghost use Rattle.nb_map.specs.Trying.{HasGivenUp, IsWaitFree, exchange_call};
-ghost use Rattle.nb_map.specs.Updating.{HasNotUpdated, HasUpdated};
+ghost use Rattle.nb_map.specs.Updating.{IsUpdate};
 ghost use Rattle.nb_map.specs.Writing.{IsShortAtHome};
 
 use crate::handle::Handle;
@@ -137,10 +137,8 @@ impl Handle {
         new_of: F,
     ) -> Result<Option<Num>, PutFault>
         requires callable { F.IsAlwaysCallable new_of }
-        ensures updated { IfOk result (HasUpdated self.old.map F.step new_of key
-            self.old.seat self.new.seat (max tries 1)) }
-        ensures refused { IfErr result (HasNotUpdated self.old.map F.step new_of key
-            self.old.seat self.new.seat (max tries 1)) }
+        ensures updated { IsUpdate self.old.map F.step new_of key self.old.seat self.new.seat
+            (max tries 1) result }
         ensures map { IsSameMap self.old self.new }
     {
         self.map.update(&mut self.seat, key, tries.max(1), new_of)

@@ -1,12 +1,12 @@
 //! Calls that compute with what is at a key. They wait for nobody.
-ghost use Rattle.std.specs.Prelude.{◌≡◌, ℕ, ◌+◌, ◌≤◌, IfOk, IfErr, Option, unwrap_or};
+ghost use Rattle.std.specs.Prelude.{◌≡◌, ℕ, ◌+◌, ◌≤◌, Option, unwrap_or};
 ghost use Rattle.nb_core.specs.Log.{reply_at};
 ghost use Rattle.nb_core.specs.declared.calls.Call.TheVariants as call;
 ghost use Rattle.nb_map.specs.Logs.{HasReplied};
 ghost use Rattle.nb_map.specs.Looking.{IsSeenAtHome, get_steps};
 ghost use Rattle.nb_map.specs.Maps.{HasWorked, IsMine};
 ghost use Rattle.nb_map.specs.Trying.{exchange_call};
-ghost use Rattle.nb_map.specs.Updating.{HasExchanged, HasNotUpdated, HasUpdated};
+ghost use Rattle.nb_map.specs.Updating.{HasExchanged, IsUpdate};
 
 use crate::map::{Map, Seat};
 use crate::write::PutFault;
@@ -43,10 +43,7 @@ impl Map {
         requires own { IsMine self.now seat.old }
         requires some { 1 ≤ tries }
         requires callable { F.IsAlwaysCallable new_of }
-        ensures updated { IfOk result (HasUpdated self.now F.step new_of key
-            seat.old seat.new tries) }
-        ensures refused { IfErr result (HasNotUpdated self.now F.step new_of key
-            seat.old seat.new tries) }
+        ensures updated { IsUpdate self.now F.step new_of key seat.old seat.new tries result }
         ensures own { IsMine self.now seat.new }
     {
         let mut found = self.get(seat, key);

@@ -10,8 +10,8 @@ loop-lost-init g c = (
       c.get-found.ensures.replied c.get-found.ensures.worked,
 )
 
-pub returns-in_err-reply-clause-refused : goal.returns-in_err-reply-clause-refused
-returns-in_err-reply-clause-refused g c =
+pub returns-in_err-reply-clause-updated : goal.returns-in_err-reply-clause-updated
+returns-in_err-reply-clause-updated g c =
     let p = err_from_is_err_and c.from_residual.result c.from_residual.ensures.1 in
     let exchanged = c.in_err-reply.ensures.exchanged in
     rw (p.1, p.2)
@@ -35,7 +35,7 @@ loop-lost-preserved g c =
           c.if-reply.false,
     )
 
-pub returns-clause-refused : goal.returns-clause-refused
-returns-clause-refused g c =
+pub returns-clause-updated : goal.returns-clause-updated
+returns-clause-updated g c =
     come-all c.requires.own c.loop-lost.invariant.1
     (omega (arith, c.loop-lost-test.false, c.loop-lost.auto._lost-end))
