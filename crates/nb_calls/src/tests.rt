@@ -5,5 +5,6 @@ mod seats;
 mod stress;
 mod tallies;
 mod trying;
+mod updating;
 mod visits;
 mod walks;

@@ -336,7 +336,11 @@ module _ {F : Type 0} {m : MapOf} {Step : F → Option ℕ → Option ℕ → F 
           tried = come.tried;
           last = Some call;
           computed = (new, g, step, refl);
-          ended = (logged mine (both given.0), longer refusal given.1);
+          ended = (
+            omega (arith, come.lost, less),
+            logged mine (both given.0),
+            longer refusal given.1,
+          );
           call = chosen.0;
           asked = chosen-asked;
           worked = record {

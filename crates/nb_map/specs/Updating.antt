@@ -36,10 +36,10 @@ IsComputed {F} Step k found function call =
     (new : Option ℕ) × (left : F) × Step function found new left
     × (call ≡ exchange_call k found new)
 
--- How an update ends after these calls, the last of which found this. Its last exchange is won, and
--- it has lost fewer than it has tries. Or that exchange is refused for a just reason, and the map is
--- as it was. Or there is no further one: it has lost as many as it has tries, and others have won as
--- many exchanges on the key.
+-- How an update ends after these calls, the last of which found this. It has lost fewer exchanges
+-- than it has tries, and makes one more. That is won; or it is refused for a just reason, and the map
+-- is as it was. Or there is no further one: it has lost as many as it has tries, and others have won
+-- as many exchanges on the key.
 abbrev pub IsEnd :
     (m : MapOf) → (k : ℕ) → (before after : SeatOf) → (tries : ℕ) → (calls : List (Call × Reply))
     → (found : Option ℕ) → (last : Option Call) → Result (Option ℕ) PutFault → Type 0
@@ -47,7 +47,7 @@ IsEnd m k before after tries calls found (Some call) (Ok was) =
     (was ≡ found) × (length calls ≤ tries)
     × HasLogged before after ((call, record { before = found; matched = true }) ∷ calls)
 IsEnd m k before after tries calls found (Some call) (Err refusal) =
-    HasLogged before after calls
+    (length calls ≤ tries) × HasLogged before after calls
     × IsJust m.chain.shape call before.chain after.chain tries refusal
 IsEnd m k before after tries calls found None (Ok was) = ⊥
 IsEnd m k before after tries calls found None (Err refusal) =

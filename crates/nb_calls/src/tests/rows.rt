@@ -102,7 +102,7 @@ pub(super) fn replied(answer: Result<Reply, PutFault>) -> Answer {
 }
 
 /// A number plus one, and 1 where there is none.
-fn one_more(number: Option<Num>) -> Option<Num> {
+pub(super) fn one_more(number: Option<Num>) -> Option<Num> {
     match number {
         Some(number) => Num::new(number.get().saturating_add(1)).ok(),
         None => Num::new(1).ok(),

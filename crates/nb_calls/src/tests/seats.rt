@@ -4,7 +4,7 @@ ghost use Rattle.std.specs.Prelude.{◌≡◌, IfOk};
 ghost use Rattle.nb_map.specs.Maps.{AreMine, IsMine};
 ghost use Rattle.nb_map.specs.Walks.{IsWalkOf};
 
-use super::rows::{has_just, key, number};
+use super::rows::{has_just, key, number, one_more};
 use nb_core::{NotAll, OutOfMemory, Shape};
 use nb_map::{Ended, Map, Seat, Walk};
 use std::process::Abort;
@@ -119,6 +119,19 @@ fn walks_again<R: Abort>(rt: &R, map: &Map, seat: &mut Seat)
     has_ended(rt, map, seat, &mut again);
 }
 
+/// A walk's own seat updates a key while the walk is at work, which shows what it has put.
+fn updates_amid<R: Abort>(rt: &R, map: &Map, seat: &mut Seat)
+    requires { IsMine map.now seat.old }
+    ensures { IsMine map.now seat.new }
+{
+    let mut walk = map.walk(seat);
+    let answer = map.update(seat, key(rt, 1), 1, one_more);
+    assert_eq!(rt; answer, Ok(Some(number(rt, 11))));
+    let shown = map.next_key(seat, &mut walk);
+    assert_eq!(rt; shown, Some((key(rt, 1), number(rt, 12))));
+    has_ended(rt, map, seat, &mut walk);
+}
+
 /// A walk that has ended shows nothing that comes later, also where its own seat puts it. A new one
 /// does.
 #[test]
@@ -127,6 +140,7 @@ fn ended_walk(rt: HostRuntime) -> Result<(), Fail> {
     let mut seat = taken(&rt, &map, &mut seats);
     puts_behind(&rt, &map, &mut seat);
     walks_again(&rt, &map, &mut seat);
+    updates_amid(&rt, &map, &mut seat);
     gives_back(&map, &mut seats, seat)?;
-    has_just(&rt, rt.alloc(), &ended(&rt, map, seats), &[(1, 11)])
+    has_just(&rt, rt.alloc(), &ended(&rt, map, seats), &[(1, 12)])
 }

@@ -1,0 +1,101 @@
+//! Updates beside other handles that write their key, and functions that work with a handle.
+ghost use Rattle.nb_map.specs.Handles.{AreOfOneMap, IsSameMap};
+
+use super::rows::{ended, key, number, one_more, two, two_leave};
+use nb_core::{Key, Num, Shape};
+use nb_map::{Handle, PutFault};
+use std::process::Abort;
+use std::sync::Wait;
+use std::test::Fail;
+use std::thread;
+use std::thread::Threads;
+
+/// Another handle's updates come between the read and the exchange, and after the first exchange.
+/// Each is taken up, in one more call of the function.
+#[test]
+fn update_takes_up_what_came(rt: HostRuntime) -> Result<(), Fail> {
+    let (mut a, mut b) = two(&rt, Handle::open(rt.alloc(), Shape::new(2, 2, 2, 2)?)?);
+    let at = key(&rt, 5);
+    let mut calls = 0u64;
+    let before = a.update(at, 3, |was| {
+        calls = calls.wrapping_add(1);
+        if calls < 3 {
+            let _ = b.update(at, 1, one_more);
+        }
+        one_more(was)
+    });
+    assert_eq!(rt; before, Ok(Some(number(&rt, 2))));
+    assert_eq!(rt; calls, 3);
+    assert_eq!(rt; a.get(at), Some(number(&rt, 3)));
+    Ok(())
+}
+
+/// As many exchanges as there are tries come too late, and none is made after them.
+#[test]
+fn update_is_contended(rt: HostRuntime) -> Result<(), Fail> {
+    let (mut a, mut b) = two(&rt, Handle::open(rt.alloc(), Shape::new(2, 2, 2, 2)?)?);
+    let at = key(&rt, 5);
+    let before = a.update(at, 2, |was| {
+        let _ = b.update(at, 1, one_more);
+        one_more(was)
+    });
+    assert_eq!(rt; before, Err(PutFault::Contended));
+    assert_eq!(rt; a.get(at), Some(number(&rt, 2)));
+    Ok(())
+}
+
+/// Updates the key's number again and again. An update is contended only where others won as many
+/// exchanges on the key as it has tries, and they win fewer in all.
+fn updates_often<R: Abort>(rt: &R, handle: &mut Handle, at: Key)
+    ensures { IsSameMap handle.old handle.new }
+{
+    for _round in 0..2000 {
+        let before = handle.update(at, 8000, one_more);
+        assert!(rt; before.is_ok());
+    }
+}
+
+/// Each handle updates the key in a thread of its own.
+fn all_update<R: Threads + Sync + Abort>(rt: &R, handles: &mut [Handle], at: Key)
+    requires { AreOfOneMap handles.old }
+    ensures { AreOfOneMap handles.new }
+{
+    thread::for_each_mut(
+        rt,
+        handles,
+        4,
+        &|_thread: usize, handle: &mut Handle|
+            ensures { IsSameMap handle.entry.now handle.exit.now }
+        { updates_often(rt, handle, at) },
+    );
+}
+
+/// Four threads update one key: none of their updates is lost.
+#[test]
+fn updates_add_up(rt: HostRuntime) -> Result<(), Fail> {
+    let at = key(&rt, 5);
+    let mut handles = Handle::open(rt.alloc(), Shape::new(2, 2, 4, 1)?)?;
+    all_update(&rt, handles.as_mut_slice(), at);
+    let ended = ended(&rt, handles);
+    assert_eq!(rt; ended.size(), 1);
+    assert_eq!(rt; ended.get(at), Some(number(&rt, 8000)));
+    Ok(())
+}
+
+/// Adds to the numbers of two keys.
+fn add_to_both<R: Wait>(rt: &R, handle: &mut Handle, one: Key, other: Key, number: Num)
+    ensures { IsSameMap handle.old handle.new }
+{
+    let _ = handle.add(rt, one, number);
+    let _ = handle.add(rt, other, number);
+}
+
+/// Handles that a function has worked with meet, and end their map.
+#[test]
+fn functions_work_with_handles(rt: HostRuntime) -> Result<(), Fail> {
+    let (mut a, mut b) = two(&rt, Handle::open(rt.alloc(), Shape::new(2, 2, 2, 2)?)?);
+    add_to_both(&rt, &mut a, key(&rt, 1), key(&rt, 2), number(&rt, 10));
+    add_to_both(&rt, &mut b, key(&rt, 2), key(&rt, 3), number(&rt, 20));
+    a.meet(&mut b);
+    two_leave(&rt, rt.alloc(), a, b, &[(1, 10), (2, 30), (3, 20)])
+}
