@@ -29,7 +29,7 @@ table_steps p g = size_of p g * (2 * slot_steps p g + 3) + 1
 abbrev pub IsRaised : Plan → ℕ → SeenBy → Type 0
 IsRaised p g seat = (seen_by p seat).counted g ≡ size_of p g → g < (seen_by p seat).top
 
--- the adds by which a seat counted slots of a table: how many each of them counted, the newest first
+-- the adds by which a seat counted slots of a table: how many each counted, the newest first
 abbrev pub adds_of : List Event → (s g : ℕ) → List ℕ
 adds_of [] s g = []
 adds_of (Count s' g' c ∷ h) s g =
@@ -42,7 +42,7 @@ IsHanded p g start i = (start ≤ i) × (i < start + chunk_of p g) × (i < size_
 
 -- The seat asked for one chunk, and was handed the one from where the table's take word stood: all
 -- slots of it are finished. Its steps turned so many slots finished, all of them in this chunk, and
--- it counted just these, in one add; where it turned none, it made no add. Where no slot was left to
+-- it counted just these, in one add; where it turned none, in no add. Where no slot was left to
 -- hand out, it made one step and turned none.
 pub record HasHelped (p : Plan) (g : ℕ) (before after : SeenBy) (turned : ℕ) : Type 0 where
   pub slots : List ℕ

@@ -122,8 +122,8 @@ fn copy_slots(chain: &Chain, seat: &mut ChainSeat, g: u32, from: usize, to: usiz
     turned
 }
 
-/// Counts slots of table `g` that the seat's own steps turned and that it hasn't counted yet, in one
-/// add. If that brings the count to the size, it raises the top word.
+/// Counts slots of table `g` that the seat's own steps turned and that it hasn't counted yet, in
+/// one add. If that brings the count to the size, it raises the top word.
 fn count(chain: &Chain, seat: &mut ChainSeat, g: u32, slots: usize)
     requires own { IsOwn chain.now seat.old }
     requires table { g < generations_of chain.now.shape }

@@ -26,7 +26,7 @@ pub record IsReached (p : Plan) (t : Tables) (g k : ℕ) : Type 0 where
   pub installed : IsInstalled t g
   pub below : (f : ℕ) → f < g → IsPassed p t f k
 
--- The table is known to be complete: each of its slots is finished, or as many were counted as it
--- has, which says the same (law `counted`).
+-- The table is known to be complete: by its slots, each of which is finished, or by its count,
+-- which is at its size (law `counted`).
 abbrev pub IsKnownComplete : Plan → Tables → ℕ → Type 0
 IsKnownComplete p t g = IsComplete p t g ⊎ (t.counted g ≡ size_of p g)

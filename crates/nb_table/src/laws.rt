@@ -16,8 +16,8 @@ pub fn words_stand()
     ensures { WordsStand }
 {}
 
-/// At each moment each key word and value word stands for a state, and there are no other words than
-/// the shape has.
+/// At each moment there are as many words as the shape has, and each key word and value word stands
+/// for a state.
 pub fn words_are_lawful()
     ensures { WordsAreLawful }
 {}

@@ -70,7 +70,8 @@ returns-then-turned-gt0 c =
           (All-weaker _ _ (below-handed p g start ends) work.0 work.2)
           (counted-adds c.copy_slots-turned.result c.if-turned-gt0.true
           (ap (λ n. adds_of c.count.new.seat.seen n g) (sym same) ∙ c.count.ensures.once
-          ∙ ap (λ n. c.copy_slots-turned.result ∷ adds_of c.copy_slots-turned.new.seat.seen n g) same)
+          ∙ ap (λ n. c.copy_slots-turned.result
+          ∷ adds_of c.copy_slots-turned.new.seat.seen n g) same)
           (copied-adds c.args.seat.now.number take.grows.number work.3))
           (λ past. absurd (omega (arith, past, size, c.if-start-size.false)))
           (λ some. c.count.ensures.raised);
