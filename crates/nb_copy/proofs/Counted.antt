@@ -6,7 +6,7 @@ use Rattle.std.specs.List.{All}
 use Rattle.std.proofs.lemmas.List.{length-append}
 use Rattle.std.proofs.lemmas.List.Elements.{All-append, All-cons, All-nil, All-weaker}
 use Rattle.nb_core.specs.Plans.{Plan, generations_of, size_of}
-use Rattle.nb_core.specs.Tables.{IsComplete, IsFinished}
+use Rattle.nb_core.specs.Tables.{IsFinished}
 use Rattle.nb_core.specs.History.{counted_by, slots_turned, turned_by}
 use Rattle.nb_core.specs.declared.events.Event.TheVariants.{Count, Promote, Take}
 use Rattle.nb_table.specs.Chains.{ChainOf, Extended, IsOwn, SeenBy, seen_by}
@@ -53,14 +53,6 @@ may-count chain {before} {after} {slots} own g table copied =
     fits : (now turned_now was turned_was new : ℕ) → turned_now ≡ new + turned_was → now ≡ was + 0
         → was ≤ turned_was → now + new ≤ turned_now
     fits now turned_now was turned_was new is is' below = omega (arith, is, is', below)
-
--- where the count has come to the size, all slots are finished
-pub all-counted :
-    (chain : ChainOf) (seat : SeenBy) → IsOwn chain seat → (g : ℕ)
-    → g < generations_of chain.shape → (seen_by chain.shape seat).counted g ≡ size_of chain.shape g
-    → IsComplete chain.shape (seen_by chain.shape seat) g
-all-counted chain seat own g table =
-    (counted chain.shape own.plan seat.seen own.legal g table).whole
 
 -- ---- steps
 

@@ -1,9 +1,10 @@
 -- How a chunk is taken, copied and counted.
-use Rattle.std.proofs.Common.{◌≡◌, ◌∙◌, ℕ, ◌+◌, ◌-◌, ◌*◌, ◌/◌, ◌≤◌, ◌<◌, min, List, [], ◌∷◌, ◌++◌, drop, length, ap, sym, subst, subst₂, arith}
+use Rattle.std.proofs.Common.{◌≡◌, ◌∙◌, ℕ, ◌+◌, ◌-◌, ◌*◌, ◌/◌, ◌≤◌, ◌<◌, ◌==◌, cond, min, List, [], ◌∷◌, ◌++◌, drop, length, ap, sym, subst, subst₂, refl, arith}
 use Rattle.std.specs.List.{All}
 use Rattle.std.proofs.Math.Nat.{div-mul-le_self, le-min, le_trans, min-le_left, min-le_right, mul-le-mul_left, mul-le-mul_right}
 use Rattle.std.proofs.Math.Pow.{pow_mono}
 use Rattle.std.proofs.lemmas.List.Elements.{All-get_or}
+use Rattle.std.proofs.lemmas.Bool.{ne_eqb}
 use Rattle.std.proofs.lemmas.List.{append-nil}
 use Rattle.nb_core.specs.Plans.{IsPlan, Plan, generations_of, size_of}
 use Rattle.nb_core.specs.Tables.{IsFinished, chunk_of, tables_at}
@@ -11,13 +12,26 @@ use Rattle.nb_core.specs.declared.events.Event.TheVariants.{Take}
 use Rattle.nb_table.specs.Chains.{ChainOf, Extended, IsOwn, SeenBy, seen_before, seen_by}
 use Rattle.nb_core.proofs.Theorems.{counted}
 use Rattle.nb_table.proofs.Theorems.{steps_add_up}
+use Rattle.nb_copy.proofs.Adding.{copied-adds}
 use Rattle.nb_copy.proofs.Copied.{copied-more, copied-own, copied-within}
 use Rattle.nb_copy.proofs.Counted.{copied-counting, copied-take}
 use Rattle.nb_copy.specs.Copying.{HasCopied}
-use Rattle.nb_copy.specs.Handing.{HasHelped, IsHanded, IsRaised, chunk_steps, slot_steps}
+use Rattle.nb_copy.specs.Handing.{HasHelped, IsHanded, IsRaised, adds_of, chunk_steps, slot_steps}
+
+-- one add of so many slots, or none where there are none
+abbrev pub one_add : ℕ → List ℕ
+one_add n = cond (n == 0) [] (n ∷ [])
 
 none : (n : ℕ) → 0 + n ≡ n
 none n = omega arith
+
+-- an add after copying that made none
+pub counted-adds :
+    (n : ℕ) {adds so_far before : List ℕ} → 0 < n → adds ≡ n ∷ so_far → so_far ≡ before
+    → adds ≡ one_add n ++ before
+counted-adds n {adds} {so_far} {before} some is same =
+    is ∙ ap (λ rest. n ∷ rest) same
+    ∙ ap (λ b. cond b [] (n ∷ []) ++ before) (sym (ne_eqb n 0 (λ zero. omega (arith, zero, some))))
 
 -- the slots of a chunk are those up to its end, which is the table's end at most
 module _ (p : Plan) (g start : ℕ) {end : ℕ} (ends : end ≡ min (size_of p g) (start + chunk_of p g))
@@ -94,11 +108,12 @@ module _ (chain : ChainOf) (g : ℕ) (table : g < generations_of chain.shape) wh
       → length slots ≡ adding
       → ((i : ℕ) → IsHanded p g start i → IsFinished (seen_by p after) g i)
       → All (IsHanded p g start) slots
+      → adds_of after.seen before.number g ≡ one_add adding ++ adds_of then.seen before.number g
       → (size_of p g ≤ start → (adding ≡ 0) × (after.steps ≡ then.steps))
       → (1 ≤ adding → IsRaised p g after)
       → HasHelped p g before after adding
   helped {before} {then} {after} {slots} {adding} {most}
-      start own step found work few number finished handed idle raised =
+      start own step found work few number finished handed once idle raised =
       let take = copied-take p g before then step in
       let all = copied-more chain g table (steps_add_up.own own (steps_add_up.one step))
       take work in
@@ -115,6 +130,8 @@ module _ (chain : ChainOf) (g : ℕ) (table : g < generations_of chain.shape) wh
         stood = taken-at step found;
         finished = finished;
         handed = handed;
+        counted_once = once
+            ∙ ap (λ adds. one_add adding ++ adds) (copied-adds before.number refl take);
         idle = λ past. ((idle past).0, (idle past).1 ∙ step.steps);
         raised = raised;
       }

@@ -1,3 +1,4 @@
+mod Adding
 mod Copied
 mod SlotsFinished
 mod SlotsInNext

@@ -23,7 +23,7 @@ ghost use Rattle.nb_core.specs.Plans.{generations_of, size_of};
 ghost use Rattle.nb_core.specs.Tables.{IsFinished, IsInstalled, IsSlot, chunk_of};
 ghost use Rattle.nb_table.specs.Chains.{IsOwn, seen_by};
 ghost use Rattle.nb_copy.specs.Copying.{HasCopied};
-ghost use Rattle.nb_copy.specs.Handing.{HasCompleted, HasHelped, IsRaised, slot_steps};
+ghost use Rattle.nb_copy.specs.Handing.{HasCompleted, HasHelped, IsRaised, adds_of, slot_steps};
 
 use crate::slots::copy_slot;
 use nb_table::{Chain, ChainSeat};
@@ -122,8 +122,8 @@ fn copy_slots(chain: &Chain, seat: &mut ChainSeat, g: u32, from: usize, to: usiz
     turned
 }
 
-/// Counts slots of table `g` that the seat's own steps turned and that it hasn't counted yet. If
-/// that brings the count to the size, it raises the top word.
+/// Counts slots of table `g` that the seat's own steps turned and that it hasn't counted yet, in
+/// one add. If that brings the count to the size, it raises the top word.
 fn count(chain: &Chain, seat: &mut ChainSeat, g: u32, slots: usize)
     requires own { IsOwn chain.now seat.old }
     requires table { g < generations_of chain.now.shape }
@@ -131,6 +131,8 @@ fn count(chain: &Chain, seat: &mut ChainSeat, g: u32, slots: usize)
     requires turned { counted_by seat.old.seen seat.old.number g + slots
         ≤ turned_by chain.now.shape seat.old.seen seat.old.number g }
     ensures counted { HasCopied chain.now.shape g seat.old seat.new [] 0 slots 2 }
+    ensures once { adds_of seat.new.seen seat.old.number g
+        ≡ slots ∷ adds_of seat.old.seen seat.old.number g }
     ensures raised { IsRaised chain.now.shape g seat.new }
 {
     let before = chain.count_done(seat, g, slots as u64);

@@ -1,5 +1,5 @@
 -- The plan for a number of keys: its exponents, and which numbers are refused.
-use Rattle.std.proofs.Common.{◌≡◌, ◌∙◌, ℕ, zero, suc, ◌+◌, ◌*◌, ◌-◌, ◌^◌, ◌<◌, ◌≤◌, max, Bool, true, false, not, cond, leb, List, [], ◌∷◌, length, get_or, inl, inr, refl, Result, Ok, Err, add-one, ap, arith}
+use Rattle.std.proofs.Common.{◌≡◌, ◌∙◌, ℕ, zero, suc, ◌+◌, ◌*◌, ◌-◌, ◌^◌, ◌<◌, ◌≤◌, max, Bool, true, false, not, cond, leb, List, [], ◌∷◌, inl, inr, refl, Ok, Err, add-one, ap, arith}
 use lib.Count.{ones}
 use Rattle.std.specs.List.{All}
 use Rattle.std.proofs.Math.Nat.{le-max_left, le-max_right, pow-suc, sub-add-eq-max}

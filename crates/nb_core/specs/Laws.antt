@@ -5,7 +5,7 @@ use Rattle.std.specs.FinMap as map
 use Rattle.nb_core.specs.Calls.{leaves_alone}
 use Rattle.nb_core.specs.Plans.{Plan, IsPlan, generations_of, header_place, size_of, value_place, word_count}
 use Rattle.nb_core.specs.States.{IsKeyState, IsValueState, IsValueWord, primed, value_state, value_word}
-use Rattle.nb_core.specs.Tables.{AreOthers, HasContent, HasSlot, IsComplete, IsFinished, IsFinishedValue, IsInstalled, IsOnPath, IsPassed, IsPrimedOrFinished, IsReady, IsSettledBelow, IsSlot, IsUnprimed, Tables, finished_among, path_slot, tables_at, words_of}
+use Rattle.nb_core.specs.Tables.{AreOthers, HasContent, HasSlot, IsComplete, IsFinished, IsFinishedValue, IsInstalled, IsOnPath, IsPassed, IsPrimedOrFinished, IsReady, IsSettledBelow, IsSlot, IsUnprimed, Tables, finished_among, path_slot, tables_at, tables_of, words_of}
 use Rattle.nb_core.specs.History.{HasValue, IsLegal, MayWin, Replies, number_in_value, counted_by, key_of_call, map_of, seat_of_event, turned_by, turns_slot}
 use Rattle.nb_core.specs.Log.{Entry, IsReplayed, calls_of, log_of, map_of_log, reply_at}
 use Rattle.nb_core.specs.Meaning.{IsCrowded, Stands, net_of_seats, passed_over, place_of}
@@ -21,21 +21,21 @@ use Rattle.nb_core.specs.declared.states.ValueState.TheVariants.{Null, Tombstone
 -- ---- words
 
 -- There are as many words as the plan says. Each key word and value word stands for a state. A slot
--- without a key has the value null, and the last table's header words stay 0.
-pub record AreLawful (p : Plan) (h : List Event) : Type 0 where
-  pub length : length (words_of p h) ≡ word_count p
-  pub keys : (g i : ℕ) → IsSlot p g i → IsKeyState ((tables_at p h).key g i)
-  pub values : (g i : ℕ) → IsSlot p g i → IsValueWord
-      (slice_index (words_of p h) (value_place p g i))
-  pub empty_is_null : (g i : ℕ) → IsSlot p g i → (tables_at p h).key g i ≡ Empty
-      → (tables_at p h).value g i ≡ Null
-  pub dead_is_null : (g i : ℕ) → IsSlot p g i → (tables_at p h).key g i ≡ Dead
-      → (tables_at p h).value g i ≡ Null
-  pub last_headers : (n : ℕ) → n < 3 → slice_index (words_of p h)
+-- without a key has the value null, and the last table's header words are 0.
+pub record AreLawful (p : Plan) (words : List ℕ) : Type 0 where
+  pub length : length words ≡ word_count p
+  pub keys : (g i : ℕ) → IsSlot p g i → IsKeyState ((tables_of p words).key g i)
+  pub values : (g i : ℕ) → IsSlot p g i → IsValueWord (slice_index words (value_place p g i))
+  pub empty_is_null : (g i : ℕ) → IsSlot p g i → (tables_of p words).key g i ≡ Empty
+      → (tables_of p words).value g i ≡ Null
+  pub dead_is_null : (g i : ℕ) → IsSlot p g i → (tables_of p words).key g i ≡ Dead
+      → (tables_of p words).value g i ≡ Null
+  pub last_headers : (n : ℕ) → n < 3 → slice_index words
       (header_place p (generations_of p - 1) n) ≡ 0
 
 abbrev pub LawfulWords : Type 0
-LawfulWords = (p : Plan) → IsPlan p → (h : List Event) → IsLegal p h → AreLawful p h
+LawfulWords =
+    (p : Plan) → IsPlan p → (h : List Event) → IsLegal p h → AreLawful p (words_of p h)
 
 -- how an event may change the key in slot i of table g: the slot is its own
 abbrev pub IsKeyChange : Event → (g i : ℕ) → KeyState → KeyState → Type 0
@@ -79,21 +79,23 @@ IsValueChange (Finish s f j) g i from to =
     (f ≡ g) × (j ≡ i) × ((n : ℕ) × (from ≡ Primed n) × (to ≡ Finished n))
 IsValueChange _ g i from to = ⊥
 
--- An event changes one word at most, and a key or a value only in its own slot and as its kind may.
-pub record IsLawfulChange (p : Plan) (e : Event) (h : List Event) : Type 0 where
+-- The words before an event and after it: one of them changes at most, and a key or a value only in
+-- the event's own slot and as its kind may.
+pub record IsLawfulChange (p : Plan) (e : Event) (before after : List ℕ) : Type 0 where
   pub one :
-      (a b : ℕ) → slice_index (words_of p (e ∷ h)) a ≢ slice_index (words_of p h) a
-      → slice_index (words_of p (e ∷ h)) b ≢ slice_index (words_of p h) b → a ≡ b
+      (a b : ℕ) → slice_index after a ≢ slice_index before a
+      → slice_index after b ≢ slice_index before b → a ≡ b
   pub keys :
-      (g i : ℕ) → IsSlot p g i → let t = tables_at p h in let u = tables_at p (e ∷ h) in
+      (g i : ℕ) → IsSlot p g i → let t = tables_of p before in let u = tables_of p after in
       (u.key g i ≡ t.key g i) ⊎ IsKeyChange e g i (t.key g i) (u.key g i)
   pub values :
-      (g i : ℕ) → IsSlot p g i → let t = tables_at p h in let u = tables_at p (e ∷ h) in
+      (g i : ℕ) → IsSlot p g i → let t = tables_of p before in let u = tables_of p after in
       (u.value g i ≡ t.value g i) ⊎ IsValueChange e g i (t.value g i) (u.value g i)
 
 abbrev pub LawfulChanges : Type 0
 LawfulChanges =
-    (p : Plan) → IsPlan p → (e : Event) (h : List Event) → IsLegal p (e ∷ h) → IsLawfulChange p e h
+    (p : Plan) → IsPlan p → (e : Event) (h : List Event) → IsLegal p (e ∷ h)
+    → IsLawfulChange p e (words_of p h) (words_of p (e ∷ h))
 
 -- ---- what the tables stand for
 

@@ -94,8 +94,9 @@ HeldThrough first last k = (log : List Entry) → IsBeginning first log → IsBe
 
 -- ---- the log of a history
 
--- A call is made at just one event: the exchange that it wins, or a load that decides it. No other
--- event is in the log.
+-- A call is made at just one event: the exchange that it wins, or the load that decides it. An
+-- exchange that it loses has found what stands there, as a load does, and may decide it too. No
+-- other event is in the log.
 abbrev pub entry_of : Event → Option Entry
 entry_of (Won s g i a b c r) = Some (record { seat = s; call = c; reply = r })
 entry_of (Read s c r) = Some (record { seat = s; call = c; reply = r })

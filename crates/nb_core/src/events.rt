@@ -3,7 +3,7 @@ use crate::calls::{Call, Reply};
 use crate::numbers::{Key, Num};
 use crate::states::ValueState;
 
-/// One successful atomic change of a chain's words, or one load that decided a call, with the
+/// One atomic change of a chain's words, or one step that changed none and decided a call, with the
 /// number of the seat that made it. A history is a list of events, the newest first. No value of
 /// this type is made when a program runs: contracts speak of it.
 pub enum Event {
@@ -72,7 +72,8 @@ pub enum Event {
         seat: usize,
         g: u32,
     },
-    /// A load decided a call that changes nothing.
+    /// A step that found a word, and left it as it is, decided a call that changes nothing: a load,
+    /// or an exchange that was lost.
     Read {
         seat: usize,
         call: Call,

@@ -14,6 +14,7 @@ use Rattle.nb_core.specs.declared.events.Event.{Event}
 use Rattle.nb_core.specs.declared.events.Event.TheVariants.{Take, Count, Promote}
 use Rattle.nb_table.proofs.Following.{if-follows, later, none-follows, one-follows}
 use Rattle.nb_table.specs.Chains.{Extended, SeenBy, seen_before, seen_by}
+use Rattle.nb_table.specs.Conditions.{IsKnownComplete}
 use Rattle.nb_table.specs.Events.{only}
 use Rattle.nb_table.proofs.Events.{count_events, promote_events, take_events}
 use Rattle.nb_table.specs.Steps.{Can, Stepped}
@@ -59,12 +60,24 @@ can-count p number g c seen table some turned place at =
     one-follows p (Count number g c) number (header_place p g 2) _ (others ++ seen)
     (legal, (seat, table), record { some = some; own = turned' }, tt) refl refl)
 
+-- a table that is known to be complete is: by its slots, or as its count is its size
+known-complete :
+    (p : Plan) → IsPlan p → (h : List Event) → IsLegal p h → (g : ℕ) → g < generations_of p
+    → IsKnownComplete p (tables_at p h) g → IsComplete p (tables_at p h) g
+known-complete p plan h legal g table known =
+    elim known [
+      | inl complete ↦ complete
+      | inr whole ↦ (counted p plan h legal g table).whole whole
+    ]
+
 -- the top word may be raised past a complete table
 pub can-promote : (p : Plan) (number g : ℕ) (seen : List Event) → g < generations_of p
-    → IsComplete p (tables_at p seen) g → (least : ℕ) → least ≡ g + 1
+    → IsKnownComplete p (tables_at p seen) g → (least : ℕ) → least ≡ g + 1
     → Can p (promote_events number g) number seen 0 (λ found. max found least)
-can-promote p number g seen table complete least is plan seat others not_own legal =
+can-promote p number g seen table known least is plan seat others not_own legal =
     let h = others ++ seen in
+    let complete = known-complete p plan seen (beginnings_are_legal p others seen legal) g table
+    known in
     let found = slice_index (words_of p h) 0 in
     let next : suc g ≡ least = omega (arith, is) in
     if-follows p (leb found g) (Promote number g) number 0 (max found least) h

@@ -1,13 +1,17 @@
 -- What follows of the rule at one moment, and at two.
-use Rattle.std.proofs.Common.{◌≡◌, ◌≢◌, ◌∙◌, ◌≤◌, inl, inr, ap, sym, subst, ◌++◌, arith}
+use Rattle.std.proofs.Common.{◌≡◌, ◌≢◌, ◌∙◌, ◌≤◌, inl, inr, ap, sym, subst, List, [], ◌∷◌, ◌++◌, arith}
 use Rattle.std.specs.List.{Contains}
 use Rattle.std.proofs.lemmas.Bool.{cases_eq}
 use Rattle.std.proofs.lemmas.List.{append_assoc}
 use Rattle.std.proofs.lemmas.List.Elements.{All-contains}
-use Rattle.nb_core.specs.History.{map_of}
+use Rattle.nb_core.specs.History.{IsLegal, map_of}
+use Rattle.nb_core.specs.Laws.{AreLawful}
 use Rattle.nb_core.specs.Meaning.{Stands}
-use Rattle.nb_core.proofs.Theorems.{stands}
-use Rattle.nb_table.specs.Laws.{GoesOn, StepperHasSeen, WordsStand}
+use Rattle.nb_core.specs.Plans.{IsPlan, Plan}
+use Rattle.nb_core.specs.Tables.{words_of}
+use Rattle.nb_core.specs.declared.events.Event.{Event}
+use Rattle.nb_core.proofs.Theorems.{lawful_changes, lawful_words, stands}
+use Rattle.nb_table.specs.Laws.{ChangeLawfully, GoesOn, StepperHasSeen, WordsAreLawful, WordsChangeLawfully, WordsStand}
 use Rattle.nb_core.specs.Log.{IsBeginning}
 use Rattle.nb_table.specs.Views.{parts_at, steps_at}
 use Rattle.nb_table.specs.declared.view.Part.{Part}
@@ -17,6 +21,10 @@ pub words_stand : WordsStand
 words_stand p s plan rule =
     subst (λ words. Stands p words (map_of rule.history)) (sym rule.words)
     (stands p plan rule.history rule.legal)
+
+pub words_are_lawful : WordsAreLawful
+words_are_lawful p s plan rule =
+    subst (AreLawful p) (sym rule.words) (lawful_words p plan rule.history rule.legal)
 
 -- Who made the last step has seen all, and has seen no less later.
 pub goes_on : GoesOn
@@ -32,6 +40,24 @@ goes_on p s s' rule rule' more =
       is = fits.is ∙ ap (λ h. fits.later ++ h) then.3.is
           ∙ sym (append_assoc fits.later then.3.later last.0.seen);
     })
+
+-- each event of a legal history changes the words as its kind may
+change-lawfully :
+    (p : Plan) → IsPlan p → (later h : List Event) → IsLegal p (later ++ h)
+    → ChangeLawfully p later h
+change-lawfully p plan [] h legal = tt
+change-lawfully p plan (e ∷ later) h legal =
+    (lawful_changes p plan e (later ++ h) legal, change-lawfully p plan later h legal.0)
+
+pub words_change_lawfully : WordsChangeLawfully
+words_change_lawfully p s s' plan rule rule' more =
+    let since = goes_on p s s' rule rule' more in (
+      since,
+      rule'.words ∙ ap (words_of p) since.is,
+      rule.words,
+      change-lawfully p plan since.later rule.history
+          (subst (IsLegal p) since.is rule'.legal),
+    )
 
 -- Who made the last step is the one seat that knows more: no other has made a step of this number.
 pub stepper_has_seen : StepperHasSeen

@@ -1,7 +1,7 @@
 -- What a seat must have seen before some steps.
-use Rattle.std.specs.Prelude.{◌≡◌, ℕ, zero, suc, ◌<◌}
+use Rattle.std.specs.Prelude.{◌≡◌, ℕ, zero, suc, ◌<◌, ◌⊎◌}
 use Rattle.nb_core.specs.Plans.{Plan, size_of}
-use Rattle.nb_core.specs.Tables.{IsInstalled, Tables, IsPassed, IsPrimedOrFinished}
+use Rattle.nb_core.specs.Tables.{IsComplete, IsInstalled, Tables, IsPassed, IsPrimedOrFinished}
 use Rattle.nb_core.specs.History.{HasValue}
 use Rattle.nb_core.specs.declared.states.KeyState.TheVariants.{Claimed}
 
@@ -25,3 +25,8 @@ pub record IsCopied (p : Plan) (t : Tables) (g i n : ℕ) : Type 0 where
 pub record IsReached (p : Plan) (t : Tables) (g k : ℕ) : Type 0 where
   pub installed : IsInstalled t g
   pub below : (f : ℕ) → f < g → IsPassed p t f k
+
+-- The table is known to be complete: by its slots, each of which is finished, or by its count,
+-- which is at its size (law `counted`).
+abbrev pub IsKnownComplete : Plan → Tables → ℕ → Type 0
+IsKnownComplete p t g = IsComplete p t g ⊎ (t.counted g ≡ size_of p g)

@@ -1,5 +1,5 @@
--- When a load is an event: as the read of a call, where what it shows of the call's key decides the
--- call.
+-- When a load is an event, or an exchange that is lost: as the read of a call, where what it shows
+-- of the call's key decides the call.
 use Rattle.std.specs.Prelude.{ℕ, suc, ◌-◌, ◌==◌, ◌&&◌, Bool, not, if◌then◌else◌, unwrap_or, List, [], ◌∷◌, Option, Some, None}
 use Rattle.nb_core.specs.Calls.{leaves_alone}
 use Rattle.nb_core.specs.Log.{reply_at}

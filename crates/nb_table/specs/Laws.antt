@@ -1,9 +1,10 @@
 -- What follows of the rule at any moment, and of the steps that a seat made.
-use Rattle.std.specs.Prelude.{◌≡◌, ◌≢◌, ℕ, ◌+◌, ◌<◌, List, [], ◌++◌, All, Contains}
+use Rattle.std.specs.Prelude.{◌≡◌, ◌≢◌, ℕ, ◌+◌, ◌<◌, List, [], ◌∷◌, ◌++◌, All, Contains}
 use Rattle.nb_core.specs.History.{map_of}
-use Rattle.nb_core.specs.Laws.{Lasts}
+use Rattle.nb_core.specs.Laws.{AreLawful, IsLawfulChange, Lasts}
 use Rattle.nb_core.specs.Meaning.{Stands}
 use Rattle.nb_core.specs.Plans.{IsPlan, Plan}
+use Rattle.nb_core.specs.Tables.{words_of}
 use Rattle.nb_core.specs.declared.events.Event.{Event}
 use Rattle.nb_table.specs.Chains.{ChainOf, Extended, Grown, IsOwn, SeenBy, seen_by}
 use Rattle.nb_core.specs.Log.{IsBeginning}
@@ -16,6 +17,11 @@ use Rattle.nb_table.specs.declared.view.Part.{Part}
 abbrev pub WordsStand : Type 0
 WordsStand = (p : Plan) (s : Moment) → IsPlan p → (rule : IsChained p s)
     → Stands p s.words (map_of rule.history)
+
+-- At each moment there are as many words as the plan says, and each key word and value word stands
+-- for a state.
+abbrev pub WordsAreLawful : Type 0
+WordsAreLawful = (p : Plan) (s : Moment) → IsPlan p → IsChained p s → AreLawful p s.words
 
 -- each seat has seen at the second moment at least what it had seen at the first
 abbrev pub HaveSeenMore : Moment → Moment → Type 0
@@ -30,6 +36,22 @@ abbrev pub GoesOn : Type 0
 GoesOn =
     (p : Plan) (s s' : Moment) (rule : IsChained p s) (rule' : IsChained p s') → HaveSeenMore s s'
     → IsBeginning rule.history rule'.history
+
+-- each of these events, which came after the history, changed its words as an event may
+abbrev pub ChangeLawfully : Plan → (later h : List Event) → Type 0
+ChangeLawfully p [] h = Unit {0}
+ChangeLawfully p (e ∷ later) h =
+    IsLawfulChange p e (words_of p (later ++ h)) (words_of p (e ∷ (later ++ h)))
+    × ChangeLawfully p later h
+
+-- From one moment to a later one the words change by the events that came meanwhile and by nothing
+-- else: one after another, one word at a time, and keys and values only as the event's kind may.
+abbrev pub WordsChangeLawfully : Type 0
+WordsChangeLawfully =
+    (p : Plan) (s s' : Moment) → IsPlan p → (rule : IsChained p s) (rule' : IsChained p s')
+    → HaveSeenMore s s' → (since : IsBeginning rule.history rule'.history)
+    × (s'.words ≡ words_of p (since.later ++ rule.history)) × (s.words ≡ words_of p rule.history)
+    × ChangeLawfully p since.later rule.history
 
 -- all seats but the one of this number know at the second moment just what they knew at the first
 abbrev pub OthersStay : ℕ → Moment → Moment → Type 0

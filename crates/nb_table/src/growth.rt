@@ -1,10 +1,11 @@
 //! The steps that grow a chain and copy its tables.
 ghost use Rattle.std.specs.Prelude.{◌≡◌, ◌+◌, ◌<◌, ◌≤◌, suc, [], ◌∷◌, IsTrue, false};
 ghost use Rattle.nb_core.specs.Plans.{generations_of, limit_of};
-ghost use Rattle.nb_core.specs.Tables.{AreOthers, IsComplete, IsInstalled, IsReady};
+ghost use Rattle.nb_core.specs.Tables.{AreOthers, IsInstalled, IsReady};
 ghost use Rattle.nb_core.specs.History.{counted_by, turned_by};
 ghost use Rattle.nb_core.specs.declared.events.Event.TheVariants as event;
 ghost use Rattle.nb_table.specs.Chains.{Extended, IsOwn, seen_before, seen_by};
+ghost use Rattle.nb_table.specs.Conditions.{IsKnownComplete};
 
 use crate::chain::{Chain, ChainSeat, Spot};
 use nb_core::{HeaderWord, Key};
@@ -42,11 +43,12 @@ impl Chain {
         self.adds::<Brand>(seat, place, slots, g)
     }
 
-    /// Raises the top word past table `g`, by one fetch-max, and answers what it was.
+    /// Raises the top word past table `g`, by one fetch-max, and answers what it was. The seat has
+    /// seen that the table is complete, be it by its slots or by its count.
     pub fn promote(&self, seat: &mut ChainSeat, g: u32) -> u32
         requires own { IsOwn self.now seat.old }
         requires table { g < generations_of self.now.shape }
-        requires complete { IsComplete self.now.shape (seen_by self.now.shape seat.old) g }
+        requires complete { IsKnownComplete self.now.shape (seen_by self.now.shape seat.old) g }
         ensures raised { result ≤ g
             → Extended self.now.shape seat.old seat.new (event.Promote seat.old.number g ∷ []) 1
             × ((seen_before self.now.shape seat.new).top ≡ result)

@@ -1,12 +1,31 @@
 //! What holds at each moment of a chain, and what a crate above may rest on while it makes one step
 //! after another. Each function carries a law as its contract, so that the gate guards it; nobody
 //! calls it. The crates above take the laws as theorems, from `proofs/Theorems.antt`.
-ghost use Rattle.nb_table.specs.Laws.{GoesOn, StepperHasSeen, StepsAddUp, WordsStand};
+ghost use Rattle.nb_table.specs.Laws.{
+  GoesOn,
+  StepperHasSeen,
+  StepsAddUp,
+  WordsAreLawful,
+  WordsChangeLawfully,
+  WordsStand,
+};
 
 /// At each moment, whatever steps were made by whom, the words of a chain stand for the map of its
 /// history.
 pub fn words_stand()
     ensures { WordsStand }
+{}
+
+/// At each moment there are as many words as the shape has, and each key word and value word stands
+/// for a state.
+pub fn words_are_lawful()
+    ensures { WordsAreLawful }
+{}
+
+/// From one moment to a later one the words change by the events of the history alone, one word at
+/// each event; a key or a value only as the event's kind may change it.
+pub fn words_change_lawfully()
+    ensures { WordsChangeLawfully }
 {}
 
 /// The history of a later moment goes on from that of an earlier one, where each seat has seen at

@@ -1,14 +1,15 @@
-use Rattle.std.proofs.Common.{◌≡◌, ◌+◌, ◌-◌, ◌*◌, ◌<◌, ◌≤◌, min, refl, subst, arith, rules}
+use Rattle.std.proofs.Common.{◌≡◌, ◌∙◌, ◌+◌, ◌-◌, ◌*◌, ◌<◌, ◌≤◌, ◌∷◌, ◌++◌, min, ap, sym, refl, subst, arith, rules}
 use Rattle.std.proofs.lemmas.List.Elements.{All-nil, All-weaker}
 use Rattle.nb_core.specs.History.{counted_by, turned_by}
 use Rattle.nb_core.specs.Plans.{generations_of, size_of}
 use Rattle.nb_core.specs.Tables.{chunk_of}
 use Rattle.nb_table.proofs.Theorems.{steps_add_up}
 use Rattle.nb_copy.specs.Copying.{HasCopied}
-use Rattle.nb_copy.specs.Handing.{IsHanded, slot_steps}
+use Rattle.nb_copy.specs.Handing.{IsHanded, adds_of, slot_steps}
+use Rattle.nb_copy.proofs.Adding.{copied-adds}
 use Rattle.nb_copy.proofs.Copied.{copied-none, copied-own, copied-stays}
 use Rattle.nb_copy.proofs.Counted.{may-count}
-use Rattle.nb_copy.proofs.Helped.{below-handed, chunk-bound, counted-after, handed-below, helped}
+use Rattle.nb_copy.proofs.Helped.{below-handed, chunk-bound, counted-adds, counted-after, handed-below, helped, one_add}
 use Rattle.nb_copy.proofs.SlotsFinished.{next-in-plan}
 use Rattle.nb_copy.proofs.tables.copy_chunk.Goals as goal
 
@@ -26,7 +27,7 @@ returns-then-start-size c =
           (copied-none c.args.chain.now g c.take_work-start.new.seat
           (steps_add_up.own c.requires.own (steps_add_up.one take.grows))) (omega arith) refl
           (λ i handed. absurd (omega (arith, size, handed.0, handed.2, c.if-start-size.true)))
-          (All-nil (IsHanded p g start)) (λ past. (refl, refl))
+          (All-nil (IsHanded p g start)) refl (λ past. (refl, refl))
           (λ some. absurd (omega (arith, some)));
     }
 
@@ -57,6 +58,7 @@ returns-then-turned-gt0 c =
     let few = chunk-bound p g start ends (slot_steps p g) in
     let work = c.copy_slots-turned.ensures.copied in
     let own = steps_add_up.own c.requires.own (steps_add_up.one take.grows) in
+    let same = work.3.grown.number ∙ take.grows.number in
     let lasting = copied-stays chain g table (copied-own chain g table own work.3)
     c.count.ensures.counted in
     record {
@@ -66,6 +68,11 @@ returns-then-turned-gt0 c =
           (λ i handed. lasting.finished g i (table, handed.2)
           (c.copy_slots-turned.ensures.finished i handed.0 (handed-below p g start ends i handed)))
           (All-weaker _ _ (below-handed p g start ends) work.0 work.2)
+          (counted-adds c.copy_slots-turned.result c.if-turned-gt0.true
+          (ap (λ n. adds_of c.count.new.seat.seen n g) (sym same) ∙ c.count.ensures.once
+          ∙ ap (λ n. c.copy_slots-turned.result
+          ∷ adds_of c.copy_slots-turned.new.seat.seen n g) same)
+          (copied-adds c.args.seat.now.number take.grows.number work.3))
           (λ past. absurd (omega (arith, past, size, c.if-start-size.false)))
           (λ some. c.count.ensures.raised);
     }
@@ -92,6 +99,9 @@ returns-else-turned-gt0 c =
           (λ i handed. c.copy_slots-turned.ensures.finished i handed.0
           (handed-below p g start ends i handed))
           (All-weaker _ _ (below-handed p g start ends) work.0 work.2)
+          (subst (λ n. adds_of c.copy_slots-turned.new.seat.seen c.args.seat.now.number g
+          ≡ one_add n ++ adds_of c.take_work-start.new.seat.seen c.args.seat.now.number g) none
+          (copied-adds c.args.seat.now.number take.grows.number work.3))
           (λ past. absurd (omega (arith, past, size, c.if-start-size.false)))
           (λ some. absurd (omega (arith, some, none)));
     }

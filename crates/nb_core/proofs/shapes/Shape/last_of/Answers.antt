@@ -1,4 +1,4 @@
-use Rattle.std.proofs.Common.{◌≡◌, ◌^◌, ◌≤◌, slice_index, subst, sym}
+use Rattle.std.proofs.Common.{◌^◌, ◌≤◌, slice_index, subst, sym}
 use Rattle.std.proofs.Math.Pow.{pow_mono}
 use Rattle.nb_core.proofs.Kept.{exponents-at, exponents-few, lasts-at}
 use Rattle.nb_core.proofs.shapes.Shape.last_of.Goals as goal

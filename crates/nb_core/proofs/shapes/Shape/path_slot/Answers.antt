@@ -1,4 +1,4 @@
-use Rattle.std.proofs.Common.{◌∙◌, ◌+◌, ◌-◌, ◌%◌, ◌^◌, ap, bit_and}
+use Rattle.std.proofs.Common.{◌∙◌, ◌+◌, ◌%◌, ◌^◌, ap, bit_and}
 use Rattle.nb_core.specs.Plans.{size_of}
 use Rattle.nb_core.proofs.Masks.{masked}
 use Rattle.nb_core.proofs.shapes.Shape.path_slot.Goals as goal
