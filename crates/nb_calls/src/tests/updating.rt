@@ -1,7 +1,11 @@
 //! Updates beside other handles that write their key, and functions that work with a handle.
+ghost use Rattle.std.specs.Prelude.{◌≡◌, List, length};
+ghost use Rattle.nb_core.specs.declared.calls.Call.{Call};
+ghost use Rattle.nb_core.specs.declared.calls.Reply.{Reply};
 ghost use Rattle.nb_map.specs.Handles.{AreOfOneMap, IsSameMap};
+ghost use Rattle.nb_map.specs.Logs.{HasLogged};
 
-use super::rows::{ended, key, number, one_more, two, two_leave};
+use super::rows::{alone, ended, key, number, one_leaves, one_more, two, two_leave};
 use nb_core::{Key, Num, Shape};
 use nb_map::{Handle, PutFault};
 use std::process::Abort;
@@ -98,4 +102,24 @@ fn functions_work_with_handles(rt: HostRuntime) -> Result<(), Fail> {
     add_to_both(&rt, &mut b, key(&rt, 2), key(&rt, 3), number(&rt, 20));
     a.meet(&mut b);
     two_leave(&rt, rt.alloc(), a, b, &[(1, 10), (2, 30), (3, 20)])
+}
+
+/// Reads the key so often, and calls nothing else.
+fn read_often(handle: &mut Handle, at: Key, times: u64)
+    ensures made { (made : List (Call × Reply)) × (length made ≡ times)
+        × HasLogged handle.old.seat handle.new.seat made }
+    ensures same { IsSameMap handle.old handle.new }
+{
+    handle.known();
+    for _round in 0..times {
+        let _ = handle.get(at);
+    }
+}
+
+/// A function tells in its contract how many calls it has made in a loop.
+#[test]
+fn reads_that_a_contract_counts(rt: HostRuntime) -> Result<(), Fail> {
+    let mut handle = alone(&rt, rt.alloc(), 1)?;
+    read_often(&mut handle, key(&rt, 1), 3);
+    one_leaves(&rt, rt.alloc(), handle, &[])
 }

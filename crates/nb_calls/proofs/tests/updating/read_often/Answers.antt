@@ -1,0 +1,17 @@
+use Rattle.std.proofs.Common.{◌∙◌, [], ◌∷◌, refl, arith}
+use Rattle.nb_map.proofs.Theorems.{logs_add_up}
+use Rattle.nb_calls.proofs.tests.updating.read_often.Goals as goal
+
+-- no call was made yet
+pub loop-round-init : goal.loop-round-init
+loop-round-init c = (refl, [], refl, logs_add_up.none c.known.ensures)
+
+-- one more
+pub loop-round-preserved : goal.loop-round-preserved
+loop-round-preserved c =
+    let sofar = c.loop-round.invariant in (
+      c.get.ensures.map ∙ sofar.0,
+      _,
+      omega (arith, sofar.2),
+      logs_add_up.more sofar.3 c.get.ensures.replied,
+    )
