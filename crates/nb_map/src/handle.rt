@@ -91,6 +91,13 @@ impl Handle {
         Ok(handles)
     }
 
+    /// Reminds a proof that the seat is the map's own, as the laws of a map ask. It does nothing.
+    pub fn known(&self)
+        ensures own { IsMine self.now.map self.now.seat }
+    {
+        let _ = &self.seat;
+    }
+
     /// What the map has at a key.
     #[inline]
     pub fn get(&mut self, key: Key) -> Option<Num>
