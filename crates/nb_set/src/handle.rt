@@ -6,6 +6,7 @@ ghost use Rattle.std.specs.Prelude.{
   ◌∷◌,
   ◌++◌,
   [],
+  ℕ,
   All,
   IfErr,
   IfOk,
@@ -17,6 +18,7 @@ ghost use Rattle.std.specs.Prelude.{
   vec_capacity,
 };
 ghost use Rattle.nb_core.specs.Log.{IsBeginning};
+ghost use Rattle.nb_core.specs.Tables.{IsComplete, tables_at};
 ghost use Rattle.nb_map.specs.Looking.{get_steps};
 ghost use Rattle.nb_set.specs.Ending.{EndedWith, HasTablesLeft};
 ghost use Rattle.nb_set.specs.Handles.{AreOfOneSet, IsSameSet, new_handles, on_map, seats_of};
@@ -145,6 +147,8 @@ impl Handle {
     /// grown.
     pub fn generation(&mut self) -> u32
         ensures found { result ≡ generation_of self.old.set self.new.seat }
+        ensures complete { (g : ℕ) → g < result → IsComplete (shape_of self.old.set)
+            (tables_at (shape_of self.old.set) self.new.seat.map.chain.seen) g }
         ensures logged { HasLogged self.old.seat self.new.seat [] }
         ensures steps { HasStepped self.old.seat self.new.seat 1 }
         ensures looked { HasLooked self.old.seat self.new.seat }

@@ -22,6 +22,7 @@ ghost use Rattle.std.specs.Prelude.{
 };
 ghost use Rattle.nb_core.specs.Log.{IsBeginning};
 ghost use Rattle.nb_core.specs.Plans.{IsPlan};
+ghost use Rattle.nb_core.specs.Tables.{IsComplete, tables_at};
 ghost use Rattle.nb_map.specs.Looking.{get_steps};
 ghost use Rattle.nb_set.specs.Ending.{EndedWith, HasTablesLeft};
 ghost use Rattle.nb_set.specs.Log as call;
@@ -210,6 +211,8 @@ impl LongSet {
     pub fn generation(&self, seat: &mut Seat) -> u32
         requires own { IsMine self.now seat.old }
         ensures found { result ≡ generation_of self.now seat.new }
+        ensures complete { (g : ℕ) → g < result → IsComplete (shape_of self.now)
+            (tables_at (shape_of self.now) seat.new.map.chain.seen) g }
         ensures logged { HasLogged seat.old seat.new [] }
         ensures steps { HasStepped seat.old seat.new 1 }
         ensures looked { HasLooked seat.old seat.new }
