@@ -113,8 +113,8 @@ HasStepped before after most = steps_of after ≤ steps_of before + most
 
 -- ---- looks
 
--- The seat has looked once at which tables are complete, and done nothing more: what it has seen anew
--- are events of others, and it has counted nothing.
+-- The seat has looked once at which tables are complete, and done nothing more: what it has seen
+-- anew are events of others, and it has counted nothing.
 pub record HasLooked (before after : SeatOf) : Type 0 where
   pub later : List Event
   pub seen : after.map.chain.seen ≡ later ++ before.map.chain.seen

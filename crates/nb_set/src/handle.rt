@@ -170,7 +170,8 @@ impl Handle {
             × HasStepped other.old.seat other.new.seat 1 }
         ensures looked { HasMet self.old.seat other.old.seat self.new.seat
             × HasMet other.old.seat self.old.seat other.new.seat }
-        ensures later { IsLater self.old.seat self.new.seat × IsLater other.old.seat other.new.seat }
+        ensures later { IsLater self.old.seat self.new.seat
+            × IsLater other.old.seat other.new.seat }
         ensures same { IsSameSet self.old self.new × IsSameSet other.old other.new }
     {
         self.map.meet(&mut other.map);

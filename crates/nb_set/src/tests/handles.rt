@@ -64,8 +64,8 @@ fn calls_by_name(rt: HostRuntime) -> Result<(), Fail> {
     Ok(())
 }
 
-/// Adds a key and looks for it. Its caller knows by `same` that the handle is of the set that it was
-/// of.
+/// Adds a key and looks for it. Its caller knows by `same` that the handle is of the set that it
+/// was of.
 fn adds_and_looks<R: Wait>(rt: &R, handle: &mut Handle, key: Key) -> bool
     ensures same { IsSameSet handle.old handle.new }
 {

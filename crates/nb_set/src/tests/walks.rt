@@ -40,9 +40,9 @@ fn walk_wraps(rt: HostRuntime) -> Result<(), Fail> {
     Ok(())
 }
 
-/// Whether a walk shows the key. The same seat makes other calls meanwhile, and takes on walks beside
-/// this one. What the whole walk has shown is told from the seat's log as it was before to that as it
-/// is after.
+/// Whether a walk shows the key. The same seat makes other calls meanwhile, and takes on walks
+/// beside this one. What the whole walk has shown is told from the seat's log as it was before to
+/// that as it is after.
 fn walk_shows(set: &LongSet, seat: &mut Seat, sought: Key) -> bool
     requires own { IsMine set.now seat.old }
     ensures shown { (shown : List ℕ) × HasShownAll seat.old seat.new shown

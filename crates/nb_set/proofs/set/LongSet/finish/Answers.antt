@@ -24,7 +24,7 @@ returns-clause-ended c =
 
 pub returns-clause-tables : goal.returns-clause-tables
 returns-clause-tables c =
-    subst (λ (set : SetOf). of_map.HasTablesLeft (shape_of set) (in-map c.args.seats.items) c.in-Ok.map)
-    c.self.view_is
+    subst (λ (set : SetOf). of_map.HasTablesLeft (shape_of set) (in-map c.args.seats.items)
+    c.in-Ok.map) c.self.view_is
     (subst (λ seats. of_map.HasTablesLeft c.self.inside.map.chain.shape seats c.in-Ok.map)
     c.of_map.ensures c.in-Ok.ensures.tables)

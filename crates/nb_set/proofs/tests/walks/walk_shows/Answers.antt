@@ -29,7 +29,8 @@ from-before {before} {begun} {ended} {shown} quiet all = record {
 
 -- a walk goes on past another call of its seat
 past :
-    {set : SetOf} {before seat : SeatOf} {walk : WalkOf} {sought : ℕ} {found : Bool} (after : SeatOf)
+    {set : SetOf} {before seat : SeatOf} {walk : WalkOf} {sought : ℕ} {found : Bool}
+    (after : SeatOf)
     → IsMine set after → IsLater seat after → HasGone set before seat walk sought found
     → HasGone set before after walk sought found
 past {set} {before} {seat} {walk} after own later gone = record {
@@ -90,8 +91,8 @@ returns c =
     record {
       shown = (
         was.keys,
-        from-before (subst (λ seat. HasLogged c.args.seat.now seat []) (sym c.next_key.ensures.begun)
-            was.quiet) all,
+        from-before (subst (λ seat. HasLogged c.args.seat.now seat [])
+            (sym c.next_key.ensures.begun) was.quiet) all,
         was.of_them,
       );
       own = c.next_key.ensures.own;
