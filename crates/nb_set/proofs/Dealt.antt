@@ -1,8 +1,8 @@
 -- The seats of a set are dealt, and gathered.
-use Rattle.std.proofs.Common.{◌≡◌, ◌∙◌, ◌<◌, ◌==◌, ℕ, List, map, length, ap, sym, subst}
+use Rattle.std.proofs.Common.{◌≡◌, ◌∙◌, ◌<◌, ◌==◌, ℕ, List, [], map, length, ap, sym, subst, refl}
 use Rattle.std.specs.List.{All, range_with_len}
 use Rattle.std.proofs.lemmas.List.{length-map, map-append}
-use Rattle.std.proofs.lemmas.List.Elements.{All-map, All-weaker}
+use Rattle.std.proofs.lemmas.List.Elements.{All-map, All-same, All-weaker}
 use mathlib.Core.List.{map-map}
 use Rattle.nb_core.proofs.Seating.{All-unmap, count-map}
 use Rattle.nb_core.specs.Log as map_log
@@ -10,7 +10,7 @@ use Rattle.nb_map.specs.Ending as of_map
 use Rattle.nb_map.specs.Maps as maps
 use Rattle.nb_set.specs.Ending.{EndedOf, EndedWith, HasAll, log_left}
 use Rattle.nb_set.specs.OfMap.{call_as, entry_as, log_as}
-use Rattle.nb_set.specs.Sets.{AreMine, IsMine, SeatOf, SetOf, new_seats, seat_number}
+use Rattle.nb_set.specs.Sets.{AreMine, IsMine, SeatOf, SetOf, log, new_seat, new_seats, seat_number}
 use Rattle.nb_set.proofs.Read.{calls-as, read}
 
 -- a seat of a map as one of the set
@@ -24,6 +24,14 @@ in-map = map (λ seat. seat.map)
 pub dealt : (set : SetOf) (count : ℕ)
     → map as_set (maps.new_seats set.map count) ≡ new_seats set count
 dealt set count = map-map as_set (maps.new_seat set.map) (range_with_len 0 count)
+
+-- a new seat's log is empty
+pub logs-empty :
+    (set : SetOf) (count : ℕ) (seats : List SeatOf) → seats ≡ new_seats set count
+    → All (λ seat. log seat ≡ []) seats
+logs-empty set count seats are =
+    All-same (λ seat. log seat ≡ []) seats (new_seats set count) are
+    (All-map (λ seat. log seat ≡ []) (new_seat set) (range_with_len 0 count) (λ k d lt. refl))
 
 -- they are the set's where they are the map's
 pub mine-as :

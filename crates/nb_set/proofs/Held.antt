@@ -1,14 +1,17 @@
 -- Handles of one set.
-use Rattle.std.proofs.Common.{◌≡◌, ◌∙◌, ℕ, List, [], ◌∷◌, ◌++◌, ap, length, map, refl, sym}
-use Rattle.std.specs.List.{range_with_len}
+use Rattle.std.proofs.Common.{◌≡◌, ◌∙◌, ℕ, List, [], ◌∷◌, ◌++◌, ap, length, map, refl, subst, sym}
+use Rattle.std.specs.List.{All, range_with_len}
 use Rattle.std.proofs.lemmas.List.{length-map, map-append}
 use Rattle.std.proofs.lemmas.List.Elements.{All-map, All-same}
 use Rattle.std.proofs.lemmas.List.FromFn.{length-map-range_with_len}
 use mathlib.Core.List.{map-map}
+use Rattle.nb_core.proofs.Seating.{All-unmap}
+use Rattle.nb_map.specs.Ending as of_map
 use Rattle.nb_map.specs.Handles as handles
 use Rattle.nb_map.specs.Maps as maps
+use Rattle.nb_set.specs.Ending.{EndedOf, HasTablesLeft}
 use Rattle.nb_set.specs.Handles.{AreOfOneSet, HandleOf, handle_on, new_handles, on_map, seats_of}
-use Rattle.nb_set.specs.Sets.{SetOf, new_seat, new_seats}
+use Rattle.nb_set.specs.Sets.{SetOf, log, new_seat, new_seats, shape_of}
 use Rattle.nb_set.proofs.Dealt.{in-map}
 
 -- a handle of a map as one of the set
@@ -43,6 +46,15 @@ of-one set count these are = (
       (λ k d lt. refl)),
 )
 
+-- their seats' logs are empty
+pub logs-empty :
+    (set : SetOf) (count : ℕ) (these : List HandleOf) → these ≡ new_handles set count
+    → All (λ handle. log handle.seat ≡ []) these
+logs-empty set count these are =
+    All-same (λ handle. log handle.seat ≡ []) these (new_handles set count) are
+    (All-map (λ handle. log handle.seat ≡ []) (handle_on set) (new_seats set count)
+    (All-map (λ seat. log seat ≡ []) (new_seat set) (range_with_len 0 count) (λ k d lt. refl)))
+
 -- handles of one set are of one map
 pub on-one-map :
     (these : List HandleOf) → AreOfOneSet these → handles.AreOfOneMap (map on_map these)
@@ -66,3 +78,15 @@ pub gathered-all :
 gathered-all these rest last on are is =
     sym (ap (map on_map) are ∙ map-append on_map rest (last ∷ [])
     ∙ ap (λ handle. map on_map rest ++ handle ∷ []) is)
+
+-- what is left of the tables of the map's handles is so of the set's
+pub tables-left :
+    (these : List HandleOf) (on : List handles.HandleOf) (ended : EndedOf) → on ≡ map on_map these
+    → All (λ handle. of_map.HasTablesLeft handle.map.chain.shape (handles.seats_of on) ended.map) on
+    → All (λ handle. HasTablesLeft (shape_of handle.set) (seats_of these) ended) these
+tables-left these on ended are left =
+    let seats = in-map (seats_of these) in
+    All-unmap (λ handle. of_map.HasTablesLeft handle.map.chain.shape seats ended.map) on_map these
+    (subst (λ on. All (λ handle. of_map.HasTablesLeft handle.map.chain.shape seats ended.map) on)
+    are (subst (λ seats. All (λ handle. of_map.HasTablesLeft handle.map.chain.shape seats ended.map)
+    on) (ap handles.seats_of are ∙ seats-on-map these) left))

@@ -154,6 +154,7 @@ whole_walk set seat walk shown has ended =
 
 pub walk_lasts : WalkLasts
 walk_lasts = record {
+  later = λ set call worked. theorems.walk_lasts.later worked;
   lasts = λ was mine later. theorems.walk_lasts.lasts was mine later;
   shown = λ has mine later. record {
     pairs = has.pairs;

@@ -1,5 +1,6 @@
 -- What is left of a set when all its seats are gathered.
-use Rattle.std.specs.Prelude.{◌≡◌, ◌<◌, ◌==◌, ℕ, List, [], ◌++◌, All, count_by, length}
+use Rattle.std.specs.Prelude.{◌≡◌, ◌<◌, ◌==◌, ℕ, List, [], ◌++◌, All, count_by, length, map}
+use Rattle.nb_core.specs.Plans.{Plan}
 use Rattle.nb_map.specs.Ending as of_map
 use Rattle.nb_set.specs.Log.{Entry, IsReplayed, Keys, calls_of, set_of_log}
 use Rattle.nb_set.specs.OfMap.{log_as}
@@ -30,3 +31,8 @@ pub record EndedWith (seats : List SeatOf) (ended : EndedOf) : Type 0 where
   pub logs : All (HasAll (log_left ended)) seats
   pub once : (n : ℕ) → n < length seats → count_by (λ seat. seat_number seat == n) seats ≡ 1
   pub made : All (λ entry. entry.seat < length seats) (log_left ended)
+
+-- what is left of the tables: their shape, and the history that left them, of which each seat has
+-- seen a beginning with all its own events
+abbrev pub HasTablesLeft : Plan → List SeatOf → EndedOf → Type 0
+HasTablesLeft p seats ended = of_map.HasTablesLeft p (map (λ seat. seat.map) seats) ended.map

@@ -25,6 +25,10 @@ new_handles set count = map (handle_on set) (new_seats set count)
 abbrev pub seats_of : List HandleOf → List SeatOf
 seats_of handles = map (λ handle. handle.seat) handles
 
+-- it is a handle of the set that it was of
+abbrev pub IsSameSet : (before after : HandleOf) → Type 0
+IsSameSet before after = after.set ≡ before.set
+
 -- all these handles are of one set
 abbrev pub AreOfOneSet : List HandleOf → Type 0
 AreOfOneSet handles = (set : SetOf) × All (λ handle. handle.set ≡ set) handles

@@ -1,10 +1,13 @@
 -- How contracts see a set and its seats, and what a call of the set does, told by the log of all
 -- calls.
-use Rattle.std.specs.Prelude.{◌≡◌, ℕ, ◌≤◌, ◌+◌, Bool, List, [], ◌∷◌, ◌++◌, map, All}
+use Rattle.std.specs.Prelude.{◌≡◌, ◌≢◌, ℕ, ◌≤◌, ◌+◌, Bool, List, [], ◌∷◌, ◌++◌, map, All}
 use Rattle.std.specs.List.{range_with_len}
+use Rattle.nb_core.specs.History.{seat_of_event}
+use Rattle.nb_core.specs.Log.{IsBeginning}
 use Rattle.nb_core.specs.Meaning.{IsCrowded}
 use Rattle.nb_core.specs.Plans.{Plan}
 use Rattle.nb_core.specs.Tables.{tables_at}
+use Rattle.nb_core.specs.declared.events.Event.{Event}
 use Rattle.nb_map.specs.Logs as of_map
 use Rattle.nb_map.specs.Looking.{IsSeenAtHome}
 use Rattle.nb_map.specs.Maps.{MapOf}
@@ -107,3 +110,26 @@ IsShortAtHome set call before after =
 -- it has made so many steps more on the tables at most
 abbrev pub HasStepped : (before after : SeatOf) → (most : ℕ) → Type 0
 HasStepped before after most = steps_of after ≤ steps_of before + most
+
+-- ---- looks
+
+-- The seat has looked once at which tables are complete, and done nothing more: what it has seen
+-- anew are events of others, and it has counted nothing.
+pub record HasLooked (before after : SeatOf) : Type 0 where
+  pub later : List Event
+  pub seen : after.map.chain.seen ≡ later ++ before.map.chain.seen
+  pub others : All (λ event. seat_of_event event ≢ seat_number before) later
+  pub step : steps_of after ≡ steps_of before + 1
+  pub count : after.map.count ≡ before.map.count
+
+-- it has looked so, and has then seen all that the other seat had
+abbrev pub HasMet : (before other after : SeatOf) → Type 0
+HasMet before other after =
+    HasLooked before after × IsBeginning other.map.chain.seen after.map.chain.seen
+
+-- it has looked at each stripe of the counter once, and made no step on the tables
+abbrev pub HasEstimated : SetOf → (before after : SeatOf) → Type 0
+HasEstimated set before after =
+    let count = before.map.count in
+    (after.map.chain ≡ before.map.chain)
+    × (after.map.count ≡ record count { steps = count.steps + set.map.counter.stripes })

@@ -5,7 +5,7 @@ use Rattle.std.specs.List.{IsDistinct}
 use Rattle.nb_map.specs.Walks as walks
 use Rattle.nb_map.specs.declared.walk.Place.TheVariants.{End}
 use Rattle.nb_set.specs.Log.{Call, Contains, HeldThrough}
-use Rattle.nb_set.specs.Sets.{HasLogged, IsMine, SeatOf, SetOf, log, shape_of}
+use Rattle.nb_set.specs.Sets.{HasLogged, HasWorked, IsMine, SeatOf, SetOf, log, shape_of}
 
 -- a walk: that over the map which the set is kept in
 pub record WalkOf : Type 0 where
@@ -81,8 +81,12 @@ WholeWalk =
     → HasEnded walk
     → HasShownAll (begun walk) seat shown
 
--- A walk is its seat's also after other calls of the seat, and has shown what it had.
+-- A seat that has worked has forgotten nothing; and a walk is its seat's also after other calls of
+-- the seat, and has shown what it had.
 pub record WalkLasts : Type 0 where
+  pub later :
+      (set : SetOf) (call : Call) {before after : SeatOf} {most : ℕ}
+      → HasWorked set call before after most → IsLater before after
   pub lasts :
       {set : SetOf} {before after : SeatOf} {walk : WalkOf} → IsWalkOf set before walk
       → IsMine set after → IsLater before after

@@ -6,6 +6,7 @@ ghost use Rattle.std.specs.Prelude.{
   ◌∷◌,
   ◌++◌,
   [],
+  ℕ,
   All,
   IfErr,
   IfOk,
@@ -17,24 +18,30 @@ ghost use Rattle.std.specs.Prelude.{
   vec_capacity,
 };
 ghost use Rattle.nb_core.specs.Log.{IsBeginning};
+ghost use Rattle.nb_core.specs.Tables.{IsComplete, tables_at};
 ghost use Rattle.nb_map.specs.Looking.{get_steps};
-ghost use Rattle.nb_set.specs.Ending.{EndedWith};
-ghost use Rattle.nb_set.specs.Handles.{AreOfOneSet, new_handles, on_map, seats_of};
+ghost use Rattle.nb_set.specs.Ending.{EndedWith, HasTablesLeft};
+ghost use Rattle.nb_set.specs.Handles.{AreOfOneSet, IsSameSet, new_handles, on_map, seats_of};
 ghost use Rattle.nb_set.specs.Log as call;
 ghost use Rattle.nb_set.specs.Sets.{
+  HasEstimated,
   HasLogged,
+  HasLooked,
+  HasMet,
   HasNoRoom,
   HasReplied,
   HasStepped,
   HasWorked,
   IsAtHome,
   IsLockFree,
+  IsMine,
   IsShortAtHome,
   SetOf,
   generation_of,
   log,
   shape_of,
 };
+ghost use Rattle.nb_set.specs.Walks.{IsLater};
 
 use crate::ended::SetEnded;
 use crate::set::present;
@@ -69,6 +76,8 @@ impl Handle {
     pub fn open(alloc: Global, shape: Shape) -> Result<Vec<Handle>, OutOfMemory>
         ensures new { IfOk result (λ handles. (set : SetOf) × (shape_of set ≡ shape)
             × (handles.items ≡ new_handles set shape.seats)) }
+        ensures empty { IfOk result (λ handles. All (λ handle. log handle.seat ≡ [])
+            handles.items) }
         ensures one { IfOk result (λ handles. AreOfOneSet handles.items) }
     {
         let mut handles = Vec::with_capacity(alloc, shape.seats())?;
@@ -79,6 +88,13 @@ impl Handle {
         Ok(handles)
     }
 
+    /// Reminds a proof that the seat is the set's own, as the laws of a set ask. It does nothing.
+    pub fn known(&self)
+        ensures own { IsMine self.now.set self.now.seat }
+    {
+        self.map.known();
+    }
+
     /// Puts a key into the set, and answers whether it came: `LongSet::add`.
     pub fn add<R: Wait>(&mut self, rt: &R, key: Key) -> Result<bool, Full>
         ensures replied { IfOk result (HasReplied (call.Add key) self.old.seat self.new.seat) }
@@ -86,7 +102,7 @@ impl Handle {
             self.old.seat self.new.seat) }
         ensures lock_free { IsLockFree self.old.set (call.Add key) self.old.seat self.new.seat }
         ensures short { IsShortAtHome self.old.set (call.Add key) self.old.seat self.new.seat }
-        ensures set { self.new.set ≡ self.old.set }
+        ensures same { IsSameSet self.old self.new }
     {
         let before = self.map.put_if_absent(rt, key, present())?;
         Ok(before.is_none())
@@ -98,7 +114,7 @@ impl Handle {
         ensures lock_free { IsLockFree self.old.set (call.Remove key) self.old.seat self.new.seat }
         ensures short { IsShortAtHome self.old.set (call.Remove key)
             self.old.seat self.new.seat }
-        ensures set { self.new.set ≡ self.old.set }
+        ensures same { IsSameSet self.old self.new }
     {
         self.map.remove(rt, key).is_some()
     }
@@ -111,7 +127,7 @@ impl Handle {
             (get_steps (shape_of self.old.set)) }
         ensures three_steps { IsAtHome self.old.set key self.old.seat self.new.seat
             → HasStepped self.old.seat self.new.seat 3 }
-        ensures set { self.new.set ≡ self.old.set }
+        ensures same { IsSameSet self.old self.new }
     {
         self.map.contains_key(key)
     }
@@ -120,7 +136,9 @@ impl Handle {
     pub fn size_estimate(&mut self) -> u64
         ensures logged { HasLogged self.old.seat self.new.seat [] }
         ensures steps { HasStepped self.old.seat self.new.seat 0 }
-        ensures set { self.new.set ≡ self.old.set }
+        ensures looked { HasEstimated self.old.set self.old.seat self.new.seat }
+        ensures later { IsLater self.old.seat self.new.seat }
+        ensures same { IsSameSet self.old self.new }
     {
         self.map.size_estimate()
     }
@@ -129,9 +147,13 @@ impl Handle {
     /// grown.
     pub fn generation(&mut self) -> u32
         ensures found { result ≡ generation_of self.old.set self.new.seat }
+        ensures complete { (g : ℕ) → g < result → IsComplete (shape_of self.old.set)
+            (tables_at (shape_of self.old.set) self.new.seat.map.chain.seen) g }
         ensures logged { HasLogged self.old.seat self.new.seat [] }
         ensures steps { HasStepped self.old.seat self.new.seat 1 }
-        ensures set { self.new.set ≡ self.old.set }
+        ensures looked { HasLooked self.old.seat self.new.seat }
+        ensures later { IsLater self.old.seat self.new.seat }
+        ensures same { IsSameSet self.old self.new }
     {
         self.map.generation()
     }
@@ -146,7 +168,11 @@ impl Handle {
             × IsBeginning (log self.old.seat) (log other.new.seat) }
         ensures steps { HasStepped self.old.seat self.new.seat 1
             × HasStepped other.old.seat other.new.seat 1 }
-        ensures set { (self.new.set ≡ self.old.set) × (other.new.set ≡ other.old.set) }
+        ensures looked { HasMet self.old.seat other.old.seat self.new.seat
+            × HasMet other.old.seat self.old.seat other.new.seat }
+        ensures later { IsLater self.old.seat self.new.seat
+            × IsLater other.old.seat other.new.seat }
+        ensures same { IsSameSet self.old self.new × IsSameSet other.old other.new }
     {
         self.map.meet(&mut other.map);
     }
@@ -165,6 +191,8 @@ impl Handle {
             ↔ (length handles.items ≡ (shape_of handle.set).seats)) handles.items }
         ensures some { handles.items ≡ [] → is_ok result ≡ false }
         ensures ended { IfOk result (EndedWith (seats_of handles.items)) }
+        ensures tables { IfOk result (λ ended. All (λ handle. HasTablesLeft (shape_of handle.set)
+            (seats_of handles.items) ended) handles.items) }
         ensures back { IfErr result (λ back. back.items ≡ handles.items) }
     {
         let mut handles = handles;

@@ -2,11 +2,13 @@
 ghost use Rattle.std.specs.Prelude.{◌≡◌, ℕ, ◌<◌, List, None, [], IfSome};
 ghost use Rattle.nb_set.specs.Handles.{handle_on};
 ghost use Rattle.nb_set.specs.Log as call;
-ghost use Rattle.nb_set.specs.Sets.{HasLogged, HasStepped, HasWorked};
+ghost use Rattle.nb_set.specs.Sets.{HasLogged, HasLooked, HasStepped, HasWorked};
 ghost use Rattle.nb_set.specs.Walks.{
   HasAsked,
   HasEnded,
   HasShown,
+  IsLater,
+  begun,
   slots_before,
   walking_steps,
   with_shown,
@@ -41,6 +43,9 @@ impl Handle {
     pub fn walk(self) -> HandleWalk
         ensures logged { HasLogged self.seat result.seat [] }
         ensures steps { HasStepped self.seat result.seat 1 }
+        ensures looked { HasLooked self.seat result.seat }
+        ensures later { IsLater self.seat result.seat }
+        ensures begun { begun result.walk ≡ result.seat }
         ensures shown { HasShown result.set result.seat result.walk [] }
         ensures set { result.set ≡ self.set }
     {
@@ -57,6 +62,7 @@ impl HandleWalk {
     /// worth is the law `whole_walk`.
     pub fn next_key(&mut self) -> Option<Key>
         ensures asked { HasAsked self.old.seat self.new.seat result }
+        ensures begun { begun self.new.walk ≡ begun self.old.walk }
         ensures shown { (shown : List ℕ)
             → HasShown self.old.set self.old.seat self.old.walk shown
             → HasShown self.new.set self.new.seat self.new.walk (with_shown result shown) }

@@ -14,7 +14,8 @@ pub fn keys_add_up()
     ensures { KeysAddUp }
 {}
 
-/// A walk is its seat's also after other calls of the seat, and has shown what it had.
+/// A seat that has worked has forgotten nothing; and a walk is its seat's also after other calls of
+/// the seat, and has shown what it had.
 pub fn walk_lasts()
     ensures { WalkLasts }
 {}

@@ -6,6 +6,7 @@ ghost use Rattle.std.specs.Prelude.{
   ◌≤◌,
   ◌↔◌,
   ℕ,
+  All,
   IfOk,
   IfErr,
   IfSome,
@@ -21,12 +22,16 @@ ghost use Rattle.std.specs.Prelude.{
 };
 ghost use Rattle.nb_core.specs.Log.{IsBeginning};
 ghost use Rattle.nb_core.specs.Plans.{IsPlan};
+ghost use Rattle.nb_core.specs.Tables.{IsComplete, tables_at};
 ghost use Rattle.nb_map.specs.Looking.{get_steps};
-ghost use Rattle.nb_set.specs.Ending.{EndedWith};
+ghost use Rattle.nb_set.specs.Ending.{EndedWith, HasTablesLeft};
 ghost use Rattle.nb_set.specs.Log as call;
 ghost use Rattle.nb_set.specs.Sets.{
   AreMine,
+  HasEstimated,
   HasLogged,
+  HasLooked,
+  HasMet,
   HasNoRoom,
   HasReplied,
   HasStepped,
@@ -46,6 +51,7 @@ ghost use Rattle.nb_set.specs.Walks.{
   HasShown,
   IsLater,
   IsWalkOf,
+  begun,
   slots_before,
   walking_steps,
   with_shown,
@@ -120,7 +126,10 @@ impl LongSet {
     pub fn new(alloc: Global, shape: Shape) -> Result<(LongSet, Vec<Seat>), OutOfMemory>
         ensures shape { IfOk result (λ made. shape_of made.0 ≡ shape) }
         ensures plan { IfOk result (λ made. IsPlan (shape_of made.0)) }
+        ensures counter { IfOk result (λ made. (made.0.map.counter.stripes ≡ shape.stripes)
+            × (made.0.map.counter.seats ≡ shape.seats)) }
         ensures seats { IfOk result (λ made. made.1.items ≡ new_seats made.0 shape.seats) }
+        ensures empty { IfOk result (λ made. All (λ seat. log seat ≡ []) made.1.items) }
         ensures own { IfOk result (λ made. AreMine made.0 made.1.items) }
     {
         let mut seats = Vec::with_capacity(alloc, shape.seats())?;
@@ -130,6 +139,13 @@ impl LongSet {
             seats.push_reserved(Seat { map: seat });
         }
         Ok((LongSet { map, room }, seats))
+    }
+
+    /// The shape that the set was made with. It makes no step.
+    pub fn shape(&self) -> &Shape
+        ensures { result.now ≡ shape_of self.now }
+    {
+        self.map.shape()
     }
 
     /// Puts a key into the set, and answers whether it came: it wasn't there before. `Set.add`.
@@ -183,6 +199,8 @@ impl LongSet {
         requires own { IsMine self.now seat.old }
         ensures logged { HasLogged seat.old seat.new [] }
         ensures steps { HasStepped seat.old seat.new 0 }
+        ensures looked { HasEstimated self.now seat.old seat.new }
+        ensures later { IsLater seat.old seat.new }
         ensures own { IsMine self.now seat.new }
     {
         self.map.size_estimate(&mut seat.map)
@@ -193,18 +211,26 @@ impl LongSet {
     pub fn generation(&self, seat: &mut Seat) -> u32
         requires own { IsMine self.now seat.old }
         ensures found { result ≡ generation_of self.now seat.new }
+        ensures complete { (g : ℕ) → g < result → IsComplete (shape_of self.now)
+            (tables_at (shape_of self.now) seat.new.map.chain.seen) g }
         ensures logged { HasLogged seat.old seat.new [] }
         ensures steps { HasStepped seat.old seat.new 1 }
+        ensures looked { HasLooked seat.old seat.new }
+        ensures later { IsLater seat.old seat.new }
         ensures own { IsMine self.now seat.new }
     {
         self.map.generation(&mut seat.map)
     }
 
-    /// Begins a walk over the set's keys, by one step.
+    /// Begins a walk over the set's keys, by one step. The seat may make what calls it likes
+    /// meanwhile, and take on other walks.
     pub fn walk(&self, seat: &mut Seat) -> Walk
         requires own { IsMine self.now seat.old }
         ensures logged { HasLogged seat.old seat.new [] }
         ensures steps { HasStepped seat.old seat.new 1 }
+        ensures looked { HasLooked seat.old seat.new }
+        ensures later { IsLater seat.old seat.new }
+        ensures begun { begun result ≡ seat.new }
         ensures walk { IsWalkOf self.now seat.new result }
         ensures shown { HasShown self.now seat.new result [] }
         ensures own { IsMine self.now seat.new }
@@ -224,6 +250,7 @@ impl LongSet {
         requires own { IsMine self.now seat.old }
         requires walk { IsWalkOf self.now seat.old walk.old }
         ensures asked { HasAsked seat.old seat.new result }
+        ensures begun { begun walk.new ≡ begun walk.old }
         ensures shown { (shown : List ℕ) → HasShown self.now seat.old walk.old shown
             → HasShown self.now seat.new walk.new (with_shown result shown) }
         ensures ended { result ≡ None → HasEnded walk.new }
@@ -245,6 +272,8 @@ impl LongSet {
         ensures a { HasLogged a.old a.new [] × IsBeginning (log b.old) (log a.new) }
         ensures b { HasLogged b.old b.new [] × IsBeginning (log a.old) (log b.new) }
         ensures steps { HasStepped a.old a.new 1 × HasStepped b.old b.new 1 }
+        ensures looked { HasMet a.old b.old a.new × HasMet b.old a.old b.new }
+        ensures later { IsLater a.old a.new × IsLater b.old b.new }
         ensures a_own { IsMine self.now a.new }
         ensures b_own { IsMine self.now b.new }
     {
@@ -257,6 +286,7 @@ impl LongSet {
         requires own { AreMine self seats.items }
         ensures all { (is_ok result ≡ true) ↔ (length seats.items ≡ (shape_of self).seats) }
         ensures ended { IfOk result (EndedWith seats.items) }
+        ensures tables { IfOk result (HasTablesLeft (shape_of self) seats.items) }
         ensures back { IfErr result (λ given. (given.whole ≡ self)
             × (given.seats.items ≡ seats.items)) }
     {

@@ -1,7 +1,11 @@
 //! Threads read and change one set by handles.
+ghost use Rattle.std.specs.Prelude.{◌≡◌};
+ghost use Rattle.nb_set.specs.Handles.{AreOfOneSet, IsSameSet};
+
 use crate::Handle;
 use nb_core::{Key, RangeFault, Shape};
 use std::process::Abort;
+use std::sync::Wait;
 use std::test::Fail;
 use std::thread;
 
@@ -57,6 +61,42 @@ fn calls_by_name(rt: HostRuntime) -> Result<(), Fail> {
     assert_eq!(rt; walk.next_key().map(Key::get), Some(5));
     assert!(rt; walk.next_key().is_none());
     assert_eq!(rt; walk.end().contains(five), true);
+    Ok(())
+}
+
+/// Adds a key and looks for it. Its caller knows by `same` that the handle is of the set that it
+/// was of.
+fn adds_and_looks<R: Wait>(rt: &R, handle: &mut Handle, key: Key) -> bool
+    ensures same { IsSameSet handle.old handle.new }
+{
+    handle.add(rt, key).is_ok() && handle.contains(key)
+}
+
+/// The two handles of a set with two seats.
+fn two<R: Abort>(rt: &R, handles: Vec<Handle>) -> (Handle, Handle)
+    requires { AreOfOneSet handles.items }
+    ensures { result.0.set ≡ result.1.set }
+{
+    let mut handles = handles;
+    let Some(theirs) = handles.pop() else {
+        panic!(rt; "there is a handle")
+    };
+    let Some(mine) = handles.pop() else {
+        panic!(rt; "there is another one")
+    };
+    (mine, theirs)
+}
+
+/// Handles meet after functions that work with them.
+#[test]
+fn functions_over_handles(rt: HostRuntime) -> Result<(), Fail> {
+    let handles = Handle::open(rt.alloc(), Shape::new(4, 4, 2, 1)?)?;
+    let (mut mine, mut theirs) = two(&rt, handles);
+    assert!(rt; adds_and_looks(&rt, &mut mine, key(5)?));
+    mine.meet(&mut theirs);
+    assert!(rt; adds_and_looks(&rt, &mut theirs, key(6)?));
+    theirs.meet(&mut mine);
+    assert!(rt; mine.contains(key(6)?));
     Ok(())
 }
 

@@ -7,7 +7,7 @@ use Rattle.nb_set.specs.Ending.{EndedOf}
 use Rattle.nb_set.specs.Handles.{on_map, seats_of}
 use Rattle.nb_set.specs.Sets.{shape_of}
 use Rattle.nb_set.proofs.Dealt.{ended-with}
-use Rattle.nb_set.proofs.Held.{gathered-all, on-one-map, seats-on-map}
+use Rattle.nb_set.proofs.Held.{gathered-all, on-one-map, seats-on-map, tables-left}
 use Rattle.nb_set.proofs.handle.Handle.close.Goals as goal
 
 pub close-requires : goal.close-requires
@@ -71,3 +71,11 @@ returns-clause-ended g c =
     ended-with (seats_of c.args.handles.items) ended
     (subst (λ seats. of_map.EndedWith seats c.in-Ok.map)
     (ap handles.seats_of all ∙ seats-on-map c.args.handles.items) c.in-Ok.ensures.ended)
+
+pub returns-clause-tables : goal.returns-clause-tables
+returns-clause-tables g c =
+    let all = c.gathered.ensures.handles
+    ∙ gathered-all c.args.handles.items c.pop.new.self.items c.in-Some.last c.last.inside.map
+    c.in-Some.ensures.items (ap on_map (sym c.last.view_is)) in
+    tables-left c.args.handles.items c.gathered.result.items (record { map = c.in-Ok.map }) all
+    c.in-Ok.ensures.tables

@@ -3,7 +3,7 @@ use Rattle.std.proofs.lemmas.List.{length-map}
 use Rattle.std.specs.Vec.Iter.{into_iter_items}
 use Rattle.nb_core.proofs.Seating.{all-moved, moved-count, moved-more, none-moved}
 use Rattle.nb_set.specs.Sets.{SetOf}
-use Rattle.nb_set.proofs.Held.{as_handle, handles-dealt, handles-many, of-one}
+use Rattle.nb_set.proofs.Held.{as_handle, handles-dealt, handles-many, logs-empty, of-one}
 use Rattle.nb_set.proofs.handle.Handle.open.Goals as goal
 
 pub push_reserved-requires : goal.push_reserved-requires
@@ -54,6 +54,13 @@ returns-clause-new c =
       is,
       handles-are c ∙ ap (map as_handle) items ∙ handles-dealt set c.args.shape.seats,
     )
+
+pub returns-clause-empty : goal.returns-clause-empty
+returns-clause-empty c =
+    let (m, is, items) = c.in_ok-map-items.ensures.new in
+    let set : SetOf = record { map = m } in
+    logs-empty set c.args.shape.seats c.loop-map.handles.items
+    (handles-are c ∙ ap (map as_handle) items ∙ handles-dealt set c.args.shape.seats)
 
 pub returns-clause-one : goal.returns-clause-one
 returns-clause-one c =

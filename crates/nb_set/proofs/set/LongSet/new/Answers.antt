@@ -4,8 +4,8 @@ use Rattle.std.proofs.lemmas.List.FromFn.{length-map-range_with_len}
 use Rattle.std.specs.Vec.Iter.{into_iter_items}
 use Rattle.nb_core.proofs.Seating.{all-moved, moved-count, moved-more, none-moved}
 use Rattle.nb_map.specs.Maps as maps
-use Rattle.nb_set.specs.Sets.{AreMine}
-use Rattle.nb_set.proofs.Dealt.{as_set, dealt, mine-as}
+use Rattle.nb_set.specs.Sets.{AreMine, SetOf}
+use Rattle.nb_set.proofs.Dealt.{as_set, dealt, logs-empty, mine-as}
 use Rattle.nb_set.proofs.set.LongSet.new.Goals as goal
 
 pub loop-seat-init : goal.loop-seat-init
@@ -52,6 +52,12 @@ pub returns-clause-seats : goal.returns-clause-seats
 returns-clause-seats c =
     seats-are c ∙ ap (map as_set) c.in_ok-map.ensures.seats
     ∙ dealt (record { map = c.in_ok-map.map }) c.args.shape.seats
+
+pub returns-clause-empty : goal.returns-clause-empty
+returns-clause-empty c =
+    let set : SetOf = record { map = c.in_ok-map.map } in
+    logs-empty set c.args.shape.seats c.loop-seat.seats.items (seats-are c
+    ∙ ap (map as_set) c.in_ok-map.ensures.seats ∙ dealt set c.args.shape.seats)
 
 pub returns-clause-own : goal.returns-clause-own
 returns-clause-own c =
