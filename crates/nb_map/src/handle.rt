@@ -83,7 +83,7 @@ impl Handle {
             × (handles.items ≡ new_handles m shape.seats)) }
         ensures made { IfOk result (λ handles. All (λ handle. IsMadeFor handle.map shape)
             handles.items) }
-        ensures begun { IfOk result (λ handles. HaveEmptyLogs (seats_of handles.items)) }
+        ensures empty { IfOk result (λ handles. HaveEmptyLogs (seats_of handles.items)) }
         ensures one { IfOk result (λ handles. AreOfOneMap handles.items) }
     {
         let mut handles = Vec::with_capacity(alloc, shape.seats())?;

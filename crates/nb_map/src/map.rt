@@ -106,7 +106,7 @@ impl Map {
         ensures counter { IfOk result (λ made. (made.0.counter.stripes ≡ shape.stripes)
             × (made.0.counter.seats ≡ shape.seats)) }
         ensures seats { IfOk result (λ made. made.1.items ≡ new_seats made.0 shape.seats) }
-        ensures begun { IfOk result (λ made. HaveEmptyLogs made.1.items) }
+        ensures empty { IfOk result (λ made. HaveEmptyLogs made.1.items) }
         ensures own { IfOk result (λ made. AreMine made.0 made.1.items) }
     {
         let mut seats = Vec::with_capacity(alloc, shape.seats())?;

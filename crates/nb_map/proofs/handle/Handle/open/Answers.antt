@@ -51,8 +51,8 @@ returns-clause-made c =
     (all-moved c.loop-seat.invariant.2
     (omega (arith, c.in-None.ensures.steps, c.loop-seat.seat-iterator.rest.ok)))
 
-pub returns-clause-begun : goal.returns-clause-begun
-returns-clause-begun c =
+pub returns-clause-empty : goal.returns-clause-empty
+returns-clause-empty c =
     handle-logs (arc_value c.in-Ok.map) c.args.shape.seats c.loop-seat.handles.items
     (all-moved c.loop-seat.invariant.2
     (omega (arith, c.in-None.ensures.steps, c.loop-seat.seat-iterator.rest.ok)))

@@ -76,8 +76,8 @@ returns-clause-own c =
     (subst IsPlan (sym c.in_ok-chain.ensures.chain) c.seats.ensures.plan) _ _
     (returns-clause-seats c)
 
-pub returns-clause-begun : goal.returns-clause-begun
-returns-clause-begun c =
+pub returns-clause-empty : goal.returns-clause-empty
+returns-clause-empty c =
     new-logs (record { chain = c.in_ok-chain.chain; counter = c.in_ok-counter.counter }) _ _
     (returns-clause-seats c)
 
