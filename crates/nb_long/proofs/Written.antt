@@ -8,6 +8,7 @@ use Rattle.nb_map.proofs.Theorems.{replies_fit}
 use Rattle.nb_map.specs.Logs.{HasFound, HasReplied}
 use Rattle.nb_map.specs.Maps.{SeatOf}
 use Rattle.nb_map.specs.Refusing.{IsLockFree}
+use Rattle.nb_map.specs.Writing.{IsShortAtHome}
 use Rattle.nb_long.specs.Stores.{HasStored}
 use Rattle.nb_long.specs.Typed.{HasWritten, LongMapOf, put_of}
 use Rattle.nb_long.specs.declared.map.Stored.{Stored}
@@ -18,19 +19,23 @@ written :
     (stored : Stored V)
     → HasStored m.store value stored.receipt
     → HasFound (put_of key want stored.receipt) before after stored.before
-    → stored.done ≡ holds_of want stored.before
+    → stored.done ≡ holds_of want stored.before → stored.compared ≡ None
     → IsLockFree m.map (put_of key want stored.receipt) before after
+    → IsShortAtHome m.map.chain.shape (put_of key want stored.receipt) before.chain after.chain
     → HasWritten m key want value before after stored
-written m key want value before after stored held (reply, is, replied) done lock_free = record {
-  held = held;
-  replied =
-      subst (λ reply. HasReplied (put_of key want stored.receipt) before after reply)
+written m key want value before after stored held (reply, is, replied) done none lock_free short =
+    record {
+      held = held;
+      replied =
+          subst (λ reply. HasReplied (put_of key want stored.receipt) before after reply)
       (replies_fit before after (put_of key want stored.receipt) reply replied
       ∙ ap (reply_at (put_of key want stored.receipt)) is
       ∙ ap (λ (matched : Bool). record { before = stored.before; matched = matched })
       (sym done)) replied;
-  lock_free = lock_free;
-}
+      lock_free = lock_free;
+      short = short;
+      uncompared = none;
+    }
 
 -- the same, where the map was called with the receipt's number
 pub written-as :
@@ -38,14 +43,18 @@ pub written-as :
     (stored : Stored V) (number : ℕ)
     → number ≡ stored.receipt.index → HasStored m.store value stored.receipt
     → HasFound (call.Write key want (change.Put number)) before after stored.before
-    → stored.done ≡ holds_of want stored.before
+    → stored.done ≡ holds_of want stored.before → stored.compared ≡ None
     → IsLockFree m.map (call.Write key want (change.Put number)) before after
+    → IsShortAtHome m.map.chain.shape (call.Write key want (change.Put number))
+    before.chain after.chain
     → HasWritten m key want value before after stored
-written-as m key want value before after stored number is held found done lock_free =
+written-as m key want value before after stored number is held found done none lock_free short =
     written m key want value before after stored held
     (subst (λ n. HasFound (call.Write key want (change.Put n)) before after stored.before) is found)
-    done
+    done none
     (subst (λ n. IsLockFree m.map (call.Write key want (change.Put n)) before after) is lock_free)
+    (subst (λ n. IsShortAtHome m.map.chain.shape (call.Write key want (change.Put n)) before.chain
+    after.chain) is short)
 
 -- what wasn't there came, and nothing else
 pub is-new : (number : Option ℕ) (came : Bool) → is_some number ≡ not came → came ≡ is_none number

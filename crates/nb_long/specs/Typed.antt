@@ -1,6 +1,6 @@
 -- How contracts see a typed map, and what its calls do: each is calls of the map of numbers, in its
 -- log, with values that the store holds under these numbers.
-use Rattle.std.specs.Prelude.{◌≡◌, ℕ, Bool, true, false, List, ◌∷◌, Option, Some, None, Result, Ok, Err, All}
+use Rattle.std.specs.Prelude.{◌≡◌, ℕ, ◌+◌, ◌*◌, Bool, true, false, List, ◌∷◌, Option, Some, None, option_map, Result, Ok, Err, All}
 use Rattle.boxcar.specs.Table.{Shelves, Shows, Where}
 use Rattle.nb_core.specs.declared.calls.Call.{Call}
 use Rattle.nb_core.specs.declared.calls.Call.TheVariants as call
@@ -9,10 +9,14 @@ use Rattle.nb_core.specs.declared.calls.Change.TheVariants as change
 use Rattle.nb_core.specs.declared.calls.Want.{Want}
 use Rattle.nb_core.specs.declared.calls.Want.TheVariants as want
 use Rattle.nb_core.specs.Log.{reply_at}
+use Rattle.nb_core.specs.Plans.{Plan}
 use Rattle.nb_core.specs.declared.calls.Reply.{Reply}
+use Rattle.nb_map.specs.Calling.{HasStepped}
 use Rattle.nb_map.specs.Logs.{HasLogged, HasReplied}
-use Rattle.nb_map.specs.Maps.{MapOf, SeatOf}
-use Rattle.nb_map.specs.Refusing.{HasRefused, IsLockFree}
+use Rattle.nb_map.specs.Looking.{get_steps}
+use Rattle.nb_map.specs.Maps.{HasWorked, MapOf, SeatOf}
+use Rattle.nb_map.specs.Refusing.{HasRefused, IsLockFree, put_steps}
+use Rattle.nb_map.specs.Writing.{IsShortAtHome, passed_since}
 use Rattle.nb_map.specs.declared.waiting.AddFault.TheVariants as add_fault
 use Rattle.nb_long.specs.Stores.{GivesBack, HasStored}
 use Rattle.nb_long.specs.declared.map.LongFault.{LongFault}
@@ -43,13 +47,16 @@ abbrev pub put_of : {V : Type 0} → (key : ℕ) → Want → Where V → Call
 put_of key want token = call.Write key want (change.Put token.index)
 
 -- The value is stored, and the seat has made the one call that puts its number where the condition
--- holds. The answers are that call's.
+-- holds. The answers are that call's; it compares no values.
 pub record HasWritten {V : Type 0} (m : LongMapOf) (key : ℕ) (want : Want) (value : V)
     (before after : SeatOf) (stored : Stored V) : Type 0 where
   pub held : HasStored m.store value stored.receipt
   pub replied : HasReplied (put_of key want stored.receipt) before after
       (record { before = stored.before; matched = stored.done })
   pub lock_free : IsLockFree m.map (put_of key want stored.receipt) before after
+  pub short : IsShortAtHome m.map.chain.shape (put_of key want stored.receipt)
+      before.chain after.chain
+  pub uncompared : stored.compared ≡ None
 
 -- a fault of the store, as one of the map
 abbrev pub as_fault : {V : Type 0} → StoreFault V → LongFault V
@@ -68,6 +75,7 @@ IsWriteRefused m key want value before after (fault.Full receipt) =
     HasStored m.store value receipt × HasRefused m.map (put_of key want receipt)
     before after add_fault.Full
     × IsLockFree m.map (put_of key want receipt) before after
+    × IsShortAtHome m.map.chain.shape (put_of key want receipt) before.chain after.chain
 IsWriteRefused m key want value before after (fault.Unshown receipt) = ⊥
 
 -- ---- writes where an equal value stands
@@ -77,11 +85,31 @@ abbrev pub IsIdle : (key : ℕ) → Call × Reply → Type 0
 IsIdle key (call.Get k, reply) = k ≡ key
 IsIdle key (call.Write k want change, reply) = (k ≡ key) × (reply.matched ≡ false)
 
--- the seat has made such calls alone, or none
-pub record HasIdled (key : ℕ) (before after : SeatOf) : Type 0 where
+-- how many exchanges on the key other seats have won since the seat had seen no more than `before`
+abbrev pub passed_on : (key : ℕ) → (before after : SeatOf) → ℕ
+passed_on key before after = passed_since (call.Get key) before.chain after.chain
+
+-- the most steps of a read, and of a write with one try after it
+abbrev pub round_steps : Plan → ℕ
+round_steps p = get_steps p + put_steps p 1
+
+-- The seat has made such calls alone, or none, and counted no key. It has read and tried to write
+-- no more often than other seats have won exchanges on the key meanwhile; and its steps were such
+-- as a read of the key may make.
+pub record HasIdled (m : LongMapOf) (key : ℕ) (before after : SeatOf) : Type 0 where
   pub calls : List (Call × Reply)
   pub idle : All (IsIdle key) calls
   pub logged : HasLogged before after calls
+  pub steps : HasStepped m.map.chain.shape (call.Get key) before.chain after.chain
+      (passed_on key before after * round_steps m.map.chain.shape)
+  pub count : after.count ≡ before.count
+
+-- The call is lock-free: it has read, and tried to write, once more at most than other seats have
+-- won exchanges on its key meanwhile. To the tables it has done no more than a read of the key may,
+-- which installs none, and claims a slot only for a key that has one in the table below.
+abbrev pub IsLockFreeIf : LongMapOf → (key : ℕ) → (before after : SeatOf) → Type 0
+IsLockFreeIf m key before after = HasWorked m.map (call.Get key) before after
+    ((passed_on key before after + 1) * round_steps m.map.chain.shape)
 
 -- The seat has made this call, after none or some that have changed nothing.
 pub record HasMadeLast (key : ℕ) (call : Call) (reply : Reply) (before after : SeatOf) :
@@ -90,26 +118,31 @@ pub record HasMadeLast (key : ℕ) (call : Call) (reply : Reply) (before after :
   pub idle : All (IsIdle key) earlier
   pub logged : HasLogged before after ((call, reply) ∷ earlier)
 
--- the store shows a value under the number, and this is whether it is equal to the given one
-abbrev pub IsCompared : {V : Type 0} → (V → V → Bool) → Shelves → V → (number : ℕ) → Bool → Type 0
-IsCompared {V} eq store value number equal =
-    (found : Where V) × Shows store found × (found.index ≡ number) × (eq found.value value ≡ equal)
+-- the token is of this store, and this is whether its value is equal to the given one
+abbrev pub IsCompared : {V : Type 0} → (V → V → Bool) → Shelves → V → Where V → Bool → Type 0
+IsCompared eq store value token equal = Shows store token × (eq token.value value ≡ equal)
 
--- What the key had at last, and whether the write was made. It was where the key's value was equal
--- to the given one: the last call is a write that matched on its number. Else the last call is a
--- read, which found no number, or a value that isn't equal.
+-- What was found at the key at last, as a token of the store, and whether the change was made. It
+-- was where that value was equal to the given one: the last call is a write that matched on the
+-- token's number. Else the last call is a read, which found no number, or the token's, whose value
+-- isn't equal.
 abbrev pub HasChangedIf :
     {V : Type 0} → (V → V → Bool) → LongMapOf → (key : ℕ) → V → Change → (before after : SeatOf)
-    → Option ℕ → Bool → Type 0
-HasChangedIf eq m key value change before after (Some n) true =
-    IsCompared eq m.store value n true × HasMadeLast key (call.Write key (want.Equal n) change)
-    (record { before = Some n; matched = true }) before after
-HasChangedIf eq m key value change before after (Some n) false =
-    IsCompared eq m.store value n false × HasMadeLast key (call.Get key)
-    (reply_at (call.Get key) (Some n)) before after
+    → Option (Where V) → Bool → Type 0
+HasChangedIf eq m key value change before after (Some token) true =
+    IsCompared eq m.store value token true
+    × HasMadeLast key (call.Write key (want.Equal token.index) change)
+    (record { before = Some token.index; matched = true }) before after
+HasChangedIf eq m key value change before after (Some token) false =
+    IsCompared eq m.store value token false × HasMadeLast key (call.Get key)
+    (reply_at (call.Get key) (Some token.index)) before after
 HasChangedIf eq m key value change before after None true = ⊥
 HasChangedIf eq m key value change before after None false =
     HasMadeLast key (call.Get key) (reply_at (call.Get key) None) before after
+
+-- the number of a token, if there is one
+abbrev pub number_of : {V : Type 0} → Option (Where V) → Option ℕ
+number_of token = option_map (λ (token : Where _). token.index) token
 
 -- the last call is a read of a number that the store didn't show, and nothing was changed
 abbrev pub IsUnshown : (key : ℕ) → (before after : SeatOf) → Type 0
