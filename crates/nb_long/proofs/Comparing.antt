@@ -1,5 +1,5 @@
 -- Writes where an equal value stands: rounds that have changed nothing, and the last one.
-use Rattle.std.proofs.Common.{◌≡◌, ◌∙◌, ℕ, Bool, true, false, not, [], ◌∷◌, ◌++◌, Option, Some, None, Result, Ok, Err, IfErr, ap, ap₂, refl, subst, sym, arith}
+use Rattle.std.proofs.Common.{◌≡◌, ◌∙◌, ℕ, Bool, true, false, [], ◌∷◌, ◌++◌, Option, Some, None, Result, Ok, Err, IfErr, ap, ap₂, refl, subst, sym, arith}
 use Rattle.std.proofs.lemmas.Bool.Decides.{nat_tests}
 use Rattle.std.proofs.lemmas.List.Elements.{All-append, All-cons, All-nil}
 use Rattle.boxcar.specs.Table.{Shelves, Where}
@@ -44,12 +44,15 @@ pub writes :
     → HasReplied (call.Write key (want.Equal n) change) then' after reply → reply.matched ≡ true
     → HasChangedIf eq m key value change before after (Some found) true
 writes eq m key value change before then' after found n reply read is equal replied matched = (
-  (read.1.0, equal),
+  read.1.0,
+  equal,
   record {
     earlier = asked ∷ [];
     idle = All-cons (IsIdle key) asked [] refl (All-nil (IsIdle key));
-    logged = subst (λ n. HasLogged before after ((call.Write key (want.Equal n) change,
-        record { before = Some n; matched = true }) ∷ asked ∷ [])) is
+    logged = subst (λ n. HasLogged before after ((
+      call.Write key (want.Equal n) change,
+      record { before = Some n; matched = true },
+    ) ∷ asked ∷ [])) is
         (logs_add_up.more (read-of m.store key found found.index read refl)
         (subst (λ reply. HasReplied write then' after reply) reply-is replied));
   },
@@ -73,9 +76,9 @@ writes eq m key value change before then' after found n reply read is equal repl
 -- ---- rounds one after another
 
 last-then :
-    {m : LongMapOf} {key : ℕ} {before then' after : SeatOf} {made : Call} {reply : Reply}
-    → HasIdled m key before then' → HasMadeLast key made reply then' after
-    → HasMadeLast key made reply before after
+    {m : LongMapOf} {key : ℕ} {before then' after : SeatOf} {made : Call × Reply}
+    → HasIdled m key before then' → HasMadeLast key made then' after
+    → HasMadeLast key made before after
 last-then {key = key} a b = record {
   earlier = b.earlier ++ a.calls;
   idle = All-append (IsIdle key) b.earlier a.calls b.idle a.idle;
@@ -88,12 +91,10 @@ pub changed-then :
     → HasIdled m key before then'
     → HasChangedIf eq m key value change then' after found done
     → HasChangedIf eq m key value change before after found done
-changed-then eq m key value change before then' after (Some found) true idled (compared, last) =
-    (compared, last-then idled last)
-changed-then eq m key value change before then' after (Some found) false idled (compared, last) =
-    (compared, last-then idled last)
-changed-then eq m key value change before then' after None false idled last = last-then idled last
-changed-then eq m key value change before then' after None true idled never = never
+changed-then eq m key value change before then' after (Some found) done idled
+    (shows, equal, last) = (shows, equal, last-then idled last)
+changed-then eq m key value change before then' after None done idled (none, last) =
+    (none, last-then idled last)
 
 pub unshown-then :
     {m : LongMapOf} {key : ℕ} {before then' after : SeatOf} → HasIdled m key before then'

@@ -1,5 +1,5 @@
 -- The rounds of a call that compares: what their steps add up to, and what they count.
-use Rattle.std.proofs.Common.{◌≡◌, ◌∙◌, ◌+◌, ◌*◌, ◌≤◌, ◌<◌, ℕ, suc, zero, true, false, min, pos, List, [], ◌∷◌, ◌++◌, length, Option, Some, None, ap, ap₂, refl, subst, subst₂, sym, inl, inr, arith}
+use Rattle.std.proofs.Common.{◌≡◌, ◌∙◌, ◌+◌, ◌*◌, ◌≤◌, ◌<◌, ℕ, suc, zero, true, false, min, pos, List, [], ◌∷◌, ◌++◌, length, Some, ap, ap₂, refl, subst, subst₂, sym, inl, inr, arith}
 use Rattle.std.specs.List.{All}
 use Rattle.std.proofs.Math.IntN.{◌+ℤ◌}
 use Rattle.std.proofs.Math.Nat.{add-mul, mul-le-mul_right}
@@ -7,7 +7,7 @@ use Rattle.std.proofs.lemmas.Int.{ints}
 use Rattle.std.proofs.lemmas.List.Elements.{All-append, All-cons, All-nil, All-weaker}
 use Rattle.nb_core.proofs.Theorems.{calls_append, passed_over_adds}
 use Rattle.nb_core.specs.Laws.{Lasts}
-use Rattle.nb_core.specs.Log.{calls_of, log_of, reply_at}
+use Rattle.nb_core.specs.Log.{calls_of, reply_at}
 use Rattle.nb_core.specs.Meaning.{net_of, passed_over}
 use Rattle.nb_core.specs.Plans.{Plan, generations_of}
 use Rattle.nb_core.specs.Tables.{HasSlotBelow, Tables, tables_at}
@@ -20,9 +20,9 @@ use Rattle.nb_core.specs.declared.events.Event.{Event}
 use Rattle.nb_core.specs.declared.events.Event.TheVariants.{Claim, Install}
 use Rattle.nb_count.specs.Counts.{CountSeatOf}
 use Rattle.nb_table.proofs.Theorems.{steps_add_up}
-use Rattle.nb_table.specs.Chains.{ChainOf, Grown, IsOwn, SeenBy, seen_by}
+use Rattle.nb_table.specs.Chains.{ChainOf, Grown, IsOwn, SeenBy}
 use Rattle.nb_map.proofs.Theorems.{logs_add_up, replies_fit}
-use Rattle.nb_map.specs.Calling.{HasCountedTurned, HasMade, HasStepped, MayMake}
+use Rattle.nb_map.specs.Calling.{HasCountedTurned, HasStepped, MayMake}
 use Rattle.nb_map.specs.Logs.{HasLogged, HasReplied, log}
 use Rattle.nb_map.specs.Looking.{get_steps}
 use Rattle.nb_map.specs.Maps.{HasWorked, IsMine, MapOf, SeatOf, accounted}
@@ -256,16 +256,16 @@ pub round-of :
     → HasRound m key n change before then' after
 round-of {key = key} {n} {change} {then' = then'} {after} same own read_own read read_worked
     written_own write_worked = record {
-  own = own;
-  read_own = read_own;
-  read = read;
-  read_worked = read_worked;
-  written_own = subst (λ (m : LongMapOf). IsMine m.map after) same written_own;
-  write_worked = subst (λ (m : LongMapOf). HasWorked m.map
-      (call.Write key (want.Equal n) change) then' after (put_steps m.map.chain.shape
-      (min 1 (passed_since (call.Write key (want.Equal n) change) then'.chain after.chain + 1))))
-      same write_worked;
-}
+      own = own;
+      read_own = read_own;
+      read = read;
+      read_worked = read_worked;
+      written_own = subst (λ (m : LongMapOf). IsMine m.map after) same written_own;
+      write_worked = subst (λ (m : LongMapOf). HasWorked m.map
+          (call.Write key (want.Equal n) change) then' after (put_steps m.map.chain.shape
+          (min 1 (passed_since (call.Write key (want.Equal n) change) then'.chain after.chain + 1))))
+          same write_worked;
+    }
 
 module _
     {m : LongMapOf} {key n : ℕ} {change : Change} {before then' after : SeatOf}

@@ -28,10 +28,10 @@ written m key want value before after stored held (reply, is, replied) done none
       held = held;
       replied =
           subst (λ reply. HasReplied (put_of key want stored.receipt) before after reply)
-      (replies_fit before after (put_of key want stored.receipt) reply replied
-      ∙ ap (reply_at (put_of key want stored.receipt)) is
-      ∙ ap (λ (matched : Bool). record { before = stored.before; matched = matched })
-      (sym done)) replied;
+          (replies_fit before after (put_of key want stored.receipt) reply replied
+          ∙ ap (reply_at (put_of key want stored.receipt)) is
+          ∙ ap (λ (matched : Bool). record { before = stored.before; matched = matched })
+          (sym done)) replied;
       lock_free = lock_free;
       short = short;
       uncompared = none;

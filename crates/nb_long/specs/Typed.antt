@@ -111,34 +111,33 @@ abbrev pub IsLockFreeIf : LongMapOf → (key : ℕ) → (before after : SeatOf) 
 IsLockFreeIf m key before after = HasWorked m.map (call.Get key) before after
     ((passed_on key before after + 1) * round_steps m.map.chain.shape)
 
--- The seat has made this call, after none or some that have changed nothing.
-pub record HasMadeLast (key : ℕ) (call : Call) (reply : Reply) (before after : SeatOf) :
-    Type 0 where
+-- The seat has made this call, with its reply, after none or some that have changed nothing.
+pub record HasMadeLast (key : ℕ) (made : Call × Reply) (before after : SeatOf) : Type 0 where
   pub earlier : List (Call × Reply)
   pub idle : All (IsIdle key) earlier
-  pub logged : HasLogged before after ((call, reply) ∷ earlier)
+  pub logged : HasLogged before after (made ∷ earlier)
 
--- the token is of this store, and this is whether its value is equal to the given one
-abbrev pub IsCompared : {V : Type 0} → (V → V → Bool) → Shelves → V → Where V → Bool → Type 0
-IsCompared eq store value token equal = Shows store token × (eq token.value value ≡ equal)
+-- a read of the key that found this number, or none
+abbrev pub read_of : (key : ℕ) → Option ℕ → Call × Reply
+read_of key number = (call.Get key, reply_at (call.Get key) number)
 
--- What was found at the key at last, as a token of the store, and whether the change was made. It
--- was where that value was equal to the given one: the last call is a write that matched on the
--- token's number. Else the last call is a read, which found no number, or the token's, whose value
--- isn't equal.
+-- the last call where this number was found: if the change is done, the write that matched on the
+-- number, else the read that found it
+abbrev pub last_call : (key n : ℕ) → Change → (done : Bool) → Call × Reply
+last_call key n change true =
+    (call.Write key (want.Equal n) change, record { before = Some n; matched = true })
+last_call key n change false = read_of key (Some n)
+
+-- What was found at the key at last, as a token of the store, and whether the change was done: just
+-- where the token's value is equal to the given one. Where nothing was found, nothing is done.
 abbrev pub HasChangedIf :
     {V : Type 0} → (V → V → Bool) → LongMapOf → (key : ℕ) → V → Change → (before after : SeatOf)
     → Option (Where V) → Bool → Type 0
-HasChangedIf eq m key value change before after (Some token) true =
-    IsCompared eq m.store value token true
-    × HasMadeLast key (call.Write key (want.Equal token.index) change)
-    (record { before = Some token.index; matched = true }) before after
-HasChangedIf eq m key value change before after (Some token) false =
-    IsCompared eq m.store value token false × HasMadeLast key (call.Get key)
-    (reply_at (call.Get key) (Some token.index)) before after
-HasChangedIf eq m key value change before after None true = ⊥
-HasChangedIf eq m key value change before after None false =
-    HasMadeLast key (call.Get key) (reply_at (call.Get key) None) before after
+HasChangedIf eq m key value change before after (Some token) done =
+    Shows m.store token × (eq token.value value ≡ done)
+    × HasMadeLast key (last_call key token.index change done) before after
+HasChangedIf eq m key value change before after None done =
+    (done ≡ false) × HasMadeLast key (read_of key None) before after
 
 -- the number of a token, if there is one
 abbrev pub number_of : {V : Type 0} → Option (Where V) → Option ℕ
@@ -147,7 +146,7 @@ number_of token = option_map (λ (token : Where _). token.index) token
 -- the last call is a read of a number that the store didn't show, and nothing was changed
 abbrev pub IsUnshown : (key : ℕ) → (before after : SeatOf) → Type 0
 IsUnshown key before after =
-    (n : ℕ) × HasMadeLast key (call.Get key) (reply_at (call.Get key) (Some n)) before after
+    (n : ℕ) × HasMadeLast key (read_of key (Some n)) before after
 
 -- What is given back where a value isn't written in place of an equal one. There is always a slot
 -- for it.

@@ -99,6 +99,13 @@ impl<V: Drop> Handle<V> {
         Ok(handles)
     }
 
+    /// Reminds a proof that the handle's seat is the map's. It does nothing.
+    pub fn known(&self)
+        ensures { IsMine self.now.map.map self.now.seat }
+    {
+        let _ = &self.seat;
+    }
+
     /// The number of the value that the map has at a key, which `show` reads. It is `LongMap::get`
     /// in two calls: what is shown is borrowed from the handle, and a read changes the handle.
     pub fn number_at(&mut self, key: Key) -> Option<Num>
@@ -217,12 +224,7 @@ impl<V: Drop> Handle<V> {
     }
 
     /// The same, and answers what reads the value that was compared, too: `LongMap::take_if`.
-    pub fn take_if<R: Wait>(
-        &mut self,
-        rt: &R,
-        key: Key,
-        value: &V,
-    ) -> Result<Compared<V>, Unshown>
+    pub fn take_if<R: Wait>(&mut self, rt: &R, key: Key, value: &V) -> Result<Compared<V>, Unshown>
     where
         V: PartialEq,
         ensures changed { IfOk result (λ compared. HasChangedIf V.eq self.old.map key value.now

@@ -1,4 +1,4 @@
-use Rattle.std.proofs.Common.{◌≡◌, ◌∙◌, false, Some, ap, refl, subst, sym, true}
+use Rattle.std.proofs.Common.{◌∙◌, Some, ap, subst, sym, true}
 use Rattle.nb_long.proofs.Comparing.{read-of, writes}
 use Rattle.nb_long.proofs.Rounds.{gives-up, idles, round-free, round-of}
 use Rattle.nb_long.specs.Typed.{HasChangedIf}
