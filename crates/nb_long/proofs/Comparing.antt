@@ -1,5 +1,5 @@
 -- Writes where an equal value stands: rounds that have changed nothing, and the last one.
-use Rattle.std.proofs.Common.{◌≡◌, ◌∙◌, ℕ, Bool, true, false, [], ◌∷◌, ◌++◌, Option, Some, None, Result, Ok, Err, IfErr, ap, ap₂, refl, subst, sym, arith}
+use Rattle.std.proofs.Common.{◌≡◌, ◌∙◌, ℕ, Bool, true, [], ◌∷◌, ◌++◌, Option, Some, None, Result, Ok, Err, IfErr, ap, ap₂, refl, subst, sym, arith}
 use Rattle.std.proofs.lemmas.Bool.Decides.{nat_tests}
 use Rattle.std.proofs.lemmas.List.Elements.{All-append, All-cons, All-nil}
 use Rattle.boxcar.specs.Table.{Shelves, Where}

@@ -8,7 +8,6 @@ use Rattle.nb_map.proofs.Theorems.{replies_fit}
 use Rattle.nb_map.specs.Logs.{HasFound, HasReplied}
 use Rattle.nb_map.specs.Maps.{SeatOf}
 use Rattle.nb_map.specs.Refusing.{IsLockFree}
-use Rattle.nb_map.specs.Writing.{IsShortAtHome}
 use Rattle.nb_long.specs.Stores.{HasStored}
 use Rattle.nb_long.specs.Typed.{HasWritten, LongMapOf, put_of}
 use Rattle.nb_long.specs.declared.map.Stored.{Stored}
@@ -21,9 +20,8 @@ written :
     → HasFound (put_of key want stored.receipt) before after stored.before
     → stored.done ≡ holds_of want stored.before → stored.compared ≡ None
     → IsLockFree m.map (put_of key want stored.receipt) before after
-    → IsShortAtHome m.map.chain.shape (put_of key want stored.receipt) before.chain after.chain
     → HasWritten m key want value before after stored
-written m key want value before after stored held (reply, is, replied) done none lock_free short =
+written m key want value before after stored held (reply, is, replied) done none lock_free =
     record {
       held = held;
       replied =
@@ -33,7 +31,6 @@ written m key want value before after stored held (reply, is, replied) done none
           ∙ ap (λ (matched : Bool). record { before = stored.before; matched = matched })
           (sym done)) replied;
       lock_free = lock_free;
-      short = short;
       uncompared = none;
     }
 
@@ -45,16 +42,12 @@ pub written-as :
     → HasFound (call.Write key want (change.Put number)) before after stored.before
     → stored.done ≡ holds_of want stored.before → stored.compared ≡ None
     → IsLockFree m.map (call.Write key want (change.Put number)) before after
-    → IsShortAtHome m.map.chain.shape (call.Write key want (change.Put number))
-    before.chain after.chain
     → HasWritten m key want value before after stored
-written-as m key want value before after stored number is held found done none lock_free short =
+written-as m key want value before after stored number is held found done none lock_free =
     written m key want value before after stored held
     (subst (λ n. HasFound (call.Write key want (change.Put n)) before after stored.before) is found)
     done none
     (subst (λ n. IsLockFree m.map (call.Write key want (change.Put n)) before after) is lock_free)
-    (subst (λ n. IsShortAtHome m.map.chain.shape (call.Write key want (change.Put n)) before.chain
-    after.chain) is short)
 
 -- what wasn't there came, and nothing else
 pub is-new : (number : Option ℕ) (came : Bool) → is_some number ≡ not came → came ≡ is_none number

@@ -16,7 +16,7 @@ use Rattle.nb_map.specs.Logs.{HasLogged, HasReplied}
 use Rattle.nb_map.specs.Looking.{get_steps}
 use Rattle.nb_map.specs.Maps.{HasWorked, MapOf, SeatOf}
 use Rattle.nb_map.specs.Refusing.{HasRefused, IsLockFree, put_steps}
-use Rattle.nb_map.specs.Writing.{IsShortAtHome, passed_since}
+use Rattle.nb_map.specs.Writing.{passed_since}
 use Rattle.nb_map.specs.declared.waiting.AddFault.TheVariants as add_fault
 use Rattle.nb_long.specs.Stores.{GivesBack, HasStored}
 use Rattle.nb_long.specs.declared.map.LongFault.{LongFault}
@@ -54,8 +54,6 @@ pub record HasWritten {V : Type 0} (m : LongMapOf) (key : ℕ) (want : Want) (va
   pub replied : HasReplied (put_of key want stored.receipt) before after
       (record { before = stored.before; matched = stored.done })
   pub lock_free : IsLockFree m.map (put_of key want stored.receipt) before after
-  pub short : IsShortAtHome m.map.chain.shape (put_of key want stored.receipt)
-      before.chain after.chain
   pub uncompared : stored.compared ≡ None
 
 -- a fault of the store, as one of the map
@@ -75,7 +73,6 @@ IsWriteRefused m key want value before after (fault.Full receipt) =
     HasStored m.store value receipt × HasRefused m.map (put_of key want receipt)
     before after add_fault.Full
     × IsLockFree m.map (put_of key want receipt) before after
-    × IsShortAtHome m.map.chain.shape (put_of key want receipt) before.chain after.chain
 IsWriteRefused m key want value before after (fault.Unshown receipt) = ⊥
 
 -- ---- writes where an equal value stands
@@ -89,13 +86,13 @@ IsIdle key (call.Write k want change, reply) = (k ≡ key) × (reply.matched ≡
 abbrev pub passed_on : (key : ℕ) → (before after : SeatOf) → ℕ
 passed_on key before after = passed_since (call.Get key) before.chain after.chain
 
--- the most steps of a read, and of a write with one try after it
+-- the most steps of a round: of a read, and of a write with one try after it
 abbrev pub round_steps : Plan → ℕ
 round_steps p = get_steps p + put_steps p 1
 
--- The seat has made such calls alone, or none, and counted no key. It has read and tried to write
--- no more often than other seats have won exchanges on the key meanwhile; and its steps were such
--- as a read of the key may make.
+-- The seat has made such calls alone, or none, and counted nothing. Its steps were such as a read of
+-- the key may make, and no more than a round takes for each exchange that other seats have won on
+-- the key meanwhile.
 pub record HasIdled (m : LongMapOf) (key : ℕ) (before after : SeatOf) : Type 0 where
   pub calls : List (Call × Reply)
   pub idle : All (IsIdle key) calls
@@ -104,9 +101,10 @@ pub record HasIdled (m : LongMapOf) (key : ℕ) (before after : SeatOf) : Type 0
       (passed_on key before after * round_steps m.map.chain.shape)
   pub count : after.count ≡ before.count
 
--- The call is lock-free: it has read, and tried to write, once more at most than other seats have
--- won exchanges on its key meanwhile. To the tables it has done no more than a read of the key may,
--- which installs none, and claims a slot only for a key that has one in the table below.
+-- The call is lock-free: it has taken no more steps than a round takes for each exchange that other
+-- seats have won on its key meanwhile, and one round more. To the tables it has done no more than a
+-- read of the key may, which installs none, and claims a slot only for a key that has one in the
+-- table below. On the counter it has made one step at most.
 abbrev pub IsLockFreeIf : LongMapOf → (key : ℕ) → (before after : SeatOf) → Type 0
 IsLockFreeIf m key before after = HasWorked m.map (call.Get key) before after
     ((passed_on key before after + 1) * round_steps m.map.chain.shape)

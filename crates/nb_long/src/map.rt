@@ -5,7 +5,6 @@ ghost use Rattle.std.specs.Prelude.{
   ◌≤◌,
   ◌↔◌,
   ℕ,
-  All,
   false,
   IfOk,
   IfErr,
@@ -31,6 +30,7 @@ ghost use Rattle.nb_map.specs.Looking.{IsSeenAtHome, get_steps};
 ghost use Rattle.nb_map.specs.Maps.{AreMine, HasWorked, IsMine, new_seats};
 ghost use Rattle.nb_map.specs.Refusing.{IsLockFree};
 ghost use Rattle.nb_map.specs.Writing.{IsShortAtHome};
+ghost use Rattle.nb_long.specs.Handles.{HaveNoLog};
 ghost use Rattle.nb_long.specs.Stores.{HasStored};
 ghost use Rattle.nb_long.specs.Typed.{
   HasChangedIf,
@@ -134,7 +134,7 @@ impl<V: Drop> LongMap<V> {
         ensures counter { IfOk result (λ made. (made.0.map.counter.stripes ≡ shape.stripes)
             × (made.0.map.counter.seats ≡ shape.seats)) }
         ensures seats { IfOk result (λ made. made.1.items ≡ new_seats made.0.map shape.seats) }
-        ensures begun { IfOk result (λ made. All (λ seat. log seat ≡ []) made.1.items) }
+        ensures begun { IfOk result (λ made. HaveNoLog made.1.items) }
         ensures own { IfOk result (λ made. AreMine made.0.map made.1.items) }
     {
         let store = Store::new(alloc)?;
@@ -231,8 +231,9 @@ impl<V: Drop> LongMap<V> {
     /// never full. `compared` reads the value that `old` was compared with at last.
     ///
     /// It reads the key's number, compares, and writes if the number is still there; else it begins
-    /// again, as it does, too, where another seat put an equal value meanwhile. It begins again no
-    /// more often than other seats win exchanges on the key.
+    /// again, as it does, too, where another seat put an equal value meanwhile. It is lock-free:
+    /// where other seats win `w` exchanges on the key meanwhile, it takes at most the steps of `w +
+    /// 1` such rounds.
     pub fn replace_if<R: Wait>(
         &self,
         rt: &R,

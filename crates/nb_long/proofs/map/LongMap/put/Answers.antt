@@ -19,4 +19,4 @@ returns-in-Ok-clause-written g c =
     c.self.view_is
     (written-as m c.args.key want.Any c.args.value c.args.seat.now c.put.new.seat stored
     c.number.result c.number.ensures c.in_ok-receipt.ensures.stored
-    c.in-Ok.ensures.found refl refl c.in-Ok.ensures.lock_free c.in-Ok.ensures.short)
+    c.in-Ok.ensures.found refl refl c.in-Ok.ensures.lock_free)

@@ -20,4 +20,4 @@ returns-in-Ok-clause-written g c =
     stored c.number.result c.number.ensures
     c.in_ok-receipt.ensures.stored c.in-Ok.ensures.found
     (is-new c.in-Ok.before c.is_none.result c.is_none.ensures) refl
-    c.in-Ok.ensures.lock_free c.in-Ok.ensures.short)
+    c.in-Ok.ensures.lock_free)

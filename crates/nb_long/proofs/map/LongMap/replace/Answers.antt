@@ -20,4 +20,4 @@ returns-clause-written g c =
     (written-as m c.args.key want.Present c.args.value c.args.seat.now c.replace-before.new.seat
     stored c.number.result c.number.ensures
     c.in_ok-receipt.ensures.stored c.replace-before.ensures.found c.is_some.ensures refl
-    c.replace-before.ensures.lock_free c.replace-before.ensures.short)
+    c.replace-before.ensures.lock_free)
