@@ -263,8 +263,8 @@ round-of {key = key} {n} {change} {then' = then'} {after} same own read_own read
       written_own = subst (λ (m : LongMapOf). IsMine m.map after) same written_own;
       write_worked = subst (λ (m : LongMapOf). HasWorked m.map
           (call.Write key (want.Equal n) change) then' after (put_steps m.map.chain.shape
-          (min 1 (passed_since (call.Write key (want.Equal n) change) then'.chain after.chain + 1))))
-          same write_worked;
+          (min 1 (passed_since (call.Write key (want.Equal n) change) then'.chain after.chain
+          + 1)))) same write_worked;
     }
 
 module _
@@ -339,7 +339,8 @@ module _
         → HasIdled m key before after
     gives-up refused won =
         let asked : Call × Reply = (call.Get key, reply_at (call.Get key) (Some n)) in
-        let sum = passed-sum key before then' after round.read_worked.steps.1.grown write-steps.1.grown in
+        let sum = passed-sum key before then' after round.read_worked.steps.1.grown
+        write-steps.1.grown in
         let here : 1 ≤ passed_on key then' after = won in
         idled (asked ∷ []) (All-cons (IsIdle key) asked [] refl (All-nil (IsIdle key)))
         (logs_add_up.more round.read refused)

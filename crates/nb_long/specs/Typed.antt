@@ -90,9 +90,9 @@ passed_on key before after = passed_since (call.Get key) before.chain after.chai
 abbrev pub round_steps : Plan → ℕ
 round_steps p = get_steps p + put_steps p 1
 
--- The seat has made such calls alone, or none, and counted nothing. Its steps were such as a read of
--- the key may make, and no more than a round takes for each exchange that other seats have won on
--- the key meanwhile.
+-- The seat has made such calls alone, or none, and counted nothing. Its steps were such as a read
+-- of the key may make, and no more than a round takes for each exchange that other seats have won
+-- on the key meanwhile.
 pub record HasIdled (m : LongMapOf) (key : ℕ) (before after : SeatOf) : Type 0 where
   pub calls : List (Call × Reply)
   pub idle : All (IsIdle key) calls

@@ -463,8 +463,8 @@ impl<V> LongMap<V> {
         }
     }
 
-    /// Lets each of two seats see all that the other has seen. It costs what `Map::meet` costs: each
-    /// makes one step.
+    /// Lets each of two seats see all that the other has seen. Each makes one step, as in
+    /// `Map::meet`.
     pub fn meet(&self, a: &mut Seat, b: &mut Seat)
         requires a_own { IsMine self.now.map a.old }
         requires b_own { IsMine self.now.map b.old }
