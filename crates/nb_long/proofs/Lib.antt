@@ -1,3 +1,5 @@
-mod Compared
+mod Comparing
 mod Held
+mod Passed
+mod Rounds
 mod Written

@@ -18,19 +18,21 @@ written :
     (stored : Stored V)
     → HasStored m.store value stored.receipt
     → HasFound (put_of key want stored.receipt) before after stored.before
-    → stored.done ≡ holds_of want stored.before
+    → stored.done ≡ holds_of want stored.before → stored.compared ≡ None
     → IsLockFree m.map (put_of key want stored.receipt) before after
     → HasWritten m key want value before after stored
-written m key want value before after stored held (reply, is, replied) done lock_free = record {
-  held = held;
-  replied =
-      subst (λ reply. HasReplied (put_of key want stored.receipt) before after reply)
-      (replies_fit before after (put_of key want stored.receipt) reply replied
-      ∙ ap (reply_at (put_of key want stored.receipt)) is
-      ∙ ap (λ (matched : Bool). record { before = stored.before; matched = matched })
-      (sym done)) replied;
-  lock_free = lock_free;
-}
+written m key want value before after stored held (reply, is, replied) done none lock_free =
+    record {
+      held = held;
+      replied =
+          subst (λ reply. HasReplied (put_of key want stored.receipt) before after reply)
+          (replies_fit before after (put_of key want stored.receipt) reply replied
+          ∙ ap (reply_at (put_of key want stored.receipt)) is
+          ∙ ap (λ (matched : Bool). record { before = stored.before; matched = matched })
+          (sym done)) replied;
+      lock_free = lock_free;
+      uncompared = none;
+    }
 
 -- the same, where the map was called with the receipt's number
 pub written-as :
@@ -38,13 +40,13 @@ pub written-as :
     (stored : Stored V) (number : ℕ)
     → number ≡ stored.receipt.index → HasStored m.store value stored.receipt
     → HasFound (call.Write key want (change.Put number)) before after stored.before
-    → stored.done ≡ holds_of want stored.before
+    → stored.done ≡ holds_of want stored.before → stored.compared ≡ None
     → IsLockFree m.map (call.Write key want (change.Put number)) before after
     → HasWritten m key want value before after stored
-written-as m key want value before after stored number is held found done lock_free =
+written-as m key want value before after stored number is held found done none lock_free =
     written m key want value before after stored held
     (subst (λ n. HasFound (call.Write key want (change.Put n)) before after stored.before) is found)
-    done
+    done none
     (subst (λ n. IsLockFree m.map (call.Write key want (change.Put n)) before after) is lock_free)
 
 -- what wasn't there came, and nothing else

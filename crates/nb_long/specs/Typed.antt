@@ -1,6 +1,6 @@
 -- How contracts see a typed map, and what its calls do: each is calls of the map of numbers, in its
 -- log, with values that the store holds under these numbers.
-use Rattle.std.specs.Prelude.{◌≡◌, ℕ, Bool, true, false, List, ◌∷◌, Option, Some, None, Result, Ok, Err, All}
+use Rattle.std.specs.Prelude.{◌≡◌, ℕ, ◌+◌, ◌*◌, Bool, true, false, List, ◌∷◌, Option, Some, None, option_map, Result, Ok, Err, All}
 use Rattle.boxcar.specs.Table.{Shelves, Shows, Where}
 use Rattle.nb_core.specs.declared.calls.Call.{Call}
 use Rattle.nb_core.specs.declared.calls.Call.TheVariants as call
@@ -9,10 +9,14 @@ use Rattle.nb_core.specs.declared.calls.Change.TheVariants as change
 use Rattle.nb_core.specs.declared.calls.Want.{Want}
 use Rattle.nb_core.specs.declared.calls.Want.TheVariants as want
 use Rattle.nb_core.specs.Log.{reply_at}
+use Rattle.nb_core.specs.Plans.{Plan}
 use Rattle.nb_core.specs.declared.calls.Reply.{Reply}
+use Rattle.nb_map.specs.Calling.{HasStepped}
 use Rattle.nb_map.specs.Logs.{HasLogged, HasReplied}
-use Rattle.nb_map.specs.Maps.{MapOf, SeatOf}
-use Rattle.nb_map.specs.Refusing.{HasRefused, IsLockFree}
+use Rattle.nb_map.specs.Looking.{get_steps}
+use Rattle.nb_map.specs.Maps.{HasWorked, MapOf, SeatOf}
+use Rattle.nb_map.specs.Refusing.{HasRefused, IsLockFree, put_steps}
+use Rattle.nb_map.specs.Writing.{passed_since}
 use Rattle.nb_map.specs.declared.waiting.AddFault.TheVariants as add_fault
 use Rattle.nb_long.specs.Stores.{GivesBack, HasStored}
 use Rattle.nb_long.specs.declared.map.LongFault.{LongFault}
@@ -43,13 +47,14 @@ abbrev pub put_of : {V : Type 0} → (key : ℕ) → Want → Where V → Call
 put_of key want token = call.Write key want (change.Put token.index)
 
 -- The value is stored, and the seat has made the one call that puts its number where the condition
--- holds. The answers are that call's.
+-- holds. The answers are that call's; it compares no values.
 pub record HasWritten {V : Type 0} (m : LongMapOf) (key : ℕ) (want : Want) (value : V)
     (before after : SeatOf) (stored : Stored V) : Type 0 where
   pub held : HasStored m.store value stored.receipt
   pub replied : HasReplied (put_of key want stored.receipt) before after
       (record { before = stored.before; matched = stored.done })
   pub lock_free : IsLockFree m.map (put_of key want stored.receipt) before after
+  pub uncompared : stored.compared ≡ None
 
 -- a fault of the store, as one of the map
 abbrev pub as_fault : {V : Type 0} → StoreFault V → LongFault V
@@ -77,44 +82,69 @@ abbrev pub IsIdle : (key : ℕ) → Call × Reply → Type 0
 IsIdle key (call.Get k, reply) = k ≡ key
 IsIdle key (call.Write k want change, reply) = (k ≡ key) × (reply.matched ≡ false)
 
--- the seat has made such calls alone, or none
-pub record HasIdled (key : ℕ) (before after : SeatOf) : Type 0 where
+-- how many exchanges on the key other seats have won since the seat had seen no more than `before`
+abbrev pub passed_on : (key : ℕ) → (before after : SeatOf) → ℕ
+passed_on key before after = passed_since (call.Get key) before.chain after.chain
+
+-- the most steps of a round: of a read, and of a write with one try after it
+abbrev pub round_steps : Plan → ℕ
+round_steps p = get_steps p + put_steps p 1
+
+-- The seat has made such calls alone, or none, and counted nothing. Its steps were such as a read
+-- of the key may make, and no more than a round takes for each exchange that other seats have won
+-- on the key meanwhile.
+pub record HasIdled (m : LongMapOf) (key : ℕ) (before after : SeatOf) : Type 0 where
   pub calls : List (Call × Reply)
   pub idle : All (IsIdle key) calls
   pub logged : HasLogged before after calls
+  pub steps : HasStepped m.map.chain.shape (call.Get key) before.chain after.chain
+      (passed_on key before after * round_steps m.map.chain.shape)
+  pub count : after.count ≡ before.count
 
--- The seat has made this call, after none or some that have changed nothing.
-pub record HasMadeLast (key : ℕ) (call : Call) (reply : Reply) (before after : SeatOf) :
-    Type 0 where
+-- The call is lock-free: it has taken no more steps than a round takes for each exchange that other
+-- seats have won on its key meanwhile, and one round more. To the tables it has done no more than a
+-- read of the key may, which installs none, and claims a slot only for a key that has one in the
+-- table below. On the counter it has made one step at most.
+abbrev pub IsLockFreeIf : LongMapOf → (key : ℕ) → (before after : SeatOf) → Type 0
+IsLockFreeIf m key before after = HasWorked m.map (call.Get key) before after
+    ((passed_on key before after + 1) * round_steps m.map.chain.shape)
+
+-- The seat has made this call, with its reply, after none or some that have changed nothing.
+pub record HasMadeLast (key : ℕ) (made : Call × Reply) (before after : SeatOf) : Type 0 where
   pub earlier : List (Call × Reply)
   pub idle : All (IsIdle key) earlier
-  pub logged : HasLogged before after ((call, reply) ∷ earlier)
+  pub logged : HasLogged before after (made ∷ earlier)
 
--- the store shows a value under the number, and this is whether it is equal to the given one
-abbrev pub IsCompared : {V : Type 0} → (V → V → Bool) → Shelves → V → (number : ℕ) → Bool → Type 0
-IsCompared {V} eq store value number equal =
-    (found : Where V) × Shows store found × (found.index ≡ number) × (eq found.value value ≡ equal)
+-- a read of the key that found this number, or none
+abbrev pub read_of : (key : ℕ) → Option ℕ → Call × Reply
+read_of key number = (call.Get key, reply_at (call.Get key) number)
 
--- What the key had at last, and whether the write was made. It was where the key's value was equal
--- to the given one: the last call is a write that matched on its number. Else the last call is a
--- read, which found no number, or a value that isn't equal.
+-- the last call where this number was found: if the change is done, the write that matched on the
+-- number, else the read that found it
+abbrev pub last_call : (key n : ℕ) → Change → (done : Bool) → Call × Reply
+last_call key n change true =
+    (call.Write key (want.Equal n) change, record { before = Some n; matched = true })
+last_call key n change false = read_of key (Some n)
+
+-- What was found at the key at last, as a token of the store, and whether the change was done: just
+-- where the token's value is equal to the given one. Where nothing was found, nothing is done.
 abbrev pub HasChangedIf :
     {V : Type 0} → (V → V → Bool) → LongMapOf → (key : ℕ) → V → Change → (before after : SeatOf)
-    → Option ℕ → Bool → Type 0
-HasChangedIf eq m key value change before after (Some n) true =
-    IsCompared eq m.store value n true × HasMadeLast key (call.Write key (want.Equal n) change)
-    (record { before = Some n; matched = true }) before after
-HasChangedIf eq m key value change before after (Some n) false =
-    IsCompared eq m.store value n false × HasMadeLast key (call.Get key)
-    (reply_at (call.Get key) (Some n)) before after
-HasChangedIf eq m key value change before after None true = ⊥
-HasChangedIf eq m key value change before after None false =
-    HasMadeLast key (call.Get key) (reply_at (call.Get key) None) before after
+    → Option (Where V) → Bool → Type 0
+HasChangedIf eq m key value change before after (Some token) done =
+    Shows m.store token × (eq token.value value ≡ done)
+    × HasMadeLast key (last_call key token.index change done) before after
+HasChangedIf eq m key value change before after None done =
+    (done ≡ false) × HasMadeLast key (read_of key None) before after
+
+-- the number of a token, if there is one
+abbrev pub number_of : {V : Type 0} → Option (Where V) → Option ℕ
+number_of token = option_map (λ (token : Where _). token.index) token
 
 -- the last call is a read of a number that the store didn't show, and nothing was changed
 abbrev pub IsUnshown : (key : ℕ) → (before after : SeatOf) → Type 0
 IsUnshown key before after =
-    (n : ℕ) × HasMadeLast key (call.Get key) (reply_at (call.Get key) (Some n)) before after
+    (n : ℕ) × HasMadeLast key (read_of key (Some n)) before after
 
 -- What is given back where a value isn't written in place of an equal one. There is always a slot
 -- for it.

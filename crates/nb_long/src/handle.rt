@@ -21,28 +21,32 @@ ghost use Rattle.std.specs.Prelude.{
   vec_capacity,
 };
 ghost use Rattle.std.specs.Arc.{arc_value};
-ghost use Rattle.boxcar.specs.Table.{Shows};
+ghost use Rattle.boxcar.specs.Table.{Shows, Where};
 ghost use Rattle.nb_core.specs.Log.{IsBeginning, reply_at};
 ghost use Rattle.nb_core.specs.declared.calls.Call.TheVariants as call;
 ghost use Rattle.nb_core.specs.declared.calls.Change.TheVariants as change;
 ghost use Rattle.nb_core.specs.declared.calls.Want.TheVariants as want;
-ghost use Rattle.nb_map.specs.Ending.{EndedWith};
+ghost use Rattle.nb_table.specs.Chains.{Extended};
+ghost use Rattle.nb_map.specs.Ending.{EndedWith, HasTablesLeft};
 ghost use Rattle.nb_map.specs.Logs.{HasFound, HasLogged, HasReplied, log};
 ghost use Rattle.nb_map.specs.Looking.{IsSeenAtHome, get_steps};
 ghost use Rattle.nb_map.specs.Maps.{AreMine, HasWorked, IsMine, MapOf};
 ghost use Rattle.nb_map.specs.Refusing.{IsLockFree};
-ghost use Rattle.nb_long.specs.Handles.{AreOfOneMap, new_handles, seats_of};
+ghost use Rattle.nb_map.specs.Writing.{IsShortAtHome};
+ghost use Rattle.nb_long.specs.Handles.{AreOfOneMap, HaveNoLog, new_handles, seats_of};
 ghost use Rattle.nb_long.specs.Stores.{HasStored};
 ghost use Rattle.nb_long.specs.Typed.{
   HasChangedIf,
   HasWritten,
+  IsLockFreeIf,
   IsRefusedIf,
   IsUnshown,
   IsWriteRefused,
   LongMapOf,
+  number_of,
 };
 
-use crate::map::{LongFault, LongMap, Stored, Unshown};
+use crate::map::{Compared, LongFault, LongMap, Stored, Unshown};
 use crate::store::{Found, Store};
 use nb_core::{Key, MAX_SEATS, Num, OutOfMemory, Shape};
 use nb_map::{Ended, Seat};
@@ -77,6 +81,7 @@ impl<V: Drop> Handle<V> {
         ensures new { IfOk result (λ handles. (m : LongMapOf) × (m.map.chain.shape ≡ shape)
             × (handles.items ≡ new_handles m shape.seats)) }
         ensures one { IfOk result (λ handles. AreOfOneMap handles.items) }
+        ensures begun { IfOk result (λ handles. HaveNoLog (seats_of handles.items)) }
     {
         let mut handles = Vec::with_capacity(alloc, shape.seats())?;
         let (map, seats) = LongMap::new(alloc, shape)?;
@@ -91,6 +96,13 @@ impl<V: Drop> Handle<V> {
             });
         }
         Ok(handles)
+    }
+
+    /// Reminds a proof that the handle's seat is the map's. It does nothing.
+    pub fn known(&self)
+        ensures { IsMine self.now.map.map self.now.seat }
+    {
+        let _ = &self.seat;
     }
 
     /// The number of the value that the map has at a key, which `show` reads. It is `LongMap::get`
@@ -172,9 +184,11 @@ impl<V: Drop> Handle<V> {
         ensures stored { IfOk result (λ stored. HasStored self.old.map.store new stored.receipt) }
         ensures changed { IfOk result (λ stored. HasChangedIf V.eq self.old.map key old.now
             (change.Put stored.receipt.index) self.old.seat self.new.seat
-            stored.before stored.done) }
+            stored.compared stored.done) }
+        ensures before { IfOk result (λ stored. stored.before ≡ number_of stored.compared) }
         ensures refused { IfErr result (IsRefusedIf self.old.map key new
             self.old.seat self.new.seat) }
+        ensures lock_free { IsLockFreeIf self.old.map key self.old.seat self.new.seat }
         ensures map { self.new.map ≡ self.old.map }
     {
         self.map.replace_if(rt, &mut self.seat, key, old, new)
@@ -186,6 +200,8 @@ impl<V: Drop> Handle<V> {
             self.old.seat self.new.seat result }
         ensures lock_free { IsLockFree self.old.map.map (call.Write key want.Any change.Remove)
             self.old.seat self.new.seat }
+        ensures short { IsShortAtHome self.old.map.map.chain.shape
+            (call.Write key want.Any change.Remove) self.old.seat.chain self.new.seat.chain }
         ensures map { self.new.map ≡ self.old.map }
     {
         self.map.remove(rt, &mut self.seat, key)
@@ -196,13 +212,27 @@ impl<V: Drop> Handle<V> {
     pub fn remove_if<R: Wait>(&mut self, rt: &R, key: Key, value: &V) -> Result<bool, Unshown>
     where
         V: PartialEq,
-        ensures changed { IfOk result (λ done. (number : Option ℕ)
+        ensures changed { IfOk result (λ done. (found : Option (Where _))
             × HasChangedIf V.eq self.old.map key value.now change.Remove
-            self.old.seat self.new.seat number done) }
+            self.old.seat self.new.seat found done) }
         ensures unshown { IfErr result (λ fault. IsUnshown key self.old.seat self.new.seat) }
+        ensures lock_free { IsLockFreeIf self.old.map key self.old.seat self.new.seat }
         ensures map { self.new.map ≡ self.old.map }
     {
         self.map.remove_if(rt, &mut self.seat, key, value)
+    }
+
+    /// The same, and answers what reads the value that was compared, too: `LongMap::take_if`.
+    pub fn take_if<R: Wait>(&mut self, rt: &R, key: Key, value: &V) -> Result<Compared<V>, Unshown>
+    where
+        V: PartialEq,
+        ensures changed { IfOk result (λ compared. HasChangedIf V.eq self.old.map key value.now
+            change.Remove self.old.seat self.new.seat compared.found compared.done) }
+        ensures unshown { IfErr result (λ fault. IsUnshown key self.old.seat self.new.seat) }
+        ensures lock_free { IsLockFreeIf self.old.map key self.old.seat self.new.seat }
+        ensures map { self.new.map ≡ self.old.map }
+    {
+        self.map.take_if(rt, &mut self.seat, key, value)
     }
 
     /// Lets each of two handles of a map see all that the other has seen. Where they are of one map
@@ -213,6 +243,14 @@ impl<V: Drop> Handle<V> {
             × IsBeginning (log other.old.seat) (log self.new.seat) }
         ensures there { HasLogged other.old.seat other.new.seat []
             × IsBeginning (log self.old.seat) (log other.new.seat) }
+        ensures here_grows { Extended self.old.map.map.chain.shape self.old.seat.chain
+            self.new.seat.chain [] 1
+            × IsBeginning other.old.seat.chain.seen self.new.seat.chain.seen
+            × (self.new.seat.count ≡ self.old.seat.count) }
+        ensures there_grows { Extended self.old.map.map.chain.shape other.old.seat.chain
+            other.new.seat.chain [] 1
+            × IsBeginning self.old.seat.chain.seen other.new.seat.chain.seen
+            × (other.new.seat.count ≡ other.old.seat.count) }
         ensures map { (self.new.map ≡ self.old.map) × (other.new.map ≡ other.old.map) }
     {
         self.map.meet(&mut self.seat, &mut other.seat);
@@ -225,6 +263,13 @@ impl<V: Drop> Handle<V> {
         self.map.store()
     }
 
+    /// The shape that the map was made with.
+    pub fn shape(&self) -> &Shape
+        ensures { result.now ≡ self.now.map.map.chain.shape }
+    {
+        self.map.shape()
+    }
+
     /// With all handles of a map: what is left of the map of numbers, and the store.
     pub fn close<R: Wait>(
         rt: &R,
@@ -235,6 +280,8 @@ impl<V: Drop> Handle<V> {
             ↔ (length handles.items ≡ handle.map.map.chain.shape.seats)) handles.items }
         ensures some { handles.items ≡ [] → is_ok result ≡ false }
         ensures ended { IfOk result (λ left. EndedWith (seats_of handles.items) left.0) }
+        ensures tables { IfOk result (λ left. All (λ handle. HasTablesLeft
+            handle.map.map.chain.shape (seats_of handles.items) left.0) handles.items) }
         ensures store { IfOk result (λ left. All (λ handle. left.1 ≡ handle.map.store)
             handles.items) }
         ensures back { IfErr result (λ back. back.items ≡ handles.items) }

@@ -10,7 +10,7 @@ mod map;
 mod store;
 
 pub use handle::Handle;
-pub use map::{LongFault, LongMap, Stored, Unshown};
+pub use map::{Compared, LongFault, LongMap, Stored, Unshown};
 pub use store::{Found, Placed, Receipt, Store, StoreFault};
 
 #[cfg(test)]

@@ -16,26 +16,32 @@ ghost use Rattle.std.specs.Prelude.{
   length,
   true,
 };
+ghost use Rattle.boxcar.specs.Table.{Where};
 ghost use Rattle.nb_core.specs.Calls.{overflows};
 ghost use Rattle.nb_core.specs.Log.{IsBeginning, Numbers, reply_at};
 ghost use Rattle.nb_core.specs.Plans.{IsPlan};
 ghost use Rattle.nb_core.specs.declared.calls.Call.TheVariants as call;
 ghost use Rattle.nb_core.specs.declared.calls.Change.TheVariants as change;
 ghost use Rattle.nb_core.specs.declared.calls.Want.TheVariants as want;
-ghost use Rattle.nb_map.specs.Ending.{EndedWith};
+ghost use Rattle.nb_table.specs.Chains.{Extended};
+ghost use Rattle.nb_map.specs.Ending.{EndedWith, HasTablesLeft};
 ghost use Rattle.nb_map.specs.Logs.{HasFound, HasLogged, HasReplied, log};
 ghost use Rattle.nb_map.specs.Looking.{IsSeenAtHome, get_steps};
 ghost use Rattle.nb_map.specs.Maps.{AreMine, HasWorked, IsMine, new_seats};
 ghost use Rattle.nb_map.specs.Refusing.{IsLockFree};
+ghost use Rattle.nb_map.specs.Writing.{IsShortAtHome};
+ghost use Rattle.nb_long.specs.Handles.{HaveNoLog};
 ghost use Rattle.nb_long.specs.Stores.{HasStored};
 ghost use Rattle.nb_long.specs.Typed.{
   HasChangedIf,
   HasIdled,
   HasWritten,
-  IsShown,
-  IsWriteRefused,
+  IsLockFreeIf,
   IsRefusedIf,
+  IsShown,
   IsUnshown,
+  IsWriteRefused,
+  number_of,
 };
 
 use crate::store::{Found, Placed, Receipt, Store, StoreFault};
@@ -71,15 +77,17 @@ pub struct Stored<V> {
     pub done: bool,
     /// What reads the value, written or not, for as long as the store lasts.
     pub receipt: Receipt<V>,
+    /// What reads the value that the key had before, if it was compared with another.
+    pub compared: Option<Receipt<V>>,
 }
 
-/// What a write where an equal value stands came to.
-#[derive(Clone, Copy)]
-struct Changed {
-    /// What the key had at last.
-    before: Option<Num>,
-    /// Whether the write was made.
-    done: bool,
+/// What a change where an equal value stands came to.
+#[derive(Drop)]
+pub struct Compared<V> {
+    /// What reads the value that the key had at last, which was compared; none where it had none.
+    pub found: Option<Receipt<V>>,
+    /// Whether it was equal, so that the change was made.
+    pub done: bool,
 }
 
 /// The store didn't show a number that the map gave. Tests show that this never comes.
@@ -123,7 +131,10 @@ impl<V: Drop> LongMap<V> {
     pub fn new(alloc: Global, shape: Shape) -> Result<(LongMap<V>, Vec<Seat>), OutOfMemory>
         ensures shape { IfOk result (λ made. made.0.map.chain.shape ≡ shape) }
         ensures plan { IfOk result (λ made. IsPlan made.0.map.chain.shape) }
+        ensures counter { IfOk result (λ made. (made.0.map.counter.stripes ≡ shape.stripes)
+            × (made.0.map.counter.seats ≡ shape.seats)) }
         ensures seats { IfOk result (λ made. made.1.items ≡ new_seats made.0.map shape.seats) }
+        ensures begun { IfOk result (λ made. HaveNoLog made.1.items) }
         ensures own { IfOk result (λ made. AreMine made.0.map made.1.items) }
     {
         let store = Store::new(alloc)?;
@@ -155,6 +166,7 @@ impl<V: Drop> LongMap<V> {
                 before,
                 done: true,
                 receipt,
+                compared: None,
             }),
             Err(Full) => Err(LongFault::Full(receipt)),
         }
@@ -182,6 +194,7 @@ impl<V: Drop> LongMap<V> {
                 before,
                 done: before.is_none(),
                 receipt,
+                compared: None,
             }),
             Err(Full) => Err(LongFault::Full(receipt)),
         }
@@ -209,16 +222,18 @@ impl<V: Drop> LongMap<V> {
             before,
             done: before.is_some(),
             receipt,
+            compared: None,
         })
     }
 
     /// Stores a value and puts its number where the key has a value equal to `old`.
     /// `ConcurrentMap.replace` of three arguments, by `V`'s equality. As `put` else, but it is
-    /// never full.
+    /// never full. `compared` reads the value that `old` was compared with at last.
     ///
     /// It reads the key's number, compares, and writes if the number is still there; else it begins
-    /// again, as it does, too, where another seat put an equal value meanwhile. Nothing bounds how
-    /// often it begins again.
+    /// again, as it does, too, where another seat put an equal value meanwhile. It is lock-free:
+    /// where other seats win `w` exchanges on the key meanwhile, it takes at most the steps of `w +
+    /// 1` such rounds.
     pub fn replace_if<R: Wait>(
         &self,
         rt: &R,
@@ -233,20 +248,33 @@ impl<V: Drop> LongMap<V> {
         ensures stored { IfOk result (λ stored. HasStored self.now.store new stored.receipt) }
         ensures changed { IfOk result (λ stored. HasChangedIf V.eq self.now key old.now
             (change.Put stored.receipt.index) seat.old seat.new
-            stored.before stored.done) }
+            stored.compared stored.done) }
+        ensures before { IfOk result (λ stored. stored.before ≡ number_of stored.compared) }
         ensures refused { IfErr result (IsRefusedIf self.now key new seat.old seat.new) }
+        ensures lock_free { IsLockFreeIf self.now key seat.old seat.new }
         ensures own { IsMine self.now.map seat.new }
     {
         let receipt = self.store.push(rt, new)?;
         let change = Change::Put(receipt.number());
         match self.change_if(rt, seat, key, old, &change) {
-            Ok(Changed { before, done }) => Ok(Stored {
-                before,
+            Ok(Compared { found, done }) => Ok(Stored {
+                before: number_in(&found),
                 done,
                 receipt,
+                compared: found,
             }),
             Err(Unshown) => Err(LongFault::Unshown(receipt)),
         }
+    }
+}
+
+/// The number of a receipt, if there is one.
+fn number_in<V>(found: &Option<Receipt<V>>) -> Option<Num>
+    ensures { result ≡ number_of found.now }
+{
+    match found {
+        Some(receipt) => Some(receipt.number()),
+        None => None,
     }
 }
 
@@ -309,6 +337,8 @@ impl<V> LongMap<V> {
         ensures found { HasFound (call.Write key want.Any change.Remove) seat.old seat.new result }
         ensures lock_free { IsLockFree self.now.map (call.Write key want.Any change.Remove)
             seat.old seat.new }
+        ensures short { IsShortAtHome self.now.map.chain.shape
+            (call.Write key want.Any change.Remove) seat.old.chain seat.new.chain }
         ensures own { IsMine self.now.map seat.new }
     {
         self.map.remove(rt, seat, key)
@@ -317,6 +347,8 @@ impl<V> LongMap<V> {
     /// Takes out a key that has a value equal to this one, by `V`'s equality, and answers whether
     /// it did. `ConcurrentMap.remove` of two arguments. The value stays in the store. It goes on as
     /// `replace_if` does.
+    ///
+    /// It is `take_if`. A truth value can't tell which value was compared, so no clause does.
     pub fn remove_if<R: Wait>(
         &self,
         rt: &R,
@@ -327,14 +359,35 @@ impl<V> LongMap<V> {
     where
         V: PartialEq,
         requires own { IsMine self.now.map seat.old }
-        ensures changed { IfOk result (λ done. (number : Option ℕ)
-            × HasChangedIf V.eq self.now key value.now change.Remove seat.old seat.new number
+        ensures changed { IfOk result (λ done. (found : Option (Where _))
+            × HasChangedIf V.eq self.now key value.now change.Remove seat.old seat.new found
             done) }
         ensures unshown { IfErr result (λ fault. IsUnshown key seat.old seat.new) }
+        ensures lock_free { IsLockFreeIf self.now key seat.old seat.new }
         ensures own { IsMine self.now.map seat.new }
     {
-        let changed = self.change_if(rt, seat, key, value, &Change::Remove)?;
-        Ok(changed.done)
+        let compared = self.take_if(rt, seat, key, value)?;
+        Ok(compared.done)
+    }
+
+    /// The same, and answers what reads the value that was compared, too.
+    pub fn take_if<R: Wait>(
+        &self,
+        rt: &R,
+        seat: &mut Seat,
+        key: Key,
+        value: &V,
+    ) -> Result<Compared<V>, Unshown>
+    where
+        V: PartialEq,
+        requires own { IsMine self.now.map seat.old }
+        ensures changed { IfOk result (λ compared. HasChangedIf V.eq self.now key value.now
+            change.Remove seat.old seat.new compared.found compared.done) }
+        ensures unshown { IfErr result (λ fault. IsUnshown key seat.old seat.new) }
+        ensures lock_free { IsLockFreeIf self.now key seat.old seat.new }
+        ensures own { IsMine self.now.map seat.new }
+    {
+        self.change_if(rt, seat, key, value, &Change::Remove)
     }
 
     /// Changes what a key has, where that is a value equal to this one.
@@ -345,21 +398,21 @@ impl<V> LongMap<V> {
         key: Key,
         value: &V,
         change: &Change,
-    ) -> Result<Changed, Unshown>
+    ) -> Result<Compared<V>, Unshown>
     where
         V: PartialEq,
         requires own { IsMine self.now.map seat.old }
         requires in_range { (n : ℕ) (m : Numbers)
             → overflows (call.Write key (want.Equal n) change.now) m ≡ false }
-        ensures changed { IfOk result (λ changed.
-            HasChangedIf V.eq self.now key value.now change.now seat.old seat.new changed.before
-            changed.done) }
+        ensures changed { IfOk result (λ compared. HasChangedIf V.eq self.now key value.now
+            change.now seat.old seat.new compared.found compared.done) }
         ensures unshown { IfErr result (λ fault. IsUnshown key seat.old seat.new) }
+        ensures lock_free { IsLockFreeIf self.now key seat.old seat.new }
         ensures own { IsMine self.now.map seat.new }
     {
         for _ in rt.forever() {
-            if let Some(changed) = self.change_once(seat, key, value, change)? {
-                return Ok(changed);
+            if let Some(compared) = self.change_once(seat, key, value, change)? {
+                return Ok(compared);
             }
         }
         unreachable!()
@@ -372,50 +425,55 @@ impl<V> LongMap<V> {
         key: Key,
         value: &V,
         change: &Change,
-    ) -> Result<Option<Changed>, Unshown>
+    ) -> Result<Option<Compared<V>>, Unshown>
     where
         V: PartialEq,
         requires own { IsMine self.now.map seat.old }
         requires in_range { (n : ℕ) (m : Numbers)
             → overflows (call.Write key (want.Equal n) change.now) m ≡ false }
         ensures changed { IfOk result (λ round. IfSome round
-            (λ changed. HasChangedIf V.eq self.now key value.now change.now seat.old seat.new
-            changed.before changed.done)) }
-        ensures idle { IfOk result (λ round. IfNone round (HasIdled key seat.old seat.new)) }
+            (λ compared. HasChangedIf V.eq self.now key value.now change.now seat.old seat.new
+            compared.found compared.done)) }
+        ensures idle { IfOk result (λ round. IfNone round
+            (HasIdled self.now key seat.old seat.new)) }
         ensures unshown { IfErr result (λ fault. IsUnshown key seat.old seat.new) }
+        ensures lock_free { IsLockFreeIf self.now key seat.old seat.new }
         ensures own { IsMine self.now.map seat.new }
     {
         let Some(found) = self.get(seat, key)? else {
-            return Ok(Some(Changed {
-                before: None,
+            return Ok(Some(Compared {
+                found: None,
                 done: false,
             }));
         };
         let number = found.number();
-        let before = Some(number);
-        if found.value() != value {
-            return Ok(Some(Changed {
-                before,
-                done: false,
-            }));
+        let equal = found.value() == value;
+        let found = Some(found.into_receipt());
+        if !equal {
+            return Ok(Some(Compared { found, done: false }));
         }
         match self
             .map
             .put_if_match(seat, key, Want::Equal(number), *change, 1)
         {
-            Ok(reply) if reply.matched => Ok(Some(Changed { before, done: true })),
+            Ok(reply) if reply.matched => Ok(Some(Compared { found, done: true })),
             Ok(_) => Ok(None),
             Err(PutFault::Contended) => Ok(None),
             Err(_) => unreachable!(),
         }
     }
 
-    /// Lets each of two seats see all that the other has seen.
+    /// Lets each of two seats see all that the other has seen. Each makes one step, as in
+    /// `Map::meet`.
     pub fn meet(&self, a: &mut Seat, b: &mut Seat)
         requires a_own { IsMine self.now.map a.old }
         requires b_own { IsMine self.now.map b.old }
         ensures a { HasLogged a.old a.new [] × IsBeginning (log b.old) (log a.new) }
         ensures b { HasLogged b.old b.new [] × IsBeginning (log a.old) (log b.new) }
+        ensures a_grows { Extended self.now.map.chain.shape a.old.chain a.new.chain [] 1
+            × IsBeginning b.old.chain.seen a.new.chain.seen × (a.new.count ≡ a.old.count) }
+        ensures b_grows { Extended self.now.map.chain.shape b.old.chain b.new.chain [] 1
+            × IsBeginning a.old.chain.seen b.new.chain.seen × (b.new.count ≡ b.old.count) }
         ensures a_own { IsMine self.now.map a.new }
         ensures b_own { IsMine self.now.map b.new }
     {
@@ -428,6 +486,8 @@ impl<V> LongMap<V> {
         requires own { AreMine self.map seats.items }
         ensures all { (is_ok result ≡ true) ↔ (length seats.items ≡ self.map.chain.shape.seats) }
         ensures ended { IfOk result (λ left. EndedWith seats.items left.0) }
+        ensures tables { IfOk result (λ left. HasTablesLeft self.map.chain.shape seats.items
+            left.0) }
         ensures store { IfOk result (λ left. left.1 ≡ self.store) }
         ensures back { IfErr result (λ given. (given.whole ≡ self)
             × (given.seats.items ≡ seats.items)) }

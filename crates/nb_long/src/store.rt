@@ -124,6 +124,14 @@ impl<'a, V> Found<'a, V> {
     {
         self.value
     }
+
+    /// A receipt of the same value, which borrows nothing.
+    pub fn into_receipt(self) -> Receipt<V>
+        ensures { result ≡ self.entry }
+    {
+        let Found { pushed, .. } = self;
+        Receipt { pushed }
+    }
 }
 
 impl<V> Debug for Placed<V> {

@@ -49,10 +49,12 @@ fn calls_by_name(rt: HostRuntime) -> Result<(), Fail> {
     let mut handles = Handle::open(rt.alloc(), Shape::new(4, 4, 3, 1)?)?;
     let mut mine = one_of(&rt, &mut handles);
     let mut theirs = one_of(&rt, &mut handles);
+    assert_eq!(rt; mine.shape().seats(), 3);
     assert_eq!(rt; value_at(&rt, &mut mine, key), None);
     assert!(rt; matches!(mine.put_if_absent(&rt, key, 5), Ok(stored) if stored.done));
     assert!(rt; matches!(theirs.replace_if(&rt, key, &5, 6), Ok(stored) if stored.done));
     assert!(rt; matches!(theirs.remove_if(&rt, key, &5), Ok(false)));
+    assert!(rt; matches!(theirs.take_if(&rt, key, &5), Ok(compared) if !compared.done));
     assert_eq!(rt; value_at(&rt, &mut mine, key), Some(6));
     assert!(rt; mine.remove(&rt, key).is_some());
     assert!(rt; matches!(mine.replace(&rt, key, 8), Ok(stored) if !stored.done));

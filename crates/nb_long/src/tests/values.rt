@@ -136,6 +136,30 @@ fn removes_if<R: Wait + Abort>(
     assert_eq!(rt; map.remove_if(rt, seat, key(rt, 1), &value), Ok(done));
 }
 
+/// Asks for the removal of key 1 where it has another value than it has, and reads what it has by
+/// the token of what was compared.
+fn keeps_other<R: Wait + Abort>(
+    rt: &R,
+    alloc: Global,
+    map: &LongMap<Bytes>,
+    seat: &mut Seat,
+    other: &[u8],
+    text: &[u8],
+)
+    requires own { IsMine map.now.map seat.old }
+    ensures own { IsMine map.now.map seat.new }
+{
+    let other = bytes(rt, alloc, other);
+    let Ok(compared) = map.take_if(rt, seat, key(rt, 1), &other) else {
+        panic!(rt; "each number is shown")
+    };
+    assert!(rt; !compared.done);
+    let Some(found) = &compared.found else {
+        panic!(rt; "the key is there")
+    };
+    assert!(rt; map.store().value(found).as_slice() == text);
+}
+
 /// Four keys fill the table.
 fn fills_up<R: Wait + Abort>(rt: &R, alloc: Global, map: &LongMap<Bytes>, seat: &mut Seat)
     requires own { IsMine map.now.map seat.old }
@@ -170,6 +194,7 @@ fn typed_values(rt: HostRuntime) -> Result<(), Fail> {
     has(&rt, &map, &mut seat, b"cd");
     replaces_if(&rt, rt.alloc(), &map, &mut seat, b"cd", b"ef", true);
     has(&rt, &map, &mut seat, b"ef");
+    keeps_other(&rt, rt.alloc(), &map, &mut seat, b"cd", b"ef");
     removes_if(&rt, rt.alloc(), &map, &mut seat, b"ef", true);
     removes_if(&rt, rt.alloc(), &map, &mut seat, b"ef", false);
     assert!(rt; number(&rt, &map, &mut seat).is_none());

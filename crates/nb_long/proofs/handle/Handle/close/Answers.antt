@@ -1,6 +1,9 @@
-use Rattle.std.proofs.Common.{◌≡◌, ◌∙◌, Some, ap, length, refl, subst, sym, arith}
+use Rattle.std.proofs.Common.{◌≡◌, ◌∙◌, ◌∷◌, ◌++◌, [], Some, ap, length, refl, slice_index_or, subst, sym, arith}
+use Rattle.std.proofs.lemmas.List.{map-append}
 use Rattle.std.proofs.lemmas.List.Elements.{All-pop}
+use Rattle.nb_map.specs.Ending.{HasTablesLeft}
 use Rattle.nb_map.specs.Maps.{AreMine, IsMine}
+use Rattle.nb_long.specs.Handles.{seats_of}
 use Rattle.nb_long.specs.Typed.{LongMapOf}
 use Rattle.nb_long.proofs.handle.Handle.close.Goals as goal
 
@@ -37,6 +40,23 @@ returns-clause-all g c = λ k d lt.
       ),
       λ is. refl,
     )
+
+pub returns-clause-tables : goal.returns-clause-tables
+returns-clause-tables g c = λ k d lt.
+    let this = ap (λ handle. handle.map) c.last.view_is in
+    let both = All-pop (λ handle. handle.map ≡ c.requires.one.0) c.args.handles.items
+    c.pop.new.self.items (Some c.in-Some.last) c.in-Some.ensures.items c.requires.one.1 in
+    let same = ap (λ m. m.map.chain.shape)
+    (c.sole.ensures ∙ this ∙ both.1 ∙ sym (c.requires.one.1 k d lt)) in
+    let seats : c.gathered-seats.result.items ≡ seats_of c.args.handles.items =
+    c.gathered-seats.ensures.seats
+    ∙ sym (ap seats_of c.in-Some.ensures.items
+    ∙ map-append (λ handle. handle.seat) c.pop.new.self.items (c.in-Some.last ∷ [])
+    ∙ ap (λ handle. seats_of c.pop.new.self.items ++ handle.seat ∷ []) (sym c.last.view_is)) in
+    subst (λ seats. HasTablesLeft (slice_index_or c.args.handles.items k d).map.map.chain.shape
+    seats c.in-Ok.left.0) seats
+    (subst (λ p. HasTablesLeft p c.gathered-seats.result.items c.in-Ok.left.0) same
+    c.in-Ok.ensures.tables)
 
 pub returns-clause-store : goal.returns-clause-store
 returns-clause-store g c = λ k d lt.

@@ -2,7 +2,7 @@ use Rattle.std.proofs.Common.{◌∙◌, All, ap, length, subst, sym, arith}
 use Rattle.std.specs.Arc.{arc_value}
 use Rattle.std.proofs.lemmas.List.Elements.{All-tail}
 use Rattle.nb_core.proofs.Seating.{all-moved, moved-count, moved-more}
-use Rattle.nb_long.proofs.Held.{length-new, of-one}
+use Rattle.nb_long.proofs.Held.{handles-begun, length-new, of-one}
 use Rattle.nb_long.specs.Handles.{handle_on}
 use Rattle.nb_map.specs.Inside.{seat_of}
 use Rattle.nb_map.specs.Maps.{IsMine}
@@ -37,5 +37,11 @@ loop-seat-preserved g c =
 pub returns-clause-one : goal.returns-clause-one
 returns-clause-one g c =
     of-one (arc_value c.in-Ok.map) c.args.shape.seats c.loop-seat.handles.items
+    (all-moved c.loop-seat.invariant.2
+    (omega (arith, c.in-None.ensures.steps, c.loop-seat.seat-iterator.rest.ok)))
+
+pub returns-clause-begun : goal.returns-clause-begun
+returns-clause-begun g c =
+    handles-begun (arc_value c.in-Ok.map) c.args.shape.seats c.loop-seat.handles.items
     (all-moved c.loop-seat.invariant.2
     (omega (arith, c.in-None.ensures.steps, c.loop-seat.seat-iterator.rest.ok)))

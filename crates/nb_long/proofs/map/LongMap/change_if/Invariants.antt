@@ -7,5 +7,5 @@ invariant-loop g l = record {
   can_next : (goal.iterator-loop g).can_next l.iterator';
   is_finite : (goal.iterator-loop g).is_finite l.iterator';
   own : IsMine l.self.map l.seat;
-  idle : HasIdled l.key l.initial.seat l.seat;
+  idle : HasIdled l.self l.key l.initial.seat l.seat;
 }

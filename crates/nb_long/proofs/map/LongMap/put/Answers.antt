@@ -1,4 +1,4 @@
-use Rattle.std.proofs.Common.{refl, subst, true}
+use Rattle.std.proofs.Common.{None, refl, subst, true}
 use Rattle.nb_core.specs.declared.calls.Want.TheVariants as want
 use Rattle.nb_long.specs.Typed.{HasWritten, LongMapOf}
 use Rattle.nb_long.specs.declared.map.Stored.{Stored}
@@ -13,9 +13,10 @@ returns-in-Ok-clause-written g c =
       done = true;
       receipt =
           c.in_ok-receipt.receipt;
+      compared = None;
     } in
     subst (λ m. HasWritten m c.args.key want.Any c.args.value c.args.seat.now c.put.new.seat stored)
     c.self.view_is
     (written-as m c.args.key want.Any c.args.value c.args.seat.now c.put.new.seat stored
     c.number.result c.number.ensures c.in_ok-receipt.ensures.stored
-    c.in-Ok.ensures.found refl c.in-Ok.ensures.lock_free)
+    c.in-Ok.ensures.found refl refl c.in-Ok.ensures.lock_free)

@@ -1,4 +1,4 @@
-use Rattle.std.proofs.Common.{subst}
+use Rattle.std.proofs.Common.{None, refl, subst}
 use Rattle.nb_core.specs.declared.calls.Want.TheVariants as want
 use Rattle.nb_long.specs.Typed.{HasWritten, LongMapOf}
 use Rattle.nb_long.specs.declared.map.Stored.{Stored}
@@ -12,11 +12,12 @@ returns-in-Ok-clause-written g c =
       before = c.in-Ok.before;
       done = c.is_none.result;
       receipt = c.in_ok-receipt.receipt;
+      compared = None;
     } in
     subst (λ m. HasWritten m c.args.key want.Absent c.args.value c.args.seat.now
     c.put_if_absent.new.seat stored) c.self.view_is
     (written-as m c.args.key want.Absent c.args.value c.args.seat.now c.put_if_absent.new.seat
     stored c.number.result c.number.ensures
     c.in_ok-receipt.ensures.stored c.in-Ok.ensures.found
-    (is-new c.in-Ok.before c.is_none.result c.is_none.ensures)
+    (is-new c.in-Ok.before c.is_none.result c.is_none.ensures) refl
     c.in-Ok.ensures.lock_free)
