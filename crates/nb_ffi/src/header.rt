@@ -3,8 +3,10 @@ ghost use Rattle.std.specs.Prelude.{◌≡◌};
 ghost use Rattle.nb_ffi.specs.Headers.{is_ours};
 
 use crate::codes::WriteReply;
+use crate::ended_handle::EndedHandle;
 use crate::ended_map::MapEntry;
 use crate::map_shape::MapShape;
+use crate::seat_handle::SeatHandle;
 use std::mem::size_of;
 
 /// Version 0.1.0, as one number: that of the header that fits the library.
@@ -16,7 +18,9 @@ pub const REPLY_SIZE: usize = size_of::<WriteReply>();
 /// The size of a `samvolip_entry`.
 pub const ENTRY_SIZE: usize = size_of::<MapEntry>();
 /// The size of what the library has of a handle.
-pub const HANDLE_SIZE: usize = size_of::<*mut u8>();
+pub const HANDLE_SIZE: usize = size_of::<SeatHandle>();
+
+const _: () = prove!(size_of::<EndedHandle>() == HANDLE_SIZE);
 
 /// The version of a header, and the sizes of its structs.
 #[repr(C)]
