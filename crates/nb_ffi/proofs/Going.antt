@@ -11,7 +11,7 @@ use Rattle.nb_map.specs.Maps.{HasWorked, IsMine, MapOf, SeatOf}
 use Rattle.nb_map.specs.Walks.{IsLater, WalkOf}
 use Rattle.nb_table.specs.Chains.{Extended, seen_by}
 use Rattle.nb_ffi.specs.Handles.{HasGoneOn, HasGot, HeldOf, KeepsRest, with_seat}
-use Rattle.nb_ffi.specs.Looks.{HasEstimated, HasFoundTop, HasLearned, HasLoaded, HasOnlyLooked}
+use Rattle.nb_ffi.specs.Looks.{HasEstimated, HasFoundTop, HasLearned, HasLoaded}
 use Rattle.nb_ffi.proofs.Walking.{looked}
 
 -- the handle with this seat and walk

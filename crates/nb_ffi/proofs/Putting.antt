@@ -1,5 +1,5 @@
 -- What a write by a handle comes to.
-use Rattle.std.proofs.Common.{◌≡◌, ℕ, ◌+◌, min, max, [], Result, Ok, Err, IfOk, IfErr, refl}
+use Rattle.std.proofs.Common.{◌≡◌, ℕ, ◌+◌, min, max, [], Result, Ok, Err, IfOk, IfErr}
 use Rattle.nb_core.specs.declared.calls.Call.{Call}
 use Rattle.nb_core.specs.declared.calls.Reply.{Reply}
 use Rattle.nb_map.specs.Logs.{HasLogged, HasReplied}
