@@ -54,7 +54,7 @@ pub walked-on :
     < slots_ahead m.chain.shape walk.place)
     → IsWalkOf m after walk'
     → HasNext shown old (walking old after walk')
-walked-on {after = after} {walk = walk} {walk' = walk'} {shown = shown} old is under own read walked worked ahead ours =
+walked-on {m} {after} {walk} {walk'} {shown} old is under own read walked worked ahead ours =
     subst (λ begun. HasNextOf begun shown old (walking old after walk')) (sym under) (
       walk',
       record {

@@ -19,7 +19,8 @@ abbrev pub going : HeldOf → SeatOf → Option WalkOf → HeldOf
 going held seat walk = record { map = held.map; seat = seat; spare = held.spare; walk = walk }
 
 module _ {m : MapOf} {after : SeatOf} (old : HeldOf) (is : m ≡ old.map) (own : IsMine m after) where
-  pub gone-on : (walk : Option WalkOf) → IsLater old.seat after → HasGoneOn old (going old after walk)
+  pub gone-on :
+      (walk : Option WalkOf) → IsLater old.seat after → HasGoneOn old (going old after walk)
   gone-on walk later =
       record { own = subst (λ n. IsMine n after) is own; later = later; map = refl; spare = refl }
 
@@ -89,7 +90,10 @@ module _ {m : MapOf} {after : SeatOf} (old : HeldOf) (is : m ≡ old.map) (own :
       record {
         looked = record {
           logged = logged;
-          rest = kept (record { number = rw (same) refl; seen = record { later = []; is = rw (same) refl } });
+          rest = kept (record {
+            number = rw same refl;
+            seen = record { later = []; is = rw same refl };
+          });
         };
         chain = same;
         count = rw (← is) count;

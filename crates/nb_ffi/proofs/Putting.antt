@@ -11,8 +11,8 @@ use Rattle.nb_map.proofs.Theorems.{walk_lasts}
 use Rattle.nb_ffi.proofs.Going.{kept}
 use Rattle.nb_ffi.specs.Handles.{HasPut, HasRefused, HeldOf, with_seat}
 
-module _ {m : MapOf} {c : Call} {t : ℕ} {after : SeatOf} (old : HeldOf) (tries : ℕ) (is : m ≡ old.map)
-    (most : t ≡ max tries 1) (own : IsMine m after)
+module _ {m : MapOf} {c : Call} {t : ℕ} {after : SeatOf} (old : HeldOf) (tries : ℕ)
+    (is : m ≡ old.map) (most : t ≡ max tries 1) (own : IsMine m after)
     (short : IsShortAtHome m.chain.shape c old.seat.chain after.chain)
     (worked : HasWorked m c old.seat after
     (put_steps m.chain.shape (min t (passed_since c old.seat.chain after.chain + 1)))) where

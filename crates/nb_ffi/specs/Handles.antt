@@ -75,8 +75,8 @@ abbrev pub write_steps : Call → (tries : ℕ) → (before after : HeldOf) → 
 write_steps c tries before after = put_steps (plan_of before)
     (min (max tries 1) (passed_since c before.seat.chain after.seat.chain + 1))
 
--- The seat has made this write with this reply, in at most so many steps: few where it is alone with
--- its key, and the key is at home.
+-- The seat has made this write with this reply, in at most so many steps: few where it is alone
+-- with its key, and the key is at home.
 pub record HasPut (c : Call) (tries : ℕ) (reply : Reply) (before after : HeldOf) : Type 0 where
   pub replied : HasReplied c before.seat after.seat reply
   pub worked :
@@ -84,8 +84,8 @@ pub record HasPut (c : Call) (tries : ℕ) (reply : Reply) (before after : HeldO
   pub short : IsShortAtHome (plan_of before) c before.seat.chain after.seat.chain
   pub rest : KeepsRest before after
 
--- The seat has made no call, and that this write was refused is just. It took no more steps than one
--- that is made.
+-- The seat has made no call, and that this write was refused is just. It took no more steps than
+-- one that is made.
 pub record HasRefused (c : Call) (tries : ℕ) (fault : PutFault) (before after : HeldOf) :
     Type 0 where
   pub logged : HasLogged before.seat after.seat []

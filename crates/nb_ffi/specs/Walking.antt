@@ -8,8 +8,8 @@ use Rattle.nb_table.specs.Chains.{Extended}
 use Rattle.nb_ffi.specs.Handles.{HasGoneOn, HeldOf, Turned, plan_of}
 use Rattle.nb_ffi.specs.declared.codes.TheConstants.{ABSENT, PRESENT}
 
--- The handle's walk begins, and has shown nothing. It took one step on the chain, which was no event,
--- and none on the counter.
+-- The handle's walk begins, and has shown nothing. It took one step on the chain, which was no
+-- event, and none on the counter.
 pub record HasBegun (before after : HeldOf) : Type 0 where
   pub logged : HasLogged before.seat after.seat []
   pub grows : Extended (plan_of before) before.seat.chain after.seat.chain [] 1

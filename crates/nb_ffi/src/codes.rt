@@ -79,8 +79,8 @@ pub const REMOVE: u32 = 1;
 /// One that adds the number.
 pub const ADD: u32 = 2;
 
-/// What a write answers in C: the number that was at the key, and 1 for `had`, or twice 0 where there
-/// was none; and 1 or 0 for whether the condition held.
+/// What a write answers in C: the number that was at the key, and 1 for `had`, or twice 0 where
+/// there was none; and 1 or 0 for whether the condition held.
 #[repr(C)]
 #[derive(Drop)]
 pub struct WriteReply {

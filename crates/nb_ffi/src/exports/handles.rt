@@ -12,8 +12,8 @@ use crate::map_shape::MapShape;
 use crate::seat_handle::SeatHandle;
 use std::alloc::Global;
 
-/// `Map::new`, as one handle with all seats. Another header than the library's is refused before the
-/// shape is read.
+/// `Map::new`, as one handle with all seats. Another header than the library's is refused before
+/// the shape is read.
 #[unsafe(no_mangle)]
 pub extern "C" fn samvolip_open_with(
     alloc: Global,

@@ -19,6 +19,6 @@ invariant_of-self c =
 
 pub returns : goal.returns
 returns c =
-    rw (← c.self.view_is) (found-top (held_of c.self.inside) c.deref.ensures c.generation.ensures.own
-    c.generation.ensures.logged c.generation.ensures.grows c.generation.ensures.count
+    rw (← c.self.view_is) (found-top (held_of c.self.inside) c.deref.ensures
+    c.generation.ensures.own c.generation.ensures.logged c.generation.ensures.grows c.generation.ensures.count
     c.generation.ensures.found c.generation.ensures.complete)
