@@ -9,6 +9,7 @@ use Rattle.nb_map.specs.Logs.{HasLogged, HasReplied, log}
 use Rattle.nb_map.specs.Looking.{IsSeenAtHome, get_steps}
 use Rattle.nb_map.specs.Maps.{HasWorked, IsMine, MapOf, SeatOf}
 use Rattle.nb_map.specs.Walks.{IsLater, WalkOf}
+use Rattle.nb_map.specs.Walks.IsUnderway.{Rested}
 use Rattle.nb_table.specs.Chains.{Extended, seen_by}
 use Rattle.nb_ffi.specs.Handles.{HasGoneOn, HasGot, HeldOf, KeepsRest, with_seat}
 use Rattle.nb_ffi.specs.Looks.{HasEstimated, HasFoundTop, HasLearned, HasLoaded}
@@ -25,7 +26,13 @@ module _ {m : MapOf} {after : SeatOf} (old : HeldOf) (is : m ≡ old.map) (own :
       record { own = subst (λ n. IsMine n after) is own; later = later; map = refl; spare = refl }
 
   pub kept : IsLater old.seat after → KeepsRest old (with_seat old after)
-  kept later = record { on = gone-on old.walk later; walk = refl }
+  kept later =
+      record {
+        on = gone-on old.walk later;
+        walk = refl;
+        underway = λ walk pairs underway.
+            Rested underway (subst (λ n. IsMine n after) is own) later;
+      }
 
   -- what was read, the handle tells as its own
   pub got :

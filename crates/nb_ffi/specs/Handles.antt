@@ -11,7 +11,7 @@ use Rattle.nb_map.specs.Refusing.{IsJust, put_steps}
 use Rattle.nb_map.specs.Writing.{IsShortAtHome, passed_since}
 use Rattle.nb_map.specs.declared.write.PutFault.{PutFault}
 use Rattle.nb_core.specs.Plans.{IsPlan, Plan}
-use Rattle.nb_map.specs.Walks.{IsLater, WalkOf}
+use Rattle.nb_map.specs.Walks.{IsLater, IsUnderway, WalkOf}
 
 -- what a handle stands for: the map that it is of, its seat, the seats that it has in reserve, and
 -- the walk that its seat has begun, if it has
@@ -54,11 +54,13 @@ pub record HasGoneOn (before after : HeldOf) : Type 0 where
   pub map : after.map ≡ before.map
   pub spare : after.spare ≡ before.spare
 
--- The same, and its walk is where it was. So a walk that was underway is so still: it has `Rested`
--- (`IsUnderway`).
+-- The same, and its walk is where it was. A walk that was underway is so still.
 pub record KeepsRest (before after : HeldOf) : Type 0 where
   pub on : HasGoneOn before after
   pub walk : after.walk ≡ before.walk
+  pub underway :
+      (walk : WalkOf) (pairs : List (ℕ × ℕ)) → IsUnderway before.map before.seat walk pairs
+      → IsUnderway after.map after.seat walk pairs
 
 -- The seat has read this at a key, with its bound of steps: at most three where the key is at home.
 pub record HasGot (key : ℕ) (number : Option ℕ) (before after : HeldOf) : Type 0 where
