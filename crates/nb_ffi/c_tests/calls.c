@@ -1,5 +1,5 @@
 /* Each call once, with each of its answers and refusals but want of memory (memory.c), a write
- * that others came before, and SAMVOLIP_LOST; by one thread. */
+ * that others came before, and SAMVOLIP_E_LOST; by one thread. */
 #include "samvolip.h"
 
 #include "expect.h"
@@ -12,19 +12,19 @@ static void refuses_shapes(void)
         int code;
         samvolip_shape shape;
     } wrong[] = {
-        {SAMVOLIP_TABLES, {{4}, 0, 1, 1, 1, 8}},
-        {SAMVOLIP_TABLES, {{4}, 17, 1, 1, 1, 8}},
-        {SAMVOLIP_EXPONENTS, {{1}, 1, 1, 1, 1, 8}},
-        {SAMVOLIP_EXPONENTS, {{20}, 1, 1, 1, 1, 8}},
-        {SAMVOLIP_FALLING, {{5, 4}, 2, 1, 1, 1, 8}},
-        {SAMVOLIP_SEATS, {{4}, 1, 0, 1, 1, 8}},
-        {SAMVOLIP_SEATS, {{4}, 1, 9, 1, 1, 8}},
-        {SAMVOLIP_STRIPES, {{4}, 1, 1, 0, 1, 8}},
-        {SAMVOLIP_STRIPES, {{4}, 1, 1, 9, 1, 8}},
-        {SAMVOLIP_REPROBES, {{4}, 1, 1, 1, 0, 8}},
-        {SAMVOLIP_CHUNK, {{4}, 1, 1, 1, 1, 2}},
-        {SAMVOLIP_CHUNK, {{4}, 1, 1, 1, 1, 24}},
-        {SAMVOLIP_CHUNK, {{4}, 1, 1, 1, 1, 2048}},
+        {SAMVOLIP_E_TABLES, {{4}, 0, 1, 1, 1, 8}},
+        {SAMVOLIP_E_TABLES, {{4}, 17, 1, 1, 1, 8}},
+        {SAMVOLIP_E_EXPONENTS, {{1}, 1, 1, 1, 1, 8}},
+        {SAMVOLIP_E_EXPONENTS, {{20}, 1, 1, 1, 1, 8}},
+        {SAMVOLIP_E_FALLING, {{5, 4}, 2, 1, 1, 1, 8}},
+        {SAMVOLIP_E_SEATS, {{4}, 1, 0, 1, 1, 8}},
+        {SAMVOLIP_E_SEATS, {{4}, 1, 9, 1, 1, 8}},
+        {SAMVOLIP_E_STRIPES, {{4}, 1, 1, 0, 1, 8}},
+        {SAMVOLIP_E_STRIPES, {{4}, 1, 1, 9, 1, 8}},
+        {SAMVOLIP_E_REPROBES, {{4}, 1, 1, 1, 0, 8}},
+        {SAMVOLIP_E_CHUNK, {{4}, 1, 1, 1, 1, 2}},
+        {SAMVOLIP_E_CHUNK, {{4}, 1, 1, 1, 1, 24}},
+        {SAMVOLIP_E_CHUNK, {{4}, 1, 1, 1, 1, 2048}},
     };
     for (size_t i = 0; i < sizeof wrong / sizeof *wrong; i++) {
         samvolip_seat seat = SAMVOLIP_SEAT_INIT;
@@ -33,9 +33,33 @@ static void refuses_shapes(void)
     }
     samvolip_shape most = samvolip_shape_for_keys(SAMVOLIP_MOST_KEYS + 1, 1);
     samvolip_seat seat = SAMVOLIP_SEAT_INIT;
-    EXPECT(samvolip_open(&most, &seat) == SAMVOLIP_TABLES);
+    EXPECT(samvolip_open(&most, &seat) == SAMVOLIP_E_TABLES);
     most = samvolip_shape_for_keys(SAMVOLIP_MOST_KEYS, 1);
     EXPECT(most.tables == 2 && most.exponents[0] == 16 && most.exponents[1] == 19);
+}
+
+static void refuses_headers(void)
+{
+    const samvolip_shape shape = samvolip_shape_for_keys(10, 1);
+    const samvolip_header ours = SAMVOLIP_HEADER_INIT;
+    const samvolip_shape no_shape = {{0}, 0, 0, 0, 0, 0};
+    samvolip_seat seat = SAMVOLIP_SEAT_INIT;
+    samvolip_header wrong[] = {ours, ours, ours, ours, ours, ours, ours};
+    wrong[0].version++;
+    wrong[1].version = 0;
+    wrong[2].shape -= 4;
+    wrong[3].seat = 4;
+    wrong[4].ended = 0;
+    wrong[5].reply += 8;
+    wrong[6].entry = 8;
+    for (size_t i = 0; i < sizeof wrong / sizeof *wrong; i++) {
+        EXPECT(samvolip_open_with(&wrong[i], &shape, &seat) == SAMVOLIP_E_VERSION);
+        EXPECT(samvolip_open_with(&wrong[i], &no_shape, &seat) == SAMVOLIP_E_VERSION);
+        EXPECT(seat.handle == NULL);
+    }
+    EXPECT(samvolip_open_with(&ours, &no_shape, &seat) == SAMVOLIP_E_TABLES);
+    EXPECT(samvolip_open_with(&ours, &shape, &seat) == SAMVOLIP_OK);
+    samvolip_free(&seat);
 }
 
 static void has_room_for_keys(void)
@@ -77,7 +101,7 @@ static void puts_and_gets(samvolip_seat *seat)
     EXPECT(samvolip_compare_exchange(seat, 7, &one, &two, 1, &reply) == 0 && reply.matched);
     EXPECT(samvolip_compare_exchange(seat, 7, &two, NULL, 1, &reply) == 0 && reply.matched);
     EXPECT(samvolip_compare_exchange(seat, 7, NULL, &one, 1, &reply) == 0 && reply.matched);
-    EXPECT(reply.had == 0);
+    EXPECT(reply.had == 0 && reply.before == 0 && reply.matched == 1);
     EXPECT(samvolip_size_estimate(seat) == 1);
     EXPECT(samvolip_generation(seat) == 0);
 }
@@ -88,20 +112,20 @@ static void refuses_calls(samvolip_seat *seat)
     const uint64_t past_key = SAMVOLIP_KEY_MAX + 1, past = SAMVOLIP_VALUE_MAX + 1;
     const samvolip_reply as_before = {1, 2, 3};
     samvolip_reply reply = as_before;
-    EXPECT(samvolip_get(seat, past_key, &number) == SAMVOLIP_KEY_RANGE && number == 99);
+    EXPECT(samvolip_get(seat, past_key, &number) == SAMVOLIP_E_KEY_RANGE && number == 99);
     EXPECT(samvolip_put_if_match(seat, past_key, 9, past, 9, past, 1, &reply)
-           == SAMVOLIP_KEY_RANGE);
-    EXPECT(samvolip_put_if_match(seat, 0, 9, past, 9, past, 1, &reply) == SAMVOLIP_WANT);
+           == SAMVOLIP_E_KEY_RANGE);
+    EXPECT(samvolip_put_if_match(seat, 0, 9, past, 9, past, 1, &reply) == SAMVOLIP_E_WANT);
     EXPECT(samvolip_put_if_match(seat, 0, SAMVOLIP_EQUAL, past, 9, past, 1, &reply)
-           == SAMVOLIP_VALUE_RANGE);
-    EXPECT(samvolip_put_if_match(seat, 0, 0, past, 9, past, 1, &reply) == SAMVOLIP_CHANGE);
+           == SAMVOLIP_E_VALUE_RANGE);
+    EXPECT(samvolip_put_if_match(seat, 0, 0, past, 9, past, 1, &reply) == SAMVOLIP_E_CHANGE);
     EXPECT(samvolip_put_if_match(seat, 0, 0, past, SAMVOLIP_PUT, past, 1, &reply)
-           == SAMVOLIP_VALUE_RANGE);
+           == SAMVOLIP_E_VALUE_RANGE);
     EXPECT(samvolip_put_if_match(seat, 0, 0, past, SAMVOLIP_ADD, past, 1, &reply)
-           == SAMVOLIP_VALUE_RANGE);
+           == SAMVOLIP_E_VALUE_RANGE);
     EXPECT(samvolip_put(seat, 0, SAMVOLIP_VALUE_MAX, NULL) == SAMVOLIP_ABSENT);
     EXPECT(samvolip_put_if_match(seat, 0, 0, 0, SAMVOLIP_ADD, 1, 1, &reply)
-           == SAMVOLIP_SUM_RANGE);
+           == SAMVOLIP_E_SUM_RANGE);
     EXPECT(memcmp(&reply, &as_before, sizeof reply) == 0);
     EXPECT(samvolip_get(seat, 0, &number) == SAMVOLIP_PRESENT && number == SAMVOLIP_VALUE_MAX);
     EXPECT(samvolip_put(seat, SAMVOLIP_KEY_MAX, 0, NULL) == SAMVOLIP_ABSENT);
@@ -115,9 +139,9 @@ static void refuses_when_full(void)
     EXPECT(samvolip_open(&shape, &seat) == SAMVOLIP_OK);
     for (uint64_t key = 0; key < 4; key++)
         EXPECT(samvolip_put(&seat, key, key, NULL) == SAMVOLIP_ABSENT);
-    EXPECT(samvolip_put(&seat, 4, 4, NULL) == SAMVOLIP_FULL);
-    EXPECT(samvolip_put_if_absent(&seat, 4, 4, NULL) == SAMVOLIP_FULL);
-    EXPECT(samvolip_add(&seat, 4, 4, NULL) == SAMVOLIP_FULL);
+    EXPECT(samvolip_put(&seat, 4, 4, NULL) == SAMVOLIP_E_FULL);
+    EXPECT(samvolip_put_if_absent(&seat, 4, 4, NULL) == SAMVOLIP_E_FULL);
+    EXPECT(samvolip_add(&seat, 4, 4, NULL) == SAMVOLIP_E_FULL);
     EXPECT(samvolip_replace(&seat, 4, 4, NULL) == SAMVOLIP_ABSENT);
     EXPECT(samvolip_put(&seat, 3, 4, NULL) == SAMVOLIP_PRESENT);
     samvolip_free(&seat);
@@ -155,9 +179,9 @@ static void splits_and_joins(void)
     for (int i = 1; i < 4; i++)
         EXPECT(samvolip_split(&seats[0], &seats[i]) == SAMVOLIP_OK);
     samvolip_seat fifth = SAMVOLIP_SEAT_INIT;
-    EXPECT(samvolip_split(&seats[0], &fifth) == SAMVOLIP_NO_SEAT && fifth.handle == NULL);
-    EXPECT(samvolip_split(&seats[1], &fifth) == SAMVOLIP_NO_SEAT);
-    EXPECT(samvolip_close(&seats[0], &ended) == SAMVOLIP_NOT_ALL_SEATS && ended.handle == NULL);
+    EXPECT(samvolip_split(&seats[0], &fifth) == SAMVOLIP_E_NO_SEAT && fifth.handle == NULL);
+    EXPECT(samvolip_split(&seats[1], &fifth) == SAMVOLIP_E_NO_SEAT);
+    EXPECT(samvolip_close(&seats[0], &ended) == SAMVOLIP_E_NOT_ALL_SEATS && ended.handle == NULL);
     for (int i = 0; i < 4; i++)
         EXPECT(samvolip_put(&seats[i], 3 - i, i, NULL) == SAMVOLIP_ABSENT);
     samvolip_meet(&seats[2], &seats[3]);
@@ -171,9 +195,9 @@ static void splits_and_joins(void)
     uint64_t number = 99;
     EXPECT(samvolip_ended_get(&ended, 3, &number) == SAMVOLIP_PRESENT && number == 0);
     EXPECT(samvolip_ended_get(&ended, 4, &number) == SAMVOLIP_ABSENT && number == 0);
-    EXPECT(samvolip_ended_get(&ended, UINT64_MAX, &number) == SAMVOLIP_KEY_RANGE);
+    EXPECT(samvolip_ended_get(&ended, UINT64_MAX, &number) == SAMVOLIP_E_KEY_RANGE);
     samvolip_entry entries[5] = {{0, 0}};
-    EXPECT(samvolip_ended_entries(&ended, entries, 3) == SAMVOLIP_ROOM);
+    EXPECT(samvolip_ended_entries(&ended, entries, 3) == SAMVOLIP_E_ROOM);
     EXPECT(entries[1].key == 0);
     EXPECT(samvolip_ended_entries(&ended, entries, 5) == SAMVOLIP_OK);
     for (uint64_t i = 0; i < 4; i++)
@@ -186,6 +210,7 @@ static void splits_and_joins(void)
 int main(void)
 {
     EXPECT(samvolip_version() == SAMVOLIP_VERSION);
+    refuses_headers();
     refuses_shapes();
     has_room_for_keys();
     samvolip_shape shape = samvolip_shape_for_keys(1000, 1);
@@ -199,7 +224,7 @@ int main(void)
     EXPECT(seat.handle == NULL);
     refuses_when_full();
     splits_and_joins();
-    for (int code = SAMVOLIP_LOST; code <= SAMVOLIP_PRESENT; code++)
+    for (int code = SAMVOLIP_E_VERSION; code <= SAMVOLIP_PRESENT; code++)
         EXPECT(strcmp(samvolip_strerror(code), "no such code") != 0);
     EXPECT(strcmp(samvolip_strerror(2), "no such code") == 0);
     puts("calls: well");

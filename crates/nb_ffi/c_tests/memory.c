@@ -9,7 +9,7 @@ static int refusals;
 /* Whether the call has to be made again. */
 static int is_refused(int code)
 {
-    EXPECT(code == SAMVOLIP_OK || code == SAMVOLIP_OUT_OF_MEMORY);
+    EXPECT(code == SAMVOLIP_OK || code == SAMVOLIP_E_OUT_OF_MEMORY);
     refusals += code != SAMVOLIP_OK;
     EXPECT(refusals <= 1);
     return code != SAMVOLIP_OK;

@@ -32,9 +32,9 @@ static void *work(void *given)
         samvolip_reply reply;
         int code = samvolip_put_if_match(&worker->seat, 0, SAMVOLIP_ANY, 0, SAMVOLIP_ADD, 1, 1,
                                          &reply);
-        EXPECT(code == SAMVOLIP_OK || code == SAMVOLIP_CONTENDED);
+        EXPECT(code == SAMVOLIP_OK || code == SAMVOLIP_E_CONTENDED);
         worker->added += code == SAMVOLIP_OK;
-        worker->refused += code == SAMVOLIP_CONTENDED;
+        worker->refused += code == SAMVOLIP_E_CONTENDED;
         if (i % 50000 == 0) {
             uint64_t shown = 0;
             samvolip_walk(&worker->seat);

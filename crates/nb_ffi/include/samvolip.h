@@ -43,14 +43,19 @@
  * handle, an array) overlaps nothing else that it is given. Nothing that was passed is kept.
  *
  * Refusals. A call that may be refused answers an int: 0 or 1 where it was made, and a negative
- * enum samvolip_code where it was refused. A refused call changes nothing: the map, the handles and
- * what the caller passed are as they were, but for SAMVOLIP_LOST, which leaves both handles empty.
+ * enum samvolip_code where it was refused, of a name that begins with SAMVOLIP_E_. A refused call
+ * changes nothing: the map, the handles and what the caller passed are as they were, but for
+ * SAMVOLIP_E_LOST, which leaves both handles empty.
  * (For a refused write tables may have grown, and its key may keep a slot without a number:
  * samvolip_generation shows the one, and a later new key may find less room by the other.)
  *
  * Memory. samvolip_open reserves all tables of the map, and the map keeps them until it is freed.
  * samvolip_open, samvolip_split, samvolip_close and samvolip_ended_entries take memory, by malloc;
  * no other call does.
+ *
+ * Versions. samvolip_open tells the library which header the program was compiled with: its version
+ * and the sizes of its structs. Where they aren't the library's, it is refused by
+ * SAMVOLIP_E_VERSION, and there is no other way to a map.
  *
  * Signals and forks. No call from a signal handler, nor from the child of a fork of a process with
  * threads.
@@ -92,36 +97,38 @@ enum samvolip_code {
     SAMVOLIP_PRESENT = 1, /* it was made, and there was a number */
 
     /* what is wrong with a shape: the first of these, in this order */
-    SAMVOLIP_TABLES = -1,    /* not 1 to 16 tables */
-    SAMVOLIP_EXPONENTS = -2, /* an exponent that isn't from 2 to 19 */
-    SAMVOLIP_FALLING = -3,   /* a table smaller than the one before it */
-    SAMVOLIP_SEATS = -4,     /* not 1 to 8 seats */
-    SAMVOLIP_STRIPES = -5,   /* not 1 to 8 stripes */
-    SAMVOLIP_REPROBES = -6,  /* a reprobe limit of 0 */
-    SAMVOLIP_CHUNK = -7,     /* a chunk that isn't a power of two from 4 to 1024 */
+    SAMVOLIP_E_TABLES = -1,    /* not 1 to 16 tables */
+    SAMVOLIP_E_EXPONENTS = -2, /* an exponent that isn't from 2 to 19 */
+    SAMVOLIP_E_FALLING = -3,   /* a table smaller than the one before it */
+    SAMVOLIP_E_SEATS = -4,     /* not 1 to 8 seats */
+    SAMVOLIP_E_STRIPES = -5,   /* not 1 to 8 stripes */
+    SAMVOLIP_E_REPROBES = -6,  /* a reprobe limit of 0 */
+    SAMVOLIP_E_CHUNK = -7,     /* a chunk that isn't a power of two from 4 to 1024 */
 
-    SAMVOLIP_OUT_OF_MEMORY = -8, /* malloc gave none */
+    SAMVOLIP_E_OUT_OF_MEMORY = -8, /* malloc gave none */
 
     /* what is wrong with a call */
-    SAMVOLIP_KEY_RANGE = -9,    /* a key past SAMVOLIP_KEY_MAX */
-    SAMVOLIP_VALUE_RANGE = -10, /* a number past SAMVOLIP_VALUE_MAX */
-    SAMVOLIP_WANT = -11,        /* a condition that is none of enum samvolip_want */
-    SAMVOLIP_CHANGE = -12,      /* a change that is none of enum samvolip_change */
+    SAMVOLIP_E_KEY_RANGE = -9,    /* a key past SAMVOLIP_KEY_MAX */
+    SAMVOLIP_E_VALUE_RANGE = -10, /* a number past SAMVOLIP_VALUE_MAX */
+    SAMVOLIP_E_WANT = -11,        /* a condition that is none of enum samvolip_want */
+    SAMVOLIP_E_CHANGE = -12,      /* a change that is none of enum samvolip_change */
 
     /* why a write is refused */
-    SAMVOLIP_FULL = -13,      /* other keys have all slots of the last table */
-    SAMVOLIP_CONTENDED = -14, /* other writes of the key came first, as often as there were tries */
-    SAMVOLIP_SUM_RANGE = -15, /* the sum of an add is past SAMVOLIP_VALUE_MAX */
+    SAMVOLIP_E_FULL = -13,      /* other keys have all slots of the last table */
+    SAMVOLIP_E_CONTENDED = -14, /* others wrote the key first, as often as there were tries */
+    SAMVOLIP_E_SUM_RANGE = -15, /* the sum of an add is past SAMVOLIP_VALUE_MAX */
 
     /* why a handle isn't split or closed */
-    SAMVOLIP_NO_SEAT = -16,       /* the handle has no seat in reserve */
-    SAMVOLIP_NOT_ALL_SEATS = -17, /* the handle hasn't all seats of the map */
+    SAMVOLIP_E_NO_SEAT = -16,       /* the handle has no seat in reserve */
+    SAMVOLIP_E_NOT_ALL_SEATS = -17, /* the handle hasn't all seats of the map */
 
-    SAMVOLIP_ROOM = -18, /* the array is too small */
+    SAMVOLIP_E_ROOM = -18, /* the array is too small */
 
     /* The map was given up while it was closed. No program that keeps the rules sees it: it takes
        somebody who has the map without having a seat. */
-    SAMVOLIP_LOST = -19
+    SAMVOLIP_E_LOST = -19,
+
+    SAMVOLIP_E_VERSION = -20 /* the program was compiled with another header than the library's */
 };
 
 /* What a write asks of its key. */
@@ -147,8 +154,8 @@ enum samvolip_change {
  *
  * The size is counted over `stripes` words; as many as there are writers is best. No table but the
  * last takes a new key past `reprobes` slots of its path, nor past a quarter of its slots and two.
- * Who brings a new key to a table that grows helps to copy all of it, `chunk` slots at a time: large
- * ones take fewer steps, and small ones share the work among more threads.
+ * Who brings a new key to a table that grows helps to copy all of it, `chunk` slots at a time:
+ * large ones take fewer steps, and small ones share the work among more threads.
  */
 typedef struct samvolip_shape {
     uint32_t exponents[SAMVOLIP_MAX_TABLES];
@@ -175,8 +182,8 @@ typedef struct samvolip_ended {
 #define SAMVOLIP_SEAT_INIT {NULL, 0, 0}
 #define SAMVOLIP_ENDED_INIT {NULL}
 
-/* What a write found: the number that was at its key, if `had` is 1; and whether the condition
-   held, so that the write did what it does. */
+/* What a write found: the number that was at its key, and 1 for `had`, or twice 0 where there was
+   none; and 1 for `matched` where the condition held, so that the write did what it does, or 0. */
 typedef struct samvolip_reply {
     uint64_t before;
     uint32_t had;
@@ -189,12 +196,27 @@ typedef struct samvolip_entry {
     uint64_t number;
 } samvolip_entry;
 
+/* What a program was compiled with: the version of its header, and the sizes of its structs. A
+   binding for another language that hands over handles of one word tells the size of a word. */
+typedef struct samvolip_header {
+    uint32_t version;
+    uint32_t shape;
+    uint32_t seat;
+    uint32_t ended;
+    uint32_t reply;
+    uint32_t entry;
+} samvolip_header;
+
+#define SAMVOLIP_HEADER_INIT                                                                     \
+    {SAMVOLIP_VERSION,       sizeof(samvolip_shape), sizeof(samvolip_seat),                        \
+     sizeof(samvolip_ended), sizeof(samvolip_reply), sizeof(samvolip_entry)}
+
 /*
  * A shape with room to spare for so many different keys, and for this many threads: a last table of
  * half as many slots again as there are keys, or more, and one of an eighth of it before. A put is
  * refused as full only where other keys have all slots of the last table. It takes 16 bytes a slot,
  * of both tables. For more than SAMVOLIP_MOST_KEYS there is no shape, and samvolip_open refuses
- * what this answers, by SAMVOLIP_TABLES.
+ * what this answers, by SAMVOLIP_E_TABLES.
  */
 static inline samvolip_shape samvolip_shape_for_keys(uint64_t most, unsigned seats)
 {
@@ -216,21 +238,30 @@ static inline samvolip_shape samvolip_shape_for_keys(uint64_t most, unsigned sea
 
 /* ---- handles ------------------------------------------------------------------------------- */
 
+/* samvolip_open for a program with this header: use samvolip_open, which tells its own. */
+int samvolip_open_with(const samvolip_header *header, const samvolip_shape *shape,
+                       samvolip_seat *seat);
+
 /*
  * Makes an empty map. `seat`, which is empty, gets all its seats: one to call with, and the others
  * in reserve, for samvolip_split.
  *
  * Cost: malloc of all tables, for a moment twice, and clearing and copying them.
- * Refused: by what is wrong with the shape; SAMVOLIP_OUT_OF_MEMORY.
+ * Refused: SAMVOLIP_E_VERSION, before the shape is read; by what is wrong with the shape;
+ * SAMVOLIP_E_OUT_OF_MEMORY.
  */
-int samvolip_open(const samvolip_shape *shape, samvolip_seat *seat);
+static inline int samvolip_open(const samvolip_shape *shape, samvolip_seat *seat)
+{
+    static const samvolip_header header = SAMVOLIP_HEADER_INIT;
+    return samvolip_open_with(&header, shape, seat);
+}
 
 /*
- * Gives `other`, which is empty, a seat that `seat` has in reserve. Any handle with seats in reserve
- * may be split.
+ * Gives `other`, which is empty, a seat that `seat` has in reserve. Any handle with seats in
+ * reserve may be split.
  *
  * Cost: two calls of malloc.
- * Refused: SAMVOLIP_NO_SEAT, SAMVOLIP_OUT_OF_MEMORY.
+ * Refused: SAMVOLIP_E_NO_SEAT, SAMVOLIP_E_OUT_OF_MEMORY.
  */
 int samvolip_split(samvolip_seat *seat, samvolip_seat *other);
 
@@ -239,7 +270,7 @@ int samvolip_split(samvolip_seat *seat, samvolip_seat *other);
  * afterwards. What `other` has seen isn't passed on: samvolip_meet does that, before.
  *
  * Cost: a few steps, and a free or two.
- * Refused: SAMVOLIP_OUT_OF_MEMORY by its contract. In fact it takes no memory, since each handle
+ * Refused: SAMVOLIP_E_OUT_OF_MEMORY by its contract. In fact it takes no memory, since each handle
  * has room for all seats.
  */
 int samvolip_join(samvolip_seat *seat, samvolip_seat *other);
@@ -249,8 +280,8 @@ int samvolip_join(samvolip_seat *seat, samvolip_seat *other);
  * is empty. `seat` is empty afterwards.
  *
  * Cost: a few steps for each seat, and a malloc.
- * Refused: SAMVOLIP_NOT_ALL_SEATS, SAMVOLIP_OUT_OF_MEMORY. SAMVOLIP_LOST, which a right caller
- * never sees, leaves both handles empty.
+ * Refused: SAMVOLIP_E_NOT_ALL_SEATS, SAMVOLIP_E_OUT_OF_MEMORY. SAMVOLIP_E_LOST, which a right
+ * caller never sees, leaves both handles empty.
  */
 int samvolip_close(samvolip_seat *seat, samvolip_ended *ended);
 
@@ -258,9 +289,9 @@ int samvolip_close(samvolip_seat *seat, samvolip_ended *ended);
 void samvolip_free_open(samvolip_seat *seat);
 
 /*
- * Frees a seat, which is empty afterwards; an empty one stays so. The map goes with its last handle.
- * The seats of a handle that was freed are lost to the map: it works on, and can't be closed any
- * more.
+ * Frees a seat, which is empty afterwards; an empty one stays so. The map goes with its last
+ * handle. The seats of a handle that was freed are lost to the map: it works on, and can't be
+ * closed any more.
  */
 static inline void samvolip_free(samvolip_seat *seat)
 {
@@ -275,7 +306,7 @@ static inline void samvolip_free(samvolip_seat *seat)
  * written. Where it is refused, `number` is as it was.
  *
  * Cost: wait-free. In the common case three loads.
- * Refused: SAMVOLIP_KEY_RANGE.
+ * Refused: SAMVOLIP_E_KEY_RANGE.
  */
 int samvolip_get(samvolip_seat *seat, uint64_t key, uint64_t *number);
 
@@ -289,8 +320,8 @@ int samvolip_get(samvolip_seat *seat, uint64_t key, uint64_t *number);
  * Cost: wait-free. In the common case three loads and an exchange, and one step more on the count
  * where a key comes or goes. A key that has no slot takes a load and an exchange more. A new key
  * that finds its table growing has it copied first.
- * Refused: SAMVOLIP_KEY_RANGE, SAMVOLIP_VALUE_RANGE, SAMVOLIP_WANT, SAMVOLIP_CHANGE, SAMVOLIP_FULL,
- * SAMVOLIP_CONTENDED, SAMVOLIP_SUM_RANGE.
+ * Refused: SAMVOLIP_E_KEY_RANGE, SAMVOLIP_E_VALUE_RANGE, SAMVOLIP_E_WANT, SAMVOLIP_E_CHANGE,
+ * SAMVOLIP_E_FULL, SAMVOLIP_E_CONTENDED, SAMVOLIP_E_SUM_RANGE.
  */
 int samvolip_put_if_match(samvolip_seat *seat, uint64_t key, uint32_t want, uint64_t old,
                           uint32_t change, uint64_t number, uint32_t tries,
@@ -340,25 +371,27 @@ int samvolip_next(samvolip_seat *seat, uint64_t *key, uint64_t *number);
 
 /* ---- an ended map -------------------------------------------------------------------------- */
 
+/* These calls leave the handle as it is; but as all others, they are made one at a time. */
+
 /* How many keys the map has. */
-uint64_t samvolip_ended_size(samvolip_ended *ended);
+uint64_t samvolip_ended_size(const samvolip_ended *ended);
 
 /*
  * What is at a key, as samvolip_get.
  *
- * Refused: SAMVOLIP_KEY_RANGE.
+ * Refused: SAMVOLIP_E_KEY_RANGE.
  */
-int samvolip_ended_get(samvolip_ended *ended, uint64_t key, uint64_t *number);
+int samvolip_ended_get(const samvolip_ended *ended, uint64_t key, uint64_t *number);
 
 /*
  * Writes all keys, ascending, with their numbers into the caller's array, which has room for so
  * many; it takes samvolip_ended_size of them. `entries` isn't NULL, even for no room.
  *
  * Cost: that of a search for each key and of putting them in order, and memory for them twice.
- * Refused: SAMVOLIP_ROOM, SAMVOLIP_OUT_OF_MEMORY. ROOM is told only once the list was made: ask
- * samvolip_ended_size first.
+ * Refused: SAMVOLIP_E_ROOM, SAMVOLIP_E_OUT_OF_MEMORY. The first is told only once the list was
+ * made: ask samvolip_ended_size first.
  */
-int samvolip_ended_entries(samvolip_ended *ended, samvolip_entry *entries, size_t room);
+int samvolip_ended_entries(const samvolip_ended *ended, samvolip_entry *entries, size_t room);
 
 /* Frees a full handle: use samvolip_ended_free, which takes an empty one too. */
 void samvolip_ended_free_open(samvolip_ended *ended);
@@ -379,25 +412,26 @@ static inline const char *samvolip_strerror(int code)
     switch (code) {
     case SAMVOLIP_OK: return "made";
     case SAMVOLIP_PRESENT: return "made, and there was a number";
-    case SAMVOLIP_TABLES: return "number of tables out of range";
-    case SAMVOLIP_EXPONENTS: return "exponent out of range";
-    case SAMVOLIP_FALLING: return "a table smaller than the one before it";
-    case SAMVOLIP_SEATS: return "number of seats out of range";
-    case SAMVOLIP_STRIPES: return "number of stripes out of range";
-    case SAMVOLIP_REPROBES: return "reprobe limit out of range";
-    case SAMVOLIP_CHUNK: return "chunk out of range";
-    case SAMVOLIP_OUT_OF_MEMORY: return "out of memory";
-    case SAMVOLIP_KEY_RANGE: return "key too large";
-    case SAMVOLIP_VALUE_RANGE: return "value too large";
-    case SAMVOLIP_WANT: return "no such condition";
-    case SAMVOLIP_CHANGE: return "no such change";
-    case SAMVOLIP_FULL: return "the map is full";
-    case SAMVOLIP_CONTENDED: return "other writes of the key came first";
-    case SAMVOLIP_SUM_RANGE: return "sum too large";
-    case SAMVOLIP_NO_SEAT: return "no seat in reserve";
-    case SAMVOLIP_NOT_ALL_SEATS: return "not all seats of the map";
-    case SAMVOLIP_ROOM: return "the array is too small";
-    case SAMVOLIP_LOST: return "the map was given up";
+    case SAMVOLIP_E_TABLES: return "number of tables out of range";
+    case SAMVOLIP_E_EXPONENTS: return "exponent out of range";
+    case SAMVOLIP_E_FALLING: return "a table smaller than the one before it";
+    case SAMVOLIP_E_SEATS: return "number of seats out of range";
+    case SAMVOLIP_E_STRIPES: return "number of stripes out of range";
+    case SAMVOLIP_E_REPROBES: return "reprobe limit out of range";
+    case SAMVOLIP_E_CHUNK: return "chunk out of range";
+    case SAMVOLIP_E_OUT_OF_MEMORY: return "out of memory";
+    case SAMVOLIP_E_KEY_RANGE: return "key too large";
+    case SAMVOLIP_E_VALUE_RANGE: return "value too large";
+    case SAMVOLIP_E_WANT: return "no such condition";
+    case SAMVOLIP_E_CHANGE: return "no such change";
+    case SAMVOLIP_E_FULL: return "the map is full";
+    case SAMVOLIP_E_CONTENDED: return "other writes of the key came first";
+    case SAMVOLIP_E_SUM_RANGE: return "sum too large";
+    case SAMVOLIP_E_NO_SEAT: return "no seat in reserve";
+    case SAMVOLIP_E_NOT_ALL_SEATS: return "not all seats of the map";
+    case SAMVOLIP_E_ROOM: return "the array is too small";
+    case SAMVOLIP_E_LOST: return "the map was given up";
+    case SAMVOLIP_E_VERSION: return "the header isn't the library's";
     default: return "no such code";
     }
 }
@@ -419,7 +453,8 @@ static inline const char *samvolip_strerror(int code)
  *
  * Each answers SAMVOLIP_PRESENT where there was a number at the key, which is written to `before`,
  * and else SAMVOLIP_ABSENT, and `before` is as it was. `before` may be NULL. replace_if and
- * remove_if answer 1 where they did it, and else 0.
+ * remove_if answer 1 where they did it, and else 0. What each is refused by stands beside it,
+ * without SAMVOLIP_.
  */
 
 /* The write as long as it is contended, and its reply. */
@@ -429,7 +464,7 @@ static inline int samvolip_write(samvolip_seat *seat, uint64_t key, uint32_t wan
     int code;
     do
         code = samvolip_put_if_match(seat, key, want, old, change, number, UINT32_MAX, reply);
-    while (code == SAMVOLIP_CONTENDED);
+    while (code == SAMVOLIP_E_CONTENDED);
     return code;
 }
 
@@ -457,7 +492,7 @@ static inline int samvolip_write_matched(samvolip_seat *seat, uint64_t key, uint
     return code < 0 ? code : (int)reply.matched;
 }
 
-/* Puts a number at a key. Refused: KEY_RANGE, VALUE_RANGE, FULL. */
+/* Puts a number at a key. Refused: E_KEY_RANGE, E_VALUE_RANGE, E_FULL. */
 static inline int samvolip_put(samvolip_seat *seat, uint64_t key, uint64_t number,
                                uint64_t *before)
 {
@@ -471,35 +506,35 @@ static inline int samvolip_put_if_absent(samvolip_seat *seat, uint64_t key, uint
     return samvolip_write_found(seat, key, SAMVOLIP_WANT_ABSENT, SAMVOLIP_PUT, number, before);
 }
 
-/* Puts a number in place of another: SAMVOLIP_PRESENT where it did. Refused: KEY_RANGE,
-   VALUE_RANGE. */
+/* Puts a number in place of another: SAMVOLIP_PRESENT where it did. Refused: E_KEY_RANGE,
+   E_VALUE_RANGE. */
 static inline int samvolip_replace(samvolip_seat *seat, uint64_t key, uint64_t number,
                                    uint64_t *before)
 {
     return samvolip_write_found(seat, key, SAMVOLIP_WANT_PRESENT, SAMVOLIP_PUT, number, before);
 }
 
-/* Puts a number in place of this one. Refused: KEY_RANGE, VALUE_RANGE. */
+/* Puts a number in place of this one. Refused: E_KEY_RANGE, E_VALUE_RANGE. */
 static inline int samvolip_replace_if(samvolip_seat *seat, uint64_t key, uint64_t old,
                                       uint64_t number)
 {
     return samvolip_write_matched(seat, key, old, SAMVOLIP_PUT, number);
 }
 
-/* Takes a key out. Refused: KEY_RANGE. */
+/* Takes a key out. Refused: E_KEY_RANGE. */
 static inline int samvolip_remove(samvolip_seat *seat, uint64_t key, uint64_t *before)
 {
     return samvolip_write_found(seat, key, SAMVOLIP_ANY, SAMVOLIP_REMOVE, 0, before);
 }
 
-/* Takes out a key that has this number. Refused: KEY_RANGE, VALUE_RANGE. */
+/* Takes out a key that has this number. Refused: E_KEY_RANGE, E_VALUE_RANGE. */
 static inline int samvolip_remove_if(samvolip_seat *seat, uint64_t key, uint64_t number)
 {
     return samvolip_write_matched(seat, key, number, SAMVOLIP_REMOVE, 0);
 }
 
-/* Adds a number to what is at a key, none counting as 0. Refused: KEY_RANGE, VALUE_RANGE, FULL,
-   SUM_RANGE. */
+/* Adds a number to what is at a key, none counting as 0. Refused: E_KEY_RANGE,
+   E_VALUE_RANGE, E_FULL, E_SUM_RANGE. */
 static inline int samvolip_add(samvolip_seat *seat, uint64_t key, uint64_t number,
                                uint64_t *before)
 {

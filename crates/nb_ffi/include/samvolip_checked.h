@@ -190,13 +190,13 @@ static inline int samvolip_checked_next(samvolip_seat *seat, uint64_t *key, uint
     return code;
 }
 
-static inline uint64_t samvolip_checked_ended_size(samvolip_ended *ended)
+static inline uint64_t samvolip_checked_ended_size(const samvolip_ended *ended)
 {
     samvolip_check_ended(ended, "samvolip_ended_size");
     return samvolip_ended_size(ended);
 }
 
-static inline int samvolip_checked_ended_get(samvolip_ended *ended, uint64_t key,
+static inline int samvolip_checked_ended_get(const samvolip_ended *ended, uint64_t key,
                                              uint64_t *number)
 {
     samvolip_check(number != NULL, "samvolip_ended_get", "the number is NULL");
@@ -204,8 +204,8 @@ static inline int samvolip_checked_ended_get(samvolip_ended *ended, uint64_t key
     return samvolip_ended_get(ended, key, number);
 }
 
-static inline int samvolip_checked_ended_entries(samvolip_ended *ended, samvolip_entry *entries,
-                                                 size_t room)
+static inline int samvolip_checked_ended_entries(const samvolip_ended *ended,
+                                                 samvolip_entry *entries, size_t room)
 {
     samvolip_check(entries != NULL, "samvolip_ended_entries", "the array is NULL");
     samvolip_check_ended(ended, "samvolip_ended_entries");

@@ -1,29 +1,36 @@
 -- Walks by a handle.
-use Rattle.std.proofs.Common.{◌≡◌, ℕ, List, [], Option, Some, None, refl, subst, sym}
+use Rattle.std.proofs.Common.{◌≡◌, ◌<◌, ℕ, List, [], Option, Some, None, IfSome, refl, subst, sym}
+use Rattle.nb_core.specs.declared.calls.Call.TheVariants as call
 use Rattle.nb_map.specs.Logs.{HasLogged}
-use Rattle.nb_map.specs.Maps.{IsMine, MapOf, SeatOf}
-use Rattle.nb_map.specs.Walks.{HasRead, HasWalked, IsUnderway, WalkOf, begun_by, with_shown}
+use Rattle.nb_map.specs.Maps.{HasWorked, IsMine, MapOf, SeatOf}
+use Rattle.nb_map.specs.Walks.{HasRead, HasWalked, IsUnderway, IsWalkOf, WalkOf, begun_by, passing_steps, slots_ahead, with_shown}
 use Rattle.nb_map.specs.Walks.IsUnderway.{Begun, Ended, Showed}
+use Rattle.nb_table.specs.Chains.{Extended}
 use Rattle.nb_ffi.specs.Handles.{HeldOf}
 use Rattle.nb_ffi.specs.Walking.{HasBegun, HasNext, HasNextOf}
+use Rattle.nb_ffi.proofs.Going.{gone-on, going}
+use Rattle.nb_ffi.proofs.Walking.{looked}
 
 -- the handle with this seat and walk
 abbrev pub walking : HeldOf → SeatOf → WalkOf → HeldOf
-walking held seat walk =
-    record { map = held.map; seat = seat; spare = held.spare; walk = Some walk }
+walking held seat walk = going held seat (Some walk)
 
 -- a walk that the map has begun, the handle has
 pub begun :
     {m : MapOf} {after : SeatOf} {walk : WalkOf} (old : HeldOf) → m ≡ old.map
-    → HasLogged old.seat after [] → walk ≡ begun_by m after → IsMine m after
+    → HasLogged old.seat after [] → Extended m.chain.shape old.seat.chain after.chain [] 1
+    → after.count ≡ old.seat.count → walk ≡ begun_by m after → IsWalkOf m after walk
+    → IsMine m after
     → HasBegun old (walking old after walk)
-begun old is logged walk own =
+begun {m} {after} {walk} old is logged grows count first ours own =
     record {
       logged = logged;
-      walk = rw (walk, is) refl;
+      grows = rw (← is) grows;
+      count = count;
+      walk = rw (first, is) refl;
       underway = rw (← is) (Begun own);
-      map = refl;
-      spare = refl;
+      ours = rw (← is) (subst (IsWalkOf m after) first ours);
+      on = gone-on old is own (Some walk) (looked grows);
     }
 
 -- a walk goes on being underway
@@ -41,16 +48,25 @@ pub walked-on :
     {m : MapOf} {after : SeatOf} {walk walk' : WalkOf} {shown : Option (ℕ × ℕ)} (old : HeldOf)
     → m ≡ old.map → old.walk ≡ Some walk → IsMine m after → HasRead old.seat after shown
     → HasWalked m.chain.shape old.seat after walk walk' shown
+    → ((key : ℕ) → HasWorked m (call.Get key) old.seat after
+    (passing_steps m.chain.shape walk.place walk'.place))
+    → IfSome shown (λ pair. slots_ahead m.chain.shape walk'.place
+    < slots_ahead m.chain.shape walk.place)
+    → IsWalkOf m after walk'
     → HasNext shown old (walking old after walk')
-walked-on {after = after} {walk' = walk'} {shown = shown} old is under own read walked =
+walked-on {m} {after} {walk} {walk'} {shown} old is under own read walked worked ahead ours =
     subst (λ begun. HasNextOf begun shown old (walking old after walk')) (sym under) (
       walk',
       record {
         is = refl;
         read = read;
         walked = rw (← is) walked;
+        worked = subst (λ n. (key : ℕ) → HasWorked n (call.Get key) old.seat after
+            (passing_steps n.chain.shape walk.place walk'.place)) is worked;
+        ahead = subst (λ n. IfSome shown (λ pair. slots_ahead n.chain.shape walk'.place
+            < slots_ahead n.chain.shape walk.place)) is ahead;
         underway = rw (← is) (underway-on shown own read walked);
-        map = refl;
-        spare = refl;
+        ours = rw (← is) ours;
+        on = gone-on old is own (Some walk') walked.later;
       },
     )

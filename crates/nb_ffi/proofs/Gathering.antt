@@ -1,7 +1,9 @@
 -- Seats that are gathered are still their map's.
-use Rattle.std.proofs.Common.{◌≡◌, List, [], ◌∷◌, ◌++◌, sym, subst}
-use Rattle.std.proofs.lemmas.List.Elements.{All-append, All-cons, All-nil, All-same}
-use Rattle.nb_map.specs.Maps.{AreMine, IsMine, MapOf, SeatOf}
+use Rattle.std.proofs.Common.{◌≡◌, ℕ, List, [], ◌∷◌, ◌++◌, All, refl, sym, subst}
+use Rattle.std.specs.List.{range_with_len}
+use Rattle.std.proofs.lemmas.List.Elements.{All-append, All-cons, All-map, All-nil, All-same}
+use Rattle.nb_map.specs.Logs.{log}
+use Rattle.nb_map.specs.Maps.{AreMine, IsMine, MapOf, SeatOf, new_seat, new_seats}
 
 -- with one seat more of the map's at their end
 pub mine-more :
@@ -22,3 +24,11 @@ pub mine-both :
 mine-both m n seats others both is are mine theirs =
     All-same (IsMine m) both (seats ++ others) are
     (All-append (IsMine m) seats others mine (subst (λ k. AreMine k others) is theirs))
+
+-- new seats know of no call
+pub none-logged :
+    (m : MapOf) (count : ℕ) (seats : List SeatOf) → seats ≡ new_seats m count
+    → All (λ seat. log seat ≡ []) seats
+none-logged m count seats are =
+    All-same (λ seat. log seat ≡ []) seats (new_seats m count) are
+    (All-map (λ seat. log seat ≡ []) (new_seat m) (range_with_len 0 count) (λ k d lt. refl))

@@ -2,6 +2,8 @@ mod Beginning
 mod Crossing
 mod EndedBox
 mod Gathering
+mod Going
+mod Lending
 mod Putting
 mod SeatBox
 mod Walking

@@ -1,16 +1,19 @@
 -- What a write by a handle comes to.
-use Rattle.std.proofs.Common.{◌≡◌, ℕ, ◌+◌, min, max, [], Result, Ok, Err, IfOk, IfErr, refl}
+use Rattle.std.proofs.Common.{◌≡◌, ℕ, ◌+◌, min, max, [], Result, Ok, Err, IfOk, IfErr}
 use Rattle.nb_core.specs.declared.calls.Call.{Call}
 use Rattle.nb_core.specs.declared.calls.Reply.{Reply}
 use Rattle.nb_map.specs.Logs.{HasLogged, HasReplied}
-use Rattle.nb_map.specs.Maps.{HasWorked, MapOf, SeatOf}
+use Rattle.nb_map.specs.Maps.{HasWorked, IsMine, MapOf, SeatOf}
 use Rattle.nb_map.specs.Refusing.{IsJust, put_steps}
-use Rattle.nb_map.specs.Writing.{passed_since}
+use Rattle.nb_map.specs.Writing.{IsShortAtHome, passed_since}
 use Rattle.nb_map.specs.declared.write.PutFault.{PutFault}
+use Rattle.nb_map.proofs.Theorems.{walk_lasts}
+use Rattle.nb_ffi.proofs.Going.{kept}
 use Rattle.nb_ffi.specs.Handles.{HasPut, HasRefused, HeldOf, with_seat}
 
-module _ {m : MapOf} {c : Call} {t : ℕ} {after : SeatOf} (old : HeldOf) (tries : ℕ) (is : m ≡ old.map)
-    (most : t ≡ max tries 1)
+module _ {m : MapOf} {c : Call} {t : ℕ} {after : SeatOf} (old : HeldOf) (tries : ℕ)
+    (is : m ≡ old.map) (most : t ≡ max tries 1) (own : IsMine m after)
+    (short : IsShortAtHome m.chain.shape c old.seat.chain after.chain)
     (worked : HasWorked m c old.seat after
     (put_steps m.chain.shape (min t (passed_since c old.seat.chain after.chain + 1)))) where
   -- what was made, the handle tells as its own
@@ -21,7 +24,8 @@ module _ {m : MapOf} {c : Call} {t : ℕ} {after : SeatOf} (old : HeldOf) (tries
       record {
         replied = replied;
         worked = rw (← is, ← most) worked;
-        rest = record { map = refl; spare = refl; walk = refl };
+        short = rw (← is) short;
+        rest = kept old is own (walk_lasts.later worked);
       }
   put-made (Err fault) replied = tt
 
@@ -37,5 +41,6 @@ module _ {m : MapOf} {c : Call} {t : ℕ} {after : SeatOf} (old : HeldOf) (tries
         logged = refused.0;
         just = rw (← is, ← most) refused.1;
         worked = rw (← is, ← most) worked;
-        rest = record { map = refl; spare = refl; walk = refl };
+        short = rw (← is) short;
+        rest = kept old is own (walk_lasts.later worked);
       }

@@ -1,5 +1,5 @@
 -- What the codes of C mean.
-use Rattle.std.specs.Prelude.{◌==◌, ℕ, ℤ, nat_le, if◌then◌else◌, Some, None, Result, Ok, Err}
+use Rattle.std.specs.Prelude.{◌==◌, ℕ, ℤ, Bool, true, false, nat_le, if◌then◌else◌, is_some, unwrap_or, Result, Ok, Err}
 use Rattle.nb_core.specs.declared.calls.Call.{Call}
 use Rattle.nb_core.specs.declared.calls.Call.TheVariants as call
 use Rattle.nb_core.specs.declared.calls.Change.{Change}
@@ -14,32 +14,32 @@ use Rattle.nb_map.specs.declared.write.PutFault.{PutFault}
 use Rattle.nb_map.specs.declared.write.PutFault.TheVariants as fault
 use Rattle.nb_ffi.specs.declared.codes.WriteAsked.{WriteAsked}
 use Rattle.nb_ffi.specs.declared.codes.WriteReply.{WriteReply}
-use Rattle.nb_ffi.specs.declared.codes.TheConstants.{CHANGE, CHUNK, CONTENDED, EXPONENTS, FALLING, FULL, KEY_RANGE, REPROBES, SEATS, STRIPES, SUM_RANGE, TABLES, VALUE_RANGE, WANT}
+use Rattle.nb_ffi.specs.declared.codes.TheConstants.{ADD, ANY, EQUAL, PUT, REMOVE, WANT_ABSENT, WANT_PRESENT, E_CHANGE, E_CHUNK, E_CONTENDED, E_EXPONENTS, E_FALLING, E_FULL, E_KEY_RANGE, E_REPROBES, E_SEATS, E_STRIPES, E_SUM_RANGE, E_TABLES, E_VALUE_RANGE, E_WANT}
 
 -- the code of a shape's fault
 abbrev pub shape_code : ShapeFault → ℤ
-shape_code shape.Bits = EXPONENTS
-shape_code shape.Generations = TABLES
-shape_code shape.Seats = SEATS
-shape_code shape.Stripes = STRIPES
-shape_code shape.Plan = FALLING
-shape_code shape.Reprobes = REPROBES
-shape_code shape.Chunk = CHUNK
-shape_code shape.Keys = TABLES
+shape_code shape.Bits = E_EXPONENTS
+shape_code shape.Generations = E_TABLES
+shape_code shape.Seats = E_SEATS
+shape_code shape.Stripes = E_STRIPES
+shape_code shape.Plan = E_FALLING
+shape_code shape.Reprobes = E_REPROBES
+shape_code shape.Chunk = E_CHUNK
+shape_code shape.Keys = E_TABLES
 
 -- the code of a write's refusal
 abbrev pub fault_code : PutFault → ℤ
-fault_code fault.Full = FULL
-fault_code fault.Contended = CONTENDED
-fault_code fault.ValueRange = SUM_RANGE
+fault_code fault.Full = E_FULL
+fault_code fault.Contended = E_CONTENDED
+fault_code fault.ValueRange = E_SUM_RANGE
 
 -- the key of a number, or the code that it is none
 abbrev pub key_told : ℕ → Result ℕ ℤ
-key_told key = if nat_le key KEY_MAX then Ok key else Err KEY_RANGE
+key_told key = if nat_le key KEY_MAX then Ok key else Err E_KEY_RANGE
 
 -- the value number of a number, or the code that it is none
 abbrev pub number_told : ℕ → Result ℕ ℤ
-number_told number = if nat_le number VALUE_MAX then Ok number else Err VALUE_RANGE
+number_told number = if nat_le number VALUE_MAX then Ok number else Err E_VALUE_RANGE
 
 -- the same as a condition, and as changes
 abbrev pub equal_told : Result ℕ ℤ → Result Want ℤ
@@ -54,23 +54,23 @@ abbrev pub add_told : Result ℕ ℤ → Result Change ℤ
 add_told (Ok number) = Ok (change.Add number)
 add_told (Err code) = Err code
 
--- The condition of a code: 0 asks nothing, 1 that there is no number at the key, 2 that there is
--- one, and 3 that it is this number.
+-- The condition of a code: nothing, that there is no number at the key, that there is one, or that
+-- it is this number.
 abbrev pub want_told : ℕ → ℕ → Result Want ℤ
 want_told code number =
-    if code == 0 then Ok want.Any
-    else if code == 1 then Ok want.Absent
-    else if code == 2 then Ok want.Present
-    else if code == 3 then equal_told (number_told number)
-    else Err WANT
+    if code == ANY then Ok want.Any
+    else if code == WANT_ABSENT then Ok want.Absent
+    else if code == WANT_PRESENT then Ok want.Present
+    else if code == EQUAL then equal_told (number_told number)
+    else Err E_WANT
 
--- The change of a code: 0 puts the number, 1 takes the key out, and 2 adds the number.
+-- The change of a code: it puts the number, takes the key out, or adds the number.
 abbrev pub change_told : ℕ → ℕ → Result Change ℤ
 change_told code number =
-    if code == 0 then put_told (number_told number)
-    else if code == 1 then Ok change.Remove
-    else if code == 2 then add_told (number_told number)
-    else Err CHANGE
+    if code == PUT then put_told (number_told number)
+    else if code == REMOVE then Ok change.Remove
+    else if code == ADD then add_told (number_told number)
+    else Err E_CHANGE
 
 -- the write of a key, a condition and a change, or the first code that one of them is none
 abbrev pub write_told : Result ℕ ℤ → Result Want ℤ → Result Change ℤ → Result Call ℤ
@@ -89,10 +89,17 @@ abbrev pub asked_call : Result WriteAsked ℤ → Result Call ℤ
 asked_call (Ok asked) = Ok (call.Write asked.key asked.want asked.change)
 asked_call (Err code) = Err code
 
--- what a reply in C tells
-abbrev pub reply_told : WriteReply → Reply
-reply_told reply =
+-- a truth in C
+abbrev pub truth_in_c : Bool → ℕ
+truth_in_c true = 1
+truth_in_c false = 0
+
+-- A reply in C: the number that was there, or 0 where there was none; whether there was one, and
+-- whether the condition held.
+abbrev pub reply_in_c : Reply → WriteReply
+reply_in_c reply =
     record {
-      before = if reply.had == 1 then Some reply.before else None;
-      matched = reply.matched == 1;
+      before = unwrap_or reply.before 0;
+      had = truth_in_c (is_some reply.before);
+      matched = truth_in_c reply.matched;
     }

@@ -1,6 +1,6 @@
 -- The entries of an ended map, in a caller's array.
 use Rattle.std.specs.Prelude.{◌≡◌, ◌⊎◌, ◌++◌, ◌<◌, ◌≤◌, ℕ, ℤ, List, length, map, drop}
-use Rattle.nb_ffi.specs.declared.codes.TheConstants.{OK, OUT_OF_MEMORY, ROOM}
+use Rattle.nb_ffi.specs.declared.codes.TheConstants.{OK, E_OUT_OF_MEMORY, E_ROOM}
 use Rattle.nb_ffi.specs.declared.ended_map.MapEntry.{MapEntry}
 
 -- an entry in C
@@ -17,5 +17,5 @@ abbrev pub AreEntries :
     (code : ℤ) → (room room' : List MapEntry) → List (ℕ × ℕ) → Type 0
 AreEntries code room room' entries =
     ((code ≡ OK) × (length entries ≤ length room) × (room' ≡ written_over entries room))
-    ⊎ ((code ≡ ROOM) × (length room < length entries) × (room' ≡ room))
-    ⊎ ((code ≡ OUT_OF_MEMORY) × (room' ≡ room))
+    ⊎ ((code ≡ E_ROOM) × (length room < length entries) × (room' ≡ room))
+    ⊎ ((code ≡ E_OUT_OF_MEMORY) × (room' ≡ room))

@@ -1,17 +1,17 @@
 -- What the exports tell of a handle.
-use Rattle.std.specs.Prelude.{◌≡◌, ℕ, ◌+◌, max, min, List, [], ◌∷◌, ◌++◌, Option, Some, None}
+use Rattle.std.specs.Prelude.{◌≡◌, ◌≤◌, ℕ, ◌+◌, max, min, List, [], ◌∷◌, ◌++◌, All, Option, Some, None}
 use Rattle.nb_core.specs.Log.{reply_at}
 use Rattle.nb_core.specs.declared.calls.Call.{Call}
 use Rattle.nb_core.specs.declared.calls.Call.TheVariants as call
 use Rattle.nb_core.specs.declared.calls.Reply.{Reply}
-use Rattle.nb_map.specs.Logs.{HasLogged, HasReplied}
-use Rattle.nb_map.specs.Looking.{get_steps}
-use Rattle.nb_map.specs.Maps.{HasWorked, MapOf, SeatOf, new_seats}
+use Rattle.nb_map.specs.Logs.{HasLogged, HasReplied, log}
+use Rattle.nb_map.specs.Looking.{IsSeenAtHome, get_steps}
+use Rattle.nb_map.specs.Maps.{AreMine, HasWorked, IsMine, MapOf, SeatOf, new_seats}
 use Rattle.nb_map.specs.Refusing.{IsJust, put_steps}
-use Rattle.nb_map.specs.Writing.{passed_since}
+use Rattle.nb_map.specs.Writing.{IsShortAtHome, passed_since}
 use Rattle.nb_map.specs.declared.write.PutFault.{PutFault}
-use Rattle.nb_core.specs.Plans.{Plan}
-use Rattle.nb_map.specs.Walks.{WalkOf}
+use Rattle.nb_core.specs.Plans.{IsPlan, Plan}
+use Rattle.nb_map.specs.Walks.{IsLater, IsUnderway, WalkOf}
 
 -- what a handle stands for: the map that it is of, its seat, the seats that it has in reserve, and
 -- the walk that its seat has begun, if it has
@@ -46,48 +46,66 @@ pub record Turned (before after : Option HeldOf) (P : HeldOf → HeldOf → Type
   pub is : after ≡ Some new
   pub holds : P old new
 
--- The handle is of the same map, has the same seats in reserve, and its walk is where it was.
-pub record KeepsRest (before after : HeldOf) : Type 0 where
+-- The handle's seat has gone on: it is the map's, it has its number, and it has forgotten nothing.
+-- The handle is of the same map, and has the same seats in reserve.
+pub record HasGoneOn (before after : HeldOf) : Type 0 where
+  pub own : IsMine after.map after.seat
+  pub later : IsLater before.seat after.seat
   pub map : after.map ≡ before.map
   pub spare : after.spare ≡ before.spare
+
+-- The same, and its walk is where it was. A walk that was underway is so still.
+pub record KeepsRest (before after : HeldOf) : Type 0 where
+  pub on : HasGoneOn before after
   pub walk : after.walk ≡ before.walk
+  pub underway :
+      (walk : WalkOf) (pairs : List (ℕ × ℕ)) → IsUnderway before.map before.seat walk pairs
+      → IsUnderway after.map after.seat walk pairs
 
--- The handle's seat has made this one call with this reply, in at most so many steps.
-pub record HasCalled (c : Call) (reply : Reply) (most : ℕ) (before after : HeldOf) : Type 0 where
-  pub replied : HasReplied c before.seat after.seat reply
-  pub worked : HasWorked before.map c before.seat after.seat most
+-- The seat has read this at a key, with its bound of steps: at most three where the key is at home.
+pub record HasGot (key : ℕ) (number : Option ℕ) (before after : HeldOf) : Type 0 where
+  pub replied : HasReplied (call.Get key) before.seat after.seat (reply_at (call.Get key) number)
+  pub worked :
+      HasWorked before.map (call.Get key) before.seat after.seat (get_steps (plan_of before))
+  pub three_steps :
+      IsSeenAtHome (plan_of before) before.seat.chain after.seat.chain key
+      → after.seat.chain.steps ≤ before.seat.chain.steps + 3
   pub rest : KeepsRest before after
-
--- the seat has read this at a key
-abbrev pub HasGot : (key : ℕ) → Option ℕ → (before after : HeldOf) → Type 0
-HasGot key number before after =
-    HasCalled (call.Get key) (reply_at (call.Get key) number) (get_steps (plan_of before)) before
-    after
 
 -- the most steps of a write, which has one try at least
 abbrev pub write_steps : Call → (tries : ℕ) → (before after : HeldOf) → ℕ
 write_steps c tries before after = put_steps (plan_of before)
     (min (max tries 1) (passed_since c before.seat.chain after.seat.chain + 1))
 
--- the seat has made this write, with this reply
-abbrev pub HasPut : Call → (tries : ℕ) → Reply → (before after : HeldOf) → Type 0
-HasPut c tries reply before after =
-    HasCalled c reply (write_steps c tries before after) before after
+-- The seat has made this write with this reply, in at most so many steps: few where it is alone
+-- with its key, and the key is at home.
+pub record HasPut (c : Call) (tries : ℕ) (reply : Reply) (before after : HeldOf) : Type 0 where
+  pub replied : HasReplied c before.seat after.seat reply
+  pub worked :
+      HasWorked before.map c before.seat after.seat (write_steps c tries before after)
+  pub short : IsShortAtHome (plan_of before) c before.seat.chain after.seat.chain
+  pub rest : KeepsRest before after
 
--- The seat has made no call, and that this write was refused is just.
+-- The seat has made no call, and that this write was refused is just. It took no more steps than
+-- one that is made.
 pub record HasRefused (c : Call) (tries : ℕ) (fault : PutFault) (before after : HeldOf) :
     Type 0 where
   pub logged : HasLogged before.seat after.seat []
   pub just :
       IsJust (plan_of before) c before.seat.chain after.seat.chain (max tries 1) fault
-  pub worked : HasWorked before.map c before.seat after.seat
-      (write_steps c tries before after)
+  pub worked :
+      HasWorked before.map c before.seat after.seat (write_steps c tries before after)
+  pub short : IsShortAtHome (plan_of before) c before.seat.chain after.seat.chain
   pub rest : KeepsRest before after
 
--- a handle of a new map of this shape, which has all its seats
+-- a handle of a new map of this shape, which has all its seats; no call was made before
 pub record IsNew (p : Plan) (held : HeldOf) : Type 0 where
   pub shape : plan_of held ≡ p
+  pub plan : IsPlan p
+  pub counter : (held.map.counter.stripes ≡ p.stripes) × (held.map.counter.seats ≡ p.seats)
+  pub own : AreMine held.map (all_seats held)
   pub seats : all_seats held ≡ new_seats held.map p.seats
+  pub logs : All (λ seat. log seat ≡ []) (all_seats held)
   pub walk : held.walk ≡ None
 
 -- a handle was split: another one of the same map has the last seat in reserve

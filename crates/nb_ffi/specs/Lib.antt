@@ -1,4 +1,6 @@
 pub mod Handles
+pub mod Headers
+pub mod Looks
 pub mod Inside
 pub mod SeatOwning
 pub mod SeatLending

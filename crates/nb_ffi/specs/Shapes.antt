@@ -3,7 +3,7 @@ use Rattle.std.specs.Prelude.{ℕ, ℤ, nat_le, if◌then◌else◌, List, take,
 use Rattle.nb_core.specs.Plans.{Plan, checked_chunk, checked_plan, checked_reprobes}
 use Rattle.nb_core.specs.declared.shapes.ShapeFault.{ShapeFault}
 use Rattle.nb_ffi.specs.Codes.{shape_code}
-use Rattle.nb_ffi.specs.declared.codes.TheConstants.{TABLES}
+use Rattle.nb_ffi.specs.declared.codes.TheConstants.{E_TABLES}
 use Rattle.nb_ffi.specs.declared.map_shape.MapShape.{MapShape}
 
 -- a plan with this reprobe limit, if there is one
@@ -30,4 +30,4 @@ in_codes (Err fault) = Err (shape_code fault)
 abbrev pub plan_told : MapShape → Result Plan ℤ
 plan_told shape =
     if nat_le shape.tables 16 then in_codes (tuned (take shape.tables shape.exponents) shape)
-    else Err TABLES
+    else Err E_TABLES

@@ -4,15 +4,16 @@ use Rattle.std.specs.FinMap as numbers
 use Rattle.nb_core.specs.Log.{IsBeginning}
 use Rattle.nb_core.specs.Plans.{Plan}
 use Rattle.nb_core.specs.declared.calls.Call.{Call}
-use Rattle.nb_table.specs.Chains.{seen_by}
+use Rattle.nb_core.specs.declared.calls.Reply.{Reply}
 use Rattle.nb_map.specs.Ending.{EndedOf, map_left}
-use Rattle.nb_map.specs.Logs.{HasLogged, log}
+use Rattle.nb_map.specs.Logs.{log}
 use Rattle.nb_map.specs.declared.write.PutFault.{PutFault}
 use Rattle.nb_ffi.specs.Closing.{HasAllSeats, IsEndOf}
-use Rattle.nb_ffi.specs.Codes.{fault_code, reply_told}
-use Rattle.nb_ffi.specs.Handles.{HasGot, HasPut, HasRefused, HeldOf, IsNew, IsPartOf, KeepsRest, Turned, all_seats, plan_of}
+use Rattle.nb_ffi.specs.Codes.{fault_code, reply_in_c}
+use Rattle.nb_ffi.specs.Handles.{HasGot, HasPut, HasRefused, HeldOf, IsNew, IsPartOf, Turned, all_seats}
+use Rattle.nb_ffi.specs.Looks.{HasLoaded}
 use Rattle.nb_ffi.specs.declared.codes.WriteReply.{WriteReply}
-use Rattle.nb_ffi.specs.declared.codes.TheConstants.{ABSENT, LOST, NOT_ALL_SEATS, NO_SEAT, OK, OUT_OF_MEMORY, PRESENT}
+use Rattle.nb_ffi.specs.declared.codes.TheConstants.{ABSENT, E_LOST, E_NOT_ALL_SEATS, E_NO_SEAT, OK, E_OUT_OF_MEMORY, PRESENT}
 use Rattle.nb_ffi.specs.declared.ended_map.EndedMap.{EndedMap}
 
 -- A read came to this code: it found the number that is written, or none, and 0 is written; or the
@@ -25,46 +26,40 @@ IsGet (Ok key) code number number' before after =
 IsGet (Err refusal) code number number' before after =
     (code ≡ refusal) × (number' ≡ number) × (after ≡ before)
 
--- A write came to this code: it was made, and its reply is written; or it was refused; or a number
--- or a code of it is none, and nothing happened.
+-- A write came to this code: it was made, and its reply is written, each field of it; or it was
+-- refused; or a number or a code of it is none, and nothing happened.
 abbrev pub IsWrite :
     Result Call ℤ → (tries : ℕ) → (code : ℤ) → (reply reply' : WriteReply)
     → (before after : Option HeldOf)
     → Type 0
 IsWrite (Ok call) tries code reply reply' before after =
-    ((code ≡ OK) × Turned before after (HasPut call tries (reply_told reply')))
+    ((code ≡ OK) × ((made : Reply) × (reply' ≡ reply_in_c made)
+    × Turned before after (HasPut call tries made)))
     ⊎ ((fault : PutFault) × (code ≡ fault_code fault) × (reply' ≡ reply)
     × Turned before after (HasRefused call tries fault))
 IsWrite (Err refusal) tries code reply reply' before after =
     (code ≡ refusal) × (reply' ≡ reply) × (after ≡ before)
-
--- the seat has made no call, and all else is as it was
-pub record HasOnlyLooked (before after : HeldOf) : Type 0 where
-  pub logged : HasLogged before.seat after.seat []
-  pub rest : KeepsRest before after
-
--- the same, and it found this many tables complete
-pub record HasFoundTop (top : ℕ) (before after : HeldOf) : Type 0 where
-  pub looked : HasOnlyLooked before after
-  pub found : (seen_by (plan_of before) after.seat.chain).top ≡ top
 
 -- both handles are of one map
 abbrev pub AreOfOneMap : Option HeldOf → Option HeldOf → Type 0
 AreOfOneMap a b =
     (one : HeldOf) (other : HeldOf) → a ≡ Some one → b ≡ Some other → one.map ≡ other.map
 
--- the seat has made no call, and has learned all that the other one knew
-pub record HasLearned (other : Option HeldOf) (before after : HeldOf) : Type 0 where
-  pub looked : HasOnlyLooked before after
-  pub learned : (known : HeldOf) → other ≡ Some known
-      → IsBeginning (log known.seat) (log after.seat)
+-- the seat has made no call, and by one load it has learned all that the other handle's knew
+pub record HasMet (other : Option HeldOf) (before after : HeldOf) : Type 0 where
+  pub loaded : HasLoaded before after
+  pub learned :
+      (known : HeldOf) → other ≡ Some known → IsBeginning (log known.seat) (log after.seat)
+  pub seen :
+      (known : HeldOf) → other ≡ Some known
+      → IsBeginning known.seat.chain.seen after.seat.chain.seen
 
 -- A map was opened with this code, or not: the handle has all seats of a new map of the shape; or
 -- it is as it was, and the code is the shape's, or there was no memory.
 abbrev pub IsOpening : Result Plan ℤ → (code : ℤ) → (before after : Option HeldOf) → Type 0
 IsOpening (Ok p) code before after =
     ((code ≡ OK) × ((held : HeldOf) × (after ≡ Some held) × IsNew p held))
-    ⊎ ((code ≡ OUT_OF_MEMORY) × (after ≡ before))
+    ⊎ ((code ≡ E_OUT_OF_MEMORY) × (after ≡ before))
 IsOpening (Err refusal) code before after = (code ≡ refusal) × (after ≡ before)
 
 -- A handle was split with this code; or both are as they were, for want of memory or of a seat in
@@ -75,10 +70,10 @@ pub data IsSplit (code : ℤ) (before after other other' : Option HeldOf) : Type
       → Turned before after (λ old new. IsPartOf old new part)
       → IsSplit code before after other other'
   Kept :
-      code ≡ OUT_OF_MEMORY → after ≡ before → other' ≡ other
+      code ≡ E_OUT_OF_MEMORY → after ≡ before → other' ≡ other
       → IsSplit code before after other other'
   Lacks :
-      code ≡ NO_SEAT → (held : HeldOf) → before ≡ Some held → held.spare ≡ [] → after ≡ before
+      code ≡ E_NO_SEAT → (held : HeldOf) → before ≡ Some held → held.spare ≡ [] → after ≡ before
       → other' ≡ other
       → IsSplit code before after other other'
 
@@ -96,7 +91,7 @@ pub data IsJoin (code : ℤ) (before after other other' : Option HeldOf) : Type 
       → Turned before after (HasJoined given)
       → IsJoin code before after other other'
   Kept :
-      code ≡ OUT_OF_MEMORY → after ≡ before → other' ≡ other
+      code ≡ E_OUT_OF_MEMORY → after ≡ before → other' ≡ other
       → IsJoin code before after other other'
 
 -- A map was closed with this code, and its handle is empty; or all is as it was, for want of memory
@@ -109,14 +104,14 @@ pub data IsClose (code : ℤ) (before after : Option HeldOf) (left left' : Optio
       → left' ≡ Some end → IsEndOf held end
       → IsClose code before after left left'
   Kept :
-      code ≡ OUT_OF_MEMORY → after ≡ before → left' ≡ left
+      code ≡ E_OUT_OF_MEMORY → after ≡ before → left' ≡ left
       → IsClose code before after left left'
   Lacks :
-      code ≡ NOT_ALL_SEATS → (held : HeldOf) → before ≡ Some held → (HasAllSeats held → ⊥)
+      code ≡ E_NOT_ALL_SEATS → (held : HeldOf) → before ≡ Some held → (HasAllSeats held → ⊥)
       → after ≡ before → left' ≡ left
       → IsClose code before after left left'
   Lost :
-      code ≡ LOST → (held : HeldOf) → before ≡ Some held → HasAllSeats held → after ≡ None
+      code ≡ E_LOST → (held : HeldOf) → before ≡ Some held → HasAllSeats held → after ≡ None
       → left' ≡ left
       → IsClose code before after left left'
 

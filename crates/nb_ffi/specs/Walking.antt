@@ -1,29 +1,43 @@
 -- Walks by a handle.
-use Rattle.std.specs.Prelude.{◌≡◌, ◌⊎◌, ℕ, ℤ, List, [], Option, Some, None}
+use Rattle.std.specs.Prelude.{◌≡◌, ◌<◌, ◌⊎◌, ℕ, ℤ, List, [], Option, Some, None, IfSome}
+use Rattle.nb_core.specs.declared.calls.Call.TheVariants as call
 use Rattle.nb_map.specs.Logs.{HasLogged}
-use Rattle.nb_map.specs.Walks.{HasRead, HasWalked, IsUnderway, WalkOf, begun_by, with_shown}
-use Rattle.nb_ffi.specs.Handles.{HeldOf, Turned, plan_of}
+use Rattle.nb_map.specs.Maps.{HasWorked}
+use Rattle.nb_map.specs.Walks.{HasRead, HasWalked, IsUnderway, IsWalkOf, WalkOf, begun_by, passing_steps, slots_ahead, with_shown}
+use Rattle.nb_table.specs.Chains.{Extended}
+use Rattle.nb_ffi.specs.Handles.{HasGoneOn, HeldOf, Turned, plan_of}
 use Rattle.nb_ffi.specs.declared.codes.TheConstants.{ABSENT, PRESENT}
 
--- The handle's walk begins, and has shown nothing.
+-- The handle's walk begins, and has shown nothing. It took one step on the chain, which was no
+-- event, and none on the counter.
 pub record HasBegun (before after : HeldOf) : Type 0 where
   pub logged : HasLogged before.seat after.seat []
+  pub grows : Extended (plan_of before) before.seat.chain after.seat.chain [] 1
+  pub count : after.seat.count ≡ before.seat.count
   pub walk : after.walk ≡ Some (begun_by after.map after.seat)
   pub underway : IsUnderway after.map after.seat (begun_by after.map after.seat) []
-  pub map : after.map ≡ before.map
-  pub spare : after.spare ≡ before.spare
+  pub ours : IsWalkOf after.map after.seat (begun_by after.map after.seat)
+  pub on : HasGoneOn before after
 
 -- The walk shows this pair, or ends. Its seat has made the read of the pair, and before it such as
--- found nothing. What it has shown in all, `whole_walk` speaks of.
+-- found nothing, in at most so many steps for each slot that it passed: so a walk ends. What it has
+-- shown in all, `whole_walk` speaks of.
 pub record HasWalkedOn (shown : Option (ℕ × ℕ)) (before after : HeldOf) (walk walk' : WalkOf) :
     Type 0 where
   pub is : after.walk ≡ Some walk'
   pub read : HasRead before.seat after.seat shown
   pub walked : HasWalked (plan_of before) before.seat after.seat walk walk' shown
+  pub worked :
+      (key : ℕ)
+      → HasWorked before.map (call.Get key) before.seat after.seat
+      (passing_steps (plan_of before) walk.place walk'.place)
+  pub ahead :
+      IfSome shown (λ pair. slots_ahead (plan_of before) walk'.place
+      < slots_ahead (plan_of before) walk.place)
   pub underway : (pairs : List (ℕ × ℕ)) → IsUnderway before.map before.seat walk pairs
       → IsUnderway after.map after.seat walk' (with_shown shown pairs)
-  pub map : after.map ≡ before.map
-  pub spare : after.spare ≡ before.spare
+  pub ours : IsWalkOf after.map after.seat walk'
+  pub on : HasGoneOn before after
 
 -- the same, where a walk is underway; with none, nothing happens and none is shown
 abbrev pub HasNextOf :

@@ -1,11 +1,8 @@
 //! The calls of a handle.
-ghost use Rattle.std.specs.Prelude.{◌≡◌, IfErr, IfOk, [], max};
+ghost use Rattle.std.specs.Prelude.{◌≡◌, IfErr, IfOk, max};
 ghost use Rattle.nb_core.specs.declared.calls.Call.TheVariants as call;
-ghost use Rattle.nb_map.specs.Logs.{HasLogged, log};
-ghost use Rattle.nb_core.specs.Log.{IsBeginning};
-ghost use Rattle.nb_core.specs.Tables.{IsComplete};
-ghost use Rattle.nb_table.specs.Chains.{seen_by};
-ghost use Rattle.nb_ffi.specs.Handles.{HasGot, HasPut, HasRefused, KeepsRest, plan_of};
+ghost use Rattle.nb_ffi.specs.Handles.{HasGot, HasPut, HasRefused};
+ghost use Rattle.nb_ffi.specs.Looks.{HasEstimated, HasFoundTop, HasLearned};
 
 use crate::held::Held;
 use nb_core::{Change, Key, Num, Reply, Want};
@@ -40,17 +37,14 @@ impl Held {
 
     /// `Map::size_estimate`.
     pub(crate) fn size_estimate(&mut self) -> u64
-        ensures logged { HasLogged self.old.seat self.new.seat [] }
-        ensures rest { KeepsRest self.old self.new }
+        ensures { HasEstimated self.old self.new }
     {
         self.map.size_estimate(&mut self.seat)
     }
 
     /// `Map::generation`.
     pub(crate) fn generation(&mut self) -> u32
-        ensures logged { HasLogged self.old.seat self.new.seat [] }
-        ensures found { (seen_by (plan_of self.old) self.new.seat.chain).top ≡ result }
-        ensures rest { KeepsRest self.old self.new }
+        ensures { HasFoundTop result self.old self.new }
     {
         self.map.generation(&mut self.seat)
     }
@@ -58,12 +52,8 @@ impl Held {
     /// `Map::meet`.
     pub(crate) fn meet(&mut self, other: &mut Held)
         requires one { self.old.map ≡ other.old.map }
-        ensures here { HasLogged self.old.seat self.new.seat []
-            × IsBeginning (log other.old.seat) (log self.new.seat) }
-        ensures there { HasLogged other.old.seat other.new.seat []
-            × IsBeginning (log self.old.seat) (log other.new.seat) }
-        ensures rest { KeepsRest self.old self.new }
-        ensures other_rest { KeepsRest other.old other.new }
+        ensures here { HasLearned other.old self.old self.new }
+        ensures there { HasLearned self.old other.old other.new }
     {
         self.map.meet(&mut self.seat, &mut other.seat);
     }

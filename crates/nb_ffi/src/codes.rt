@@ -7,7 +7,7 @@ ghost use Rattle.nb_ffi.specs.Codes.{
   fault_code,
   key_told,
   number_told,
-  reply_told,
+  reply_in_c,
   shape_code,
   want_told,
 };
@@ -23,46 +23,64 @@ pub const PRESENT: i32 = 1;
 pub const ABSENT: i32 = 0;
 
 /// The number of tables isn't from 1 to 16.
-pub const TABLES: i32 = -1;
+pub const E_TABLES: i32 = -1;
 /// An exponent isn't from 2 to 19.
-pub const EXPONENTS: i32 = -2;
+pub const E_EXPONENTS: i32 = -2;
 /// A table is smaller than the one before it.
-pub const FALLING: i32 = -3;
+pub const E_FALLING: i32 = -3;
 /// The number of seats isn't from 1 to 8.
-pub const SEATS: i32 = -4;
+pub const E_SEATS: i32 = -4;
 /// The number of stripes isn't from 1 to 8.
-pub const STRIPES: i32 = -5;
+pub const E_STRIPES: i32 = -5;
 /// The reprobe limit is 0.
-pub const REPROBES: i32 = -6;
+pub const E_REPROBES: i32 = -6;
 /// The chunk isn't a power of two from 4 to 1024.
-pub const CHUNK: i32 = -7;
+pub const E_CHUNK: i32 = -7;
 /// There is no memory.
-pub const OUT_OF_MEMORY: i32 = -8;
+pub const E_OUT_OF_MEMORY: i32 = -8;
 /// The key is past the greatest one.
-pub const KEY_RANGE: i32 = -9;
+pub const E_KEY_RANGE: i32 = -9;
 /// A number is past the greatest one.
-pub const VALUE_RANGE: i32 = -10;
+pub const E_VALUE_RANGE: i32 = -10;
 /// The code of a condition is none.
-pub const WANT: i32 = -11;
+pub const E_WANT: i32 = -11;
 /// The code of a change is none.
-pub const CHANGE: i32 = -12;
+pub const E_CHANGE: i32 = -12;
 /// Other keys have all slots of the last table.
-pub const FULL: i32 = -13;
+pub const E_FULL: i32 = -13;
 /// Other writes of the key came first, as often as there were tries.
-pub const CONTENDED: i32 = -14;
+pub const E_CONTENDED: i32 = -14;
 /// The sum of an add is past the greatest number.
-pub const SUM_RANGE: i32 = -15;
+pub const E_SUM_RANGE: i32 = -15;
 /// No seat is in reserve.
-pub const NO_SEAT: i32 = -16;
+pub const E_NO_SEAT: i32 = -16;
 /// The handle hasn't all seats of its map.
-pub const NOT_ALL_SEATS: i32 = -17;
+pub const E_NOT_ALL_SEATS: i32 = -17;
 /// The caller's array has no room for all.
-pub const ROOM: i32 = -18;
+pub const E_ROOM: i32 = -18;
 /// Somebody else held the map although the handle had all its seats, so the map was given up.
-pub const LOST: i32 = -19;
+pub const E_LOST: i32 = -19;
+/// The program was compiled with another header than the library's.
+pub const E_VERSION: i32 = -20;
 
-/// What a write answers in C: the number that was at the key, if `had` is 1, and whether the
-/// condition held.
+/// A condition that asks nothing.
+pub const ANY: u32 = 0;
+/// That there is no number at the key.
+pub const WANT_ABSENT: u32 = 1;
+/// That there is one.
+pub const WANT_PRESENT: u32 = 2;
+/// That it is this one.
+pub const EQUAL: u32 = 3;
+
+/// A change that puts the number.
+pub const PUT: u32 = 0;
+/// One that takes the key out.
+pub const REMOVE: u32 = 1;
+/// One that adds the number.
+pub const ADD: u32 = 2;
+
+/// What a write answers in C: the number that was at the key, and 1 for `had`, or twice 0 where
+/// there was none; and 1 or 0 for whether the condition held.
 #[repr(C)]
 #[derive(Drop)]
 pub struct WriteReply {
@@ -75,15 +93,15 @@ pub(crate) fn shape_code(fault: ShapeFault) -> i32
     ensures { result ≡ shape_code fault }
 {
     match fault {
-        ShapeFault::Bits => EXPONENTS,
-        ShapeFault::Generations => TABLES,
-        ShapeFault::Seats => SEATS,
-        ShapeFault::Stripes => STRIPES,
-        ShapeFault::Plan => FALLING,
-        ShapeFault::Reprobes => REPROBES,
-        ShapeFault::Chunk => CHUNK,
+        ShapeFault::Bits => E_EXPONENTS,
+        ShapeFault::Generations => E_TABLES,
+        ShapeFault::Seats => E_SEATS,
+        ShapeFault::Stripes => E_STRIPES,
+        ShapeFault::Plan => E_FALLING,
+        ShapeFault::Reprobes => E_REPROBES,
+        ShapeFault::Chunk => E_CHUNK,
         // no call of C asks by a number of keys
-        ShapeFault::Keys => TABLES,
+        ShapeFault::Keys => E_TABLES,
     }
 }
 
@@ -91,9 +109,9 @@ pub(crate) fn fault_code(fault: PutFault) -> i32
     ensures { result ≡ fault_code fault }
 {
     match fault {
-        PutFault::Full => FULL,
-        PutFault::Contended => CONTENDED,
-        PutFault::ValueRange => SUM_RANGE,
+        PutFault::Full => E_FULL,
+        PutFault::Contended => E_CONTENDED,
+        PutFault::ValueRange => E_SUM_RANGE,
     }
 }
 
@@ -102,7 +120,7 @@ pub(crate) fn key_of(key: u64) -> Result<Key, i32>
 {
     match Key::new(key) {
         Ok(key) => Ok(key),
-        Err(_) => Err(KEY_RANGE),
+        Err(_) => Err(E_KEY_RANGE),
     }
 }
 
@@ -111,7 +129,7 @@ fn number_of(number: u64) -> Result<Num, i32>
 {
     match Num::new(number) {
         Ok(number) => Ok(number),
-        Err(_) => Err(VALUE_RANGE),
+        Err(_) => Err(E_VALUE_RANGE),
     }
 }
 
@@ -119,14 +137,14 @@ fn want_of(code: u32, number: u64) -> Result<Want, i32>
     ensures { result ≡ want_told code number }
 {
     match code {
-        0 => Ok(Want::Any),
-        1 => Ok(Want::Absent),
-        2 => Ok(Want::Present),
-        3 => match number_of(number) {
+        ANY => Ok(Want::Any),
+        WANT_ABSENT => Ok(Want::Absent),
+        WANT_PRESENT => Ok(Want::Present),
+        EQUAL => match number_of(number) {
             Ok(number) => Ok(Want::Equal(number)),
             Err(code) => Err(code),
         },
-        _ => Err(WANT),
+        _ => Err(E_WANT),
     }
 }
 
@@ -134,16 +152,16 @@ fn change_of(code: u32, number: u64) -> Result<Change, i32>
     ensures { result ≡ change_told code number }
 {
     match code {
-        0 => match number_of(number) {
+        PUT => match number_of(number) {
             Ok(number) => Ok(Change::Put(number)),
             Err(code) => Err(code),
         },
-        1 => Ok(Change::Remove),
-        2 => match number_of(number) {
+        REMOVE => Ok(Change::Remove),
+        ADD => match number_of(number) {
             Ok(number) => Ok(Change::Add(number)),
             Err(code) => Err(code),
         },
-        _ => Err(CHANGE),
+        _ => Err(E_CHANGE),
     }
 }
 
@@ -174,7 +192,7 @@ pub(crate) fn asked(
 
 /// The reply, for C.
 pub(crate) fn reply_in_c(reply: Reply) -> WriteReply
-    ensures { reply_told result ≡ reply }
+    ensures { result ≡ reply_in_c reply }
 {
     let (before, had) = match reply.before {
         Some(number) => (number.get(), 1),

@@ -4,7 +4,7 @@ ghost use Rattle.std.specs.FinMap as map;
 ghost use Rattle.nb_map.specs.Ending.{map_left};
 ghost use Rattle.nb_ffi.specs.Entries.{AreEntries, written_over};
 
-use crate::codes::{OK, OUT_OF_MEMORY, ROOM};
+use crate::codes::{E_OUT_OF_MEMORY, E_ROOM, OK};
 use nb_core::{Key, Num};
 use nb_map::Ended;
 use std::alloc::Global;
@@ -51,13 +51,13 @@ impl EndedMap {
             (map.entries (map_left end))) }
     {
         let Some(ended) = &self.ended else {
-            return ROOM;
+            return E_ROOM;
         };
         let Ok(entries) = ended.entries(alloc) else {
-            return OUT_OF_MEMORY;
+            return E_OUT_OF_MEMORY;
         };
         if entries.len() > room.len() {
-            return ROOM;
+            return E_ROOM;
         }
         write_entries(&entries, room);
         OK

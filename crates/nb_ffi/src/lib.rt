@@ -8,6 +8,7 @@ mod ended_handle;
 mod ended_lend;
 mod ended_map;
 mod exports;
+mod header;
 mod held;
 mod life;
 mod map_shape;

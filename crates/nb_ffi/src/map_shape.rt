@@ -2,7 +2,7 @@
 ghost use Rattle.std.specs.Prelude.{◌≡◌, take};
 ghost use Rattle.nb_ffi.specs.Shapes.{plan_told, tuned};
 
-use crate::codes::{TABLES, shape_code};
+use crate::codes::{E_TABLES, shape_code};
 use nb_core::{MAX_GENERATIONS, Shape, ShapeFault};
 
 /// So many tables with `2^e` slots for each exponent, seats, stripes, and what tunes growth.
@@ -24,7 +24,7 @@ impl MapShape {
     {
         let tables = self.tables as usize;
         if tables > MAX_GENERATIONS {
-            return Err(TABLES);
+            return Err(E_TABLES);
         }
         match self.tuned(&self.exponents[..tables]) {
             Ok(shape) => Ok(shape),

@@ -33,14 +33,20 @@ public final class Samvolip {
         }
     }
 
-    public static final int FALLING = -3, KEY_RANGE = -9, VALUE_RANGE = -10, FULL = -13, CONTENDED = -14, NO_SEAT = -16, NOT_ALL_SEATS = -17;
+    public static final int E_TABLES = -1, E_EXPONENTS = -2, E_FALLING = -3, E_SEATS = -4, E_STRIPES = -5, E_REPROBES = -6, E_CHUNK = -7,
+        E_OUT_OF_MEMORY = -8, E_KEY_RANGE = -9, E_VALUE_RANGE = -10, E_WANT = -11, E_CHANGE = -12, E_FULL = -13, E_CONTENDED = -14,
+        E_SUM_RANGE = -15, E_NO_SEAT = -16, E_NOT_ALL_SEATS = -17, E_ROOM = -18, E_LOST = -19, E_VERSION = -20;
+
+    /** That of the samvolip.h that this class tells of, and the sizes of its structs. */
+    private static final int VERSION = 0x000100, SHAPE_SIZE = 84, HANDLE_SIZE = 8, REPLY_SIZE = 16, ENTRY_SIZE = 16;
+    private static final int[] HEADER = {VERSION, SHAPE_SIZE, HANDLE_SIZE, HANDLE_SIZE, REPLY_SIZE, ENTRY_SIZE};
 
     static {
         System.load(System.getProperty("samvolip"));
     }
 
     private static final Class<?> ADDRESS = MemoryAddress.class;
-    private static final MethodHandle OPEN = ints("open", 2), SPLIT = ints("split", 2), JOIN = ints("join", 2), CLOSE = ints("close", 2);
+    private static final MethodHandle OPEN = ints("open_with", 3), SPLIT = ints("split", 2), JOIN = ints("join", 2), CLOSE = ints("close", 2);
     private static final MethodHandle FREE = linked("free_open", MethodType.methodType(void.class, ADDRESS), FunctionDescriptor.ofVoid(C_POINTER));
     private static final MethodHandle WALK = linked("walk", MethodType.methodType(void.class, ADDRESS), FunctionDescriptor.ofVoid(C_POINTER));
     private static final MethodHandle NEXT = ints("next", 3);
@@ -98,14 +104,16 @@ public final class Samvolip {
 
         /** A new map of tables with 2^e slots, as the seat that has all others in reserve. */
         public static Seat open(int[] exponents, int seats, int stripes) {
-            if (exponents.length > 16) throw new Refused(-1);
+            if (exponents.length > 16) throw new Refused(E_TABLES);
             Seat seat = new Seat(new Object());
             try (ResourceScope own = ResourceScope.newConfinedScope()) {
-                MemorySegment shape = MemorySegment.allocateNative(84, 8, own);
+                MemorySegment header = MemorySegment.allocateNative(4 * HEADER.length, 8, own);
+                for (int i = 0; i < HEADER.length; i++) MemoryAccess.setIntAtIndex(header, i, HEADER[i]);
+                MemorySegment shape = MemorySegment.allocateNative(SHAPE_SIZE, 8, own);
                 for (int g = 0; g < exponents.length; g++) MemoryAccess.setIntAtIndex(shape, g, exponents[g]);
                 int[] rest = {exponents.length, seats, stripes, 18, 64};
                 for (int i = 0; i < rest.length; i++) MemoryAccess.setIntAtIndex(shape, 16 + i, rest[i]);
-                made((int) OPEN.invokeExact(shape.address(), seat.handle.address()));
+                made((int) OPEN.invokeExact(header.address(), shape.address(), seat.handle.address()));
                 return seat;
             } catch (Throwable thrown) {
                 throw wrong(thrown);
@@ -169,7 +177,7 @@ public final class Samvolip {
             try {
                 int code;
                 do code = (int) PUT_IF_MATCH.invokeExact(full(), key, want, old, change, number, -1, words.address());
-                while (code == CONTENDED);
+                while (code == E_CONTENDED);
                 made(code);
                 return MemoryAccess.getIntAtIndex(words, 3) == 1;
             } catch (Throwable thrown) {

@@ -19,7 +19,7 @@ public final class SamvolipTest {
         Samvolip.Seat[] seats = new Samvolip.Seat[4];
         seats[0] = Samvolip.Seat.open(new int[] {4, 6, 8, 10, 12}, 4, 2);
         for (int i = 1; i < 4; i++) seats[i] = seats[0].split();
-        expect(refused(() -> seats[0].split()) == Samvolip.NO_SEAT);
+        expect(refused(() -> seats[0].split()) == Samvolip.E_NO_SEAT);
         Thread[] threads = new Thread[4];
         boolean[] well = new boolean[4];
         for (int t = 0; t < 4; t++) {
@@ -40,7 +40,7 @@ public final class SamvolipTest {
         long[] shown = new long[1];
         seats[0].forEach((key, number) -> shown[0]++);
         expect(shown[0] == 1000);
-        expect(refused(() -> seats[0].end()) == Samvolip.NOT_ALL_SEATS);
+        expect(refused(() -> seats[0].end()) == Samvolip.E_NOT_ALL_SEATS);
         for (int i = 1; i < 4; i++) seats[0].join(seats[i]);
         try (Samvolip.Ended ended = seats[0].end()) {
             expect(ended.size() == 1000);
@@ -58,9 +58,9 @@ public final class SamvolipTest {
         expect(seat.replace(1, 4).equals(OptionalLong.of(2)));
         expect(!seat.replace(1, 2, 5) && seat.replace(1, 4, 5));
         expect(!seat.remove(1, 4) && seat.remove(1).equals(OptionalLong.of(5)));
-        expect(refused(() -> seat.get(-1)) == Samvolip.KEY_RANGE);
-        expect(refused(() -> seat.put(1, -1)) == Samvolip.VALUE_RANGE);
-        expect(refused(() -> Samvolip.Seat.open(new int[] {5, 4}, 1, 1)) == Samvolip.FALLING);
+        expect(refused(() -> seat.get(-1)) == Samvolip.E_KEY_RANGE);
+        expect(refused(() -> seat.put(1, -1)) == Samvolip.E_VALUE_RANGE);
+        expect(refused(() -> Samvolip.Seat.open(new int[] {5, 4}, 1, 1)) == Samvolip.E_FALLING);
         seat.close();
         seat.close();
     }

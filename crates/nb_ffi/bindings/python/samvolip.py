@@ -9,32 +9,34 @@ import enum
 import itertools
 import os
 import threading
-from ctypes import POINTER, Structure, byref, c_int, c_size_t, c_uint32, c_uint64, c_void_p
+from ctypes import POINTER, Structure, byref, c_int, c_size_t, c_uint32, c_uint64, c_void_p, sizeof
 
+VERSION = 0x000100  # that of the samvolip.h that this module tells of
 KEY_MAX = 2**64 - 3
 VALUE_MAX = 2**60 - 1
 
 
 class Code(enum.IntEnum):
-    TABLES = -1
-    EXPONENTS = -2
-    FALLING = -3
-    SEATS = -4
-    STRIPES = -5
-    REPROBES = -6
-    CHUNK = -7
-    OUT_OF_MEMORY = -8
-    KEY_RANGE = -9
-    VALUE_RANGE = -10
-    WANT = -11
-    CHANGE = -12
-    FULL = -13
-    CONTENDED = -14
-    SUM_RANGE = -15
-    NO_SEAT = -16
-    NOT_ALL_SEATS = -17
-    ROOM = -18
-    LOST = -19
+    E_TABLES = -1
+    E_EXPONENTS = -2
+    E_FALLING = -3
+    E_SEATS = -4
+    E_STRIPES = -5
+    E_REPROBES = -6
+    E_CHUNK = -7
+    E_OUT_OF_MEMORY = -8
+    E_KEY_RANGE = -9
+    E_VALUE_RANGE = -10
+    E_WANT = -11
+    E_CHANGE = -12
+    E_FULL = -13
+    E_CONTENDED = -14
+    E_SUM_RANGE = -15
+    E_NO_SEAT = -16
+    E_NOT_ALL_SEATS = -17
+    E_ROOM = -18
+    E_LOST = -19
+    E_VERSION = -20
 
 
 class Want(enum.IntEnum):
@@ -62,6 +64,10 @@ class _Shape(Structure):
     _fields_ = [("exponents", c_uint32 * 16)] + [(name, c_uint32) for name in ("tables", "seats", "stripes", "reprobes", "chunk")]
 
 
+class _Header(Structure):
+    _fields_ = [(name, c_uint32) for name in ("version", "shape", "seat", "ended", "reply", "entry")]
+
+
 class _Reply(Structure):
     _fields_ = [("before", c_uint64), ("had", c_uint32), ("matched", c_uint32)]
 
@@ -71,9 +77,10 @@ class _Entry(Structure):
 
 
 _HANDLE = POINTER(c_void_p)
+_HEADER = _Header(VERSION, sizeof(_Shape), sizeof(c_void_p), sizeof(c_void_p), sizeof(_Reply), sizeof(_Entry))
 _lib = ctypes.CDLL(os.environ.get("SAMVOLIP_LIB", "libsamvolip.so"))
 for _name, _result, _takes in [
-    ("open", c_int, [POINTER(_Shape), _HANDLE]),
+    ("open_with", c_int, [POINTER(_Header), POINTER(_Shape), _HANDLE]),
     ("split", c_int, [_HANDLE, _HANDLE]),
     ("join", c_int, [_HANDLE, _HANDLE]),
     ("close", c_int, [_HANDLE, _HANDLE]),
@@ -111,7 +118,7 @@ def _number(number):
 def exponents_for_keys(most):
     """Two tables with room to spare for so many keys, 349,525 at most."""
     if most > 349525:
-        raise Refused(Code.TABLES)
+        raise Refused(Code.E_TABLES)
     last = next(e for e in range(5, 20) if 2**e >= most + most // 2)
     return [last - 3, last]
 
@@ -129,10 +136,10 @@ class Seat:
     def open(exponents, seats=1, stripes=None, reprobes=18, chunk=64):
         """A new map, as the seat that has all others in reserve."""
         if len(exponents) > 16:
-            raise Refused(Code.TABLES)
+            raise Refused(Code.E_TABLES)
         shape = _Shape((c_uint32 * 16)(*exponents), len(exponents), seats, stripes or seats, reprobes, chunk)
         handle = c_void_p()
-        _made(_lib.samvolip_open(byref(shape), byref(handle)))
+        _made(_lib.samvolip_open_with(byref(_HEADER), byref(shape), byref(handle)))
         return Seat(handle, next(_maps))
 
     def _locked_call(self, name, *words):
@@ -182,7 +189,7 @@ class Seat:
             try:
                 return self.put_if_match(*words, **named)
             except Refused as refused:
-                if refused.code != Code.CONTENDED:
+                if refused.code != Code.E_CONTENDED:
                     raise
 
     def put(self, key, number):

@@ -22,14 +22,14 @@ def work(seat, number):
 def threads():
     first = Seat.open([4, 6, 8, 10, 12], seats=4, stripes=2)
     seats = [first] + [first.split() for _ in range(3)]
-    assert refused(first.split) == Code.NO_SEAT
+    assert refused(first.split) == Code.E_NO_SEAT
     workers = [threading.Thread(target=work, args=(seat, number)) for number, seat in enumerate(seats)]
     for worker in workers:
         worker.start()
     for worker in workers:
         worker.join()
     assert sorted(key for key, _ in first.walk()) == list(range(1000))
-    assert refused(first.close) == Code.NOT_ALL_SEATS
+    assert refused(first.close) == Code.E_NOT_ALL_SEATS
     for seat in seats[1:]:
         first.join(seat)
     ended = first.close()
@@ -45,10 +45,10 @@ def calls():
     assert seat.replace(1, 4) == 2
     assert not seat.replace_if(1, 2, 5) and seat.replace_if(1, 4, 5)
     assert not seat.remove_if(1, 4) and seat.remove(1) == 5
-    assert refused(seat.get, 2**64 - 1) == Code.KEY_RANGE
-    assert refused(seat.put, 1, 2**60) == Code.VALUE_RANGE
-    assert refused(Seat.open, [5, 4]) == Code.FALLING
-    assert refused(exponents_for_keys, 2**20) == Code.TABLES
+    assert refused(seat.get, 2**64 - 1) == Code.E_KEY_RANGE
+    assert refused(seat.put, 1, 2**60) == Code.E_VALUE_RANGE
+    assert refused(Seat.open, [5, 4]) == Code.E_FALLING
+    assert refused(exponents_for_keys, 2**20) == Code.E_TABLES
     seat.free()
     try:
         seat.get(1)

@@ -97,7 +97,7 @@ static uint64_t looked_up(struct worker *worker, uint64_t line)
     }
     number = computed(line);
     code = samvolip_put_if_absent(seat, line, number, NULL);
-    if (code == SAMVOLIP_FULL)
+    if (code == SAMVOLIP_E_FULL)
         atomic_store(&cache->is_full, true);
     else if (code < 0)
         fail("put_if_absent", code);
@@ -168,7 +168,7 @@ static uint64_t *read_lines(size_t *count)
             lines[(*count)++] = line;
     }
     if (!lines)
-        fail("read", SAMVOLIP_OUT_OF_MEMORY);
+        fail("read", SAMVOLIP_E_OUT_OF_MEMORY);
     return lines;
 }
 

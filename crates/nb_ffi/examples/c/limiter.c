@@ -89,7 +89,7 @@ static int admit(samvolip_seat *seat, const struct request *request, uint64_t li
         uint64_t after = second << SPENT_BITS | (spent + request->cost);
         samvolip_reply reply;
         int code = samvolip_compare_exchange(seat, key, had ? &before : NULL, &after, 1, &reply);
-        if (code == SAMVOLIP_CONTENDED) {
+        if (code == SAMVOLIP_E_CONTENDED) {
             had = made("get", samvolip_get(seat, key, &before));
             continue;
         }
@@ -144,7 +144,7 @@ static struct request *read_requests(size_t *count)
         if (requests)
             requests[(*count)++] = request;
     }
-    made("read", requests ? SAMVOLIP_OK : SAMVOLIP_OUT_OF_MEMORY);
+    made("read", requests ? SAMVOLIP_OK : SAMVOLIP_E_OUT_OF_MEMORY);
     return requests;
 }
 

@@ -2,14 +2,8 @@
 ghost use Rattle.std.specs.Prelude.{Ok};
 ghost use Rattle.nb_ffi.specs.Codes.{asked_call, call_told, key_told};
 ghost use Rattle.nb_ffi.specs.Handles.{IsOpen, Turned};
-ghost use Rattle.nb_ffi.specs.Telling.{
-  AreOfOneMap,
-  HasFoundTop,
-  HasLearned,
-  HasOnlyLooked,
-  IsGet,
-  IsWrite,
-};
+ghost use Rattle.nb_ffi.specs.Looks.{HasEstimated, HasFoundTop};
+ghost use Rattle.nb_ffi.specs.Telling.{AreOfOneMap, HasMet, IsGet, IsWrite};
 
 use crate::codes::{
     ABSENT, OK, PRESENT, WriteAsked, WriteReply, asked, fault_code, key_of, reply_in_c,
@@ -76,7 +70,7 @@ pub extern "C" fn samvolip_put_if_match(
 #[unsafe(no_mangle)]
 pub extern "C" fn samvolip_size_estimate(seat: &mut SeatHandle) -> u64
     requires open { IsOpen seat.old.held }
-    ensures { Turned seat.old.held seat.new.held HasOnlyLooked }
+    ensures { Turned seat.old.held seat.new.held HasEstimated }
 {
     seat.lend().size_estimate()
 }
@@ -96,8 +90,8 @@ pub extern "C" fn samvolip_meet(seat: &mut SeatHandle, other: &mut SeatHandle)
     requires open { IsOpen seat.old.held }
     requires other_open { IsOpen other.old.held }
     requires one { AreOfOneMap seat.old.held other.old.held }
-    ensures here { Turned seat.old.held seat.new.held (HasLearned other.old.held) }
-    ensures there { Turned other.old.held other.new.held (HasLearned seat.old.held) }
+    ensures here { Turned seat.old.held seat.new.held (HasMet other.old.held) }
+    ensures there { Turned other.old.held other.new.held (HasMet seat.old.held) }
 {
     seat.lend().meet(other.lend());
 }

@@ -18,7 +18,7 @@ pub extern "C" fn samvolip_ended_size(ended: &mut EndedHandle) -> u64
     requires has { HasEnd ended.old.left }
     ensures size { (end : EndedOf) → IsEnd end ended.old.left
         → result ≡ length (map.entries (map_left end)) }
-    ensures same { ended.new.left ≡ ended.old.left }
+    ensures same { ended.new ≡ ended.old }
 {
     ended.lend().size()
 }
@@ -29,7 +29,7 @@ pub extern "C" fn samvolip_ended_get(ended: &mut EndedHandle, key: u64, number: 
     requires has { HasEnd ended.old.left }
     ensures told { (end : EndedOf) → IsEnd end ended.old.left
         → IsEndGet (key_told key) result number.old number.new end }
-    ensures same { ended.new.left ≡ ended.old.left }
+    ensures same { ended.new ≡ ended.old }
 {
     let key = match key_of(key) {
         Ok(key) => key,
@@ -51,7 +51,7 @@ pub extern "C" fn samvolip_ended_entries(
     requires has { HasEnd ended.old.left }
     ensures told { (end : EndedOf) → IsEnd end ended.old.left
         → AreEntries result entries.old entries.new (map.entries (map_left end)) }
-    ensures same { ended.new.left ≡ ended.old.left }
+    ensures same { ended.new ≡ ended.old }
 {
     ended.lend().entries(alloc, entries)
 }

@@ -1,22 +1,32 @@
 //! How handles come and go.
 ghost use Rattle.std.specs.Prelude.{◌≡◌, None};
 ghost use Rattle.nb_ffi.specs.Handles.{IsOpen};
-ghost use Rattle.nb_ffi.specs.Shapes.{plan_told};
+ghost use Rattle.nb_ffi.specs.Headers.{plan_asked};
 ghost use Rattle.nb_ffi.specs.Telling.{AreOfOneMap, IsClose, IsJoin, IsOpening, IsSplit};
 
-use crate::codes::{LOST, NO_SEAT, NOT_ALL_SEATS, OK, OUT_OF_MEMORY};
+use crate::codes::{E_LOST, E_NO_SEAT, E_NOT_ALL_SEATS, E_OUT_OF_MEMORY, E_VERSION, OK};
 use crate::ended_handle::EndedHandle;
+use crate::header::Header;
 use crate::life::{CloseFault, SplitFault, closed, opened};
 use crate::map_shape::MapShape;
 use crate::seat_handle::SeatHandle;
 use std::alloc::Global;
 
-/// `Map::new`, as one handle with all seats.
+/// `Map::new`, as one handle with all seats. Another header than the library's is refused before
+/// the shape is read.
 #[unsafe(no_mangle)]
-pub extern "C" fn samvolip_open(alloc: Global, shape: &MapShape, seat: &mut SeatHandle) -> i32
+pub extern "C" fn samvolip_open_with(
+    alloc: Global,
+    header: &Header,
+    shape: &MapShape,
+    seat: &mut SeatHandle,
+) -> i32
     requires empty { seat.old.held ≡ None }
-    ensures { IsOpening (plan_told shape.now) result seat.old.held seat.new.held }
+    ensures { IsOpening (plan_asked header.now shape.now) result seat.old.held seat.new.held }
 {
+    if !header.is_ours() {
+        return E_VERSION;
+    }
     let shape = match shape.checked() {
         Ok(shape) => shape,
         Err(code) => return code,
@@ -26,7 +36,7 @@ pub extern "C" fn samvolip_open(alloc: Global, shape: &MapShape, seat: &mut Seat
             seat.fill(held);
             OK
         }
-        Err(_) => OUT_OF_MEMORY,
+        Err(_) => E_OUT_OF_MEMORY,
     }
 }
 
@@ -46,8 +56,8 @@ pub extern "C" fn samvolip_split(
             other.fill(held);
             OK
         }
-        Err(SplitFault::OutOfMemory) => OUT_OF_MEMORY,
-        Err(SplitFault::NoSeat) => NO_SEAT,
+        Err(SplitFault::OutOfMemory) => E_OUT_OF_MEMORY,
+        Err(SplitFault::NoSeat) => E_NO_SEAT,
     }
 }
 
@@ -63,7 +73,7 @@ pub extern "C" fn samvolip_join(alloc: Global, seat: &mut SeatHandle, other: &mu
         Ok(()) => OK,
         Err(back) => {
             other.fill(back);
-            OUT_OF_MEMORY
+            E_OUT_OF_MEMORY
         }
     }
 }
@@ -86,13 +96,13 @@ pub extern "C" fn samvolip_close(
         }
         Err(CloseFault::OutOfMemory(back)) => {
             seat.fill(back);
-            OUT_OF_MEMORY
+            E_OUT_OF_MEMORY
         }
         Err(CloseFault::NotAllSeats(back)) => {
             seat.fill(back);
-            NOT_ALL_SEATS
+            E_NOT_ALL_SEATS
         }
-        Err(CloseFault::Lost) => LOST,
+        Err(CloseFault::Lost) => E_LOST,
     }
 }
 

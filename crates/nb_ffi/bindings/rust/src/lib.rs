@@ -29,6 +29,8 @@ pub enum Fault {
     NoSeat,
     NotAllSeats,
     Lost,
+    /// The library is of another version than this crate.
+    Version,
     /// A seat of another map was given.
     OtherMap,
 }
@@ -36,22 +38,25 @@ pub enum Fault {
 impl Fault {
     fn of_code(code: i32) -> Fault {
         match code {
-            -1 => Fault::Tables,
-            -2 => Fault::Exponents,
-            -3 => Fault::Falling,
-            -4 => Fault::Seats,
-            -5 => Fault::Stripes,
-            -6 => Fault::Reprobes,
-            -7 => Fault::Chunk,
-            -8 => Fault::OutOfMemory,
-            -9 => Fault::KeyRange,
-            -10 => Fault::ValueRange,
-            -13 => Fault::Full,
-            -14 => Fault::Contended,
-            -15 => Fault::SumRange,
-            -16 => Fault::NoSeat,
-            -17 => Fault::NotAllSeats,
-            -19 => Fault::Lost,
+            sys::E_TABLES => Fault::Tables,
+            sys::E_EXPONENTS => Fault::Exponents,
+            sys::E_FALLING => Fault::Falling,
+            sys::E_SEATS => Fault::Seats,
+            sys::E_STRIPES => Fault::Stripes,
+            sys::E_REPROBES => Fault::Reprobes,
+            sys::E_CHUNK => Fault::Chunk,
+            sys::E_OUT_OF_MEMORY => Fault::OutOfMemory,
+            sys::E_KEY_RANGE => Fault::KeyRange,
+            sys::E_VALUE_RANGE => Fault::ValueRange,
+            sys::E_FULL => Fault::Full,
+            sys::E_CONTENDED => Fault::Contended,
+            sys::E_SUM_RANGE => Fault::SumRange,
+            sys::E_NO_SEAT => Fault::NoSeat,
+            sys::E_NOT_ALL_SEATS => Fault::NotAllSeats,
+            sys::E_LOST => Fault::Lost,
+            sys::E_VERSION => Fault::Version,
+            // this crate passes no such condition, change or array
+            sys::E_WANT | sys::E_CHANGE | sys::E_ROOM => unreachable!("code {code}"),
             code => unreachable!("code {code}"),
         }
     }
@@ -153,7 +158,7 @@ impl Seat {
         let shape = shape.in_c()?;
         let mut raw = sys::Handle::EMPTY;
         // SAFETY: the shape is one of C, and the handle is empty.
-        made(unsafe { sys::samvolip_open(&shape, &mut raw) })?;
+        made(unsafe { sys::samvolip_open_with(&sys::HEADER, &shape, &mut raw) })?;
         Ok(Seat::of(raw, MAPS.fetch_add(1, Ordering::Relaxed)))
     }
 
@@ -216,15 +221,15 @@ impl Seat {
         tries: u32,
     ) -> Result<Reply, Fault> {
         let (want, old) = match want {
-            Want::Any => (0, 0),
-            Want::Absent => (1, 0),
-            Want::Present => (2, 0),
-            Want::Equal(number) => (3, number),
+            Want::Any => (sys::ANY, 0),
+            Want::Absent => (sys::WANT_ABSENT, 0),
+            Want::Present => (sys::WANT_PRESENT, 0),
+            Want::Equal(number) => (sys::EQUAL, number),
         };
         let (change, number) = match change {
-            Change::Put(number) => (0, number),
-            Change::Remove => (1, 0),
-            Change::Add(number) => (2, number),
+            Change::Put(number) => (sys::PUT, number),
+            Change::Remove => (sys::REMOVE, 0),
+            Change::Add(number) => (sys::ADD, number),
         };
         let mut reply = sys::Reply::default();
         // SAFETY: the handle is full.
@@ -343,25 +348,25 @@ pub struct Ended {
 
 impl Ended {
     /// How many keys the map has.
-    pub fn size(&mut self) -> u64 {
+    pub fn size(&self) -> u64 {
         // SAFETY: the handle is full.
-        unsafe { sys::samvolip_ended_size(&mut self.raw) }
+        unsafe { sys::samvolip_ended_size(&self.raw) }
     }
 
     /// What is at a key.
-    pub fn get(&mut self, key: u64) -> Result<Option<u64>, Fault> {
+    pub fn get(&self, key: u64) -> Result<Option<u64>, Fault> {
         let mut number = 0;
         // SAFETY: the handle is full.
-        let code = made(unsafe { sys::samvolip_ended_get(&mut self.raw, key, &mut number) })?;
+        let code = made(unsafe { sys::samvolip_ended_get(&self.raw, key, &mut number) })?;
         Ok((code == sys::PRESENT).then_some(number))
     }
 
     /// All keys, ascending, with their numbers.
-    pub fn entries(&mut self) -> Result<Vec<(u64, u64)>, Fault> {
+    pub fn entries(&self) -> Result<Vec<(u64, u64)>, Fault> {
         let mut entries = vec![sys::Entry::default(); self.size() as usize];
         // SAFETY: the handle is full, and the vector has so many entries; its pointer isn't null.
         made(unsafe {
-            sys::samvolip_ended_entries(&mut self.raw, entries.as_mut_ptr(), entries.len())
+            sys::samvolip_ended_entries(&self.raw, entries.as_mut_ptr(), entries.len())
         })?;
         Ok(entries.iter().map(|entry| (entry.key, entry.number)).collect())
     }

@@ -1,9 +1,63 @@
 //! The functions of `samvolip.h`. To them a handle is its first word, which is all that they read.
 
+use std::mem::size_of;
 use std::ptr::NonNull;
+
+/// The version of `samvolip.h` that this file tells of.
+pub const VERSION: u32 = 0x000100;
 
 pub const MAX_TABLES: usize = 16;
 pub const PRESENT: i32 = 1;
+
+pub const E_TABLES: i32 = -1;
+pub const E_EXPONENTS: i32 = -2;
+pub const E_FALLING: i32 = -3;
+pub const E_SEATS: i32 = -4;
+pub const E_STRIPES: i32 = -5;
+pub const E_REPROBES: i32 = -6;
+pub const E_CHUNK: i32 = -7;
+pub const E_OUT_OF_MEMORY: i32 = -8;
+pub const E_KEY_RANGE: i32 = -9;
+pub const E_VALUE_RANGE: i32 = -10;
+pub const E_WANT: i32 = -11;
+pub const E_CHANGE: i32 = -12;
+pub const E_FULL: i32 = -13;
+pub const E_CONTENDED: i32 = -14;
+pub const E_SUM_RANGE: i32 = -15;
+pub const E_NO_SEAT: i32 = -16;
+pub const E_NOT_ALL_SEATS: i32 = -17;
+pub const E_ROOM: i32 = -18;
+pub const E_LOST: i32 = -19;
+pub const E_VERSION: i32 = -20;
+
+pub const ANY: u32 = 0;
+pub const WANT_ABSENT: u32 = 1;
+pub const WANT_PRESENT: u32 = 2;
+pub const EQUAL: u32 = 3;
+
+pub const PUT: u32 = 0;
+pub const REMOVE: u32 = 1;
+pub const ADD: u32 = 2;
+
+/// The version and the sizes of the structs here, for `samvolip_open_with`.
+#[repr(C)]
+pub struct Header {
+    pub version: u32,
+    pub shape: u32,
+    pub seat: u32,
+    pub ended: u32,
+    pub reply: u32,
+    pub entry: u32,
+}
+
+pub const HEADER: Header = Header {
+    version: VERSION,
+    shape: size_of::<Shape>() as u32,
+    seat: size_of::<Handle>() as u32,
+    ended: size_of::<Handle>() as u32,
+    reply: size_of::<Reply>() as u32,
+    entry: size_of::<Entry>() as u32,
+};
 
 #[repr(C)]
 pub struct Handle {
@@ -44,7 +98,11 @@ pub struct Entry {
 }
 
 extern "C" {
-    pub fn samvolip_open(shape: *const Shape, seat: *mut Handle) -> i32;
+    pub fn samvolip_open_with(
+        header: *const Header,
+        shape: *const Shape,
+        seat: *mut Handle,
+    ) -> i32;
     pub fn samvolip_split(seat: *mut Handle, other: *mut Handle) -> i32;
     pub fn samvolip_join(seat: *mut Handle, other: *mut Handle) -> i32;
     pub fn samvolip_close(seat: *mut Handle, ended: *mut Handle) -> i32;
@@ -64,8 +122,8 @@ extern "C" {
     pub fn samvolip_generation(seat: *mut Handle) -> u32;
     pub fn samvolip_walk(seat: *mut Handle);
     pub fn samvolip_next(seat: *mut Handle, key: *mut u64, number: *mut u64) -> i32;
-    pub fn samvolip_ended_size(ended: *mut Handle) -> u64;
-    pub fn samvolip_ended_get(ended: *mut Handle, key: u64, number: *mut u64) -> i32;
-    pub fn samvolip_ended_entries(ended: *mut Handle, entries: *mut Entry, room: usize) -> i32;
+    pub fn samvolip_ended_size(ended: *const Handle) -> u64;
+    pub fn samvolip_ended_get(ended: *const Handle, key: u64, number: *mut u64) -> i32;
+    pub fn samvolip_ended_entries(ended: *const Handle, entries: *mut Entry, room: usize) -> i32;
     pub fn samvolip_ended_free_open(ended: *mut Handle);
 }

@@ -33,7 +33,7 @@ fn four_threads_add() {
     for seat in seats {
         assert!(first.join(seat).is_ok());
     }
-    let mut ended = first.close().ok().unwrap();
+    let ended = first.close().ok().unwrap();
     assert_eq!(ended.size(), 1000);
     let entries = ended.entries().unwrap();
     assert_eq!(entries.iter().map(|entry| entry.1).sum::<u64>(), 200_000);

@@ -5,4 +5,5 @@ use Rattle.nb_ffi.proofs.held.Held.begin_walk.Goals as goal
 pub returns : goal.returns
 returns c =
     rw (← c.self.view_is) (begun (held_of c.self.inside) c.deref.ensures c.walk.ensures.logged
-    c.walk.ensures.begun c.walk.ensures.own)
+    c.walk.ensures.grows c.walk.ensures.count c.walk.ensures.begun c.walk.ensures.walk
+    c.walk.ensures.own)

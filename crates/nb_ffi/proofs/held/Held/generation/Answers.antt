@@ -1,5 +1,7 @@
 use Rattle.std.proofs.Common.{subst}
 use Rattle.nb_map.specs.Maps.{IsMine}
+use Rattle.nb_ffi.specs.Inside.{held_of}
+use Rattle.nb_ffi.proofs.Going.{found-top}
 use Rattle.nb_ffi.proofs.Walking.{lasting, looked}
 use Rattle.nb_ffi.proofs.held.Held.generation.Goals as goal
 
@@ -14,3 +16,9 @@ invariant_of-self c =
       walk = lasting c.self.inside.walk c.self.invariant.walk mine
           (looked c.generation.ensures.grows);
     }
+
+pub returns : goal.returns
+returns c =
+    rw (← c.self.view_is) (found-top (held_of c.self.inside) c.deref.ensures
+    c.generation.ensures.own c.generation.ensures.logged c.generation.ensures.grows c.generation.ensures.count
+    c.generation.ensures.found c.generation.ensures.complete)

@@ -1,6 +1,8 @@
 use Rattle.std.proofs.Common.{subst}
 use Rattle.nb_map.proofs.Theorems.{walk_lasts}
 use Rattle.nb_map.specs.Maps.{IsMine}
+use Rattle.nb_ffi.specs.Inside.{held_of}
+use Rattle.nb_ffi.proofs.Going.{got}
 use Rattle.nb_ffi.proofs.Walking.{lasting}
 use Rattle.nb_ffi.proofs.held.Held.get.Goals as goal
 
@@ -14,3 +16,8 @@ invariant_of-self c =
       walk = lasting c.self.inside.walk c.self.invariant.walk mine
           (walk_lasts.later c.get.ensures.worked);
     }
+
+pub returns : goal.returns
+returns c =
+    rw (← c.self.view_is) (got (held_of c.self.inside) c.deref.ensures c.get.ensures.own
+    c.get.ensures.replied c.get.ensures.worked c.get.ensures.three_steps)

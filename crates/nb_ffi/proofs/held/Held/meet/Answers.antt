@@ -1,5 +1,7 @@
 use Rattle.std.proofs.Common.{◌∙◌, subst, ap, sym}
 use Rattle.nb_map.specs.Maps.{IsMine}
+use Rattle.nb_ffi.specs.Inside.{held_of}
+use Rattle.nb_ffi.proofs.Going.{learned-of}
 use Rattle.nb_ffi.proofs.Walking.{lasting, looked}
 use Rattle.nb_ffi.proofs.held.Held.meet.Goals as goal
 
@@ -26,3 +28,16 @@ invariant_of-other c =
       walk = lasting c.other.inside.walk c.other.invariant.walk mine
           (looked c.meet.ensures.b_grows.0);
     }
+
+pub returns-clause-here : goal.returns-clause-here
+returns-clause-here c =
+    rw (← c.self.view_is, ← c.other.view_is) (learned-of (held_of c.self.inside) c.deref.ensures
+    c.meet.ensures.a_own (held_of c.other.inside) c.meet.ensures.a c.meet.ensures.a_grows)
+
+pub returns-clause-there : goal.returns-clause-there
+returns-clause-there c =
+    let one = ap (λ held. held.map) c.self.view_is ∙ c.requires.one
+    ∙ sym (ap (λ held. held.map) c.other.view_is) in
+    rw (← c.self.view_is, ← c.other.view_is) (learned-of (held_of c.other.inside)
+    (c.deref.ensures ∙ one) c.meet.ensures.b_own (held_of c.self.inside) c.meet.ensures.b
+    c.meet.ensures.b_grows)

@@ -20,10 +20,12 @@ invariant_of-self c =
 
 pub returns-clause-made : goal.returns-clause-made
 returns-clause-made c =
-    rw (← c.self.view_is) (put-made (held_of c.self.inside) c.args.tries c.deref.ensures c.max.ensures c.put_if_match.ensures.worked
-    c.put_if_match.result c.put_if_match.ensures.replied)
+    rw (← c.self.view_is) (put-made (held_of c.self.inside) c.args.tries c.deref.ensures
+    c.max.ensures c.put_if_match.ensures.own c.put_if_match.ensures.short
+    c.put_if_match.ensures.worked c.put_if_match.result c.put_if_match.ensures.replied)
 
 pub returns-clause-refused : goal.returns-clause-refused
 returns-clause-refused c =
-    rw (← c.self.view_is) (put-refused (held_of c.self.inside) c.args.tries c.deref.ensures c.max.ensures
+    rw (← c.self.view_is) (put-refused (held_of c.self.inside) c.args.tries c.deref.ensures
+    c.max.ensures c.put_if_match.ensures.own c.put_if_match.ensures.short
     c.put_if_match.ensures.worked c.put_if_match.result c.put_if_match.ensures.refused)
