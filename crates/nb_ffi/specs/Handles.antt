@@ -1,10 +1,10 @@
 -- What the exports tell of a handle.
-use Rattle.std.specs.Prelude.{◌≡◌, ◌≤◌, ℕ, ◌+◌, max, min, List, [], ◌∷◌, ◌++◌, All, Option, Some, None}
+use Rattle.std.specs.Prelude.{◌≡◌, ◌≤◌, ℕ, ◌+◌, max, min, List, [], ◌∷◌, ◌++◌, Option, Some, None}
 use Rattle.nb_core.specs.Log.{reply_at}
 use Rattle.nb_core.specs.declared.calls.Call.{Call}
 use Rattle.nb_core.specs.declared.calls.Call.TheVariants as call
 use Rattle.nb_core.specs.declared.calls.Reply.{Reply}
-use Rattle.nb_map.specs.Logs.{HasLogged, HasReplied, log}
+use Rattle.nb_map.specs.Logs.{HasLogged, HasReplied, HaveEmptyLogs}
 use Rattle.nb_map.specs.Looking.{IsSeenAtHome, get_steps}
 use Rattle.nb_map.specs.Maps.{AreMine, HasWorked, IsMine, MapOf, SeatOf, new_seats}
 use Rattle.nb_map.specs.Refusing.{IsJust, put_steps}
@@ -105,7 +105,7 @@ pub record IsNew (p : Plan) (held : HeldOf) : Type 0 where
   pub counter : (held.map.counter.stripes ≡ p.stripes) × (held.map.counter.seats ≡ p.seats)
   pub own : AreMine held.map (all_seats held)
   pub seats : all_seats held ≡ new_seats held.map p.seats
-  pub logs : All (λ seat. log seat ≡ []) (all_seats held)
+  pub logs : HaveEmptyLogs (all_seats held)
   pub walk : held.walk ≡ None
 
 -- a handle was split: another one of the same map has the last seat in reserve

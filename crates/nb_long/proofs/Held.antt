@@ -4,9 +4,9 @@ use Rattle.std.proofs.lemmas.List.{length-map}
 use Rattle.std.proofs.lemmas.List.Elements.{All-append, All-cons, All-map, All-nil, All-same}
 use Rattle.std.specs.List.{range_with_len}
 use Rattle.std.proofs.lemmas.List.FromFn.{length-map-range_with_len}
-use Rattle.nb_long.specs.Handles.{AreOfOneMap, HandleOf, HaveNoLog, handle_on, new_handles, seats_of}
+use Rattle.nb_long.specs.Handles.{AreOfOneMap, HandleOf, handle_on, new_handles, seats_of}
 use Rattle.nb_long.specs.Typed.{LongMapOf}
-use Rattle.nb_map.specs.Logs.{log}
+use Rattle.nb_map.specs.Logs.{HaveEmptyLogs, log}
 use Rattle.nb_map.specs.Maps.{AreMine, IsMine, MapOf, SeatOf, new_seat, new_seats}
 
 -- as many as were asked for
@@ -26,24 +26,18 @@ of-one m count handles are = (
       (λ k d lt. refl)),
 )
 
--- new seats, and those of new handles, know an empty log
-pub seats-begun :
-    (m : MapOf) (count : ℕ) (seats : List SeatOf) → seats ≡ new_seats m count → HaveNoLog seats
-seats-begun m count seats are = record {
-  logs = All-same (λ seat. log seat ≡ []) seats (new_seats m count) are
-      (All-map (λ seat. log seat ≡ []) (new_seat m) (range_with_len 0 count) (λ k d lt. refl));
-}
-
-pub handles-begun :
+-- their seats know of no call
+pub handle-logs :
     (m : LongMapOf) (count : ℕ) (handles : List HandleOf) → handles ≡ new_handles m count
-    → HaveNoLog (seats_of handles)
-handles-begun m count handles are = record {
-  logs = All-same (λ seat. log seat ≡ []) (seats_of handles) (seats_of (new_handles m count))
-      (ap seats_of are)
-      (All-map (λ seat. log seat ≡ []) (λ handle. handle.seat) (new_handles m count)
-      (All-map (λ handle. log handle.seat ≡ []) (handle_on m) (new_seats m.map count)
-      (seats-begun m.map count (new_seats m.map count) refl).logs));
-}
+    → HaveEmptyLogs (seats_of handles)
+handle-logs m count handles are =
+    All-same Empty (seats_of handles) (seats_of (new_handles m count)) (ap seats_of are)
+    (All-map Empty (λ handle. handle.seat) (new_handles m count)
+    (All-map (λ handle. Empty handle.seat) (handle_on m) (new_seats m.map count)
+    (All-map Empty (new_seat m.map) (range_with_len 0 count) (λ k d lt. refl))))
+  where
+    Empty : SeatOf → Type 0
+    Empty seat = log seat ≡ []
 
 -- with one seat more of the map's at their end, all are still the map's
 pub mine-more :

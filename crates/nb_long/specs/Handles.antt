@@ -1,7 +1,6 @@
 -- How contracts see a handle of a typed map, and what is in it.
 use Rattle.std.specs.Prelude.{◌≡◌, ◌≤◌, ℕ, List, [], map, All}
 use Rattle.nb_core.specs.declared.shapes.TheConstants.{MAX_SEATS}
-use Rattle.nb_map.specs.Logs.{log}
 use Rattle.nb_map.specs.Maps.{IsMine, SeatOf, new_seats}
 use Rattle.nb_long.specs.Typed.{LongMapOf}
 
@@ -21,10 +20,6 @@ new_handles m count = map (handle_on m) (new_seats m.map count)
 -- the seats of handles
 abbrev pub seats_of : List HandleOf → List SeatOf
 seats_of handles = map (λ handle. handle.seat) handles
-
--- the log that each of these seats knows is empty: none has made a call
-pub record HaveNoLog (seats : List SeatOf) : Type 0 where
-  pub logs : All (λ seat. log seat ≡ []) seats
 
 -- all these handles are of one map
 abbrev pub AreOfOneMap : List HandleOf → Type 0

@@ -28,12 +28,12 @@ ghost use Rattle.nb_core.specs.declared.calls.Change.TheVariants as change;
 ghost use Rattle.nb_core.specs.declared.calls.Want.TheVariants as want;
 ghost use Rattle.nb_table.specs.Chains.{Extended};
 ghost use Rattle.nb_map.specs.Ending.{EndedWith, HasTablesLeft};
-ghost use Rattle.nb_map.specs.Logs.{HasFound, HasLogged, HasReplied, log};
+ghost use Rattle.nb_map.specs.Logs.{HasFound, HasLogged, HasReplied, HaveEmptyLogs, log};
 ghost use Rattle.nb_map.specs.Looking.{IsSeenAtHome, get_steps};
 ghost use Rattle.nb_map.specs.Maps.{AreMine, HasWorked, IsMine, MapOf};
 ghost use Rattle.nb_map.specs.Refusing.{IsLockFree};
 ghost use Rattle.nb_map.specs.Writing.{IsShortAtHome};
-ghost use Rattle.nb_long.specs.Handles.{AreOfOneMap, HaveNoLog, new_handles, seats_of};
+ghost use Rattle.nb_long.specs.Handles.{AreOfOneMap, new_handles, seats_of};
 ghost use Rattle.nb_long.specs.Stores.{HasStored};
 ghost use Rattle.nb_long.specs.Typed.{
   HasChangedIf,
@@ -81,7 +81,7 @@ impl<V: Drop> Handle<V> {
         ensures new { IfOk result (λ handles. (m : LongMapOf) × (m.map.chain.shape ≡ shape)
             × (handles.items ≡ new_handles m shape.seats)) }
         ensures one { IfOk result (λ handles. AreOfOneMap handles.items) }
-        ensures begun { IfOk result (λ handles. HaveNoLog (seats_of handles.items)) }
+        ensures empty { IfOk result (λ handles. HaveEmptyLogs (seats_of handles.items)) }
     {
         let mut handles = Vec::with_capacity(alloc, shape.seats())?;
         let (map, seats) = LongMap::new(alloc, shape)?;

@@ -25,12 +25,11 @@ ghost use Rattle.nb_core.specs.declared.calls.Change.TheVariants as change;
 ghost use Rattle.nb_core.specs.declared.calls.Want.TheVariants as want;
 ghost use Rattle.nb_table.specs.Chains.{Extended};
 ghost use Rattle.nb_map.specs.Ending.{EndedWith, HasTablesLeft};
-ghost use Rattle.nb_map.specs.Logs.{HasFound, HasLogged, HasReplied, log};
+ghost use Rattle.nb_map.specs.Logs.{HasFound, HasLogged, HasReplied, HaveEmptyLogs, log};
 ghost use Rattle.nb_map.specs.Looking.{IsSeenAtHome, get_steps};
 ghost use Rattle.nb_map.specs.Maps.{AreMine, HasWorked, IsMine, new_seats};
 ghost use Rattle.nb_map.specs.Refusing.{IsLockFree};
 ghost use Rattle.nb_map.specs.Writing.{IsShortAtHome};
-ghost use Rattle.nb_long.specs.Handles.{HaveNoLog};
 ghost use Rattle.nb_long.specs.Stores.{HasStored};
 ghost use Rattle.nb_long.specs.Typed.{
   HasChangedIf,
@@ -134,7 +133,7 @@ impl<V: Drop> LongMap<V> {
         ensures counter { IfOk result (λ made. (made.0.map.counter.stripes ≡ shape.stripes)
             × (made.0.map.counter.seats ≡ shape.seats)) }
         ensures seats { IfOk result (λ made. made.1.items ≡ new_seats made.0.map shape.seats) }
-        ensures begun { IfOk result (λ made. HaveNoLog made.1.items) }
+        ensures empty { IfOk result (λ made. HaveEmptyLogs made.1.items) }
         ensures own { IfOk result (λ made. AreMine made.0.map made.1.items) }
     {
         let store = Store::new(alloc)?;

@@ -2,7 +2,7 @@ use Rattle.std.proofs.Common.{◌∙◌, All, ap, length, subst, sym, arith}
 use Rattle.std.specs.Arc.{arc_value}
 use Rattle.std.proofs.lemmas.List.Elements.{All-tail}
 use Rattle.nb_core.proofs.Seating.{all-moved, moved-count, moved-more}
-use Rattle.nb_long.proofs.Held.{handles-begun, length-new, of-one}
+use Rattle.nb_long.proofs.Held.{handle-logs, length-new, of-one}
 use Rattle.nb_long.specs.Handles.{handle_on}
 use Rattle.nb_map.specs.Inside.{seat_of}
 use Rattle.nb_map.specs.Maps.{IsMine}
@@ -40,8 +40,8 @@ returns-clause-one g c =
     (all-moved c.loop-seat.invariant.2
     (omega (arith, c.in-None.ensures.steps, c.loop-seat.seat-iterator.rest.ok)))
 
-pub returns-clause-begun : goal.returns-clause-begun
-returns-clause-begun g c =
-    handles-begun (arc_value c.in-Ok.map) c.args.shape.seats c.loop-seat.handles.items
+pub returns-clause-empty : goal.returns-clause-empty
+returns-clause-empty g c =
+    handle-logs (arc_value c.in-Ok.map) c.args.shape.seats c.loop-seat.handles.items
     (all-moved c.loop-seat.invariant.2
     (omega (arith, c.in-None.ensures.steps, c.loop-seat.seat-iterator.rest.ok)))
