@@ -21,6 +21,10 @@ new_handles m count = map (handle_on m) (new_seats m.map count)
 abbrev pub seats_of : List HandleOf → List SeatOf
 seats_of handles = map (λ handle. handle.seat) handles
 
+-- The handle is of the map that it was of: what a function promises that takes a handle by `&mut`.
+abbrev pub IsSameMap : (before after : HandleOf) → Type 0
+IsSameMap before after = after.map ≡ before.map
+
 -- all these handles are of one map
 abbrev pub AreOfOneMap : List HandleOf → Type 0
 AreOfOneMap handles = (m : LongMapOf) × All (λ handle. handle.map ≡ m) handles

@@ -33,7 +33,7 @@ ghost use Rattle.nb_map.specs.Looking.{IsSeenAtHome, get_steps};
 ghost use Rattle.nb_map.specs.Maps.{AreMine, HasWorked, IsMine, MapOf};
 ghost use Rattle.nb_map.specs.Refusing.{IsLockFree};
 ghost use Rattle.nb_map.specs.Writing.{IsShortAtHome};
-ghost use Rattle.nb_long.specs.Handles.{AreOfOneMap, new_handles, seats_of};
+ghost use Rattle.nb_long.specs.Handles.{AreOfOneMap, IsSameMap, new_handles, seats_of};
 ghost use Rattle.nb_long.specs.Stores.{HasStored};
 ghost use Rattle.nb_long.specs.Typed.{
   HasChangedIf,
@@ -115,7 +115,7 @@ impl<V: Drop> Handle<V> {
         ensures three_steps { IsSeenAtHome self.old.map.map.chain.shape self.old.seat.chain
             self.new.seat.chain key
             → self.new.seat.chain.steps ≤ self.old.seat.chain.steps + 3 }
-        ensures map { self.new.map ≡ self.old.map }
+        ensures map { IsSameMap self.old self.new }
     {
         self.map.number_at(&mut self.seat, key)
     }
@@ -134,7 +134,7 @@ impl<V: Drop> Handle<V> {
             self.old.seat self.new.seat) }
         ensures refused { IfErr result (IsWriteRefused self.old.map key want.Any value
             self.old.seat self.new.seat) }
-        ensures map { self.new.map ≡ self.old.map }
+        ensures map { IsSameMap self.old self.new }
     {
         self.map.put(rt, &mut self.seat, key, value)
     }
@@ -150,7 +150,7 @@ impl<V: Drop> Handle<V> {
             self.old.seat self.new.seat) }
         ensures refused { IfErr result (IsWriteRefused self.old.map key want.Absent value
             self.old.seat self.new.seat) }
-        ensures map { self.new.map ≡ self.old.map }
+        ensures map { IsSameMap self.old self.new }
     {
         self.map.put_if_absent(rt, &mut self.seat, key, value)
     }
@@ -166,7 +166,7 @@ impl<V: Drop> Handle<V> {
             self.old.seat self.new.seat) }
         ensures refused { IfErr result (IsWriteRefused self.old.map key want.Present value
             self.old.seat self.new.seat) }
-        ensures map { self.new.map ≡ self.old.map }
+        ensures map { IsSameMap self.old self.new }
     {
         self.map.replace(rt, &mut self.seat, key, value)
     }
@@ -189,7 +189,7 @@ impl<V: Drop> Handle<V> {
         ensures refused { IfErr result (IsRefusedIf self.old.map key new
             self.old.seat self.new.seat) }
         ensures lock_free { IsLockFreeIf self.old.map key self.old.seat self.new.seat }
-        ensures map { self.new.map ≡ self.old.map }
+        ensures map { IsSameMap self.old self.new }
     {
         self.map.replace_if(rt, &mut self.seat, key, old, new)
     }
@@ -202,7 +202,7 @@ impl<V: Drop> Handle<V> {
             self.old.seat self.new.seat }
         ensures short { IsShortAtHome self.old.map.map.chain.shape
             (call.Write key want.Any change.Remove) self.old.seat.chain self.new.seat.chain }
-        ensures map { self.new.map ≡ self.old.map }
+        ensures map { IsSameMap self.old self.new }
     {
         self.map.remove(rt, &mut self.seat, key)
     }
@@ -217,7 +217,7 @@ impl<V: Drop> Handle<V> {
             self.old.seat self.new.seat found done) }
         ensures unshown { IfErr result (λ fault. IsUnshown key self.old.seat self.new.seat) }
         ensures lock_free { IsLockFreeIf self.old.map key self.old.seat self.new.seat }
-        ensures map { self.new.map ≡ self.old.map }
+        ensures map { IsSameMap self.old self.new }
     {
         self.map.remove_if(rt, &mut self.seat, key, value)
     }
@@ -230,7 +230,7 @@ impl<V: Drop> Handle<V> {
             change.Remove self.old.seat self.new.seat compared.found compared.done) }
         ensures unshown { IfErr result (λ fault. IsUnshown key self.old.seat self.new.seat) }
         ensures lock_free { IsLockFreeIf self.old.map key self.old.seat self.new.seat }
-        ensures map { self.new.map ≡ self.old.map }
+        ensures map { IsSameMap self.old self.new }
     {
         self.map.take_if(rt, &mut self.seat, key, value)
     }
@@ -251,7 +251,7 @@ impl<V: Drop> Handle<V> {
             other.new.seat.chain [] 1
             × IsBeginning self.old.seat.chain.seen other.new.seat.chain.seen
             × (other.new.seat.count ≡ other.old.seat.count) }
-        ensures map { (self.new.map ≡ self.old.map) × (other.new.map ≡ other.old.map) }
+        ensures map { IsSameMap self.old self.new × IsSameMap other.old other.new }
     {
         self.map.meet(&mut self.seat, &mut other.seat);
     }
