@@ -75,8 +75,8 @@
 extern "C" {
 #endif
 
-/* Version 0.1.0, as one number. samvolip_version tells that of the library. */
-#define SAMVOLIP_VERSION 0x000100u
+/* Version 0.3.0, as one number. samvolip_version tells that of the library. */
+#define SAMVOLIP_VERSION 0x000300u
 
 /* The greatest key and the greatest number. */
 #define SAMVOLIP_KEY_MAX (UINT64_MAX - 2)

@@ -38,7 +38,7 @@ public final class Samvolip {
         E_SUM_RANGE = -15, E_NO_SEAT = -16, E_NOT_ALL_SEATS = -17, E_ROOM = -18, E_LOST = -19, E_VERSION = -20;
 
     /** That of the samvolip.h that this class tells of, and the sizes of its structs. */
-    private static final int VERSION = 0x000100, SHAPE_SIZE = 84, HANDLE_SIZE = 8, REPLY_SIZE = 16, ENTRY_SIZE = 16;
+    private static final int VERSION = 0x000300, SHAPE_SIZE = 84, HANDLE_SIZE = 8, REPLY_SIZE = 16, ENTRY_SIZE = 16;
     private static final int[] HEADER = {VERSION, SHAPE_SIZE, HANDLE_SIZE, HANDLE_SIZE, REPLY_SIZE, ENTRY_SIZE};
 
     static {

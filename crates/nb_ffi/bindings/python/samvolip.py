@@ -11,7 +11,7 @@ import os
 import threading
 from ctypes import POINTER, Structure, byref, c_int, c_size_t, c_uint32, c_uint64, c_void_p, sizeof
 
-VERSION = 0x000100  # that of the samvolip.h that this module tells of
+VERSION = 0x000300  # that of the samvolip.h that this module tells of
 KEY_MAX = 2**64 - 3
 VALUE_MAX = 2**60 - 1
 

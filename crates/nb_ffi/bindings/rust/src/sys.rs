@@ -4,7 +4,7 @@ use std::mem::size_of;
 use std::ptr::NonNull;
 
 /// The version of `samvolip.h` that this file tells of.
-pub const VERSION: u32 = 0x000100;
+pub const VERSION: u32 = 0x000300;
 
 pub const MAX_TABLES: usize = 16;
 pub const PRESENT: i32 = 1;
