@@ -1,7 +1,7 @@
 /*
  * samvolip.h - a concurrent map from whole numbers to whole numbers.
  *
- * Many threads read and write one map at the same time, and none holds up another: it is Cliff
+ * Many threads read and write one map at the same time, and none holds up another. It is Cliff
  * Click's non-blocking hash map, proved in Rattle. docs/c.md says what is proved, and what a caller
  * has to keep. The header is for C11 and C++11, with GCC's or Clang's builtins.
  *
@@ -22,9 +22,10 @@
  *
  * Rules
  *
- * Seats. Each thread calls with a seat of its own. A map has as many seats as its shape says, 8 at
- * most; samvolip_open gives them all to one handle, and samvolip_split hands one out to another.
- * There is no other way to a map: no seat, no call.
+ * Seats. A seat is the right of one thread at a time to call. Each thread calls with a seat of its
+ * own. A map has as many seats as its shape says, 8 at most. samvolip_open gives all of them to one
+ * handle, and samvolip_split gives one of them to another handle. There is no other way to a map:
+ * no seat, no call.
  *
  * One call at a time. A seat is in one call at a time. It may go from one thread to another, if a
  * lock, the start or the join of a thread, or a sequentially consistent atomic comes between. An
@@ -32,38 +33,41 @@
  *
  * One map. samvolip_meet and samvolip_join take two seats of one map, and two different ones.
  *
- * Empty and full. A handle is a variable that the caller declares, empty by SAMVOLIP_SEAT_INIT or
- * SAMVOLIP_ENDED_INIT. samvolip_open, samvolip_split and samvolip_close fill an empty one;
- * samvolip_join, samvolip_close, samvolip_free and samvolip_ended_free empty one, and both frees
- * take an empty one too. All other calls take a full one. So nothing is freed twice, and a call
- * after a free is a call with an empty handle, which is an error of the program. Don't copy a
- * handle: two copies would be two seats of one.
+ * Empty and full. A handle is a variable that the caller declares, a samvolip_seat or a
+ * samvolip_ended. SAMVOLIP_SEAT_INIT or SAMVOLIP_ENDED_INIT makes it empty. samvolip_open,
+ * samvolip_split and samvolip_close fill an empty handle. samvolip_join, samvolip_close,
+ * samvolip_free and samvolip_ended_free empty a full one; the two frees take an empty one, too. All
+ * other calls take a full one. So nothing is freed twice. A call after a free is a call with an
+ * empty handle, which is an error of the program. Don't copy a handle: that would make two seats
+ * of one.
  *
- * Pointers. No pointer is NULL but where it says so. What a call writes to (a number, a reply, a
- * handle, an array) overlaps nothing else that it is given. Nothing that was passed is kept.
+ * Pointers. No pointer is NULL, except where the call says so. What a call writes to (a number, a
+ * reply, a handle, an array) overlaps nothing else that the call is given. The library keeps no
+ * pointer that was passed to it.
  *
- * Refusals. A call that may be refused answers an int: 0 or 1 where it was made, and a negative
- * enum samvolip_code where it was refused, of a name that begins with SAMVOLIP_E_. A refused call
- * changes nothing: the map, the handles and what the caller passed are as they were, but for
- * SAMVOLIP_E_LOST, which leaves both handles empty.
- * (For a refused write tables may have grown, and its key may keep a slot without a number:
- * samvolip_generation shows the one, and a later new key may find less room by the other.)
+ * Refusals. A call that may be refused returns an int: 0 or 1 if it was made, and a negative enum
+ * samvolip_code if it was refused. The names of these codes begin with SAMVOLIP_E_. A refused call
+ * changes nothing: the map, the handles and what the caller passed are as they were. The one
+ * exception is SAMVOLIP_E_LOST, which leaves both handles empty.
+ * (For a refused write tables may have grown, which samvolip_generation shows. Its key may also
+ * keep a slot without a number, so that a later new key may find less room.)
  *
  * Memory. samvolip_open reserves all tables of the map, and the map keeps them until it is freed.
  * samvolip_open, samvolip_split, samvolip_close and samvolip_ended_entries take memory, by malloc;
  * no other call does.
  *
  * Versions. samvolip_open tells the library which header the program was compiled with: its version
- * and the sizes of its structs. Where they aren't the library's, it is refused by
- * SAMVOLIP_E_VERSION, and there is no other way to a map.
+ * and the sizes of its structs. If they aren't the library's, the call is refused with
+ * SAMVOLIP_E_VERSION. There is no other way to a map.
  *
- * Signals and forks. No call from a signal handler, nor from the child of a fork of a process with
- * threads.
+ * Signals and forks. Make no call from a signal handler, nor from the child of a fork of a process
+ * with threads.
  *
- * Checks. With SAMVOLIP_CHECKED defined before the header is included, the calls test these rules
- * as far as they can, and abort with a line on standard error that says which was broken: NULL and
- * empty handles, codes out of range, two threads in one seat, seats of two maps in one call. Define
- * it in all files of a program or in none. Without it, nothing is tested and nothing is paid.
+ * Checks. If SAMVOLIP_CHECKED is defined before the header is included, the calls test these rules
+ * as far as they can: NULL and empty handles, codes out of range, two threads in one seat, seats of
+ * two maps in one call. If a rule is broken, the call aborts the program, with a line on standard
+ * error that says which rule it was. Define SAMVOLIP_CHECKED in all files of a program or in none.
+ * Without it, nothing is tested and nothing is paid.
  */
 #ifndef SAMVOLIP_H
 #define SAMVOLIP_H
@@ -75,7 +79,7 @@
 extern "C" {
 #endif
 
-/* Version 0.3.0, as one number. samvolip_version tells that of the library. */
+/* Version 0.3.0, as one number. samvolip_version returns that of the library. */
 #define SAMVOLIP_VERSION 0x000300u
 
 /* The greatest key and the greatest number. */
@@ -90,13 +94,13 @@ extern "C" {
 #define SAMVOLIP_MAX_SEATS 8
 #define SAMVOLIP_MAX_STRIPES 8
 
-/* What a call came to. */
+/* The result of a call. */
 enum samvolip_code {
     SAMVOLIP_OK = 0,      /* it was made */
     SAMVOLIP_ABSENT = 0,  /* it was made, and there was no number */
     SAMVOLIP_PRESENT = 1, /* it was made, and there was a number */
 
-    /* what is wrong with a shape: the first of these, in this order */
+    /* what is wrong with a shape: the first of these that applies, in this order */
     SAMVOLIP_E_TABLES = -1,    /* not 1 to 16 tables */
     SAMVOLIP_E_EXPONENTS = -2, /* an exponent that isn't from 2 to 19 */
     SAMVOLIP_E_FALLING = -3,   /* a table smaller than the one before it */
@@ -110,8 +114,8 @@ enum samvolip_code {
     /* what is wrong with a call */
     SAMVOLIP_E_KEY_RANGE = -9,    /* a key past SAMVOLIP_KEY_MAX */
     SAMVOLIP_E_VALUE_RANGE = -10, /* a number past SAMVOLIP_VALUE_MAX */
-    SAMVOLIP_E_WANT = -11,        /* a condition that is none of enum samvolip_want */
-    SAMVOLIP_E_CHANGE = -12,      /* a change that is none of enum samvolip_change */
+    SAMVOLIP_E_WANT = -11,        /* a condition that isn't in enum samvolip_want */
+    SAMVOLIP_E_CHANGE = -12,      /* a change that isn't in enum samvolip_change */
 
     /* why a write is refused */
     SAMVOLIP_E_FULL = -13,      /* other keys have all slots of the last table */
@@ -120,12 +124,12 @@ enum samvolip_code {
 
     /* why a handle isn't split or closed */
     SAMVOLIP_E_NO_SEAT = -16,       /* the handle has no seat in reserve */
-    SAMVOLIP_E_NOT_ALL_SEATS = -17, /* the handle hasn't all seats of the map */
+    SAMVOLIP_E_NOT_ALL_SEATS = -17, /* the handle doesn't have all seats of the map */
 
     SAMVOLIP_E_ROOM = -18, /* the array is too small */
 
-    /* The map was given up while it was closed. No program that keeps the rules sees it: it takes
-       somebody who has the map without having a seat. */
+    /* The map was given up while it was closed. A program that keeps the rules never sees this: it
+       happens only if somebody has the map without having a seat. */
     SAMVOLIP_E_LOST = -19,
 
     SAMVOLIP_E_VERSION = -20 /* the program was compiled with another header than the library's */
@@ -139,23 +143,25 @@ enum samvolip_want {
     SAMVOLIP_EQUAL = 3         /* that it is this one */
 };
 
-/* What a write does to its key, where the condition holds. */
+/* What a write does to its key, if the condition holds. */
 enum samvolip_change {
     SAMVOLIP_PUT = 0,    /* sets it to the number */
-    SAMVOLIP_REMOVE = 1, /* takes it out */
-    SAMVOLIP_ADD = 2     /* adds the number to what is there, none counting as 0 */
+    SAMVOLIP_REMOVE = 1, /* removes it */
+    SAMVOLIP_ADD = 2     /* adds the number to what is there, or to 0 if there is none */
 };
 
 /*
- * The shape of a map. It has `tables` tables, the first of them with 2 to the power exponents[0]
- * slots, and none smaller than the one before it. A map grows from one to the next when a table
- * gets crowded, and never shrinks. The last table is the end: where other keys have all its slots,
- * a new key is refused as full. A removed key keeps its slot until its table is left.
+ * The shape of a map. It has `tables` tables. The first has 2 to the power exponents[0] slots, and
+ * so on; no table is smaller than the one before it. A map grows from one table to the next when
+ * the table gets crowded, and it never shrinks. The last table is the end: if other keys have all
+ * its slots, a new key is refused as full. A removed key keeps its slot until its table is left.
  *
- * The size is counted over `stripes` words; as many as there are writers is best. No table but the
- * last takes a new key past `reprobes` slots of its path, nor past a quarter of its slots and two.
- * Who brings a new key to a table that grows helps to copy all of it, `chunk` slots at a time:
- * large ones take fewer steps, and small ones share the work among more threads.
+ * The number of keys is counted over `stripes` words. As many as there are writers is best. A key's
+ * path is its probe sequence in a table. A table that isn't the last takes a new key only in the
+ * first `reprobes` slots of the key's path, and only in the first n / 4 + 2 slots of it, where n is
+ * how many slots the table has. A thread that brings a new key to a table that grows helps to copy
+ * all of it, `chunk` slots at a time. Large chunks take fewer steps, and small ones share the work
+ * among more threads.
  */
 typedef struct samvolip_shape {
     uint32_t exponents[SAMVOLIP_MAX_TABLES];
@@ -173,8 +179,8 @@ typedef struct samvolip_seat {
     uint32_t in_use; /* for the checks: whether a call is under way */
 } samvolip_seat;
 
-/* What is left of a map. The field is the library's. All calls with it are made by the thread that
-   closed the map. */
+/* What is left of a map that was closed. The field is the library's. All calls with it are made by
+   the thread that closed the map. */
 typedef struct samvolip_ended {
     void *handle;
 } samvolip_ended;
@@ -182,8 +188,9 @@ typedef struct samvolip_ended {
 #define SAMVOLIP_SEAT_INIT {NULL, 0, 0}
 #define SAMVOLIP_ENDED_INIT {NULL}
 
-/* What a write found: the number that was at its key, and 1 for `had`, or twice 0 where there was
-   none; and 1 for `matched` where the condition held, so that the write did what it does, or 0. */
+/* What a write found. If there was a number at its key, `before` is that number and `had` is 1;
+   else both are 0. `matched` is 1 if the condition held, so that the write did what it does; else
+   it is 0. */
 typedef struct samvolip_reply {
     uint64_t before;
     uint32_t had;
@@ -197,7 +204,7 @@ typedef struct samvolip_entry {
 } samvolip_entry;
 
 /* What a program was compiled with: the version of its header, and the sizes of its structs. A
-   binding for another language that hands over handles of one word tells the size of a word. */
+   binding for another language whose handles are one word gives the size of a word for these. */
 typedef struct samvolip_header {
     uint32_t version;
     uint32_t shape;
@@ -212,11 +219,11 @@ typedef struct samvolip_header {
      sizeof(samvolip_ended), sizeof(samvolip_reply), sizeof(samvolip_entry)}
 
 /*
- * A shape with room to spare for so many different keys, and for this many threads: a last table of
- * half as many slots again as there are keys, or more, and one of an eighth of it before. A put is
- * refused as full only where other keys have all slots of the last table. It takes 16 bytes a slot,
- * of both tables. For more than SAMVOLIP_MOST_KEYS there is no shape, and samvolip_open refuses
- * what this answers, by SAMVOLIP_E_TABLES.
+ * A shape with room to spare for `most` different keys, and for `seats` threads. The last table has
+ * half as many slots again as there are keys, or more. There is one table before it, of an eighth
+ * of that size. A put is refused as full only if other keys have all slots of the last table. The
+ * map takes 16 bytes for each slot of both tables. For more than SAMVOLIP_MOST_KEYS there is no
+ * shape: samvolip_open refuses what this returns, with SAMVOLIP_E_TABLES.
  */
 static inline samvolip_shape samvolip_shape_for_keys(uint64_t most, unsigned seats)
 {
@@ -238,16 +245,17 @@ static inline samvolip_shape samvolip_shape_for_keys(uint64_t most, unsigned sea
 
 /* ---- handles ------------------------------------------------------------------------------- */
 
-/* samvolip_open for a program with this header: use samvolip_open, which tells its own. */
+/* samvolip_open for a program with the header that `header` tells of. Use samvolip_open, which
+   passes its own. */
 int samvolip_open_with(const samvolip_header *header, const samvolip_shape *shape,
                        samvolip_seat *seat);
 
 /*
- * Makes an empty map. `seat`, which is empty, gets all its seats: one to call with, and the others
- * in reserve, for samvolip_split.
+ * Makes an empty map. `seat`, which is empty before, gets all seats of the map: one to call with,
+ * and the others in reserve, for samvolip_split.
  *
  * Cost: malloc of all tables, for a moment twice, and clearing and copying them.
- * Refused: SAMVOLIP_E_VERSION, before the shape is read; by what is wrong with the shape;
+ * Refused: SAMVOLIP_E_VERSION, before the shape is read; the code of what is wrong with the shape;
  * SAMVOLIP_E_OUT_OF_MEMORY.
  */
 static inline int samvolip_open(const samvolip_shape *shape, samvolip_seat *seat)
@@ -257,7 +265,7 @@ static inline int samvolip_open(const samvolip_shape *shape, samvolip_seat *seat
 }
 
 /*
- * Gives `other`, which is empty, a seat that `seat` has in reserve. Any handle with seats in
+ * Gives `other`, which is empty before, a seat that `seat` has in reserve. Any handle with seats in
  * reserve may be split.
  *
  * Cost: two calls of malloc.
@@ -267,31 +275,32 @@ int samvolip_split(samvolip_seat *seat, samvolip_seat *other);
 
 /*
  * Puts all seats of `other` in the reserve of `seat`, which is of the same map. `other` is empty
- * afterwards. What `other` has seen isn't passed on: samvolip_meet does that, before.
+ * afterwards. What `other` has seen isn't passed on: samvolip_meet does that, if it is called
+ * before.
  *
  * Cost: a few steps, and a free or two.
- * Refused: SAMVOLIP_E_OUT_OF_MEMORY by its contract. In fact it takes no memory, since each handle
+ * Refused: SAMVOLIP_E_OUT_OF_MEMORY, by its contract. In fact it takes no memory, since each handle
  * has room for all seats.
  */
 int samvolip_join(samvolip_seat *seat, samvolip_seat *other);
 
 /*
- * Ends the map whose seats `seat` has, all of them, and gives what is left of it to `ended`, which
- * is empty. `seat` is empty afterwards.
+ * Ends the map of `seat`, if `seat` has all seats of the map. What is left of the map goes to
+ * `ended`, which is empty before. `seat` is empty afterwards.
  *
  * Cost: a few steps for each seat, and a malloc.
- * Refused: SAMVOLIP_E_NOT_ALL_SEATS, SAMVOLIP_E_OUT_OF_MEMORY. SAMVOLIP_E_LOST, which a right
+ * Refused: SAMVOLIP_E_NOT_ALL_SEATS, SAMVOLIP_E_OUT_OF_MEMORY. SAMVOLIP_E_LOST, which a correct
  * caller never sees, leaves both handles empty.
  */
 int samvolip_close(samvolip_seat *seat, samvolip_ended *ended);
 
-/* Frees a full handle: use samvolip_free, which takes an empty one too. */
+/* Frees a full handle. Use samvolip_free, which takes an empty one, too. */
 void samvolip_free_open(samvolip_seat *seat);
 
 /*
- * Frees a seat, which is empty afterwards; an empty one stays so. The map goes with its last
- * handle. The seats of a handle that was freed are lost to the map: it works on, and can't be
- * closed any more.
+ * Frees a seat. The handle is empty afterwards; an empty one stays empty. The map is freed with its
+ * last handle. The seats of a handle that was freed are lost to the map: it works on, but it can't
+ * be closed any more.
  */
 static inline void samvolip_free(samvolip_seat *seat)
 {
@@ -302,8 +311,8 @@ static inline void samvolip_free(samvolip_seat *seat)
 /* ---- calls --------------------------------------------------------------------------------- */
 
 /*
- * What is at a key: SAMVOLIP_PRESENT, and the number is written; or SAMVOLIP_ABSENT, and 0 is
- * written. Where it is refused, `number` is as it was.
+ * What is at a key. It returns SAMVOLIP_PRESENT, and the number is written; or SAMVOLIP_ABSENT, and
+ * 0 is written. If the call is refused, `number` stays as it was.
  *
  * Cost: wait-free. In the common case three loads.
  * Refused: SAMVOLIP_E_KEY_RANGE.
@@ -311,15 +320,15 @@ static inline void samvolip_free(samvolip_seat *seat)
 int samvolip_get(samvolip_seat *seat, uint64_t key, uint64_t *number);
 
 /*
- * The write behind all others: where what is at the key is as `want` asks (`old` is the number of
- * SAMVOLIP_EQUAL), does what `change` says (with `number`, which SAMVOLIP_REMOVE doesn't read), in
- * one atomic step. SAMVOLIP_OK, and what it found is written to `reply`; else `reply` is as it was.
- * Where another thread's write of the key comes in between, it tries again, `tries` times in all, 0
- * counting as one.
+ * The write behind all others. If what is at the key is as `want` asks, it does what `change` says,
+ * in one atomic step. `old` is the number for SAMVOLIP_EQUAL. `number` is the one for the change;
+ * SAMVOLIP_REMOVE doesn't read it. It returns SAMVOLIP_OK, and what it found is written to `reply`.
+ * If the call is refused, `reply` stays as it was. If another thread's write of the key comes in
+ * between, it tries again, `tries` times in all; 0 counts as one.
  *
- * Cost: wait-free. In the common case three loads and an exchange, and one step more on the count
- * where a key comes or goes. A key that has no slot takes a load and an exchange more. A new key
- * that finds its table growing has it copied first.
+ * Cost: wait-free. In the common case three loads and an exchange (a compare-and-swap), and one
+ * more step on the count if a key comes or goes. A key that has no slot takes one more load and one
+ * more exchange. If a new key finds its table growing, the table is copied first.
  * Refused: SAMVOLIP_E_KEY_RANGE, SAMVOLIP_E_VALUE_RANGE, SAMVOLIP_E_WANT, SAMVOLIP_E_CHANGE,
  * SAMVOLIP_E_FULL, SAMVOLIP_E_CONTENDED, SAMVOLIP_E_SUM_RANGE.
  */
@@ -328,7 +337,7 @@ int samvolip_put_if_match(samvolip_seat *seat, uint64_t key, uint32_t want, uint
                           samvolip_reply *reply);
 
 /*
- * About how many keys the map has, modulo 2^64. While others write it is no more than a guess.
+ * About how many keys the map has, modulo 2^64. While others write, it is no more than a guess.
  *
  * Cost: a load for each stripe.
  */
@@ -343,7 +352,7 @@ uint32_t samvolip_generation(samvolip_seat *seat);
 
 /*
  * Lets each of two seats of one map know all that the other has seen. What one thread has seen,
- * another sees by itself as it calls; this is for proofs, and for two seats whose threads have
+ * another sees by itself when it calls. So this is for proofs, and for two seats whose threads have
  * ended.
  *
  * Cost: six loads.
@@ -351,27 +360,27 @@ uint32_t samvolip_generation(samvolip_seat *seat);
 void samvolip_meet(samvolip_seat *seat, samvolip_seat *other);
 
 /*
- * Begins a walk over the map's keys, while others write it. A seat has one walk at a time: one that
- * was under way is given up. The seat may make other calls during its walk.
+ * Begins a walk over the map's keys. Others may write the map meanwhile. A seat has one walk at a
+ * time: a walk that was under way is given up. The seat may make other calls during its walk.
  *
  * Cost: a load.
  */
 void samvolip_walk(samvolip_seat *seat);
 
 /*
- * The next key of the seat's walk: SAMVOLIP_PRESENT, and the key and its number are written; or
- * SAMVOLIP_ABSENT at the end of the walk, and with none under way. No key is shown twice; each key
- * that the map has all the while is shown; a key that comes or goes meanwhile may be shown or not.
- * The order is none.
+ * The next key of the seat's walk. It returns SAMVOLIP_PRESENT, and the key and its number are
+ * written; or SAMVOLIP_ABSENT, at the end of the walk or if no walk is under way. No key is shown
+ * twice. Each key that the map has all the while is shown. A key that comes or goes meanwhile may
+ * be shown or not. The keys come in no order.
  *
- * Cost: wait-free. Where no table is being copied, a load for each slot on the way, and one more
- * for each key that has a slot; a key of a later table is sought in the earlier ones as well.
+ * Cost: wait-free. If no table is being copied, a load for each slot on the way, and one more for
+ * each key that has a slot. A key of a later table is looked for in the earlier ones as well.
  */
 int samvolip_next(samvolip_seat *seat, uint64_t *key, uint64_t *number);
 
 /* ---- an ended map -------------------------------------------------------------------------- */
 
-/* These calls leave the handle as it is; but as all others, they are made one at a time. */
+/* These calls leave the handle as it is. Like all others, they are made one at a time. */
 
 /* How many keys the map has. */
 uint64_t samvolip_ended_size(const samvolip_ended *ended);
@@ -384,19 +393,20 @@ uint64_t samvolip_ended_size(const samvolip_ended *ended);
 int samvolip_ended_get(const samvolip_ended *ended, uint64_t key, uint64_t *number);
 
 /*
- * Writes all keys, ascending, with their numbers into the caller's array, which has room for so
- * many; it takes samvolip_ended_size of them. `entries` isn't NULL, even for no room.
+ * Writes all keys in ascending order, with their numbers, into the caller's array. It has room for
+ * `room` entries, and there are samvolip_ended_size of them. `entries` isn't NULL, even if `room`
+ * is 0.
  *
  * Cost: that of a search for each key and of putting them in order, and memory for them twice.
- * Refused: SAMVOLIP_E_ROOM, SAMVOLIP_E_OUT_OF_MEMORY. The first is told only once the list was
- * made: ask samvolip_ended_size first.
+ * Refused: SAMVOLIP_E_ROOM, SAMVOLIP_E_OUT_OF_MEMORY. The first is found only after the list was
+ * made, so ask samvolip_ended_size first.
  */
 int samvolip_ended_entries(const samvolip_ended *ended, samvolip_entry *entries, size_t room);
 
-/* Frees a full handle: use samvolip_ended_free, which takes an empty one too. */
+/* Frees a full handle. Use samvolip_ended_free, which takes an empty one, too. */
 void samvolip_ended_free_open(samvolip_ended *ended);
 
-/* Frees what is left of a map. The handle is empty afterwards; an empty one stays so. */
+/* Frees what is left of a map. The handle is empty afterwards; an empty one stays empty. */
 static inline void samvolip_ended_free(samvolip_ended *ended)
 {
     if (ended->handle)
@@ -448,16 +458,16 @@ static inline const char *samvolip_strerror(int code)
 
 /*
  * The calls of java.util.concurrent.ConcurrentMap, and an add. Each is one samvolip_put_if_match,
- * which is made again while other writes of the key come first. So none is refused as contended;
- * they are lock-free: only the success of others costs them anything.
+ * which is made again as long as other writes of the key come first. So none is refused as
+ * contended. They are lock-free: only the success of others costs them anything.
  *
- * Each answers SAMVOLIP_PRESENT where there was a number at the key, which is written to `before`,
- * and else SAMVOLIP_ABSENT, and `before` is as it was. `before` may be NULL. replace_if and
- * remove_if answer 1 where they did it, and else 0. What each is refused by stands beside it,
- * without SAMVOLIP_.
+ * Each returns SAMVOLIP_PRESENT if there was a number at the key, and writes that to `before`. Else
+ * it returns SAMVOLIP_ABSENT, and `before` stays as it was. `before` may be NULL. replace_if and
+ * remove_if return 1 if they did it, and else 0. The codes by which each may be refused are beside
+ * it, without SAMVOLIP_.
  */
 
-/* The write as long as it is contended, and its reply. */
+/* The write, again as long as it is contended, and its reply. */
 static inline int samvolip_write(samvolip_seat *seat, uint64_t key, uint32_t want, uint64_t old,
                                  uint32_t change, uint64_t number, samvolip_reply *reply)
 {
@@ -499,14 +509,14 @@ static inline int samvolip_put(samvolip_seat *seat, uint64_t key, uint64_t numbe
     return samvolip_write_found(seat, key, SAMVOLIP_ANY, SAMVOLIP_PUT, number, before);
 }
 
-/* Puts a number at a key that has none: SAMVOLIP_ABSENT where it did. Refused as samvolip_put. */
+/* Puts a number at a key that has none: SAMVOLIP_ABSENT if it did. Refused as samvolip_put. */
 static inline int samvolip_put_if_absent(samvolip_seat *seat, uint64_t key, uint64_t number,
                                          uint64_t *before)
 {
     return samvolip_write_found(seat, key, SAMVOLIP_WANT_ABSENT, SAMVOLIP_PUT, number, before);
 }
 
-/* Puts a number in place of another: SAMVOLIP_PRESENT where it did. Refused: E_KEY_RANGE,
+/* Puts a number in place of another: SAMVOLIP_PRESENT if it did. Refused: E_KEY_RANGE,
    E_VALUE_RANGE. */
 static inline int samvolip_replace(samvolip_seat *seat, uint64_t key, uint64_t number,
                                    uint64_t *before)
@@ -514,26 +524,26 @@ static inline int samvolip_replace(samvolip_seat *seat, uint64_t key, uint64_t n
     return samvolip_write_found(seat, key, SAMVOLIP_WANT_PRESENT, SAMVOLIP_PUT, number, before);
 }
 
-/* Puts a number in place of this one. Refused: E_KEY_RANGE, E_VALUE_RANGE. */
+/* Puts `number` in place of `old`. Refused: E_KEY_RANGE, E_VALUE_RANGE. */
 static inline int samvolip_replace_if(samvolip_seat *seat, uint64_t key, uint64_t old,
                                       uint64_t number)
 {
     return samvolip_write_matched(seat, key, old, SAMVOLIP_PUT, number);
 }
 
-/* Takes a key out. Refused: E_KEY_RANGE. */
+/* Removes a key. Refused: E_KEY_RANGE. */
 static inline int samvolip_remove(samvolip_seat *seat, uint64_t key, uint64_t *before)
 {
     return samvolip_write_found(seat, key, SAMVOLIP_ANY, SAMVOLIP_REMOVE, 0, before);
 }
 
-/* Takes out a key that has this number. Refused: E_KEY_RANGE, E_VALUE_RANGE. */
+/* Removes a key that has this number. Refused: E_KEY_RANGE, E_VALUE_RANGE. */
 static inline int samvolip_remove_if(samvolip_seat *seat, uint64_t key, uint64_t number)
 {
     return samvolip_write_matched(seat, key, number, SAMVOLIP_REMOVE, 0);
 }
 
-/* Adds a number to what is at a key, none counting as 0. Refused: E_KEY_RANGE,
+/* Adds a number to what is at a key, or to 0 if there is none. Refused: E_KEY_RANGE,
    E_VALUE_RANGE, E_FULL, E_SUM_RANGE. */
 static inline int samvolip_add(samvolip_seat *seat, uint64_t key, uint64_t number,
                                uint64_t *before)
@@ -542,8 +552,8 @@ static inline int samvolip_add(samvolip_seat *seat, uint64_t key, uint64_t numbe
 }
 
 /*
- * Sets a key to *next where it is at *expected; NULL stands for no number. As
- * atomic_compare_exchange it is one step, but `reply` tells what was found. It is a
+ * Sets a key to *next if it is at *expected. NULL stands for no number. Like
+ * atomic_compare_exchange it is one step, but `reply` says what was found. It is a
  * samvolip_put_if_match, with its tries and refusals.
  */
 static inline int samvolip_compare_exchange(samvolip_seat *seat, uint64_t key,

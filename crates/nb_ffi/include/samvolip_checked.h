@@ -1,4 +1,4 @@
-/* The checks of SAMVOLIP_CHECKED. samvolip.h includes it. */
+/* The checks of SAMVOLIP_CHECKED. samvolip.h includes this file. */
 #ifndef SAMVOLIP_CHECKED_H
 #define SAMVOLIP_CHECKED_H
 
@@ -21,7 +21,7 @@ static inline void samvolip_check(int holds, const char *call, const char *rule)
         samvolip_broken(call, rule);
 }
 
-/* The seat is full, and this call is its only one until samvolip_leave. */
+/* Checks that the seat is full, and that this call is its only one until samvolip_leave. */
 static inline void samvolip_enter(samvolip_seat *seat, const char *call)
 {
     samvolip_check(seat != NULL, call, "the seat is NULL");
@@ -57,8 +57,8 @@ static inline void samvolip_check_ended(const samvolip_ended *ended, const char 
     samvolip_check(ended->handle != NULL, call, "the handle is empty");
 }
 
-/* A name for a new map: of the address of what its first handle stands for, and a count of the maps
-   that this file has opened. Two maps have one name hardly ever, and then a check is missed. */
+/* A name for a new map, from the address of what its first handle stands for and a count of the
+   maps that this file has opened. Two maps hardly ever have one name. Then a check is missed. */
 static inline uintptr_t samvolip_name_of_map(const samvolip_seat *seat)
 {
     static uintptr_t maps;
