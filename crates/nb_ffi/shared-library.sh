@@ -4,7 +4,7 @@
 set -euo pipefail
 here="$(cd "$(dirname "${BASH_SOURCE[0]}")" && pwd)"
 to="${1:-$here/out}"
-kit="${KIT:-/opt/rattle}"
+kit="${KIT:-$(dirname "$(rt doc)")}"
 [ -f "$here/out/libnb_ffi.a" ] || { echo "shared-library: first run rt lib in $here" >&2; exit 1; }
 mkdir -p "$to"
 printf '{ global: samvolip_*; local: *; };\n' > "$to/samvolip.map"

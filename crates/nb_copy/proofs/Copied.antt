@@ -9,7 +9,7 @@ use Rattle.nb_core.specs.Tables.{Tables}
 use Rattle.nb_core.specs.History.{counted_by, counts, seat_of_event, slot_in, slots_turned, turned_slot}
 use Rattle.nb_core.specs.Laws.{Lasts}
 use Rattle.nb_core.specs.declared.events.Event.{Event}
-use Rattle.nb_core.specs.declared.events.Event.TheVariants.{Claim, Kill, Won, CopyIn, Prime, Finish, Install, Take, Count, Promote, Read}
+use Rattle.nb_core.specs.declared.events.Event.TheVariants.{Claim}
 use Rattle.nb_table.specs.Chains.{ChainOf, Extended, IsOwn, SeenBy, seen_by}
 use Rattle.nb_core.proofs.Theorems.{own_lasts, counted}
 use Rattle.nb_table.proofs.Theorems.{steps_add_up}
@@ -126,16 +126,7 @@ copying-lasts :
     → IsCopying p t g e → IsCopying p u g e
 copying-lasts p g t u table lasting (Claim s f i k) copying =
     (copying.0, lasting.has_slot g k table copying.1)
-copying-lasts p g t u table lasting (Kill s f i) copying = copying
-copying-lasts p g t u table lasting (Won s f i a b c r) copying = copying
-copying-lasts p g t u table lasting (CopyIn s f i k n) copying = copying
-copying-lasts p g t u table lasting (Prime s f i) copying = copying
-copying-lasts p g t u table lasting (Finish s f i) copying = copying
-copying-lasts p g t u table lasting (Install s f k) copying = copying
-copying-lasts p g t u table lasting (Take s f) copying = copying
-copying-lasts p g t u table lasting (Count s f c) copying = copying
-copying-lasts p g t u table lasting (Promote s f) copying = copying
-copying-lasts p g t u table lasting (Read s c r) copying = copying
+copying-lasts p g t u table lasting _ copying = copying
 
 module _ (chain : ChainOf) (g : ℕ) (table : g < generations_of chain.shape) where
   abbrev p : Plan

@@ -1,6 +1,6 @@
 -- How a slot is finished.
 use Rattle.std.proofs.Common.{◌≡◌, ◌≢◌, ◌∙◌, ◌⊎◌, ℕ, suc, ◌+◌, ◌≤◌, ◌<◌, Bool, true, false, cond, List, [], ◌∷◌, Some, None, ap, sym, subst, refl, inl, inr, arith}
-use Rattle.std.proofs.lemmas.Bool.{eq-eqb}
+use Rattle.std.proofs.lemmas.Bool.{cases_eq, eq-eqb}
 use Rattle.nb_core.specs.Plans.{Plan, generations_of, size_of}
 use Rattle.nb_core.specs.Tables.{HasSlot, IsFinished, IsFinishedValue, IsInstalled, IsSlot, IsUnprimed, Tables, IsPassed, IsPrimedOrFinished}
 use Rattle.nb_core.specs.History.{is_finished_by_priming, slot_in}
@@ -8,7 +8,7 @@ use Rattle.nb_core.specs.States.{primed}
 use Rattle.nb_core.specs.Laws.{Lasts}
 use Rattle.nb_core.specs.declared.states.KeyState.TheVariants.{Claimed}
 use Rattle.nb_core.specs.declared.states.ValueState.{ValueState}
-use Rattle.nb_core.specs.declared.states.ValueState.TheVariants.{Null, Tombstone, Live, PrimedNull, PrimedTombstone, Primed, Finished}
+use Rattle.nb_core.specs.declared.states.ValueState.TheVariants.{Null, Tombstone, Live, Primed, Finished}
 use Rattle.nb_core.specs.declared.events.Event.TheVariants.{CopyIn, Finish, Kill, Prime}
 use Rattle.nb_table.specs.Chains.{ChainOf, Extended, IsOwn, SeenBy, seen_before, seen_by}
 use Rattle.nb_table.specs.Conditions.{HasSource, IsCopied}
@@ -67,23 +67,15 @@ number-copied p t u lasting g i j key n slot claimed held near above some = reco
 
 null-or-not : (v : ValueState) → (v ≡ Null) ⊎ (v ≢ Null)
 null-or-not Null = inl refl
-null-or-not Tombstone = inr (λ e. cc)
-null-or-not (Live n) = inr (λ e. cc)
-null-or-not PrimedNull = inr (λ e. cc)
-null-or-not PrimedTombstone = inr (λ e. cc)
-null-or-not (Primed n) = inr (λ e. cc)
-null-or-not (Finished n) = inr (λ e. cc)
+null-or-not _ = inr (λ e. cc)
 
 -- a primed number is the only one that the slot may have
 primed-number :
     (v : ValueState) (m n : ℕ) → v ≡ Primed m → (v ≢ Primed n → v ≡ Finished n) → v ≡ Primed n
-primed-number v m n is other = elim (same-or-not m n) [
+primed-number v m n is other = elim (cases_eq m n) [
   | inl same ↦ is ∙ ap Primed same
   | inr differs ↦ absurd (let finished : v ≡ Finished n = other (λ e. differs (cc)) in cc)
 ]
-  where
-    same-or-not : (a b : ℕ) → (a ≡ b) ⊎ (a ≢ b)
-    same-or-not a b = grind arith
 
 slot-of-table : (g i : ℕ) → slot_in g (Some (g, i)) ≡ i ∷ []
 slot-of-table g i = ap (λ b. cond b (i ∷ []) []) (eq-eqb g g refl)
@@ -183,10 +175,7 @@ module _ (chain : ChainOf) (g : ℕ) (table : g < generations_of chain.shape) wh
   copied-prime s i Null won lost = let w = won tt in primed-now s i Null w.0 w.1
   copied-prime s i Tombstone won lost = let w = won tt in primed-now s i Tombstone w.0 w.1
   copied-prime s i (Live n) won lost = let w = won tt in primed-now s i (Live n) w.0 w.1
-  copied-prime s i PrimedNull won lost = copied-quiet p g _ _ (lost (λ e. e)).0
-  copied-prime s i PrimedTombstone won lost = copied-quiet p g _ _ (lost (λ e. e)).0
-  copied-prime s i (Primed n) won lost = copied-quiet p g _ _ (lost (λ e. e)).0
-  copied-prime s i (Finished n) won lost = copied-quiet p g _ _ (lost (λ e. e)).0
+  copied-prime s i _ won lost = copied-quiet p g _ _ (lost (λ e. e)).0
 
   -- a step that primed a value with nothing to copy, or met a final one
   pub primed-last :

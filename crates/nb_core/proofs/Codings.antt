@@ -61,10 +61,7 @@ word-even : (v : ValueState) → value_word v % 2 ≡ 0 → IsUnprimed v
 word-even Null even = tt
 word-even Tombstone even = tt
 word-even (Live n) even = tt
-word-even PrimedNull even = absurd (omega (arith, even))
-word-even PrimedTombstone even = absurd (omega (arith, even))
-word-even (Primed n) even = absurd (omega (arith, even))
-word-even (Finished n) even = absurd (omega (arith, even))
+word-even _ even = absurd (omega (arith, even))
 
 pub codings : Codings
 codings = record {

@@ -15,11 +15,11 @@ use Rattle.nb_core.specs.Laws.{CountedOnce, over_seats, times_turned}
 use Rattle.nb_core.proofs.Frames.{finished, key_after, key-first, key-frame, value_after, value-first, value-frame}
 use Rattle.nb_core.proofs.Keeping.{sound}
 use Rattle.nb_core.proofs.Lasting.{put-unprimed, win-puts}
-use Rattle.nb_core.proofs.Passing.{below_suc, is_finished-true}
+use Rattle.nb_core.proofs.Computed.{below_suc, is_finished-true}
 use Rattle.nb_core.proofs.Sound.{IsSound, empty-null, unprimed-not_final}
 use Rattle.nb_core.proofs.Words.{at_slot, word-first, word_after, word-frame}
 use Rattle.nb_core.specs.declared.events.Event.{Event}
-use Rattle.nb_core.specs.declared.events.Event.TheVariants.{Claim, Kill, Won, CopyIn, Prime, Finish, Install, Take, Count, Promote, Read}
+use Rattle.nb_core.specs.declared.events.Event.TheVariants.{Claim, Kill, Won, CopyIn, Prime, Finish, Count, Read}
 use Rattle.nb_core.specs.declared.states.KeyState.{KeyState}
 use Rattle.nb_core.specs.declared.states.KeyState.TheVariants.{Dead, Claimed}
 use Rattle.nb_core.specs.declared.states.ValueState.{ValueState}
@@ -279,18 +279,9 @@ in_same_table : (p : Plan) (f j g : ℕ) → IsSlot p f j → eqb f g ≡ true �
 in_same_table p f j g slot e = subst (λ x. j < size_of p x) (eqb-true f g e) slot.1
 
 -- an event's seat is one of the plan's
-seat-in_range : (p : Plan) (e : Event) → IsInRange p e → seat_of_event e < p.seats
-seat-in_range p (Claim s g i k) range = range.0
-seat-in_range p (Kill s g i) range = range.0
-seat-in_range p (Won s g i a b c r) range = range.0
-seat-in_range p (CopyIn s g i k n) range = range.0
-seat-in_range p (Prime s g i) range = range.0
-seat-in_range p (Finish s g i) range = range.0
-seat-in_range p (Install s g k) range = range.0
-seat-in_range p (Take s g) range = range.0
-seat-in_range p (Count s g c) range = range.0
-seat-in_range p (Promote s g) range = range.0
+pub seat-in_range : (p : Plan) (e : Event) → IsInRange p e → seat_of_event e < p.seats
 seat-in_range p (Read s c r) range = range.0
+seat-in_range p _ range = range.0
 
 -- the slot that an event turned is one of the plan's
 turned_slot-in_range :

@@ -9,7 +9,7 @@ use Rattle.std.proofs.lemmas.List.FromFn.{fill_by_all}
 use Rattle.std.proofs.lemmas.List.Sums.{sum_by_more, sum_by-le}
 use Rattle.nb_core.specs.declared.shapes.Shape.TheInside.{Inside}
 use Rattle.nb_core.specs.Plans.{Plan, IsPlan, base_of, generations_of, size_of, table_words, word_count}
-use Rattle.nb_core.specs.Places.{IsInside, plan_of, inside_of, kept_bases, kept_exponents, kept_lasts}
+use Rattle.nb_core.specs.Layout.{IsInside, plan_of, inside_of, kept_bases, kept_exponents, kept_lasts}
 
 -- an array of 16 with f at each place below n, and 0 from there on
 pub record IsFilled (f : ℕ → ℕ) (xs : List ℕ) (n : ℕ) : Type 0 where

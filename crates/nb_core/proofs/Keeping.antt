@@ -6,14 +6,14 @@ use Rattle.nb_core.specs.History.{IsLegal, MayClaim, MayFinish}
 use Rattle.nb_core.specs.States.{primed}
 use Rattle.nb_core.proofs.Frames.{key-first, next-first, value-first}
 use Rattle.nb_core.proofs.Lasting.{complete-stays, installed-stays, key-claimed, key-was, key-was_dead, next-stays, others-stay, put-unprimed, slot-stays, value-content, value-empty, value-final, value-primed_or_finished, value-primed, win-puts}
-use Rattle.nb_core.proofs.Passing.{no_true}
+use Rattle.nb_core.proofs.Computed.{no_true}
 use Rattle.nb_core.proofs.Sound.{HasGot, HasKey, IsClaimedRight, IsSound, MayBeAbove, claimed-same, complete-growing, empty-unclaimed, finished-not_empty, finished-value, next-within, no_slot-past, one_slot, primed-growing}
 use Rattle.nb_core.proofs.Steps.{NextKept, Installs, Step, ValueStep, ValueKept, Wins, Copies, Primes, Finishes, step_of}
 use Rattle.nb_core.specs.declared.numbers.TheConstants.{KEY_MAX}
 use Rattle.nb_core.specs.declared.events.Event.{Event}
 use Rattle.nb_core.specs.declared.states.KeyState.TheVariants.{Empty, Dead, Claimed}
 use Rattle.nb_core.specs.declared.states.ValueState.{ValueState}
-use Rattle.nb_core.specs.declared.states.ValueState.TheVariants.{Null, Tombstone, Live, PrimedNull, PrimedTombstone, Primed, Finished}
+use Rattle.nb_core.specs.declared.states.ValueState.TheVariants.{Null, Tombstone, Live, PrimedNull, Primed, Finished}
 
 -- ---- values
 
@@ -47,10 +47,7 @@ primed-not_finished : (v : ValueState) (n : ℕ) → IsUnprimed v → primed v �
 primed-not_finished Null n unprimed e = cc
 primed-not_finished Tombstone n unprimed e = cc
 primed-not_finished (Live m) n unprimed e = cc
-primed-not_finished PrimedNull n unprimed e = unprimed
-primed-not_finished PrimedTombstone n unprimed e = unprimed
-primed-not_finished (Primed m) n unprimed e = unprimed
-primed-not_finished (Finished m) n unprimed e = unprimed
+primed-not_finished _ n unprimed e = unprimed
 
 -- what may stand above a value still may after a step below
 above-stays :

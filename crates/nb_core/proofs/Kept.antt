@@ -6,7 +6,7 @@ use Rattle.std.proofs.lemmas.List.Elements.{All-get_or}
 use Rattle.std.proofs.lemmas.List.FromFn.{get_or-map-range_with_len}
 use Rattle.nb_core.specs.declared.shapes.Shape.TheInside.{Inside}
 use Rattle.nb_core.specs.Plans.{Plan, IsChunk, IsPlan, base_of, generations_of, size_of}
-use Rattle.nb_core.specs.Places.{IsInside, inside_of, kept_bases, kept_exponents, kept_lasts, plan_of}
+use Rattle.nb_core.specs.Layout.{IsInside, inside_of, kept_bases, kept_exponents, kept_lasts, plan_of}
 
 pub plan-kept : (a : Inside) (p : Plan) → IsInside a → plan_of a ≡ p → IsPlan p
 plan-kept a p h e = subst IsPlan e h.plan

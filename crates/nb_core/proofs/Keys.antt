@@ -10,8 +10,7 @@ use Rattle.nb_core.specs.Plans.{Plan}
 use Rattle.nb_core.specs.States.{IsValueState}
 use Rattle.nb_core.specs.History.{IsCallInRange, IsLegal, key_of_call, map_of}
 use Rattle.nb_core.specs.Laws.{FewKeys, MapInRange}
-use Rattle.nb_core.proofs.Legality.{number_at, number_left}
-use Rattle.nb_core.proofs.Replies.{number_at_map, same_key}
+use Rattle.nb_core.proofs.Computed.{number_at, number_at_map, number_left, same_key}
 use Rattle.nb_core.specs.declared.numbers.TheConstants.{KEY_MAX, VALUE_MAX}
 use Rattle.nb_core.specs.declared.calls.Call.{Call}
 use Rattle.nb_core.specs.declared.calls.Call.TheVariants as call

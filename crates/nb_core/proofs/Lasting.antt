@@ -5,8 +5,7 @@ use Rattle.nb_core.specs.Plans.{Plan, IsPlan, generations_of}
 use Rattle.nb_core.specs.Tables.{AreOthers, HasSlot, IsComplete, IsFinished, IsFinishedValue, IsInstalled, IsSlot, IsUnprimed, Tables, path_slot, HasContent, IsPrimedOrFinished}
 use Rattle.nb_core.specs.History.{IsExchange, MayClaim, MayWin, number_in_value, key_of_call}
 use Rattle.nb_core.specs.States.{primed}
-use Rattle.nb_core.proofs.Legality.{number_left}
-use Rattle.nb_core.proofs.Passing.{no_true}
+use Rattle.nb_core.proofs.Computed.{no_true, number_left}
 use Rattle.nb_core.proofs.Sound.{IsSound, claimed-same, empty-null, empty-unclaimed, path_slot-is_slot, unprimed-not_final}
 use Rattle.nb_core.proofs.Steps.{KeyStep, KeyKept, Claims, Kills, NextStep, NextKept, Installs, Step, ValueStep, ValueKept, Wins, Copies, Primes, Finishes}
 use Rattle.nb_core.specs.declared.numbers.TheConstants.{KEY_MAX}
@@ -15,7 +14,7 @@ use Rattle.nb_core.specs.declared.calls.Call.TheVariants as call
 use Rattle.nb_core.specs.declared.states.KeyState.{KeyState}
 use Rattle.nb_core.specs.declared.states.KeyState.TheVariants.{Empty, Dead, Claimed}
 use Rattle.nb_core.specs.declared.states.ValueState.{ValueState}
-use Rattle.nb_core.specs.declared.states.ValueState.TheVariants.{Null, Tombstone, Live, PrimedNull, PrimedTombstone, Primed, Finished}
+use Rattle.nb_core.specs.declared.states.ValueState.TheVariants.{Null, Tombstone, Live, PrimedNull, Primed, Finished}
 
 -- ---- values
 
@@ -82,12 +81,7 @@ content-some v content null = subst HasContent null content
 -- nor is a primed value
 primed-some : (v : ValueState) → primed v ≢ Null
 primed-some Null e = cc
-primed-some Tombstone e = cc
-primed-some (Live n) e = cc
-primed-some PrimedNull e = cc
-primed-some PrimedTombstone e = cc
-primed-some (Primed n) e = cc
-primed-some (Finished n) e = cc
+primed-some _ e = cc
 
 module _ {p : Plan} {t : Tables} {g i : ℕ} {to : ValueState} where
   -- a value that isn't unprimed can only be finished

@@ -1,6 +1,6 @@
-mod Accepted
 mod Checks
 mod Codings
+pub mod Computed
 mod Counting
 mod Entries
 mod Filled
@@ -13,19 +13,15 @@ mod Keys
 mod Lasting
 mod Later
 mod Lawful
-mod Legality
 mod Linked
 mod Masks
 mod Net
 mod Newest
 mod Others
-mod Passing
 mod Paths
 mod Places
 mod Powers
-mod Refused
 mod Replayed
-mod Replies
 mod Replying
 mod Rising
 mod Room
@@ -38,4 +34,3 @@ mod Steps
 mod Tables
 pub mod Theorems
 mod Words
-mod Worked

@@ -8,7 +8,7 @@ use Rattle.nb_core.specs.States.{primed}
 use Rattle.nb_core.proofs.Frames.{finished, key-first, value_after, value-frame}
 use Rattle.nb_core.proofs.Keeping.{above-primed, sound}
 use Rattle.nb_core.proofs.Lasting.{key-claimed, key-was, put-content, put-number, put-unprimed, value-empty, win-key, win-puts}
-use Rattle.nb_core.proofs.Legality.{number_at, number_left}
+use Rattle.nb_core.proofs.Computed.{number_at, number_left}
 use Rattle.nb_core.proofs.Sound.{IsSound, claimed-same, complete-below, empty-unclaimed, finished-value, one_slot, unprimed-not_final}
 use Rattle.nb_core.proofs.Steps.{Step, step_of}
 use Rattle.nb_core.proofs.Words.{at_slot, same_both}

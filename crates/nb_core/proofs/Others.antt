@@ -16,7 +16,7 @@ use Rattle.nb_core.specs.Laws.{HasOwnStill, IsValueChange, LostExchange, OwnLast
 use Rattle.nb_core.proofs.Lasting.{win-key}
 use Rattle.nb_core.proofs.Later.{seen_lasts}
 use Rattle.nb_core.proofs.Lawful.{lawful_changes}
-use Rattle.nb_core.proofs.Passing.{no_true}
+use Rattle.nb_core.proofs.Computed.{no_true}
 use Rattle.nb_core.proofs.Sound.{one_key}
 use Rattle.nb_core.specs.declared.events.Event.{Event}
 use Rattle.nb_core.specs.declared.events.Event.TheVariants.{Won, CopyIn, Prime, Finish, Count, Read}

@@ -7,7 +7,7 @@ use Rattle.nb_core.specs.Log.{Numbers, changed, holds_of, map_after, reply_at, r
 use Rattle.nb_core.specs.History.{IsExchange, number_in_value, key_of_call, map_of}
 use Rattle.nb_core.specs.Laws.{ReadReplies, WinReplies}
 use Rattle.nb_core.proofs.Keys.{map_in_range}
-use Rattle.nb_core.proofs.Replies.{alone-why, map_after-left}
+use Rattle.nb_core.proofs.Computed.{alone-why, map_after-left}
 use Rattle.nb_core.proofs.Shown.{win_number}
 use Rattle.nb_core.specs.declared.numbers.TheConstants.{VALUE_MAX}
 use Rattle.nb_core.specs.declared.calls.Call.{Call}

@@ -11,7 +11,7 @@ use Rattle.std.specs.List.{list_any, range_with_len}
 use Rattle.nb_core.specs.Plans.{Plan, IsPlan, generations_of, size_of}
 use Rattle.nb_core.specs.Tables.{AreOthers, HasSlot, IsComplete, IsFinishedValue, IsOther, Tables, path_slot, IsPassed, AtSlot, UpToDead, Whole}
 use Rattle.nb_core.specs.Laws.{HasRoom}
-use Rattle.nb_core.proofs.Passing.{below_suc}
+use Rattle.nb_core.proofs.Computed.{below_suc}
 use Rattle.nb_core.proofs.Sound.{IsSound, dead-unclaimed, finished-not_empty, finished-value, no_slot-past, no_slot-whole, one_key, one_slot, path_slot-is_slot}
 use Rattle.nb_core.proofs.Tables.{sizes_never_fall}
 use Rattle.nb_core.specs.declared.states.KeyState.{KeyState}

@@ -6,10 +6,9 @@ use Rattle.nb_core.specs.Tables.{Tables, tables_at}
 use Rattle.nb_core.specs.Meaning.{place_from, place_of, slot_among}
 use Rattle.nb_core.specs.Laws.{HeldHasPlace, IsFirstPlace, PlaceIs}
 use Rattle.nb_core.proofs.Keeping.{sound}
-use Rattle.nb_core.proofs.Legality.{number_at}
+use Rattle.nb_core.proofs.Computed.{number_at, number_at_map}
 use Rattle.nb_core.proofs.Newest.{newest}
 use Rattle.nb_core.proofs.Places.{place_from-first, place_from-found, place_from-next}
-use Rattle.nb_core.proofs.Replies.{number_at_map}
 use Rattle.nb_core.proofs.Shown.{number-none}
 use Rattle.nb_core.proofs.Slots.{Nowhere, Somewhere, slot_among-at, slot_among-is}
 use Rattle.nb_core.proofs.Sound.{HasNoSlot, IsSound, finished-value}

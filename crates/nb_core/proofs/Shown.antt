@@ -9,8 +9,7 @@ use Rattle.nb_core.specs.Laws.{AtEmpty, AtValue, CrowdedAbsent, Decided, InLast,
 use Rattle.nb_core.proofs.Keeping.{sound}
 use Rattle.nb_core.proofs.Lasting.{win-key}
 use Rattle.nb_core.proofs.Newest.{HasNoneFrom, HasNoneFrom-slot, HasNoneFrom-unprimed, HasNoneIn, IsNewest, IsNewestAt, from_suc, newest}
-use Rattle.nb_core.proofs.Passing.{below_suc, no_true}
-use Rattle.nb_core.proofs.Replies.{number_at_map}
+use Rattle.nb_core.proofs.Computed.{below_suc, no_true, number_at_map}
 use Rattle.nb_core.proofs.Room.{crowded-complete_below, passed-settled}
 use Rattle.nb_core.proofs.Slots.{Away, Here, has_slot_or_none, look, value_in-some}
 use Rattle.nb_core.proofs.Sound.{HasNoSlot, IsSound, complete-below, empty-unclaimed, finished-not_empty, finished-value, installed-below, next-within, no_slot-past, no_slot-whole, path_slot-is_slot, primed-growing}

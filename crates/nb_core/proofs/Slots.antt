@@ -4,7 +4,7 @@ use Rattle.std.proofs.lemmas.Bool.{cond_both}
 use Rattle.nb_core.specs.Plans.{Plan, size_of}
 use Rattle.nb_core.specs.Tables.{HasSlot, IsSlot, Tables}
 use Rattle.nb_core.specs.Meaning.{is_claimed_by, slot_among, value_in}
-use Rattle.nb_core.proofs.Passing.{below_suc, is_claimed_by-true, unclaimed}
+use Rattle.nb_core.proofs.Computed.{below_suc, is_claimed_by-true, unclaimed}
 use Rattle.nb_core.proofs.Sound.{HasNoSlot, IsSound, one_slot}
 use Rattle.nb_core.specs.declared.states.KeyState.TheVariants.{Claimed}
 

@@ -4,7 +4,7 @@ use Rattle.std.proofs.lemmas.Bool.{cases_order}
 use Rattle.std.proofs.lemmas.Nat.{mod_below}
 use Rattle.nb_core.specs.Plans.{Plan, IsPlan, generations_of, size_of}
 use Rattle.nb_core.specs.Tables.{AreOthers, HasSlot, IsComplete, IsFinished, IsFinishedValue, IsInstalled, IsOnPath, IsOther, IsSlot, IsUnprimed, Tables, path_slot, HasContent}
-use Rattle.nb_core.proofs.Passing.{below_suc, no_true}
+use Rattle.nb_core.proofs.Computed.{below_suc, no_true}
 use Rattle.nb_core.proofs.Tables.{four-le-size_of}
 use Rattle.nb_core.specs.declared.numbers.TheConstants.{KEY_MAX}
 use Rattle.nb_core.specs.declared.states.KeyState.{KeyState}

@@ -6,7 +6,7 @@ use Rattle.std.proofs.Math.Pow.{pow_mono}
 use Rattle.std.proofs.lemmas.Bool.{cases_order}
 use Rattle.std.proofs.lemmas.List.{take-take}
 use Rattle.std.proofs.lemmas.List.Sums.{sum_by_more, sum_by-take-le}
-use Rattle.nb_core.specs.Plans.{Plan, IsPlan, Word, Top, Header, Key, Value, IsWord, LimitsFit, PlacesAreDistinct, SizesNeverFall, place_of_word, base_of, generations_of, size_of, table_words, word_count}
+use Rattle.nb_core.specs.Plans.{Plan, IsPlan, Word, Top, Header, Key, Value, IsWord, LimitsFit, IndicesAreDistinct, SizesNeverFall, index_of_word, base_of, generations_of, size_of, table_words, word_count}
 
 -- a table begins where the one before it ends
 base_of-suc :
@@ -46,7 +46,7 @@ same_table p g h m n g_within h_within m_within n_within same =
     ]
 
 distinct :
-    (p : Plan) (a b : Word) → IsWord p a → IsWord p b → place_of_word p a ≡ place_of_word p b
+    (p : Plan) (a b : Word) → IsWord p a → IsWord p b → index_of_word p a ≡ index_of_word p b
     → a ≡ b
 distinct p Top Top _ _ _ = refl
 distinct p Top (Header g h) _ _ same = absurd (omega arith)
@@ -84,14 +84,14 @@ distinct p (Value g i) (Value k j) v w same =
     (omega arith) in
     let e : i ≡ j = omega arith in cc
 
-below : (p : Plan) (a : Word) → IsWord p a → place_of_word p a < word_count p
+below : (p : Plan) (a : Word) → IsWord p a → index_of_word p a < word_count p
 below p Top _ = omega arith
 below p (Header g h) w = omega (arith, base_of-end p g (generations_of p) w.0 w.0)
 below p (Key g i) w = omega (arith, base_of-end p g (generations_of p) w.0 w.0)
 below p (Value g i) w = omega (arith, base_of-end p g (generations_of p) w.0 w.0)
 
-pub places_are_distinct : PlacesAreDistinct
-places_are_distinct p _ = record { distinct = distinct p; below = below p }
+pub indices_are_distinct : IndicesAreDistinct
+indices_are_distinct p _ = record { distinct = distinct p; below = below p }
 
 pub sizes_never_fall : SizesNeverFall
 sizes_never_fall p plan g within = pow_mono (plan.never_fall g (suc g) 0 (omega arith) within)

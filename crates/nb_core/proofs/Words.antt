@@ -1,14 +1,13 @@
 -- What one event changes in the words of a chain.
 use Rattle.std.proofs.Common.{◌≡◌, ◌≢◌, ◌∙◌, ℕ, suc, ◌+◌, ◌%◌, ◌^◌, max, bit_or, Bool, true, false, cond, eqb, ◌&&◌, List, [], ◌∷◌, length, slice_index, slice_set, ap, sym, subst, subst₂, inl, inr, refl, arith}
-use Rattle.std.proofs.lemmas.Bool.{cond_both, eq-eqb, eqb-true}
+use Rattle.std.proofs.lemmas.Bool.{and_parts, cond_both, eq-eqb, eqb-true}
 use Rattle.std.proofs.lemmas.Bool.Decides.{eqb_tells}
 use Rattle.std.proofs.lemmas.List.{get_or-set_other, get_or-set_same, get_or-replicate, length-replicate, length-set}
-use Rattle.nb_core.specs.Plans.{Plan, IsPlan, IsWord, Word, Top, Header, Key, Value, place_of_word, word_count}
+use Rattle.nb_core.specs.Plans.{Plan, IsPlan, IsWord, Word, Top, Header, Key, Value, index_of_word, word_count}
 use Rattle.nb_core.specs.States.{key_word, value_word}
 use Rattle.nb_core.specs.Tables.{changed_at, chunk_of, word_step, words_of}
 use Rattle.nb_core.specs.History.{IsInRange}
-use Rattle.nb_core.proofs.Passing.{both}
-use Rattle.nb_core.proofs.Tables.{places_are_distinct}
+use Rattle.nb_core.proofs.Tables.{indices_are_distinct}
 use Rattle.nb_core.specs.declared.events.Event.{Event}
 use Rattle.nb_core.specs.declared.events.Event.TheVariants.{Claim, Kill, Won, CopyIn, Prime, Finish, Install, Take, Count, Promote, Read}
 use Rattle.nb_core.specs.declared.states.KeyState.TheVariants.{Dead, Claimed}
@@ -36,7 +35,7 @@ same_word _ _ = false
 
 -- two tests that pass
 both_same : (a b c d : ℕ) → (eqb a b && eqb c d) ≡ true → (a ≡ b) × (c ≡ d)
-both_same a b c d e = let s = both (eqb a b) (eqb c d) e in (eqb-true a b s.0, eqb-true c d s.1)
+both_same a b c d e = let s = and_parts (eqb a b) (eqb c d) e in (eqb-true a b s.0, eqb-true c d s.1)
 
 -- both tests pass of the same numbers
 pub same_both : (a b : ℕ) → (eqb a a && eqb b b) ≡ true
@@ -80,21 +79,21 @@ at_table P f g here elsewhere =
 word-changed :
     (p : Plan) → IsPlan p → (w : List ℕ) → length w ≡ word_count p → (a b : Word) → IsWord p a
     → IsWord p b
-    → (f : ℕ → ℕ) → let x = slice_index w (place_of_word p b) in
-    slice_index (changed_at w (place_of_word p a) f) (place_of_word p b)
+    → (f : ℕ → ℕ) → let x = slice_index w (index_of_word p b) in
+    slice_index (changed_at w (index_of_word p a) f) (index_of_word p b)
     ≡ cond (same_word a b) (f x) x
 word-changed p plan w length_is a b a_word b_word f =
-    let places = places_are_distinct p plan in
-    let place = place_of_word p in
-    let u = changed_at w (place a) f in
-    let x = slice_index w (place b) in
-    cond_both (same_word a b) (f x) x (λ y. slice_index u (place b) ≡ y)
-    (λ same. subst (λ b. slice_index u (place b) ≡ f (slice_index w (place b)))
+    let indices = indices_are_distinct p plan in
+    let index = index_of_word p in
+    let u = changed_at w (index a) f in
+    let x = slice_index w (index b) in
+    cond_both (same_word a b) (f x) x (λ y. slice_index u (index b) ≡ y)
+    (λ same. subst (λ b. slice_index u (index b) ≡ f (slice_index w (index b)))
     (same_word-true a b same)
-    (get_or-set_same w (place a) (f (slice_index w (place a))) 0
-    (omega (arith, places.below a a_word))))
-    (λ other. get_or-set_other w (place a) (place b) (f (slice_index w (place a))) 0 (λ same.
-    let one : a ≡ b = places.distinct a b a_word b_word (sym same) in
+    (get_or-set_same w (index a) (f (slice_index w (index a))) 0
+    (omega (arith, indices.below a a_word))))
+    (λ other. get_or-set_other w (index a) (index b) (f (slice_index w (index a))) 0 (λ same.
+    let one : a ≡ b = indices.distinct a b a_word b_word (sym same) in
     let t : same_word a b ≡ true = ap (same_word a) (sym one) ∙ same_word-refl a in cc))
 
 -- what an event makes of a word
@@ -115,8 +114,8 @@ module _ (p : Plan) (plan : IsPlan p) (h : List Event) (a : Word) (a_word : IsWo
   -- a word of a history after a change of a word
   word-frame_at :
       (b : Word) → IsWord p b → (f : ℕ → ℕ) → let x =
-      slice_index (words_of p h) (place_of_word p a) in
-      slice_index (changed_at (words_of p h) (place_of_word p b) f) (place_of_word p a)
+      slice_index (words_of p h) (index_of_word p a) in
+      slice_index (changed_at (words_of p h) (index_of_word p b) f) (index_of_word p a)
       ≡ cond (same_word b a) (f x) x
   word-frame_at b b_word f = word-changed p plan (words_of p h) (length-words_of p h)
       b a b_word a_word f
@@ -124,8 +123,8 @@ module _ (p : Plan) (plan : IsPlan p) (h : List Event) (a : Word) (a_word : IsWo
   -- each word after an event
   pub word-frame :
       (e : Event) → IsInRange p e
-      → slice_index (words_of p (e ∷ h)) (place_of_word p a)
-      ≡ word_after p e a (slice_index (words_of p h) (place_of_word p a))
+      → slice_index (words_of p (e ∷ h)) (index_of_word p a)
+      ≡ word_after p e a (slice_index (words_of p h) (index_of_word p a))
   word-frame (Claim s g i k) range = word-frame_at (Key g i) range.1 (λ x. key_word (Claimed k))
   word-frame (Kill s g i) range = word-frame_at (Key g i) range.1 (λ x. key_word Dead)
   word-frame (Won s g i v b c r) range = word-frame_at (Value g i) range.1 (λ x. value_word b)
@@ -143,9 +142,9 @@ module _ (p : Plan) (plan : IsPlan p) (h : List Event) (a : Word) (a_word : IsWo
 -- before any event
 pub word-first :
     (p : Plan) → IsPlan p → (a : Word) → IsWord p a
-    → slice_index (words_of p []) (place_of_word p a) ≡ 0
-word-first p plan a a_word = get_or-replicate (word_count p) (place_of_word p a) 0 0
-    ((places_are_distinct p plan).below a a_word)
+    → slice_index (words_of p []) (index_of_word p a) ≡ 0
+word-first p plan a a_word = get_or-replicate (word_count p) (index_of_word p a) 0 0
+    ((indices_are_distinct p plan).below a a_word)
 
 -- ---- no event changes two words
 

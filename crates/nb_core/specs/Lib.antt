@@ -1,12 +1,10 @@
 pub mod Calls
-pub mod Histories
 pub mod History
 pub mod Laws
 pub mod Log
 pub mod Meaning
 pub mod Mixing
-pub mod Places
+pub mod Layout
 pub mod Plans
-pub mod Refusals
 pub mod States
 pub mod Tables

@@ -62,22 +62,22 @@ abbrev pub word_count : Plan → ℕ
 word_count p = base_of p (generations_of p)
 
 -- which of a table's header words it is
-abbrev pub header_index : HeaderWord → ℕ
-header_index header.Next = 0
-header_index header.Take = 1
-header_index header.Done = 2
+abbrev pub header_number : HeaderWord → ℕ
+header_number header.Next = 0
+header_number header.Take = 1
+header_number header.Done = 2
 
 -- where header word h of table g lies
-abbrev pub header_place : Plan → ℕ → ℕ → ℕ
-header_place p g h = base_of p g + h
+abbrev pub header_index : Plan → ℕ → ℕ → ℕ
+header_index p g h = base_of p g + h
 
 -- where the key word of slot i of table g lies
-abbrev pub key_place : Plan → ℕ → ℕ → ℕ
-key_place p g i = base_of p g + 3 + 2 * i
+abbrev pub key_index : Plan → ℕ → ℕ → ℕ
+key_index p g i = base_of p g + 3 + 2 * i
 
 -- where the value word of slot i of table g lies, right behind its key word
-abbrev pub value_place : Plan → ℕ → ℕ → ℕ
-value_place p g i = key_place p g i + 1
+abbrev pub value_index : Plan → ℕ → ℕ → ℕ
+value_index p g i = key_index p g i + 1
 
 -- the words of a chain, by name
 pub data Word : Type 0 where
@@ -87,11 +87,11 @@ pub data Word : Type 0 where
   Value : (g i : ℕ) → Word
 
 -- where a word lies
-abbrev pub place_of_word : Plan → Word → ℕ
-place_of_word p Top = 0
-place_of_word p (Header g h) = header_place p g h
-place_of_word p (Key g i) = key_place p g i
-place_of_word p (Value g i) = value_place p g i
+abbrev pub index_of_word : Plan → Word → ℕ
+index_of_word p Top = 0
+index_of_word p (Header g h) = header_index p g h
+index_of_word p (Key g i) = key_index p g i
+index_of_word p (Value g i) = value_index p g i
 
 -- the chain has this word
 abbrev pub IsWord : Plan → Word → Type 0
@@ -100,15 +100,15 @@ IsWord p (Header g h) = (g < generations_of p) × (h < 3)
 IsWord p (Key g i) = (g < generations_of p) × (i < size_of p g)
 IsWord p (Value g i) = (g < generations_of p) × (i < size_of p g)
 
--- No two words lie in one place, and each lies below the number of words.
-pub record HasDistinctPlaces (p : Plan) : Type 0 where
-  pub distinct : (a b : Word) → IsWord p a → IsWord p b → place_of_word p a ≡ place_of_word p b
+-- No two words have one index, and each index is below the number of words.
+pub record HasDistinctIndices (p : Plan) : Type 0 where
+  pub distinct : (a b : Word) → IsWord p a → IsWord p b → index_of_word p a ≡ index_of_word p b
       → a ≡ b
-  pub below : (a : Word) → IsWord p a → place_of_word p a < word_count p
+  pub below : (a : Word) → IsWord p a → index_of_word p a < word_count p
 
--- each plan that a shape may be has its words in distinct places
-abbrev pub PlacesAreDistinct : Type 0
-PlacesAreDistinct = (p : Plan) → IsPlan p → HasDistinctPlaces p
+-- each plan that a shape may be has its words at distinct indices
+abbrev pub IndicesAreDistinct : Type 0
+IndicesAreDistinct = (p : Plan) → IsPlan p → HasDistinctIndices p
 
 -- no table is smaller than the one before it
 abbrev pub SizesNeverFall : Type 0

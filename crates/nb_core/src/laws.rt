@@ -41,11 +41,11 @@ ghost use Rattle.nb_core.specs.Laws.{
   WinNumber,
   WinReplies,
 };
-ghost use Rattle.nb_core.specs.Plans.{LimitsFit, PlacesAreDistinct, SizesNeverFall};
+ghost use Rattle.nb_core.specs.Plans.{LimitsFit, IndicesAreDistinct, SizesNeverFall};
 
-/// No two words of a chain lie in one place, and each lies in the chain.
-pub fn places_are_distinct()
-    ensures { PlacesAreDistinct }
+/// No two words of a chain have one index, and each lies in the chain.
+pub fn indices_are_distinct()
+    ensures { IndicesAreDistinct }
 {}
 
 /// No table is smaller than the one before it.

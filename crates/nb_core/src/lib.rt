@@ -1,6 +1,7 @@
 //! The words of a non-blocking hash map from whole numbers to whole numbers: keys and value
-//! numbers, the shape of a chain of tables, calls and what they mean, and a plain map that answers
-//! them one after another.
+//! numbers, the shape of a chain of tables, calls and what they mean, a plain map that answers them
+//! one after another, and the laws of every legal history of atomic steps. What is in `specs/` has
+//! to be believed; examples of histories are in the crate `nb_histories`.
 //!
 //! The design is that of Cliff Click's JavaOne 2007 talk and of `NonBlockingHashMapLong` in
 //! high-scale-lib; the replies are those of `java.util.concurrent.ConcurrentMap`.
@@ -9,12 +10,10 @@
 mod calls;
 mod conversions;
 mod events;
-pub mod examples;
 pub mod laws;
 mod mixing;
 mod numbers;
 mod plain;
-pub mod refusals;
 mod seats;
 mod shapes;
 mod states;

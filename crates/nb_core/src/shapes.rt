@@ -13,12 +13,12 @@ ghost use Rattle.nb_core.specs.Plans.{
   checked_shape,
   generations_of,
   header_index,
-  header_place,
-  key_place,
+  header_number,
+  key_index,
   limit_of,
   seated,
   size_of,
-  value_place,
+  value_index,
   word_count,
 };
 ghost use Rattle.nb_core.specs.Tables.{chunk_of, path_slot};
@@ -110,7 +110,7 @@ impl Model for Shape {
 
     ghost Value = { Plan };
 
-    ghost use Rattle.nb_core.specs.Places.{IsInside, inside_of, plan_of};
+    ghost use Rattle.nb_core.specs.Layout.{IsInside, inside_of, plan_of};
     ghost use Rattle.std.proofs.Common.{sym};
 
     ghost view = { plan_of };
@@ -332,28 +332,28 @@ impl Shape {
         (key.get() as usize).wrapping_add(distance) & self.last_of(g)
     }
 
-    /// The place of a header word of table `g`.
-    pub fn header_place(&self, g: u32, word: HeaderWord) -> usize
+    /// The index of a header word of table `g`.
+    pub fn header_index(&self, g: u32, word: HeaderWord) -> usize
         requires { g < generations_of self.now }
-        ensures { result ≡ header_place self.now g (header_index word) }
+        ensures { result ≡ header_index self.now g (header_number word) }
     {
         self.bases[g as usize] as usize + word as usize
     }
 
-    /// The place of the key word of slot `i` of table `g`.
-    pub fn key_place(&self, g: u32, i: usize) -> usize
+    /// The index of the key word of slot `i` of table `g`.
+    pub fn key_index(&self, g: u32, i: usize) -> usize
         requires table { g < generations_of self.now }
         requires slot { i < size_of self.now g }
-        ensures { result ≡ key_place self.now g i }
+        ensures { result ≡ key_index self.now g i }
     {
         self.bases[g as usize] as usize + 3 + 2 * i
     }
 
-    /// The place of the value word of slot `i` of table `g`, behind its key word.
-    pub fn value_place(&self, g: u32, i: usize) -> usize
+    /// The index of the value word of slot `i` of table `g`, behind its key word.
+    pub fn value_index(&self, g: u32, i: usize) -> usize
         requires table { g < generations_of self.now }
         requires slot { i < size_of self.now g }
-        ensures { result ≡ value_place self.now g i }
+        ensures { result ≡ value_index self.now g i }
     {
         self.bases[g as usize] as usize + 4 + 2 * i
     }

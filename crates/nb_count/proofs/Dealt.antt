@@ -13,15 +13,15 @@ use Rattle.nb_count.specs.declared.counter.CountSeat.TheInside as seat
 
 -- the seat that is dealt next
 module _ (s : seat.Inside) (number : ℕ) (me : s.seat.me ≡ (new_tally number ∷ [], [])) where
-  pub dealt-is_seat : (stripes : ℕ) → s.place ≡ stripe_of stripes number
+  pub dealt-is_seat : (stripes : ℕ) → s.index ≡ stripe_of stripes number
       → s.seat.table_id.words ≡ SPREAD * stripes → IsSeat s
-  dealt-is_seat stripes place words =
+  dealt-is_seat stripes index words =
       let tally : tally_of s.seat.me.0 ≡ new_tally number = ap (λ m. tally_of m.0) me in
       let count : s.seat.table_id.words / SPREAD ≡ stripes
       = ap (λ n. n / SPREAD) words ∙ omega arith in
       record {
         one = me ∙ ap (λ t. (t ∷ [], [])) (sym tally);
-        place = place ∙ (λ i. stripe_of (sym count i) (sym tally i).number);
+        index = index ∙ (λ i. stripe_of (sym count i) (sym tally i).number);
       }
 
   pub dealt-seat_of : seat_of s ≡ new_seat s.seat.table_id number

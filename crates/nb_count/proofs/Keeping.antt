@@ -65,42 +65,42 @@ module _ (z : Size) (s : State (Unit {0}) (List Tally)) (rule : AreSums z s) (id
       omega (arith, ints, sum-after i t (after_add amount t) at, gained z.stripes i t amount)
 
   words-after_add : (t : Tally) (k : ℕ) → k < 2 ^ 64 → get_elem? s.views id ≡ some (t ∷ [])
-      → (place : ℕ) → place ≡ stripe_of z.stripes t.number → (i : ℕ) → i < SPREAD * z.stripes
-      → slice_index (slice_set s.words place ((slice_index s.words place + k) % 2 ^ 64)) i
+      → (index : ℕ) → index ≡ stripe_of z.stripes t.number → (i : ℕ) → i < SPREAD * z.stripes
+      → slice_index (slice_set s.words index ((slice_index s.words index + k) % 2 ^ 64)) i
       ≡ wrapped (total (served z.stripes i)
       (all_of (slice_set s.views id (after_add (cast_signed w64 k) t ∷ []))))
-  words-after_add t k fits at place is i below =
-      elim (eqb_tells i place) [
+  words-after_add t k fits at index is i below =
+      elim (eqb_tells i index) [
         | inl same ↦
-            let within : place < length s.words = omega (arith, rule.words, same.1) in
-            ap (slice_index (slice_set s.words place ((slice_index s.words place + k) % 2 ^ 64)))
+            let within : index < length s.words = omega (arith, rule.words, same.1) in
+            ap (slice_index (slice_set s.words index ((slice_index s.words index + k) % 2 ^ 64)))
             same.1
-            ∙ get_or-set_same s.words place _ 0 within
+            ∙ get_or-set_same s.words index _ 0 within
             ∙ ap (λ n. (n + k) % 2 ^ 64) (ap (slice_index s.words) (sym same.1) ∙ rule.sums i below)
             ∙ wrapped-add (total (served z.stripes i) (all_of s.views)) k fits
             ∙ ap wrapped (sym (sum-here t (cast_signed w64 k) at i (same.1 ∙ is)))
         | inr other ↦
-            get_or-set_other s.words place i _ 0 other.1 ∙ rule.sums i below
+            get_or-set_other s.words index i _ 0 other.1 ∙ rule.sums i below
             ∙ ap wrapped
             (sym (sum-elsewhere t (cast_signed w64 k) at i (λ same. other.1 (same ∙ sym is))))
       ]
 
-  add-keeps : (t : Tally) (k : ℕ) → k < 2 ^ 64 → get_elem? s.views id ≡ some (t ∷ []) → (place : ℕ)
-      → place ≡ stripe_of z.stripes t.number
-      → AreSums z (stepped s place ((slice_index s.words place + k) % 2 ^ 64) id []
+  add-keeps : (t : Tally) (k : ℕ) → k < 2 ^ 64 → get_elem? s.views id ≡ some (t ∷ []) → (index : ℕ)
+      → index ≡ stripe_of z.stripes t.number
+      → AreSums z (stepped s index ((slice_index s.words index + k) % 2 ^ 64) id []
       (after_add (cast_signed w64 k) t ∷ []) keeps)
-  add-keeps t k fits at place is = record {
-    words = length-set s.words place _ ∙ rule.words;
-    sums = words-after_add t k fits at place is;
+  add-keeps t k fits at index is = record {
+    words = length-set s.words index _ ∙ rule.words;
+    sums = words-after_add t k fits at index is;
     seats = seats-after t (after_add (cast_signed w64 k) t) at;
   }
 
   -- a look leaves each word, and what each seat has added
-  look-keeps : (t : Tally) → get_elem? s.views id ≡ some (t ∷ []) → (place : ℕ)
-      → AreSums z (stepped s place (slice_index s.words place) id [] (after_look t ∷ []) keeps)
-  look-keeps t at place = record {
-    words = length-set s.words place _ ∙ rule.words;
-    sums = λ i below. ap (λ w. slice_index w i) (set-get_or s.words place 0) ∙ rule.sums i below
+  look-keeps : (t : Tally) → get_elem? s.views id ≡ some (t ∷ []) → (index : ℕ)
+      → AreSums z (stepped s index (slice_index s.words index) id [] (after_look t ∷ []) keeps)
+  look-keeps t at index = record {
+    words = length-set s.words index _ ∙ rule.words;
+    sums = λ i below. ap (λ w. slice_index w i) (set-get_or s.words index 0) ∙ rule.sums i below
         ∙ ap wrapped (omega (arith, ints, sum-after i t (after_look t) at));
     seats = seats-after t (after_look t) at;
   }
@@ -108,33 +108,33 @@ module _ (z : Size) (s : State (Unit {0}) (List Tally)) (rule : AreSums z s) (id
 -- ---- what each move asks
 
 pub allows-add :
-    (z : Size) (slots id : ℕ) (me : Me (Unit {0}) (List Tally)) (t : Tally) (k place : ℕ)
-    → me ≡ (t ∷ [], []) → k < 2 ^ 64 → place ≡ stripe_of z.stripes t.number
-    → Allows (AreSums z) slots id me place (λ n. (n + k) % 2 ^ 64)
-    (HasAdded (step slots place k 0 none) me)
-allows-add z slots id me t k place one fits is =
-    subst (λ m. Allows (AreSums z) slots id m place (λ n. (n + k) % 2 ^ 64)
-    (HasAdded (step slots place k 0 none) m)) (sym one)
+    (z : Size) (slots id : ℕ) (me : Me (Unit {0}) (List Tally)) (t : Tally) (k index : ℕ)
+    → me ≡ (t ∷ [], []) → k < 2 ^ 64 → index ≡ stripe_of z.stripes t.number
+    → Allows (AreSums z) slots id me index (λ n. (n + k) % 2 ^ 64)
+    (HasAdded (step slots index k 0 none) me)
+allows-add z slots id me t k index one fits is =
+    subst (λ m. Allows (AreSums z) slots id m index (λ n. (n + k) % 2 ^ 64)
+    (HasAdded (step slots index k 0 none) m)) (sym one)
     (λ s rule homes at word. (
       after_add (cast_signed w64 k) t ∷ [],
       keeps,
       tt,
-      add-keeps z s rule id t k fits at place is,
+      add-keeps z s rule id t k fits at index is,
       refl,
     ))
 
 pub allows-look :
-    (z : Size) (slots id : ℕ) (me : Me (Unit {0}) (List Tally)) (t : Tally) (place : ℕ)
-    → me ≡ (t ∷ [], []) → Allows (AreSums z) slots id me place (λ n. n)
-    (HasLooked (step slots place 0 0 none) me)
-allows-look z slots id me t place one =
-    subst (λ m. Allows (AreSums z) slots id m place (λ n. n)
-    (HasLooked (step slots place 0 0 none) m)) (sym one)
+    (z : Size) (slots id : ℕ) (me : Me (Unit {0}) (List Tally)) (t : Tally) (index : ℕ)
+    → me ≡ (t ∷ [], []) → Allows (AreSums z) slots id me index (λ n. n)
+    (HasLooked (step slots index 0 0 none) me)
+allows-look z slots id me t index one =
+    subst (λ m. Allows (AreSums z) slots id m index (λ n. n)
+    (HasLooked (step slots index 0 0 none) m)) (sym one)
     (λ s rule homes at word. (
       after_look t ∷ [],
       keeps,
       tt,
-      look-keeps z s rule id t at place,
+      look-keeps z s rule id t at index,
       refl,
     ))
 

@@ -15,18 +15,18 @@ pub own-table :
     → s.seat.table_id ≡ c.table.shared.table_id
 own-table c s whole one c_is s_is own = ap (λ v. v.counter) s_is ∙ own ∙ sym (ap (λ v. v.id) c_is)
 
--- and its place is that of one of the counter's stripes
-pub own-place :
+-- and its index is that of one of the counter's stripes
+pub own-index :
     (c : counter.Inside) (s : seat.Inside) → IsCounter c → IsSeat s
-    → s.seat.table_id ≡ c.table.shared.table_id → (s.place < c.table.shared.table_id.words)
-    × (s.place ≡ stripe_of c.table.shared.key.stripes (tally_of s.seat.me.0).number)
-own-place c s is_counter is_seat same =
+    → s.seat.table_id ≡ c.table.shared.table_id → (s.index < c.table.shared.table_id.words)
+    × (s.index ≡ stripe_of c.table.shared.key.stripes (tally_of s.seat.me.0).number)
+own-index c s is_counter is_seat same =
     let number = (tally_of s.seat.me.0).number in
     let stripes : s.seat.table_id.words / SPREAD ≡ c.size.stripes = ap (λ t. t.words / SPREAD) same
     ∙ ap (λ n. n / SPREAD) is_counter.words ∙ omega arith in
-    let place : s.place ≡ stripe_of c.size.stripes number = is_seat.place
+    let index : s.index ≡ stripe_of c.size.stripes number = is_seat.index
     ∙ ap (λ n. stripe_of n number) stripes in (
       omega (arith, mod-lt number is_counter.some, is_counter.words),
-      place
+      index
           ∙ ap (λ z. stripe_of z.stripes number) (sym is_counter.key),
     )

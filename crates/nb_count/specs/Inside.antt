@@ -37,7 +37,7 @@ seat_with counter t =
 abbrev pub seat_of : seat.Inside → CountSeatOf
 seat_of c = seat_with c.seat.table_id (tally_of c.seat.me.0)
 
--- the seat knows one tally, and the place of its stripe
+-- the seat knows one tally, and the index of its stripe
 pub record IsSeat (c : seat.Inside) : Type 0 where
   pub one : c.seat.me ≡ (tally_of c.seat.me.0 ∷ [], [])
-  pub place : c.place ≡ stripe_of (c.seat.table_id.words / SPREAD) (tally_of c.seat.me.0).number
+  pub index : c.index ≡ stripe_of (c.seat.table_id.words / SPREAD) (tally_of c.seat.me.0).number

@@ -19,13 +19,13 @@ abbrev pub total : {X : Type 0} → (X → ℤ) → List X → ℤ
 total f [] = pos 0
 total f (x ∷ xs) = f x +ℤ total f xs
 
--- the place of the stripe of a seat with this number, of so many stripes
+-- the index of the stripe of a seat with this number, of so many stripes
 abbrev pub stripe_of : ℕ → ℕ → ℕ
 stripe_of stripes number = SPREAD * (number % stripes)
 
--- what a seat has added, if this is its stripe's place, of so many stripes
+-- what a seat has added, if this is its stripe's index, of so many stripes
 abbrev pub served : ℕ → ℕ → Tally → ℤ
-served stripes place t = if stripe_of stripes t.number == place then t.added else pos 0
+served stripes index t = if stripe_of stripes t.number == index then t.added else pos 0
 
 -- the tally of a seat that has made no step
 abbrev pub new_tally : ℕ → Tally

@@ -52,7 +52,7 @@ impl Model for Counter {
 /// change no word.
 #[derive(Drop)]
 pub struct CountSeat {
-    place: usize,
+    index: usize,
     seat: Seat<(), Tallies>,
 }
 
@@ -90,8 +90,8 @@ impl Counter {
         let counter = Counter { table, size };
         for number in 0..seats {
             let seat = counter.table.shared.split_seat::<Deal>(&mut rest);
-            let place = SPREAD * (number % stripes);
-            dealt.push_reserved(CountSeat { place, seat });
+            let index = SPREAD * (number % stripes);
+            dealt.push_reserved(CountSeat { index, seat });
         }
         Ok((counter, dealt))
     }
@@ -103,7 +103,7 @@ impl Counter {
         ensures added { seat.new ≡ with_added amount seat.old }
     {
         let words = &self.table.shared;
-        words.fetch_add::<Adds>(&mut seat.seat, seat.place, amount.cast_unsigned());
+        words.fetch_add::<Adds>(&mut seat.seat, seat.index, amount.cast_unsigned());
     }
 
     /// The sum of the stripes, modulo 2^64, looked at one after another. It changes no word: each
@@ -161,10 +161,10 @@ impl Counter {
     {
         let mut seats = seats;
         let last = seats.pop().unwrap();
-        let CountSeat { place: _, mut seat } = last;
+        let CountSeat { index: _, mut seat } = last;
         while let Some(other) = seats.pop() {
             let CountSeat {
-                place: _,
+                index: _,
                 seat: other,
             } = other;
             self.table.shared.join_seat::<Gather>(&mut seat, other);

@@ -3,21 +3,22 @@ use Rattle.std.proofs.Common.{◌≡◌, ◌<◌, ℕ, List, [], Option, Some, N
 use Rattle.nb_core.specs.declared.calls.Call.TheVariants as call
 use Rattle.nb_map.specs.Logs.{HasLogged}
 use Rattle.nb_map.specs.Maps.{HasWorked, IsMine, MapOf, SeatOf}
-use Rattle.nb_map.specs.Walks.{HasRead, HasWalked, IsUnderway, IsWalkOf, WalkOf, begun_by, passing_steps, slots_ahead, with_shown}
+use Rattle.nb_map.specs.Walks.{HasRead, HasWalked, IsUnderway, IsWalkOf, WalkOf, begun_by, with_shown}
+use Rattle.nb_map.specs.Steps.{passing_steps, slots_ahead}
 use Rattle.nb_map.specs.Walks.IsUnderway.{Begun, Ended, Showed}
 use Rattle.nb_table.specs.Chains.{Extended}
-use Rattle.nb_ffi.specs.Handles.{HeldOf}
+use Rattle.nb_ffi.specs.Handles.{SessionOf}
 use Rattle.nb_ffi.specs.Walking.{HasBegun, HasNext, HasNextOf}
 use Rattle.nb_ffi.proofs.Going.{gone-on, going}
 use Rattle.nb_ffi.proofs.Walking.{looked}
 
 -- the handle with this seat and walk
-abbrev pub walking : HeldOf → SeatOf → WalkOf → HeldOf
-walking held seat walk = going held seat (Some walk)
+abbrev pub walking : SessionOf → SeatOf → WalkOf → SessionOf
+walking session seat walk = going session seat (Some walk)
 
 -- a walk that the map has begun, the handle has
 pub begun :
-    {m : MapOf} {after : SeatOf} {walk : WalkOf} (old : HeldOf) → m ≡ old.map
+    {m : MapOf} {after : SeatOf} {walk : WalkOf} (old : SessionOf) → m ≡ old.map
     → HasLogged old.seat after [] → Extended m.chain.shape old.seat.chain after.chain [] 1
     → after.count ≡ old.seat.count → walk ≡ begun_by m after → IsWalkOf m after walk
     → IsMine m after
@@ -45,7 +46,7 @@ underway-on (Some pair) own read walked pairs underway = Showed underway own rea
 
 -- a walk that the map has taken on, the handle has
 pub walked-on :
-    {m : MapOf} {after : SeatOf} {walk walk' : WalkOf} {shown : Option (ℕ × ℕ)} (old : HeldOf)
+    {m : MapOf} {after : SeatOf} {walk walk' : WalkOf} {shown : Option (ℕ × ℕ)} (old : SessionOf)
     → m ≡ old.map → old.walk ≡ Some walk → IsMine m after → HasRead old.seat after shown
     → HasWalked m.chain.shape old.seat after walk walk' shown
     → ((key : ℕ) → HasWorked m (call.Get key) old.seat after

@@ -13,9 +13,9 @@ use Rattle.nb_map.proofs.map.Map.TheSendSync as map
 use Rattle.nb_map.proofs.map.Seat.TheSendSync as seat
 use Rattle.nb_map.specs.contracts.map.Map as Map
 use Rattle.nb_map.specs.contracts.map.Seat as Seat
-use Rattle.nb_map.specs.contracts.walk.Walk as Walk
-use Rattle.nb_ffi.specs.contracts.held.Held as Held
-use Rattle.nb_ffi.specs.contracts.held.Held.TheInside as Inside
+use Rattle.nb_map.specs.contracts.map.walks.Walk as Walk
+use Rattle.nb_ffi.specs.contracts.session.Session as Session
+use Rattle.nb_ffi.specs.contracts.session.Session.TheInside as Inside
 
 walk_send : IsSend Walk.the_row
 walk_send = search rules
@@ -35,5 +35,5 @@ inside_send = recorded_send (Inside.the_field).row _ _ (Inside.the_type).to_one
       ),
     ))
 
-pub held_send : IsSend Held.the_row
-held_send = view_send Inside.the_row _ _ _ _ inside_send
+pub session_send : IsSend Session.the_row
+session_send = view_send Inside.the_row _ _ _ _ inside_send

@@ -1,6 +1,6 @@
 -- A handle that has lent what it stands for.
 use Rattle.std.proofs.Common.{◌≡◌, Some, ap, sym}
-use Rattle.nb_ffi.specs.EndedLending.{with_left}
+use Rattle.nb_ffi.specs.Lending.{with_left}
 use Rattle.nb_ffi.specs.declared.ended_handle.EndedHandle.{EndedHandle}
 use Rattle.nb_ffi.specs.declared.ended_map.EndedMap.{EndedMap}
 

@@ -3,6 +3,10 @@ mod Crossing
 mod EndedBox
 mod Gathering
 mod Going
+mod HandleBox
+mod HandleEmpty
+mod HandleLend
+mod HandleMove
 mod Lending
 mod Putting
 mod SeatBox

@@ -4,14 +4,15 @@ use Rattle.nb_core.specs.declared.calls.Call.{Call}
 use Rattle.nb_core.specs.declared.calls.Reply.{Reply}
 use Rattle.nb_map.specs.Logs.{HasLogged, HasReplied}
 use Rattle.nb_map.specs.Maps.{HasWorked, IsMine, MapOf, SeatOf}
-use Rattle.nb_map.specs.Refusing.{IsJust, put_steps}
-use Rattle.nb_map.specs.Writing.{IsShortAtHome, passed_since}
-use Rattle.nb_map.specs.declared.write.PutFault.{PutFault}
+use Rattle.nb_map.specs.Refusals.{IsJust}
+use Rattle.nb_map.specs.Steps.{put_steps}
+use Rattle.nb_map.specs.Progress.{IsShortAtHome, passed_since}
+use Rattle.nb_map.specs.declared.faults.PutFault.{PutFault}
 use Rattle.nb_map.proofs.Theorems.{walk_lasts}
 use Rattle.nb_ffi.proofs.Going.{kept}
-use Rattle.nb_ffi.specs.Handles.{HasPut, HasRefused, HeldOf, with_seat}
+use Rattle.nb_ffi.specs.Handles.{HasPut, HasRefused, SessionOf, with_seat}
 
-module _ {m : MapOf} {c : Call} {t : ℕ} {after : SeatOf} (old : HeldOf) (tries : ℕ)
+module _ {m : MapOf} {c : Call} {t : ℕ} {after : SeatOf} (old : SessionOf) (tries : ℕ)
     (is : m ≡ old.map) (most : t ≡ max tries 1) (own : IsMine m after)
     (short : IsShortAtHome m.chain.shape c old.seat.chain after.chain)
     (worked : HasWorked m c old.seat after

@@ -1,21 +1,28 @@
--- A handle and its parts own what a box at the same types owns.
-use mir.Syntax.{impl, tnil, dnil}
-use mathlib.Core.List.{[]}
-use denote.Signature.{Slot, plain}
-use Rattle.std_alloc.proofs.BoxSteps.Form.{Bx}
-use Rattle.std_heap.specs.contracts.Global as Heap
-use Rattle.std_heap.specs.contracts.GlobalAllocator.TheImpl.{ghosts, dict}
-use Rattle.std_heap.proofs.Global.TheLaws as heap
-use Rattle.nb_ffi.specs.contracts.held.Held as Held
-use Rattle.nb_ffi.proofs.held.Held.TheLaws as held
-use Rattle.nb_ffi.specs.contracts.parts.Parts as Parts
+-- The handle of a session as a box.
+use mathlib.Core.Path.{refl}
+use Rattle.nb_ffi.proofs.HandleBox.{Handle}
+use Rattle.nb_ffi.proofs.session.Session.TheLaws as session
 use Rattle.nb_ffi.specs.contracts.seat_handle.SeatHandle as SeatHandle
+use Rattle.nb_ffi.specs.contracts.session.Session as Session
 
-abbrev pub E : Bx
-E = record { row = Held.the_row; laws = held.the_row_laws; al = record { row = Heap.the_row; laws = heap.the_row_laws; g = ghosts; d = dict; drops = impl [] tnil dnil } }
-
-abbrev pub FromParts : Slot 0
-FromParts = plain (λ _. Parts.the_row Held.the_row Heap.the_row ghosts)
-
-abbrev pub FromHandle : Slot 0
-FromHandle = plain (λ _. SeatHandle.the_row)
+abbrev pub seat : Handle
+seat =
+    record {
+      row = SeatHandle.the_row;
+      name = SeatHandle.the_type.name;
+      type = Session.the_row;
+      laws = session.the_row_laws;
+      make = λ p a v. record { ptr = p; alloc = a; session = v };
+      ptr = λ h. h.ptr;
+      alloc = λ h. h.alloc;
+      value = λ h. h.session;
+      is_pair = refl;
+      is_made = λ h. refl;
+      has_value = λ p a v. refl;
+      full_owns = λ p a w vs. refl;
+      empty_owns = λ a vs. refl;
+      parts_own = λ x vs. refl;
+      last = λ h. tt;
+      leaves_none = λ h f. refl;
+      value_lies = λ w b o. refl;
+    }

@@ -10,8 +10,9 @@ use Rattle.nb_core.specs.declared.calls.Want.TheVariants as want
 use Rattle.nb_core.specs.declared.numbers.TheConstants.{KEY_MAX, VALUE_MAX}
 use Rattle.nb_core.specs.declared.shapes.ShapeFault.{ShapeFault}
 use Rattle.nb_core.specs.declared.shapes.ShapeFault.TheVariants as shape
-use Rattle.nb_map.specs.declared.write.PutFault.{PutFault}
-use Rattle.nb_map.specs.declared.write.PutFault.TheVariants as fault
+use Rattle.nb_map.specs.declared.faults.PutFault.{PutFault}
+use Rattle.nb_map.specs.declared.faults.PutFault.TheVariants as fault
+use Rattle.nb_ffi.specs.Checking.{and_then, map_ok}
 use Rattle.nb_ffi.specs.declared.codes.WriteAsked.{WriteAsked}
 use Rattle.nb_ffi.specs.declared.codes.WriteReply.{WriteReply}
 use Rattle.nb_ffi.specs.declared.codes.TheConstants.{ADD, ANY, EQUAL, PUT, REMOVE, WANT_ABSENT, WANT_PRESENT, E_CHANGE, E_CHUNK, E_CONTENDED, E_EXPONENTS, E_FALLING, E_FULL, E_KEY_RANGE, E_REPROBES, E_SEATS, E_STRIPES, E_SUM_RANGE, E_TABLES, E_VALUE_RANGE, E_WANT}
@@ -34,60 +35,40 @@ fault_code fault.Contended = E_CONTENDED
 fault_code fault.ValueRange = E_SUM_RANGE
 
 -- the key of a number, or the code that it is none
-abbrev pub key_told : ℕ → Result ℕ ℤ
-key_told key = if nat_le key KEY_MAX then Ok key else Err E_KEY_RANGE
+abbrev pub checked_key : ℕ → Result ℕ ℤ
+checked_key key = if nat_le key KEY_MAX then Ok key else Err E_KEY_RANGE
 
 -- the value number of a number, or the code that it is none
-abbrev pub number_told : ℕ → Result ℕ ℤ
-number_told number = if nat_le number VALUE_MAX then Ok number else Err E_VALUE_RANGE
-
--- the same as a condition, and as changes
-abbrev pub equal_told : Result ℕ ℤ → Result Want ℤ
-equal_told (Ok number) = Ok (want.Equal number)
-equal_told (Err code) = Err code
-
-abbrev pub put_told : Result ℕ ℤ → Result Change ℤ
-put_told (Ok number) = Ok (change.Put number)
-put_told (Err code) = Err code
-
-abbrev pub add_told : Result ℕ ℤ → Result Change ℤ
-add_told (Ok number) = Ok (change.Add number)
-add_told (Err code) = Err code
+abbrev pub checked_number : ℕ → Result ℕ ℤ
+checked_number number = if nat_le number VALUE_MAX then Ok number else Err E_VALUE_RANGE
 
 -- The condition of a code: nothing, that there is no number at the key, that there is one, or that
 -- it is this number.
-abbrev pub want_told : ℕ → ℕ → Result Want ℤ
-want_told code number =
+abbrev pub checked_want : ℕ → ℕ → Result Want ℤ
+checked_want code number =
     if code == ANY then Ok want.Any
     else if code == WANT_ABSENT then Ok want.Absent
     else if code == WANT_PRESENT then Ok want.Present
-    else if code == EQUAL then equal_told (number_told number)
+    else if code == EQUAL then map_ok want.Equal (checked_number number)
     else Err E_WANT
 
 -- The change of a code: it puts the number, takes the key out, or adds the number.
-abbrev pub change_told : ℕ → ℕ → Result Change ℤ
-change_told code number =
-    if code == PUT then put_told (number_told number)
+abbrev pub checked_change : ℕ → ℕ → Result Change ℤ
+checked_change code number =
+    if code == PUT then map_ok change.Put (checked_number number)
     else if code == REMOVE then Ok change.Remove
-    else if code == ADD then add_told (number_told number)
+    else if code == ADD then map_ok change.Add (checked_number number)
     else Err E_CHANGE
 
--- the write of a key, a condition and a change, or the first code that one of them is none
-abbrev pub write_told : Result ℕ ℤ → Result Want ℤ → Result Change ℤ → Result Call ℤ
-write_told (Ok key) (Ok want) (Ok change) = Ok (call.Write key want change)
-write_told (Ok key) (Ok want) (Err code) = Err code
-write_told (Ok key) (Err code) change = Err code
-write_told (Err code) want change = Err code
+-- the write that C asks for by these codes and numbers, or the first code that one of them is none
+abbrev pub checked_call : (key want old change number : ℕ) → Result Call ℤ
+checked_call key want old change number =
+    and_then (checked_key key) (λ the_key. and_then (checked_want want old) (λ the_want.
+    map_ok (call.Write the_key the_want) (checked_change change number)))
 
--- the write that C asks for by these codes and numbers
-abbrev pub call_told : (key want old change number : ℕ) → Result Call ℤ
-call_told key want old change number =
-    write_told (key_told key) (want_told want old) (change_told change number)
-
--- the same, of the write that was found
-abbrev pub asked_call : Result WriteAsked ℤ → Result Call ℤ
-asked_call (Ok asked) = Ok (call.Write asked.key asked.want asked.change)
-asked_call (Err code) = Err code
+-- the call that a write is
+abbrev pub write_of : WriteAsked → Call
+write_of asked = call.Write asked.key asked.want asked.change
 
 -- a truth in C
 abbrev pub truth_in_c : Bool → ℕ

@@ -5,57 +5,60 @@ use Rattle.nb_core.specs.declared.calls.Call.{Call}
 use Rattle.nb_core.specs.declared.calls.Call.TheVariants as call
 use Rattle.nb_core.specs.declared.calls.Reply.{Reply}
 use Rattle.nb_map.specs.Logs.{HasLogged, HasReplied, HaveEmptyLogs}
-use Rattle.nb_map.specs.Looking.{IsSeenAtHome, get_steps}
+use Rattle.nb_map.specs.Progress.{IsSeenAtHome}
+use Rattle.nb_map.specs.Steps.{get_steps}
 use Rattle.nb_map.specs.Maps.{AreMine, HasWorked, IsMine, MapOf, SeatOf, new_seats}
-use Rattle.nb_map.specs.Refusing.{IsJust, put_steps}
-use Rattle.nb_map.specs.Writing.{IsShortAtHome, passed_since}
-use Rattle.nb_map.specs.declared.write.PutFault.{PutFault}
+use Rattle.nb_map.specs.Refusals.{IsJust}
+use Rattle.nb_map.specs.Steps.{put_steps}
+use Rattle.nb_map.specs.Progress.{IsShortAtHome, passed_since}
+use Rattle.nb_map.specs.declared.faults.PutFault.{PutFault}
 use Rattle.nb_core.specs.Plans.{IsPlan, Plan}
 use Rattle.nb_map.specs.Walks.{IsLater, IsUnderway, WalkOf}
 
--- what a handle stands for: the map that it is of, its seat, the seats that it has in reserve, and
--- the walk that its seat has begun, if it has
-pub record HeldOf : Type 0 where
+-- A session, which a handle stands for: the map that it is of, its seat, the seats that it has in
+-- reserve, and the walk that its seat has begun, if it has.
+pub record SessionOf : Type 0 where
   pub map : MapOf
   pub seat : SeatOf
   pub spare : List SeatOf
   pub walk : Option WalkOf
 
 -- the shape of its map
-abbrev pub plan_of : HeldOf → Plan
-plan_of held = held.map.chain.shape
+abbrev pub plan_of : SessionOf → Plan
+plan_of session = session.map.chain.shape
 
 -- the same with another seat
-abbrev pub with_seat : HeldOf → SeatOf → HeldOf
-with_seat held seat =
-    record { map = held.map; seat = seat; spare = held.spare; walk = held.walk }
+abbrev pub with_seat : SessionOf → SeatOf → SessionOf
+with_seat session seat =
+    record { map = session.map; seat = seat; spare = session.spare; walk = session.walk }
 
 -- all seats that a handle has
-abbrev pub all_seats : HeldOf → List SeatOf
-all_seats held = held.spare ++ held.seat ∷ []
+abbrev pub all_seats : SessionOf → List SeatOf
+all_seats session = session.spare ++ session.seat ∷ []
 
 -- the handle stands for something
-abbrev pub IsOpen : Option HeldOf → Type 0
-IsOpen handle = (held : HeldOf) × (handle ≡ Some held)
+abbrev pub IsOpen : Option SessionOf → Type 0
+IsOpen handle = (session : SessionOf) × (handle ≡ Some session)
 
--- the handle was open and is, and this is so of what it stood for and what it stands for
-pub record Turned (before after : Option HeldOf) (P : HeldOf → HeldOf → Type 0) : Type 0 where
-  pub old : HeldOf
-  pub new : HeldOf
+-- the handle was open and is, and its session has changed like this
+pub record StaysOpen (before after : Option SessionOf) (Change : SessionOf → SessionOf → Type 0) :
+    Type 0 where
+  pub old : SessionOf
+  pub new : SessionOf
   pub was : before ≡ Some old
   pub is : after ≡ Some new
-  pub holds : P old new
+  pub holds : Change old new
 
 -- The handle's seat has gone on: it is the map's, it has its number, and it has forgotten nothing.
 -- The handle is of the same map, and has the same seats in reserve.
-pub record HasGoneOn (before after : HeldOf) : Type 0 where
+pub record HasGoneOn (before after : SessionOf) : Type 0 where
   pub own : IsMine after.map after.seat
   pub later : IsLater before.seat after.seat
   pub map : after.map ≡ before.map
   pub spare : after.spare ≡ before.spare
 
 -- The same, and its walk is where it was. A walk that was underway is so still.
-pub record KeepsRest (before after : HeldOf) : Type 0 where
+pub record KeepsRest (before after : SessionOf) : Type 0 where
   pub on : HasGoneOn before after
   pub walk : after.walk ≡ before.walk
   pub underway :
@@ -63,7 +66,7 @@ pub record KeepsRest (before after : HeldOf) : Type 0 where
       → IsUnderway after.map after.seat walk pairs
 
 -- The seat has read this at a key, with its bound of steps: at most three where the key is at home.
-pub record HasGot (key : ℕ) (number : Option ℕ) (before after : HeldOf) : Type 0 where
+pub record HasGot (key : ℕ) (number : Option ℕ) (before after : SessionOf) : Type 0 where
   pub replied : HasReplied (call.Get key) before.seat after.seat (reply_at (call.Get key) number)
   pub worked :
       HasWorked before.map (call.Get key) before.seat after.seat (get_steps (plan_of before))
@@ -73,13 +76,13 @@ pub record HasGot (key : ℕ) (number : Option ℕ) (before after : HeldOf) : Ty
   pub rest : KeepsRest before after
 
 -- the most steps of a write, which has one try at least
-abbrev pub write_steps : Call → (tries : ℕ) → (before after : HeldOf) → ℕ
+abbrev pub write_steps : Call → (tries : ℕ) → (before after : SessionOf) → ℕ
 write_steps c tries before after = put_steps (plan_of before)
     (min (max tries 1) (passed_since c before.seat.chain after.seat.chain + 1))
 
 -- The seat has made this write with this reply, in at most so many steps: few where it is alone
 -- with its key, and the key is at home.
-pub record HasPut (c : Call) (tries : ℕ) (reply : Reply) (before after : HeldOf) : Type 0 where
+pub record HasPut (c : Call) (tries : ℕ) (reply : Reply) (before after : SessionOf) : Type 0 where
   pub replied : HasReplied c before.seat after.seat reply
   pub worked :
       HasWorked before.map c before.seat after.seat (write_steps c tries before after)
@@ -88,7 +91,7 @@ pub record HasPut (c : Call) (tries : ℕ) (reply : Reply) (before after : HeldO
 
 -- The seat has made no call, and that this write was refused is just. It took no more steps than
 -- one that is made.
-pub record HasRefused (c : Call) (tries : ℕ) (fault : PutFault) (before after : HeldOf) :
+pub record HasRefused (c : Call) (tries : ℕ) (fault : PutFault) (before after : SessionOf) :
     Type 0 where
   pub logged : HasLogged before.seat after.seat []
   pub just :
@@ -99,17 +102,17 @@ pub record HasRefused (c : Call) (tries : ℕ) (fault : PutFault) (before after 
   pub rest : KeepsRest before after
 
 -- a handle of a new map of this shape, which has all its seats; no call was made before
-pub record IsNew (p : Plan) (held : HeldOf) : Type 0 where
-  pub shape : plan_of held ≡ p
+pub record IsNew (p : Plan) (session : SessionOf) : Type 0 where
+  pub shape : plan_of session ≡ p
   pub plan : IsPlan p
-  pub counter : (held.map.counter.stripes ≡ p.stripes) × (held.map.counter.seats ≡ p.seats)
-  pub own : AreMine held.map (all_seats held)
-  pub seats : all_seats held ≡ new_seats held.map p.seats
-  pub logs : HaveEmptyLogs (all_seats held)
-  pub walk : held.walk ≡ None
+  pub counter : (session.map.counter.stripes ≡ p.stripes) × (session.map.counter.seats ≡ p.seats)
+  pub own : AreMine session.map (all_seats session)
+  pub seats : all_seats session ≡ new_seats session.map p.seats
+  pub logs : HaveEmptyLogs (all_seats session)
+  pub walk : session.walk ≡ None
 
 -- a handle was split: another one of the same map has the last seat in reserve
-pub record IsPartOf (before after other : HeldOf) : Type 0 where
+pub record IsPartOf (before after other : SessionOf) : Type 0 where
   pub map : after.map ≡ before.map
   pub other_map : other.map ≡ before.map
   pub seat : after.seat ≡ before.seat

@@ -1,7 +1,7 @@
 -- What a program of C was compiled with.
 use Rattle.std.specs.Prelude.{◌==◌, ◌&&◌, ℤ, Bool, nat_le, if◌then◌else◌, Result, Err}
 use Rattle.nb_core.specs.Plans.{Plan}
-use Rattle.nb_ffi.specs.Shapes.{plan_told}
+use Rattle.nb_ffi.specs.Shapes.{checked_shape}
 use Rattle.nb_ffi.specs.declared.codes.TheConstants.{E_VERSION}
 use Rattle.nb_ffi.specs.declared.header.Header.{Header}
 use Rattle.nb_ffi.specs.declared.header.TheConstants.{ENTRY_SIZE, HANDLE_SIZE, REPLY_SIZE, SHAPE_SIZE, VERSION}
@@ -11,11 +11,11 @@ use Rattle.nb_ffi.specs.declared.map_shape.MapShape.{MapShape}
 -- and writes. A handle may be larger, since the library has its first word alone.
 abbrev pub is_ours : Header → Bool
 is_ours header =
-    (header.version == VERSION) && ((header.shape == SHAPE_SIZE) && ((header.reply == REPLY_SIZE)
-    && ((header.entry == ENTRY_SIZE)
-    && (nat_le HANDLE_SIZE header.seat && nat_le HANDLE_SIZE header.ended))))
+    (header.version == VERSION) && (header.shape == SHAPE_SIZE) && (header.reply == REPLY_SIZE)
+    && (header.entry == ENTRY_SIZE) && nat_le HANDLE_SIZE header.seat
+    && nat_le HANDLE_SIZE header.ended
 
 -- the plan of a shape that a program with this header asks for, or the code of the first thing that
 -- is wrong: that of another header comes before all else
 abbrev pub plan_asked : Header → MapShape → Result Plan ℤ
-plan_asked header shape = if is_ours header then plan_told shape else Err E_VERSION
+plan_asked header shape = if is_ours header then checked_shape shape else Err E_VERSION

@@ -2,10 +2,9 @@ pub mod Handles
 pub mod Headers
 pub mod Looks
 pub mod Inside
-pub mod SeatOwning
-pub mod SeatLending
-pub mod EndedOwning
-pub mod EndedLending
+pub mod Owning
+pub mod Lending
+pub mod Checking
 pub mod Codes
 pub mod Shapes
 pub mod Closing

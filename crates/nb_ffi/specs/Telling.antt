@@ -1,17 +1,15 @@
 -- What the exports come to, by their codes.
 use Rattle.std.specs.Prelude.{◌≡◌, ◌++◌, ◌⊎◌, ℕ, ℤ, [], Option, Some, None, Result, Ok, Err}
 use Rattle.std.specs.FinMap as numbers
-use Rattle.nb_core.specs.Log.{IsBeginning}
 use Rattle.nb_core.specs.Plans.{Plan}
 use Rattle.nb_core.specs.declared.calls.Call.{Call}
 use Rattle.nb_core.specs.declared.calls.Reply.{Reply}
 use Rattle.nb_map.specs.Ending.{EndedOf, map_left}
-use Rattle.nb_map.specs.Logs.{log}
-use Rattle.nb_map.specs.declared.write.PutFault.{PutFault}
+use Rattle.nb_map.specs.declared.faults.PutFault.{PutFault}
 use Rattle.nb_ffi.specs.Closing.{HasAllSeats, IsEndOf}
 use Rattle.nb_ffi.specs.Codes.{fault_code, reply_in_c}
-use Rattle.nb_ffi.specs.Handles.{HasGot, HasPut, HasRefused, HeldOf, IsNew, IsPartOf, Turned, all_seats}
-use Rattle.nb_ffi.specs.Looks.{HasLoaded}
+use Rattle.nb_ffi.specs.Handles.{HasGot, HasPut, HasRefused, IsNew, IsPartOf, SessionOf, StaysOpen, all_seats}
+use Rattle.nb_ffi.specs.Looks.{HasLearned}
 use Rattle.nb_ffi.specs.declared.codes.WriteReply.{WriteReply}
 use Rattle.nb_ffi.specs.declared.codes.TheConstants.{ABSENT, E_LOST, E_NOT_ALL_SEATS, E_NO_SEAT, OK, E_OUT_OF_MEMORY, PRESENT}
 use Rattle.nb_ffi.specs.declared.ended_map.EndedMap.{EndedMap}
@@ -19,10 +17,10 @@ use Rattle.nb_ffi.specs.declared.ended_map.EndedMap.{EndedMap}
 -- A read came to this code: it found the number that is written, or none, and 0 is written; or the
 -- key is none, and nothing happened.
 abbrev pub IsGet :
-    Result ℕ ℤ → (code : ℤ) → (number number' : ℕ) → (before after : Option HeldOf) → Type 0
+    Result ℕ ℤ → (code : ℤ) → (number number' : ℕ) → (before after : Option SessionOf) → Type 0
 IsGet (Ok key) code number number' before after =
-    ((code ≡ PRESENT) × Turned before after (HasGot key (Some number')))
-    ⊎ ((code ≡ ABSENT) × (number' ≡ 0) × Turned before after (HasGot key None))
+    ((code ≡ PRESENT) × StaysOpen before after (HasGot key (Some number')))
+    ⊎ ((code ≡ ABSENT) × (number' ≡ 0) × StaysOpen before after (HasGot key None))
 IsGet (Err refusal) code number number' before after =
     (code ≡ refusal) × (number' ≡ number) × (after ≡ before)
 
@@ -30,65 +28,61 @@ IsGet (Err refusal) code number number' before after =
 -- refused; or a number or a code of it is none, and nothing happened.
 abbrev pub IsWrite :
     Result Call ℤ → (tries : ℕ) → (code : ℤ) → (reply reply' : WriteReply)
-    → (before after : Option HeldOf)
+    → (before after : Option SessionOf)
     → Type 0
 IsWrite (Ok call) tries code reply reply' before after =
     ((code ≡ OK) × ((made : Reply) × (reply' ≡ reply_in_c made)
-    × Turned before after (HasPut call tries made)))
+    × StaysOpen before after (HasPut call tries made)))
     ⊎ ((fault : PutFault) × (code ≡ fault_code fault) × (reply' ≡ reply)
-    × Turned before after (HasRefused call tries fault))
+    × StaysOpen before after (HasRefused call tries fault))
 IsWrite (Err refusal) tries code reply reply' before after =
     (code ≡ refusal) × (reply' ≡ reply) × (after ≡ before)
 
 -- both handles are of one map
-abbrev pub AreOfOneMap : Option HeldOf → Option HeldOf → Type 0
+abbrev pub AreOfOneMap : Option SessionOf → Option SessionOf → Type 0
 AreOfOneMap a b =
-    (one : HeldOf) (other : HeldOf) → a ≡ Some one → b ≡ Some other → one.map ≡ other.map
+    (one : SessionOf) (other : SessionOf) → a ≡ Some one → b ≡ Some other → one.map ≡ other.map
 
--- the seat has made no call, and by one load it has learned all that the other handle's knew
-pub record HasMet (other : Option HeldOf) (before after : HeldOf) : Type 0 where
-  pub loaded : HasLoaded before after
-  pub learned :
-      (known : HeldOf) → other ≡ Some known → IsBeginning (log known.seat) (log after.seat)
-  pub seen :
-      (known : HeldOf) → other ≡ Some known
-      → IsBeginning known.seat.chain.seen after.seat.chain.seen
+-- the other handle was open, and by one load the seat has learned all that its seat knew
+abbrev pub HasMet : (other : Option SessionOf) → (before after : SessionOf) → Type 0
+HasMet other before after =
+    (known : SessionOf) × (other ≡ Some known) × HasLearned known before after
 
 -- A map was opened with this code, or not: the handle has all seats of a new map of the shape; or
 -- it is as it was, and the code is the shape's, or there was no memory.
-abbrev pub IsOpening : Result Plan ℤ → (code : ℤ) → (before after : Option HeldOf) → Type 0
+abbrev pub IsOpening : Result Plan ℤ → (code : ℤ) → (before after : Option SessionOf) → Type 0
 IsOpening (Ok p) code before after =
-    ((code ≡ OK) × ((held : HeldOf) × (after ≡ Some held) × IsNew p held))
+    ((code ≡ OK) × ((session : SessionOf) × (after ≡ Some session) × IsNew p session))
     ⊎ ((code ≡ E_OUT_OF_MEMORY) × (after ≡ before))
 IsOpening (Err refusal) code before after = (code ≡ refusal) × (after ≡ before)
 
 -- A handle was split with this code; or both are as they were, for want of memory or of a seat in
 -- reserve.
-pub data IsSplit (code : ℤ) (before after other other' : Option HeldOf) : Type 0 where
+pub data IsSplit (code : ℤ) (before after other other' : Option SessionOf) : Type 0 where
   Split :
-      code ≡ OK → (part : HeldOf) → other' ≡ Some part
-      → Turned before after (λ old new. IsPartOf old new part)
+      code ≡ OK → (part : SessionOf) → other' ≡ Some part
+      → StaysOpen before after (λ old new. IsPartOf old new part)
       → IsSplit code before after other other'
   Kept :
       code ≡ E_OUT_OF_MEMORY → after ≡ before → other' ≡ other
       → IsSplit code before after other other'
   Lacks :
-      code ≡ E_NO_SEAT → (held : HeldOf) → before ≡ Some held → held.spare ≡ [] → after ≡ before
-      → other' ≡ other
+      code ≡ E_NO_SEAT → (session : SessionOf) → before ≡ Some session → session.spare ≡ []
+      → after ≡ before → other' ≡ other
       → IsSplit code before after other other'
 
 -- the handle has the seats of another one in reserve
-pub record HasJoined (other : HeldOf) (before after : HeldOf) : Type 0 where
+pub record HasJoined (other : SessionOf) (before after : SessionOf) : Type 0 where
   pub map : after.map ≡ before.map
   pub seat : after.seat ≡ before.seat
   pub walk : after.walk ≡ before.walk
   pub spare : after.spare ≡ before.spare ++ all_seats other
 
 -- two handles were joined with this code, and the other is empty; or they are as they were
-pub data IsJoin (code : ℤ) (before after other other' : Option HeldOf) : Type 0 where
+pub data IsJoin (code : ℤ) (before after other other' : Option SessionOf) : Type 0 where
   Joined :
-      code ≡ OK → (given : HeldOf) → other ≡ Some given → other' ≡ None
-      → Turned before after (HasJoined given)
+      code ≡ OK → (given : SessionOf) → other ≡ Some given → other' ≡ None
+      → StaysOpen before after (HasJoined given)
       → IsJoin code before after other other'
   Kept :
       code ≡ E_OUT_OF_MEMORY → after ≡ before → other' ≡ other
@@ -97,22 +91,22 @@ pub data IsJoin (code : ℤ) (before after other other' : Option HeldOf) : Type 
 -- A map was closed with this code, and its handle is empty; or all is as it was, for want of memory
 -- or of seats. That a map is given up whose handle has all seats, since somebody else holds it, no
 -- right caller sees.
-pub data IsClose (code : ℤ) (before after : Option HeldOf) (left left' : Option EndedMap) :
+pub data IsClose (code : ℤ) (before after : Option SessionOf) (left left' : Option EndedMap) :
     Type 0 where
   Closed :
-      code ≡ OK → (held : HeldOf) → before ≡ Some held → after ≡ None → (end : EndedMap)
-      → left' ≡ Some end → IsEndOf held end
+      code ≡ OK → (session : SessionOf) → before ≡ Some session → after ≡ None → (end : EndedMap)
+      → left' ≡ Some end → IsEndOf session end
       → IsClose code before after left left'
   Kept :
       code ≡ E_OUT_OF_MEMORY → after ≡ before → left' ≡ left
       → IsClose code before after left left'
   Lacks :
-      code ≡ E_NOT_ALL_SEATS → (held : HeldOf) → before ≡ Some held → (HasAllSeats held → ⊥)
-      → after ≡ before → left' ≡ left
+      code ≡ E_NOT_ALL_SEATS → (session : SessionOf) → before ≡ Some session
+      → (HasAllSeats session → ⊥) → after ≡ before → left' ≡ left
       → IsClose code before after left left'
   Lost :
-      code ≡ E_LOST → (held : HeldOf) → before ≡ Some held → HasAllSeats held → after ≡ None
-      → left' ≡ left
+      code ≡ E_LOST → (session : SessionOf) → before ≡ Some session → HasAllSeats session
+      → after ≡ None → left' ≡ left
       → IsClose code before after left left'
 
 -- the handle has this ended map

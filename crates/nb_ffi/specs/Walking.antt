@@ -3,14 +3,15 @@ use Rattle.std.specs.Prelude.{◌≡◌, ◌<◌, ◌⊎◌, ℕ, ℤ, List, [],
 use Rattle.nb_core.specs.declared.calls.Call.TheVariants as call
 use Rattle.nb_map.specs.Logs.{HasLogged}
 use Rattle.nb_map.specs.Maps.{HasWorked}
-use Rattle.nb_map.specs.Walks.{HasRead, HasWalked, IsUnderway, IsWalkOf, WalkOf, begun_by, passing_steps, slots_ahead, with_shown}
+use Rattle.nb_map.specs.Walks.{HasRead, HasWalked, IsUnderway, IsWalkOf, WalkOf, begun_by, with_shown}
+use Rattle.nb_map.specs.Steps.{passing_steps, slots_ahead}
 use Rattle.nb_table.specs.Chains.{Extended}
-use Rattle.nb_ffi.specs.Handles.{HasGoneOn, HeldOf, Turned, plan_of}
+use Rattle.nb_ffi.specs.Handles.{HasGoneOn, SessionOf, StaysOpen, plan_of}
 use Rattle.nb_ffi.specs.declared.codes.TheConstants.{ABSENT, PRESENT}
 
 -- The handle's walk begins, and has shown nothing. It took one step on the chain, which was no
 -- event, and none on the counter.
-pub record HasBegun (before after : HeldOf) : Type 0 where
+pub record HasBegun (before after : SessionOf) : Type 0 where
   pub logged : HasLogged before.seat after.seat []
   pub grows : Extended (plan_of before) before.seat.chain after.seat.chain [] 1
   pub count : after.seat.count ≡ before.seat.count
@@ -22,7 +23,7 @@ pub record HasBegun (before after : HeldOf) : Type 0 where
 -- The walk shows this pair, or ends. Its seat has made the read of the pair, and before it such as
 -- found nothing, in at most so many steps for each slot that it passed: so a walk ends. What it has
 -- shown in all, `whole_walk` speaks of.
-pub record HasWalkedOn (shown : Option (ℕ × ℕ)) (before after : HeldOf) (walk walk' : WalkOf) :
+pub record HasWalkedOn (shown : Option (ℕ × ℕ)) (before after : SessionOf) (walk walk' : WalkOf) :
     Type 0 where
   pub is : after.walk ≡ Some walk'
   pub read : HasRead before.seat after.seat shown
@@ -41,18 +42,18 @@ pub record HasWalkedOn (shown : Option (ℕ × ℕ)) (before after : HeldOf) (wa
 
 -- the same, where a walk is underway; with none, nothing happens and none is shown
 abbrev pub HasNextOf :
-    Option WalkOf → Option (ℕ × ℕ) → (before after : HeldOf) → Type 0
+    Option WalkOf → Option (ℕ × ℕ) → (before after : SessionOf) → Type 0
 HasNextOf None shown before after = (shown ≡ None) × (after ≡ before)
 HasNextOf (Some walk) shown before after =
     (walk' : WalkOf) × HasWalkedOn shown before after walk walk'
 
-abbrev pub HasNext : Option (ℕ × ℕ) → (before after : HeldOf) → Type 0
+abbrev pub HasNext : Option (ℕ × ℕ) → (before after : SessionOf) → Type 0
 HasNext shown before after = HasNextOf before.walk shown before after
 
 -- A walk went on with this code: it shows the pair that is written, or it has ended, and nothing is
 -- written.
 abbrev pub IsNext :
-    (code : ℤ) → (key key' number number' : ℕ) → (before after : Option HeldOf) → Type 0
+    (code : ℤ) → (key key' number number' : ℕ) → (before after : Option SessionOf) → Type 0
 IsNext code key key' number number' before after =
-    ((code ≡ PRESENT) × Turned before after (HasNext (Some (key', number'))))
-    ⊎ ((code ≡ ABSENT) × (key' ≡ key) × (number' ≡ number) × Turned before after (HasNext None))
+    ((code ≡ PRESENT) × StaysOpen before after (HasNext (Some (key', number'))))
+    ⊎ ((code ≡ ABSENT) × (key' ≡ key) × (number' ≡ number) × StaysOpen before after (HasNext None))

@@ -4,11 +4,11 @@ ghost use Rattle.nb_core.specs.declared.calls.Call.TheVariants as call;
 ghost use Rattle.nb_ffi.specs.Handles.{HasGot, HasPut, HasRefused};
 ghost use Rattle.nb_ffi.specs.Looks.{HasEstimated, HasFoundTop, HasLearned};
 
-use crate::held::Held;
+use crate::session::Session;
 use nb_core::{Change, Key, Num, Reply, Want};
 use nb_map::PutFault;
 
-impl Held {
+impl Session {
     /// `Map::get`.
     #[inline]
     pub(crate) fn get(&mut self, key: Key) -> Option<Num>
@@ -50,7 +50,7 @@ impl Held {
     }
 
     /// `Map::meet`.
-    pub(crate) fn meet(&mut self, other: &mut Held)
+    pub(crate) fn meet(&mut self, other: &mut Session)
         requires one { self.old.map ≡ other.old.map }
         ensures here { HasLearned other.old self.old self.new }
         ensures there { HasLearned self.old other.old other.new }

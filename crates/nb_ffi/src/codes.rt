@@ -1,15 +1,16 @@
 //! Codes: what calls of C take for conditions and changes, and what they answer.
 ghost use Rattle.std.specs.Prelude.{◌≡◌};
+ghost use Rattle.nb_ffi.specs.Checking.{map_ok};
 ghost use Rattle.nb_ffi.specs.Codes.{
-  asked_call,
-  call_told,
-  change_told,
+  checked_call,
+  checked_change,
+  checked_key,
+  checked_number,
+  checked_want,
   fault_code,
-  key_told,
-  number_told,
   reply_in_c,
   shape_code,
-  want_told,
+  write_of,
 };
 
 use nb_core::{Change, Key, Num, Reply, ShapeFault, Want};
@@ -116,7 +117,7 @@ pub(crate) fn fault_code(fault: PutFault) -> i32
 }
 
 pub(crate) fn key_of(key: u64) -> Result<Key, i32>
-    ensures { result ≡ key_told key }
+    ensures { result ≡ checked_key key }
 {
     match Key::new(key) {
         Ok(key) => Ok(key),
@@ -125,7 +126,7 @@ pub(crate) fn key_of(key: u64) -> Result<Key, i32>
 }
 
 fn number_of(number: u64) -> Result<Num, i32>
-    ensures { result ≡ number_told number }
+    ensures { result ≡ checked_number number }
 {
     match Num::new(number) {
         Ok(number) => Ok(number),
@@ -134,7 +135,7 @@ fn number_of(number: u64) -> Result<Num, i32>
 }
 
 fn want_of(code: u32, number: u64) -> Result<Want, i32>
-    ensures { result ≡ want_told code number }
+    ensures { result ≡ checked_want code number }
 {
     match code {
         ANY => Ok(Want::Any),
@@ -149,7 +150,7 @@ fn want_of(code: u32, number: u64) -> Result<Want, i32>
 }
 
 fn change_of(code: u32, number: u64) -> Result<Change, i32>
-    ensures { result ≡ change_told code number }
+    ensures { result ≡ checked_change code number }
 {
     match code {
         PUT => match number_of(number) {
@@ -181,7 +182,7 @@ pub(crate) fn asked(
     change: u32,
     number: u64,
 ) -> Result<WriteAsked, i32>
-    ensures { asked_call result ≡ call_told key want old change number }
+    ensures { map_ok write_of result ≡ checked_call key want old change number }
 {
     Ok(WriteAsked {
         key: key_of(key)?,

@@ -1,7 +1,9 @@
 //! A handle of an ended map that C has: one word, which is null where it is empty.
 ghost use Rattle.std.specs.Prelude.{◌≡◌, Option, Some, None};
+ghost use Rattle.std.specs.Coded.{coded_option};
 ghost use Rattle.nb_ffi.specs.declared.ended_map.EndedMap.{EndedMap};
-ghost use Rattle.nb_ffi.specs.EndedOwning.{left_coded, left_owns};
+ghost use Rattle.nb_ffi.specs.Owning.{handle_owns};
+ghost use Rattle.nb_ffi.specs.contracts.ended_map.EndedMap.{the_row};
 
 use crate::ended_map::EndedMap;
 use crate::parts::Parts;
@@ -10,17 +12,17 @@ use std::marker::Model;
 use std::{mem, ptr};
 
 /// What C calls a `samvolip_ended`. Contracts see what it stands for, or `None` where it is empty.
-/// Nothing frees what it stands for but `take`.
+/// Nothing frees what it stands for except `take`.
 #[repr(C)]
 #[derive(Drop)]
 pub struct EndedHandle {
     pub(crate) ptr: *mut u8,
     alloc: Global,
-    pub ghost left: { Option EndedMap } by { left_coded },
+    pub ghost left: { Option EndedMap } by { coded_option the_row.coded },
 }
 
 impl Model for EndedHandle {
-    ghost also_owns = { λ s. left_owns s.alloc s.ptr s.left };
+    ghost also_owns = { λ s. handle_owns the_row s.alloc s.ptr s.left };
 }
 
 impl EndedHandle {

@@ -17,7 +17,8 @@ pub struct MapEntry {
     pub number: u64,
 }
 
-/// A place for what is left of a map, made before the map is ended, so that its end takes no memory.
+/// A place for what is left of a map. It is made before the map is ended, so that its end takes no
+/// memory.
 #[derive(Drop)]
 pub struct EndedMap {
     pub(crate) ended: Option<Ended>,

@@ -5,14 +5,13 @@
 mod calls;
 mod codes;
 mod ended_handle;
-mod ended_lend;
 mod ended_map;
 mod exports;
 mod header;
-mod held;
+mod lend;
 mod life;
 mod map_shape;
 mod parts;
 mod seat_handle;
-mod seat_lend;
+mod session;
 mod walks;

@@ -5,7 +5,7 @@ ghost use Rattle.nb_ffi.specs.Handles.{IsNew, IsPartOf, all_seats};
 ghost use Rattle.nb_ffi.specs.declared.life.SplitFault.TheVariants.{NoSeat};
 
 use crate::ended_map::EndedMap;
-use crate::held::Held;
+use crate::session::Session;
 use nb_core::{MAX_SEATS, OutOfMemory, Shape};
 use nb_map::{Ended, Map};
 use std::alloc::Global;
@@ -21,15 +21,15 @@ pub(crate) enum SplitFault {
 /// Why a handle was not closed.
 #[derive(Drop)]
 pub(crate) enum CloseFault {
-    OutOfMemory(Box<Held, Global>),
-    NotAllSeats(Box<Held, Global>),
+    OutOfMemory(Box<Session, Global>),
+    NotAllSeats(Box<Session, Global>),
     /// Somebody else held the map, though its handle had all seats.
     Lost,
 }
 
 /// A new map, as the one handle that has all its seats.
-pub(crate) fn opened(alloc: Global, shape: Shape) -> Result<Box<Held, Global>, OutOfMemory>
-    ensures { IfOk result (λ held. IsNew shape held.value) }
+pub(crate) fn opened(alloc: Global, shape: Shape) -> Result<Box<Session, Global>, OutOfMemory>
+    ensures { IfOk result (λ session. IsNew shape session.value) }
 {
     let (map, seats) = Map::new(alloc, shape)?;
     let mut spare = seats;
@@ -40,22 +40,22 @@ pub(crate) fn opened(alloc: Global, shape: Shape) -> Result<Box<Held, Global>, O
     let Ok(map) = Arc::new(alloc, map) else {
         return Err(OutOfMemory);
     };
-    let held = Held {
+    let session = Session {
         map,
         seat,
         spare,
         walk: None,
     };
-    let Ok(held) = Box::new(alloc, held) else {
+    let Ok(session) = Box::new(alloc, session) else {
         return Err(OutOfMemory);
     };
-    Ok(held)
+    Ok(session)
 }
 
-impl Held {
+impl Session {
     /// A handle for the last seat in reserve. It has room for all seats, so that it takes no memory
     /// to join others to it.
-    pub(crate) fn split(&mut self, alloc: Global) -> Result<Box<Held, Global>, SplitFault>
+    pub(crate) fn split(&mut self, alloc: Global) -> Result<Box<Session, Global>, SplitFault>
         ensures split { IfOk result (λ other. IsPartOf self.old self.new other.value) }
         ensures refused { IfErr result (λ fault. self.new ≡ self.old) }
         ensures no_seat { result ≡ Err NoSeat → self.old.spare ≡ [] }
@@ -72,7 +72,7 @@ impl Held {
         let Some(seat) = self.spare.pop() else {
             unreachable!();
         };
-        let other = Held {
+        let other = Session {
             map,
             seat,
             spare,
@@ -81,16 +81,16 @@ impl Held {
         match Box::new(alloc, other) {
             Ok(other) => Ok(other),
             Err(failed) => {
-                let Held { seat, .. } = failed.value;
+                let Session { seat, .. } = failed.value;
                 self.spare.push_reserved(seat);
                 Err(SplitFault::OutOfMemory)
             }
         }
     }
 
-    /// Takes all seats of another handle into the reserve. Where there is no memory, the other comes
-    /// back.
-    pub(crate) fn join(&mut self, other: Box<Held, Global>) -> Result<(), Box<Held, Global>>
+    /// Takes all seats of another handle into the reserve. Where there is no memory, the other
+    /// comes back.
+    pub(crate) fn join(&mut self, other: Box<Session, Global>) -> Result<(), Box<Session, Global>>
         requires one { self.old.map ≡ other.value.map }
         ensures joined { IfOk result (λ done. self.new.spare
             ≡ self.old.spare ++ all_seats other.value) }
@@ -102,7 +102,7 @@ impl Held {
         if self.spare.reserve(other.spare.len() + 1).is_err() {
             return Err(other);
         }
-        let Held {
+        let Session {
             seat,
             mut spare,
             ..
@@ -115,7 +115,7 @@ impl Held {
     }
 }
 
-impl Held {
+impl Session {
     /// Whether the handle has all seats of its map.
     fn is_whole(&self) -> bool
         ensures { (result ≡ true) ↔ HasAllSeats self.now }
@@ -128,7 +128,7 @@ impl Held {
         requires all { HasAllSeats self }
         ensures { IfSome result (IsEndWith self) }
     {
-        let Held {
+        let Session {
             map,
             seat,
             mut spare,
@@ -148,18 +148,18 @@ impl Held {
 /// What is left of the map of a handle that has all its seats.
 pub(crate) fn closed(
     alloc: Global,
-    held: Box<Held, Global>,
+    session: Box<Session, Global>,
 ) -> Result<Box<EndedMap, Global>, CloseFault>
-    ensures ended { IfOk result (λ left. IsEndOf held.value left.value) }
-    ensures refused { IfErr result (IsHandedBack held.value) }
+    ensures ended { IfOk result (λ left. IsEndOf session.value left.value) }
+    ensures refused { IfErr result (IsHandedBack session.value) }
 {
-    if !held.is_whole() {
-        return Err(CloseFault::NotAllSeats(held));
+    if !session.is_whole() {
+        return Err(CloseFault::NotAllSeats(session));
     }
     let Ok(mut left) = Box::new(alloc, EndedMap { ended: None }) else {
-        return Err(CloseFault::OutOfMemory(held));
+        return Err(CloseFault::OutOfMemory(session));
     };
-    let Some(ended) = Box::into_inner(held).finish() else {
+    let Some(ended) = Box::into_inner(session).finish() else {
         return Err(CloseFault::Lost);
     };
     left.ended = Some(ended);

@@ -1,4 +1,4 @@
-//! A `Box` with its fields in sight of this crate.
+//! What a `Box` is made of: a handle is made of it, and gives it back.
 ghost use Rattle.std.specs.Prelude.{◌≡◌};
 ghost use Rattle.std.specs.Box.Ownership.{box_owns};
 

@@ -2,10 +2,10 @@
 ghost use Rattle.std.specs.Prelude.{◌≡◌, None, Some};
 ghost use Rattle.nb_ffi.specs.Walking.{HasBegun, HasNext};
 
-use crate::held::Held;
+use crate::session::Session;
 use nb_core::{Key, Num};
 
-impl Held {
+impl Session {
     /// `Map::walk`. A walk that was underway is given up.
     pub(crate) fn begin_walk(&mut self)
         ensures { HasBegun self.old self.new }

@@ -24,10 +24,10 @@ use Rattle.nb_table.specs.Chains.{ChainOf, Grown, IsOwn, SeenBy}
 use Rattle.nb_map.proofs.Theorems.{logs_add_up, replies_fit}
 use Rattle.nb_map.specs.Calling.{HasCountedTurned, HasStepped, MayMake}
 use Rattle.nb_map.specs.Logs.{HasLogged, HasReplied, log}
-use Rattle.nb_map.specs.Looking.{get_steps}
+use Rattle.nb_map.specs.Steps.{get_steps}
 use Rattle.nb_map.specs.Maps.{HasWorked, IsMine, MapOf, SeatOf, accounted}
-use Rattle.nb_map.specs.Refusing.{put_steps}
-use Rattle.nb_map.specs.Writing.{passed_since}
+use Rattle.nb_map.specs.Steps.{put_steps}
+use Rattle.nb_map.specs.Progress.{passed_since}
 use Rattle.nb_long.proofs.Passed.{others-won}
 use Rattle.nb_long.specs.Typed.{HasIdled, IsIdle, IsLockFreeIf, LongMapOf, passed_on, round_steps}
 

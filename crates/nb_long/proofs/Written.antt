@@ -7,7 +7,7 @@ use Rattle.nb_core.specs.declared.calls.Want.{Want}
 use Rattle.nb_map.proofs.Theorems.{replies_fit}
 use Rattle.nb_map.specs.Logs.{HasFound, HasReplied}
 use Rattle.nb_map.specs.Maps.{SeatOf}
-use Rattle.nb_map.specs.Refusing.{IsLockFree}
+use Rattle.nb_map.specs.Progress.{IsLockFree}
 use Rattle.nb_long.specs.Stores.{HasStored}
 use Rattle.nb_long.specs.Typed.{HasWritten, LongMapOf, put_of}
 use Rattle.nb_long.specs.declared.map.Stored.{Stored}

@@ -13,11 +13,13 @@ use Rattle.nb_core.specs.Plans.{Plan}
 use Rattle.nb_core.specs.declared.calls.Reply.{Reply}
 use Rattle.nb_map.specs.Calling.{HasStepped}
 use Rattle.nb_map.specs.Logs.{HasLogged, HasReplied}
-use Rattle.nb_map.specs.Looking.{get_steps}
+use Rattle.nb_map.specs.Steps.{get_steps}
 use Rattle.nb_map.specs.Maps.{HasWorked, MapOf, SeatOf}
-use Rattle.nb_map.specs.Refusing.{HasRefused, IsLockFree, put_steps}
-use Rattle.nb_map.specs.Writing.{passed_since}
-use Rattle.nb_map.specs.declared.waiting.AddFault.TheVariants as add_fault
+use Rattle.nb_map.specs.Refusals.{HasRefused}
+use Rattle.nb_map.specs.Progress.{IsLockFree}
+use Rattle.nb_map.specs.Steps.{put_steps}
+use Rattle.nb_map.specs.Progress.{passed_since}
+use Rattle.nb_map.specs.declared.faults.AddFault.TheVariants as add_fault
 use Rattle.nb_long.specs.Stores.{GivesBack, HasStored}
 use Rattle.nb_long.specs.declared.map.LongFault.{LongFault}
 use Rattle.nb_long.specs.declared.map.LongFault.TheVariants as fault

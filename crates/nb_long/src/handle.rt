@@ -29,10 +29,11 @@ ghost use Rattle.nb_core.specs.declared.calls.Want.TheVariants as want;
 ghost use Rattle.nb_table.specs.Chains.{Extended};
 ghost use Rattle.nb_map.specs.Ending.{EndedWith, HasTablesLeft};
 ghost use Rattle.nb_map.specs.Logs.{HasFound, HasLogged, HasReplied, HaveEmptyLogs, log};
-ghost use Rattle.nb_map.specs.Looking.{IsSeenAtHome, get_steps};
+ghost use Rattle.nb_map.specs.Progress.{IsSeenAtHome};
+ghost use Rattle.nb_map.specs.Steps.{get_steps};
 ghost use Rattle.nb_map.specs.Maps.{AreMine, HasWorked, IsMine, MapOf};
-ghost use Rattle.nb_map.specs.Refusing.{IsLockFree};
-ghost use Rattle.nb_map.specs.Writing.{IsShortAtHome};
+ghost use Rattle.nb_map.specs.Progress.{IsLockFree};
+ghost use Rattle.nb_map.specs.Progress.{IsShortAtHome};
 ghost use Rattle.nb_long.specs.Handles.{AreOfOneMap, IsSameMap, new_handles, seats_of};
 ghost use Rattle.nb_long.specs.Stores.{HasStored};
 ghost use Rattle.nb_long.specs.Typed.{

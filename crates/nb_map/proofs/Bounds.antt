@@ -4,8 +4,8 @@ use Rattle.std.proofs.Math.Nat.{le_refl, le_trans, mul-le-mul_right}
 use Rattle.std.proofs.lemmas.List.{get_or_past}
 use Rattle.std.proofs.lemmas.Nat.{pow_pos}
 use Rattle.nb_core.specs.Plans.{IsPlan, Plan, generations_of, size_of}
-use Rattle.nb_map.specs.Looking.{get_steps, look_steps, looked_below}
-use Rattle.nb_map.specs.Searching.{pass_steps, slots_below}
+use Rattle.nb_map.specs.Steps.{get_steps, look_steps, looked_below}
+use Rattle.nb_map.specs.Steps.{pass_steps, slots_below}
 use Rattle.nb_core.proofs.Theorems.{sizes_never_fall}
 
 -- no table is larger than the last one

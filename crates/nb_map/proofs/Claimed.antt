@@ -15,14 +15,17 @@ use Rattle.nb_core.specs.declared.states.KeyState.TheVariants.{Claimed, Dead, Em
 use Rattle.nb_table.specs.Chains.{ChainOf, Extended, IsOwn, SeenBy, seen_by}
 use Rattle.nb_copy.specs.Handing.{HasCompleted, table_steps}
 use Rattle.nb_map.proofs.Made.{made-copied, made-more, made-none, made-quiet, made-step, made-within, slot-below-lasts}
-use Rattle.nb_map.specs.Calling.{HasMade, IsBeforeNext, as_replied}
-use Rattle.nb_map.specs.Searching.{read_at, probe_steps}
-use Rattle.nb_map.specs.Writing.{HasBelow, IsFound, search_steps, grow_steps, owed_below, steps_below}
-use Rattle.nb_map.specs.declared.claim.Below.{Below}
-use Rattle.nb_map.specs.declared.claim.Below.TheVariants.{Complete, HasKey, Passed}
-use Rattle.nb_map.specs.declared.claim.Found.TheVariants.{Above, Full}
-use Rattle.nb_map.specs.declared.search.PathEnd.{PathEnd}
-use Rattle.nb_map.specs.declared.search.PathEnd.TheVariants as ends
+use Rattle.nb_map.specs.Calling.{HasMade, IsBeforeNext}
+use Rattle.nb_map.specs.inside.Reading.{as_replied}
+use Rattle.nb_map.specs.inside.Reading.{read_at}
+use Rattle.nb_map.specs.Steps.{probe_steps}
+use Rattle.nb_map.specs.inside.Writing.{HasBelow, IsFound}
+use Rattle.nb_map.specs.Steps.{search_steps, grow_steps, owed_below, steps_below}
+use Rattle.nb_map.specs.declared.steps.claim.Below.{Below}
+use Rattle.nb_map.specs.declared.steps.claim.Below.TheVariants.{Complete, HasKey, Passed}
+use Rattle.nb_map.specs.declared.steps.claim.SlotFor.TheVariants.{Above, Full}
+use Rattle.nb_map.specs.declared.steps.search.PathEnd.{PathEnd}
+use Rattle.nb_map.specs.declared.steps.search.PathEnd.TheVariants as ends
 use Rattle.nb_core.proofs.Theorems.{complete_passed, linked, whole_crowded}
 
 -- a table below that isn't known to be complete is owed all its steps

@@ -11,19 +11,20 @@ use Rattle.std.proofs.lemmas.List.FromFn.{get_or-map-range_with_len, length-map-
 use Rattle.std.proofs.lemmas.Map.Keys.{IsDistinct-from_apart}
 use Rattle.std.proofs.lemmas.Map.Made.{length-le_from_is_member}
 use Rattle.std.proofs.lemmas.Map.Views.{Contains-from_any}
-use Rattle.nb_core.specs.History.{IsInRange, IsLegal, key_of_call, seat_of_event}
+use Rattle.nb_core.specs.History.{IsLegal, key_of_call, seat_of_event}
 use Rattle.nb_core.specs.Laws.{IsKeyChange, Lasts}
 use Rattle.nb_core.specs.Meaning.{IsCrowded}
-use Rattle.nb_core.specs.Plans.{IsPlan, Plan, generations_of, key_place, size_of, word_count}
+use Rattle.nb_core.specs.Plans.{IsPlan, Plan, generations_of, key_index, size_of, word_count}
 use Rattle.nb_core.specs.States.{key_state}
 use Rattle.nb_core.specs.Tables.{HasSlot, IsSlot, Tables, tables_at, words_of}
 use Rattle.nb_core.specs.declared.calls.Call.{Call}
 use Rattle.nb_core.specs.declared.events.Event.{Event}
-use Rattle.nb_core.specs.declared.events.Event.TheVariants.{Claim, Kill, Won, CopyIn, Prime, Finish, Install, Take, Count, Promote, Read}
+use Rattle.nb_core.specs.declared.events.Event.TheVariants.{Claim, Kill}
 use Rattle.nb_core.specs.declared.states.KeyState.{KeyState}
 use Rattle.nb_core.specs.declared.states.KeyState.TheVariants.{Empty, Dead, Claimed}
-use Rattle.nb_core.proofs.Theorems.{lawful_changes, one_slot, seen_lasts}
+use Rattle.nb_core.proofs.Theorems.{lawful_changes, one_slot, seat-in_range, seen_lasts}
 use Rattle.nb_table.specs.Chains.{Grown, SeenBy, own_events}
+use Rattle.nb_table.proofs.Theorems.{own-none}
 use Rattle.nb_map.proofs.Made.{slot-below-lasts}
 use Rattle.nb_map.specs.Calling.{HasStepped, MayMake}
 use Rattle.nb_map.specs.Crowding.{AsksAddUp, CrowdedByCalls, HasAskedFor, HasAskedIn, IsClaimOf, IsFilled, fills, others_filled}
@@ -185,10 +186,10 @@ none-claimed : (p : Plan) (g i k : ℕ) → (tables_at p []).key g i ≡ Claimed
 none-claimed p g i k claimed =
     let none : ℕ = 0 in
     let long : length (words_of p []) ≡ word_count p = length-replicate (word_count p) none in
-    let zero : slice_index (words_of p []) (key_place p g i) ≡ 0 =
-    elim (cases_lt (key_place p g i) (word_count p)) [
-      | inl within ↦ get_or-replicate (word_count p) (key_place p g i) 0 0 within
-      | inr past ↦ get_or_past (words_of p []) (key_place p g i) 0 (omega (arith, past, long))
+    let zero : slice_index (words_of p []) (key_index p g i) ≡ 0 =
+    elim (cases_lt (key_index p g i) (word_count p)) [
+      | inl within ↦ get_or-replicate (word_count p) (key_index p g i) 0 0 within
+      | inr past ↦ get_or_past (words_of p []) (key_index p g i) 0 (omega (arith, past, long))
     ] in
     let empty : Empty ≡ Claimed k = sym (ap key_state zero) ∙ claimed in
     cc
@@ -206,15 +207,7 @@ claim-is Q (Claim s f j n) g i k from to holds change is =
     let same : Claim s f j n ≡ Claim s g i k = cc in
     (s, subst Q same holds)
 claim-is Q (Kill s f j) g i k from to holds change is = let dead : to ≡ Dead = change.3 in cc
-claim-is Q (Won s f j a b c r) g i k from to holds change is = absurd change
-claim-is Q (CopyIn s f j n m) g i k from to holds change is = absurd change
-claim-is Q (Prime s f j) g i k from to holds change is = absurd change
-claim-is Q (Finish s f j) g i k from to holds change is = absurd change
-claim-is Q (Install s f n) g i k from to holds change is = absurd change
-claim-is Q (Take s f) g i k from to holds change is = absurd change
-claim-is Q (Count s f c) g i k from to holds change is = absurd change
-claim-is Q (Promote s f) g i k from to holds change is = absurd change
-claim-is Q (Read s c r) g i k from to holds change is = absurd change
+claim-is Q _ g i k from to holds change is = absurd change
 
 module _ (p : Plan) (plan : IsPlan p) where
   -- a slot's key comes from a claim: whatever holds of all events holds of one
@@ -252,20 +245,7 @@ module _ (p : Plan) (plan : IsPlan p) where
 seats-below : (p : Plan) (h : List Event) → IsLegal p h → All (λ e. seat_of_event e < p.seats) h
 seats-below p [] legal = All-nil (λ (e : Event). seat_of_event e < p.seats)
 seats-below p (e ∷ h) legal = All-cons (λ (e : Event). seat_of_event e < p.seats) e h
-    (one e legal.1) (seats-below p h legal.0)
-  where
-    one : (e : Event) → IsInRange p e → seat_of_event e < p.seats
-    one (Claim s g i k) range = range.0
-    one (Kill s g i) range = range.0
-    one (Won s g i a b c r) range = range.0
-    one (CopyIn s g i k n) range = range.0
-    one (Prime s g i) range = range.0
-    one (Finish s g i) range = range.0
-    one (Install s g k) range = range.0
-    one (Take s g) range = range.0
-    one (Count s g c) range = range.0
-    one (Promote s g) range = range.0
-    one (Read s c r) range = range.0
+    (seat-in_range p e legal.1) (seats-below p h legal.0)
 
 -- what holds of each seat's own events holds of all
 each-own :
@@ -309,16 +289,7 @@ claim-lasts p cs cs' t u more lasting (Claim s g i k) is = (
         (more k put)
   ],
 )
-claim-lasts p cs cs' t u more lasting (Kill s g i) is = tt
-claim-lasts p cs cs' t u more lasting (Won s g i a b c r) is = tt
-claim-lasts p cs cs' t u more lasting (CopyIn s g i k n) is = tt
-claim-lasts p cs cs' t u more lasting (Prime s g i) is = tt
-claim-lasts p cs cs' t u more lasting (Finish s g i) is = tt
-claim-lasts p cs cs' t u more lasting (Install s g k) is = tt
-claim-lasts p cs cs' t u more lasting (Take s g) is = tt
-claim-lasts p cs cs' t u more lasting (Count s g c) is = tt
-claim-lasts p cs cs' t u more lasting (Promote s g) is = tt
-claim-lasts p cs cs' t u more lasting (Read s c r) is = tt
+claim-lasts p cs cs' t u more lasting _ is = tt
 
 -- a call claims a key for itself only where it fills it
 claim-made :
@@ -333,23 +304,7 @@ claim-made p before after call cs adds (Claim s g i k) may = (
         (subst (IsFilled cs) (sym own.0) (adds (ap not own.1)))
   ],
 )
-claim-made p before after call cs adds (Kill s g i) may = tt
-claim-made p before after call cs adds (Won s g i a b d r) may = tt
-claim-made p before after call cs adds (CopyIn s g i k n) may = tt
-claim-made p before after call cs adds (Prime s g i) may = tt
-claim-made p before after call cs adds (Finish s g i) may = tt
-claim-made p before after call cs adds (Install s g k) may = tt
-claim-made p before after call cs adds (Take s g) may = tt
-claim-made p before after call cs adds (Count s g n) may = tt
-claim-made p before after call cs adds (Promote s g) may = tt
-claim-made p before after call cs adds (Read s d r) may = tt
-
--- events of other seats aren't its own
-own-none : (s : ℕ) (es : List Event) → All (λ e. seat_of_event e ≢ s) es → own_events s es ≡ []
-own-none s [] none = refl
-own-none s (e ∷ es) none =
-    let P : Event → Type 0 = λ e. seat_of_event e ≢ s in
-    rw (ne_eqb (seat_of_event e) s (All-head P e es none)) (own-none s es (All-tail P e es none))
+claim-made p before after call cs adds _ may = tt
 
 module _ (p : Plan) (plan : IsPlan p) where
   -- what is claimed stays so in later histories

@@ -14,11 +14,13 @@ use Rattle.nb_core.specs.declared.states.ValueState.TheVariants.{Null}
 use Rattle.nb_core.proofs.Theorems.{complete_passed, installed_after, lawful_words, linked, on_path, place_is, room}
 use Rattle.nb_table.specs.Chains.{ChainOf, IsOwn, SeenBy, seen_by}
 use Rattle.nb_table.specs.Conditions.{IsReached}
-use Rattle.nb_map.specs.Calling.{as_replied}
-use Rattle.nb_map.specs.Searching.{EndsAt, probe_steps, read_at}
-use Rattle.nb_map.specs.Walks.{IsAway, IsEarlier, IsFirstTable}
-use Rattle.nb_map.specs.declared.search.PathEnd.{PathEnd}
-use Rattle.nb_map.specs.declared.search.PathEnd.TheVariants as ends
+use Rattle.nb_map.specs.inside.Reading.{as_replied}
+use Rattle.nb_map.specs.inside.Reading.{EndsAt, read_at}
+use Rattle.nb_map.specs.Steps.{probe_steps}
+use Rattle.nb_map.specs.inside.Walking.{IsAway, IsEarlier}
+use Rattle.nb_map.specs.Walks.{IsFirstTable}
+use Rattle.nb_map.specs.declared.steps.search.PathEnd.{PathEnd}
+use Rattle.nb_map.specs.declared.steps.search.PathEnd.TheVariants as ends
 use Rattle.nb_map.proofs.Walked.{installed-under}
 
 -- ---- away

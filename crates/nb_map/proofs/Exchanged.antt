@@ -25,14 +25,16 @@ use Rattle.nb_table.specs.Conditions.{IsReached}
 use Rattle.nb_table.specs.Events.{only, read, shown_by_value, value_in}
 use Rattle.nb_map.proofs.Made.{made-more, made-own, made-read, made-stays, made-step, made-within}
 use Rattle.nb_map.proofs.Searched.{made-then, reached-lasts}
-use Rattle.nb_map.specs.Calling.{HasMade, as_replied, read_of}
-use Rattle.nb_map.specs.Refusing.{IsWritten}
-use Rattle.nb_map.specs.Searching.{IsAbove}
-use Rattle.nb_map.specs.Writing.{IsDecided, passed_since}
-use Rattle.nb_map.specs.declared.claim.Below.TheVariants.{HasKey}
-use Rattle.nb_map.specs.declared.decide.Decision.{Decision}
-use Rattle.nb_map.specs.declared.decide.Decision.TheVariants as decision
-use Rattle.nb_map.specs.declared.write.Written.TheVariants.{Above}
+use Rattle.nb_map.specs.Calling.{HasMade}
+use Rattle.nb_map.specs.inside.Reading.{as_replied, read_of}
+use Rattle.nb_map.specs.inside.Writing.{IsWritten}
+use Rattle.nb_map.specs.inside.Reading.{IsAbove}
+use Rattle.nb_map.specs.inside.Writing.{IsDecided}
+use Rattle.nb_map.specs.Progress.{passed_since}
+use Rattle.nb_map.specs.declared.steps.claim.Below.TheVariants.{HasKey}
+use Rattle.nb_map.specs.declared.steps.decide.Decision.{Decision}
+use Rattle.nb_map.specs.declared.steps.decide.Decision.TheVariants as decision
+use Rattle.nb_map.specs.declared.steps.write.Written.TheVariants.{Above}
 use Rattle.nb_core.proofs.Theorems.{beginnings_are_legal, codings, decided, log_is_replayed, lost_exchange, passed_over_adds, passed_settled}
 use Rattle.nb_table.proofs.Theorems.{steps_add_up}
 

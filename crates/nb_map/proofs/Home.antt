@@ -11,7 +11,7 @@ use Rattle.nb_core.specs.declared.states.KeyState.TheVariants.{Claimed, Dead, Em
 use Rattle.nb_core.specs.declared.states.ValueState.{ValueState}
 use Rattle.nb_core.specs.declared.states.ValueState.TheVariants.{Null, Tombstone, Live, PrimedNull, PrimedTombstone, Primed, Finished}
 use Rattle.nb_table.specs.Chains.{ChainOf, IsOwn, SeenBy, seen_by}
-use Rattle.nb_map.specs.Looking.{IsAtHome, IsHomeSlot}
+use Rattle.nb_map.specs.Progress.{IsAtHome, IsHomeSlot}
 
 -- a table has a home slot for each key
 pub home-in : (p : Plan) (g k : ℕ) → g < generations_of p → IsSlot p g (path_slot p g k 0)

@@ -18,7 +18,8 @@ use Rattle.nb_table.specs.Chains.{ChainOf, Extended, Grown, IsOwn, SeenBy, seen_
 use Rattle.nb_table.specs.Events.{only, read}
 use Rattle.nb_core.specs.Log.{IsBeginning}
 use Rattle.nb_copy.specs.Copying.{HasCopied, IsCopying}
-use Rattle.nb_map.specs.Calling.{HasCountedTurned, HasMade, IsBeforeNext, MayMake, read_of}
+use Rattle.nb_map.specs.Calling.{HasCountedTurned, HasMade, IsBeforeNext, MayMake}
+use Rattle.nb_map.specs.inside.Reading.{read_of}
 use Rattle.nb_core.proofs.Theorems.{calls_append}
 use Rattle.nb_map.proofs.Turned.{counted-apart, counted-copied, counted-more, counted-quiet}
 use Rattle.nb_table.proofs.Theorems.{steps_add_up}

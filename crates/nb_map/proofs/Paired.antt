@@ -11,7 +11,7 @@ use Rattle.nb_count.specs.Counts.{CountSeatOf}
 use Rattle.nb_count.specs.Counts as counted
 use Rattle.nb_table.specs.Chains.{SeenBy}
 use Rattle.nb_table.specs.Chains as chained
-use Rattle.nb_map.specs.Ending.{IsParted}
+use Rattle.nb_map.specs.inside.Models.{IsParted}
 use Rattle.nb_map.specs.Logs.{HaveEmptyLogs, log}
 use Rattle.nb_map.specs.Maps.{AreMine, IsMine, MapOf, SeatOf, new_seat, new_seats}
 

@@ -21,7 +21,7 @@ use Rattle.nb_core.specs.declared.events.Event.{Event}
 use Rattle.nb_core.specs.declared.events.Event.TheVariants.{Won, Read}
 use Rattle.nb_core.specs.declared.states.ValueState.{ValueState}
 use Rattle.nb_core.specs.declared.states.ValueState.TheVariants.{Tombstone, Live}
-use Rattle.nb_map.specs.Trying.{exchange_call, want_of}
+use Rattle.nb_map.specs.NamedCalls.{exchange_of, want_of}
 use Rattle.nb_map.specs.Updating.{HasTried}
 use Rattle.nb_map.specs.Updating as updating
 
@@ -69,7 +69,7 @@ module _ {F : Type 0} (Step : F → Option ℕ → Option ℕ → F → Type 0) 
     IsRead : call ≡ Get k → reply.before ≡ found → calls ≡ [] → IsNewest call reply calls found
     IsLost :
         (was new : Option ℕ) (f : F) → HasTried Step k first calls was f
-        → call ≡ exchange_call k was new → reply.matched ≡ false → reply.before ≡ found
+        → call ≡ exchange_of k was new → reply.matched ≡ false → reply.before ≡ found
         → IsNewest call reply calls found
 
   newest :

@@ -7,12 +7,15 @@ use Rattle.nb_core.specs.Meaning.{place_of}
 use Rattle.nb_core.specs.Plans.{Plan, generations_of, size_of}
 use Rattle.nb_core.specs.declared.calls.Call.TheVariants.{Get}
 use Rattle.nb_table.specs.Chains.{ChainOf, IsOwn, SeenBy}
-use Rattle.nb_map.specs.Calling.{HasMade, as_replied}
-use Rattle.nb_map.specs.Looking.{get_steps}
-use Rattle.nb_map.specs.Searching.{slots_below}
-use Rattle.nb_map.specs.Walks.{HasGone, IsFirstTable, IsMiss, passing_steps, visit_steps, slots_ahead}
-use Rattle.nb_map.specs.declared.walk.Place.{Place}
-use Rattle.nb_map.specs.declared.walk.Place.TheVariants.{Slot}
+use Rattle.nb_map.specs.Calling.{HasMade}
+use Rattle.nb_map.specs.inside.Reading.{as_replied}
+use Rattle.nb_map.specs.Steps.{get_steps}
+use Rattle.nb_map.specs.Steps.{slots_below}
+use Rattle.nb_map.specs.inside.Walking.{HasGone}
+use Rattle.nb_map.specs.Walks.{IsFirstTable, IsMiss}
+use Rattle.nb_map.specs.Steps.{passing_steps, visit_steps, slots_ahead}
+use Rattle.nb_map.specs.declared.steps.walk.Place.{Place}
+use Rattle.nb_map.specs.declared.steps.walk.Place.TheVariants.{Slot}
 use Rattle.nb_map.proofs.Bounds.{slots-more}
 use Rattle.nb_map.proofs.Made.{begins, made-more, made-own, made-within}
 use Rattle.nb_map.proofs.Walked.{first-still, gone-more, gone-unread, gone-within, made-as, passed-found, passed-missed, passed-more, passed-slot, passed-still, placed-later}

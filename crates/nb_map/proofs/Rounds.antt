@@ -12,10 +12,10 @@ use Rattle.nb_map.proofs.Exchanged.{passed-sum}
 use Rattle.nb_map.proofs.Searched.{made-then}
 use Rattle.nb_map.proofs.Bounds.{next-size}
 use Rattle.nb_map.specs.Calling.{HasMade}
-use Rattle.nb_map.specs.Looking.{get_steps}
-use Rattle.nb_map.specs.Refusing.{home_steps, put_steps}
-use Rattle.nb_map.specs.Searching.{slots_below}
-use Rattle.nb_map.specs.Writing.{passed_since}
+use Rattle.nb_map.specs.Steps.{get_steps}
+use Rattle.nb_map.specs.Steps.{home_steps, put_steps}
+use Rattle.nb_map.specs.Steps.{slots_below}
+use Rattle.nb_map.specs.Progress.{passed_since}
 
 -- a chain has few slots
 slots-few : (p : Plan) → IsPlan p → (g : ℕ) → g ≤ generations_of p → slots_below p g ≤ g * 2 ^ 19

@@ -23,7 +23,8 @@ use Rattle.nb_table.specs.Chains.{SeenBy}
 use Rattle.nb_table.specs.Gathered.{ClosedWith}
 use Rattle.nb_table.specs.Left.{ClosedOf, IsLeft}
 use Rattle.nb_table.specs.Views.{HasSeen}
-use Rattle.nb_map.specs.Ending.{EndedWith, HasAll, IsParted}
+use Rattle.nb_map.specs.Ending.{EndedWith, HasAll}
+use Rattle.nb_map.specs.inside.Models.{IsParted}
 use Rattle.nb_map.specs.Logs.{log}
 use Rattle.nb_map.specs.Maps.{HasCounted, SeatOf}
 use Rattle.nb_map.proofs.Exchanged.{calls-others}

@@ -16,10 +16,11 @@ use Rattle.nb_map.proofs.Rounds.{before-bound}
 use Rattle.nb_map.proofs.Searched.{made-then, reached-lasts, reached-top, ready-top, table-within}
 use Rattle.nb_map.proofs.Written.{alone-top, elsewhere-bound, home-bound, known-then, last-before, same-top}
 use Rattle.nb_map.specs.Calling.{HasMade}
-use Rattle.nb_map.specs.Looking.{get_steps}
-use Rattle.nb_map.specs.Refusing.{IsShortThere, home_steps, put_steps}
-use Rattle.nb_map.specs.Writing.{IsAloneAtHome, IsKnownHome, IsLastSeen, IsSeenAlone, IsShortAtHome, passed_since}
-use Rattle.nb_map.specs.declared.at_home.AtHome.{AtHome}
+use Rattle.nb_map.specs.Steps.{get_steps}
+use Rattle.nb_map.specs.inside.Writing.{IsShortThere}
+use Rattle.nb_map.specs.Steps.{home_steps, put_steps}
+use Rattle.nb_map.specs.Progress.{IsAloneAtHome, IsKnownHome, IsLastSeen, IsSeenAlone, IsShortAtHome, passed_since}
+use Rattle.nb_map.specs.declared.steps.at_home.AtHome.{AtHome}
 
 -- The seat has loaded the top word.
 module _ (chain : ChainOf) {start first : SeenBy} (top : ℕ) (own : IsOwn chain start)

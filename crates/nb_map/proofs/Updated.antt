@@ -25,15 +25,20 @@ use Rattle.nb_map.proofs.Passed.{passed-lost}
 use Rattle.nb_map.proofs.Replied.{replies_fit}
 use Rattle.nb_map.specs.Calling.{HasMade, MayMake}
 use Rattle.nb_map.specs.Logs.{HasLogged, HasReplied, log}
-use Rattle.nb_map.specs.Looking.{get_steps}
+use Rattle.nb_map.specs.Steps.{get_steps}
+use Rattle.nb_map.specs.Promises.{HasGot}
 use Rattle.nb_map.specs.Maps.{HasWorked, IsMine, MapOf, SeatOf, accounted}
-use Rattle.nb_map.specs.Refusing.{IsJust, put_steps}
-use Rattle.nb_map.specs.Searching.{slots_below}
-use Rattle.nb_map.specs.Trying.{HasGivenUp, IsWaitFree, change_to, exchange_call, want_of}
-use Rattle.nb_map.specs.Updating.{HasTried, IsUpdate, Lost, Read, asked_for, update_steps}
-use Rattle.nb_map.specs.Writing.{passed_since}
-use Rattle.nb_map.specs.declared.write.PutFault.{PutFault}
-use Rattle.nb_map.specs.declared.write.PutFault.TheVariants as fault
+use Rattle.nb_map.specs.Refusals.{IsJust}
+use Rattle.nb_map.specs.Steps.{put_steps}
+use Rattle.nb_map.specs.Steps.{slots_below}
+use Rattle.nb_map.specs.Refusals.{HasGivenUp}
+use Rattle.nb_map.specs.Progress.{IsWaitFree}
+use Rattle.nb_map.specs.NamedCalls.{change_to, exchange_of, want_of}
+use Rattle.nb_map.specs.Updating.{HasTried, IsUpdate, Lost, Read, asked_for}
+use Rattle.nb_map.specs.Steps.{update_steps}
+use Rattle.nb_map.specs.Progress.{passed_since}
+use Rattle.nb_map.specs.declared.faults.PutFault.{PutFault}
+use Rattle.nb_map.specs.declared.faults.PutFault.TheVariants as fault
 
 -- ---- steps of several calls at one key
 
@@ -150,14 +155,12 @@ module _ {F : Type 0} (m : MapOf) (Step : F → Option ℕ → Option ℕ → F 
 -- after the read
 pub come-first :
     {F : Type 0} {m : MapOf} {Step : F → Option ℕ → Option ℕ → F → Type 0} (f : F) {k : ℕ}
-    {before now : SeatOf} (tries : ℕ) (found : Option ℕ) → IsMine m before → IsMine m now
-    → HasReplied (Get k) before now (reply_at (Get k) found)
-    → HasWorked m (Get k) before now (get_steps m.chain.shape)
-    → HasCome m Step f k before tries now f found 0
-come-first {m = m} f {k} tries found mine mine' replied worked =
-    let steps = made-logged worked.steps.1 replied in
+    {before now : SeatOf} (tries : ℕ) (found : Option ℕ) → IsMine m before
+    → HasGot m k before now found → HasCome m Step f k before tries now f found 0
+come-first {m = m} f {k} tries found mine got =
+    let steps = made-logged got.worked.steps.1 got.replied in
     record {
-      mine = mine';
+      mine = got.own;
       calls = (Get k, reply_at (Get k) found) ∷ [];
       tried = Read (reply_at (Get k) found);
       lost = refl;
@@ -165,7 +168,7 @@ come-first {m = m} f {k} tries found mine mine' replied worked =
       asked = (0, omega arith, refl);
       key = refl;
       made = made-within (get_steps m.chain.shape) _ (omega arith) steps;
-      count = worked-same mine mine' steps (omega (arith, ints)) worked;
+      count = worked-same mine got.own steps (omega (arith, ints)) got.worked;
     }
 
 module _ {F : Type 0} {m : MapOf} {Step : F → Option ℕ → Option ℕ → F → Type 0} {first : F} {k : ℕ}
@@ -209,10 +212,10 @@ module _ {F : Type 0} {m : MapOf} {Step : F → Option ℕ → Option ℕ → F 
 
     -- one more exchange
     module _ (new : Option ℕ) (g : F) (step : Step f found new g) {after : SeatOf}
-        (mine' : IsMine m after) (worked : IsWaitFree m (exchange_call k found new) now after tries)
+        (mine' : IsMine m after) (worked : IsWaitFree m (exchange_of k found new) now after tries)
       where
         abbrev call : Call
-        call = exchange_call k found new
+        call = exchange_of k found new
 
         -- the call whose steps these may be
         chosen : (one : Call) × IsEither come.call call one

@@ -22,9 +22,10 @@ use Rattle.nb_core.proofs.Theorems.{held_has_place, linked, log_is_replayed, pla
 use Rattle.nb_table.specs.Chains.{seen_by}
 use Rattle.nb_map.specs.Logs.{HasLogged, log}
 use Rattle.nb_map.specs.Maps.{IsMine, MapOf, SeatOf}
-use Rattle.nb_map.specs.Walks.{Begun, Ended, HasGone, HasPassed, HasRead, HasWalked, IsBefore, IsFirstTable, IsLater, IsMiss, IsPassedOver, IsPlace, IsShown, IsUnderway, IsWalkOf, Rested, Showed, WalkLasts, WalkOf, WholeWalk, begun_by, hit, with_shown}
-use Rattle.nb_map.specs.declared.walk.Place.{Place}
-use Rattle.nb_map.specs.declared.walk.Place.TheVariants.{Slot, End}
+use Rattle.nb_map.specs.Walks.{Begun, Ended, HasPassed, HasRead, HasWalked, IsBefore, IsFirstTable, IsLater, IsMiss, IsPassedOver, IsPlace, IsShown, IsUnderway, IsWalkOf, Rested, Showed, WalkLasts, WalkOf, WholeWalk, begun_by, hit, with_shown}
+use Rattle.nb_map.specs.inside.Walking.{HasGone}
+use Rattle.nb_map.specs.declared.steps.walk.Place.{Place}
+use Rattle.nb_map.specs.declared.steps.walk.Place.TheVariants.{Slot, End}
 use Rattle.nb_map.proofs.Counted.{uncounted-mine}
 use Rattle.nb_map.proofs.Logged.{logged, logs_add_up}
 use Rattle.nb_map.proofs.Made.{begins-itself, begins-more}

@@ -17,16 +17,20 @@ use Rattle.nb_map.proofs.Home.{home-in, passed-away}
 use Rattle.nb_map.proofs.Made.{made-none, made-own, made-stays, made-within}
 use Rattle.nb_map.proofs.Searched.{made-then, reached-above, reached-lasts}
 use Rattle.nb_map.specs.Calling.{HasMade}
-use Rattle.nb_map.specs.Looking.{get_steps}
-use Rattle.nb_map.specs.Refusing.{IsJust, IsWritten, exchange_steps, home_steps, made_by, put_steps, write_steps}
-use Rattle.nb_map.specs.Searching.{pass_steps, slots_below}
-use Rattle.nb_map.specs.Writing.{HasBelow, IsAloneAtHome, IsKnownHome, IsLastSeen, IsSeenAlone, search_steps, passed_since, steps_below}
-use Rattle.nb_map.specs.declared.claim.Below.{Below}
-use Rattle.nb_map.specs.declared.claim.Below.TheVariants.{Complete}
-use Rattle.nb_map.specs.declared.write.PutFault.{PutFault}
-use Rattle.nb_map.specs.declared.write.PutFault.TheVariants.{Full, Contended, ValueRange}
-use Rattle.nb_map.specs.declared.write.Written.{Written}
-use Rattle.nb_map.specs.declared.write.Written.TheVariants.{Replied, Refused, Above}
+use Rattle.nb_map.specs.Steps.{get_steps}
+use Rattle.nb_map.specs.Refusals.{IsJust}
+use Rattle.nb_map.specs.inside.Writing.{IsWritten, made_by}
+use Rattle.nb_map.specs.Steps.{exchange_steps, home_steps, put_steps, write_steps}
+use Rattle.nb_map.specs.Steps.{pass_steps, slots_below}
+use Rattle.nb_map.specs.inside.Writing.{HasBelow}
+use Rattle.nb_map.specs.Progress.{IsAloneAtHome, IsKnownHome, IsLastSeen, IsSeenAlone, passed_since}
+use Rattle.nb_map.specs.Steps.{search_steps, steps_below}
+use Rattle.nb_map.specs.declared.steps.claim.Below.{Below}
+use Rattle.nb_map.specs.declared.steps.claim.Below.TheVariants.{Complete}
+use Rattle.nb_map.specs.declared.faults.PutFault.{PutFault}
+use Rattle.nb_map.specs.declared.faults.PutFault.TheVariants.{Full, Contended, ValueRange}
+use Rattle.nb_map.specs.declared.steps.write.Written.{Written}
+use Rattle.nb_map.specs.declared.steps.write.Written.TheVariants.{Replied, Refused, Above}
 
 -- a refusal that is just for the tries that were left is so for all
 pub just-longer :

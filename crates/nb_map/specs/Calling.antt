@@ -1,19 +1,18 @@
 -- What the steps of one call of the map do.
-use Rattle.std.specs.Prelude.{◌≡◌, ℕ, suc, ◌+◌, ◌<◌, ◌≤◌, ◌⊎◌, if◌then◌else◌, List, [], ◌∷◌, All, Option}
-use Rattle.nb_core.specs.Calls.{Fills, leaves_alone}
-use Rattle.nb_core.specs.Log.{calls_of, log_of, reply_at}
-use Rattle.nb_core.specs.History.{counted_by, key_of_call, seat_of_event, turned_by}
+--
+-- A moment is given by the history until then, the newest event first.
+use Rattle.std.specs.Prelude.{ℕ, suc, List, ◌∷◌, ◌≡◌, ◌<◌, ◌⊎◌, ◌+◌, ◌≤◌, All}
+use Rattle.nb_core.specs.Calls.{Fills}
+use Rattle.nb_core.specs.History.{seat_of_event, key_of_call, counted_by, turned_by}
+use Rattle.nb_core.specs.Log.{IsBeginning, calls_of, log_of}
 use Rattle.nb_core.specs.Plans.{Plan, generations_of}
-use Rattle.nb_core.specs.Tables.{HasSlotBelow, IsInstalled, tables_at}
+use Rattle.nb_core.specs.Tables.{IsInstalled, tables_at, HasSlotBelow}
 use Rattle.nb_core.specs.declared.calls.Call.{Call}
 use Rattle.nb_core.specs.declared.calls.Reply.{Reply}
-use Rattle.nb_core.specs.declared.events.Event.{Event}
 use Rattle.nb_core.specs.declared.events.Event.TheVariants.{Claim, Install}
+use Rattle.nb_core.specs.declared.events.Event.{Event}
 use Rattle.nb_table.specs.Chains.{Grown, SeenBy}
-use Rattle.nb_core.specs.Log.{IsBeginning}
 use Rattle.nb_table.specs.Views.{HasSeen}
-
--- A moment is given by the history until then, the newest event first.
 
 -- From one moment to a later one a seat claimed a slot of table g before it saw a next table: there
 -- was none at a moment between them, and from then on the seat made no event but the claim.
@@ -62,11 +61,3 @@ pub record HasMade (p : Plan) (call : Call) (before after : SeenBy) (made : List
 abbrev pub HasStepped : Plan → Call → (before after : SeenBy) → (most : ℕ) → Type 0
 HasStepped p call before after most =
     (made : List (Call × Reply)) × HasMade p call before after made most
-
--- the call with its reply, where its key has this number, or none
-abbrev pub as_replied : Call → Option ℕ → List (Call × Reply)
-as_replied call number = (call, reply_at call number) ∷ []
-
--- the same, if the call leaves the number as it is, so that a look at it is the call's read
-abbrev pub read_of : Call → Option ℕ → List (Call × Reply)
-read_of call number = if leaves_alone call number then as_replied call number else []

@@ -1,16 +1,16 @@
 -- Who can fill a map: only calls on as many other keys as the last table has slots.
-use Rattle.std.specs.Prelude.{◌≡◌, ◌==◌, ◌-◌, ◌<◌, ◌≤◌, ◌⊎◌, ℕ, Bool, not, true, List, [], ◌∷◌, All, filter, map, None}
+use Rattle.std.specs.Prelude.{Bool, not, None, ◌==◌, ℕ, List, filter, map, ◌≡◌, ◌⊎◌, true, [], ◌∷◌, ◌<◌, All, ◌-◌, ◌≤◌}
 use Rattle.std.specs.Set.{distinct_count}
 use Rattle.nb_core.specs.Calls.{leaves_alone}
-use Rattle.nb_core.specs.History.{IsLegal, key_of_call}
+use Rattle.nb_core.specs.History.{key_of_call, IsLegal}
 use Rattle.nb_core.specs.Log.{IsBeginning}
 use Rattle.nb_core.specs.Meaning.{IsCrowded}
-use Rattle.nb_core.specs.Plans.{IsPlan, Plan, generations_of, size_of}
+use Rattle.nb_core.specs.Plans.{Plan, generations_of, IsPlan, size_of}
 use Rattle.nb_core.specs.Tables.{HasSlotBelow, Tables, tables_at}
 use Rattle.nb_core.specs.declared.calls.Call.{Call}
-use Rattle.nb_core.specs.declared.events.Event.{Event}
 use Rattle.nb_core.specs.declared.events.Event.TheVariants.{Claim}
-use Rattle.nb_table.specs.Chains.{Grown, SeenBy, own_events}
+use Rattle.nb_core.specs.declared.events.Event.{Event}
+use Rattle.nb_table.specs.Chains.{SeenBy, own_events, Grown}
 use Rattle.nb_table.specs.Views.{HasSeen}
 use Rattle.nb_map.specs.Calling.{HasStepped}
 

@@ -1,5 +1,5 @@
 -- How contracts see a handle of a map.
-use Rattle.std.specs.Prelude.{◌≡◌, ℕ, List, map, All}
+use Rattle.std.specs.Prelude.{map, ℕ, List, ◌≡◌, All}
 use Rattle.nb_map.specs.Maps.{MapOf, SeatOf, new_seats}
 use Rattle.nb_map.specs.Walks.{WalkOf}
 

@@ -3,8 +3,8 @@ use Rattle.std.specs.Prelude.{◌≡◌, List, [], ◌++◌}
 use Rattle.nb_core.specs.Log.{reply_at}
 use Rattle.nb_core.specs.declared.calls.Call.{Call}
 use Rattle.nb_core.specs.declared.calls.Reply.{Reply}
-use Rattle.nb_map.specs.Logs.{HasLogged, HasReplied}
-use Rattle.nb_map.specs.Maps.{IsMine, MapOf, SeatOf}
+use Rattle.nb_map.specs.Logs.{HasReplied, HasLogged}
+use Rattle.nb_map.specs.Maps.{SeatOf, MapOf, IsMine}
 
 -- The reply of a call that a seat made is the call's for what was at its key.
 abbrev pub RepliesFit : Type 0

@@ -1,6 +1,6 @@
 -- What a call of the map does, told by the log of all calls.
-use Rattle.std.specs.Prelude.{◌≡◌, ℕ, Bool, List, [], ◌∷◌, ◌++◌, Option, All}
-use Rattle.nb_core.specs.Log.{Entry, IsReplayed, calls_of, log_of}
+use Rattle.std.specs.Prelude.{List, ◌≡◌, [], All, ◌++◌, ◌∷◌, ℕ, Option, Bool}
+use Rattle.nb_core.specs.Log.{Entry, log_of, IsReplayed, calls_of}
 use Rattle.nb_core.specs.declared.calls.Call.{Call}
 use Rattle.nb_core.specs.declared.calls.Reply.{Reply}
 use Rattle.nb_map.specs.Maps.{SeatOf}

@@ -1,14 +1,14 @@
 -- How contracts see a map and its seats.
-use Rattle.std.specs.Prelude.{◌≡◌, ℕ, zero, ◌+◌, ℤ, pos, ◌+ℤ◌, List, map, All}
 use Rattle.std.specs.List.{range_with_len}
+use Rattle.std.specs.Prelude.{◌≡◌, map, List, All, ℕ, zero, ℤ, pos, ◌+◌, ◌+ℤ◌}
 use Rattle.nb_core.specs.Log.{calls_of, log_of}
 use Rattle.nb_core.specs.Meaning.{net_of}
 use Rattle.nb_core.specs.Plans.{IsPlan, Plan}
 use Rattle.nb_core.specs.declared.calls.Call.{Call}
-use Rattle.nb_count.specs.Counts.{CounterOf, CountSeatOf}
 use Rattle.nb_count.specs.Counts as counts
-use Rattle.nb_table.specs.Chains.{ChainOf, IsOwn, SeenBy}
+use Rattle.nb_count.specs.Counts.{CounterOf, CountSeatOf}
 use Rattle.nb_table.specs.Chains as chains
+use Rattle.nb_table.specs.Chains.{ChainOf, SeenBy, IsOwn}
 use Rattle.nb_map.specs.Calling.{HasStepped}
 
 -- a map: its chain of tables, and the counter of its keys

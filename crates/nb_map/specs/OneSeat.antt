@@ -1,12 +1,12 @@
 -- A map with one seat: it replies as a plain map does, call by call.
-use Rattle.std.specs.Prelude.{◌≡◌, ℕ, List, [], ◌++◌, Option, None, map}
 use Rattle.std.specs.FinMap.{get}
-use Rattle.nb_core.specs.Log.{Entry, Numbers, map_after, map_of_log, reply_of}
+use Rattle.std.specs.Prelude.{◌≡◌, ℕ, List, [], ◌++◌, Option, None, map}
+use Rattle.nb_core.specs.Log.{Numbers, map_of_log, Entry, map_after, reply_of}
 use Rattle.nb_core.specs.Meaning.{IsCrowded}
 use Rattle.nb_core.specs.declared.calls.Call.{Call}
 use Rattle.nb_core.specs.declared.calls.Reply.{Reply}
-use Rattle.nb_map.specs.Logs.{HasFound, HasLogged, HasReplied, log}
-use Rattle.nb_map.specs.Maps.{IsMine, MapOf, SeatOf}
+use Rattle.nb_map.specs.Logs.{log, HasLogged, HasReplied, HasFound}
+use Rattle.nb_map.specs.Maps.{SeatOf, MapOf, IsMine}
 
 -- the map that the log leaves which a seat knows
 abbrev pub held : SeatOf → Numbers

@@ -1,20 +1,19 @@
 -- Updates of what is at a key by a function.
-use Rattle.std.specs.Prelude.{◌≡◌, ℕ, suc, ◌+◌, ◌*◌, ◌≤◌, true, false, List, [], ◌∷◌, Option, Some, None, length, map, Contains, IfOk, IfErr, IfSome, Result, Ok, Err}
-use Rattle.nb_core.specs.Plans.{Plan}
-use Rattle.nb_core.specs.declared.calls.Call.{Call}
-use Rattle.nb_core.specs.declared.calls.Call.TheVariants.{Get}
-use Rattle.nb_core.specs.declared.calls.Reply.{Reply}
-use Rattle.nb_map.specs.Logs.{HasLogged, HasReplied}
-use Rattle.nb_map.specs.Looking.{get_steps}
-use Rattle.nb_map.specs.Maps.{HasWorked, MapOf, SeatOf}
-use Rattle.nb_map.specs.Refusing.{IsJust, put_steps}
-use Rattle.nb_map.specs.Trying.{HasGivenUp, IsWaitFree, exchange_call}
-use Rattle.nb_map.specs.Writing.{passed_since}
-use Rattle.nb_map.specs.declared.write.PutFault.{PutFault}
-use Rattle.nb_map.specs.declared.write.PutFault.TheVariants as fault
-
+--
 -- The function of an update may change as it is called. It is told by its steps: `Step f was new g`
 -- says that a call of `f` at `was` may answer `new`, and leave the function as `g`.
+use Rattle.std.specs.Prelude.{◌≡◌, ℕ, false, List, [], ◌∷◌, Option, suc, ◌≤◌, true, Some, None, length, Result, Ok, Err, map, Contains, IfSome}
+use Rattle.nb_core.specs.declared.calls.Call.TheVariants.{Get}
+use Rattle.nb_core.specs.declared.calls.Call.{Call}
+use Rattle.nb_core.specs.declared.calls.Reply.{Reply}
+use Rattle.nb_map.specs.Logs.{HasLogged}
+use Rattle.nb_map.specs.Maps.{MapOf, SeatOf, HasWorked}
+use Rattle.nb_map.specs.NamedCalls.{exchange_of}
+use Rattle.nb_map.specs.Progress.{passed_since}
+use Rattle.nb_map.specs.Refusals.{IsJust}
+use Rattle.nb_map.specs.Steps.{update_steps}
+use Rattle.nb_map.specs.declared.faults.PutFault.TheVariants as fault
+use Rattle.nb_map.specs.declared.faults.PutFault.{PutFault}
 
 -- What an update that hasn't ended has called: its calls, the newest first; what the newest found at
 -- the key; and the function, as these calls left it. It has read the key. Each exchange after that
@@ -26,7 +25,7 @@ pub data HasTried {F : Type 0} (Step : F → Option ℕ → Option ℕ → F →
   Lost :
       {calls : List (Call × Reply)} {was : Option ℕ} {f : F} → HasTried Step k first calls was f
       → (new : Option ℕ) (g : F) (reply : Reply) → Step f was new g → reply.matched ≡ false
-      → HasTried Step k first ((exchange_call k was new, reply) ∷ calls) reply.before g
+      → HasTried Step k first ((exchange_of k was new, reply) ∷ calls) reply.before g
 
 -- an exchange of what was found for what the function makes of it, in one call of the function
 abbrev pub IsComputed :
@@ -34,12 +33,13 @@ abbrev pub IsComputed :
     → (function : F) → Call → Type 0
 IsComputed {F} Step k found function call =
     (new : Option ℕ) × (left : F) × Step function found new left
-    × (call ≡ exchange_call k found new)
+    × (call ≡ exchange_of k found new)
 
 -- How an update ends after these calls, the last of which found this. It has lost fewer exchanges
 -- than it has tries, and makes one more. That is won; or it is refused for a just reason, and the map
 -- is as it was. Or there is no further one: it has lost as many as it has tries, and others have won
--- as many exchanges on the key.
+-- as many exchanges on the key. (Its calls have the read as well, so they are one more than the
+-- exchanges that it lost.)
 abbrev pub IsEnd :
     (m : MapOf) → (k : ℕ) → (before after : SeatOf) → (tries : ℕ) → (calls : List (Call × Reply))
     → (found : Option ℕ) → (last : Option Call) → Result (Option ℕ) PutFault → Type 0
@@ -59,10 +59,6 @@ abbrev pub asked_for : Option Call → List (Call × Reply) → List Call
 asked_for None calls = map (λ made. made.0) calls
 asked_for (Some call) calls = call ∷ map (λ made. made.0) calls
 
--- the most steps of an update: a read, and so many exchanges with so many tries
-abbrev pub update_steps : Plan → (tries : ℕ) → ℕ
-update_steps p tries = get_steps p + tries * put_steps p tries
-
 -- An update with so many tries has come to this.
 pub record IsUpdate {F : Type 0} (m : MapOf) (Step : F → Option ℕ → Option ℕ → F → Type 0) (f : F)
     (k : ℕ) (before after : SeatOf) (tries : ℕ) (result : Result (Option ℕ) PutFault) : Type 0 where
@@ -75,16 +71,8 @@ pub record IsUpdate {F : Type 0} (m : MapOf) (Step : F → Option ℕ → Option
   pub last : Option Call
   pub computed : IfSome last (IsComputed Step k found function)
   pub ended : IsEnd m k before after tries calls found last result
-  -- all that its steps did one of these calls may do
+  -- all that its steps did one of these calls may do: so a slot is claimed for the key only if one of
+  -- them puts a number at an absent key
   pub call : Call
   pub asked : Contains (asked_for last calls) call
   pub worked : HasWorked m call before after (update_steps m.chain.shape tries)
-
--- ---- one exchange
-
--- a write with so many tries has come to this
-pub record HasExchanged (m : MapOf) (call : Call) (before after : SeatOf) (tries : ℕ)
-    (result : Result Reply PutFault) : Type 0 where
-  pub replied : IfOk result (HasReplied call before after)
-  pub refused : IfErr result (HasGivenUp m call before after tries)
-  pub worked : IsWaitFree m call before after tries

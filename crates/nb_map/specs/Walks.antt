@@ -1,22 +1,19 @@
 -- Walks over the keys of a map: where a walk is, and what it shows.
-use Rattle.std.specs.Prelude.{◌≡◌, ℕ, ◌+◌, ◌-◌, ◌*◌, ◌<◌, ◌≤◌, ◌⊎◌, ◌==◌, true, false, Bool, List, [], ◌∷◌, ◌++◌, map, All, Contains, Option, Some, None, IfSome}
 use Rattle.std.specs.List.{IsDistinct}
-use Rattle.nb_core.specs.Log.{HeldThrough, IsBeginning, log_of, reply_at}
+use Rattle.std.specs.Prelude.{◌≡◌, ◌<◌, ◌⊎◌, ℕ, ◌≤◌, Some, Option, None, IfSome, List, [], ◌++◌, All, ◌∷◌, ◌==◌, map, Contains}
+use Rattle.nb_core.specs.Log.{IsBeginning, HeldThrough, log_of, reply_at}
 use Rattle.nb_core.specs.Meaning.{place_of}
 use Rattle.nb_core.specs.Plans.{Plan, generations_of, size_of}
-use Rattle.nb_core.specs.Tables.{AreOthers, HasSlot, IsComplete, IsInstalled, Tables}
-use Rattle.nb_core.specs.declared.calls.Call.{Call}
+use Rattle.nb_core.specs.Tables.{IsComplete, IsInstalled, Tables}
 use Rattle.nb_core.specs.declared.calls.Call.TheVariants.{Get}
+use Rattle.nb_core.specs.declared.calls.Call.{Call}
 use Rattle.nb_core.specs.declared.calls.Reply.{Reply}
 use Rattle.nb_table.specs.Chains.{SeenBy, seen_by}
-use Rattle.nb_table.specs.Conditions.{IsReached}
-use Rattle.nb_map.specs.Calling.{HasMade, as_replied}
 use Rattle.nb_map.specs.Logs.{HasLogged, log}
-use Rattle.nb_map.specs.Looking.{get_steps}
-use Rattle.nb_map.specs.Maps.{HasWorked, IsMine, MapOf, SeatOf}
-use Rattle.nb_map.specs.Searching.{IsClosedTo, slots_below}
-use Rattle.nb_map.specs.declared.walk.Place.{Place}
-use Rattle.nb_map.specs.declared.walk.Place.TheVariants.{Slot, End}
+use Rattle.nb_map.specs.Maps.{SeatOf, MapOf, IsMine, HasWorked}
+use Rattle.nb_map.specs.declared.steps.walk.Place.TheVariants.{Slot, End}
+use Rattle.nb_map.specs.declared.steps.walk.Place.{Place}
+use Rattle.nb_map.specs.inside.Reading.{as_replied}
 
 -- ---- places
 
@@ -30,11 +27,6 @@ IsBefore (Slot g i) (Slot f j) = (g < f) ⊎ ((g ≡ f) × (i < j))
 -- the slot comes at or after the first of two places, and before the second
 abbrev pub IsBetween : (from to : Place) → (g i : ℕ) → Type 0
 IsBetween from to g i = (IsBefore (Slot g i) from → ⊥) × IsBefore (Slot g i) to
-
--- how many slots there are from a place on
-abbrev pub slots_ahead : Plan → Place → ℕ
-slots_ahead p (Slot g i) = slots_below p (generations_of p) - (slots_below p g + i)
-slots_ahead p End = 0
 
 -- ---- a walk
 
@@ -123,12 +115,6 @@ pub record HasRead (before after : SeatOf) (shown : Option (ℕ × ℕ)) : Type 
   pub missed : All IsMiss misses
   pub logged : HasLogged before after (hit shown ++ misses)
 
--- the most steps from one place of a walk to another, with T slots in all tables and B the bound of
--- a read: T + B + 4 for each slot, so T (T + B + 4) for all calls of a walk together
-abbrev pub passing_steps : Plan → (from to : Place) → ℕ
-passing_steps p from to =
-    (slots_ahead p from - slots_ahead p to) * (slots_below p (generations_of p) + get_steps p + 4)
-
 -- ---- a whole walk
 
 -- What a walk has shown so far, the newest pair first: nothing as it begins, no more after other
@@ -182,36 +168,3 @@ pub record WalkLasts : Type 0 where
       {m : MapOf} {before after : SeatOf} {walk : WalkOf} → IsWalkOf m before walk → IsMine m after
       → IsLater before after
       → IsWalkOf m after walk
-
--- ---- in one table
-
--- the key has no slot in the table and is passed there: its path is closed behind slots of other
--- keys, or theirs as a whole
-abbrev pub IsAway : Plan → Tables → (g k : ℕ) → Type 0
-IsAway p t g k = IsClosedTo p t g k ⊎ AreOthers p t g k (size_of p g)
-
--- whether the key has a slot in a table from the walk's first one on, but before table g; if not,
--- it is away from all these
-abbrev pub IsEarlier : Plan → Tables → (first g k : ℕ) → Bool → Type 0
-IsEarlier p t first g k true = (f : ℕ) × (first ≤ f) × (f < g) × HasSlot p t f k
-IsEarlier p t first g k false = (f : ℕ) → first ≤ f → f < g → IsAway p t f k
-
--- the slot is the first place of this key from the walk's first table on, and a search for the key
--- may have come there; or it is the first place of none
-abbrev pub IsFirstOf : Plan → SeenBy → (first g i : ℕ) → Option ℕ → Type 0
-IsFirstOf p seat first g i None = (k : ℕ) → place_of p seat.seen first k ≡ Some (g, i) → ⊥
-IsFirstOf p seat first g i (Some k) =
-    (place_of p seat.seen first k ≡ Some (g, i)) × IsReached p (seen_by p seat) g k
-
--- the most steps at one slot: its key, a search for the key in the tables before, and a read of it
-abbrev pub visit_steps : Plan → ℕ
-visit_steps p = slots_below p (generations_of p) + get_steps p + 1
-
--- A seat's steps took a walk from one place to another: with reads alone, at last the one of the
--- pair that is shown, in at most so many steps.
-pub record HasGone (p : Plan) (before after : SeenBy) (first : ℕ) (from to : Place)
-    (shown : Option (ℕ × ℕ)) (most : ℕ) : Type 0 where
-  pub misses : List (Call × Reply)
-  pub missed : All IsMiss misses
-  pub made : (k : ℕ) → HasMade p (Get k) before after (hit shown ++ misses) most
-  pub passed : HasPassed p before after first from to shown

@@ -6,32 +6,12 @@
 //! high-scale-lib.
 #![tactic(auto)]
 
-mod at_home;
-mod claim;
-mod decide;
-mod ended;
-mod exchange;
-mod get;
+mod faults;
 mod handle;
-mod handle_trying;
-mod handle_walk;
 pub mod laws;
 mod map;
-mod pause;
-mod refusals;
-mod room;
-mod search;
 pub mod steps;
-mod trying;
-mod updating;
-mod waiting;
-mod walk;
-mod write;
 
-pub use ended::Ended;
-pub use handle::Handle;
-pub use handle_walk::HandleWalk;
-pub use map::{Map, Seat};
-pub use waiting::{AddFault, Full};
-pub use walk::Walk;
-pub use write::PutFault;
+pub use faults::{AddFault, Full, PutFault};
+pub use handle::{Handle, HandleWalk};
+pub use map::{Ended, Map, Seat, Walk};

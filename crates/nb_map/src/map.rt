@@ -1,59 +1,33 @@
 //! The map and its seats.
-ghost use Rattle.std.specs.Prelude.{
-  ◌≡◌,
-  ◌+◌,
-  ◌<◌,
-  ◌≤◌,
-  ◌↔◌,
-  ℕ,
-  min,
-  pos,
-  IfOk,
-  IfErr,
-  IfSome,
-  is_ok,
-  is_some,
-  true,
-  if◌then◌else◌,
-  Option,
-  [],
-  length,
-};
-ghost use Rattle.nb_core.specs.Log.{IsBeginning, reply_at};
+ghost use Rattle.std.specs.Prelude.{IfOk, Option, if◌then◌else◌, is_some, pos, ℕ, ◌≡◌, ◌≤◌};
 ghost use Rattle.nb_core.specs.Meaning.{net_of_change};
 ghost use Rattle.nb_core.specs.Plans.{IsPlan};
-ghost use Rattle.nb_core.specs.Tables.{IsComplete};
 ghost use Rattle.nb_core.specs.declared.calls.Call.TheVariants as call;
-ghost use Rattle.nb_count.specs.Counts.{with_looks};
-ghost use Rattle.nb_table.specs.Chains.{Extended, seen_by};
-ghost use Rattle.nb_map.specs.Looking.{IsSeenAtHome, get_steps};
-ghost use Rattle.nb_map.specs.Ending.{EndedWith, HasTablesLeft};
-ghost use Rattle.nb_map.specs.Logs.{HasLogged, HasReplied, HaveEmptyLogs, log};
-ghost use Rattle.nb_map.specs.Maps.{AreMine, HasWorked, IsMine, accounted, new_seats};
-ghost use Rattle.nb_map.specs.Refusing.{IsJust, put_steps};
-ghost use Rattle.nb_map.specs.Walks.{
-  HasRead,
-  HasWalked,
-  IsWalkOf,
-  begun_by,
-  passing_steps,
-  slots_ahead,
-};
-ghost use Rattle.nb_map.specs.Writing.{IsShortAtHome, passed_since};
+ghost use Rattle.nb_core.specs.declared.calls.Change.TheVariants as change;
+ghost use Rattle.nb_map.specs.Logs.{HaveEmptyLogs};
+ghost use Rattle.nb_map.specs.Maps.{AreMine, IsMine, accounted, new_seats};
+ghost use Rattle.nb_map.specs.Promises.{HasEstimated, HasGot, HasMet, HasSeenTop, HasTriedToWrite, replied_or_refused};
 
-use crate::ended::{Ended, parted};
-use crate::get::get_in;
-use crate::pause::NoPause;
-use crate::room::Room;
-use crate::walk::{Place, Walk, next_from};
-use crate::write::{PutFault, put_if_match_in};
-use nb_core::{Change, Key, NotAll, Num, OutOfMemory, Reply, Shape, Want};
+mod ended;
+mod room;
+mod trying;
+mod updating;
+mod waiting;
+mod walks;
+
+use crate::faults::PutFault;
+use crate::map::room::Room;
+use crate::steps::get::get_in;
+use crate::steps::pause::NoPause;
+use crate::steps::write::put_if_match_in;
+pub use ended::Ended;
+use nb_core::{Change, Key, Num, OutOfMemory, Reply, Shape, Want};
 use nb_count::{CountSeat, Counter};
 use nb_table::{Chain, ChainSeat};
 use std::alloc::Global;
 use std::marker::Model;
-use std::snapshot::Snapshot;
 use std::sync::Mutex;
+pub use walks::Walk;
 
 /// A map from whole numbers to whole numbers, which many threads share. Contracts see its chain of
 /// tables and its counter.
@@ -71,7 +45,7 @@ impl Model for Map {
 
     ghost Value = { MapOf };
 
-    ghost use Rattle.nb_map.specs.Inside.{IsMap, map_within};
+    ghost use Rattle.nb_map.specs.inside.Models.{IsMap, map_within};
 
     ghost view = { map_within };
 
@@ -91,7 +65,7 @@ impl Model for Seat {
 
     ghost Value = { SeatOf };
 
-    ghost use Rattle.nb_map.specs.Inside.{seat_of};
+    ghost use Rattle.nb_map.specs.inside.Models.{seat_of};
 
     ghost view = { seat_of };
 }
@@ -139,13 +113,7 @@ impl Map {
     #[inline]
     pub fn get(&self, seat: &mut Seat, key: Key) -> Option<Num>
         requires own { IsMine self.now seat.old }
-        ensures replied { HasReplied (call.Get key) seat.old seat.new
-            (reply_at (call.Get key) result) }
-        ensures worked { HasWorked self.now (call.Get key) seat.old seat.new
-            (get_steps self.now.chain.shape) }
-        ensures three_steps { IsSeenAtHome self.now.chain.shape seat.old.chain seat.new.chain key
-            → seat.new.chain.steps ≤ seat.old.chain.steps + 3 }
-        ensures own { IsMine self.now seat.new }
+        ensures { HasGot self.now key seat.old seat.new result }
     {
         get_in(&self.chain, &mut seat.chain, key)
     }
@@ -153,13 +121,8 @@ impl Map {
     /// Whether the map has a key. It is a `get`.
     pub fn contains_key(&self, seat: &mut Seat, key: Key) -> bool
         requires own { IsMine self.now seat.old }
-        ensures replied { (number : Option ℕ) × (is_some number ≡ result)
-            × HasReplied (call.Get key) seat.old seat.new (reply_at (call.Get key) number) }
-        ensures worked { HasWorked self.now (call.Get key) seat.old seat.new
-            (get_steps self.now.chain.shape) }
-        ensures three_steps { IsSeenAtHome self.now.chain.shape seat.old.chain seat.new.chain key
-            → seat.new.chain.steps ≤ seat.old.chain.steps + 3 }
-        ensures own { IsMine self.now seat.new }
+        ensures { (number : Option ℕ) × (is_some number ≡ result)
+            × HasGot self.now key seat.old seat.new number }
     {
         self.get(seat, key).is_some()
     }
@@ -185,17 +148,8 @@ impl Map {
     ) -> Result<Reply, PutFault>
         requires own { IsMine self.now seat.old }
         requires some { 1 ≤ tries }
-        ensures replied { IfOk result (HasReplied (call.Write key want change) seat.old seat.new) }
-        ensures refused { IfErr result (λ fault. HasLogged seat.old seat.new []
-            × IsJust self.now.chain.shape (call.Write key want change)
-            seat.old.chain seat.new.chain tries fault) }
-        ensures worked { HasWorked self.now (call.Write key want change) seat.old seat.new
-            (put_steps self.now.chain.shape
-            (min tries (passed_since (call.Write key want change) seat.old.chain seat.new.chain
-            + 1))) }
-        ensures short { IsShortAtHome self.now.chain.shape (call.Write key want change)
-            seat.old.chain seat.new.chain }
-        ensures own { IsMine self.now seat.new }
+        ensures { HasTriedToWrite self.now (call.Write key want change) seat.old seat.new tries
+            (replied_or_refused result) }
     {
         let reply = put_if_match_in(
             &self.chain,
@@ -237,13 +191,7 @@ impl Map {
     /// How many tables are known to be complete, from the first one on: the top word, by one load.
     pub fn generation(&self, seat: &mut Seat) -> u32
         requires own { IsMine self.now seat.old }
-        ensures logged { HasLogged seat.old seat.new [] }
-        ensures grows { Extended self.now.chain.shape seat.old.chain seat.new.chain [] 1 }
-        ensures found { (seen_by self.now.chain.shape seat.new.chain).top ≡ result }
-        ensures complete { (g : ℕ) → g < result
-            → IsComplete self.now.chain.shape (seen_by self.now.chain.shape seat.new.chain) g }
-        ensures count { seat.new.count ≡ seat.old.count }
-        ensures own { IsMine self.now seat.new }
+        ensures { HasSeenTop self.now seat.old seat.new result }
     {
         self.chain.load_top(&mut seat.chain)
     }
@@ -252,56 +200,9 @@ impl Map {
     /// of each. While others write it is no more than a guess.
     pub fn size_estimate(&self, seat: &mut Seat) -> u64
         requires own { IsMine self.now seat.old }
-        ensures logged { HasLogged seat.old seat.new [] }
-        ensures chain { seat.new.chain ≡ seat.old.chain }
-        ensures count { seat.new.count ≡ with_looks self.now.counter.stripes seat.old.count }
-        ensures own { IsMine self.now seat.new }
+        ensures { HasEstimated self.now seat.old seat.new }
     {
         self.counter.estimate(&mut seat.count)
-    }
-
-    /// Begins a walk over the map's keys in the table that is the top one now, by one load of the
-    /// top word.
-    pub fn walk(&self, seat: &mut Seat) -> Walk
-        requires own { IsMine self.now seat.old }
-        ensures logged { HasLogged seat.old seat.new [] }
-        ensures begun { result ≡ begun_by self.now seat.new }
-        ensures walk { IsWalkOf self.now seat.new result }
-        ensures grows { Extended self.now.chain.shape seat.old.chain seat.new.chain [] 1 }
-        ensures count { seat.new.count ≡ seat.old.count }
-        ensures own { IsMine self.now seat.new }
-    {
-        let first = self.generation(seat);
-        Walk {
-            first,
-            place: Place::Slot(first, 0),
-            begun: Snapshot::of(seat),
-        }
-    }
-
-    /// The next key of a walk that this seat has begun, with its number: `while let Some((key,
-    /// number)) = map.next_key(&mut seat, &mut walk)` goes through the map while others write it.
-    /// Each pair that is shown is a `get` of this seat with its place in the log; no key is shown
-    /// twice; and from `walk` to the `None` that ends it, each key that the map has all the while
-    /// is shown (`laws::whole_walk`). A key that comes or goes meanwhile may be shown or not. After
-    /// `None` it answers `None` for ever.
-    ///
-    /// Where no table is being copied, a slot costs one load and a key one more. All calls of a
-    /// walk together make at most T (T + B + 4) steps on the chain, whose tables have T slots and a
-    /// `get` at most B steps.
-    pub fn next_key(&self, seat: &mut Seat, walk: &mut Walk) -> Option<(Key, Num)>
-        requires own { IsMine self.now seat.old }
-        requires walk { IsWalkOf self.now seat.old walk.old }
-        ensures read { HasRead seat.old seat.new result }
-        ensures walked { HasWalked self.now.chain.shape seat.old seat.new walk.old walk.new result }
-        ensures worked { (key : ℕ) → HasWorked self.now (call.Get key) seat.old seat.new
-            (passing_steps self.now.chain.shape walk.old.place walk.new.place) }
-        ensures ahead { IfSome result (λ pair. slots_ahead self.now.chain.shape walk.new.place
-            < slots_ahead self.now.chain.shape walk.old.place) }
-        ensures walk { IsWalkOf self.now seat.new walk.new }
-        ensures own { IsMine self.now seat.new }
-    {
-        next_from(&self.chain, &mut seat.chain, walk.first, &mut walk.place)
     }
 
     /// Lets each of two seats see all that the other has seen. Each makes one step, a load of the
@@ -309,44 +210,9 @@ impl Map {
     pub fn meet(&self, a: &mut Seat, b: &mut Seat)
         requires a_own { IsMine self.now a.old }
         requires b_own { IsMine self.now b.old }
-        ensures a { HasLogged a.old a.new [] × IsBeginning (log b.old) (log a.new) }
-        ensures b { HasLogged b.old b.new [] × IsBeginning (log a.old) (log b.new) }
-        ensures a_grows { Extended self.now.chain.shape a.old.chain a.new.chain [] 1
-            × IsBeginning b.old.chain.seen a.new.chain.seen × (a.new.count ≡ a.old.count) }
-        ensures b_grows { Extended self.now.chain.shape b.old.chain b.new.chain [] 1
-            × IsBeginning a.old.chain.seen b.new.chain.seen × (b.new.count ≡ b.old.count) }
-        ensures a_own { IsMine self.now a.new }
-        ensures b_own { IsMine self.now b.new }
+        ensures a { HasMet self.now b.old a.old a.new }
+        ensures b { HasMet self.now a.old b.old b.new }
     {
         self.chain.meet(&mut a.chain, &mut b.chain);
-    }
-
-    /// With all seats: what is left of the map. With another number of seats everything comes back,
-    /// and the map works on. It takes no memory: `new` has reserved the room.
-    pub fn finish(self, seats: Vec<Seat>) -> Result<Ended, NotAll<Map, Seat>>
-        requires own { AreMine self seats.items }
-        ensures all { (is_ok result ≡ true) ↔ (length seats.items ≡ self.chain.shape.seats) }
-        ensures ended { IfOk result (EndedWith seats.items) }
-        ensures tables { IfOk result (HasTablesLeft self.chain.shape seats.items) }
-        ensures back { IfErr result (λ given. (given.whole ≡ self)
-            × (given.seats.items ≡ seats.items)) }
-    {
-        if seats.len() != self.chain.shape().seats() {
-            return Err(NotAll { whole: self, seats });
-        }
-        let Map {
-            chain,
-            counter,
-            room,
-        } = self;
-        let Room {
-            chain_seats,
-            count_seats,
-        } = room.into_inner();
-        let (chain_seats, count_seats) = parted(seats, chain_seats, count_seats);
-        match (chain.close(chain_seats), counter.close(count_seats)) {
-            (Ok(closed), Ok(size)) => Ok(Ended { closed, size }),
-            _ => unreachable!(),
-        }
     }
 }

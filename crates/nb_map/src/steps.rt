@@ -1,5 +1,18 @@
-//! The map's calls over a chain of tables, for tests that make some steps by hand.
+//! The map's calls over a chain of tables, step by step: from `write` and `get`, which make a call,
+//! down to `decide`, which says what it does to what it found. Tests that make some steps by hand
+//! use what is public here.
 
-pub use crate::get::get_in;
-pub use crate::pause::{NoPause, Pause};
-pub use crate::write::put_if_match_in;
+pub(crate) mod at_home;
+pub(crate) mod claim;
+pub(crate) mod decide;
+pub(crate) mod exchange;
+pub(crate) mod get;
+pub(crate) mod pause;
+pub(crate) mod rounds;
+pub(crate) mod search;
+pub(crate) mod walk;
+pub(crate) mod write;
+
+pub use get::get_in;
+pub use pause::{NoPause, Pause};
+pub use write::put_if_match_in;

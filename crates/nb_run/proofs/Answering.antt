@@ -1,14 +1,15 @@
 -- What a command is answered, by what its call of the map said.
-use Rattle.std.proofs.Common.{◌≡◌, ◌∙◌, ℕ, Bool, Option, Some, None, Result, Ok, Err, IfOk, IfErr, ap, refl}
+use Rattle.std.proofs.Common.{◌≡◌, ◌∙◌, ℕ, Bool, Option, Some, None, Result, Ok, Err, ap, refl}
 use Rattle.nb_core.specs.Log.{reply_at}
 use Rattle.nb_core.specs.declared.calls.Call.TheVariants as call
 use Rattle.nb_core.specs.declared.calls.Reply.{Reply}
 use Rattle.nb_map.specs.Logs.{HasFound, HasMatched, HasReplied}
 use Rattle.nb_map.specs.Maps.{MapOf, SeatOf}
-use Rattle.nb_map.specs.Refusing.{HasRefused}
-use Rattle.nb_map.specs.declared.waiting.AddFault.{AddFault}
-use Rattle.nb_map.specs.declared.waiting.AddFault.TheVariants as fault
-use Rattle.nb_map.specs.declared.waiting.Full.{Full}
+use Rattle.nb_map.specs.Promises.{HasAnswered, found_or_full, found_or_refused}
+use Rattle.nb_map.specs.Refusals.{HasRefused}
+use Rattle.nb_map.specs.declared.faults.AddFault.{AddFault}
+use Rattle.nb_map.specs.declared.faults.AddFault.TheVariants as fault
+use Rattle.nb_map.specs.declared.faults.Full.{Full}
 use Rattle.nb_run.specs.Text.{before, call_of, of_add, of_put, shown}
 use Rattle.nb_run.specs.Working.{IsAnswered}
 use Rattle.nb_run.specs.declared.answers.Answer.TheVariants as answer
@@ -40,17 +41,16 @@ module _ (m : MapOf) (s t : SeatOf) where
   pub by-put :
       (c : Command) → ((reply : Reply) → shown c reply ≡ before reply.before)
       → (put : Result (Option ℕ) Full)
-      → IfOk put (HasFound (call_of c) s t)
-      → IfErr put (λ f. HasRefused m (call_of c) s t fault.Full)
+      → HasAnswered (HasRefused m (call_of c) s t) (call_of c) s t (found_or_full put)
       → IsAnswered m c (of_put put) s t
-  by-put c is (Ok number) found refused = by-found c is number found
-  by-put c is (Err f) found refused = refused
+  by-put c is (Ok number) answered = by-found c is number answered
+  by-put c is (Err f) answered = answered
 
   pub by-add :
       (c : Command) → ((reply : Reply) → shown c reply ≡ before reply.before)
       → (added : Result (Option ℕ) AddFault)
-      → IfOk added (HasFound (call_of c) s t) → IfErr added (HasRefused m (call_of c) s t)
+      → HasAnswered (HasRefused m (call_of c) s t) (call_of c) s t (found_or_refused added)
       → IsAnswered m c (of_add added) s t
-  by-add c is (Ok number) found refused = by-found c is number found
-  by-add c is (Err fault.Full) found refused = refused
-  by-add c is (Err fault.ValueRange) found refused = refused
+  by-add c is (Ok number) answered = by-found c is number answered
+  by-add c is (Err fault.Full) answered = answered
+  by-add c is (Err fault.ValueRange) answered = answered

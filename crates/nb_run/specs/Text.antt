@@ -9,9 +9,9 @@ use Rattle.nb_core.specs.declared.calls.Call.TheVariants as call
 use Rattle.nb_core.specs.declared.calls.Want.TheVariants.{Any, Absent, Present, Equal}
 use Rattle.nb_core.specs.declared.calls.Change.TheVariants as change
 use Rattle.nb_core.specs.declared.calls.Reply.{Reply}
-use Rattle.nb_map.specs.declared.waiting.Full.{Full}
-use Rattle.nb_map.specs.declared.waiting.AddFault.{AddFault}
-use Rattle.nb_map.specs.declared.waiting.AddFault.TheVariants as fault
+use Rattle.nb_map.specs.declared.faults.Full.{Full}
+use Rattle.nb_map.specs.declared.faults.AddFault.{AddFault}
+use Rattle.nb_map.specs.declared.faults.AddFault.TheVariants as fault
 use Rattle.nb_script.specs.Script.{Bytes, Phase}
 use Rattle.nb_script.specs.declared.script.Command.{Command}
 use Rattle.nb_script.specs.declared.script.Command.TheVariants as command

@@ -8,8 +8,8 @@ use Rattle.nb_core.specs.declared.calls.Reply.{Reply}
 use Rattle.nb_map.specs.Calling.{HasStepped}
 use Rattle.nb_map.specs.Logs.{HasLogged, HasReplied, log}
 use Rattle.nb_map.specs.Maps.{IsMine, MapOf, SeatOf}
-use Rattle.nb_map.specs.Refusing.{HasRefused}
-use Rattle.nb_map.specs.declared.waiting.AddFault.TheVariants as fault
+use Rattle.nb_map.specs.Refusals.{HasRefused}
+use Rattle.nb_map.specs.declared.faults.AddFault.TheVariants as fault
 use Rattle.nb_table.specs.Chains.{Grown}
 use Rattle.nb_script.specs.Script.{Phase}
 use Rattle.nb_run.specs.Text.{call_of, shown}

@@ -1,6 +1,5 @@
 -- What a seat's map calls say of its log of set calls.
-use Rattle.std.proofs.Common.{◌≡◌, ◌∙◌, ℕ, ◌==◌, Bool, true, false, not, if◌then◌else◌, List, [], ◌∷◌, ◌++◌, map, Option, Some, None, Result, Ok, Err, is_none, is_some, ap, ap₂, sym, subst, refl}
-use Rattle.std.specs.Result.{IfErr}
+use Rattle.std.proofs.Common.{◌≡◌, ◌∙◌, ℕ, ◌==◌, Bool, true, false, not, if◌then◌else◌, List, [], ◌∷◌, ◌++◌, map, Option, Some, None, is_none, is_some, ap, ap₂, sym, subst, refl}
 use Rattle.std.proofs.lemmas.List.{append_assoc, map-append}
 use Rattle.nb_core.specs.Log.{reply_at}
 use Rattle.nb_core.specs.declared.calls.Call as map_call
@@ -36,11 +35,6 @@ replied-as {before} {after} call reply logged =
     (theorems.replies_fit before.map after.map call reply logged) (logged-as logged)
 
 -- ---- each call of the set
-
--- what holds anyway holds where the call was refused
-pub if-refused : {T E : Type 0} (r : Result T E) {P : Type 0} → P → IfErr r (λ fault. P)
-if-refused (Ok answer) is = tt
-if-refused (Err fault) is = is
 
 -- what wasn't there came, and nothing else
 is-new : (number : Option ℕ) (came : Bool) → is_some number ≡ not came → is_none number ≡ came

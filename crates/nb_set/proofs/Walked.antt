@@ -1,5 +1,5 @@
 -- What a walk over a set shows.
-use Rattle.std.proofs.Common.{◌≡◌, ◌∙◌, ℕ, ◌++◌, ◌==◌, true, List, [], ◌∷◌, map, Option, Some, None, is_some, cond, ap, sym, subst, subst₂, refl, arith}
+use Rattle.std.proofs.Common.{◌≡◌, ◌∙◌, ℕ, ◌++◌, ◌==◌, true, List, [], ◌∷◌, map, Option, Some, None, is_some, cond, ap, sym, subst, refl, arith}
 use Rattle.std.specs.List.{All, Contains, IsDistinct}
 use Rattle.std.specs.FinMap.{get}
 use Rattle.std.proofs.lemmas.List.{get_or-map, length-map}
@@ -11,13 +11,12 @@ use Rattle.nb_core.specs.declared.calls.Call.TheVariants as on_map
 use Rattle.nb_core.specs.declared.calls.Reply.{Reply}
 use Rattle.nb_map.proofs.Theorems as theorems
 use Rattle.nb_map.specs.Logs as of_map
-use Rattle.nb_map.specs.Maps as maps
 use Rattle.nb_map.specs.Walks as walks
 use Rattle.nb_set.specs.Log as set_log
 use Rattle.nb_set.specs.Log.{Call, HeldThrough}
 use Rattle.nb_set.specs.OfMap.{call_as, log_as}
-use Rattle.nb_set.specs.Sets.{HasLogged, HasWorked, IsMine, SeatOf, SetOf, log}
-use Rattle.nb_set.specs.Walks.{HasAsked, HasShown, IsMiss, WalkLasts, WalkOf, WholeWalk, begun, hit, walking_steps, with_shown}
+use Rattle.nb_set.specs.Sets.{HasLogged, SeatOf, log}
+use Rattle.nb_set.specs.Walks.{HasAsked, IsMiss, WalkLasts, WholeWalk, begun, hit}
 use Rattle.nb_set.proofs.Logged.{logged-as}
 use Rattle.nb_set.proofs.Read.{begins-as, begins-replayed, read}
 
@@ -50,53 +49,6 @@ asked {before} {after} shown read = record {
         ≡ hit (key_of shown) ++ map call_as read.misses
     calls None = refl
     calls (Some pair) = refl
-
--- it has shown one key more, or has come to its end
-pub shown-more :
-    {set : SetOf} {before after : SeatOf} {walk walk' : WalkOf} (found : Option (ℕ × ℕ))
-    → IsMine set after
-    → walks.HasRead before.map after.map found
-    → walks.HasWalked set.map.chain.shape before.map after.map walk.map walk'.map found
-    → (shown : List ℕ) → HasShown set before walk shown
-    → HasShown set after walk' (with_shown (key_of found) shown)
-shown-more None mine read walked shown has =
-    record { pairs = has.pairs; keys = has.keys; is = walks.Ended has.is mine walked }
-shown-more (Some pair) mine read walked shown has = record {
-  pairs = pair ∷ has.pairs;
-  keys = ap (λ keys. pair.0 ∷ keys) has.keys;
-  is = walks.Showed has.is mine read walked;
-}
-
--- the same of the seat and the walk as contracts see them
-pub shown-after :
-    {set : SetOf} {seat : SeatOf} {walk : WalkOf} {m : maps.MapOf} {before after : maps.SeatOf}
-    {from to : walks.WalkOf} (found : Option (ℕ × ℕ))
-    → m ≡ set.map → before ≡ seat.map → from ≡ walk.map → maps.IsMine m after
-    → walks.HasRead before after found
-    → walks.HasWalked m.chain.shape before after from to found → (shown : List ℕ)
-    → HasShown set seat walk shown
-    → HasShown set (record { map = after }) (record { map = to }) (with_shown (key_of found) shown)
-shown-after {set} {seat} {walk} {m} {before} {after} {from} {to}
-    found is_map is_seat is_walk mine read walked =
-    shown-more {before = seat} {walk = walk} found (subst (λ m. maps.IsMine m after) is_map mine)
-    (subst (λ s. walks.HasRead s after found) is_seat read)
-    (subst₂ (λ m s. walks.HasWalked m.chain.shape s after walk.map to found) is_map is_seat
-    (subst (λ w. walks.HasWalked m.chain.shape before after w to found) is_walk walked))
-
--- how long the call may have worked
-pub worked-after :
-    {set : SetOf} {seat : SeatOf} {walk : WalkOf} {m : maps.MapOf} {before after : maps.SeatOf}
-    {from : walks.WalkOf} (to : walks.WalkOf) (key : ℕ)
-    → m ≡ set.map → before ≡ seat.map → from ≡ walk.map
-    → maps.HasWorked m (on_map.Get key) before after
-    (walks.passing_steps m.chain.shape from.place to.place)
-    → HasWorked set (set_log.Contains key) seat (record { map = after })
-    (walking_steps set walk (record { map = to }))
-worked-after {set} {seat} {walk} {m} {before} {after} {from} to key is_map is_seat is_walk worked =
-    subst₂ (λ m s. maps.HasWorked m (on_map.Get key) s after
-    (walks.passing_steps m.chain.shape walk.map.place to.place)) is_map is_seat
-    (subst (λ (w : walks.WalkOf). maps.HasWorked m (on_map.Get key) before after
-    (walks.passing_steps m.chain.shape w.place to.place)) is_walk worked)
 
 -- ---- a whole walk
 

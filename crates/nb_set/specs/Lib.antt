@@ -6,4 +6,5 @@ pub mod Ending
 pub mod Inside
 pub mod Laws
 pub mod Handles
+pub mod Promises
 pub mod Held

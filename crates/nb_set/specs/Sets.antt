@@ -1,19 +1,16 @@
--- How contracts see a set and its seats, and what a call of the set does, told by the log of all
--- calls.
-use Rattle.std.specs.Prelude.{◌≡◌, ◌≢◌, ℕ, ◌≤◌, ◌+◌, Bool, List, [], ◌∷◌, ◌++◌, map, All}
+-- How contracts see a set and its seats, and what calls of the set do, told by the log of all calls.
+-- What each call promises is in Promises.antt.
+use Rattle.std.specs.Prelude.{◌≡◌, ◌≢◌, ℕ, ◌+◌, Bool, List, [], ◌∷◌, ◌++◌, map, All}
 use Rattle.std.specs.List.{range_with_len}
 use Rattle.nb_core.specs.History.{seat_of_event}
-use Rattle.nb_core.specs.Log.{IsBeginning}
 use Rattle.nb_core.specs.Meaning.{IsCrowded}
 use Rattle.nb_core.specs.Plans.{Plan}
 use Rattle.nb_core.specs.Tables.{tables_at}
 use Rattle.nb_core.specs.declared.events.Event.{Event}
 use Rattle.nb_map.specs.Logs as of_map
-use Rattle.nb_map.specs.Looking.{IsSeenAtHome}
 use Rattle.nb_map.specs.Maps.{MapOf}
 use Rattle.nb_map.specs.Maps as maps
-use Rattle.nb_map.specs.Refusing as refusing
-use Rattle.nb_map.specs.Writing as writing
+use Rattle.nb_map.specs.Progress as progress
 use Rattle.nb_set.specs.Log.{Call, Entry, IsReplayed, calls_of}
 use Rattle.nb_set.specs.OfMap.{call_for, log_as}
 
@@ -71,6 +68,10 @@ HasNoRoom set k before after =
 abbrev pub IsMine : SetOf → SeatOf → Type 0
 IsMine set seat = maps.IsMine set.map seat.map
 
+-- the set is of this shape, which is a plan, and its counter has as many stripes and seats
+abbrev pub IsMadeFor : SetOf → Plan → Type 0
+IsMadeFor set p = maps.IsMadeFor set.map p
+
 -- all these seats are this set's
 abbrev pub AreMine : SetOf → List SeatOf → Type 0
 AreMine set seats = All (IsMine set) seats
@@ -93,43 +94,26 @@ HasWorked set call before after most =
 -- It is lock-free: only where other seats' writes of the key came first did it work for longer than
 -- its tables say.
 abbrev pub IsLockFree : SetOf → Call → (before after : SeatOf) → Type 0
-IsLockFree set call before after = refusing.IsLockFree set.map (call_for call) before.map after.map
+IsLockFree set call before after = progress.IsLockFree set.map (call_for call) before.map after.map
 
 -- the key is at home in the top table, which is the one that the seat knew, so that a look at it
 -- takes three steps
-abbrev pub IsAtHome : SetOf → ℕ → (before after : SeatOf) → Type 0
-IsAtHome set k before after = IsSeenAtHome (shape_of set) before.map.chain after.map.chain k
+abbrev pub IsSeenAtHome : SetOf → ℕ → (before after : SeatOf) → Type 0
+IsSeenAtHome set k before after =
+    progress.IsSeenAtHome (shape_of set) before.map.chain after.map.chain k
 
 -- It is short where it is alone with its key at home in the top table, which is the one that the
 -- seat knew: four steps on the tables; and for an `add` whose seat didn't know the slot as the
 -- key's, six, while it knows of no table above.
 abbrev pub IsShortAtHome : SetOf → Call → (before after : SeatOf) → Type 0
 IsShortAtHome set call before after =
-    writing.IsShortAtHome (shape_of set) (call_for call) before.map.chain after.map.chain
-
--- it has made so many steps more on the tables at most
-abbrev pub HasStepped : (before after : SeatOf) → (most : ℕ) → Type 0
-HasStepped before after most = steps_of after ≤ steps_of before + most
-
--- ---- looks
+    progress.IsShortAtHome (shape_of set) (call_for call) before.map.chain after.map.chain
 
 -- The seat has looked once at which tables are complete, and done nothing more: what it has seen
 -- anew are events of others, and it has counted nothing.
-pub record HasLooked (before after : SeatOf) : Type 0 where
+pub record HasLookedOnce (before after : SeatOf) : Type 0 where
   pub later : List Event
   pub seen : after.map.chain.seen ≡ later ++ before.map.chain.seen
   pub others : All (λ event. seat_of_event event ≢ seat_number before) later
   pub step : steps_of after ≡ steps_of before + 1
   pub count : after.map.count ≡ before.map.count
-
--- it has looked so, and has then seen all that the other seat had
-abbrev pub HasMet : (before other after : SeatOf) → Type 0
-HasMet before other after =
-    HasLooked before after × IsBeginning other.map.chain.seen after.map.chain.seen
-
--- it has looked at each stripe of the counter once, and made no step on the tables
-abbrev pub HasEstimated : SetOf → (before after : SeatOf) → Type 0
-HasEstimated set before after =
-    let count = before.map.count in
-    (after.map.chain ≡ before.map.chain)
-    × (after.map.count ≡ record count { steps = count.steps + set.map.counter.stripes })

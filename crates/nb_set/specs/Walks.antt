@@ -2,8 +2,9 @@
 use Rattle.std.specs.Prelude.{◌≡◌, ℕ, ◌++◌, ◌==◌, false, true, Bool, List, [], ◌∷◌, map, All, Option, None, Some}
 use Rattle.std.specs.Prelude as std
 use Rattle.std.specs.List.{IsDistinct}
+use Rattle.nb_map.specs.Steps as steps
 use Rattle.nb_map.specs.Walks as walks
-use Rattle.nb_map.specs.declared.walk.Place.TheVariants.{End}
+use Rattle.nb_map.specs.declared.steps.walk.Place.TheVariants.{End}
 use Rattle.nb_set.specs.Log.{Call, Contains, HeldThrough}
 use Rattle.nb_set.specs.Sets.{HasLogged, HasWorked, IsMine, SeatOf, SetOf, log, shape_of}
 
@@ -29,11 +30,11 @@ HasEnded walk = walk.map.place ≡ End
 
 -- how many slots of the tables are still before a walk
 abbrev pub slots_before : SetOf → WalkOf → ℕ
-slots_before set walk = walks.slots_ahead (shape_of set) walk.map.place
+slots_before set walk = steps.slots_ahead (shape_of set) walk.map.place
 
 -- the most steps that a walk makes on its way from one place to another
 abbrev pub walking_steps : SetOf → (from to : WalkOf) → ℕ
-walking_steps set from to = walks.passing_steps (shape_of set) from.map.place to.map.place
+walking_steps set from to = steps.passing_steps (shape_of set) from.map.place to.map.place
 
 -- ---- what it shows
 

@@ -1,47 +1,10 @@
 //! Handles: the ways of threads to a set that they share.
-ghost use Rattle.std.specs.Prelude.{
-  ◌≡◌,
-  ◌↔◌,
-  ◌<◌,
-  ◌∷◌,
-  ◌++◌,
-  [],
-  ℕ,
-  All,
-  IfErr,
-  IfOk,
-  is_ok,
-  length,
-  map,
-  true,
-  false,
-  vec_capacity,
-};
-ghost use Rattle.nb_core.specs.Log.{IsBeginning};
-ghost use Rattle.nb_core.specs.Tables.{IsComplete, tables_at};
-ghost use Rattle.nb_map.specs.Looking.{get_steps};
+ghost use Rattle.std.specs.Prelude.{◌≡◌, ◌↔◌, ◌<◌, ◌∷◌, ◌++◌, All, IfErr, IfOk, Ok, [], false, is_ok, length, map, true, vec_capacity};
 ghost use Rattle.nb_set.specs.Ending.{EndedWith, HasTablesLeft};
 ghost use Rattle.nb_set.specs.Handles.{AreOfOneSet, IsSameSet, new_handles, on_map, seats_of};
 ghost use Rattle.nb_set.specs.Log as call;
-ghost use Rattle.nb_set.specs.Sets.{
-  HasEstimated,
-  HasLogged,
-  HasLooked,
-  HasMet,
-  HasNoRoom,
-  HasReplied,
-  HasStepped,
-  HasWorked,
-  IsAtHome,
-  IsLockFree,
-  IsMine,
-  IsShortAtHome,
-  SetOf,
-  generation_of,
-  log,
-  shape_of,
-};
-ghost use Rattle.nb_set.specs.Walks.{IsLater};
+ghost use Rattle.nb_set.specs.Promises.{HasEstimated, HasLookedUp, HasMet, HasSeenTop, HasWritten};
+ghost use Rattle.nb_set.specs.Sets.{IsMadeFor, IsMine, SetOf, log, shape_of};
 
 use crate::ended::SetEnded;
 use crate::set::present;
@@ -76,6 +39,8 @@ impl Handle {
     pub fn open(alloc: Global, shape: Shape) -> Result<Vec<Handle>, OutOfMemory>
         ensures new { IfOk result (λ handles. (set : SetOf) × (shape_of set ≡ shape)
             × (handles.items ≡ new_handles set shape.seats)) }
+        ensures made { IfOk result (λ handles. All (λ handle. IsMadeFor handle.set shape)
+            handles.items) }
         ensures empty { IfOk result (λ handles. All (λ handle. log handle.seat ≡ [])
             handles.items) }
         ensures one { IfOk result (λ handles. AreOfOneSet handles.items) }
@@ -97,11 +62,8 @@ impl Handle {
 
     /// Puts a key into the set, and answers whether it came: `LongSet::add`.
     pub fn add<R: Wait>(&mut self, rt: &R, key: Key) -> Result<bool, Full>
-        ensures replied { IfOk result (HasReplied (call.Add key) self.old.seat self.new.seat) }
-        ensures full { IfErr result (λ fault. HasNoRoom self.old.set key
-            self.old.seat self.new.seat) }
-        ensures lock_free { IsLockFree self.old.set (call.Add key) self.old.seat self.new.seat }
-        ensures short { IsShortAtHome self.old.set (call.Add key) self.old.seat self.new.seat }
+        ensures wrote { HasWritten self.old.set (call.Add key) self.old.seat self.new.seat
+            result }
         ensures same { IsSameSet self.old self.new }
     {
         let before = self.map.put_if_absent(rt, key, present())?;
@@ -110,10 +72,8 @@ impl Handle {
 
     /// Takes a key out of the set, and answers whether it went: `LongSet::remove`.
     pub fn remove<R: Wait>(&mut self, rt: &R, key: Key) -> bool
-        ensures replied { HasReplied (call.Remove key) self.old.seat self.new.seat result }
-        ensures lock_free { IsLockFree self.old.set (call.Remove key) self.old.seat self.new.seat }
-        ensures short { IsShortAtHome self.old.set (call.Remove key)
-            self.old.seat self.new.seat }
+        ensures wrote { HasWritten self.old.set (call.Remove key) self.old.seat self.new.seat
+            (Ok result) }
         ensures same { IsSameSet self.old self.new }
     {
         self.map.remove(rt, key).is_some()
@@ -122,11 +82,7 @@ impl Handle {
     /// Whether the set has a key: `LongSet::contains`.
     #[inline]
     pub fn contains(&mut self, key: Key) -> bool
-        ensures replied { HasReplied (call.Contains key) self.old.seat self.new.seat result }
-        ensures worked { HasWorked self.old.set (call.Contains key) self.old.seat self.new.seat
-            (get_steps (shape_of self.old.set)) }
-        ensures three_steps { IsAtHome self.old.set key self.old.seat self.new.seat
-            → HasStepped self.old.seat self.new.seat 3 }
+        ensures looked_up { HasLookedUp self.old.set key self.old.seat self.new.seat result }
         ensures same { IsSameSet self.old self.new }
     {
         self.map.contains_key(key)
@@ -134,10 +90,7 @@ impl Handle {
 
     /// About how many keys the set has, modulo 2^64. While others write it is no more than a guess.
     pub fn size_estimate(&mut self) -> u64
-        ensures logged { HasLogged self.old.seat self.new.seat [] }
-        ensures steps { HasStepped self.old.seat self.new.seat 0 }
         ensures looked { HasEstimated self.old.set self.old.seat self.new.seat }
-        ensures later { IsLater self.old.seat self.new.seat }
         ensures same { IsSameSet self.old self.new }
     {
         self.map.size_estimate()
@@ -146,13 +99,7 @@ impl Handle {
     /// How many tables are known to be complete, from the first one on: how often the set has
     /// grown.
     pub fn generation(&mut self) -> u32
-        ensures found { result ≡ generation_of self.old.set self.new.seat }
-        ensures complete { (g : ℕ) → g < result → IsComplete (shape_of self.old.set)
-            (tables_at (shape_of self.old.set) self.new.seat.map.chain.seen) g }
-        ensures logged { HasLogged self.old.seat self.new.seat [] }
-        ensures steps { HasStepped self.old.seat self.new.seat 1 }
-        ensures looked { HasLooked self.old.seat self.new.seat }
-        ensures later { IsLater self.old.seat self.new.seat }
+        ensures looked { HasSeenTop self.old.set self.old.seat self.new.seat result }
         ensures same { IsSameSet self.old self.new }
     {
         self.map.generation()
@@ -162,16 +109,8 @@ impl Handle {
     /// can't be told when it runs, so it is asked for.
     pub fn meet(&mut self, other: &mut Handle)
         requires one { self.old.set ≡ other.old.set }
-        ensures here { HasLogged self.old.seat self.new.seat []
-            × IsBeginning (log other.old.seat) (log self.new.seat) }
-        ensures there { HasLogged other.old.seat other.new.seat []
-            × IsBeginning (log self.old.seat) (log other.new.seat) }
-        ensures steps { HasStepped self.old.seat self.new.seat 1
-            × HasStepped other.old.seat other.new.seat 1 }
-        ensures looked { HasMet self.old.seat other.old.seat self.new.seat
-            × HasMet other.old.seat self.old.seat other.new.seat }
-        ensures later { IsLater self.old.seat self.new.seat
-            × IsLater other.old.seat other.new.seat }
+        ensures here { HasMet self.old.set other.old.seat self.old.seat self.new.seat }
+        ensures there { HasMet self.old.set self.old.seat other.old.seat other.new.seat }
         ensures same { IsSameSet self.old self.new × IsSameSet other.old other.new }
     {
         self.map.meet(&mut other.map);

@@ -1,18 +1,10 @@
 //! Walks by handles.
-ghost use Rattle.std.specs.Prelude.{◌≡◌, ℕ, ◌<◌, List, None, [], IfSome};
+ghost use Rattle.std.specs.Iterator.{at_most};
+ghost use Rattle.std.specs.Prelude.{◌≡◌};
 ghost use Rattle.nb_set.specs.Handles.{handle_on};
-ghost use Rattle.nb_set.specs.Log as call;
-ghost use Rattle.nb_set.specs.Sets.{HasLogged, HasLooked, HasStepped, HasWorked};
-ghost use Rattle.nb_set.specs.Walks.{
-  HasAsked,
-  HasEnded,
-  HasShown,
-  IsLater,
-  begun,
-  slots_before,
-  walking_steps,
-  with_shown,
-};
+ghost use Rattle.nb_set.specs.Promises.{HandleHasWalkedOn, HasBegunWalk, ahead_of};
+ghost use Rattle.nb_set.specs.Sets.{IsMine};
+ghost use Rattle.nb_set.specs.Walks.{IsWalkOf};
 
 use crate::handle::Handle;
 use nb_core::Key;
@@ -41,12 +33,7 @@ impl Model for HandleWalk {
 impl Handle {
     /// Begins a walk over the set's keys: `LongSet::walk`.
     pub fn walk(self) -> HandleWalk
-        ensures logged { HasLogged self.seat result.seat [] }
-        ensures steps { HasStepped self.seat result.seat 1 }
-        ensures looked { HasLooked self.seat result.seat }
-        ensures later { IsLater self.seat result.seat }
-        ensures begun { begun result.walk ≡ result.seat }
-        ensures shown { HasShown result.set result.seat result.walk [] }
+        ensures begun { HasBegunWalk self.set self.seat result.seat result.walk }
         ensures set { result.set ≡ self.set }
     {
         let Handle { map, room } = self;
@@ -58,21 +45,19 @@ impl Handle {
 }
 
 impl HandleWalk {
+    /// What every walk by a handle is: its seat is a seat of its set, and has begun the walk.
+    /// Nothing runs.
+    pub fn known(&self)
+        ensures own { IsMine self.now.set self.now.seat }
+        ensures walk { IsWalkOf self.now.set self.now.seat self.now.walk }
+    {
+        self.map.known();
+    }
+
     /// The next key of the walk, until `None` ends it: `LongSet::next_key`. What a whole walk is
     /// worth is the law `whole_walk`.
     pub fn next_key(&mut self) -> Option<Key>
-        ensures asked { HasAsked self.old.seat self.new.seat result }
-        ensures begun { begun self.new.walk ≡ begun self.old.walk }
-        ensures shown { (shown : List ℕ)
-            → HasShown self.old.set self.old.seat self.old.walk shown
-            → HasShown self.new.set self.new.seat self.new.walk (with_shown result shown) }
-        ensures ended { result ≡ None → HasEnded self.new.walk }
-        ensures worked { (key : ℕ) → HasWorked self.old.set (call.Contains key)
-            self.old.seat self.new.seat
-            (walking_steps self.old.set self.old.walk self.new.walk) }
-        ensures ahead { IfSome result (λ key. slots_before self.old.set self.new.walk
-            < slots_before self.old.set self.old.walk) }
-        ensures set { self.new.set ≡ self.old.set }
+        ensures { HandleHasWalkedOn self.old result self.new }
     {
         let (key, _) = self.map.next_key()?;
         Some(key)
@@ -87,5 +72,18 @@ impl HandleWalk {
             map: map.end(),
             room,
         }
+    }
+}
+
+/// A walk is an iterator over what `next_key` shows: `for key in &mut walk` goes through the set.
+impl Iterator for HandleWalk {
+    type Item = Key;
+
+    ghost next_gives = { HandleHasWalkedOn };
+
+    ghost remaining = { λ walk. at_most (ahead_of walk) };
+
+    fn next(&mut self) -> Option<Key> {
+        self.next_key()
     }
 }

@@ -1,61 +1,10 @@
 //! The set, its seats and its walks.
-ghost use Rattle.std.specs.Prelude.{
-  ◌≡◌,
-  ◌+◌,
-  ◌<◌,
-  ◌≤◌,
-  ◌↔◌,
-  ℕ,
-  All,
-  IfOk,
-  IfErr,
-  IfSome,
-  List,
-  None,
-  false,
-  is_ok,
-  length,
-  map,
-  true,
-  vec_capacity,
-  [],
-};
-ghost use Rattle.nb_core.specs.Log.{IsBeginning};
-ghost use Rattle.nb_core.specs.Plans.{IsPlan};
-ghost use Rattle.nb_core.specs.Tables.{IsComplete, tables_at};
-ghost use Rattle.nb_map.specs.Looking.{get_steps};
+ghost use Rattle.std.specs.Prelude.{◌≡◌, ◌≤◌, ◌↔◌, All, IfErr, IfOk, List, Ok, [], is_ok, length, map, true, vec_capacity};
 ghost use Rattle.nb_set.specs.Ending.{EndedWith, HasTablesLeft};
 ghost use Rattle.nb_set.specs.Log as call;
-ghost use Rattle.nb_set.specs.Sets.{
-  AreMine,
-  HasEstimated,
-  HasLogged,
-  HasLooked,
-  HasMet,
-  HasNoRoom,
-  HasReplied,
-  HasStepped,
-  HasWorked,
-  IsAtHome,
-  IsLockFree,
-  IsMine,
-  IsShortAtHome,
-  generation_of,
-  log,
-  new_seats,
-  shape_of,
-};
-ghost use Rattle.nb_set.specs.Walks.{
-  HasAsked,
-  HasEnded,
-  HasShown,
-  IsLater,
-  IsWalkOf,
-  begun,
-  slots_before,
-  walking_steps,
-  with_shown,
-};
+ghost use Rattle.nb_set.specs.Promises.{HasBegunWalk, HasEstimated, HasLookedUp, HasMet, HasSeenTop, HasWalkedOn, HasWritten};
+ghost use Rattle.nb_set.specs.Sets.{AreMine, IsMadeFor, IsMine, log, new_seats, shape_of};
+ghost use Rattle.nb_set.specs.Walks.{IsWalkOf};
 
 use crate::ended::SetEnded;
 use crate::room::Room;
@@ -124,10 +73,7 @@ impl LongSet {
     /// for the seats, and for room to gather them: nothing that comes later but `SetEnded::entries`
     /// takes any.
     pub fn new(alloc: Global, shape: Shape) -> Result<(LongSet, Vec<Seat>), OutOfMemory>
-        ensures shape { IfOk result (λ made. shape_of made.0 ≡ shape) }
-        ensures plan { IfOk result (λ made. IsPlan (shape_of made.0)) }
-        ensures counter { IfOk result (λ made. (made.0.map.counter.stripes ≡ shape.stripes)
-            × (made.0.map.counter.seats ≡ shape.seats)) }
+        ensures made { IfOk result (λ made. IsMadeFor made.0 shape) }
         ensures seats { IfOk result (λ made. made.1.items ≡ new_seats made.0 shape.seats) }
         ensures empty { IfOk result (λ made. All (λ seat. log seat ≡ []) made.1.items) }
         ensures own { IfOk result (λ made. AreMine made.0 made.1.items) }
@@ -156,11 +102,7 @@ impl LongSet {
     /// have all of these, and the set is then unchanged; a removed key keeps its slot.
     pub fn add<R: Wait>(&self, rt: &R, seat: &mut Seat, key: Key) -> Result<bool, Full>
         requires own { IsMine self.now seat.old }
-        ensures replied { IfOk result (HasReplied (call.Add key) seat.old seat.new) }
-        ensures full { IfErr result (λ fault. HasNoRoom self.now key seat.old seat.new) }
-        ensures lock_free { IsLockFree self.now (call.Add key) seat.old seat.new }
-        ensures short { IsShortAtHome self.now (call.Add key) seat.old seat.new }
-        ensures own { IsMine self.now seat.new }
+        ensures { HasWritten self.now (call.Add key) seat.old seat.new result }
     {
         let before = self.map.put_if_absent(rt, &mut seat.map, key, present())?;
         Ok(before.is_none())
@@ -170,10 +112,7 @@ impl LongSet {
     /// Lock-free, with the bound of `add`.
     pub fn remove<R: Wait>(&self, rt: &R, seat: &mut Seat, key: Key) -> bool
         requires own { IsMine self.now seat.old }
-        ensures replied { HasReplied (call.Remove key) seat.old seat.new result }
-        ensures lock_free { IsLockFree self.now (call.Remove key) seat.old seat.new }
-        ensures short { IsShortAtHome self.now (call.Remove key) seat.old seat.new }
-        ensures own { IsMine self.now seat.new }
+        ensures { HasWritten self.now (call.Remove key) seat.old seat.new (Ok result) }
     {
         self.map.remove(rt, &mut seat.map, key).is_some()
     }
@@ -183,12 +122,7 @@ impl LongSet {
     #[inline]
     pub fn contains(&self, seat: &mut Seat, key: Key) -> bool
         requires own { IsMine self.now seat.old }
-        ensures replied { HasReplied (call.Contains key) seat.old seat.new result }
-        ensures worked { HasWorked self.now (call.Contains key) seat.old seat.new
-            (get_steps (shape_of self.now)) }
-        ensures three_steps { IsAtHome self.now key seat.old seat.new
-            → HasStepped seat.old seat.new 3 }
-        ensures own { IsMine self.now seat.new }
+        ensures { HasLookedUp self.now key seat.old seat.new result }
     {
         self.map.contains_key(&mut seat.map, key)
     }
@@ -197,11 +131,7 @@ impl LongSet {
     /// It makes no step on the tables, and one on each stripe of the counter.
     pub fn size_estimate(&self, seat: &mut Seat) -> u64
         requires own { IsMine self.now seat.old }
-        ensures logged { HasLogged seat.old seat.new [] }
-        ensures steps { HasStepped seat.old seat.new 0 }
-        ensures looked { HasEstimated self.now seat.old seat.new }
-        ensures later { IsLater seat.old seat.new }
-        ensures own { IsMine self.now seat.new }
+        ensures { HasEstimated self.now seat.old seat.new }
     {
         self.map.size_estimate(&mut seat.map)
     }
@@ -210,14 +140,7 @@ impl LongSet {
     /// grown. One step.
     pub fn generation(&self, seat: &mut Seat) -> u32
         requires own { IsMine self.now seat.old }
-        ensures found { result ≡ generation_of self.now seat.new }
-        ensures complete { (g : ℕ) → g < result → IsComplete (shape_of self.now)
-            (tables_at (shape_of self.now) seat.new.map.chain.seen) g }
-        ensures logged { HasLogged seat.old seat.new [] }
-        ensures steps { HasStepped seat.old seat.new 1 }
-        ensures looked { HasLooked seat.old seat.new }
-        ensures later { IsLater seat.old seat.new }
-        ensures own { IsMine self.now seat.new }
+        ensures { HasSeenTop self.now seat.old seat.new result }
     {
         self.map.generation(&mut seat.map)
     }
@@ -226,14 +149,7 @@ impl LongSet {
     /// meanwhile, and take on other walks.
     pub fn walk(&self, seat: &mut Seat) -> Walk
         requires own { IsMine self.now seat.old }
-        ensures logged { HasLogged seat.old seat.new [] }
-        ensures steps { HasStepped seat.old seat.new 1 }
-        ensures looked { HasLooked seat.old seat.new }
-        ensures later { IsLater seat.old seat.new }
-        ensures begun { begun result ≡ seat.new }
-        ensures walk { IsWalkOf self.now seat.new result }
-        ensures shown { HasShown self.now seat.new result [] }
-        ensures own { IsMine self.now seat.new }
+        ensures { HasBegunWalk self.now seat.old seat.new result }
     {
         let map = self.map.walk(&mut seat.map);
         Walk { map }
@@ -249,17 +165,7 @@ impl LongSet {
     pub fn next_key(&self, seat: &mut Seat, walk: &mut Walk) -> Option<Key>
         requires own { IsMine self.now seat.old }
         requires walk { IsWalkOf self.now seat.old walk.old }
-        ensures asked { HasAsked seat.old seat.new result }
-        ensures begun { begun walk.new ≡ begun walk.old }
-        ensures shown { (shown : List ℕ) → HasShown self.now seat.old walk.old shown
-            → HasShown self.now seat.new walk.new (with_shown result shown) }
-        ensures ended { result ≡ None → HasEnded walk.new }
-        ensures worked { (key : ℕ) → HasWorked self.now (call.Contains key) seat.old seat.new
-            (walking_steps self.now walk.old walk.new) }
-        ensures ahead { IfSome result (λ key. slots_before self.now walk.new
-            < slots_before self.now walk.old) }
-        ensures walk { IsWalkOf self.now seat.new walk.new }
-        ensures own { IsMine self.now seat.new }
+        ensures { HasWalkedOn self.now seat.old seat.new walk.old walk.new result }
     {
         let (key, _) = self.map.next_key(&mut seat.map, &mut walk.map)?;
         Some(key)
@@ -269,13 +175,8 @@ impl LongSet {
     pub fn meet(&self, a: &mut Seat, b: &mut Seat)
         requires a_own { IsMine self.now a.old }
         requires b_own { IsMine self.now b.old }
-        ensures a { HasLogged a.old a.new [] × IsBeginning (log b.old) (log a.new) }
-        ensures b { HasLogged b.old b.new [] × IsBeginning (log a.old) (log b.new) }
-        ensures steps { HasStepped a.old a.new 1 × HasStepped b.old b.new 1 }
-        ensures looked { HasMet a.old b.old a.new × HasMet b.old a.old b.new }
-        ensures later { IsLater a.old a.new × IsLater b.old b.new }
-        ensures a_own { IsMine self.now a.new }
-        ensures b_own { IsMine self.now b.new }
+        ensures a { HasMet self.now b.old a.old a.new }
+        ensures b { HasMet self.now a.old b.old b.new }
     {
         self.map.meet(&mut a.map, &mut b.map);
     }

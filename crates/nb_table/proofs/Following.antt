@@ -13,21 +13,21 @@ use Rattle.nb_core.proofs.Theorems.{seen_lasts}
 
 -- a step without an event leaves its word
 pub none-follows :
-    (p : Plan) (number place new : ℕ) (h : List Event) → IsLegal p h
-    → new ≡ slice_index (words_of p h) place
-    → MayStep p [] number place new h
-none-follows p number place new h legal same = record {
+    (p : Plan) (number index new : ℕ) (h : List Event) → IsLegal p h
+    → new ≡ slice_index (words_of p h) index
+    → MayStep p [] number index new h
+none-follows p number index new h legal same = record {
   legal = legal;
-  words = sym (ap (slice_set (words_of p h) place) same ∙ set-get_or (words_of p h) place 0);
+  words = sym (ap (slice_set (words_of p h) index) same ∙ set-get_or (words_of p h) index 0);
   mine = All-nil (λ x. seat_of_event x ≡ number);
 }
 
 -- the one event of a step
 pub one-follows :
-    (p : Plan) (e : Event) (number place new : ℕ) (h : List Event) → IsLegal p (e ∷ h)
-    → words_of p (e ∷ h) ≡ slice_set (words_of p h) place new → seat_of_event e ≡ number
-    → MayStep p (e ∷ []) number place new h
-one-follows p e number place new h legal words mine = record {
+    (p : Plan) (e : Event) (number index new : ℕ) (h : List Event) → IsLegal p (e ∷ h)
+    → words_of p (e ∷ h) ≡ slice_set (words_of p h) index new → seat_of_event e ≡ number
+    → MayStep p (e ∷ []) number index new h
+one-follows p e number index new h legal words mine = record {
   legal = legal;
   words = words;
   mine = All-cons (λ x. seat_of_event x ≡ number) e [] mine
@@ -36,12 +36,12 @@ one-follows p e number place new h legal words mine = record {
 
 -- a step that is an event where a test holds
 pub if-follows :
-    (p : Plan) (test : Bool) (e : Event) (number place new : ℕ) (h : List Event)
-    → (test ≡ true → MayStep p (e ∷ []) number place new h)
-    → (test ≡ false → MayStep p [] number place new h)
-    → MayStep p (only test e) number place new h
-if-follows p true e number place new h yes_it no_it = yes_it refl
-if-follows p false e number place new h yes_it no_it = no_it refl
+    (p : Plan) (test : Bool) (e : Event) (number index new : ℕ) (h : List Event)
+    → (test ≡ true → MayStep p (e ∷ []) number index new h)
+    → (test ≡ false → MayStep p [] number index new h)
+    → MayStep p (only test e) number index new h
+if-follows p true e number index new h yes_it no_it = yes_it refl
+if-follows p false e number index new h yes_it no_it = no_it refl
 
 module _ (p : Plan) (number : ℕ) (seen : List Event) where
   -- what is so still

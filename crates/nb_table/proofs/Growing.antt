@@ -23,7 +23,7 @@ own-all number (e ∷ es) all =
     (ap (λ rest. e ∷ rest) (own-all number es (All-tail P e es all)))
 
 -- and of those of others none is
-own-none :
+pub own-none :
     (number : ℕ) (es : List Event) → All (λ e. seat_of_event e ≢ number) es
     → own_events number es ≡ []
 own-none number [] none = refl

@@ -112,8 +112,8 @@ module _
         rule.once part.number number,
       ))
 
-  module _ (own : List Event) (place new : ℕ)
-      (may : MayStep p own part.number place new (fit.later ++ part.seen)) where
+  module _ (own : List Event) (index new : ℕ)
+      (may : MayStep p own part.number index new (fit.later ++ part.seen)) where
     -- the history after the step, seen from the seat
     longer : own ++ rule.history ≡ own ++ (fit.later ++ part.seen)
     longer = ap (λ h. own ++ h) fit.is
@@ -167,13 +167,13 @@ module _
         (others (Fits rule.history) rule.seen k d below)
 
     -- a seat's events, which make of the words what the step makes of its word, keep the rule
-    step-keeps : IsChained p (stepped s place new id [] (record { parts = part' ∷ []; told = [] })
+    step-keeps : IsChained p (stepped s index new id [] (record { parts = part' ∷ []; told = [] })
         keeps)
     step-keeps = record {
       history = own ++ rule.history;
       legal = subst (IsLegal p) (sym longer) may.legal;
       words =
-          ap (λ w. slice_set w place new) (rule.words ∙ ap (words_of p) fit.is) ∙ sym may.words
+          ap (λ w. slice_set w index new) (rule.words ∙ ap (words_of p) fit.is) ∙ sym may.words
           ∙ ap (words_of p) (sym longer);
       seen = every' (Fits (own ++ rule.history)) part-fits others-fit;
       told =
@@ -219,21 +219,21 @@ module _
 -- the step makes of its word
 pub allows-step :
     (p : Plan) → IsPlan p
-    → (events : ℕ → List Event) (slots id : ℕ) (me : Me (Unit {0}) View) (part : Part) (place : ℕ)
+    → (events : ℕ → List Event) (slots id : ℕ) (me : Me (Unit {0}) View) (part : Part) (index : ℕ)
     (f : ℕ → ℕ)
-    → me.0.parts ≡ part ∷ [] → Can p events part.number part.seen place f
-    → Allows (IsChained p) slots id me place f (Moves p events place me)
-allows-step p plan events slots id me part place f one can s rule homes at word =
-    let found = slice_index s.words place in
+    → me.0.parts ≡ part ∷ [] → Can p events part.number part.seen index f
+    → Allows (IsChained p) slots id me index f (Moves p events index me)
+allows-step p plan events slots id me part index f one can s rule homes at word =
+    let found = slice_index s.words index in
     let seen = fit p s rule id me.0 part at one in
     let later = seen.later in
-    let same : slice_index (words_of p (later ++ part.seen)) place ≡ found
-    = ap (λ w. slice_index w place) (sym (rule.words ∙ ap (words_of p) seen.is)) in
-    let may = subst (λ n. MayStep p (events n) part.number place (f n) (later ++ part.seen)) same
+    let same : slice_index (words_of p (later ++ part.seen)) index ≡ found
+    = ap (λ w. slice_index w index) (sym (rule.words ∙ ap (words_of p) seen.is)) in
+    let may = subst (λ n. MayStep p (events n) part.number index (f n) (later ++ part.seen)) same
     (can plan (number p s rule id me.0 part at one) later seen.others
     (subst (IsLegal p) seen.is rule.legal)) in
     let after = moved part later (events found) (steps_at s + 1) in
-    let tells : HasMoved p events place found part after
+    let tells : HasMoved p events index found part after
     = record {
       others = later;
       not_own = seen.others;
@@ -247,15 +247,15 @@ allows-step p plan events slots id me part place f one can s rule homes at word 
       record { parts = after ∷ []; told = [] },
       keeps,
       tt,
-      step-keeps p s rule id me.0 part at one (events found) place (f found) may,
+      step-keeps p s rule id me.0 part at one (events found) index (f found) may,
       record {
         after = after;
         is = refl;
-        moves = λ q is. subst (λ r. HasMoved p events place found r after)
+        moves = λ q is. subst (λ r. HasMoved p events index found r after)
             (first-same part q (sym one ∙ is)) tells;
         heard =
             subst (λ h. All (λ seen. IsBeginning seen h) me.0.told)
-            (longer p s rule id me.0 part at one (events found) place (f found) may)
+            (longer p s rule id me.0 part at one (events found) index (f found) may)
             (beginnings-more rule.history (events found) me.0
             (All-at (IsTold rule.history) s.views id me.0 at rule.told));
       },

@@ -1,14 +1,14 @@
 -- What a load may be the read of, and what it finds.
-use Rattle.std.proofs.Common.{◌≡◌, ◌≢◌, ◌∙◌, ℕ, suc, ◌+◌, ◌-◌, ◌%◌, ◌<◌, ◌≤◌, ◌⊎◌, Bool, true, false, not, ◌&&◌, cond, eqb, List, ◌++◌, slice_index, Option, Some, None, ap, sym, subst, refl, inl, inr, arith}
+use Rattle.std.proofs.Common.{◌≡◌, ◌≢◌, ◌∙◌, ℕ, suc, ◌+◌, ◌-◌, ◌%◌, ◌<◌, ◌⊎◌, Bool, true, false, not, ◌&&◌, cond, eqb, List, ◌++◌, slice_index, Option, Some, None, ap, sym, subst, refl, inl, inr, arith}
 use Rattle.std.specs.Option.{IfSome, unwrap_or}
 use Rattle.std.specs.FinMap as map
 use Rattle.std.proofs.Math.Nat.{mod-add-mod, mod-eq-sub-mod, mod-eq_of_lt, mod-lt}
-use Rattle.std.proofs.lemmas.Bool.{eqb-false, eqb-true}
+use Rattle.std.proofs.lemmas.Bool.{cases_lt, eqb-false, eqb-true}
 use Rattle.std.proofs.lemmas.List.{set-get_or}
 use Rattle.std.proofs.lemmas.Option.{IfSome_then}
 use Rattle.nb_core.specs.Calls.{leaves_alone}
 use Rattle.nb_core.specs.Log.{reply_at}
-use Rattle.nb_core.specs.Plans.{Plan, IsPlan, generations_of, header_place, key_place, size_of, value_place}
+use Rattle.nb_core.specs.Plans.{Plan, IsPlan, generations_of, header_index, key_index, size_of, value_index}
 use Rattle.nb_core.specs.States.{key_state, value_state}
 use Rattle.nb_core.specs.Tables.{AreOthers, IsOnPath, IsSlot, IsUnprimed, Tables, path_slot, tables_at, tables_of, words_of}
 use Rattle.nb_core.specs.History.{IsCallInRange, IsLegal, number_in_value, key_of_call, map_of}
@@ -20,7 +20,7 @@ use Rattle.nb_core.specs.declared.events.Event.TheVariants.{Read}
 use Rattle.nb_core.specs.declared.states.KeyState.{KeyState}
 use Rattle.nb_core.specs.declared.states.KeyState.TheVariants.{Empty, Dead, Claimed}
 use Rattle.nb_core.specs.declared.states.ValueState.{ValueState}
-use Rattle.nb_core.specs.declared.states.ValueState.TheVariants.{Null, Tombstone, Live, PrimedNull, PrimedTombstone, Primed, Finished}
+use Rattle.nb_core.specs.declared.states.ValueState.TheVariants.{Null, Tombstone, Live}
 use Rattle.nb_table.proofs.Following.{if-follows, later, none-follows, one-follows}
 use Rattle.nb_table.specs.Chains.{SeenBy, seen_by}
 use Rattle.nb_table.specs.Conditions.{IsReached}
@@ -36,16 +36,13 @@ same-slot x c size within same =
     let r = x % size in
     let below : r < size = mod-lt x (omega arith) in
     let on : (r + c) % size ≡ r = mod-add-mod x size c ∙ same in
-    elim (less-or-not (r + c) size) [
+    elim (cases_lt (r + c) size) [
       | inl less ↦ let kept : r + c ≡ r = sym (mod-eq_of_lt less) ∙ on in omega (arith, kept)
       | inr more ↦
           let less : r + c - size < size = omega (arith, below, within) in
           let back : r + c - size ≡ r = sym (mod-eq_of_lt less) ∙ sym (mod-eq-sub-mod more) ∙ on in
           absurd (omega (arith, back, more, within))
     ]
-  where
-    less-or-not : (a b : ℕ) → (a < b) ⊎ (b ≤ a)
-    less-or-not a b = grind arith
 
 -- a slot at which a path ends is its last
 last-distance : (k d size : ℕ) → d < size → (k + d) % size ≡ (k + (size - 1)) % size → suc d ≡ size
@@ -136,39 +133,33 @@ value-shows p t g i k state n slot claimed is shown =
     unprimed Null shown = tt
     unprimed Tombstone shown = tt
     unprimed (Live m) shown = tt
-    unprimed PrimedNull shown = cc
-    unprimed PrimedTombstone shown = cc
-    unprimed (Primed m) shown = cc
-    unprimed (Finished m) shown = cc
+    unprimed _ shown = cc
 
     content : (state : ValueState) → shown_by_value state ≡ Some n → n ≡ number_in_value state
     content Null shown = shown-is None n shown
     content Tombstone shown = shown-is None n shown
     content (Live m) shown = shown-is (Some m) n shown
-    content PrimedNull shown = cc
-    content PrimedTombstone shown = cc
-    content (Primed m) shown = cc
-    content (Finished m) shown = cc
+    content _ shown = cc
 
 -- ---- what may be read
 
 -- the read of a call may follow where what is shown of its key is what the map has
 read-follows :
-    (p : Plan) → IsPlan p → (number place : ℕ) (call : Call) (shown : Option (Option ℕ))
+    (p : Plan) → IsPlan p → (number index : ℕ) (call : Call) (shown : Option (Option ℕ))
     (h : List Event)
     → number < p.seats → IsLegal p h → IsCallInRange call
     → ((n : Option ℕ) → shown ≡ Some n → map.get (map_of h) (key_of_call call) ≡ n)
-    → MayStep p (read number call shown) number place (slice_index (words_of p h) place) h
-read-follows p plan number place call None h seated legal ranges is =
-    none-follows p number place _ h legal refl
-read-follows p plan number place call (Some n) h seated legal ranges is =
-    if-follows p (leaves_alone call n) (Read number call (reply_at call n)) number place
-    (slice_index (words_of p h) place) h
-    (λ alone. one-follows p (Read number call (reply_at call n)) number place
-    (slice_index (words_of p h) place) h
+    → MayStep p (read number call shown) number index (slice_index (words_of p h) index) h
+read-follows p plan number index call None h seated legal ranges is =
+    none-follows p number index _ h legal refl
+read-follows p plan number index call (Some n) h seated legal ranges is =
+    if-follows p (leaves_alone call n) (Read number call (reply_at call n)) number index
+    (slice_index (words_of p h) index) h
+    (λ alone. one-follows p (Read number call (reply_at call n)) number index
+    (slice_index (words_of p h) index) h
     (legal, (seated, ranges), tt, read_replies p plan h legal number call n (is n refl) alone)
-    (sym (set-get_or (words_of p h) place 0)) refl)
-    (λ other. none-follows p number place (slice_index (words_of p h) place) h legal refl)
+    (sym (set-get_or (words_of p h) index 0)) refl)
+    (λ other. none-follows p number index (slice_index (words_of p h) index) h legal refl)
 
 -- a search that has come to a table has come there still
 pub reached-lasts :
@@ -185,23 +176,23 @@ module _
     (p : Plan) (number : ℕ) (seen : List Event) (g : ℕ)
     (within : g < generations_of p) where
   can-read :
-      (call : Option Call) (place : ℕ) (shown : ℕ → ℕ → Option (Option ℕ))
+      (call : Option Call) (index : ℕ) (shown : ℕ → ℕ → Option (Option ℕ))
       → IfSome call IsCallInRange
       → IfSome call (λ c. IsReached p (tables_at p seen) g (key_of_call c))
       → IfSome call (λ c. (others : List Event) → IsLegal p (others ++ seen)
       → Lasts p (tables_at p seen) (tables_at p (others ++ seen))
-      → (n : Option ℕ) → shown (slice_index (words_of p (others ++ seen)) place) (key_of_call c)
+      → (n : Option ℕ) → shown (slice_index (words_of p (others ++ seen)) index) (key_of_call c)
       ≡ Some n
       → Shows p (tables_at p (others ++ seen)) g (key_of_call c) n)
-      → Can p (λ found. reads number call (shown found)) number seen place (λ found. found)
-  can-read None place shown ranges reached shows plan seated others not_own legal =
-      none-follows p number place _ (others ++ seen) legal refl
-  can-read (Some call) place shown ranges reached shows plan seated others not_own legal =
+      → Can p (λ found. reads number call (shown found)) number seen index (λ found. found)
+  can-read None index shown ranges reached shows plan seated others not_own legal =
+      none-follows p number index _ (others ++ seen) legal refl
+  can-read (Some call) index shown ranges reached shows plan seated others not_own legal =
       let h = others ++ seen in
       let k = key_of_call call in
       let lasting = later p number seen plan others legal in
       let come = reached-lasts p (tables_at p seen) (tables_at p h) g k within lasting reached in
-      read-follows p plan number place call (shown (slice_index (words_of p h) place) k)
+      read-follows p plan number index call (shown (slice_index (words_of p h) index) k)
       h seated legal ranges
       (λ n is. decided p plan h legal g k within come.installed come.below n
       (shows others legal lasting n is))
@@ -212,9 +203,9 @@ module _
       → IfSome call (λ c. IsReached p (tables_at p seen) g (key_of_call c))
       → IfSome call (λ c. IsOnPath p (tables_at p seen) g i (key_of_call c))
       → Can p (λ found. reads number call (shown_by_key p g i (key_state found))) number seen
-      (key_place p g i) (λ found. found)
+      (key_index p g i) (λ found. found)
   can-load_key i call slot ranges reached on_path =
-      can-read call (key_place p g i) (λ found. shown_by_key p g i (key_state found)) ranges reached
+      can-read call (key_index p g i) (λ found. shown_by_key p g i (key_state found)) ranges reached
       (IfSome_then call on_path (λ c path others legal lasting n is.
       key-shows p (tables_at p (others ++ seen)) g i (key_of_call c) _ n
       (record {
@@ -231,9 +222,9 @@ module _
       → IfSome call (λ c. (tables_at p seen).key g i ≡ Claimed (key_of_call c))
       → Can p (λ found. reads number call
       (λ k. shown_by_value (unwrap_or (value_state found) Null))) number seen
-      (value_place p g i) (λ found. found)
+      (value_index p g i) (λ found. found)
   can-load_value i call slot ranges reached claimed =
-      can-read call (value_place p g i) (λ found k. shown_by_value
+      can-read call (value_index p g i) (λ found k. shown_by_value
       (unwrap_or (value_state found) Null)) ranges reached
       (IfSome_then call claimed (λ c is_claimed others legal lasting n is.
       value-shows p (tables_at p (others ++ seen)) g i (key_of_call c) _ n slot
@@ -245,9 +236,9 @@ module _
       → IfSome call (λ c. IsReached p (tables_at p seen) g (key_of_call c))
       → IfSome call (λ c. AreOthers p (tables_at p seen) g (key_of_call c) (size_of p g))
       → Can p (λ found. reads number call (λ k. shown_by_next (eqb found 1))) number seen
-      (header_place p g 0) (λ found. found)
+      (header_index p g 0) (λ found. found)
   can-load_next call plan ranges reached crowded =
-      can-read call (header_place p g 0) (λ found k. shown_by_next (eqb found 1)) ranges reached
+      can-read call (header_index p g 0) (λ found k. shown_by_next (eqb found 1)) ranges reached
       (IfSome_then call crowded (λ c others_there others legal lasting n is.
       NoNext (lasting.others g (key_of_call c) (size_of p g) within others_there)
       (no-next _ n is ((linked p plan (others ++ seen) legal).next g)) (no-number _ n is)))
@@ -285,9 +276,9 @@ reads-words p number (Some call) shown h = read-words (shown (key_of_call call))
 -- what the words say after a load is what they said when it was made
 pub load-sees :
     (p : Plan) (number : ℕ) (call : Option Call) (shown : ℕ → ℕ → Option (Option ℕ))
-    (place found : ℕ) (before after : SeenBy)
-    → (step : Stepped p (λ word. reads number call (shown word)) place before found after)
+    (index found : ℕ) (before after : SeenBy)
+    → (step : Stepped p (λ word. reads number call (shown word)) index before found after)
     → seen_by p after ≡ tables_at p (step.grows.others ++ before.seen)
-load-sees p number call shown place found before after step =
+load-sees p number call shown index found before after step =
     ap (tables_at p) step.grows.seen
     ∙ ap (tables_of p) (reads-words p number call (shown found) (step.grows.others ++ before.seen))

@@ -22,11 +22,11 @@ use Rattle.nb_table.specs.declared.closed.Closed.TheInside as inside
 
 -- a word that was read
 pub word-at :
-    (words : List ℕ) (place word : ℕ) → get_elem? words place ≡ some word
-    → word ≡ slice_index words place
-word-at [] place word at = absurd (some-ne-none word (sym at))
+    (words : List ℕ) (index word : ℕ) → get_elem? words index ≡ some word
+    → word ≡ slice_index words index
+word-at [] index word at = absurd (some-ne-none word (sym at))
 word-at (w ∷ words) zero word at = sym (some-injective w word at)
-word-at (w ∷ words) (suc place) word at = word-at words place word at
+word-at (w ∷ words) (suc index) word at = word-at words index word at
 
 -- ---- the laws of the history that left the words
 

@@ -3,7 +3,7 @@ use Rattle.std.proofs.Common.{◌≡◌, ◌∙◌, ℕ, zero, suc, ◌%◌, ◌
 use Rattle.std.proofs.lemmas.Bool.{eq-eqb, eqb-true, eqb-false, ne_eqb}
 use Rattle.std.proofs.lemmas.List.{get_or-set_same}
 use Rattle.std.specs.Option.{unwrap_or}
-use Rattle.nb_core.specs.Plans.{Plan, IsPlan, Value, generations_of, value_place, word_count}
+use Rattle.nb_core.specs.Plans.{Plan, IsPlan, Value, generations_of, value_index, word_count}
 use Rattle.nb_core.specs.States.{IsKeyState, IsValueState, value_state, value_word, IsValueWord, primed}
 use Rattle.nb_core.specs.Tables.{IsInstalled, IsSlot, IsUnprimed, Tables, tables_at, words_of, IsPrimedOrFinished}
 use Rattle.nb_core.specs.History.{HasValue, IsLegal, IsPrimedBelow, MayPrime}
@@ -19,7 +19,7 @@ use Rattle.nb_table.specs.Events.{only}
 use Rattle.nb_table.proofs.Events.{copy_events, finish_events, prime_events}
 use Rattle.nb_table.specs.Steps.{Can, Stepped}
 use Rattle.nb_table.proofs.Following.{if-follows, none-follows, one-follows}
-use Rattle.nb_core.proofs.Theorems.{beginnings_are_legal, codings, lawful_words, linked, moved, one_slot, places_are_distinct, seen_lasts}
+use Rattle.nb_core.proofs.Theorems.{beginnings_are_legal, codings, lawful_words, linked, moved, one_slot, indices_are_distinct, seen_lasts}
 
 -- ---- words
 
@@ -168,15 +168,15 @@ module _ where
   pub can-prime :
       (p : Plan) → (number : ℕ) (seen : List Event) (g i : ℕ) → IsSlot p g i
       → IsInstalled (tables_at p seen) (suc g) → (k : ℕ) × ((tables_at p seen).key g i ≡ Claimed k)
-      → Can p (prime_events number g i) number seen (value_place p g i) (λ found. bit_or found 1)
+      → Can p (prime_events number g i) number seen (value_index p g i) (λ found. bit_or found 1)
   can-prime p number seen g i slot growing claimed plan seated others not_own legal =
       let h = others ++ seen in
-      let place = value_place p g i in
-      let found = slice_index (words_of p h) place in
+      let index = value_index p g i in
+      let found = slice_index (words_of p h) index in
       let still = seen_lasts p plan others seen legal in
       let word = (lawful_words p plan h legal).values g i slot in
-      if-follows p (eqb (found % 2) 0) (Prime number g i) number place (bit_or found 1) h
-      (λ even. one-follows p (Prime number g i) number place (bit_or found 1) h (
+      if-follows p (eqb (found % 2) 0) (Prime number g i) number index (bit_or found 1) h
+      (λ even. one-follows p (Prime number g i) number index (bit_or found 1) h (
         legal,
         (seated, slot),
         may-prime (tables_at p h) g i found (still.installed (suc g) growing)
@@ -184,7 +184,7 @@ module _ where
             (eqb-true (found % 2) 0 even),
         tt,
       ) refl refl)
-      (λ odd. none-follows p number place (bit_or found 1) h legal
+      (λ odd. none-follows p number index (bit_or found 1) h legal
       (primed-kept found word (eqb-false (found % 2) 0 odd)))
 
   -- A number that is seen primed or finished may be finished, once its key has a value in the next
@@ -192,20 +192,20 @@ module _ where
   pub can-finish :
       (p : Plan) → (number : ℕ) (seen : List Event) (g i n : ℕ) → IsSlot p g i
       → IsCopied p (tables_at p seen) g i n
-      → Can p (finish_events number g i n) number seen (value_place p g i) (λ found. bit_or found 2)
+      → Can p (finish_events number g i n) number seen (value_index p g i) (λ found. bit_or found 2)
   can-finish p number seen g i n slot copied plan seated others not_own legal =
       let h = others ++ seen in
       let t = tables_at p h in
-      let place = value_place p g i in
-      let found = slice_index (words_of p h) place in
+      let index = value_index p g i in
+      let found = slice_index (words_of p h) index in
       let still = seen_lasts p plan others seen legal in
       let link = linked p plan h legal in
       let word = (lawful_words p plan h legal).values g i slot in
       let held = still.primed_or_finished g i n slot copied.held in
       let above = link.within (suc g) (held-below p t g i n slot held (link.primed g i slot)) in
-      if-follows p (eqb found (value_word (Primed n))) (Finish number g i) number place
+      if-follows p (eqb found (value_word (Primed n))) (Finish number g i) number index
       (bit_or found 2) h
-      (λ same. one-follows p (Finish number g i) number place (bit_or found 2) h (
+      (λ same. one-follows p (Finish number g i) number index (bit_or found 2) h (
         legal,
         (seated, slot),
         record {
@@ -217,7 +217,7 @@ module _ where
         },
         tt,
       ) refl refl)
-      (λ other. none-follows p number place (bit_or found 2) h legal
+      (λ other. none-follows p number index (bit_or found 2) h legal
       (finished-kept found n held word (eqb-false found (value_word (Primed n)) other)))
 
   -- A number that is seen primed or finished below may be copied to its key's slot, where the value
@@ -226,21 +226,21 @@ module _ where
       (p : Plan) → (number : ℕ) (seen : List Event) (g i k n word : ℕ)
       → IsSlot p g i → value_state word ≡ Some (Live n) → (tables_at p seen).key g i ≡ Claimed k
       → HasSource p (tables_at p seen) g k n
-      → Can p (copy_events number g i k n) number seen (value_place p g i)
+      → Can p (copy_events number g i k n) number seen (value_index p g i)
       (λ found. cond (eqb found 0) word found)
   can-copy p number seen g i k n word slot says claimed source plan seated others not_own legal =
       let h = others ++ seen in
       let t = tables_at p h in
-      let place = value_place p g i in
-      let found = slice_index (words_of p h) place in
+      let index = value_index p g i in
+      let found = slice_index (words_of p h) index in
       let new = cond (eqb found 0) word found in
       let word_is = codings.word_of_state word (Live n) says in
       let still = seen_lasts p plan others seen legal in
       let claimed' = still.claimed g i k slot claimed in
-      if-follows p (eqb found 0) (CopyIn number g i k n) number place new h
+      if-follows p (eqb found 0) (CopyIn number g i k n) number index new h
       (λ same.
       let null = ap (λ x. unwrap_or (value_state x) Null) (eqb-true found 0 same) in
-      one-follows p (CopyIn number g i k n) number place new h (
+      one-follows p (CopyIn number g i k n) number index new h (
         legal,
         (
           seated,
@@ -256,22 +256,22 @@ module _ where
               (source-lasts p (tables_at p seen) t still g k n slot.0 source);
         },
         tt,
-      ) (ap (slice_set (words_of p h) place)
+      ) (ap (slice_set (words_of p h) index)
       (sym (ap (λ b. cond b word found) same ∙ word_is.0))) refl)
-      (λ other. none-follows p number place new h legal (ap (λ b. cond b word found) other))
+      (λ other. none-follows p number index new h legal (ap (λ b. cond b word found) other))
 
 -- ---- what was found
 
 -- the word of a slot's value is among the chain's
 pub value-within :
-    (p : Plan) → IsPlan p → (g i : ℕ) → IsSlot p g i → value_place p g i < word_count p
-value-within p plan g i slot = (places_are_distinct p plan).below (Value g i) slot
+    (p : Plan) → IsPlan p → (g i : ℕ) → IsSlot p g i → value_index p g i < word_count p
+value-within p plan g i slot = (indices_are_distinct p plan).below (Value g i) slot
 
 -- A step on a slot's value word that found this word.
 module _
     (p : Plan) (plan : IsPlan p) (events : ℕ → List Event)
     (before : SeenBy) (found : ℕ) (after : SeenBy) (g i : ℕ) (slot : IsSlot p g i)
-    (step : Stepped p events (value_place p g i) before found after) where
+    (step : Stepped p events (value_index p g i) before found after) where
   -- the history that it found is legal
   met-legal : IsLegal p (step.grows.others ++ before.seen)
   met-legal = beginnings_are_legal p (events found) (step.grows.others ++ before.seen)
@@ -286,12 +286,12 @@ module _
 module _
     (p : Plan) (plan : IsPlan p) (test : ℕ → Bool) (e : Event)
     (before : SeenBy) (found : ℕ) (after : SeenBy) (g i : ℕ) (slot : IsSlot p g i)
-    (step : Stepped p (λ x. only (test x) e) (value_place p g i) before found after) where
+    (step : Stepped p (λ x. only (test x) e) (value_index p g i) before found after) where
   -- what is seen of the value after the events that make this word
   then-value :
       (changed : Bool) → test found ≡ changed → (new : ℕ) (v : ValueState)
       → slice_index (words_of p (only changed e ++ (step.grows.others ++ before.seen)))
-      (value_place p g i) ≡ new
+      (value_index p g i) ≡ new
       → value_state new ≡ Some v → Extended p before after (only changed e) 1
       × ((seen_by p after).value g i ≡ v)
   then-value changed is new v word says = (
@@ -319,27 +319,27 @@ module _
   -- and the event made a word of the one found
   pub value-made :
       test found ≡ true → (f : ℕ → ℕ) (v : ValueState)
-      → let h = step.grows.others ++ before.seen in let place = value_place p g i in
-      words_of p (e ∷ h) ≡ slice_set (words_of p h) place (f (slice_index (words_of p h) place))
+      → let h = step.grows.others ++ before.seen in let index = value_index p g i in
+      words_of p (e ∷ h) ≡ slice_set (words_of p h) index (f (slice_index (words_of p h) index))
       → value_state (f found) ≡ Some v → Extended p before after (e ∷ []) 1
       × ((seen_by p after).value g i ≡ v)
   value-made holds f v words says =
       let h = step.grows.others ++ before.seen in
-      let place = value_place p g i in
-      let new = f (slice_index (words_of p h) place) in
+      let index = value_index p g i in
+      let new = f (slice_index (words_of p h) index) in
       let legal = met-legal p plan (λ x. only (test x) e) before found after g i slot step in
-      let within : place < length (words_of p h) =
-      subst (λ n. place < n) (sym (lawful_words p plan h legal).length)
+      let within : index < length (words_of p h) =
+      subst (λ n. index < n) (sym (lawful_words p plan h legal).length)
       (value-within p plan g i slot) in
       then-value true holds (f found) v
-      (ap (λ w. slice_index w place) words ∙ get_or-set_same (words_of p h) place new 0 within
+      (ap (λ w. slice_index w index) words ∙ get_or-set_same (words_of p h) index new 0 within
       ∙ ap f step.word) says
 
 -- What priming a value tells.
 module _
     (p : Plan) (plan : IsPlan p) (before : SeenBy)
     (found : ℕ) (after : SeenBy) (g i : ℕ) (slot : IsSlot p g i)
-    (step : Stepped p (prime_events before.number g i) (value_place p g i) before found after)
+    (step : Stepped p (prime_events before.number g i) (value_index p g i) before found after)
     (v : ValueState)
     (says : value_state found ≡ Some v) where
   pub prime-won :
@@ -376,7 +376,7 @@ then-finished v n held other =
 module _
     (p : Plan) (plan : IsPlan p) (before : SeenBy)
     (found : ℕ) (after : SeenBy) (g i n : ℕ) (slot : IsSlot p g i)
-    (step : Stepped p (finish_events before.number g i n) (value_place p g i) before found after)
+    (step : Stepped p (finish_events before.number g i n) (value_index p g i) before found after)
     (v : ValueState)
     (says : value_state found ≡ Some v) where
   pub finish-won :
@@ -419,7 +419,7 @@ module _
 module _
     (p : Plan) (plan : IsPlan p) (before : SeenBy) (found : ℕ)
     (after : SeenBy) (g i k n : ℕ) (slot : IsSlot p g i)
-    (step : Stepped p (copy_events before.number g i k n) (value_place p g i) before found after)
+    (step : Stepped p (copy_events before.number g i k n) (value_index p g i) before found after)
     (v : ValueState)
     (says : value_state found ≡ Some v) where
   pub copy-won :

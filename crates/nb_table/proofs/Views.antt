@@ -20,48 +20,48 @@ use Rattle.nb_table.specs.declared.view.View.{View}
 
 -- what a step of a token on the chain's table asks
 abbrev pub IsAsked :
-    TableId → Plan → Seat (Unit {0}) View → (p : Plan) → (ℕ → List Event) → (place : ℕ) → (ℕ → ℕ)
+    TableId → Plan → Seat (Unit {0}) View → (p : Plan) → (ℕ → List Event) → (index : ℕ) → (ℕ → ℕ)
     → Type 0
-IsAsked table key s p events place f =
-    (s.table_id ≡ table) × (place < table.words)
-    × Allows (IsChained key) table.slots s.id s.me place f
-    (Moves p events place s.me)
+IsAsked table key s p events index f =
+    (s.table_id ≡ table) × (index < table.words)
+    × Allows (IsChained key) table.slots s.id s.me index f
+    (Moves p events index s.me)
 
 -- it may be made where its events can
 pub asked :
     (c : chain.Inside) (s : Seat (Unit {0}) View) (the_chain : ChainOf) (p : Plan)
-    (events : ℕ → List Event) (place : ℕ)
+    (events : ℕ → List Event) (index : ℕ)
     (f : ℕ → ℕ)
     → chain_of c ≡ the_chain → IsChain c → let part = part_of s.me.0.parts in
     s.me.0.parts ≡ part ∷ [] → s.table_id ≡ the_chain.id → p ≡ the_chain.shape
-    → place < word_count the_chain.shape → Can p events part.number part.seen place f
-    → IsAsked c.table.shared.table_id c.table.shared.key s p events place f
-asked c s the_chain p events place f c_is is_chain one own shape within can =
+    → index < word_count the_chain.shape → Can p events part.number part.seen index f
+    → IsAsked c.table.shared.table_id c.table.shared.key s p events index f
+asked c s the_chain p events index f c_is is_chain one own shape within can =
     let same : p ≡ c.shape = shape ∙ sym (ap (λ v. v.shape) c_is) in
-    let within' : place < c.table.shared.table_id.words
-    = subst (λ n. place < n) (sym (is_chain.words ∙ ap (λ v. word_count v.shape) c_is)) within in
+    let within' : index < c.table.shared.table_id.words
+    = subst (λ n. index < n) (sym (is_chain.words ∙ ap (λ v. word_count v.shape) c_is)) within in
     let slots = c.table.shared.table_id.slots in (
       own ∙ sym (ap (λ v. v.id) c_is),
       within',
-      subst (λ q. Allows (IsChained q) slots s.id s.me place f (Moves p events place s.me))
+      subst (λ q. Allows (IsChained q) slots s.id s.me index f (Moves p events index s.me))
           (same ∙ sym is_chain.key)
           (allows-step p (subst IsPlan (sym same) is_chain.plan) events slots s.id s.me
-          (part_of s.me.0.parts) place f one can),
+          (part_of s.me.0.parts) index f one can),
     )
 
 -- the same of a seat
 pub asked-seat :
     (c : chain.Inside) (s : seat.Inside) (the_chain : ChainOf) (seeing : SeenBy) (p : Plan)
     (events : ℕ → List Event)
-    (place : ℕ) (f : ℕ → ℕ)
+    (index : ℕ) (f : ℕ → ℕ)
     → chain_of c ≡ the_chain → seat_of s ≡ seeing → IsChain c → IsSeat s
     → seeing.chain ≡ the_chain.id → p ≡ the_chain.shape
-    → place < word_count the_chain.shape → Can p events seeing.number seeing.seen place f
-    → IsAsked c.table.shared.table_id c.table.shared.key s.seat p events place f
-asked-seat c s the_chain seeing p events place f c_is s_is is_chain is_seat own shape within can =
-    asked c s.seat the_chain p events place f c_is is_chain is_seat.one (ap (λ v. v.chain) s_is
+    → index < word_count the_chain.shape → Can p events seeing.number seeing.seen index f
+    → IsAsked c.table.shared.table_id c.table.shared.key s.seat p events index f
+asked-seat c s the_chain seeing p events index f c_is s_is is_chain is_seat own shape within can =
+    asked c s.seat the_chain p events index f c_is is_chain is_seat.one (ap (λ v. v.chain) s_is
     ∙ own) shape within
-    (subst (λ v. Can p events v.number v.seen place f) (sym s_is) can)
+    (subst (λ v. Can p events v.number v.seen index f) (sym s_is) can)
 
 -- the two cases, as contracts and as the table's steps write them
 either-cases : (b : Bool) (x y : ℕ) → cond b x y ≡ either b x y
@@ -70,23 +70,23 @@ either-cases false x y = refl
 
 -- a compare-and-exchange by the words of a contract is one by the words of the table's step
 pub can-exchange :
-    (p : Plan) (events : ℕ → List Event) (number : ℕ) (seen : List Event) (place old new : ℕ)
-    → Can p events number seen place (λ found. cond (eqb found old) new found)
-    → Can p events number seen place (λ found. either (eqb found old) new found)
-can-exchange p events number seen place old new can =
-    subst (Can p events number seen place) (λ i found. either-cases (eqb found old) new found i) can
+    (p : Plan) (events : ℕ → List Event) (number : ℕ) (seen : List Event) (index old new : ℕ)
+    → Can p events number seen index (λ found. cond (eqb found old) new found)
+    → Can p events number seen index (λ found. either (eqb found old) new found)
+can-exchange p events number seen index old new can =
+    subst (Can p events number seen index) (λ i found. either-cases (eqb found old) new found i) can
 
 -- ---- a seat after a step
 
 module _
-    (p : Plan) (events : ℕ → List Event) (place found : ℕ) (s : seat.Inside)
+    (p : Plan) (events : ℕ → List Event) (index found : ℕ) (s : seat.Inside)
     (after : Seat (Unit {0}) View)
     (before : SeenBy) (is_seat : IsSeat s) (s_is : seat_of s ≡ before)
-    (moves : Moves p events place s.seat.me found after.me) where
+    (moves : Moves p events index s.seat.me found after.me) where
   -- what it tells
-  told : HasMoved p events place found (part_of s.seat.me.0.parts) (part_of after.me.0.parts)
+  told : HasMoved p events index found (part_of s.seat.me.0.parts) (part_of after.me.0.parts)
   told =
-      subst (λ part. HasMoved p events place found (part_of s.seat.me.0.parts) part)
+      subst (λ part. HasMoved p events index found (part_of s.seat.me.0.parts) part)
       (sym (ap (λ me. part_of me.0.parts) moves.is))
       (moves.moves (part_of s.seat.me.0.parts) is_seat.one)
 
@@ -100,9 +100,9 @@ module _
   -- and has seen more
   pub stepped-seat :
       after.table_id ≡ s.seat.table_id
-      → Stepped p events place before found (seat_of (record { seat = after }))
+      → Stepped p events index before found (seat_of (record { seat = after }))
   stepped-seat table =
-      subst (λ v. Stepped p events place v found (seat_of (record { seat = after }))) s_is (record {
+      subst (λ v. Stepped p events index v found (seat_of (record { seat = after }))) s_is (record {
         grows = record {
           chain = table;
           number = ap (λ part. part.number) told.is;

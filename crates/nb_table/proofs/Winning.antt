@@ -2,7 +2,7 @@
 use Rattle.std.proofs.Common.{◌≡◌, ◌≢◌, ◌∙◌, ℕ, zero, suc, ◌<◌, Bool, true, false, cond, eqb, List, [], ◌∷◌, ◌++◌, slice_index, slice_set, Some, ap, sym, subst, refl, arith}
 use Rattle.std.proofs.lemmas.Bool.{eq-eqb, eqb-true, ne_eqb}
 use Rattle.std.specs.Option.{unwrap_or}
-use Rattle.nb_core.specs.Plans.{Plan, IsPlan, generations_of, value_place}
+use Rattle.nb_core.specs.Plans.{Plan, IsPlan, generations_of, value_index}
 use Rattle.nb_core.specs.States.{IsValueWord, value_state, value_word}
 use Rattle.nb_core.specs.Tables.{IsSettledBelow, IsSlot, IsUnprimed, tables_at, words_of}
 use Rattle.nb_core.specs.History.{IsCallInRange, IsExchange, IsLegal, MayWin, number_in_value, key_of_call}
@@ -41,13 +41,13 @@ says-in x word = word.decodes ∙ ap Some (sym (ap (λ o. unwrap_or o Null) word
 
 -- a step that makes these events where a test holds, and else those
 either-follows :
-    (p : Plan) (test : Bool) (holding failing : List Event) (number place new found : ℕ)
+    (p : Plan) (test : Bool) (holding failing : List Event) (number index new found : ℕ)
     (h : List Event)
-    → (test ≡ true → MayStep p holding number place new h)
-    → (test ≡ false → MayStep p failing number place found h)
-    → MayStep p (cond test holding failing) number place (cond test new found) h
-either-follows p true holding failing number place new found h yes_it no_it = yes_it refl
-either-follows p false holding failing number place new found h yes_it no_it = no_it refl
+    → (test ≡ true → MayStep p holding number index new h)
+    → (test ≡ false → MayStep p failing number index found h)
+    → MayStep p (cond test holding failing) number index (cond test new found) h
+either-follows p true holding failing number index new found h yes_it no_it = yes_it refl
+either-follows p false holding failing number index new found h yes_it no_it = no_it refl
 
 -- a key that is passed in the tables below has no unfinished slot there
 settled-below :
@@ -66,21 +66,21 @@ pub can-win :
     → (tables_at p seen).key g i ≡ Claimed (key_of_call call) → IsUnprimed (value_in old)
     → IsReached p (tables_at p seen) g (key_of_call call)
     → IsExchange call (key_of_call call) (value_in old) to
-    → Can p (win_events number g i old to call) number seen (value_place p g i)
+    → Can p (win_events number g i old to call) number seen (value_index p g i)
     (λ found. cond (eqb found old) new found)
 can-win p number seen g i old new to call slot word says_new ranges claimed unprimed
     reached exchange plan seated others not_own legal =
     let h = others ++ seen in
     let k = key_of_call call in
     let from = value_in old in
-    let place = value_place p g i in
-    let found = slice_index (words_of p h) place in
+    let index = value_index p g i in
+    let found = slice_index (words_of p h) index in
     let from_is = codings.word_of_state old from (says-in old word) in
     let to_is = codings.word_of_state new to says_new in
     let still = seen_lasts p plan others seen legal in
     let come = reached-lasts p (tables_at p seen) (tables_at p h) g k slot.0 still reached in
     either-follows p (eqb found old) (win number g i from to call ∷ [])
-    (read number call (shown_by_value (value_in found))) number place new found h
+    (read number call (shown_by_value (value_in found))) number index new found h
     (λ same.
     let may : MayWin p (tables_at p h) g i from to call = record {
       key = k;
@@ -90,31 +90,31 @@ can-win p number seen g i old new to call slot word says_new ranges claimed unpr
       settled = settled-below p plan h legal g k slot.0 come;
       exchange = exchange;
     } in
-    one-follows p (win number g i from to call) number place new h (
+    one-follows p (win number g i from to call) number index new h (
       legal,
       (seated, slot, from_is.1, to_is.1, ranges),
       may,
       win_replies p plan h legal number g i from to call slot may,
     )
-    (ap (slice_set (words_of p h) place) (sym to_is.0)) refl)
+    (ap (slice_set (words_of p h) index) (sym to_is.0)) refl)
     (λ other. can-load_value p number seen g slot.0 i (Some call) slot ranges reached claimed plan
     seated others not_own legal)
 
 -- What a step found, and the events that went with that.
-abbrev Found : Plan → (place : ℕ) (before : SeenBy) (found : ℕ) (after : SeenBy) → List Event
+abbrev Found : Plan → (index : ℕ) (before : SeenBy) (found : ℕ) (after : SeenBy) → List Event
     → Type 0
-Found p place before found after own =
+Found p index before found after own =
     (grows : Extended p before after own 1)
-    × (slice_index (words_of p (grows.others ++ before.seen)) place ≡ found)
+    × (slice_index (words_of p (grows.others ++ before.seen)) index ≡ found)
 
 -- other events are as good that are the same for the word that was found
 as-found :
-    (p : Plan) (events events' : ℕ → List Event) (place : ℕ) (before : SeenBy) (found : ℕ)
+    (p : Plan) (events events' : ℕ → List Event) (index : ℕ) (before : SeenBy) (found : ℕ)
     (after : SeenBy)
-    → events found ≡ events' found → Stepped p events place before found after
-    → Stepped p events' place before found after
-as-found p events events' place before found after same step =
-    let other = subst (Found p place before found after) same (step.grows, step.word) in
+    → events found ≡ events' found → Stepped p events index before found after
+    → Stepped p events' index before found after
+as-found p events events' index before found after same step =
+    let other = subst (Found p index before found after) same (step.grows, step.word) in
     record { grows = other.0; word = other.1 }
 
 -- What putting a value in place of another tells.
@@ -122,7 +122,7 @@ module _
     (p : Plan) (plan : IsPlan p) (before : SeenBy)
     (found : ℕ) (after : SeenBy) (g i old : ℕ) (to : ValueState) (call : Call)
     (slot : IsSlot p g i)
-    (step : Stepped p (win_events before.number g i old to call) (value_place p g i)
+    (step : Stepped p (win_events before.number g i old to call) (value_index p g i)
     before found after) where
   pub win-won :
       (new : ℕ) → value_state new ≡ Some to → found ≡ old
@@ -133,7 +133,7 @@ module _
       let e = win before.number g i (value_in old) to call in
       value-made p plan (λ x. eqb x old) e before found after g i slot
       (as-found p (win_events before.number g i old to call) (λ x. cond (eqb x old) (e ∷ []) [])
-      (value_place p g i) before found after
+      (value_index p g i) before found after
       (ap (λ b. cond b (e ∷ []) (read before.number call (shown_by_value (value_in found)))) test
       ∙ sym (ap (λ b. cond b (e ∷ []) []) test)) step)
       test (λ x. value_word to) to refl (codings.state_of_word to (codings.word_of_state new to
@@ -147,10 +147,10 @@ module _
       let shown = λ (word k : ℕ). shown_by_value (value_in word) in
       let e = win before.number g i (value_in old) to call in
       let load = as-found p (win_events before.number g i old to call)
-      (λ word. reads before.number (Some call) (shown word)) (value_place p g i) before found after
+      (λ word. reads before.number (Some call) (shown word)) (value_index p g i) before found after
       (ap (λ b. cond b (e ∷ []) (read before.number call (shown_by_value (value_in found))))
       (ne_eqb found old other)) step in (
         load.grows,
-        ap (λ t. t.value g i) (load-sees p before.number (Some call) shown (value_place p g i)
+        ap (λ t. t.value g i) (load-sees p before.number (Some call) shown (value_index p g i)
             found before after load) ∙ ap value_in load.word,
       )

@@ -98,13 +98,13 @@ moved part others own step =
 
 -- What a step tells: others made events meanwhile, the word was as found after them, and these
 -- events of the seat's follow. It is a later step than the seat's last one.
-pub record HasMoved (p : Plan) (events : ℕ → List Event) (place found : ℕ) (part part' : Part) :
+pub record HasMoved (p : Plan) (events : ℕ → List Event) (index found : ℕ) (part part' : Part) :
     Type 0 where
   pub others : List Event
   pub not_own : All (λ e. seat_of_event e ≢ part.number) others
   pub mine : All (λ e. seat_of_event e ≡ part.number) (events found)
   pub legal : IsLegal p (events found ++ (others ++ part.seen))
-  pub word : slice_index (words_of p (others ++ part.seen)) place ≡ found
+  pub word : slice_index (words_of p (others ++ part.seen)) index ≡ found
   pub step : ℕ
   pub later : part.last_step < step
   pub is : part' ≡ moved part others (events found) step
@@ -112,10 +112,10 @@ pub record HasMoved (p : Plan) (events : ℕ → List Event) (place found : ℕ)
 -- What a step by a token that knows one seat makes of what it knows: the seat's part has moved, and
 -- the seat has seen all that the token was told of.
 pub record Moves
-    (p : Plan) (events : ℕ → List Event) (place : ℕ) (me : Me (Unit {0}) View) (found : ℕ)
+    (p : Plan) (events : ℕ → List Event) (index : ℕ) (me : Me (Unit {0}) View) (found : ℕ)
     (me' : Me (Unit {0}) View)
     : Type 0 where
   pub after : Part
   pub is : me' ≡ (record { parts = after ∷ []; told = [] }, me.1)
-  pub moves : (part : Part) → me.0.parts ≡ part ∷ [] → HasMoved p events place found part after
+  pub moves : (part : Part) → me.0.parts ≡ part ∷ [] → HasMoved p events index found part after
   pub heard : All (λ seen. IsBeginning seen after.seen) me.0.told

@@ -68,7 +68,7 @@ impl Chain {
             × ((seen_by self.now.shape seat.new).value g i ≡ value_in result) }
     {
         known(&call);
-        let place = self.shape.value_place(g, i);
+        let index = self.shape.value_index(g, i);
         let new = encode_value(to);
         let spot = Spot {
             g,
@@ -76,6 +76,6 @@ impl Chain {
             key: None,
             number: None,
         };
-        self.exchanges::<Brand>(seat, place, from, new, spot, Some(call))
+        self.exchanges::<Brand>(seat, index, from, new, spot, Some(call))
     }
 }

@@ -114,17 +114,17 @@ impl Chain {
     pub(crate) fn loads<B: Told>(
         &self,
         seat: &mut ChainSeat,
-        place: usize,
+        index: usize,
         _spot: Spot,
         _call: Option<Call>,
     ) -> u64
         requires own { seat.old.chain ≡ self.now.id }
         requires shape { B.shape ≡ self.now.shape }
-        requires within { place < word_count self.now.shape }
-        requires can { Can B.shape B.events seat.old.number seat.old.seen place (λ found. found) }
-        ensures { Stepped B.shape B.events place seat.old result seat.new }
+        requires within { index < word_count self.now.shape }
+        requires can { Can B.shape B.events seat.old.number seat.old.seen index (λ found. found) }
+        ensures { Stepped B.shape B.events index seat.old result seat.new }
     {
-        self.table.shared.load::<Move<B>>(&mut seat.seat, place)
+        self.table.shared.load::<Move<B>>(&mut seat.seat, index)
     }
 
     /// One compare-and-exchange, which returns the word as it was. It has become `new` if it was
@@ -132,7 +132,7 @@ impl Chain {
     pub(crate) fn exchanges<B: Told>(
         &self,
         seat: &mut ChainSeat,
-        place: usize,
+        index: usize,
         old: u64,
         new: u64,
         _spot: Spot,
@@ -140,34 +140,34 @@ impl Chain {
     ) -> u64
         requires own { seat.old.chain ≡ self.now.id }
         requires shape { B.shape ≡ self.now.shape }
-        requires within { place < word_count self.now.shape }
-        requires can { Can B.shape B.events seat.old.number seat.old.seen place
+        requires within { index < word_count self.now.shape }
+        requires can { Can B.shape B.events seat.old.number seat.old.seen index
             (λ found. if found == old then new else found) }
-        ensures { Stepped B.shape B.events place seat.old result seat.new }
+        ensures { Stepped B.shape B.events index seat.old result seat.new }
     {
         self.table
             .shared
-            .compare_exchange::<Move<B>>(&mut seat.seat, place, old, new)
+            .compare_exchange::<Move<B>>(&mut seat.seat, index, old, new)
     }
 
     /// One fetch-or, which returns the word as it was.
     pub(crate) fn ors<B: Told>(
         &self,
         seat: &mut ChainSeat,
-        place: usize,
+        index: usize,
         bits: u64,
         _spot: Spot,
     ) -> u64
         requires own { seat.old.chain ≡ self.now.id }
         requires shape { B.shape ≡ self.now.shape }
-        requires within { place < word_count self.now.shape }
-        requires can { Can B.shape B.events seat.old.number seat.old.seen place
+        requires within { index < word_count self.now.shape }
+        requires can { Can B.shape B.events seat.old.number seat.old.seen index
             (λ found. bit_or found bits) }
-        ensures { Stepped B.shape B.events place seat.old result seat.new }
+        ensures { Stepped B.shape B.events index seat.old result seat.new }
     {
         self.table
             .shared
-            .fetch_or::<Move<B>>(&mut seat.seat, place, bits)
+            .fetch_or::<Move<B>>(&mut seat.seat, index, bits)
     }
 
     /// One fetch-add modulo 2^64, which returns the word as it was. The proof of a caller names its
@@ -175,20 +175,20 @@ impl Chain {
     pub(crate) fn adds<B: Told>(
         &self,
         seat: &mut ChainSeat,
-        place: usize,
+        index: usize,
         amount: u64,
         _g: u32,
     ) -> u64
         requires own { seat.old.chain ≡ self.now.id }
         requires shape { B.shape ≡ self.now.shape }
-        requires within { place < word_count self.now.shape }
-        requires can { Can B.shape B.events seat.old.number seat.old.seen place
+        requires within { index < word_count self.now.shape }
+        requires can { Can B.shape B.events seat.old.number seat.old.seen index
             (λ found. (found + amount) % 2 ^ 64) }
-        ensures { Stepped B.shape B.events place seat.old result seat.new }
+        ensures { Stepped B.shape B.events index seat.old result seat.new }
     {
         self.table
             .shared
-            .fetch_add::<Move<B>>(&mut seat.seat, place, amount)
+            .fetch_add::<Move<B>>(&mut seat.seat, index, amount)
     }
 
     /// One fetch-max, which returns the word as it was. The proof of a caller names its events by
@@ -196,20 +196,20 @@ impl Chain {
     pub(crate) fn raises<B: Told>(
         &self,
         seat: &mut ChainSeat,
-        place: usize,
+        index: usize,
         least: u64,
         _g: u32,
     ) -> u64
         requires own { seat.old.chain ≡ self.now.id }
         requires shape { B.shape ≡ self.now.shape }
-        requires within { place < word_count self.now.shape }
-        requires can { Can B.shape B.events seat.old.number seat.old.seen place
+        requires within { index < word_count self.now.shape }
+        requires can { Can B.shape B.events seat.old.number seat.old.seen index
             (λ found. max found least) }
-        ensures { Stepped B.shape B.events place seat.old result seat.new }
+        ensures { Stepped B.shape B.events index seat.old result seat.new }
     {
         self.table
             .shared
-            .fetch_max::<Move<B>>(&mut seat.seat, place, least)
+            .fetch_max::<Move<B>>(&mut seat.seat, index, least)
     }
 
     /// Each of two seats sees what the other has seen. This makes six loads of the top word, three

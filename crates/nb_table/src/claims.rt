@@ -24,7 +24,7 @@ impl Chain {
         ensures lost { result ≢ key_is.Empty → Extended self.now.shape seat.old seat.new [] 1
             × ((seen_by self.now.shape seat.new).key g i ≡ result) }
     {
-        let place = self.shape.key_place(g, i);
+        let index = self.shape.key_index(g, i);
         let word = encode_key(KeyState::Claimed(key));
         let spot = Spot {
             g,
@@ -32,7 +32,7 @@ impl Chain {
             key: Some(key),
             number: None,
         };
-        decode_key(self.exchanges::<Brand>(seat, place, 0, word, spot, None))
+        decode_key(self.exchanges::<Brand>(seat, index, 0, word, spot, None))
     }
 
     /// Closes the slot to keys if it is empty, by one compare-exchange, and answers what its key
@@ -47,13 +47,13 @@ impl Chain {
         ensures lost { result ≢ key_is.Empty → Extended self.now.shape seat.old seat.new [] 1
             × ((seen_by self.now.shape seat.new).key g i ≡ result) }
     {
-        let place = self.shape.key_place(g, i);
+        let index = self.shape.key_index(g, i);
         let spot = Spot {
             g,
             i,
             key: None,
             number: None,
         };
-        decode_key(self.exchanges::<Brand>(seat, place, 0, 1, spot, None))
+        decode_key(self.exchanges::<Brand>(seat, index, 0, 1, spot, None))
     }
 }

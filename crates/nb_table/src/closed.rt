@@ -157,28 +157,28 @@ impl Closed {
         requires { g < generations_of self.now.shape }
         ensures { result ≡ is_installed (tables_left self.now) g }
     {
-        g == 0 || self.word(self.shape.header_place(g - 1, HeaderWord::Next)) == 1
+        g == 0 || self.word(self.shape.header_index(g - 1, HeaderWord::Next)) == 1
     }
 
     fn key_at(&self, g: u32, i: usize) -> KeyState
         requires { IsSlot self.now.shape g i }
         ensures { result ≡ (tables_left self.now).key g i }
     {
-        decode_key(self.word(self.shape.key_place(g, i)))
+        decode_key(self.word(self.shape.key_index(g, i)))
     }
 
     fn value_at(&self, g: u32, i: usize) -> ValueState
         requires { IsSlot self.now.shape g i }
         ensures { result ≡ (tables_left self.now).value g i }
     {
-        decode_lawful_value(self.word(self.shape.value_place(g, i)))
+        decode_lawful_value(self.word(self.shape.value_index(g, i)))
     }
 
-    fn word(&self, place: usize) -> u64
-        requires { place < word_count self.now.shape }
-        ensures { result ≡ slice_index self.now.words place }
+    fn word(&self, index: usize) -> u64
+        requires { index < word_count self.now.shape }
+        ensures { result ≡ slice_index self.now.words index }
     {
-        self.table.word(place)
+        self.table.word(index)
     }
 }
 

@@ -28,14 +28,14 @@ impl Chain {
         ensures lost { (IsUnprimed result → ⊥) → Extended self.now.shape seat.old seat.new [] 1
             × ((seen_by self.now.shape seat.new).value g i ≡ result) }
     {
-        let place = self.shape.value_place(g, i);
+        let index = self.shape.value_index(g, i);
         let spot = Spot {
             g,
             i,
             key: None,
             number: None,
         };
-        decode_lawful_value(self.ors::<Brand>(seat, place, 1, spot))
+        decode_lawful_value(self.ors::<Brand>(seat, index, 1, spot))
     }
 
     /// Copies the number of a key in the table below `g` to the key's slot `i` of table `g`, by one
@@ -60,7 +60,7 @@ impl Chain {
         ensures lost { result ≢ value_is.Null → Extended self.now.shape seat.old seat.new [] 1
             × ((seen_by self.now.shape seat.new).value g i ≡ result) }
     {
-        let place = self.shape.value_place(g, i);
+        let index = self.shape.value_index(g, i);
         let word = encode_value(ValueState::Live(number));
         let spot = Spot {
             g,
@@ -68,7 +68,7 @@ impl Chain {
             key: Some(key),
             number: Some(number),
         };
-        decode_lawful_value(self.exchanges::<Brand>(seat, place, 0, word, spot, None))
+        decode_lawful_value(self.exchanges::<Brand>(seat, index, 0, word, spot, None))
     }
 
     /// Marks the primed number in slot `i` of table `g` as copied, by one fetch-or of 2 on its
@@ -85,13 +85,13 @@ impl Chain {
             × ((seen_by self.now.shape seat.new).value g i ≡ result)
             × (result ≡ value_is.Finished number) }
     {
-        let place = self.shape.value_place(g, i);
+        let index = self.shape.value_index(g, i);
         let spot = Spot {
             g,
             i,
             key: None,
             number: Some(number),
         };
-        decode_lawful_value(self.ors::<Brand>(seat, place, 2, spot))
+        decode_lawful_value(self.ors::<Brand>(seat, index, 2, spot))
     }
 }

@@ -22,9 +22,9 @@ impl Chain {
             (event.Take seat.old.number g ∷ []) 1 }
         ensures found { (seen_before self.now.shape seat.new).taken g ≡ result }
     {
-        let place = self.shape.header_place(g, HeaderWord::Take);
+        let index = self.shape.header_index(g, HeaderWord::Take);
         let chunk = self.shape.chunk_of(g) as u64;
-        self.adds::<Brand>(seat, place, chunk, g)
+        self.adds::<Brand>(seat, index, chunk, g)
     }
 
     /// Counts finished slots of table `g` that the seat's own steps turned, by one fetch-add on its
@@ -39,8 +39,8 @@ impl Chain {
             (event.Count seat.old.number g slots ∷ []) 1 }
         ensures found { (seen_by self.now.shape seat.new).counted g ≡ result + slots }
     {
-        let place = self.shape.header_place(g, HeaderWord::Done);
-        self.adds::<Brand>(seat, place, slots, g)
+        let index = self.shape.header_index(g, HeaderWord::Done);
+        self.adds::<Brand>(seat, index, slots, g)
     }
 
     /// Raises the top word past table `g`, by one fetch-max, and answers what it was. The seat has
@@ -73,13 +73,13 @@ impl Chain {
         ensures installed { IsInstalled (seen_by self.now.shape seat.new) (suc g) }
     {
         key.known();
-        let place = self.shape.header_place(g, HeaderWord::Next);
+        let index = self.shape.header_index(g, HeaderWord::Next);
         let spot = Spot {
             g,
             i: 0,
             key: Some(key),
             number: None,
         };
-        self.exchanges::<Brand>(seat, place, 0, 1, spot, None) == 0
+        self.exchanges::<Brand>(seat, index, 0, 1, spot, None) == 0
     }
 }

@@ -47,14 +47,14 @@ impl Chain {
         ensures found { (seen_by self.now.shape seat.new).key g i ≡ key_state result }
     {
         known_if_some(&call);
-        let place = self.shape.key_place(g, i);
+        let index = self.shape.key_index(g, i);
         let spot = Spot {
             g,
             i,
             key: None,
             number: None,
         };
-        self.loads::<Brand>(seat, place, spot, call)
+        self.loads::<Brand>(seat, index, spot, call)
     }
 
     /// What the key word of slot `i` of table `g` holds, by the same load.
@@ -90,14 +90,14 @@ impl Chain {
         ensures found { (seen_by self.now.shape seat.new).value g i ≡ value_in result }
     {
         known_if_some(&call);
-        let place = self.shape.value_place(g, i);
+        let index = self.shape.value_index(g, i);
         let spot = Spot {
             g,
             i,
             key: None,
             number: None,
         };
-        self.loads::<Brand>(seat, place, spot, call)
+        self.loads::<Brand>(seat, index, spot, call)
     }
 
     /// What the value word of slot `i` of table `g` holds, by the same load.
@@ -138,14 +138,14 @@ impl Chain {
             ↔ IsInstalled (seen_by self.now.shape seat.new) (suc g) }
     {
         known_if_some(&call);
-        let place = self.shape.header_place(g, HeaderWord::Next);
+        let index = self.shape.header_index(g, HeaderWord::Next);
         let spot = Spot {
             g,
             i: 0,
             key: None,
             number: None,
         };
-        self.loads::<Brand>(seat, place, spot, call) == 1
+        self.loads::<Brand>(seat, index, spot, call) == 1
     }
 
     /// The number of tables, from the first on, that are known to be complete, by one load of the

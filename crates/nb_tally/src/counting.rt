@@ -116,11 +116,7 @@ fn count_one<R: Wait>(rt: &R, handle: &mut Handle, key: Key) -> Result<(), Stop>
 /// All counts, by a walk over the map. No other handle writes any more, so it shows all of it.
 fn counts_of(alloc: Global, handle: Handle) -> Result<Vec<Count>, Fault> {
     let mut counts = Vec::new(alloc);
-    let mut walk = handle.walk();
-    for _ in 0..u64::MAX {
-        let Some((key, times)) = walk.next_key() else {
-            break;
-        };
+    for (key, times) in handle.walk() {
         counts.push(Count {
             number: number_of(key),
             times: times.get(),

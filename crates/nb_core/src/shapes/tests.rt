@@ -2,11 +2,11 @@ use super::*;
 use std::process::Abort;
 use std::test::Fail;
 
-fn assert_places(rt: &impl Abort, shape: &Shape, bases: &[usize], words: usize) {
+fn assert_indices(rt: &impl Abort, shape: &Shape, bases: &[usize], words: usize) {
     assert_eq!(rt; shape.generations() as usize, bases.len());
     for g in 0..shape.generations() {
         assert_eq!(rt;
-            shape.header_place(g, HeaderWord::Next),
+            shape.header_index(g, HeaderWord::Next),
             bases[g as usize],
             "of table {g}"
         );
@@ -15,24 +15,24 @@ fn assert_places(rt: &impl Abort, shape: &Shape, bases: &[usize], words: usize) 
 }
 
 #[test]
-fn plan_places(rt: HostRuntime) -> Result<(), Fail> {
-    assert_places(&rt, &Shape::with_plan(&[2, 2, 3], 1, 1)?, &[1, 12, 23], 42);
+fn plan_indices(rt: HostRuntime) -> Result<(), Fail> {
+    assert_indices(&rt, &Shape::with_plan(&[2, 2, 3], 1, 1)?, &[1, 12, 23], 42);
     assert_eq!(rt; Shape::with_plan(&[2; 16], 1, 1)?.words(), 177);
-    assert_places(&rt, &Shape::new(2, 1, 1, 1)?, &[1], 12);
+    assert_indices(&rt, &Shape::new(2, 1, 1, 1)?, &[1], 12);
     assert_eq!(rt;
         Shape::with_plan(&[12, 13, 14, 15, 16, 17, 18, 19], 8, 8),
         Shape::new(12, 8, 8, 8)
     );
 
     let doubling = Shape::new(2, 3, 1, 1)?;
-    assert_places(&rt, &doubling, &[1, 12, 31], 66);
+    assert_indices(&rt, &doubling, &[1, 12, 31], 66);
     assert_eq!(rt; doubling.size_of(1), 8);
-    assert_eq!(rt; doubling.key_place(1, 5), 25);
-    assert_eq!(rt; doubling.value_place(1, 5), 26);
+    assert_eq!(rt; doubling.key_index(1, 5), 25);
+    assert_eq!(rt; doubling.value_index(1, 5), 26);
 
     let largest = Shape::new(12, 8, 8, 8)?;
     assert_eq!(rt; largest.generations(), 8);
-    assert_eq!(rt; largest.header_place(0, HeaderWord::Next), 1);
+    assert_eq!(rt; largest.header_index(0, HeaderWord::Next), 1);
     assert_eq!(rt; largest.words(), 2088985);
     assert_eq!(rt; (largest.seats(), largest.stripes()), (8, 8));
     Ok(())

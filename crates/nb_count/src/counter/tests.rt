@@ -7,13 +7,13 @@ use std::test::Fail;
 use std::thread;
 use std::thread::Threads;
 
-/// Each seat adds the amount at its place.
+/// Each seat adds the amount at its index.
 fn add_each(counter: &Counter, seats: &mut [CountSeat], amounts: &[i64])
     requires { AreOwn counter.now seats.old }
     ensures { AreOwn counter.now seats.new }
 {
-    for place in 0..seats.len().min(amounts.len()) {
-        counter.add(&mut seats[place], amounts[place]);
+    for index in 0..seats.len().min(amounts.len()) {
+        counter.add(&mut seats[index], amounts[index]);
     }
 }
 

@@ -1,7 +1,7 @@
 //! Calls at a key, and looks at the whole.
 ghost use Rattle.std.specs.Prelude.{Ok};
-ghost use Rattle.nb_ffi.specs.Codes.{asked_call, call_told, key_told};
-ghost use Rattle.nb_ffi.specs.Handles.{IsOpen, Turned};
+ghost use Rattle.nb_ffi.specs.Codes.{checked_call, checked_key, write_of};
+ghost use Rattle.nb_ffi.specs.Handles.{IsOpen, StaysOpen};
 ghost use Rattle.nb_ffi.specs.Looks.{HasEstimated, HasFoundTop};
 ghost use Rattle.nb_ffi.specs.Telling.{AreOfOneMap, HasMet, IsGet, IsWrite};
 
@@ -14,8 +14,9 @@ use nb_core::Num;
 /// `Map::get`.
 #[unsafe(no_mangle)]
 pub extern "C" fn samvolip_get(seat: &mut SeatHandle, key: u64, number: &mut u64) -> i32
-    requires open { IsOpen seat.old.held }
-    ensures { IsGet (key_told key) result number.old number.new seat.old.held seat.new.held }
+    requires open { IsOpen seat.old.session }
+    ensures { IsGet (checked_key key) result number.old number.new
+        seat.old.session seat.new.session }
 {
     let key = match key_of(key) {
         Ok(key) => key,
@@ -30,9 +31,9 @@ pub extern "C" fn samvolip_get(seat: &mut SeatHandle, key: u64, number: &mut u64
 
 /// What a write answers, and its code.
 fn written(seat: &mut SeatHandle, asked: WriteAsked, tries: u32, reply: &mut WriteReply) -> i32
-    requires open { IsOpen seat.old.held }
-    ensures { IsWrite (asked_call (Ok asked)) tries result reply.old reply.new
-        seat.old.held seat.new.held }
+    requires open { IsOpen seat.old.session }
+    ensures { IsWrite (Ok (write_of asked)) tries result reply.old reply.new
+        seat.old.session seat.new.session }
 {
     let WriteAsked { key, want, change } = asked;
     match seat.lend().put_if_match(key, want, change, tries) {
@@ -56,9 +57,9 @@ pub extern "C" fn samvolip_put_if_match(
     tries: u32,
     reply: &mut WriteReply,
 ) -> i32
-    requires open { IsOpen seat.old.held }
-    ensures { IsWrite (call_told key want old change number) tries result reply.old reply.new
-        seat.old.held seat.new.held }
+    requires open { IsOpen seat.old.session }
+    ensures { IsWrite (checked_call key want old change number) tries result reply.old reply.new
+        seat.old.session seat.new.session }
 {
     match asked(key, want, old, change, number) {
         Ok(asked) => written(seat, asked, tries, reply),
@@ -69,8 +70,8 @@ pub extern "C" fn samvolip_put_if_match(
 /// `Map::size_estimate`.
 #[unsafe(no_mangle)]
 pub extern "C" fn samvolip_size_estimate(seat: &mut SeatHandle) -> u64
-    requires open { IsOpen seat.old.held }
-    ensures { Turned seat.old.held seat.new.held HasEstimated }
+    requires open { IsOpen seat.old.session }
+    ensures { StaysOpen seat.old.session seat.new.session HasEstimated }
 {
     seat.lend().size_estimate()
 }
@@ -78,8 +79,8 @@ pub extern "C" fn samvolip_size_estimate(seat: &mut SeatHandle) -> u64
 /// `Map::generation`.
 #[unsafe(no_mangle)]
 pub extern "C" fn samvolip_generation(seat: &mut SeatHandle) -> u32
-    requires open { IsOpen seat.old.held }
-    ensures { Turned seat.old.held seat.new.held (HasFoundTop result) }
+    requires open { IsOpen seat.old.session }
+    ensures { StaysOpen seat.old.session seat.new.session (HasFoundTop result) }
 {
     seat.lend().generation()
 }
@@ -87,11 +88,11 @@ pub extern "C" fn samvolip_generation(seat: &mut SeatHandle) -> u32
 /// `Map::meet`.
 #[unsafe(no_mangle)]
 pub extern "C" fn samvolip_meet(seat: &mut SeatHandle, other: &mut SeatHandle)
-    requires open { IsOpen seat.old.held }
-    requires other_open { IsOpen other.old.held }
-    requires one { AreOfOneMap seat.old.held other.old.held }
-    ensures here { Turned seat.old.held seat.new.held (HasMet other.old.held) }
-    ensures there { Turned other.old.held other.new.held (HasMet seat.old.held) }
+    requires open { IsOpen seat.old.session }
+    requires other_open { IsOpen other.old.session }
+    requires one { AreOfOneMap seat.old.session other.old.session }
+    ensures here { StaysOpen seat.old.session seat.new.session (HasMet other.old.session) }
+    ensures there { StaysOpen other.old.session other.new.session (HasMet seat.old.session) }
 {
     seat.lend().meet(other.lend());
 }

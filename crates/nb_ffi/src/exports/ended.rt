@@ -2,7 +2,7 @@
 ghost use Rattle.std.specs.Prelude.{◌≡◌, None, length};
 ghost use Rattle.std.specs.FinMap as map;
 ghost use Rattle.nb_map.specs.Ending.{EndedOf, map_left};
-ghost use Rattle.nb_ffi.specs.Codes.{key_told};
+ghost use Rattle.nb_ffi.specs.Codes.{checked_key};
 ghost use Rattle.nb_ffi.specs.Entries.{AreEntries};
 ghost use Rattle.nb_ffi.specs.Telling.{HasEnd, IsEnd, IsEndGet};
 
@@ -28,7 +28,7 @@ pub extern "C" fn samvolip_ended_size(ended: &mut EndedHandle) -> u64
 pub extern "C" fn samvolip_ended_get(ended: &mut EndedHandle, key: u64, number: &mut u64) -> i32
     requires has { HasEnd ended.old.left }
     ensures told { (end : EndedOf) → IsEnd end ended.old.left
-        → IsEndGet (key_told key) result number.old number.new end }
+        → IsEndGet (checked_key key) result number.old number.new end }
     ensures same { ended.new ≡ ended.old }
 {
     let key = match key_of(key) {

@@ -21,8 +21,8 @@ pub extern "C" fn samvolip_open_with(
     shape: &MapShape,
     seat: &mut SeatHandle,
 ) -> i32
-    requires empty { seat.old.held ≡ None }
-    ensures { IsOpening (plan_asked header.now shape.now) result seat.old.held seat.new.held }
+    requires empty { seat.old.session ≡ None }
+    ensures { IsOpening (plan_asked header.now shape.now) result seat.old.session seat.new.session }
 {
     if !header.is_ours() {
         return E_VERSION;
@@ -32,8 +32,8 @@ pub extern "C" fn samvolip_open_with(
         Err(code) => return code,
     };
     match opened(alloc, shape) {
-        Ok(held) => {
-            seat.fill(held);
+        Ok(session) => {
+            seat.fill(session);
             OK
         }
         Err(_) => E_OUT_OF_MEMORY,
@@ -47,13 +47,13 @@ pub extern "C" fn samvolip_split(
     seat: &mut SeatHandle,
     other: &mut SeatHandle,
 ) -> i32
-    requires open { IsOpen seat.old.held }
-    requires empty { other.old.held ≡ None }
-    ensures { IsSplit result seat.old.held seat.new.held other.old.held other.new.held }
+    requires open { IsOpen seat.old.session }
+    requires empty { other.old.session ≡ None }
+    ensures { IsSplit result seat.old.session seat.new.session other.old.session other.new.session }
 {
     match seat.lend().split(alloc) {
-        Ok(held) => {
-            other.fill(held);
+        Ok(session) => {
+            other.fill(session);
             OK
         }
         Err(SplitFault::OutOfMemory) => E_OUT_OF_MEMORY,
@@ -64,10 +64,10 @@ pub extern "C" fn samvolip_split(
 /// All seats of the other handle go into the reserve of the first.
 #[unsafe(no_mangle)]
 pub extern "C" fn samvolip_join(alloc: Global, seat: &mut SeatHandle, other: &mut SeatHandle) -> i32
-    requires open { IsOpen seat.old.held }
-    requires other_open { IsOpen other.old.held }
-    requires one { AreOfOneMap seat.old.held other.old.held }
-    ensures { IsJoin result seat.old.held seat.new.held other.old.held other.new.held }
+    requires open { IsOpen seat.old.session }
+    requires other_open { IsOpen other.old.session }
+    requires one { AreOfOneMap seat.old.session other.old.session }
+    ensures { IsJoin result seat.old.session seat.new.session other.old.session other.new.session }
 {
     match seat.lend().join(other.take(alloc)) {
         Ok(()) => OK,
@@ -85,9 +85,9 @@ pub extern "C" fn samvolip_close(
     seat: &mut SeatHandle,
     ended: &mut EndedHandle,
 ) -> i32
-    requires open { IsOpen seat.old.held }
+    requires open { IsOpen seat.old.session }
     requires empty { ended.old.left ≡ None }
-    ensures { IsClose result seat.old.held seat.new.held ended.old.left ended.new.left }
+    ensures { IsClose result seat.old.session seat.new.session ended.old.left ended.new.left }
 {
     match closed(alloc, seat.take(alloc)) {
         Ok(left) => {
@@ -109,8 +109,8 @@ pub extern "C" fn samvolip_close(
 /// Frees what a handle stands for. The map goes with its last handle.
 #[unsafe(no_mangle)]
 pub extern "C" fn samvolip_free_open(alloc: Global, seat: &mut SeatHandle)
-    requires open { IsOpen seat.old.held }
-    ensures { seat.new.held ≡ None }
+    requires open { IsOpen seat.old.session }
+    ensures { seat.new.session ≡ None }
 {
     drop(seat.take(alloc));
 }

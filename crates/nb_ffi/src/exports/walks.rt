@@ -1,5 +1,5 @@
 //! Walks over the map's keys.
-ghost use Rattle.nb_ffi.specs.Handles.{IsOpen, Turned};
+ghost use Rattle.nb_ffi.specs.Handles.{IsOpen, StaysOpen};
 ghost use Rattle.nb_ffi.specs.Walking.{HasBegun, IsNext};
 
 use crate::codes::{ABSENT, PRESENT};
@@ -8,8 +8,8 @@ use crate::seat_handle::SeatHandle;
 /// `Map::walk`.
 #[unsafe(no_mangle)]
 pub extern "C" fn samvolip_walk(seat: &mut SeatHandle)
-    requires open { IsOpen seat.old.held }
-    ensures { Turned seat.old.held seat.new.held HasBegun }
+    requires open { IsOpen seat.old.session }
+    ensures { StaysOpen seat.old.session seat.new.session HasBegun }
 {
     seat.lend().begin_walk();
 }
@@ -17,13 +17,14 @@ pub extern "C" fn samvolip_walk(seat: &mut SeatHandle)
 /// `Map::next_key`, of the walk that the handle has begun.
 #[unsafe(no_mangle)]
 pub extern "C" fn samvolip_next(seat: &mut SeatHandle, key: &mut u64, number: &mut u64) -> i32
-    requires open { IsOpen seat.old.held }
-    ensures { IsNext result key.old key.new number.old number.new seat.old.held seat.new.held }
+    requires open { IsOpen seat.old.session }
+    ensures { IsNext result key.old key.new number.old number.new
+        seat.old.session seat.new.session }
 {
     match seat.lend().next_key() {
-        Some((found, its)) => {
-            *key = found.get();
-            *number = its.get();
+        Some((next_key, next_number)) => {
+            *key = next_key.get();
+            *number = next_number.get();
             PRESENT
         }
         None => ABSENT,

@@ -11,7 +11,7 @@ returns c =
       counter = search rules;
       own = search rules;
       seats = search rules;
-      logs = none-logged c.in-Ok-new.held.value.map c.args.shape.seats
-          (all_seats c.in-Ok-new.held.value) (search rules);
+      logs = none-logged c.in-Ok-new.session.value.map c.args.shape.seats
+          (all_seats c.in-Ok-new.session.value) (search rules);
       walk = search rules;
     }

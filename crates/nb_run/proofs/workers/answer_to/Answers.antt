@@ -17,7 +17,7 @@ returns-in-Put-clause-answered g c =
     subst₂ (λ made a. IsAnswered c.args.map.now made a c.args.seat.now c.put.new.seat)
     (sym c.in-Put.is) (sym c.put-in-Put.ensures)
     (by-put c.args.map.now c.args.seat.now c.put.new.seat (command.Put c.in-Put.key c.in-Put.number)
-    (λ reply. refl) c.put.result c.put.ensures.found c.put.ensures.full)
+    (λ reply. refl) c.put.result c.put.ensures.answered)
 
 pub returns-in-PutIfAbsent-clause-answered : goal.returns-in-PutIfAbsent-clause-answered
 returns-in-PutIfAbsent-clause-answered g c =
@@ -25,7 +25,7 @@ returns-in-PutIfAbsent-clause-answered g c =
     (sym c.in-PutIfAbsent.is) (sym c.put-in-PutIfAbsent.ensures)
     (by-put c.args.map.now c.args.seat.now c.put_if_absent.new.seat
     (command.PutIfAbsent c.in-PutIfAbsent.key c.in-PutIfAbsent.number) (λ reply. refl)
-    c.put_if_absent.result c.put_if_absent.ensures.found c.put_if_absent.ensures.full)
+    c.put_if_absent.result c.put_if_absent.ensures.answered)
 
 pub returns-in-Replace-clause-answered : goal.returns-in-Replace-clause-answered
 returns-in-Replace-clause-answered g c =
@@ -33,7 +33,7 @@ returns-in-Replace-clause-answered g c =
     (sym c.in-Replace.is) (sym c.before-in-Replace.ensures)
     (by-found c.args.map.now c.args.seat.now c.replace.new.seat
     (command.Replace c.in-Replace.key c.in-Replace.number) (λ reply. refl)
-    c.replace.result c.replace.ensures.found)
+    c.replace.result c.replace.ensures.answered)
 
 pub returns-in-ReplaceIf-clause-answered : goal.returns-in-ReplaceIf-clause-answered
 returns-in-ReplaceIf-clause-answered g c =
@@ -41,14 +41,14 @@ returns-in-ReplaceIf-clause-answered g c =
     c.args.seat.now c.replace_if.new.seat) (sym c.in-ReplaceIf.is)
     (by-matched c.args.map.now c.args.seat.now c.replace_if.new.seat
     (command.ReplaceIf c.in-ReplaceIf.key c.in-ReplaceIf.old c.in-ReplaceIf.new) (λ reply. refl)
-    c.replace_if.result c.replace_if.ensures.matched)
+    c.replace_if.result c.replace_if.ensures.answered)
 
 pub returns-in-Remove-clause-answered : goal.returns-in-Remove-clause-answered
 returns-in-Remove-clause-answered g c =
     subst₂ (λ made a. IsAnswered c.args.map.now made a c.args.seat.now c.remove.new.seat)
     (sym c.in-Remove.is) (sym c.before-in-Remove.ensures)
     (by-found c.args.map.now c.args.seat.now c.remove.new.seat (command.Remove c.in-Remove.key)
-    (λ reply. refl) c.remove.result c.remove.ensures.found)
+    (λ reply. refl) c.remove.result c.remove.ensures.answered)
 
 pub returns-in-RemoveIf-clause-answered : goal.returns-in-RemoveIf-clause-answered
 returns-in-RemoveIf-clause-answered g c =
@@ -56,14 +56,14 @@ returns-in-RemoveIf-clause-answered g c =
     c.args.seat.now c.remove_if.new.seat) (sym c.in-RemoveIf.is)
     (by-matched c.args.map.now c.args.seat.now c.remove_if.new.seat
     (command.RemoveIf c.in-RemoveIf.key c.in-RemoveIf.number) (λ reply. refl)
-    c.remove_if.result c.remove_if.ensures.matched)
+    c.remove_if.result c.remove_if.ensures.answered)
 
 pub returns-in-Add-clause-answered : goal.returns-in-Add-clause-answered
 returns-in-Add-clause-answered g c =
     subst₂ (λ made a. IsAnswered c.args.map.now made a c.args.seat.now c.add.new.seat)
     (sym c.in-Add.is) (sym c.added.ensures)
     (by-add c.args.map.now c.args.seat.now c.add.new.seat (command.Add c.in-Add.key c.in-Add.number)
-    (λ reply. refl) c.add.result c.add.ensures.found c.add.ensures.refused)
+    (λ reply. refl) c.add.result c.add.ensures.answered)
 
 pub returns-in-Get-clause-worked : goal.returns-in-Get-clause-worked
 returns-in-Get-clause-worked g c =

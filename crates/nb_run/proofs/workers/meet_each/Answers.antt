@@ -37,6 +37,6 @@ loop-other-preserved c =
     same-at workers now i d c.loop-other-test.true below inv.3
     ∙ get_or_default workers i d worker c.loop-other-test.true in
     each-more m workers now i worker c.args.seat.now c.loop-other.seat c.meet.new.a c.meet.new.b
-    c.loop-other-test.true below at inv.3 c.meet.ensures.a_own c.meet.ensures.b_own inv.1 inv.2
-    (c.meet.ensures.a.0, c.meet.ensures.a.1, c.meet.ensures.a_grows.0, c.meet.ensures.a_grows.2)
-    (c.meet.ensures.b.0, c.meet.ensures.b.1, c.meet.ensures.b_grows.0, c.meet.ensures.b_grows.2)
+    c.loop-other-test.true below at inv.3 c.meet.ensures.a.own c.meet.ensures.b.own inv.1 inv.2
+    (c.meet.ensures.a.logged, c.meet.ensures.a.knows, c.meet.ensures.a.grows, c.meet.ensures.a.count)
+    (c.meet.ensures.b.logged, c.meet.ensures.b.knows, c.meet.ensures.b.grows, c.meet.ensures.b.count)

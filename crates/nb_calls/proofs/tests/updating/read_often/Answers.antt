@@ -13,5 +13,5 @@ loop-round-preserved c =
       c.get.ensures.map ∙ sofar.0,
       _,
       omega (arith, sofar.2),
-      logs_add_up.more sofar.3 c.get.ensures.replied,
+      logs_add_up.more sofar.3 c.get.ensures.got.replied,
     )

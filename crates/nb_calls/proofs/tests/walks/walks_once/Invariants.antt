@@ -1,5 +1,5 @@
 use Rattle.std.proofs.Common.{◌≡◌}
-use Rattle.nb_map.specs.Walks.{slots_ahead}
+use Rattle.nb_map.specs.Steps.{slots_ahead}
 use Rattle.nb_calls.proofs.tests.walks.walks_once.Given as goal
 
 abbrev pub invariant-loop-key : goal.invariant-loop-key

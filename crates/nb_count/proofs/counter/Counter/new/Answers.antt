@@ -28,7 +28,7 @@ split_seat-seat-requires c =
 pub invariant_of-push_reserved : goal.invariant_of-push_reserved
 invariant_of-push_reserved c =
     let s : Inside = record {
-      place = SPREAD * (c.loop-number.number % c.args.stripes);
+      index = SPREAD * (c.loop-number.number % c.args.stripes);
       seat =
           c.split_seat-seat.result;
     } in
@@ -47,8 +47,8 @@ push_reserved-requires c =
 
 pub loop-number-preserved : goal.loop-number-preserved
 loop-number-preserved c =
-    let place = SPREAD * (c.loop-number.number % c.args.stripes) in
-    let s : Inside = record { place = place; seat = c.split_seat-seat.result } in
+    let index = SPREAD * (c.loop-number.number % c.args.stripes) in
+    let s : Inside = record { index = index; seat = c.split_seat-seat.result } in
     let dealing = c.loop-number.invariant.1 in
     let next = dealing-next dealing c.loop-number-test.true in
     let number = c.loop-number.number in

@@ -10,17 +10,17 @@ use Rattle.std.specs.Global.{Global}
 use Rattle.std.proofs.Crossing as heap
 use Rattle.std_alloc.proofs.SendSync.{quiet, lies}
 use Rattle.std_heap.proofs.Global.TheSendSync as handle
-use Rattle.nb_ffi.proofs.Crossing.{held_send}
-use Rattle.nb_ffi.specs.SeatOwning.{held_owns}
-use Rattle.nb_ffi.specs.contracts.held.Held as Held
+use Rattle.nb_ffi.proofs.Crossing.{session_send}
+use Rattle.nb_ffi.specs.Owning.{handle_owns}
+use Rattle.nb_ffi.specs.contracts.session.Session as Session
 use Rattle.nb_ffi.specs.contracts.seat_handle.SeatHandle.{the_row, the_type}
 
-held_keyless : (alloc : Global) (ptr : Ptr) (it : Option Held.the_row.Denot) → Keyless (held_owns alloc ptr it)
-held_keyless alloc ptr None = tt
-held_keyless alloc ptr (Some it) = (lies Held.the_row held_send ptr it, heap.frees.frees alloc (raw (lone Held.the_row.mir)) ptr)
+session_keyless : (alloc : Global) (ptr : Ptr) (it : Option Session.the_row.Denot) → Keyless (handle_owns Session.the_row alloc ptr it)
+session_keyless alloc ptr None = tt
+session_keyless alloc ptr (Some it) = (lies Session.the_row session_send ptr it, heap.frees.frees alloc (raw (lone Session.the_row.mir)) ptr)
 
 pub send : IsSend the_row
 send =
     let all : AllSend (fields the_type) = (search sendable, (handle.the_field_send, tt)) in
-    owning_send the_type all (λ d. held_keyless d.alloc d.ptr d.held)
+    owning_send the_type all (λ d. session_keyless d.alloc d.ptr d.session)
     (λ k. quiet (to the_type) (exits_of k (fields the_type)) ((struct_send (shape the_type) all).leaving k))

@@ -4,7 +4,7 @@ use Rattle.std.proofs.lemmas.List.Elements.{All-tail}
 use Rattle.nb_core.proofs.Seating.{all-moved, moved-count, moved-more}
 use Rattle.nb_long.proofs.Held.{handle-logs, length-new, of-one}
 use Rattle.nb_long.specs.Handles.{handle_on}
-use Rattle.nb_map.specs.Inside.{seat_of}
+use Rattle.nb_map.specs.inside.Models.{seat_of}
 use Rattle.nb_map.specs.Maps.{IsMine}
 use Rattle.nb_long.proofs.handle.Handle.open.Goals as goal
 

@@ -4,7 +4,7 @@ use Rattle.std.proofs.lemmas.List.Elements.{All-tail}
 use Rattle.nb_core.proofs.Seating.{all-moved, moved-count, moved-more}
 use Rattle.nb_map.proofs.Held.{handle-logs, length-new, made-for, of-one}
 use Rattle.nb_map.specs.Handles.{handle_on}
-use Rattle.nb_map.specs.Inside.{seat_of}
+use Rattle.nb_map.specs.inside.Models.{seat_of}
 use Rattle.nb_map.specs.Maps.{IsMadeFor, IsMine}
 use Rattle.nb_map.proofs.handle.Handle.open.Goals as goal
 

@@ -3,7 +3,7 @@ use Rattle.std.proofs.lemmas.List.{length-map}
 use Rattle.std.proofs.lemmas.List.Elements.{All-weaker}
 use Rattle.nb_map.proofs.Paired.{own-chains, own-counts}
 use Rattle.nb_map.proofs.Sizes.{AreGathered, ended-with, is-ended, seen}
-use Rattle.nb_map.specs.Inside.{map_within}
+use Rattle.nb_map.specs.inside.Models.{map_within}
 use Rattle.nb_map.specs.Maps.{AreMine, HasCounted, IsMine}
 use Rattle.nb_map.proofs.map.Map.finish.Goals as goal
 

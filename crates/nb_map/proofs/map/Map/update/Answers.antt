@@ -6,8 +6,7 @@ use Rattle.nb_map.proofs.map.Map.update.Goals as goal
 pub loop-lost-init : goal.loop-lost-init
 loop-lost-init g c = (
   c.requires.callable,
-  come-first c.args.new_of c.args.tries c.get-found.result c.requires.own c.get-found.ensures.own
-      c.get-found.ensures.replied c.get-found.ensures.worked,
+  come-first c.args.new_of c.args.tries c.get-found.result c.requires.own c.get-found.ensures,
 )
 
 pub returns-in_err-reply-clause-updated : goal.returns-in_err-reply-clause-updated
@@ -16,22 +15,22 @@ returns-in_err-reply-clause-updated g c =
     let exchanged = c.in_err-reply.ensures.exchanged in
     rw (p.1, p.2)
     (come-refused c.requires.own c.loop-lost.invariant.1 exchanged.0 _ exchanged.1
-    c.in_err-reply.ensures.own exchanged.2.worked c.in_err-reply.field-0.0 c.loop-lost-test.true
-    exchanged.2.refused)
+    exchanged.2.own exchanged.2.wait_free c.in_err-reply.field-0.0 c.loop-lost-test.true
+    exchanged.2.answered)
 
 pub returns-then-reply-clause-updated : goal.returns-then-reply-clause-updated
 returns-then-reply-clause-updated g c =
     let exchanged = c.in_ok-reply.ensures.exchanged in
     come-end c.requires.own c.loop-lost.invariant.1 exchanged.0 _ exchanged.1
-    c.in_ok-reply.ensures.own exchanged.2.worked c.in_ok-reply.reply c.loop-lost-test.true
-    exchanged.2.replied c.if-reply.true
+    exchanged.2.own exchanged.2.wait_free c.in_ok-reply.reply c.loop-lost-test.true
+    exchanged.2.answered c.if-reply.true
 
 pub loop-lost-preserved : goal.loop-lost-preserved
 loop-lost-preserved g c =
     let exchanged = c.in_ok-reply.ensures.exchanged in (
       c.in_ok-reply.ensures.callable,
       come-more c.requires.own c.loop-lost.invariant.1 exchanged.0 _ exchanged.1
-          c.in_ok-reply.ensures.own exchanged.2.worked c.in_ok-reply.reply exchanged.2.replied
+          exchanged.2.own exchanged.2.wait_free c.in_ok-reply.reply exchanged.2.answered
           c.if-reply.false,
     )
 

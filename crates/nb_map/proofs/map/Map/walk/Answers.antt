@@ -1,13 +1,24 @@
-use Rattle.std.proofs.Common.{subst₂, sym}
+use Rattle.std.proofs.Common.{refl, subst₂, sym}
 use Rattle.nb_map.proofs.WholeWalk.{begun-walk}
-use Rattle.nb_map.specs.Walks.{IsWalkOf}
-use Rattle.nb_map.specs.declared.walk.Place.TheVariants.{Slot}
+use Rattle.nb_map.specs.Promises.{HasBegunWalk}
+use Rattle.nb_map.specs.Walks.IsUnderway.{Begun}
+use Rattle.nb_map.specs.declared.steps.walk.Place.TheVariants.{Slot}
 use Rattle.nb_map.proofs.map.Map.walk.Goals as goal
 
-pub returns-clause-walk : goal.returns-clause-walk
-returns-clause-walk c =
+pub returns : goal.returns
+returns c =
     let m = c.args.self.now in
     let seat = c.generation-first.new.seat in
-    subst₂ (λ begun first. IsWalkOf m seat
+    let looked = c.generation-first.ensures in
+    subst₂ (λ begun first. HasBegunWalk m c.args.seat.now seat
     (record { begun = begun; first = first; place = Slot first 0 })) (sym c.of.ensures)
-    c.generation-first.ensures.found (begun-walk m c.generation-first.ensures.own)
+    looked.found
+    (record {
+      begun = refl;
+      is_walk = begun-walk m looked.own;
+      underway = Begun looked.own;
+      logged = looked.logged;
+      grows = looked.grows;
+      count = looked.count;
+      own = looked.own;
+    })

@@ -1,61 +1,43 @@
-use Rattle.std.proofs.Common.{[], ◌∷◌, ap, arith, refl, subst, subst₂, sym}
+use Rattle.std.proofs.Common.{ap, arith, refl, subst₂, sym}
 use Rattle.std.proofs.lemmas.Int.{ints}
 use Rattle.std.proofs.lemmas.Result.{err_from_is_err_and}
 use Rattle.nb_core.specs.declared.calls.Call.TheVariants as call
 use Rattle.nb_map.proofs.Counted.{kept-mine, uncounted-mine}
 use Rattle.nb_map.proofs.Logged.{logged, worked-uncounted}
-use Rattle.nb_map.specs.Logs.{HasLogged}
 use Rattle.nb_map.specs.Maps.{IsMine, SeatOf}
-use Rattle.nb_map.specs.Refusing.{HasRefused, IsLockFree}
+use Rattle.nb_map.specs.Promises.{HasWritten, Refused, Replied}
 use Rattle.nb_map.proofs.map.Map.write.Goals as goal
 
-pub returns-in_err-reply-clause-refused : goal.returns-in_err-reply-clause-refused
-returns-in_err-reply-clause-refused g c =
+pub returns-in_err-reply : goal.returns-in_err-reply
+returns-in_err-reply g c =
     let mine = subst₂ IsMine (sym c.self.view_is) (sym c.seat.view_is) c.requires.own in
     let after : SeatOf = record { chain = c.write_through.new.seat; count = c.seat.inside.count } in
     let write = call.Write c.args.key c.args.want c.args.change in
+    let made = c.in_err-reply.ensures.made in
     let p = err_from_is_err_and c.from_residual.result c.from_residual.ensures.1 in
     rw (p.1, p.2)
-    (subst₂ (λ map before. HasRefused map write before after c.in_err-reply.field-0.0)
-    c.self.view_is c.seat.view_is (
-      logged {after = after} mine c.in_err-reply.ensures.made,
-      c.in_err-reply.ensures.refused,
-    ))
+    (subst₂ (λ map before. HasWritten map write before after (Refused c.in_err-reply.field-0.0))
+    c.self.view_is c.seat.view_is
+    (record {
+      answered = (logged {after = after} mine made, c.in_err-reply.ensures.refused);
+      lock_free = worked-uncounted {after = after} made refl;
+      short = c.in_err-reply.ensures.short;
+      own = uncounted-mine {after = after} mine made refl refl;
+    }))
 
-pub returns-in_err-reply-clause-lock_free : goal.returns-in_err-reply-clause-lock_free
-returns-in_err-reply-clause-lock_free g c =
-    let after : SeatOf = record { chain = c.write_through.new.seat; count = c.seat.inside.count } in
-    subst₂ (λ map before. IsLockFree map (call.Write c.args.key c.args.want c.args.change)
-    before after) c.self.view_is c.seat.view_is
-    (worked-uncounted {after = after} c.in_err-reply.ensures.made refl)
-
-pub returns-in_err-reply-clause-own : goal.returns-in_err-reply-clause-own
-returns-in_err-reply-clause-own g c =
-    let mine = subst₂ IsMine (sym c.self.view_is) (sym c.seat.view_is) c.requires.own in
-    let after : SeatOf = record { chain = c.write_through.new.seat; count = c.seat.inside.count } in
-    subst (λ map. IsMine map after) c.self.view_is
-    (uncounted-mine {after = after} mine c.in_err-reply.ensures.made refl refl)
-
-pub returns-clause-replied : goal.returns-clause-replied
-returns-clause-replied g c =
+pub returns : goal.returns
+returns g c =
     let mine = subst₂ IsMine (sym c.self.view_is) (sym c.seat.view_is) c.requires.own in
     let after : SeatOf = record { chain = c.write_through.new.seat; count = c.count.new.seat } in
     let write = call.Write c.args.key c.args.want c.args.change in
-    subst (λ before. HasLogged before after ((write, c.in_ok-reply.reply) ∷ [])) c.seat.view_is
-    (logged {after = after} mine c.in_ok-reply.ensures.made)
-
-pub returns-clause-own : goal.returns-clause-own
-returns-clause-own g c =
-    let mine = subst₂ IsMine (sym c.self.view_is) (sym c.seat.view_is) c.requires.own in
+    let made = c.in_ok-reply.ensures.made in
     let added = ap (λ count. count.added) c.count.ensures in
-    let after : SeatOf = record { chain = c.write_through.new.seat; count = c.count.new.seat } in
-    subst (λ map. IsMine map after) c.self.view_is
-    (kept-mine {after = after} mine c.in_ok-reply.ensures.made
-    (ap (λ count. count.counter) c.count.ensures) (omega (arith, ints, added)))
-
-pub returns-clause-lock_free : goal.returns-clause-lock_free
-returns-clause-lock_free g c =
-    let after : SeatOf = record { chain = c.write_through.new.seat; count = c.count.new.seat } in
-    let write = call.Write c.args.key c.args.want c.args.change in
-    subst₂ (λ map before. IsLockFree map write before after) c.self.view_is c.seat.view_is
-    (record { steps = (_, c.in_ok-reply.ensures.made); net = _; count = c.count.ensures })
+    subst₂ (λ map before. HasWritten map write before after (Replied c.in_ok-reply.reply))
+    c.self.view_is c.seat.view_is
+    (record {
+      answered = logged {after = after} mine made;
+      lock_free = record { steps = (_, made); net = _; count = c.count.ensures };
+      short = c.in_ok-reply.ensures.short;
+      own = kept-mine {after = after} mine made (ap (λ count. count.counter) c.count.ensures)
+          (omega (arith, ints, added));
+    })

@@ -1,8 +1,9 @@
 use Rattle.std.proofs.Common.{◌≡◌, ◌∙◌, ap, arith, length, map, refl}
 use Rattle.std.proofs.lemmas.List.{length-map}
+use Rattle.std.proofs.lemmas.List.Elements.{All-map, All-same}
 use Rattle.std.specs.Vec.Iter.{into_iter_items}
 use Rattle.nb_core.proofs.Seating.{all-moved, moved-count, moved-more, none-moved}
-use Rattle.nb_set.specs.Sets.{SetOf}
+use Rattle.nb_set.specs.Sets.{IsMadeFor, SetOf}
 use Rattle.nb_set.proofs.Held.{as_handle, handles-dealt, handles-many, logs-empty, of-one}
 use Rattle.nb_set.proofs.handle.Handle.open.Goals as goal
 
@@ -54,6 +55,13 @@ returns-clause-new c =
       is,
       handles-are c ∙ ap (map as_handle) items ∙ handles-dealt set c.args.shape.seats,
     )
+
+pub returns-clause-made : goal.returns-clause-made
+returns-clause-made c =
+    All-same (λ handle. IsMadeFor handle.set c.args.shape) c.loop-map.handles.items
+    (map as_handle c.in_ok-map-items.map-items.items) (handles-are c)
+    (All-map (λ handle. IsMadeFor handle.set c.args.shape) as_handle
+    c.in_ok-map-items.map-items.items c.in_ok-map-items.ensures.made)
 
 pub returns-clause-empty : goal.returns-clause-empty
 returns-clause-empty c =

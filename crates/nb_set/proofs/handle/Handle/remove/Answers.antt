@@ -1,13 +1,14 @@
-use Rattle.std.proofs.Common.{subst}
+use Rattle.std.proofs.Common.{Ok, subst}
 use Rattle.nb_set.specs.Handles.{HandleOf}
 use Rattle.nb_set.specs.Log.{Remove}
-use Rattle.nb_set.specs.Sets.{HasReplied, SeatOf}
-use Rattle.nb_set.proofs.Logged.{removed}
+use Rattle.nb_set.specs.Promises.{HasWritten}
+use Rattle.nb_set.specs.Sets.{SeatOf}
+use Rattle.nb_set.proofs.Promised.{removed}
 use Rattle.nb_set.proofs.handle.Handle.remove.Goals as goal
 
-pub returns-clause-replied : goal.returns-clause-replied
-returns-clause-replied g c =
+pub returns-clause-wrote : goal.returns-clause-wrote
+returns-clause-wrote g c =
     let after : SeatOf = record { map = c.remove.new.self.seat } in
-    subst (λ (handle : HandleOf). HasReplied (Remove c.args.key) handle.seat after c.is_some.result)
-    c.self.view_is
-    (removed c.args.key c.remove.result c.is_some.result c.is_some.ensures c.remove.ensures.found)
+    subst (λ (handle : HandleOf). HasWritten handle.set (Remove c.args.key) handle.seat after
+    (Ok c.is_some.result)) c.self.view_is
+    (removed c.args.key c.remove.result c.is_some.result c.is_some.ensures c.remove.ensures.wrote)

@@ -1,9 +1,11 @@
-use Rattle.std.proofs.Common.{[], subst}
-use Rattle.nb_set.specs.Sets.{HasLogged, SeatOf}
-use Rattle.nb_set.proofs.Logged.{logged-as}
+use Rattle.std.proofs.Common.{subst₂}
+use Rattle.nb_set.specs.Promises.{HasSeenTop}
+use Rattle.nb_set.specs.Sets.{SeatOf}
+use Rattle.nb_set.proofs.Promised.{seen-top}
 use Rattle.nb_set.proofs.set.LongSet.generation.Goals as goal
 
-pub returns-clause-logged : goal.returns-clause-logged
-returns-clause-logged c =
+pub returns : goal.returns
+returns c =
     let after : SeatOf = record { map = c.generation.new.seat } in
-    subst (λ seat. HasLogged seat after []) c.seat.view_is (logged-as c.generation.ensures.logged)
+    subst₂ (λ set seat. HasSeenTop set seat after c.generation.result) c.self.view_is c.seat.view_is
+    (seen-top c.generation.ensures)

@@ -1,18 +1,21 @@
-use Rattle.std.proofs.Common.{[], subst₂}
-use Rattle.nb_core.specs.Log.{IsBeginning}
-use Rattle.nb_set.specs.Sets.{HasLogged, SeatOf, log}
-use Rattle.nb_set.proofs.Logged.{logged-as}
-use Rattle.nb_set.proofs.Read.{begins-as}
+use Rattle.std.proofs.Common.{subst, subst₂}
+use Rattle.nb_set.specs.Promises.{HasMet}
+use Rattle.nb_set.specs.Sets.{SeatOf, SetOf}
+use Rattle.nb_set.proofs.Promised.{met}
 use Rattle.nb_set.proofs.set.LongSet.meet.Goals as goal
 
 pub returns-clause-a : goal.returns-clause-a
 returns-clause-a c =
+    let set : SetOf = record { map = c.self.inside.map } in
     let after : SeatOf = record { map = c.meet.new.a } in
-    subst₂ (λ a b. HasLogged a after [] × IsBeginning (log b) (log after)) c.a.view_is c.b.view_is
-    (logged-as c.meet.ensures.a.0, begins-as c.meet.ensures.a.1)
+    subst (λ set. HasMet set c.args.b.now c.args.a.now after) c.self.view_is
+    (subst₂ (λ other before. HasMet set other before after) c.b.view_is c.a.view_is
+    (met c.meet.ensures.a))
 
 pub returns-clause-b : goal.returns-clause-b
 returns-clause-b c =
+    let set : SetOf = record { map = c.self.inside.map } in
     let after : SeatOf = record { map = c.meet.new.b } in
-    subst₂ (λ b a. HasLogged b after [] × IsBeginning (log a) (log after)) c.b.view_is c.a.view_is
-    (logged-as c.meet.ensures.b.0, begins-as c.meet.ensures.b.1)
+    subst (λ set. HasMet set c.args.a.now c.args.b.now after) c.self.view_is
+    (subst₂ (λ other before. HasMet set other before after) c.a.view_is c.b.view_is
+    (met c.meet.ensures.b))

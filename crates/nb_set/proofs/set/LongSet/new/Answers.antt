@@ -3,6 +3,7 @@ use Rattle.std.proofs.lemmas.List.{length-map}
 use Rattle.std.proofs.lemmas.List.FromFn.{length-map-range_with_len}
 use Rattle.std.specs.Vec.Iter.{into_iter_items}
 use Rattle.nb_core.proofs.Seating.{all-moved, moved-count, moved-more, none-moved}
+use Rattle.nb_core.specs.Plans.{IsPlan}
 use Rattle.nb_map.specs.Maps as maps
 use Rattle.nb_set.specs.Sets.{AreMine, SetOf}
 use Rattle.nb_set.proofs.Dealt.{as_set, dealt, logs-empty, mine-as}
@@ -47,6 +48,16 @@ seats-are c =
     all-moved c.loop-seat.invariant.2 (omega
     (arith, c.in-None.ensures.steps, c.loop-seat.seat-iterator.rest.ok))
     ∙ ap (map as_set) c.into_iter-seat-iterator.ensures.into_iter_gives.0
+
+pub returns-clause-made : goal.returns-clause-made
+returns-clause-made c =
+    let made = c.in_ok-map.ensures in
+    record {
+      shape = made.map;
+      plan = subst IsPlan made.map made.plan;
+      stripes = made.counter.0;
+      seats = made.counter.1;
+    }
 
 pub returns-clause-seats : goal.returns-clause-seats
 returns-clause-seats c =

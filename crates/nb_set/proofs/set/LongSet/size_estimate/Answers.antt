@@ -1,10 +1,11 @@
-use Rattle.std.proofs.Common.{[], subst}
-use Rattle.nb_set.specs.Sets.{HasLogged, SeatOf}
-use Rattle.nb_set.proofs.Logged.{logged-as}
+use Rattle.std.proofs.Common.{subst₂}
+use Rattle.nb_set.specs.Promises.{HasEstimated}
+use Rattle.nb_set.specs.Sets.{SeatOf}
+use Rattle.nb_set.proofs.Promised.{estimated}
 use Rattle.nb_set.proofs.set.LongSet.size_estimate.Goals as goal
 
-pub returns-clause-logged : goal.returns-clause-logged
-returns-clause-logged c =
+pub returns : goal.returns
+returns c =
     let after : SeatOf = record { map = c.size_estimate.new.seat } in
-    subst (λ seat. HasLogged seat after []) c.seat.view_is
-    (logged-as c.size_estimate.ensures.logged)
+    subst₂ (λ set seat. HasEstimated set seat after) c.self.view_is c.seat.view_is
+    (estimated c.size_estimate.ensures)

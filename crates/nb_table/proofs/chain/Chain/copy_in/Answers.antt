@@ -1,5 +1,5 @@
 use Rattle.std.proofs.Common.{◌∙◌, ◌<◌, cond, eqb, ap, sym, subst}
-use Rattle.nb_core.specs.Plans.{value_place, word_count}
+use Rattle.nb_core.specs.Plans.{value_index, word_count}
 use Rattle.nb_table.proofs.Events.{copy_events}
 use Rattle.nb_table.specs.Steps.{Can, Stepped}
 use Rattle.nb_table.proofs.Values.{can-copy, copy-lost, copy-won, found-is, value-within}
@@ -8,20 +8,20 @@ use Rattle.nb_table.proofs.chain.Chain.copy_in.Goals as goal
 pub exchanges-requires-clause-within : goal.exchanges-requires-clause-within
 exchanges-requires-clause-within c =
     let p = c.args.self.now.shape in
-    let place = c.value_place-place.ensures
-    ∙ ap (λ v. value_place v.shape c.args.g c.args.i) c.self.view_is in
-    subst (λ x. x < word_count p) (sym place)
+    let index = c.value_index-index.ensures
+    ∙ ap (λ v. value_index v.shape c.args.g c.args.i) c.self.view_is in
+    subst (λ x. x < word_count p) (sym index)
     (value-within p c.requires.own.plan c.args.g c.args.i c.requires.slot)
 
 pub exchanges-requires-clause-can : goal.exchanges-requires-clause-can
 exchanges-requires-clause-can c =
     let p = c.args.self.now.shape in
     let seat = c.args.seat.now in
-    let place = c.value_place-place.ensures
-    ∙ ap (λ v. value_place v.shape c.args.g c.args.i) c.self.view_is in
+    let index = c.value_index-index.ensures
+    ∙ ap (λ v. value_index v.shape c.args.g c.args.i) c.self.view_is in
     subst (λ x. Can p (copy_events seat.number c.args.g c.args.i c.args.key c.args.number)
     seat.number seat.seen x (λ found. cond
-    (eqb found 0) c.encode_value-word.result found)) (sym place)
+    (eqb found 0) c.encode_value-word.result found)) (sym index)
     (can-copy p seat.number
     seat.seen c.args.g c.args.i c.args.key c.args.number
     c.encode_value-word.result c.requires.slot c.encode_value-word.ensures.back
@@ -32,10 +32,10 @@ pub decode_lawful_value-requires : goal.decode_lawful_value-requires
 decode_lawful_value-requires c =
     let p = c.args.self.now.shape in
     let events = copy_events c.args.seat.now.number c.args.g c.args.i c.args.key c.args.number in
-    let place = c.value_place-place.ensures
-    ∙ ap (λ v. value_place v.shape c.args.g c.args.i) c.self.view_is in
+    let index = c.value_index-index.ensures
+    ∙ ap (λ v. value_index v.shape c.args.g c.args.i) c.self.view_is in
     let step = subst (λ x. Stepped p events x c.args.seat.now c.exchanges.result
-    c.exchanges.new.seat) place
+    c.exchanges.new.seat) index
     c.exchanges.ensures in
     found-is p c.requires.own.plan events c.args.seat.now c.exchanges.result
     c.exchanges.new.seat c.args.g c.args.i c.requires.slot step
@@ -44,10 +44,10 @@ pub returns-clause-won : goal.returns-clause-won
 returns-clause-won c =
     let p = c.args.self.now.shape in
     let events = copy_events c.args.seat.now.number c.args.g c.args.i c.args.key c.args.number in
-    let place = c.value_place-place.ensures
-    ∙ ap (λ v. value_place v.shape c.args.g c.args.i) c.self.view_is in
+    let index = c.value_index-index.ensures
+    ∙ ap (λ v. value_index v.shape c.args.g c.args.i) c.self.view_is in
     let step = subst (λ x. Stepped p events x c.args.seat.now c.exchanges.result
-    c.exchanges.new.seat) place
+    c.exchanges.new.seat) index
     c.exchanges.ensures in
     copy-won p c.requires.own.plan c.args.seat.now c.exchanges.result
     c.exchanges.new.seat c.args.g c.args.i c.args.key c.args.number c.requires.slot step
@@ -58,10 +58,10 @@ pub returns-clause-lost : goal.returns-clause-lost
 returns-clause-lost c =
     let p = c.args.self.now.shape in
     let events = copy_events c.args.seat.now.number c.args.g c.args.i c.args.key c.args.number in
-    let place = c.value_place-place.ensures
-    ∙ ap (λ v. value_place v.shape c.args.g c.args.i) c.self.view_is in
+    let index = c.value_index-index.ensures
+    ∙ ap (λ v. value_index v.shape c.args.g c.args.i) c.self.view_is in
     let step = subst (λ x. Stepped p events x c.args.seat.now c.exchanges.result
-    c.exchanges.new.seat) place
+    c.exchanges.new.seat) index
     c.exchanges.ensures in
     copy-lost p c.requires.own.plan c.args.seat.now c.exchanges.result
     c.exchanges.new.seat c.args.g c.args.i c.args.key c.args.number c.requires.slot step

@@ -1,5 +1,5 @@
 use Rattle.std.proofs.Common.{◌∙◌, ◌<◌, ap, sym, subst, bit_or}
-use Rattle.nb_core.specs.Plans.{value_place, word_count}
+use Rattle.nb_core.specs.Plans.{value_index, word_count}
 use Rattle.nb_table.proofs.Events.{finish_events}
 use Rattle.nb_table.specs.Steps.{Can, Stepped}
 use Rattle.nb_table.proofs.Values.{can-finish, finish-lost, finish-won, found-is, value-within}
@@ -8,20 +8,20 @@ use Rattle.nb_table.proofs.chain.Chain.finish_slot.Goals as goal
 pub ors-requires-clause-within : goal.ors-requires-clause-within
 ors-requires-clause-within c =
     let p = c.args.self.now.shape in
-    let place = c.value_place-place.ensures
-    ∙ ap (λ v. value_place v.shape c.args.g c.args.i) c.self.view_is in
-    subst (λ x. x < word_count p) (sym place)
+    let index = c.value_index-index.ensures
+    ∙ ap (λ v. value_index v.shape c.args.g c.args.i) c.self.view_is in
+    subst (λ x. x < word_count p) (sym index)
     (value-within p c.requires.own.plan c.args.g c.args.i c.requires.slot)
 
 pub ors-requires-clause-can : goal.ors-requires-clause-can
 ors-requires-clause-can c =
     let p = c.args.self.now.shape in
     let seat = c.args.seat.now in
-    let place = c.value_place-place.ensures
-    ∙ ap (λ v. value_place v.shape c.args.g c.args.i) c.self.view_is in
+    let index = c.value_index-index.ensures
+    ∙ ap (λ v. value_index v.shape c.args.g c.args.i) c.self.view_is in
     subst (λ x. Can p (finish_events seat.number c.args.g c.args.i c.args.number)
     seat.number seat.seen x (λ found. bit_or found 2))
-    (sym place)
+    (sym index)
     (can-finish p seat.number seat.seen c.args.g
     c.args.i c.args.number c.requires.slot
     c.requires.copied)
@@ -30,10 +30,10 @@ pub decode_lawful_value-requires : goal.decode_lawful_value-requires
 decode_lawful_value-requires c =
     let p = c.args.self.now.shape in
     let events = finish_events c.args.seat.now.number c.args.g c.args.i c.args.number in
-    let place = c.value_place-place.ensures
-    ∙ ap (λ v. value_place v.shape c.args.g c.args.i) c.self.view_is in
+    let index = c.value_index-index.ensures
+    ∙ ap (λ v. value_index v.shape c.args.g c.args.i) c.self.view_is in
     let step = subst (λ x. Stepped p events x c.args.seat.now c.ors.result c.ors.new.seat)
-    place c.ors.ensures in
+    index c.ors.ensures in
     found-is p c.requires.own.plan events c.args.seat.now c.ors.result c.ors.new.seat
     c.args.g c.args.i c.requires.slot step
 
@@ -41,10 +41,10 @@ pub returns-clause-won : goal.returns-clause-won
 returns-clause-won c =
     let p = c.args.self.now.shape in
     let events = finish_events c.args.seat.now.number c.args.g c.args.i c.args.number in
-    let place = c.value_place-place.ensures
-    ∙ ap (λ v. value_place v.shape c.args.g c.args.i) c.self.view_is in
+    let index = c.value_index-index.ensures
+    ∙ ap (λ v. value_index v.shape c.args.g c.args.i) c.self.view_is in
     let step = subst (λ x. Stepped p events x c.args.seat.now c.ors.result c.ors.new.seat)
-    place c.ors.ensures in
+    index c.ors.ensures in
     finish-won p c.requires.own.plan c.args.seat.now c.ors.result
     c.ors.new.seat c.args.g c.args.i c.args.number c.requires.slot step
     c.decode_lawful_value.result c.decode_lawful_value.ensures
@@ -53,10 +53,10 @@ pub returns-clause-lost : goal.returns-clause-lost
 returns-clause-lost c =
     let p = c.args.self.now.shape in
     let events = finish_events c.args.seat.now.number c.args.g c.args.i c.args.number in
-    let place = c.value_place-place.ensures
-    ∙ ap (λ v. value_place v.shape c.args.g c.args.i) c.self.view_is in
+    let index = c.value_index-index.ensures
+    ∙ ap (λ v. value_index v.shape c.args.g c.args.i) c.self.view_is in
     let step = subst (λ x. Stepped p events x c.args.seat.now c.ors.result c.ors.new.seat)
-    place c.ors.ensures in
+    index c.ors.ensures in
     finish-lost p c.requires.own.plan c.args.seat.now c.ors.result
     c.ors.new.seat c.args.g c.args.i c.args.number c.requires.slot step
     c.decode_lawful_value.result c.decode_lawful_value.ensures

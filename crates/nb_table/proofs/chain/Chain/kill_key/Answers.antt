@@ -1,5 +1,5 @@
 use Rattle.std.proofs.Common.{◌∙◌, ap, cond, eqb, refl, subst, sym}
-use Rattle.nb_core.specs.Plans.{key_place}
+use Rattle.nb_core.specs.Plans.{key_index}
 use Rattle.nb_core.specs.declared.events.Event.TheVariants.{Kill}
 use Rattle.nb_table.proofs.Events.{kill_events}
 use Rattle.nb_table.specs.Steps.{Can}
@@ -10,27 +10,27 @@ pub exchanges-requires-clause-can : goal.exchanges-requires-clause-can
 exchanges-requires-clause-can c =
     let p = c.args.self.now.shape in
     let seat = c.args.seat.now in
-    let at_place = c.key_place-place.ensures
-    ∙ ap (λ v. key_place v.shape c.args.g c.args.i) c.self.view_is in
+    let at_index = c.key_index-index.ensures
+    ∙ ap (λ v. key_index v.shape c.args.g c.args.i) c.self.view_is in
     let events = kill_events seat.number c.args.g c.args.i in
-    subst (λ place. Can p events seat.number seat.seen place (λ found. cond (eqb found 0) 1 found))
-    (sym at_place)
+    subst (λ index. Can p events seat.number seat.seen index (λ found. cond (eqb found 0) 1 found))
+    (sym at_index)
     (can-kill p seat.number c.args.g seat.seen c.args.i c.requires.slot c.requires.growing)
 
 pub returns-clause-won : goal.returns-clause-won
 returns-clause-won c =
     let p = c.args.self.now.shape in
     let e = Kill c.args.seat.now.number c.args.g c.args.i in
-    let at_place = c.key_place-place.ensures
-    ∙ ap (λ v. key_place v.shape c.args.g c.args.i) c.self.view_is in
-    key-won p e c.args.g c.args.i _ _ _ _ at_place c.exchanges.ensures c.decode_key.result 1
+    let at_index = c.key_index-index.ensures
+    ∙ ap (λ v. key_index v.shape c.args.g c.args.i) c.self.view_is in
+    key-won p e c.args.g c.args.i _ _ _ _ at_index c.exchanges.ensures c.decode_key.result 1
     c.requires.own.plan c.requires.slot (λ h. refl) c.decode_key.ensures.back
 
 pub returns-clause-lost : goal.returns-clause-lost
 returns-clause-lost c =
     let p = c.args.self.now.shape in
     let e = Kill c.args.seat.now.number c.args.g c.args.i in
-    let at_place = c.key_place-place.ensures
-    ∙ ap (λ v. key_place v.shape c.args.g c.args.i) c.self.view_is in
-    key-lost p e c.args.g c.args.i _ _ _ _ at_place c.exchanges.ensures c.decode_key.result
+    let at_index = c.key_index-index.ensures
+    ∙ ap (λ v. key_index v.shape c.args.g c.args.i) c.self.view_is in
+    key-lost p e c.args.g c.args.i _ _ _ _ at_index c.exchanges.ensures c.decode_key.result
     c.decode_key.ensures.state

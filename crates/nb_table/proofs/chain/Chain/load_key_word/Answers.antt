@@ -1,5 +1,5 @@
 use Rattle.std.proofs.Common.{◌∙◌, ℕ, ap, slice_index, subst, sym}
-use Rattle.nb_core.specs.Plans.{key_place}
+use Rattle.nb_core.specs.Plans.{key_index}
 use Rattle.nb_core.specs.States.{key_state}
 use Rattle.nb_table.specs.Events.{reads, shown_by_key}
 use Rattle.nb_table.specs.Steps.{Can}
@@ -12,9 +12,9 @@ loads-requires-clause-can c =
     let seat = c.args.seat.now in
     let events = λ (found : ℕ). reads seat.number c.args.call
     (shown_by_key p c.args.g c.args.i (key_state found)) in
-    let at_place = c.key_place-place.ensures
-    ∙ ap (λ v. key_place v.shape c.args.g c.args.i) c.self.view_is in
-    subst (λ place. Can p events seat.number seat.seen place (λ found. found)) (sym at_place)
+    let at_index = c.key_index-index.ensures
+    ∙ ap (λ v. key_index v.shape c.args.g c.args.i) c.self.view_is in
+    subst (λ index. Can p events seat.number seat.seen index (λ found. found)) (sym at_index)
     (can-load_key p seat.number seat.seen c.args.g
     c.requires.slot.0 c.args.i c.args.call c.requires.slot c.known_if_some.ensures
     c.requires.reached
@@ -24,10 +24,10 @@ pub returns-clause-found : goal.returns-clause-found
 returns-clause-found c =
     let p = c.args.self.now.shape in
     let seat = c.args.seat.now in
-    let at_place = c.key_place-place.ensures
-    ∙ ap (λ v. key_place v.shape c.args.g c.args.i) c.self.view_is in
+    let at_index = c.key_index-index.ensures
+    ∙ ap (λ v. key_index v.shape c.args.g c.args.i) c.self.view_is in
     let events = λ (found : ℕ). shown_by_key p c.args.g c.args.i (key_state found) in
     let step = c.loads.ensures in
     ap (λ t. t.key c.args.g c.args.i) (load-sees p seat.number c.args.call events _ _ seat
     c.loads.new.seat
-    step) ∙ ap key_state (ap (slice_index _) (sym at_place) ∙ step.word)
+    step) ∙ ap key_state (ap (slice_index _) (sym at_index) ∙ step.word)

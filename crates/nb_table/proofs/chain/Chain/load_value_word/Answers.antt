@@ -1,6 +1,6 @@
 use Rattle.std.proofs.Common.{◌∙◌, ℕ, ap, slice_index, subst, sym}
 use Rattle.std.specs.Option.{unwrap_or}
-use Rattle.nb_core.specs.Plans.{value_place}
+use Rattle.nb_core.specs.Plans.{value_index}
 use Rattle.nb_core.specs.States.{value_state}
 use Rattle.nb_core.specs.declared.states.ValueState.TheVariants.{Null}
 use Rattle.nb_table.specs.Events.{reads, shown_by_value}
@@ -17,8 +17,8 @@ loads-requires-clause-can c =
     let i = c.args.i in
     let events = λ (found : ℕ). reads seat.number c.args.call
     (λ k. shown_by_value (unwrap_or (value_state found) Null)) in
-    let at_place = c.value_place-place.ensures ∙ ap (λ v. value_place v.shape g i) c.self.view_is in
-    subst (λ place. Can p events seat.number seat.seen place (λ found. found)) (sym at_place)
+    let at_index = c.value_index-index.ensures ∙ ap (λ v. value_index v.shape g i) c.self.view_is in
+    subst (λ index. Can p events seat.number seat.seen index (λ found. found)) (sym at_index)
     (can-load_value p seat.number seat.seen g c.requires.slot.0
     i c.args.call c.requires.slot c.known_if_some.ensures
     c.requires.reached
@@ -30,10 +30,10 @@ returns-clause-lawful c =
     let seat = c.args.seat.now in
     let events = λ (found : ℕ). reads seat.number c.args.call
     (λ k. shown_by_value (unwrap_or (value_state found) Null)) in
-    let place = c.value_place-place.ensures
-    ∙ ap (λ v. value_place v.shape c.args.g c.args.i) c.self.view_is in
+    let index = c.value_index-index.ensures
+    ∙ ap (λ v. value_index v.shape c.args.g c.args.i) c.self.view_is in
     let step = subst (λ x. Stepped p events x seat c.loads.result c.loads.new.seat)
-    place c.loads.ensures in
+    index c.loads.ensures in
     found-is p c.requires.own.plan events seat c.loads.result c.loads.new.seat
     c.args.g c.args.i c.requires.slot step
 
@@ -41,10 +41,10 @@ pub returns-clause-found : goal.returns-clause-found
 returns-clause-found c =
     let p = c.args.self.now.shape in
     let seat = c.args.seat.now in
-    let place = c.value_place-place.ensures
-    ∙ ap (λ v. value_place v.shape c.args.g c.args.i) c.self.view_is in
+    let index = c.value_index-index.ensures
+    ∙ ap (λ v. value_index v.shape c.args.g c.args.i) c.self.view_is in
     let shown = λ (found : ℕ) (k : ℕ). shown_by_value (unwrap_or (value_state found) Null) in
     let step = c.loads.ensures in
     ap (λ t. t.value c.args.g c.args.i) (load-sees p seat.number c.args.call shown _ _ seat
     c.loads.new.seat
-    step) ∙ ap (λ x. unwrap_or (value_state x) Null) (ap (slice_index _) (sym place) ∙ step.word)
+    step) ∙ ap (λ x. unwrap_or (value_state x) Null) (ap (slice_index _) (sym index) ∙ step.word)

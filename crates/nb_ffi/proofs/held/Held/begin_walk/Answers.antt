@@ -1,9 +1,0 @@
-use Rattle.nb_ffi.proofs.Beginning.{begun}
-use Rattle.nb_ffi.specs.Inside.{held_of}
-use Rattle.nb_ffi.proofs.held.Held.begin_walk.Goals as goal
-
-pub returns : goal.returns
-returns c =
-    rw (← c.self.view_is) (begun (held_of c.self.inside) c.deref.ensures c.walk.ensures.logged
-    c.walk.ensures.grows c.walk.ensures.count c.walk.ensures.begun c.walk.ensures.walk
-    c.walk.ensures.own)

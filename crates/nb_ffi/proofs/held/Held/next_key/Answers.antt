@@ -1,9 +1,0 @@
-use Rattle.nb_ffi.proofs.Beginning.{walked-on}
-use Rattle.nb_ffi.specs.Inside.{held_of}
-use Rattle.nb_ffi.proofs.held.Held.next_key.Goals as goal
-
-pub returns-in-Some : goal.returns-in-Some
-returns-in-Some c =
-    rw (← c.self.view_is) (walked-on (held_of c.self.inside) c.deref.ensures c.in-Some.is
-    c.next_key.ensures.own c.next_key.ensures.read c.next_key.ensures.walked
-    c.next_key.ensures.worked c.next_key.ensures.ahead c.next_key.ensures.walk)

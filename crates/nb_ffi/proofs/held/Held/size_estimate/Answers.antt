@@ -1,9 +1,0 @@
-use Rattle.nb_ffi.specs.Inside.{held_of}
-use Rattle.nb_ffi.proofs.Going.{estimated}
-use Rattle.nb_ffi.proofs.held.Held.size_estimate.Goals as goal
-
-pub returns : goal.returns
-returns c =
-    rw (← c.self.view_is) (estimated (held_of c.self.inside) c.deref.ensures
-    c.size_estimate.ensures.own c.size_estimate.ensures.logged c.size_estimate.ensures.chain
-    c.size_estimate.ensures.count)

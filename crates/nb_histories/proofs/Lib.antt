@@ -1,0 +1,6 @@
+mod Accepted
+mod Legality
+mod Passing
+mod Refused
+mod Replies
+mod Worked

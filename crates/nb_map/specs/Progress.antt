@@ -1,0 +1,80 @@
+-- How long a call works: lock-free or wait-free, and short at home.
+use Rattle.std.specs.Prelude.{ℕ, length, ◌+◌, min, ◌≡◌, ◌⊎◌, suc, ◌≤◌}
+use Rattle.nb_core.specs.Calls.{Fills}
+use Rattle.nb_core.specs.History.{key_of_call}
+use Rattle.nb_core.specs.Meaning.{passed_over}
+use Rattle.nb_core.specs.Plans.{Plan}
+use Rattle.nb_core.specs.Tables.{Tables, path_slot, IsUnprimed, IsInstalled}
+use Rattle.nb_core.specs.declared.calls.Call.{Call}
+use Rattle.nb_core.specs.declared.states.KeyState.TheVariants.{Claimed, Empty}
+use Rattle.nb_table.specs.Chains.{SeenBy, seen_by}
+use Rattle.nb_map.specs.Maps.{MapOf, SeatOf, HasWorked}
+use Rattle.nb_map.specs.Steps.{put_steps}
+
+-- how many exchanges on the call's key other seats have won since the seat had seen no more than
+-- `before`
+abbrev pub passed_since : Call → (before after : SeenBy) → ℕ
+passed_since call before after =
+    passed_over after.seen (length before.seen) (key_of_call call) before.number
+
+-- The call has worked for no longer than a write with as many tries as others won exchanges on its
+-- key meanwhile, and one more. So it is lock-free: only where another write came first does it work
+-- for longer than T, G and N say.
+abbrev pub IsLockFree : MapOf → Call → (before after : SeatOf) → Type 0
+IsLockFree map call before after = HasWorked map call before after
+    (put_steps map.chain.shape (passed_since call before.chain after.chain + 1))
+
+-- The call has worked for no longer than its tries take, whatever other seats do; and for no longer
+-- than as many tries as others won exchanges on its key meanwhile, and one more.
+abbrev pub IsWaitFree : MapOf → Call → (before after : SeatOf) → (tries : ℕ) → Type 0
+IsWaitFree map call before after tries = HasWorked map call before after
+    (put_steps map.chain.shape (min tries (passed_since call before.chain after.chain + 1)))
+
+-- ---- at home
+
+-- the key's home slot in the table is its own
+abbrev pub IsHomeSlot : Plan → Tables → (g k : ℕ) → Type 0
+IsHomeSlot p t g k = t.key g (path_slot p g k 0) ≡ Claimed k
+
+-- the same, with a value that isn't primed, or the home slot is empty
+abbrev pub IsAtHome : Plan → Tables → (g k : ℕ) → Type 0
+IsAtHome p t g k = (t.key g (path_slot p g k 0) ≡ Empty)
+    ⊎ (IsHomeSlot p t g k × IsUnprimed (t.value g (path_slot p g k 0)))
+
+-- the seat has learned of no new top table, and has seen the key at home in the one that it knows
+abbrev pub IsSeenAtHome : Plan → (before after : SeenBy) → ℕ → Type 0
+IsSeenAtHome p before after k =
+    ((seen_by p before).top ≡ (seen_by p after).top)
+    × IsAtHome p (seen_by p after) (seen_by p after).top k
+
+-- the call's key is at home in the table after these steps, and others have won no exchange on it
+-- meanwhile
+pub record IsAloneAtHome (p : Plan) (g : ℕ) (call : Call) (before after : SeenBy) : Type 0 where
+  pub home : IsAtHome p (seen_by p after) g (key_of_call call)
+  pub alone : passed_since call before after ≡ 0
+
+-- if the call puts a number at an absent key, the seat knows the home slot as the key's
+pub record IsKnownHome (p : Plan) (g : ℕ) (call : Call) (seat : SeenBy) : Type 0 where
+  pub known : Fills call → IsHomeSlot p (seen_by p seat) g (key_of_call call)
+
+-- the seat knows of no table above
+pub record IsLastSeen (p : Plan) (g : ℕ) (seat : SeenBy) : Type 0 where
+  pub none_above : IsInstalled (seen_by p seat) (suc g) → ⊥
+
+-- the seat has learned of no new top table, and was alone with the call's key at home in the one
+-- that it knows
+abbrev pub IsSeenAlone : Plan → Call → (before after : SeenBy) → Type 0
+IsSeenAlone p call before after =
+    ((seen_by p before).top ≡ (seen_by p after).top)
+    × IsAloneAtHome p (seen_by p after).top call before after
+
+-- How short a write is that is alone with its key at home in the top table: four steps, where it
+-- knew the home slot as the key's if it may have to claim it; and else six, while the seat knows of
+-- no table above.
+pub record IsShortAtHome (p : Plan) (call : Call) (before after : SeenBy) : Type 0 where
+  pub four_steps :
+      IsSeenAlone p call before after → IsKnownHome p (seen_by p before).top call before
+      → after.steps ≤ before.steps + 4
+  pub six_steps :
+      IsSeenAlone p call before after → IsLastSeen p (seen_by p after).top after
+      → after.steps ≤ before.steps + 6

@@ -1,0 +1,170 @@
+-- What the calls of a map promise: one record for each kind of call. The map and its handles cite
+-- them.
+use Rattle.std.specs.Prelude.{ℕ, Bool, Option, Result, Ok, Err, ◌+◌, ◌≤◌, ◌≡◌, ◌<◌, [], List, IfSome}
+use Rattle.nb_core.specs.Log.{reply_at, IsBeginning}
+use Rattle.nb_core.specs.Tables.{IsComplete}
+use Rattle.nb_core.specs.declared.calls.Call.TheVariants.{Get}
+use Rattle.nb_core.specs.declared.calls.Call.{Call}
+use Rattle.nb_core.specs.declared.calls.Reply.{Reply}
+use Rattle.nb_count.specs.Counts.{with_looks}
+use Rattle.nb_table.specs.Chains.{Extended, seen_by}
+use Rattle.nb_map.specs.Handles.{HandleWalkOf}
+use Rattle.nb_map.specs.Logs.{HasReplied, HasFound, HasMatched, log, HasLogged}
+use Rattle.nb_map.specs.Maps.{SeatOf, MapOf, IsMine, HasWorked}
+use Rattle.nb_map.specs.Progress.{IsLockFree, IsShortAtHome, IsWaitFree, IsSeenAtHome}
+use Rattle.nb_map.specs.Refusals.{HasRefused, HasGivenUp}
+use Rattle.nb_map.specs.Steps.{get_steps, slots_ahead, passing_steps}
+use Rattle.nb_map.specs.Walks.{WalkOf, IsWalkOf, begun_by, IsUnderway, HasWalked, HasRead, with_shown}
+use Rattle.nb_map.specs.declared.faults.AddFault.TheVariants as add_fault
+use Rattle.nb_map.specs.declared.faults.AddFault.{AddFault}
+use Rattle.nb_map.specs.declared.faults.Full.{Full}
+use Rattle.nb_map.specs.declared.faults.PutFault.{PutFault}
+
+-- ---- what a write answers
+
+-- what it found at its key; whether its condition held; the whole reply; or why it is refused
+pub data Outcome (Fault : Type 0) : Type 0 where
+  Found : Option ℕ → Outcome Fault
+  Matched : Bool → Outcome Fault
+  Replied : Reply → Outcome Fault
+  Refused : Fault → Outcome Fault
+
+abbrev pub found_or_refused : {Fault : Type 0} → Result (Option ℕ) Fault → Outcome Fault
+found_or_refused (Ok number) = Found number
+found_or_refused (Err fault) = Refused fault
+
+abbrev pub replied_or_refused : {Fault : Type 0} → Result Reply Fault → Outcome Fault
+replied_or_refused (Ok reply) = Replied reply
+replied_or_refused (Err fault) = Refused fault
+
+-- the same, where it can only be refused as full
+abbrev pub found_or_full : Result (Option ℕ) Full → Outcome AddFault
+found_or_full (Ok number) = Found number
+found_or_full (Err full) = Refused add_fault.Full
+
+abbrev pub replied_or_full : Result Reply Full → Outcome AddFault
+replied_or_full (Ok reply) = Replied reply
+replied_or_full (Err full) = Refused add_fault.Full
+
+-- The seat has made the one call, and the answer tells its reply. Or the call is refused, and then
+-- this holds of the refusal.
+abbrev pub HasAnswered :
+    {Fault : Type 0} → (Refusal : Fault → Type 0) → Call → (before after : SeatOf) → Outcome Fault
+    → Type 0
+HasAnswered Refusal call before after (Found number) = HasFound call before after number
+HasAnswered Refusal call before after (Matched held) = HasMatched call before after held
+HasAnswered Refusal call before after (Replied reply) = HasReplied call before after reply
+HasAnswered Refusal call before after (Refused fault) = Refusal fault
+
+-- ---- writes
+
+-- what a write promises that tries again for as long as it takes
+pub record HasWritten (map : MapOf) (call : Call) (before after : SeatOf)
+    (outcome : Outcome AddFault) : Type 0 where
+  -- it is in the log once, with its reply; or it isn't there, and is refused for a just reason
+  pub answered : HasAnswered (HasRefused map call before after) call before after outcome
+  -- only where others win exchanges on its key does it make more steps
+  pub lock_free : IsLockFree map call before after
+  -- alone with its key at home in the top table, it makes four steps, or six
+  pub short : IsShortAtHome map.chain.shape call before.chain after.chain
+  -- the seat is still the map's
+  pub own : IsMine map after
+
+-- what a write promises that has so many tries
+pub record HasTriedToWrite (map : MapOf) (call : Call) (before after : SeatOf) (tries : ℕ)
+    (outcome : Outcome PutFault) : Type 0 where
+  pub answered : HasAnswered (HasGivenUp map call before after tries) call before after outcome
+  -- its tries bound its steps, whatever others do
+  pub wait_free : IsWaitFree map call before after tries
+  pub short : IsShortAtHome map.chain.shape call before.chain after.chain
+  pub own : IsMine map after
+
+-- ---- reads
+
+-- what a read of a key promises, which finds this number there, or none
+pub record HasGot (map : MapOf) (key : ℕ) (before after : SeatOf) (found : Option ℕ) :
+    Type 0 where
+  -- it is in the log once, with its reply
+  pub replied : HasReplied (Get key) before after (reply_at (Get key) found)
+  -- it is wait-free: its steps are bounded
+  pub worked : HasWorked map (Get key) before after (get_steps map.chain.shape)
+  -- where the key is at home in the top table, it makes three steps
+  pub short :
+      IsSeenAtHome map.chain.shape before.chain after.chain key
+      → after.chain.steps ≤ before.chain.steps + 3
+  pub own : IsMine map after
+
+-- ---- looks at the map as a whole
+
+-- what a look at the top word promises, which shows that so many tables are complete
+pub record HasSeenTop (map : MapOf) (before after : SeatOf) (top : ℕ) : Type 0 where
+  pub found : (seen_by map.chain.shape after.chain).top ≡ top
+  pub complete :
+      (g : ℕ) → g < top → IsComplete map.chain.shape (seen_by map.chain.shape after.chain) g
+  -- it is no call of the log, and makes one step
+  pub logged : HasLogged before after []
+  pub grows : Extended map.chain.shape before.chain after.chain [] 1
+  pub count : after.count ≡ before.count
+  pub own : IsMine map after
+
+-- what a look at the counter promises: it loads each stripe, and is no call of the log
+pub record HasEstimated (map : MapOf) (before after : SeatOf) : Type 0 where
+  pub logged : HasLogged before after []
+  pub chain : after.chain ≡ before.chain
+  pub count : after.count ≡ with_looks map.counter.stripes before.count
+  pub own : IsMine map after
+
+-- what a meeting with another seat promises of a seat
+pub record HasMet (map : MapOf) (other before after : SeatOf) : Type 0 where
+  -- it is no call of the log, and the seat now knows all that the other knew
+  pub logged : HasLogged before after []
+  pub knows : IsBeginning (log other) (log after)
+  -- it makes one step
+  pub grows : Extended map.chain.shape before.chain after.chain [] 1
+  pub seen : IsBeginning other.chain.seen after.chain.seen
+  pub count : after.count ≡ before.count
+  pub own : IsMine map after
+
+-- ---- walks
+
+-- what the beginning of a walk promises: one load of the top word, which is no call of the log
+pub record HasBegunWalk (map : MapOf) (before after : SeatOf) (walk : WalkOf) : Type 0 where
+  pub begun : walk ≡ begun_by map after
+  pub is_walk : IsWalkOf map after walk
+  pub underway : IsUnderway map after walk []
+  pub logged : HasLogged before after []
+  pub grows : Extended map.chain.shape before.chain after.chain [] 1
+  pub count : after.count ≡ before.count
+  pub own : IsMine map after
+
+-- what a step of a walk promises, which shows this pair, or ends the walk
+pub record HasWalkedOn (map : MapOf) (before after : SeatOf) (walk walk' : WalkOf)
+    (shown : Option (ℕ × ℕ)) : Type 0 where
+  -- the pair was read, with its place in the log
+  pub read : HasRead before after shown
+  -- it passed over no other key that the map had all the while
+  pub walked : HasWalked map.chain.shape before after walk walk' shown
+  -- so the law of whole walks goes on from it
+  pub underway :
+      (pairs : List (ℕ × ℕ)) → IsUnderway map before walk pairs
+      → IsUnderway map after walk' (with_shown shown pairs)
+  -- its steps are such as a read may make, of any key, and bounded
+  pub worked :
+      (key : ℕ) → HasWorked map (Get key) before after
+      (passing_steps map.chain.shape walk.place walk'.place)
+  -- each pair that is shown brings the end nearer
+  pub ahead :
+      IfSome shown (λ pair. slots_ahead map.chain.shape walk'.place
+      < slots_ahead map.chain.shape walk.place)
+  pub is_walk : IsWalkOf map after walk'
+  pub own : IsMine map after
+
+-- the same of a walk by a handle, which stays the map's
+pub record HandleHasWalkedOn (before : HandleWalkOf) (shown : Option (ℕ × ℕ))
+    (after : HandleWalkOf) : Type 0 where
+  pub on : HasWalkedOn before.map before.seat after.seat before.walk after.walk shown
+  pub map : after.map ≡ before.map
+
+-- how many slots a walk by a handle has ahead of it: a measure of loops over it
+abbrev pub ahead_of : HandleWalkOf → ℕ
+ahead_of walk = slots_ahead walk.map.chain.shape walk.walk.place

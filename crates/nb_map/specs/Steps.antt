@@ -1,0 +1,115 @@
+-- The most steps that calls make, from single slots up to whole calls.
+use Rattle.std.specs.Prelude.{ℕ, zero, suc, ◌+◌, ◌-◌, ◌*◌, min}
+use Rattle.nb_core.specs.Plans.{Plan, size_of, generations_of}
+use Rattle.nb_copy.specs.Handing.{slot_steps, table_steps}
+use Rattle.nb_map.specs.declared.steps.claim.Below.TheVariants as below
+use Rattle.nb_map.specs.declared.steps.claim.Below.{Below}
+use Rattle.nb_map.specs.declared.steps.search.PathEnd.TheVariants as ends
+use Rattle.nb_map.specs.declared.steps.search.PathEnd.{PathEnd}
+use Rattle.nb_map.specs.declared.steps.walk.Place.TheVariants.{Slot, End}
+use Rattle.nb_map.specs.declared.steps.walk.Place.{Place}
+use Rattle.nb_map.specs.declared.steps.write.Written.TheVariants as written
+use Rattle.nb_map.specs.declared.steps.write.Written.{Written}
+
+-- ---- slots
+
+-- how many slots the tables below one have, all together
+abbrev pub slots_below : Plan → ℕ → ℕ
+slots_below p zero = 0
+slots_below p (suc g) = size_of p g + slots_below p g
+
+-- how many slots there are from a place on
+abbrev pub slots_ahead : Plan → Place → ℕ
+slots_ahead p (Slot g i) = slots_below p (generations_of p) - (slots_below p g + i)
+slots_ahead p End = 0
+
+-- the most steps to finish a slot and to count it
+abbrev pub pass_steps : Plan → ℕ → ℕ
+pass_steps p g = slot_steps p g + 2
+
+-- ---- a read
+
+-- the most steps of a probe from a distance on: a load for each slot
+abbrev pub probe_steps : Plan → (g from : ℕ) → PathEnd → ℕ
+probe_steps p g from (ends.Slot i) = size_of p g - from
+probe_steps p g from (ends.Empty d) = d + 1 - from
+probe_steps p g from ends.Closed = size_of p g - from
+probe_steps p g from ends.Whole = size_of p g - from
+
+-- the most steps of a look at table g: a load for each slot and one of the next word or of a value,
+-- and the end of a copy
+abbrev pub look_steps : Plan → ℕ → ℕ
+look_steps p g = size_of p g + 2 + pass_steps p g
+
+-- the most steps of looks at all tables below one
+abbrev pub looked_below : Plan → ℕ → ℕ
+looked_below p zero = 0
+looked_below p (suc g) = look_steps p g + looked_below p g
+
+-- the most steps of a read, which looks at each table once at most, and at a home slot before that
+abbrev pub get_steps : Plan → ℕ
+get_steps p = 8 * (slots_below p (generations_of p) + generations_of p)
+    * (size_of p (generations_of p - 1) + 8)
+
+-- ---- a write
+
+-- the most steps to complete the table below one, if there is one
+abbrev pub steps_below : Plan → ℕ → ℕ
+steps_below p zero = 0
+steps_below p (suc g) = table_steps p g
+
+-- the same, where it isn't known to be complete
+abbrev pub owed_below : Plan → ℕ → Below → ℕ
+owed_below p g below.Complete = 0
+owed_below p g below.HasKey = steps_below p g
+owed_below p g below.Passed = steps_below p g
+
+-- the most steps to go on in a next table that may have to be installed: the table below is
+-- completed, and then this one
+abbrev pub grow_steps : Plan → ℕ → Below → ℕ
+grow_steps p g below = owed_below p g below + 2 + table_steps p g
+
+-- the most steps to find or to claim a slot along a path: for each slot of the table a load, one of
+-- the next word and a claim; and then, it may be, the next table
+abbrev pub search_steps : Plan → ℕ → ℕ
+search_steps p g = 3 * size_of p g + steps_below p g + 4 + table_steps p g
+
+-- the most steps of a write at its key's home slot: a load of the key, and one of its value; an
+-- exchange for each try that was lost and for one more; and, it may be, a look at the next word and a
+-- claim, and the end of a copy
+abbrev pub home_steps : Plan → (g tries passed : ℕ) → ℕ
+home_steps p g tries passed = min tries passed + 5 + pass_steps p g
+
+-- The most steps at a slot, where the write had so many tries and others won so many exchanges on
+-- its key: a load, and an exchange for each try that was lost and for one more. Where it goes on in
+-- the next table, it has lost the tries that are gone, and there is the end of a copy.
+abbrev pub exchange_steps : Plan → (g tries passed : ℕ) → Written → ℕ
+exchange_steps p g tries passed (written.Replied reply) = min tries passed + 2
+exchange_steps p g tries passed (written.Refused fault) = min tries passed + 2
+exchange_steps p g tries passed (written.Above below left) = tries - left + 2 + pass_steps p g
+
+-- the most steps of a write in table g
+abbrev pub write_steps : Plan → (g tries passed : ℕ) → Written → ℕ
+write_steps p g tries passed written = search_steps p g + exchange_steps p g tries passed written
+
+-- the most steps of a write, with T slots in all tables, G tables, and N slots in the last one: 8
+-- (T + tries + G) (N + 8)
+abbrev pub put_steps : Plan → (tries : ℕ) → ℕ
+put_steps p tries = 8 * (slots_below p (generations_of p) + tries + generations_of p)
+    * (size_of p (generations_of p - 1) + 8)
+
+-- the most steps of an update: a read, and so many exchanges with so many tries
+abbrev pub update_steps : Plan → (tries : ℕ) → ℕ
+update_steps p tries = get_steps p + tries * put_steps p tries
+
+-- ---- a walk
+
+-- the most steps at one slot: its key, a search for the key in the tables before, and a read of it
+abbrev pub visit_steps : Plan → ℕ
+visit_steps p = slots_below p (generations_of p) + get_steps p + 1
+
+-- the most steps from one place of a walk to another, with T slots in all tables and B the bound of
+-- a read: T + B + 4 for each slot, so T (T + B + 4) for all calls of a walk together
+abbrev pub passing_steps : Plan → (from to : Place) → ℕ
+passing_steps p from to =
+    (slots_ahead p from - slots_ahead p to) * (slots_below p (generations_of p) + get_steps p + 4)

@@ -1,0 +1,96 @@
+-- What a search for a key comes to in a table, and what a look at a table shows of it.
+use Rattle.std.specs.Prelude.{ℕ, List, [], ◌∷◌, Option, if◌then◌else◌, suc, ◌≡◌, ◌<◌, ◌==◌, None}
+use Rattle.nb_core.specs.Calls.{leaves_alone}
+use Rattle.nb_core.specs.Log.{reply_at}
+use Rattle.nb_core.specs.Plans.{Plan, size_of, generations_of}
+use Rattle.nb_core.specs.Tables.{IsPassed, IsInstalled, Tables, AreOthers, path_slot}
+use Rattle.nb_core.specs.declared.calls.Call.{Call}
+use Rattle.nb_core.specs.declared.calls.Reply.{Reply}
+use Rattle.nb_core.specs.declared.states.KeyState.TheVariants.{Claimed, Dead, Empty}
+use Rattle.nb_map.specs.Progress.{IsAtHome}
+use Rattle.nb_map.specs.declared.steps.get.Glance.TheVariants as glance
+use Rattle.nb_map.specs.declared.steps.get.Glance.{Glance}
+use Rattle.nb_map.specs.declared.steps.get.Look.TheVariants.{Shows, Above}
+use Rattle.nb_map.specs.declared.steps.get.Look.{Look}
+use Rattle.nb_map.specs.declared.steps.search.PathEnd.TheVariants as ends
+use Rattle.nb_map.specs.declared.steps.search.PathEnd.{PathEnd}
+use Rattle.nb_map.specs.declared.steps.search.Sought.TheVariants as sought
+use Rattle.nb_map.specs.declared.steps.search.Sought.{Sought}
+
+-- the call with its reply, where its key has this number, or none
+abbrev pub as_replied : Call → Option ℕ → List (Call × Reply)
+as_replied call number = (call, reply_at call number) ∷ []
+
+-- the same, if the call leaves the number as it is, so that a look at it is the call's read
+abbrev pub read_of : Call → Option ℕ → List (Call × Reply)
+read_of call number = if leaves_alone call number then as_replied call number else []
+
+-- ---- a probe of the key's path
+
+-- the search for a key may go on in the next table: it is there, and the key is passed in this one
+abbrev pub IsAbove : Plan → Tables → (g k : ℕ) → Type 0
+IsAbove p t g k = IsPassed p t g k × IsInstalled t (suc g)
+
+-- this slot of the table is the key's
+abbrev pub IsSlotOf : Plan → Tables → (g i k : ℕ) → Type 0
+IsSlotOf p t g i k = (i < size_of p g) × (t.key g i ≡ Claimed k)
+
+-- the key's path in this table is closed, behind slots of other keys
+abbrev pub IsClosedTo : Plan → Tables → (g k : ℕ) → Type 0
+IsClosedTo p t g k =
+    (d : ℕ) × (d < size_of p g) × AreOthers p t g k d × (t.key g (path_slot p g k d) ≡ Dead)
+
+-- the tables show that a probe of the key's path in this table ends here
+abbrev pub EndsAt : Plan → Tables → (g k : ℕ) → PathEnd → Type 0
+EndsAt p t g k (ends.Slot i) = IsSlotOf p t g i k
+EndsAt p t g k (ends.Empty d) =
+    (d < size_of p g) × AreOthers p t g k d × (t.key g (path_slot p g k d) ≡ Empty)
+EndsAt p t g k ends.Closed = IsClosedTo p t g k × IsInstalled t (suc g)
+EndsAt p t g k ends.Whole = AreOthers p t g k (size_of p g)
+
+-- the read that the probe was, for a call that leaves an absent key alone: at an empty slot, and at
+-- the end of the last table
+abbrev pub read_at : Plan → ℕ → Call → PathEnd → List (Call × Reply)
+read_at p g call (ends.Slot i) = []
+read_at p g call (ends.Empty d) = read_of call None
+read_at p g call ends.Closed = []
+read_at p g call ends.Whole = if suc g == generations_of p then read_of call None else []
+
+-- ---- a search
+
+-- the tables show what a search in this table came to
+abbrev pub IsSought : Plan → Tables → (g k : ℕ) → Sought → Type 0
+IsSought p t g k (sought.Slot i) = IsSlotOf p t g i k
+IsSought p t g k sought.Absent = Unit {0}
+IsSought p t g k sought.Above = IsAbove p t g k
+
+-- the read that the search was
+abbrev pub read_sought : Call → Sought → List (Call × Reply)
+read_sought call (sought.Slot i) = []
+read_sought call sought.Absent = as_replied call None
+read_sought call sought.Above = []
+
+-- ---- a look
+
+-- where a look shows nothing, the search goes on in the next table
+abbrev pub IsLook : Plan → Tables → (g k : ℕ) → Look → Type 0
+IsLook p t g k (Shows number) = Unit {0}
+IsLook p t g k Above = IsAbove p t g k
+
+-- the read that the look was, for a call that leaves alone what it shows
+abbrev pub read_by : Call → Look → List (Call × Reply)
+read_by call (Shows number) = as_replied call number
+read_by call Above = []
+
+-- ---- a glance at the home slot
+
+-- where a glance shows nothing, the key isn't at home, and the search goes on from a slot of its
+-- path, behind slots of other keys
+abbrev pub IsGlance : Plan → Tables → (g k : ℕ) → Glance → Type 0
+IsGlance p t g k (glance.Shows number) = Unit {0}
+IsGlance p t g k (glance.From d) = (d < size_of p g) × AreOthers p t g k d × (IsAtHome p t g k → ⊥)
+
+-- the read that the glance was, for a call that leaves alone what it shows
+abbrev pub glanced_by : Call → Glance → List (Call × Reply)
+glanced_by call (glance.Shows number) = as_replied call number
+glanced_by call (glance.From d) = []

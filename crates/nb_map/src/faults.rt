@@ -1,0 +1,69 @@
+//! Why writes are refused, and which refusals are part of others, so that `?` takes the one for the
+//! other.
+ghost use Rattle.std.specs.Prelude.{◌≡◌};
+
+use thiserror::Error;
+
+/// Other keys have all slots of the last table, so there is none for this one. The map is
+/// unchanged.
+#[derive(Clone, Copy, Debug, PartialEq, Eq, Error)]
+#[error("the map is full")]
+pub struct Full;
+
+/// Why an add was refused. The map is unchanged.
+#[derive(Clone, Copy, Debug, PartialEq, Eq, Error)]
+pub enum AddFault {
+    /// Other keys have all slots of the last table.
+    #[error("the map is full")]
+    Full,
+    /// The sum is past the greatest number.
+    #[error("value too large")]
+    ValueRange,
+}
+
+/// Why a write was refused. The map is unchanged by it then, and no call of its was made.
+#[derive(Clone, Copy, Debug, PartialEq, Eq, Error)]
+pub enum PutFault {
+    /// Other keys have all slots of the last table.
+    #[error("the map is full")]
+    Full,
+    /// Other seats won as many exchanges on the key as the write had tries.
+    #[error("other writes of the key came first")]
+    Contended,
+    /// The sum of an add is past the greatest number.
+    #[error("value too large")]
+    ValueRange,
+}
+
+impl From<Full> for AddFault {
+    ghost use Rattle.nb_map.specs.declared.faults.AddFault.TheVariants.{Full};
+
+    ghost from_gives = { λ _ fault. fault ≡ Full };
+
+    fn from(_full: Full) -> AddFault {
+        AddFault::Full
+    }
+}
+
+impl From<Full> for PutFault {
+    ghost use Rattle.nb_map.specs.declared.faults.PutFault.TheVariants.{Full};
+
+    ghost from_gives = { λ _ fault. fault ≡ Full };
+
+    fn from(_full: Full) -> PutFault {
+        PutFault::Full
+    }
+}
+
+impl From<AddFault> for PutFault {
+    ghost use Rattle.nb_map.specs.Refusals.{as_put_fault};
+
+    ghost from_gives = { λ refusal fault. fault ≡ as_put_fault refusal };
+
+    fn from(refusal: AddFault) -> PutFault {
+        match refusal {
+            AddFault::Full => PutFault::Full,
+            AddFault::ValueRange => PutFault::ValueRange,
+        }
+    }
+}

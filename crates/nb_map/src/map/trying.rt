@@ -1,0 +1,107 @@
+//! The writes of `ConcurrentMap` that wait for nobody. Each is one `put_if_match` with as many
+//! tries as its caller gives it, and is refused as contended where other seats' writes of the key
+//! came first so often. So its steps are bounded whatever other threads do, and it takes no memory.
+ghost use Rattle.std.specs.Prelude.{◌≤◌};
+ghost use Rattle.nb_map.specs.Maps.{IsMine};
+ghost use Rattle.nb_map.specs.NamedCalls.{add_of, exchange_of, put_if_absent_of, put_of, remove_of};
+ghost use Rattle.nb_map.specs.Promises.{HasTriedToWrite, found_or_refused, replied_or_refused};
+
+use crate::faults::PutFault;
+use crate::map::{Map, Seat};
+use nb_core::{Change, Key, Num, Reply, Want};
+
+impl Map {
+    /// Puts a number at a key, and answers what was there: `put` without a wait. It costs what
+    /// `put_if_match` costs.
+    pub fn try_put(
+        &self,
+        seat: &mut Seat,
+        key: Key,
+        number: Num,
+        tries: u32,
+    ) -> Result<Option<Num>, PutFault>
+        requires own { IsMine self.now seat.old }
+        requires some { 1 ≤ tries }
+        ensures { HasTriedToWrite self.now (put_of key number) seat.old seat.new tries
+            (found_or_refused result) }
+    {
+        let reply = self.put_if_match(seat, key, Want::Any, Change::Put(number), tries)?;
+        Ok(reply.before)
+    }
+
+    /// Puts a number at a key that has none, and answers what was there: `put_if_absent` without a
+    /// wait. It costs what `put_if_match` costs.
+    pub fn try_put_if_absent(
+        &self,
+        seat: &mut Seat,
+        key: Key,
+        number: Num,
+        tries: u32,
+    ) -> Result<Option<Num>, PutFault>
+        requires own { IsMine self.now seat.old }
+        requires some { 1 ≤ tries }
+        ensures { HasTriedToWrite self.now (put_if_absent_of key number) seat.old seat.new tries
+            (found_or_refused result) }
+    {
+        let reply = self.put_if_match(seat, key, Want::Absent, Change::Put(number), tries)?;
+        Ok(reply.before)
+    }
+
+    /// Raises the number at a key, an absent one counting as 0, and answers what was there: `add`
+    /// without a wait. It costs what `put_if_match` costs.
+    pub fn try_add(
+        &self,
+        seat: &mut Seat,
+        key: Key,
+        number: Num,
+        tries: u32,
+    ) -> Result<Option<Num>, PutFault>
+        requires own { IsMine self.now seat.old }
+        requires some { 1 ≤ tries }
+        ensures { HasTriedToWrite self.now (add_of key number) seat.old seat.new tries
+            (found_or_refused result) }
+    {
+        let reply = self.put_if_match(seat, key, Want::Any, Change::Add(number), tries)?;
+        Ok(reply.before)
+    }
+
+    /// Takes out a key, and answers what was there: `remove` without a wait. It is refused only as
+    /// contended. It costs what `put_if_match` costs.
+    pub fn try_remove(&self, seat: &mut Seat, key: Key, tries: u32) -> Result<Option<Num>, PutFault>
+        requires own { IsMine self.now seat.old }
+        requires some { 1 ≤ tries }
+        ensures { HasTriedToWrite self.now (remove_of key) seat.old seat.new tries
+            (found_or_refused result) }
+    {
+        let reply = self.put_if_match(seat, key, Want::Any, Change::Remove, tries)?;
+        Ok(reply.before)
+    }
+
+    /// Sets a key to `new` where it is at `old`, `None` being absent, and replies what was there
+    /// and whether that was `old`. So this is `put_if_absent`, `replace_if` and `remove_if` in one
+    /// call without a wait, as `compare_exchange` of Rust's atomics; from absent to absent it
+    /// leaves the map as it is. It costs what `put_if_match` costs.
+    pub fn compare_exchange(
+        &self,
+        seat: &mut Seat,
+        key: Key,
+        old: Option<Num>,
+        new: Option<Num>,
+        tries: u32,
+    ) -> Result<Reply, PutFault>
+        requires own { IsMine self.now seat.old }
+        requires some { 1 ≤ tries }
+        ensures { HasTriedToWrite self.now (exchange_of key old new) seat.old seat.new tries
+            (replied_or_refused result) }
+    {
+        let want = match old {
+            Some(number) => Want::Equal(number),
+            None => Want::Absent,
+        };
+        let change = match new {
+            Some(number) => Change::Put(number),
+            None => Change::Remove,
+        };
+        self.put_if_match(seat, key, want, change, tries)
+    }
+}

@@ -1,0 +1,67 @@
+//! Walks over the keys of a map, by a seat.
+ghost use Rattle.nb_map.specs.Maps.{IsMine};
+ghost use Rattle.nb_map.specs.Promises.{HasBegunWalk, HasWalkedOn};
+ghost use Rattle.nb_map.specs.Walks.{IsWalkOf};
+
+use crate::map::{Map, Seat};
+use crate::steps::walk::{Place, next_from};
+use nb_core::{Key, Num};
+use std::marker::Model;
+use std::snapshot::Snapshot;
+
+/// A walk over the keys of a map, which `Map::walk` begins and `Map::next_key` takes on. It goes
+/// through the tables, from the one that was the top one on, each in the order of its slots; so the
+/// order of the keys is none that a user knows. It is a few words, and borrows nothing: the map is
+/// read and written meanwhile, also with the walk's own seat. Contracts see the seat as it was when
+/// it began the walk.
+#[derive(Drop)]
+pub struct Walk {
+    pub(crate) first: u32,
+    pub(crate) place: Place,
+    /// Only clauses read it; it takes no memory.
+    pub(crate) begun: Snapshot<Seat>,
+}
+
+impl Model for Walk {
+    ghost use Rattle.nb_map.specs.Walks.{WalkOf};
+
+    ghost Value = { WalkOf };
+
+    ghost use Rattle.nb_map.specs.inside.Models.{walk_of};
+
+    ghost view = { walk_of };
+}
+
+impl Map {
+    /// Begins a walk over the map's keys in the table that is the top one now, by one load of the
+    /// top word.
+    pub fn walk(&self, seat: &mut Seat) -> Walk
+        requires own { IsMine self.now seat.old }
+        ensures { HasBegunWalk self.now seat.old seat.new result }
+    {
+        let first = self.generation(seat);
+        Walk {
+            first,
+            place: Place::Slot(first, 0),
+            begun: Snapshot::of(seat),
+        }
+    }
+
+    /// The next key of a walk that this seat has begun, with its number: `while let Some((key,
+    /// number)) = map.next_key(&mut seat, &mut walk)` goes through the map while others write it.
+    /// Each pair that is shown is a `get` of this seat with its place in the log; no key is shown
+    /// twice; and from `walk` to the `None` that ends it, each key that the map has all the while
+    /// is shown (`laws::whole_walk`). A key that comes or goes meanwhile may be shown or not. After
+    /// `None` it answers `None` for ever.
+    ///
+    /// Where no table is being copied, a slot costs one load and a key one more. All calls of a
+    /// walk together make at most T (T + B + 4) steps on the chain, whose tables have T slots and a
+    /// `get` at most B steps.
+    pub fn next_key(&self, seat: &mut Seat, walk: &mut Walk) -> Option<(Key, Num)>
+        requires own { IsMine self.now seat.old }
+        requires walk { IsWalkOf self.now seat.old walk.old }
+        ensures { HasWalkedOn self.now seat.old seat.new walk.old walk.new result }
+    {
+        next_from(&self.chain, &mut seat.chain, walk.first, &mut walk.place)
+    }
+}

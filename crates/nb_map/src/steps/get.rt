@@ -1,0 +1,249 @@
+//! Reading a key.
+ghost use Rattle.std.specs.Prelude.{IsTrue, None, Some, [], false, if◌then◌else◌, ℕ, ◌+◌, ◌<◌, ◌≡◌, ◌≢◌, ◌≤◌, ◌⊎◌};
+ghost use Rattle.nb_core.specs.Plans.{generations_of, size_of};
+ghost use Rattle.nb_core.specs.States.{key_state};
+ghost use Rattle.nb_core.specs.Tables.{AreOthers, IsSlot, path_slot};
+ghost use Rattle.nb_core.specs.declared.calls.Call.TheVariants as call;
+ghost use Rattle.nb_core.specs.declared.states.KeyState.TheVariants as key_is;
+ghost use Rattle.nb_table.specs.Chains.{IsOwn, seen_by};
+ghost use Rattle.nb_table.specs.Conditions.{IsReached};
+ghost use Rattle.nb_map.specs.Calling.{HasMade};
+ghost use Rattle.nb_map.specs.Progress.{IsSeenAtHome};
+ghost use Rattle.nb_map.specs.Steps.{get_steps, look_steps, looked_below, pass_steps};
+ghost use Rattle.nb_map.specs.declared.steps.get.Glance.TheVariants as glance_is;
+ghost use Rattle.nb_map.specs.inside.Reading.{IsGlance, IsLook, as_replied, glanced_by, read_by};
+
+use crate::steps::search::{Sought, pass_slot, seek};
+use nb_core::{Call, Key, KeyState, Num, ValueState, encode_key, number_in_word};
+use nb_table::{Chain, ChainSeat};
+
+/// What a look at a table, or at a value, shows of a key.
+#[derive(Clone, Copy)]
+pub(crate) enum Look {
+    /// The map has this number at the key, or none.
+    Shows(Option<Num>),
+    /// Nothing: the search goes on in the next table.
+    Above,
+}
+
+/// What a glance at a key's home slot shows of it.
+#[derive(Clone, Copy)]
+pub(crate) enum Glance {
+    /// The map has this number at the key, or none.
+    Shows(Option<Num>),
+    /// Nothing: the search goes on in this table, from a distance on the key's path.
+    From(usize),
+}
+
+/// What the map has at a key, as a `Get` of this seat. In the common case, where the key has its
+/// home slot in the top table, these are three loads: of the top word, of the slot's key and of its
+/// value. A number that is being copied is copied first.
+#[inline]
+pub fn get_in(chain: &Chain, seat: &mut ChainSeat, key: Key) -> Option<Num>
+    requires own { IsOwn chain.now seat.old }
+    ensures made { HasMade chain.now.shape (call.Get key) seat.old seat.new
+        (as_replied (call.Get key) result)
+        (get_steps chain.now.shape) }
+    ensures three_steps { IsSeenAtHome chain.now.shape seat.old seat.new key
+        → seat.new.steps ≤ seat.old.steps + 3 }
+{
+    let top = chain.load_top(seat);
+    match glance_in(chain, seat, top, key) {
+        Glance::Shows(number) => number,
+        Glance::From(distance) => get_from(chain, seat, top, key, distance),
+    }
+}
+
+/// What the key's home slot in table `g` shows of it. Whether the map has the key is no branch: it
+/// looks at both words of the slot, and goes another way only where the slot is another key's, or
+/// is being copied.
+#[inline]
+#[tactic(auto, using(nb_core::proofs::Theorems::linked))]
+fn glance_in(chain: &Chain, seat: &mut ChainSeat, g: u32, key: Key) -> Glance
+    requires own { IsOwn chain.now seat.old }
+    requires reached { IsReached chain.now.shape (seen_by chain.now.shape seat.old) g key }
+    ensures made { HasMade chain.now.shape (call.Get key) seat.old seat.new
+        (glanced_by (call.Get key) result) 2 }
+    ensures glance { IsGlance chain.now.shape (seen_by chain.now.shape seat.new) g key result }
+{
+    let home = chain.shape().path_slot(g, key, 0);
+    let word = chain.load_key_word(seat, g, home, Some(Call::Get { key }));
+    if !is_own_or_empty(word, key) {
+        return away(word);
+    }
+    glance_at(chain, seat, g, home, key, word != 0)
+}
+
+/// Whether a key word is this key's, or that of an empty slot. Two tests would become two branches,
+/// of which one is a toss where half of the keys are there.
+#[inline]
+fn is_own_or_empty(word: u64, key: Key) -> bool
+    ensures yes { IsTrue result → (key_state word ≡ key_is.Claimed key) ⊎ (word ≡ 0) }
+    ensures no { result ≡ false → (key_state word ≡ key_is.Dead)
+        ⊎ ((other : ℕ) × (key_state word ≡ key_is.Claimed other) × (other ≢ key)) }
+{
+    word.min(word.wrapping_sub(encode_key(KeyState::Claimed(key)))) == 0
+}
+
+/// Whether a key word is this key's.
+#[inline]
+pub(crate) fn is_own(word: u64, key: Key) -> bool
+    ensures yes { IsTrue result → key_state word ≡ key_is.Claimed key }
+    ensures no { result ≡ false → key_state word ≢ key_is.Claimed key }
+{
+    word == encode_key(KeyState::Claimed(key))
+}
+
+/// From where the search goes on, where a home slot has this key word of another key, or is closed
+/// to keys.
+#[inline]
+fn away(word: u64) -> Glance
+    ensures dead { key_state word ≡ key_is.Dead → result ≡ glance_is.From 0 }
+    ensures other { (other : ℕ) → key_state word ≡ key_is.Claimed other
+        → result ≡ glance_is.From 1 }
+{
+    if word == 1 {
+        Glance::From(0)
+    } else {
+        Glance::From(1)
+    }
+}
+
+/// The read of a key, where a load is to decide it.
+#[inline]
+fn read_if(deciding: bool, key: Key) -> Option<Call>
+    ensures { result ≡ (if deciding then Some (call.Get key) else None) }
+{
+    if deciding {
+        Some(Call::Get { key })
+    } else {
+        None
+    }
+}
+
+/// What the value in slot `i` of table `g` shows of the key, whose home slot it is: of a slot that
+/// was seen empty nothing, and the map doesn't have the key.
+#[inline]
+fn glance_at(
+    chain: &Chain,
+    seat: &mut ChainSeat,
+    g: u32,
+    i: usize,
+    key: Key,
+    is_own: bool,
+) -> Glance
+    requires own { IsOwn chain.now seat.old }
+    requires slot { IsSlot chain.now.shape g i }
+    requires home { path_slot chain.now.shape g key 0 ≡ i }
+    requires claimed { IsTrue is_own → (seen_by chain.now.shape seat.old).key g i
+        ≡ key_is.Claimed key }
+    requires reached { IsReached chain.now.shape (seen_by chain.now.shape seat.old) g key }
+    ensures made { HasMade chain.now.shape (call.Get key) seat.old seat.new
+        (if is_own then glanced_by (call.Get key) result else []) 1 }
+    ensures glance { IsTrue is_own → IsGlance chain.now.shape (seen_by chain.now.shape seat.new)
+        g key result }
+    ensures empty { is_own ≡ false → result ≡ glance_is.Shows None }
+{
+    let word = chain.load_value_word(seat, g, i, read_if(is_own, key));
+    let number = number_in_word(word);
+    if word % 4 != 0 {
+        return if is_own {
+            Glance::From(0)
+        } else {
+            Glance::Shows(None)
+        };
+    }
+    Glance::Shows(number_if(is_own & (word >= 8), number))
+}
+
+/// The number, where it is one of the key.
+#[inline]
+pub(crate) fn number_if(is_there: bool, number: Num) -> Option<Num>
+    ensures { result ≡ (if is_there then Some number else None) }
+{
+    if is_there { Some(number) } else { None }
+}
+
+/// What the map has at a key, from a distance of its path in table `first` on.
+#[inline(never)]
+fn get_from(
+    chain: &Chain,
+    seat: &mut ChainSeat,
+    first: u32,
+    key: Key,
+    distance: usize,
+) -> Option<Num>
+    requires own { IsOwn chain.now seat.old }
+    requires reached { IsReached chain.now.shape (seen_by chain.now.shape seat.old) first key }
+    requires near { distance < size_of chain.now.shape first }
+    requires others { AreOthers chain.now.shape (seen_by chain.now.shape seat.old)
+        first key distance }
+    ensures made { HasMade chain.now.shape (call.Get key) seat.old seat.new
+        (as_replied (call.Get key) result)
+        (looked_below chain.now.shape (generations_of chain.now.shape)) }
+{
+    let mut from = distance;
+    for g in first..chain.shape().generations() {
+        if let Look::Shows(number) = look_in(chain, seat, g, key, from) {
+            return number;
+        }
+        from = 0;
+    }
+    unreachable!()
+}
+
+/// What the map has at a key, from its slot `i` of table `g` on: in the common case by one load.
+#[inline]
+pub(crate) fn get_at(chain: &Chain, seat: &mut ChainSeat, g: u32, i: usize, key: Key) -> Option<Num>
+    requires own { IsOwn chain.now seat.old }
+    requires slot { IsSlot chain.now.shape g i }
+    requires claimed { (seen_by chain.now.shape seat.old).key g i ≡ key_is.Claimed key }
+    requires reached { IsReached chain.now.shape (seen_by chain.now.shape seat.old) g key }
+    ensures made { HasMade chain.now.shape (call.Get key) seat.old seat.new
+        (as_replied (call.Get key) result) (get_steps chain.now.shape) }
+{
+    match look_at(chain, seat, g, i, key) {
+        Look::Shows(number) => number,
+        Look::Above => get_from(chain, seat, g + 1, key, 0),
+    }
+}
+
+/// What table `g` shows of a key, from a distance of its path on.
+#[tactic(auto, using(nb_core::proofs::Theorems::linked))]
+fn look_in(chain: &Chain, seat: &mut ChainSeat, g: u32, key: Key, from: usize) -> Look
+    requires own { IsOwn chain.now seat.old }
+    requires reached { IsReached chain.now.shape (seen_by chain.now.shape seat.old) g key }
+    requires near { from < size_of chain.now.shape g }
+    requires others { AreOthers chain.now.shape (seen_by chain.now.shape seat.old) g key from }
+    ensures made { HasMade chain.now.shape (call.Get key) seat.old seat.new
+        (read_by (call.Get key) result)
+        (look_steps chain.now.shape g) }
+    ensures look { IsLook chain.now.shape (seen_by chain.now.shape seat.new) g key result }
+{
+    match seek(chain, seat, g, key, &Call::Get { key }, from) {
+        Sought::Slot(i) => look_at(chain, seat, g, i, key),
+        Sought::Absent => Look::Shows(None),
+        Sought::Above => Look::Above,
+    }
+}
+
+/// What the key's slot `i` of table `g` shows of it.
+fn look_at(chain: &Chain, seat: &mut ChainSeat, g: u32, i: usize, key: Key) -> Look
+    requires own { IsOwn chain.now seat.old }
+    requires slot { IsSlot chain.now.shape g i }
+    requires claimed { (seen_by chain.now.shape seat.old).key g i ≡ key_is.Claimed key }
+    requires reached { IsReached chain.now.shape (seen_by chain.now.shape seat.old) g key }
+    ensures made { HasMade chain.now.shape (call.Get key) seat.old seat.new
+        (read_by (call.Get key) result)
+        (pass_steps chain.now.shape g + 1) }
+    ensures look { IsLook chain.now.shape (seen_by chain.now.shape seat.new) g key result }
+{
+    match chain.load_value(seat, g, i, Some(Call::Get { key })) {
+        ValueState::Null | ValueState::Tombstone => Look::Shows(None),
+        ValueState::Live(number) => Look::Shows(Some(number)),
+        value => {
+            pass_slot(chain, seat, g, i, value);
+            Look::Above
+        }
+    }
+}

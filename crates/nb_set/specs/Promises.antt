@@ -1,0 +1,129 @@
+-- What the calls of a set promise: one record for each kind of call. The set and its handles cite
+-- them.
+use Rattle.std.specs.Prelude.{◌≡◌, ◌<◌, ◌≤◌, ◌+◌, ℕ, Bool, IfSome, List, [], None, Option, Result, Ok, Err}
+use Rattle.nb_core.specs.History.{key_of_call}
+use Rattle.nb_core.specs.Log.{IsBeginning}
+use Rattle.nb_core.specs.Tables.{IsComplete, tables_at}
+use Rattle.nb_map.specs.Steps.{get_steps}
+use Rattle.nb_map.specs.declared.faults.Full.{Full}
+use Rattle.nb_set.specs.Handles.{HandleWalkOf}
+use Rattle.nb_set.specs.Log.{Call, Contains}
+use Rattle.nb_set.specs.OfMap.{call_for}
+use Rattle.nb_set.specs.Sets.{HasLogged, HasLookedOnce, HasNoRoom, HasReplied, HasWorked, IsLockFree, IsMine, IsSeenAtHome, IsShortAtHome, SeatOf, SetOf, generation_of, log, shape_of, steps_of}
+use Rattle.nb_set.specs.Walks.{HasAsked, HasEnded, HasShown, IsLater, IsWalkOf, WalkOf, slots_before, walking_steps, with_shown}
+use Rattle.nb_set.specs.Walks as walks
+
+-- ---- writes
+
+-- The seat has made the one call, with this reply. Or the call is refused, and there is no room for
+-- its key.
+abbrev pub HasAnswered : SetOf → Call → (before after : SeatOf) → Result Bool Full → Type 0
+HasAnswered set call before after (Ok reply) = HasReplied call before after reply
+HasAnswered set call before after (Err full) =
+    HasNoRoom set (key_of_call (call_for call)) before after
+
+-- what `add` and `remove` promise, which try again for as long as it takes
+pub record HasWritten (set : SetOf) (call : Call) (before after : SeatOf)
+    (answer : Result Bool Full) : Type 0 where
+  -- it is in the log once, with its reply; or it isn't there, and is refused for want of room
+  pub answered : HasAnswered set call before after answer
+  -- only where others win exchanges on its key does it make more steps
+  pub lock_free : IsLockFree set call before after
+  -- alone with its key at home in the top table, it makes four steps, or six
+  pub short : IsShortAtHome set call before after
+  -- the seat is still the set's
+  pub own : IsMine set after
+
+-- ---- reads
+
+-- what `contains` promises, which answers whether the key is there
+pub record HasLookedUp (set : SetOf) (key : ℕ) (before after : SeatOf) (found : Bool) :
+    Type 0 where
+  -- it is in the log once, with its reply
+  pub replied : HasReplied (Contains key) before after found
+  -- it is wait-free: its steps are bounded
+  pub worked : HasWorked set (Contains key) before after (get_steps (shape_of set))
+  -- where the key is at home in the top table, it makes three steps
+  pub short : IsSeenAtHome set key before after → steps_of after ≤ steps_of before + 3
+  pub own : IsMine set after
+
+-- ---- looks at the set as a whole
+
+-- what a look at the tables promises, which shows that so many of them are complete
+pub record HasSeenTop (set : SetOf) (before after : SeatOf) (top : ℕ) : Type 0 where
+  pub found : generation_of set after ≡ top
+  pub complete :
+      (g : ℕ) → g < top
+      → IsComplete (shape_of set) (tables_at (shape_of set) after.map.chain.seen) g
+  -- it is no call of the log, and makes one step, the look
+  pub logged : HasLogged before after []
+  pub looked : HasLookedOnce before after
+  -- the seat has forgotten nothing, so its walks go on
+  pub later : IsLater before after
+  pub own : IsMine set after
+
+-- what an estimate of the size promises
+pub record HasEstimated (set : SetOf) (before after : SeatOf) : Type 0 where
+  -- it is no call of the log, and makes no step on the tables
+  pub logged : HasLogged before after []
+  pub chain : after.map.chain ≡ before.map.chain
+  -- it looks at each stripe of the counter once
+  pub count :
+      let count = before.map.count in
+      after.map.count ≡ record count { steps = count.steps + set.map.counter.stripes }
+  pub later : IsLater before after
+  pub own : IsMine set after
+
+-- what a meeting with another seat promises of a seat
+pub record HasMet (set : SetOf) (other before after : SeatOf) : Type 0 where
+  -- it is no call of the log, and the seat now knows all that the other knew
+  pub logged : HasLogged before after []
+  pub knows : IsBeginning (log other) (log after)
+  -- it makes one step, a look, and has then seen all that the other had
+  pub looked : HasLookedOnce before after
+  pub seen : IsBeginning other.map.chain.seen after.map.chain.seen
+  pub later : IsLater before after
+  pub own : IsMine set after
+
+-- ---- walks
+
+-- what the beginning of a walk promises
+pub record HasBegunWalk (set : SetOf) (before after : SeatOf) (walk : WalkOf) : Type 0 where
+  -- the walk is this seat's, from here on, and has shown nothing
+  pub begun : walks.begun walk ≡ after
+  pub is_walk : IsWalkOf set after walk
+  pub shown : HasShown set after walk []
+  -- it is no call of the log, and makes one step, a look
+  pub logged : HasLogged before after []
+  pub looked : HasLookedOnce before after
+  pub later : IsLater before after
+  pub own : IsMine set after
+
+-- what a step of a walk promises, which shows this key next, or ends the walk
+pub record HasWalkedOn (set : SetOf) (before after : SeatOf) (walk walk' : WalkOf)
+    (next : Option ℕ) : Type 0 where
+  -- the seat has seen the key in the set, with its place in the log
+  pub asked : HasAsked before after next
+  -- the walk began where it did, and has shown this key beside those before
+  pub begun : walks.begun walk' ≡ walks.begun walk
+  pub shown :
+      (keys : List ℕ) → HasShown set before walk keys
+      → HasShown set after walk' (with_shown next keys)
+  pub ended : next ≡ None → HasEnded walk'
+  -- its steps are such as a `contains` may make, of any key, and bounded
+  pub worked :
+      (key : ℕ) → HasWorked set (Contains key) before after (walking_steps set walk walk')
+  -- each key that is shown brings the end nearer
+  pub ahead : IfSome next (λ key. slots_before set walk' < slots_before set walk)
+  pub is_walk : IsWalkOf set after walk'
+  pub own : IsMine set after
+
+-- the same of a walk by a handle, which stays the set's
+pub record HandleHasWalkedOn (before : HandleWalkOf) (next : Option ℕ) (after : HandleWalkOf) :
+    Type 0 where
+  pub on : HasWalkedOn before.set before.seat after.seat before.walk after.walk next
+  pub set : after.set ≡ before.set
+
+-- how many slots a walk by a handle has ahead of it: a measure of loops over it
+abbrev pub ahead_of : HandleWalkOf → ℕ
+ahead_of walk = slots_before walk.set walk.walk
