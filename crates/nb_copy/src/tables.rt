@@ -28,12 +28,12 @@ ghost use Rattle.nb_copy.specs.Handing.{HasCompleted, HasHelped, IsRaised, adds_
 use crate::slots::copy_slot;
 use nb_table::{Chain, ChainSeat};
 
-/// Copies the next chunk of table `g` that nobody was handed: 8 slots, or the table if that is
-/// smaller. Answers how many slots its own steps turned finished, all of them in the chunk. It
-/// counts just these, by one add, and raises the top word if that brings the count to the size. It
-/// makes at most three steps beside those of `copy_slot` for each slot of the chunk. Once all
-/// chunks are handed out it makes one step and answers 0. The idea is `help_copy_impl` of
-/// high-scale-lib.
+/// Copies the next chunk of table `g` that nobody was handed: as many slots as the plan's chunk, or
+/// the table if that is smaller. Answers how many slots its own steps turned finished, all of them
+/// in the chunk. It counts just these, by one add, and raises the top word if that brings the count
+/// to the size. It makes at most three steps beside those of `copy_slot` for each slot of the
+/// chunk. Once all chunks are handed out it makes one step and answers 0. The idea is
+/// `help_copy_impl` of high-scale-lib.
 pub fn help(chain: &Chain, seat: &mut ChainSeat, g: u32) -> usize
     requires own { IsOwn chain.now seat.old }
     requires growing { IsInstalled (seen_by chain.now.shape seat.old) (suc g) }

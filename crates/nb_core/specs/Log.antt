@@ -39,7 +39,7 @@ abbrev pub with_at : Numbers → ℕ → Option ℕ → Numbers
 with_at m k None = remove m k
 with_at m k (Some n) = insert m k n
 
--- what a call replies where its key has this number, or none
+-- what a call replies where its key has this number, or none; a read has no condition that may fail
 abbrev pub reply_at : Call → Option ℕ → Reply
 reply_at (Get k) number = record { before = number; matched = true }
 reply_at (Write k want change) number = record { before = number; matched = holds_of want number }
@@ -80,7 +80,7 @@ abbrev pub IsReplayed : List Entry → Type 0
 IsReplayed [] = Unit {0}
 IsReplayed (entry ∷ log) = (entry.reply ≡ reply_of entry.call (map_of_log log)) × IsReplayed log
 
--- the calls of a seat in a log, with their replies
+-- the calls of a seat in a log, with their replies, the newest first
 abbrev pub calls_of : ℕ → List Entry → List (Call × Reply)
 calls_of seat [] = []
 calls_of seat (entry ∷ log) =
@@ -94,9 +94,8 @@ HeldThrough first last k = (log : List Entry) → IsBeginning first log → IsBe
 
 -- ---- the log of a history
 
--- A call is made at just one event: the exchange that it wins, or the load that decides it. An
--- exchange that it loses has found what stands there, as a load does, and may decide it too. No
--- other event is in the log.
+-- Two kinds of events are calls: the exchange that a call wins, and the load or the lost exchange that
+-- showed that the call changes nothing. No other event is in the log.
 abbrev pub entry_of : Event → Option Entry
 entry_of (Won s g i a b c r) = Some (record { seat = s; call = c; reply = r })
 entry_of (Read s c r) = Some (record { seat = s; call = c; reply = r })

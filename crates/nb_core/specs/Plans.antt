@@ -4,7 +4,7 @@ use Rattle.std.specs.Prelude.{◌≡◌, ℕ, ◌+◌, ◌*◌, ◌/◌, ◌-◌
 use Rattle.std.specs.Int.{is_power_of_two}
 use Rattle.std.specs.List.{list_all}
 use Rattle.std.specs.List.Sorted.{IsNonDecreasing}
-use Rattle.nb_core.specs.declared.shapes.TheConstants.{MOST_KEYS}
+use Rattle.nb_core.specs.declared.shapes.TheConstants.{MAX_GENERATIONS, MAX_SEATS, MAX_STRIPES, MOST_KEYS}
 use Rattle.nb_core.specs.declared.shapes.HeaderWord.{HeaderWord}
 use Rattle.nb_core.specs.declared.shapes.HeaderWord.TheVariants as header
 use Rattle.nb_core.specs.declared.shapes.ShapeFault.{ShapeFault}
@@ -27,11 +27,11 @@ IsChunk n = (e : ℕ) × (2 ≤ e) × (e ≤ 10) × (n ≡ 2 ^ e)
 -- what a shape may be
 pub record IsPlan (p : Plan) : Type 0 where
   pub some_tables : 1 ≤ length p.exponents
-  pub few_tables : length p.exponents ≤ 16
+  pub few_tables : length p.exponents ≤ MAX_GENERATIONS
   pub sizes : All (λ e. (2 ≤ e) × (e ≤ 19)) p.exponents
   pub never_fall : IsNonDecreasing p.exponents
-  pub seats : (1 ≤ p.seats) × (p.seats ≤ 8)
-  pub stripes : (1 ≤ p.stripes) × (p.stripes ≤ 8)
+  pub seats : (1 ≤ p.seats) × (p.seats ≤ MAX_SEATS)
+  pub stripes : (1 ≤ p.stripes) × (p.stripes ≤ MAX_STRIPES)
   pub reprobes : (1 ≤ p.reprobes) × (p.reprobes < 2 ^ 32)
   pub chunk : IsChunk p.chunk
 
@@ -145,14 +145,14 @@ plan exponents seats stripes =
 -- the plan, or the first thing that is wrong with its seats and stripes
 abbrev pub seated : List ℕ → ℕ → ℕ → Result Plan ShapeFault
 seated exponents seats stripes =
-    if not (is_within 1 8 seats) then Err fault.Seats
-    else if not (is_within 1 8 stripes) then Err fault.Stripes
+    if not (is_within 1 MAX_SEATS seats) then Err fault.Seats
+    else if not (is_within 1 MAX_STRIPES stripes) then Err fault.Stripes
     else Ok (plan exponents seats stripes)
 
 -- the plan of these exponents, or the first thing that is wrong with it
 abbrev pub checked_plan : List ℕ → ℕ → ℕ → Result Plan ShapeFault
 checked_plan exponents seats stripes =
-    if not (is_within 1 16 (length exponents)) then Err fault.Generations
+    if not (is_within 1 MAX_GENERATIONS (length exponents)) then Err fault.Generations
     else if not (list_all (is_within 2 19) exponents) then Err fault.Bits
     else if not (never_falls exponents) then Err fault.Plan
     else seated exponents seats stripes
@@ -210,7 +210,7 @@ plan_for_keys most seats =
 abbrev pub checked_for_keys : ℕ → ℕ → Result Plan ShapeFault
 checked_for_keys most seats =
     if not (nat_le most MOST_KEYS) then Err fault.Keys
-    else if not (is_within 1 8 seats) then Err fault.Seats
+    else if not (is_within 1 MAX_SEATS seats) then Err fault.Seats
     else Ok (plan_for_keys most seats)
 
 -- the last table has room for so many keys and for half as many again

@@ -149,7 +149,7 @@ impl Shape {
     /// The shape of these tables, unless its seats or its stripes are wrong.
     fn seated(exponents: &[u32], seats: usize, stripes: usize) -> Result<Shape, ShapeFault>
         requires some_tables { 1 ≤ length exponents.now }
-        requires few_tables { length exponents.now ≤ 16 }
+        requires few_tables { length exponents.now ≤ MAX_GENERATIONS }
         requires sizes { All (λ e. (2 ≤ e) × (e ≤ 19)) exponents.now }
         requires never_fall { IsNonDecreasing exponents.now }
         ensures { result ≡ seated exponents.now seats stripes }

@@ -1,6 +1,7 @@
 -- What is in a counter and its seats, and how it is seen.
 use Rattle.std.specs.Prelude.{◌≡◌, ◌*◌, ◌/◌, ◌≤◌, List, [], ◌∷◌}
 use Rattle.atomic_table.specs.Seated.{TableId}
+use Rattle.nb_core.specs.declared.shapes.TheConstants.{MAX_STRIPES}
 use Rattle.nb_count.specs.Counts.{CountSeatOf, CounterOf}
 use Rattle.nb_count.specs.Tallies.{new_tally, stripe_of}
 use Rattle.nb_count.specs.declared.counter.Counter.TheInside as counter
@@ -21,7 +22,7 @@ pub record IsCounter (c : counter.Inside) : Type 0 where
   pub words : c.table.shared.table_id.words ≡ SPREAD * c.size.stripes
   pub slots : c.table.shared.table_id.slots ≡ 0
   pub some : 1 ≤ c.size.stripes
-  pub few : c.size.stripes ≤ 8
+  pub few : c.size.stripes ≤ MAX_STRIPES
   pub seated : 1 ≤ c.size.seats
 
 -- the one tally of a seat

@@ -23,7 +23,7 @@ ghost use Rattle.std.specs.Mem.Slots.{IsFull, slots_items, slots_len};
 
 use crate::tally::{Adds, Deal, Gather, Looks, SPREAD, Size, Stripes, Tallies};
 use atomic_table::{Closed, Seat, Table};
-use nb_core::{MAX_STRIPES, NotAll, OutOfMemory};
+use nb_core::{MAX_SEATS, MAX_STRIPES, NotAll, OutOfMemory};
 use std::alloc::Global;
 use std::marker::Model;
 
@@ -76,8 +76,8 @@ impl Counter {
         stripes: usize,
         seats: usize,
     ) -> Result<(Counter, Vec<CountSeat>), OutOfMemory>
-        requires stripes { (1 ≤ stripes) × (stripes ≤ 8) }
-        requires seats { (1 ≤ seats) × (seats ≤ 8) }
+        requires stripes { (1 ≤ stripes) × (stripes ≤ MAX_STRIPES) }
+        requires seats { (1 ≤ seats) × (seats ≤ MAX_SEATS) }
         ensures counter { IfOk result (λ made. (made.0.stripes ≡ stripes)
             × (made.0.seats ≡ seats)) }
         ensures seats { IfOk result (λ made. made.1.items ≡ new_seats made.0.id seats) }

@@ -14,8 +14,8 @@ use Rattle.nb_core.specs.declared.states.KeyState.TheVariants.{Claimed, Dead, Em
 use Rattle.nb_table.proofs.Theorems.{steps_add_up}
 use Rattle.nb_table.specs.Chains.{ChainOf, Extended, IsOwn, SeenBy, seen_by}
 use Rattle.nb_table.specs.Events.{read, shown_by_key}
+use Rattle.nb_map.specs.Logs.{as_replied}
 use Rattle.nb_map.specs.Calling.{HasMade}
-use Rattle.nb_map.specs.inside.Reading.{as_replied}
 use Rattle.nb_map.specs.Progress.{IsAloneAtHome, IsKnownHome}
 use Rattle.nb_map.proofs.Home.{home-before, home-in}
 use Rattle.nb_map.proofs.Made.{made-quiet, made-read, made-stays, read_shown}

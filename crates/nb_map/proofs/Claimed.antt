@@ -14,9 +14,9 @@ use Rattle.nb_core.specs.declared.states.KeyState.{KeyState}
 use Rattle.nb_core.specs.declared.states.KeyState.TheVariants.{Claimed, Dead, Empty}
 use Rattle.nb_table.specs.Chains.{ChainOf, Extended, IsOwn, SeenBy, seen_by}
 use Rattle.nb_copy.specs.Handing.{HasCompleted, table_steps}
+use Rattle.nb_map.specs.Logs.{as_replied}
 use Rattle.nb_map.proofs.Made.{made-copied, made-more, made-none, made-quiet, made-step, made-within, slot-below-lasts}
 use Rattle.nb_map.specs.Calling.{HasMade, IsBeforeNext}
-use Rattle.nb_map.specs.inside.Reading.{as_replied}
 use Rattle.nb_map.specs.inside.Reading.{read_at}
 use Rattle.nb_map.specs.Steps.{probe_steps}
 use Rattle.nb_map.specs.inside.Writing.{HasBelow, IsFound}

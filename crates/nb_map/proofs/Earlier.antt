@@ -14,7 +14,7 @@ use Rattle.nb_core.specs.declared.states.ValueState.TheVariants.{Null}
 use Rattle.nb_core.proofs.Theorems.{complete_passed, installed_after, lawful_words, linked, on_path, place_is, room}
 use Rattle.nb_table.specs.Chains.{ChainOf, IsOwn, SeenBy, seen_by}
 use Rattle.nb_table.specs.Conditions.{IsReached}
-use Rattle.nb_map.specs.inside.Reading.{as_replied}
+use Rattle.nb_map.specs.Logs.{as_replied}
 use Rattle.nb_map.specs.inside.Reading.{EndsAt, read_at}
 use Rattle.nb_map.specs.Steps.{probe_steps}
 use Rattle.nb_map.specs.inside.Walking.{IsAway, IsEarlier}

@@ -23,10 +23,11 @@ use Rattle.nb_core.specs.declared.states.ValueState.TheVariants.{Null, Tombstone
 use Rattle.nb_table.specs.Chains.{ChainOf, Extended, Grown, IsOwn, SeenBy, seen_by}
 use Rattle.nb_table.specs.Conditions.{IsReached}
 use Rattle.nb_table.specs.Events.{only, read, shown_by_value, value_in}
+use Rattle.nb_map.specs.Logs.{as_replied}
 use Rattle.nb_map.proofs.Made.{made-more, made-own, made-read, made-stays, made-step, made-within}
 use Rattle.nb_map.proofs.Searched.{made-then, reached-lasts}
 use Rattle.nb_map.specs.Calling.{HasMade}
-use Rattle.nb_map.specs.inside.Reading.{as_replied, read_of}
+use Rattle.nb_map.specs.inside.Reading.{read_of}
 use Rattle.nb_map.specs.inside.Writing.{IsWritten}
 use Rattle.nb_map.specs.inside.Reading.{IsAbove}
 use Rattle.nb_map.specs.inside.Writing.{IsDecided}

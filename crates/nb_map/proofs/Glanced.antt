@@ -12,8 +12,8 @@ use Rattle.nb_core.specs.declared.states.ValueState.{ValueState}
 use Rattle.nb_core.specs.declared.states.ValueState.TheVariants.{Live, Null, Tombstone}
 use Rattle.nb_table.specs.Chains.{ChainOf, Extended, IsOwn, SeenBy}
 use Rattle.nb_table.specs.Events.{reads, shown_by_value}
+use Rattle.nb_map.specs.Logs.{as_replied}
 use Rattle.nb_map.specs.Calling.{HasMade}
-use Rattle.nb_map.specs.inside.Reading.{as_replied}
 use Rattle.nb_map.specs.inside.Reading.{glanced_by}
 use Rattle.nb_map.specs.declared.steps.get.Glance.{Glance}
 use Rattle.nb_map.specs.declared.steps.get.Glance.TheVariants as glance

@@ -7,8 +7,8 @@ use Rattle.nb_core.specs.Meaning.{place_of}
 use Rattle.nb_core.specs.Plans.{Plan, generations_of, size_of}
 use Rattle.nb_core.specs.declared.calls.Call.TheVariants.{Get}
 use Rattle.nb_table.specs.Chains.{ChainOf, IsOwn, SeenBy}
+use Rattle.nb_map.specs.Logs.{as_replied}
 use Rattle.nb_map.specs.Calling.{HasMade}
-use Rattle.nb_map.specs.inside.Reading.{as_replied}
 use Rattle.nb_map.specs.Steps.{get_steps}
 use Rattle.nb_map.specs.Steps.{slots_below}
 use Rattle.nb_map.specs.inside.Walking.{HasGone}

@@ -17,9 +17,10 @@ use Rattle.nb_core.specs.declared.states.ValueState.TheVariants.{Null, Tombstone
 use Rattle.nb_table.specs.Chains.{ChainOf, Extended, IsOwn, SeenBy, seen_by}
 use Rattle.nb_table.specs.Conditions.{IsReached}
 use Rattle.nb_table.specs.Events.{is_last_slot, read, shown_by_key, shown_by_value}
+use Rattle.nb_map.specs.Logs.{as_replied}
 use Rattle.nb_map.proofs.Made.{made-more, made-read, made-within, read_shown}
 use Rattle.nb_map.specs.Calling.{HasMade}
-use Rattle.nb_map.specs.inside.Reading.{read_of, as_replied}
+use Rattle.nb_map.specs.inside.Reading.{read_of}
 use Rattle.nb_map.specs.inside.Reading.{IsAbove, IsClosedTo}
 use Rattle.nb_core.proofs.Theorems.{complete_passed, linked, paths_are_distinct, top_complete}
 

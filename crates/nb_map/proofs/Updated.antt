@@ -341,15 +341,15 @@ module _ {F : Type 0} {m : MapOf} {Step : F → Option ℕ → Option ℕ → F 
           computed = (new, g, step, refl);
           ended = (
             omega (arith, come.lost, less),
-            logged mine (both given.0),
-            longer refusal given.1,
+            logged mine (both given.unmade),
+            longer refusal given.just,
           );
           call = chosen.0;
           asked = chosen-asked;
           worked = record {
-            steps = (_, made-within _ _ (all-steps less) (both given.0));
+            steps = (_, made-within _ _ (all-steps less) (both given.unmade));
             net = pos 0;
-            count = still given.0 refl ∙ sym (counted-none before.count);
+            count = still given.unmade refl ∙ sym (counted-none before.count);
           };
         }
           where

@@ -18,8 +18,8 @@ use Rattle.nb_core.specs.declared.events.Event.TheVariants.{Claim, Install}
 use Rattle.nb_core.specs.declared.states.KeyState.TheVariants.{Claimed}
 use Rattle.nb_core.proofs.Theorems.{held_has_place, linked, log_is_replayed, one_place, place_is}
 use Rattle.nb_table.specs.Chains.{ChainOf, IsOwn, SeenBy, seen_by}
+use Rattle.nb_map.specs.Logs.{as_replied}
 use Rattle.nb_map.specs.Calling.{HasMade, MayMake}
-use Rattle.nb_map.specs.inside.Reading.{as_replied}
 use Rattle.nb_map.specs.inside.Walking.{HasGone}
 use Rattle.nb_map.specs.Walks.{HasPassed, IsBefore, IsBetween, IsFirstTable, IsMiss, IsPassedOver, hit}
 use Rattle.nb_map.specs.declared.steps.walk.Place.{Place}

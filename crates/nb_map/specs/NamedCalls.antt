@@ -39,6 +39,6 @@ abbrev pub change_to : Option ℕ → Change
 change_to None = Remove
 change_to (Some n) = Put n
 
--- the write that sets a key to the one where it is at the other
+-- the write that sets a key to `new` where it is at `old`
 abbrev pub exchange_of : (k : ℕ) → (old new : Option ℕ) → Call
 exchange_of k old new = Write k (want_of old) (change_to new)

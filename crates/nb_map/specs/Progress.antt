@@ -11,21 +11,20 @@ use Rattle.nb_table.specs.Chains.{SeenBy, seen_by}
 use Rattle.nb_map.specs.Maps.{MapOf, SeatOf, HasWorked}
 use Rattle.nb_map.specs.Steps.{put_steps}
 
--- how many exchanges on the call's key other seats have won since the seat had seen no more than
--- `before`
+-- how many exchanges on the call's key other seats won, among what the seat has seen since `before`
 abbrev pub passed_since : Call → (before after : SeenBy) → ℕ
 passed_since call before after =
     passed_over after.seen (length before.seen) (key_of_call call) before.number
 
--- The call has worked for no longer than a write with as many tries as others won exchanges on its
--- key meanwhile, and one more. So it is lock-free: only where another write came first does it work
--- for longer than T, G and N say.
+-- The call has made no more steps than a write may that has as many tries as others won exchanges on
+-- its key, and one more: these are counted from the seat's last step before the call. So the call is
+-- lock-free: its bound grows only with other writes of its key.
 abbrev pub IsLockFree : MapOf → Call → (before after : SeatOf) → Type 0
 IsLockFree map call before after = HasWorked map call before after
     (put_steps map.chain.shape (passed_since call before.chain after.chain + 1))
 
--- The call has worked for no longer than its tries take, whatever other seats do; and for no longer
--- than as many tries as others won exchanges on its key meanwhile, and one more.
+-- The call has made no more steps than its tries take, whatever other seats do; and no more than as
+-- many tries take as others won exchanges on its key, and one more.
 abbrev pub IsWaitFree : MapOf → Call → (before after : SeatOf) → (tries : ℕ) → Type 0
 IsWaitFree map call before after tries = HasWorked map call before after
     (put_steps map.chain.shape (min tries (passed_since call before.chain after.chain + 1)))
@@ -68,9 +67,9 @@ IsSeenAlone p call before after =
     ((seen_by p before).top ≡ (seen_by p after).top)
     × IsAloneAtHome p (seen_by p after).top call before after
 
--- How short a write is that is alone with its key at home in the top table: four steps, where it
--- knew the home slot as the key's if it may have to claim it; and else six, while the seat knows of
--- no table above.
+-- How short a write is that is alone with its key at home in the top table. It makes at most four
+-- steps, if it puts no number at an absent key, or if the seat knew the home slot as the key's. It
+-- makes at most six, if the seat knows of no table above.
 pub record IsShortAtHome (p : Plan) (call : Call) (before after : SeenBy) : Type 0 where
   pub four_steps :
       IsSeenAlone p call before after → IsKnownHome p (seen_by p before).top call before

@@ -1,5 +1,5 @@
 -- What the calls of a map promise: one record for each kind of call. The map and its handles cite
--- them.
+-- them. What an update promises is in `Updating`, and what the end of a map does in `Ending`.
 use Rattle.std.specs.Prelude.{ℕ, Bool, Option, Result, Ok, Err, ◌+◌, ◌≤◌, ◌≡◌, ◌<◌, [], List, IfSome}
 use Rattle.nb_core.specs.Log.{reply_at, IsBeginning}
 use Rattle.nb_core.specs.Tables.{IsComplete}
@@ -63,9 +63,9 @@ pub record HasWritten (map : MapOf) (call : Call) (before after : SeatOf)
     (outcome : Outcome AddFault) : Type 0 where
   -- it is in the log once, with its reply; or it isn't there, and is refused for a just reason
   pub answered : HasAnswered (HasRefused map call before after) call before after outcome
-  -- only where others win exchanges on its key does it make more steps
+  -- its steps have a bound that grows only with the exchanges that others win on its key
   pub lock_free : IsLockFree map call before after
-  -- alone with its key at home in the top table, it makes four steps, or six
+  -- at most four steps, or six, where it is alone with its key at home in the top table
   pub short : IsShortAtHome map.chain.shape call before.chain after.chain
   -- the seat is still the map's
   pub own : IsMine map after
@@ -74,7 +74,8 @@ pub record HasWritten (map : MapOf) (call : Call) (before after : SeatOf)
 pub record HasTriedToWrite (map : MapOf) (call : Call) (before after : SeatOf) (tries : ℕ)
     (outcome : Outcome PutFault) : Type 0 where
   pub answered : HasAnswered (HasGivenUp map call before after tries) call before after outcome
-  -- its tries bound its steps, whatever others do
+  -- its steps have a bound whatever others do, which grows with its tries, or with the exchanges that
+  -- others win on its key if these are fewer
   pub wait_free : IsWaitFree map call before after tries
   pub short : IsShortAtHome map.chain.shape call before.chain after.chain
   pub own : IsMine map after
@@ -86,9 +87,9 @@ pub record HasGot (map : MapOf) (key : ℕ) (before after : SeatOf) (found : Opt
     Type 0 where
   -- it is in the log once, with its reply
   pub replied : HasReplied (Get key) before after (reply_at (Get key) found)
-  -- it is wait-free: its steps are bounded
+  -- it is wait-free: its steps have a bound, whatever others do
   pub worked : HasWorked map (Get key) before after (get_steps map.chain.shape)
-  -- where the key is at home in the top table, it makes three steps
+  -- at most three steps, where the key is at home in the top table
   pub short :
       IsSeenAtHome map.chain.shape before.chain after.chain key
       → after.chain.steps ≤ before.chain.steps + 3
@@ -96,7 +97,8 @@ pub record HasGot (map : MapOf) (key : ℕ) (before after : SeatOf) (found : Opt
 
 -- ---- looks at the map as a whole
 
--- what a look at the top word promises, which shows that so many tables are complete
+-- what a look at the top word promises, which shows that so many tables are complete, from the first
+-- on
 pub record HasSeenTop (map : MapOf) (before after : SeatOf) (top : ℕ) : Type 0 where
   pub found : (seen_by map.chain.shape after.chain).top ≡ top
   pub complete :
@@ -107,7 +109,8 @@ pub record HasSeenTop (map : MapOf) (before after : SeatOf) (top : ℕ) : Type 0
   pub count : after.count ≡ before.count
   pub own : IsMine map after
 
--- what a look at the counter promises: it loads each stripe, and is no call of the log
+-- what a look at the counter promises: it is no call of the log, and makes a step on the counter for
+-- each stripe, and none on the tables
 pub record HasEstimated (map : MapOf) (before after : SeatOf) : Type 0 where
   pub logged : HasLogged before after []
   pub chain : after.chain ≡ before.chain
@@ -137,10 +140,11 @@ pub record HasBegunWalk (map : MapOf) (before after : SeatOf) (walk : WalkOf) : 
   pub count : after.count ≡ before.count
   pub own : IsMine map after
 
--- what a step of a walk promises, which shows this pair, or ends the walk
+-- what a call of a walk promises, which shows this pair, or ends the walk
 pub record HasWalkedOn (map : MapOf) (before after : SeatOf) (walk walk' : WalkOf)
     (shown : Option (ℕ × ℕ)) : Type 0 where
-  -- the pair was read, with its place in the log
+  -- its calls in the log are reads: such as found nothing, and at last that of the pair, if it shows
+  -- one
   pub read : HasRead before after shown
   -- it passed over no other key that the map had all the while
   pub walked : HasWalked map.chain.shape before after walk walk' shown
@@ -159,7 +163,7 @@ pub record HasWalkedOn (map : MapOf) (before after : SeatOf) (walk walk' : WalkO
   pub is_walk : IsWalkOf map after walk'
   pub own : IsMine map after
 
--- the same of a walk by a handle, which stays the map's
+-- the same of a walk by a handle, and the map of the handle is the same
 pub record HandleHasWalkedOn (before : HandleWalkOf) (shown : Option (ℕ × ℕ))
     (after : HandleWalkOf) : Type 0 where
   pub on : HasWalkedOn before.map before.seat after.seat before.walk after.walk shown

@@ -36,7 +36,7 @@ probe_steps p g from (ends.Empty d) = d + 1 - from
 probe_steps p g from ends.Closed = size_of p g - from
 probe_steps p g from ends.Whole = size_of p g - from
 
--- the most steps of a look at table g: a load for each slot and one of the next word or of a value,
+-- the most steps of a look at table g: a load for each slot, one of the next word, one of a value,
 -- and the end of a copy
 abbrev pub look_steps : Plan → ℕ → ℕ
 look_steps p g = size_of p g + 2 + pass_steps p g
@@ -46,7 +46,8 @@ abbrev pub looked_below : Plan → ℕ → ℕ
 looked_below p zero = 0
 looked_below p (suc g) = look_steps p g + looked_below p g
 
--- the most steps of a read, which looks at each table once at most, and at a home slot before that
+-- the most steps of a read, with T slots in all tables, G tables, and N slots in the last one: 8 (T +
+-- G) (N + 8)
 abbrev pub get_steps : Plan → ℕ
 get_steps p = 8 * (slots_below p (generations_of p) + generations_of p)
     * (size_of p (generations_of p - 1) + 8)
@@ -70,7 +71,7 @@ abbrev pub grow_steps : Plan → ℕ → Below → ℕ
 grow_steps p g below = owed_below p g below + 2 + table_steps p g
 
 -- the most steps to find or to claim a slot along a path: for each slot of the table a load, one of
--- the next word and a claim; and then, it may be, the next table
+-- the next word and a claim; and, it may be, the table below and this one are completed
 abbrev pub search_steps : Plan → ℕ → ℕ
 search_steps p g = 3 * size_of p g + steps_below p g + 4 + table_steps p g
 

@@ -71,8 +71,8 @@ pub record IsUpdate {F : Type 0} (m : MapOf) (Step : F → Option ℕ → Option
   pub last : Option Call
   pub computed : IfSome last (IsComputed Step k found function)
   pub ended : IsEnd m k before after tries calls found last result
-  -- all that its steps did one of these calls may do: so a slot is claimed for the key only if one of
-  -- them puts a number at an absent key
+  -- All that its steps did one of these calls may do. So a slot is claimed for a key that has none in
+  -- the table below only if this call puts a number at an absent key.
   pub call : Call
   pub asked : Contains (asked_for last calls) call
   pub worked : HasWorked m call before after (update_steps m.chain.shape tries)

@@ -13,7 +13,6 @@ use Rattle.nb_map.specs.Logs.{HasLogged, log}
 use Rattle.nb_map.specs.Maps.{SeatOf, MapOf, IsMine, HasWorked}
 use Rattle.nb_map.specs.declared.steps.walk.Place.TheVariants.{Slot, End}
 use Rattle.nb_map.specs.declared.steps.walk.Place.{Place}
-use Rattle.nb_map.specs.inside.Reading.{as_replied}
 
 -- ---- places
 
@@ -47,7 +46,7 @@ abbrev pub IsPlace : Plan → Tables → (first : ℕ) → Place → Type 0
 IsPlace p t first (Slot g i) = (first ≤ g) × IsInstalled t g × (i < size_of p g)
 IsPlace p t first End = Unit {0}
 
--- the seat is the one that it was, and has forgotten nothing
+-- the seat has the number that it had, and has forgotten nothing
 pub record IsLater (before after : SeatOf) : Type 0 where
   pub number : after.chain.number ≡ before.chain.number
   pub seen : IsBeginning before.chain.seen after.chain.seen
@@ -102,7 +101,7 @@ pub record HasWalked (p : Plan) (before after : SeatOf) (walk walk' : WalkOf)
 -- the read of the pair that is shown
 abbrev pub hit : Option (ℕ × ℕ) → List (Call × Reply)
 hit None = []
-hit (Some pair) = as_replied (Get pair.0) (Some pair.1)
+hit (Some pair) = (Get pair.0, reply_at (Get pair.0) (Some pair.1)) ∷ []
 
 -- the call is a read of a key that the map hadn't
 abbrev pub IsMiss : Call × Reply → Type 0
@@ -151,8 +150,8 @@ pub record HasShownAll (begun ended : SeatOf) (shown : List (ℕ × ℕ)) : Type
   pub held : (k : ℕ) → HeldThrough (log begun) (log ended) k
       → Contains (map (λ pair. pair.0) shown) k
 
--- A whole walk shows no key twice, what its seat has read, and each key that the map had all the
--- while.
+-- A whole walk, up to its end, shows no key twice, only pairs that its seat has read, and each key
+-- that the map had all the while.
 abbrev pub WholeWalk : Type 0
 WholeWalk =
     (m : MapOf) (seat : SeatOf) (walk : WalkOf) (shown : List (ℕ × ℕ))

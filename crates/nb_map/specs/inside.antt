@@ -1,4 +1,5 @@
--- Contracts between the functions of this crate, which no user has to read.
+-- How contracts see what is in the crate's types, and contracts between the crate's own functions.
+-- No promise of a public call cites them.
 pub mod Models
 pub mod Reading
 pub mod Writing

@@ -15,3 +15,4 @@ pub mod steps;
 pub use faults::{AddFault, Full, PutFault};
 pub use handle::{Handle, HandleWalk};
 pub use map::{Ended, Map, Seat, Walk};
+pub use nb_core::NotAll;

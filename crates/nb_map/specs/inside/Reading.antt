@@ -1,12 +1,12 @@
 -- What a search for a key comes to in a table, and what a look at a table shows of it.
-use Rattle.std.specs.Prelude.{ℕ, List, [], ◌∷◌, Option, if◌then◌else◌, suc, ◌≡◌, ◌<◌, ◌==◌, None}
+use Rattle.std.specs.Prelude.{ℕ, List, [], Option, if◌then◌else◌, suc, ◌≡◌, ◌<◌, ◌==◌, None}
 use Rattle.nb_core.specs.Calls.{leaves_alone}
-use Rattle.nb_core.specs.Log.{reply_at}
 use Rattle.nb_core.specs.Plans.{Plan, size_of, generations_of}
 use Rattle.nb_core.specs.Tables.{IsPassed, IsInstalled, Tables, AreOthers, path_slot}
 use Rattle.nb_core.specs.declared.calls.Call.{Call}
 use Rattle.nb_core.specs.declared.calls.Reply.{Reply}
 use Rattle.nb_core.specs.declared.states.KeyState.TheVariants.{Claimed, Dead, Empty}
+use Rattle.nb_map.specs.Logs.{as_replied}
 use Rattle.nb_map.specs.Progress.{IsAtHome}
 use Rattle.nb_map.specs.declared.steps.get.Glance.TheVariants as glance
 use Rattle.nb_map.specs.declared.steps.get.Glance.{Glance}
@@ -17,11 +17,8 @@ use Rattle.nb_map.specs.declared.steps.search.PathEnd.{PathEnd}
 use Rattle.nb_map.specs.declared.steps.search.Sought.TheVariants as sought
 use Rattle.nb_map.specs.declared.steps.search.Sought.{Sought}
 
--- the call with its reply, where its key has this number, or none
-abbrev pub as_replied : Call → Option ℕ → List (Call × Reply)
-as_replied call number = (call, reply_at call number) ∷ []
-
--- the same, if the call leaves the number as it is, so that a look at it is the call's read
+-- the call with its reply, where its key has this number, or none, if it leaves that as it is: so a
+-- look at the number is the call's read
 abbrev pub read_of : Call → Option ℕ → List (Call × Reply)
 read_of call number = if leaves_alone call number then as_replied call number else []
 

@@ -1,6 +1,6 @@
 -- What a write does in one table.
 use Rattle.std.specs.FinMap as map
-use Rattle.std.specs.Prelude.{List, [], ◌∷◌, Result, Ok, Err, ◌≡◌, ℕ, true, false, Option, suc, ◌+◌, ◌≤◌}
+use Rattle.std.specs.Prelude.{List, [], ◌∷◌, ◌≡◌, ℕ, true, false, Option, suc, ◌+◌, ◌≤◌}
 use Rattle.nb_core.specs.Calls.{leaves_alone, overflows, Fills}
 use Rattle.nb_core.specs.History.{IsExchange, number_in_value, key_of_call}
 use Rattle.nb_core.specs.Log.{Numbers, reply_at}
@@ -26,11 +26,6 @@ use Rattle.nb_map.specs.declared.steps.write.Target.{Target}
 use Rattle.nb_map.specs.declared.steps.write.Written.TheVariants as written
 use Rattle.nb_map.specs.declared.steps.write.Written.{Written}
 use Rattle.nb_map.specs.inside.Reading.{IsAbove, IsSlotOf}
-
--- the call, if it was made and not refused
-abbrev pub made_in : {E : Type 0} → Call → Result Reply E → List (Call × Reply)
-made_in call (Ok reply) = (call, reply) ∷ []
-made_in call (Err fault) = []
 
 -- ---- what a call does at its key
 

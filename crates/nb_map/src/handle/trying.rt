@@ -1,5 +1,5 @@
-//! The calls of a handle that wait for nobody, by name: those of `trying` and `updating`, and the
-//! walk. No tries count as one.
+//! The calls of a handle that wait for nobody: conditional writes, writes by name, and updates. No
+//! tries count as one.
 ghost use Rattle.std.specs.Prelude.{Option, max, unwrap_or, ℕ, ◌≡◌};
 ghost use Rattle.nb_core.specs.declared.calls.Call.TheVariants as call;
 ghost use Rattle.nb_map.specs.Handles.{IsSameMap};

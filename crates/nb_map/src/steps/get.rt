@@ -7,11 +7,12 @@ ghost use Rattle.nb_core.specs.declared.calls.Call.TheVariants as call;
 ghost use Rattle.nb_core.specs.declared.states.KeyState.TheVariants as key_is;
 ghost use Rattle.nb_table.specs.Chains.{IsOwn, seen_by};
 ghost use Rattle.nb_table.specs.Conditions.{IsReached};
+ghost use Rattle.nb_map.specs.Logs.{as_replied};
 ghost use Rattle.nb_map.specs.Calling.{HasMade};
 ghost use Rattle.nb_map.specs.Progress.{IsSeenAtHome};
 ghost use Rattle.nb_map.specs.Steps.{get_steps, look_steps, looked_below, pass_steps};
 ghost use Rattle.nb_map.specs.declared.steps.get.Glance.TheVariants as glance_is;
-ghost use Rattle.nb_map.specs.inside.Reading.{IsGlance, IsLook, as_replied, glanced_by, read_by};
+ghost use Rattle.nb_map.specs.inside.Reading.{IsGlance, IsLook, glanced_by, read_by};
 
 use crate::steps::search::{Sought, pass_slot, seek};
 use nb_core::{Call, Key, KeyState, Num, ValueState, encode_key, number_in_word};

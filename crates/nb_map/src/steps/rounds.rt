@@ -1,15 +1,15 @@
 //! Writes that try again for as long as other seats come first, on a chain of tables.
-ghost use Rattle.std.specs.Prelude.{IfErr, ◌+◌, ◌≡◌};
+ghost use Rattle.std.specs.Prelude.{IfErr, ◌+◌, ◌<◌, ◌≡◌};
 ghost use Rattle.nb_core.specs.History.{key_of_call};
 ghost use Rattle.nb_core.specs.Tables.{IsReady};
 ghost use Rattle.nb_core.specs.declared.calls.Call.TheVariants as call;
 ghost use Rattle.nb_table.specs.Chains.{IsOwn, seen_by};
 ghost use Rattle.nb_table.specs.Conditions.{IsReached};
+ghost use Rattle.nb_map.specs.Logs.{made_in};
 ghost use Rattle.nb_map.specs.Calling.{HasMade};
 ghost use Rattle.nb_map.specs.Progress.{IsShortAtHome, passed_since};
 ghost use Rattle.nb_map.specs.Refusals.{IsJustAdd};
 ghost use Rattle.nb_map.specs.Steps.{put_steps};
-ghost use Rattle.nb_map.specs.inside.Writing.{made_in};
 
 use crate::faults::{AddFault, PutFault};
 use crate::steps::at_home::{AtHome, write_home};
@@ -36,6 +36,7 @@ pub(crate) fn write_through<R: Wait>(
         + 1)) }
     ensures refused { IfErr result (IsJustAdd chain.now.shape (call.Write key want change)
         seat.new) }
+    ensures looked { seat.old.steps < seat.new.steps }
     ensures short { IsShortAtHome chain.now.shape (call.Write key want change) seat.old seat.new }
 {
     let call = Call::Write { key, want, change };

@@ -1,15 +1,16 @@
 //! Writing a key.
-ghost use Rattle.std.specs.Prelude.{IfErr, min, ◌*◌, ◌+◌, ◌≡◌, ◌≤◌};
+ghost use Rattle.std.specs.Prelude.{IfErr, min, ◌*◌, ◌+◌, ◌<◌, ◌≡◌, ◌≤◌};
 ghost use Rattle.nb_core.specs.History.{key_of_call};
 ghost use Rattle.nb_core.specs.Tables.{IsReady};
 ghost use Rattle.nb_core.specs.declared.calls.Call.TheVariants as call;
 ghost use Rattle.nb_table.specs.Chains.{IsOwn, seen_by};
 ghost use Rattle.nb_table.specs.Conditions.{IsReached};
+ghost use Rattle.nb_map.specs.Logs.{made_in};
 ghost use Rattle.nb_map.specs.Calling.{HasMade};
 ghost use Rattle.nb_map.specs.Progress.{IsShortAtHome, passed_since};
 ghost use Rattle.nb_map.specs.Refusals.{IsJust};
 ghost use Rattle.nb_map.specs.Steps.{get_steps, put_steps, search_steps, write_steps};
-ghost use Rattle.nb_map.specs.inside.Writing.{HasBelow, IsTarget, IsWritten, made_at, made_by, made_in};
+ghost use Rattle.nb_map.specs.inside.Writing.{HasBelow, IsTarget, IsWritten, made_at, made_by};
 
 use crate::faults::PutFault;
 use crate::steps::at_home::{AtHome, write_home};
@@ -66,6 +67,7 @@ pub fn put_if_match_in<P: Pause>(
         (passed_since (call.Write key want change) seat.old seat.new + 1))) }
     ensures refused { IfErr result (IsJust chain.now.shape (call.Write key want change)
         seat.old seat.new tries) }
+    ensures looked { seat.old.steps < seat.new.steps }
     ensures short { IsShortAtHome chain.now.shape (call.Write key want change) seat.old seat.new }
     ensures serves { P.serves pause.new chain.now }
 {

@@ -23,7 +23,11 @@ returns-in_err-reply c =
     (Refused c.in_err-reply.field-0.0))
     c.self.view_is c.seat.view_is
     (record {
-      answered = (logged {after = after} mine made, c.in_err-reply.ensures.refused);
+      answered = record {
+        unmade = logged {after = after} mine made;
+        just = c.in_err-reply.ensures.refused;
+        looked = c.in_err-reply.ensures.looked;
+      };
       wait_free = worked-uncounted {after = after} made refl;
       short = c.in_err-reply.ensures.short;
       own = uncounted-mine {after = after} mine made refl refl;

@@ -7,8 +7,8 @@ use Rattle.nb_core.specs.declared.calls.Call.{Call}
 use Rattle.nb_core.specs.declared.calls.Reply.{Reply}
 use Rattle.nb_table.specs.Chains.{Extended, SeenBy, seen_by}
 use Rattle.nb_table.specs.Events.{read, shown_by_key}
+use Rattle.nb_map.specs.Logs.{as_replied}
 use Rattle.nb_map.specs.Calling.{HasMade}
-use Rattle.nb_map.specs.inside.Reading.{as_replied}
 use Rattle.nb_map.specs.Progress.{IsAtHome}
 use Rattle.nb_map.specs.inside.Writing.{IsShortThere, IsTold, IsWritten, made_by}
 use Rattle.nb_map.specs.Steps.{exchange_steps}

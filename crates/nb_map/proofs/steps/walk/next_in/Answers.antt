@@ -1,8 +1,8 @@
 use Rattle.std.proofs.Common.{◌≡◌, ◌≢◌, ℕ, ◌+◌, ◌-◌, ◌*◌, Option, None, Some, refl, sym, subst, arith}
 use Rattle.nb_core.specs.declared.calls.Call.TheVariants as call
 use Rattle.nb_core.proofs.Theorems.{place_is}
+use Rattle.nb_map.specs.Logs.{as_replied}
 use Rattle.nb_map.specs.Calling.{HasMade}
-use Rattle.nb_map.specs.inside.Reading.{as_replied}
 use Rattle.nb_map.specs.Steps.{get_steps}
 use Rattle.nb_map.specs.inside.Walking.{HasGone, IsFirstOf}
 use Rattle.nb_map.specs.Steps.{visit_steps}
