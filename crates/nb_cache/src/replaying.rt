@@ -9,7 +9,7 @@ use crate::trace::{Action, read_request};
 use itoa::Buffer;
 use nb_core::{Key, MAX_SEATS, Num, OutOfMemory, Shape};
 use nb_lines::{Fault, Lines, key_of, number_of};
-use nb_long::{Found, Handle, LongFault};
+use nb_long::{Handle, LongFault, Shown};
 use std::alloc::Global;
 use std::sync::Wait;
 use std::thread;
@@ -208,7 +208,7 @@ fn read_page(
 }
 
 /// What the store shows under a number, if there is one.
-fn shown(cache: &Handle<Page>, number: Option<Num>) -> Result<Option<Found<'_, Page>>, Fault> {
+fn shown(cache: &Handle<Page>, number: Option<Num>) -> Result<Option<Shown<'_, Page>>, Fault> {
     let Some(number) = number else {
         return Ok(None);
     };

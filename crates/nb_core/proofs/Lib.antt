@@ -2,6 +2,7 @@ mod Checks
 mod Codings
 pub mod Computed
 mod Counting
+mod Decimals
 mod Entries
 mod Filled
 mod Following

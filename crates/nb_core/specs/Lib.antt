@@ -1,4 +1,5 @@
 pub mod Calls
+pub mod Digits
 pub mod History
 pub mod Laws
 pub mod Log

@@ -9,6 +9,7 @@
 
 mod calls;
 mod conversions;
+mod digits;
 mod events;
 pub mod laws;
 mod mixing;
@@ -19,6 +20,7 @@ mod shapes;
 mod states;
 
 pub use calls::{Call, Change, Reply, Want};
+pub use digits::{DigitsFault, read_number};
 pub use events::Event;
 pub use mixing::{mix, unmix};
 pub use numbers::{KEY_MAX, Key, Num, RangeFault, VALUE_MAX};

@@ -1,4 +1,3 @@
-mod Beginning
 mod Crossing
 mod EndedBox
 mod Gathering
@@ -8,7 +7,6 @@ mod HandleEmpty
 mod HandleLend
 mod HandleMove
 mod Lending
-mod Putting
+mod Promised
 mod SeatBox
-mod Walking
 mod Writing

@@ -1,18 +1,8 @@
--- What the exports tell of a handle.
-use Rattle.std.specs.Prelude.{◌≡◌, ◌≤◌, ℕ, ◌+◌, max, min, List, [], ◌∷◌, ◌++◌, Option, Some, None}
-use Rattle.nb_core.specs.Log.{reply_at}
-use Rattle.nb_core.specs.declared.calls.Call.{Call}
-use Rattle.nb_core.specs.declared.calls.Call.TheVariants as call
-use Rattle.nb_core.specs.declared.calls.Reply.{Reply}
-use Rattle.nb_map.specs.Logs.{HasLogged, HasReplied, HaveEmptyLogs}
-use Rattle.nb_map.specs.Progress.{IsSeenAtHome}
-use Rattle.nb_map.specs.Steps.{get_steps}
-use Rattle.nb_map.specs.Maps.{AreMine, HasWorked, IsMine, MapOf, SeatOf, new_seats}
-use Rattle.nb_map.specs.Refusals.{IsJust}
-use Rattle.nb_map.specs.Steps.{put_steps}
-use Rattle.nb_map.specs.Progress.{IsShortAtHome, passed_since}
-use Rattle.nb_map.specs.declared.faults.PutFault.{PutFault}
+-- How contracts see a handle, and the session that it stands for.
+use Rattle.std.specs.Prelude.{◌≡◌, ℕ, List, [], ◌∷◌, ◌++◌, Option, Some, None}
 use Rattle.nb_core.specs.Plans.{IsPlan, Plan}
+use Rattle.nb_map.specs.Logs.{HaveEmptyLogs}
+use Rattle.nb_map.specs.Maps.{AreMine, IsMine, MapOf, SeatOf, new_seats}
 use Rattle.nb_map.specs.Walks.{IsLater, IsUnderway, WalkOf}
 
 -- A session, which a handle stands for: the map that it is of, its seat, the seats that it has in
@@ -26,11 +16,6 @@ pub record SessionOf : Type 0 where
 -- the shape of its map
 abbrev pub plan_of : SessionOf → Plan
 plan_of session = session.map.chain.shape
-
--- the same with another seat
-abbrev pub with_seat : SessionOf → SeatOf → SessionOf
-with_seat session seat =
-    record { map = session.map; seat = seat; spare = session.spare; walk = session.walk }
 
 -- all seats that a handle has
 abbrev pub all_seats : SessionOf → List SeatOf
@@ -64,42 +49,6 @@ pub record KeepsRest (before after : SessionOf) : Type 0 where
   pub underway :
       (walk : WalkOf) (pairs : List (ℕ × ℕ)) → IsUnderway before.map before.seat walk pairs
       → IsUnderway after.map after.seat walk pairs
-
--- The seat has read this at a key, with its bound of steps: at most three where the key is at home.
-pub record HasGot (key : ℕ) (number : Option ℕ) (before after : SessionOf) : Type 0 where
-  pub replied : HasReplied (call.Get key) before.seat after.seat (reply_at (call.Get key) number)
-  pub worked :
-      HasWorked before.map (call.Get key) before.seat after.seat (get_steps (plan_of before))
-  pub three_steps :
-      IsSeenAtHome (plan_of before) before.seat.chain after.seat.chain key
-      → after.seat.chain.steps ≤ before.seat.chain.steps + 3
-  pub rest : KeepsRest before after
-
--- the most steps of a write, which has one try at least
-abbrev pub write_steps : Call → (tries : ℕ) → (before after : SessionOf) → ℕ
-write_steps c tries before after = put_steps (plan_of before)
-    (min (max tries 1) (passed_since c before.seat.chain after.seat.chain + 1))
-
--- The seat has made this write with this reply, in at most so many steps: few where it is alone
--- with its key, and the key is at home.
-pub record HasPut (c : Call) (tries : ℕ) (reply : Reply) (before after : SessionOf) : Type 0 where
-  pub replied : HasReplied c before.seat after.seat reply
-  pub worked :
-      HasWorked before.map c before.seat after.seat (write_steps c tries before after)
-  pub short : IsShortAtHome (plan_of before) c before.seat.chain after.seat.chain
-  pub rest : KeepsRest before after
-
--- The seat has made no call, and that this write was refused is just. It took no more steps than
--- one that is made.
-pub record HasRefused (c : Call) (tries : ℕ) (fault : PutFault) (before after : SessionOf) :
-    Type 0 where
-  pub logged : HasLogged before.seat after.seat []
-  pub just :
-      IsJust (plan_of before) c before.seat.chain after.seat.chain (max tries 1) fault
-  pub worked :
-      HasWorked before.map c before.seat after.seat (write_steps c tries before after)
-  pub short : IsShortAtHome (plan_of before) c before.seat.chain after.seat.chain
-  pub rest : KeepsRest before after
 
 -- a handle of a new map of this shape, which has all its seats; no call was made before
 pub record IsNew (p : Plan) (session : SessionOf) : Type 0 where

@@ -1,6 +1,6 @@
 pub mod Handles
+pub mod Promises
 pub mod Headers
-pub mod Looks
 pub mod Inside
 pub mod Owning
 pub mod Lending
@@ -9,5 +9,4 @@ pub mod Codes
 pub mod Shapes
 pub mod Closing
 pub mod Entries
-pub mod Walking
 pub mod Telling

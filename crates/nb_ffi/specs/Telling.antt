@@ -5,11 +5,12 @@ use Rattle.nb_core.specs.Plans.{Plan}
 use Rattle.nb_core.specs.declared.calls.Call.{Call}
 use Rattle.nb_core.specs.declared.calls.Reply.{Reply}
 use Rattle.nb_map.specs.Ending.{EndedOf, map_left}
+use Rattle.nb_map.specs.Promises.{Refused, Replied}
 use Rattle.nb_map.specs.declared.faults.PutFault.{PutFault}
 use Rattle.nb_ffi.specs.Closing.{HasAllSeats, IsEndOf}
 use Rattle.nb_ffi.specs.Codes.{fault_code, reply_in_c}
-use Rattle.nb_ffi.specs.Handles.{HasGot, HasPut, HasRefused, IsNew, IsPartOf, SessionOf, StaysOpen, all_seats}
-use Rattle.nb_ffi.specs.Looks.{HasLearned}
+use Rattle.nb_ffi.specs.Handles.{IsNew, IsPartOf, SessionOf, StaysOpen, all_seats}
+use Rattle.nb_ffi.specs.Promises.{HasGot, HasMet, HasNext, HasTriedToWrite}
 use Rattle.nb_ffi.specs.declared.codes.WriteReply.{WriteReply}
 use Rattle.nb_ffi.specs.declared.codes.TheConstants.{ABSENT, E_LOST, E_NOT_ALL_SEATS, E_NO_SEAT, OK, E_OUT_OF_MEMORY, PRESENT}
 use Rattle.nb_ffi.specs.declared.ended_map.EndedMap.{EndedMap}
@@ -32,9 +33,9 @@ abbrev pub IsWrite :
     → Type 0
 IsWrite (Ok call) tries code reply reply' before after =
     ((code ≡ OK) × ((made : Reply) × (reply' ≡ reply_in_c made)
-    × StaysOpen before after (HasPut call tries made)))
+    × StaysOpen before after (HasTriedToWrite call tries (Replied made))))
     ⊎ ((fault : PutFault) × (code ≡ fault_code fault) × (reply' ≡ reply)
-    × StaysOpen before after (HasRefused call tries fault))
+    × StaysOpen before after (HasTriedToWrite call tries (Refused fault)))
 IsWrite (Err refusal) tries code reply reply' before after =
     (code ≡ refusal) × (reply' ≡ reply) × (after ≡ before)
 
@@ -43,10 +44,18 @@ abbrev pub AreOfOneMap : Option SessionOf → Option SessionOf → Type 0
 AreOfOneMap a b =
     (one : SessionOf) (other : SessionOf) → a ≡ Some one → b ≡ Some other → one.map ≡ other.map
 
--- the other handle was open, and by one load the seat has learned all that its seat knew
-abbrev pub HasMet : (other : Option SessionOf) → (before after : SessionOf) → Type 0
-HasMet other before after =
-    (known : SessionOf) × (other ≡ Some known) × HasLearned known before after
+-- the other handle was open, and the seat has met its seat
+abbrev pub HasMetHandle : (other : Option SessionOf) → (before after : SessionOf) → Type 0
+HasMetHandle other before after =
+    (known : SessionOf) × (other ≡ Some known) × HasMet known before after
+
+-- A walk went on with this code: it shows the pair that is written, or it has ended, and nothing is
+-- written.
+abbrev pub IsNext :
+    (code : ℤ) → (key key' number number' : ℕ) → (before after : Option SessionOf) → Type 0
+IsNext code key key' number number' before after =
+    ((code ≡ PRESENT) × StaysOpen before after (HasNext (Some (key', number'))))
+    ⊎ ((code ≡ ABSENT) × (key' ≡ key) × (number' ≡ number) × StaysOpen before after (HasNext None))
 
 -- A map was opened with this code, or not: the handle has all seats of a new map of the shape; or
 -- it is as it was, and the code is the shape's, or there was no memory.

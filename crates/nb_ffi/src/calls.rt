@@ -1,8 +1,8 @@
 //! The calls of a handle.
-ghost use Rattle.std.specs.Prelude.{◌≡◌, IfErr, IfOk, max};
+ghost use Rattle.std.specs.Prelude.{◌≡◌};
 ghost use Rattle.nb_core.specs.declared.calls.Call.TheVariants as call;
-ghost use Rattle.nb_ffi.specs.Handles.{HasGot, HasPut, HasRefused};
-ghost use Rattle.nb_ffi.specs.Looks.{HasEstimated, HasFoundTop, HasLearned};
+ghost use Rattle.nb_map.specs.Promises.{replied_or_refused};
+ghost use Rattle.nb_ffi.specs.Promises.{HasEstimated, HasGot, HasMet, HasSeenTop, HasTriedToWrite};
 
 use crate::session::Session;
 use nb_core::{Change, Key, Num, Reply, Want};
@@ -26,10 +26,8 @@ impl Session {
         change: Change,
         tries: u32,
     ) -> Result<Reply, PutFault>
-        ensures made { IfOk result (λ reply. HasPut (call.Write key want change) tries reply
-            self.old self.new) }
-        ensures refused { IfErr result (λ fault. HasRefused (call.Write key want change) tries
-            fault self.old self.new) }
+        ensures { HasTriedToWrite (call.Write key want change) tries (replied_or_refused result)
+            self.old self.new }
     {
         self.map
             .put_if_match(&mut self.seat, key, want, change, tries.max(1))
@@ -44,7 +42,7 @@ impl Session {
 
     /// `Map::generation`.
     pub(crate) fn generation(&mut self) -> u32
-        ensures { HasFoundTop result self.old self.new }
+        ensures { HasSeenTop result self.old self.new }
     {
         self.map.generation(&mut self.seat)
     }
@@ -52,8 +50,8 @@ impl Session {
     /// `Map::meet`.
     pub(crate) fn meet(&mut self, other: &mut Session)
         requires one { self.old.map ≡ other.old.map }
-        ensures here { HasLearned other.old self.old self.new }
-        ensures there { HasLearned self.old other.old other.new }
+        ensures here { HasMet other.old self.old self.new }
+        ensures there { HasMet self.old other.old other.new }
     {
         self.map.meet(&mut self.seat, &mut other.seat);
     }

@@ -1,6 +1,6 @@
 //! Walks by a handle.
 ghost use Rattle.std.specs.Prelude.{◌≡◌, None, Some};
-ghost use Rattle.nb_ffi.specs.Walking.{HasBegun, HasNext};
+ghost use Rattle.nb_ffi.specs.Promises.{HasBegunWalk, HasNext};
 
 use crate::session::Session;
 use nb_core::{Key, Num};
@@ -8,7 +8,7 @@ use nb_core::{Key, Num};
 impl Session {
     /// `Map::walk`. A walk that was underway is given up.
     pub(crate) fn begin_walk(&mut self)
-        ensures { HasBegun self.old self.new }
+        ensures { HasBegunWalk self.old self.new }
     {
         self.walk = Some(self.map.walk(&mut self.seat));
     }

@@ -1,9 +1,10 @@
--- The numbers that lines write.
-use Rattle.std.specs.Prelude.{◌≡◌, ◌<◌, ℕ, List, length, true}
-use Rattle.std.specs.Str.{all_ascii_digits}
-use Rattle.std.specs.Str.Parse.{digits_value}
+-- What is wrong with lines.
+use Rattle.nb_core.specs.declared.digits.DigitsFault.{DigitsFault}
+use Rattle.nb_core.specs.declared.digits.DigitsFault.TheVariants as digits
+use Rattle.nb_lines.specs.declared.faults.Cause.{Cause}
+use Rattle.nb_lines.specs.declared.faults.Cause.TheVariants as cause
 
--- the line writes this number in base ten: one digit or more, and nothing else
-abbrev pub Writes : List ℕ → ℕ → Type 0
-Writes line number =
-    (0 < length line) × (all_ascii_digits line ≡ true) × (digits_value 10 line ≡ number)
+-- what is wrong with a line that writes no number, or one of too many bits
+abbrev pub cause_of : DigitsFault → Cause
+cause_of digits.NotANumber = cause.NotANumber
+cause_of digits.TooLarge = cause.TooLarge

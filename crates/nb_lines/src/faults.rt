@@ -1,7 +1,8 @@
 //! Why a program ends early, and what is said of it.
+ghost use Rattle.std.specs.Prelude.{◌≡◌};
 
 use crate::blocks::Place;
-use nb_core::{OutOfMemory, RangeFault};
+use nb_core::{DigitsFault, OutOfMemory, RangeFault};
 use std::alloc::AllocFailed;
 use std::io;
 use std::io::ErrorKind;
@@ -20,7 +21,24 @@ pub enum Cause {
     NoRequest,
 }
 
+impl From<DigitsFault> for Cause {
+    ghost use Rattle.nb_lines.specs.Lines.{cause_of};
+
+    ghost from_gives = { λ fault cause. cause ≡ cause_of fault };
+
+    fn from(fault: DigitsFault) -> Cause {
+        match fault {
+            DigitsFault::NotANumber => Cause::NotANumber,
+            DigitsFault::TooLarge => Cause::TooLarge,
+        }
+    }
+}
+
 impl From<RangeFault> for Cause {
+    ghost use Rattle.nb_lines.specs.declared.faults.Cause.TheVariants.{TooLarge};
+
+    ghost from_gives = { λ _ cause. cause ≡ TooLarge };
+
     fn from(_fault: RangeFault) -> Cause {
         Cause::TooLarge
     }

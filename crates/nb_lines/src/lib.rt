@@ -12,7 +12,8 @@ pub use blocks::{BLOCK, Block, Input, Place};
 pub use command_line::{end_of, fault_of_words, option, words};
 pub use faults::{Cause, Fault, Stop};
 pub use keys::{key_of, number_of, read_key};
-pub use lines::{Lines, read_number};
+pub use lines::Lines;
+pub use nb_core::read_number;
 
 #[cfg(test)]
 mod tests;

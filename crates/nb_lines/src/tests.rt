@@ -1,6 +1,8 @@
 //! Lines and their numbers, keys, and blocks of an input.
 
-use crate::{BLOCK, Block, Cause, Fault, Input, Lines, Stop, key_of, number_of, read_number};
+use crate::{
+    BLOCK, Block, Cause, Fault, Input, Lines, Stop, key_of, number_of, read_key, read_number,
+};
 use nb_core::{KEY_MAX, Key, OutOfMemory};
 use std::alloc::Global;
 use std::io;
@@ -22,13 +24,23 @@ fn lines_of_a_text(rt: HostRuntime) {
 }
 
 #[test]
-fn numbers_of_lines(rt: HostRuntime) {
-    assert_eq!(rt; read_number(b"0"), Ok(0));
-    assert_eq!(rt; read_number(b"007"), Ok(7));
-    assert_eq!(rt; read_number(b"18446744073709551615"), Ok(u64::MAX));
-    assert_eq!(rt; read_number(b"18446744073709551616"), Err(Cause::TooLarge));
-    for line in [b"".as_slice(), b"-1", b"+1", b" 1", b"1 ", b"1\r", b"x"] {
-        assert_eq!(rt; read_number(line), Err(Cause::NotANumber), "{line:?}");
+fn keys_of_lines(rt: HostRuntime) {
+    assert_eq!(rt; read_key(b"007").map(number_of), Ok(7));
+    assert_eq!(rt;
+        read_key(b"18446744073709551613").map(number_of),
+        Ok(KEY_MAX)
+    );
+    for line in [b"18446744073709551614".as_slice(), b"18446744073709551616"] {
+        assert_eq!(rt; read_key(line), Err(Cause::TooLarge), "{line:?}");
+    }
+    for line in [
+        b"".as_slice(),
+        b"-1",
+        b" 1",
+        b"1\r",
+        b"99999999999999999999999x",
+    ] {
+        assert_eq!(rt; read_key(line), Err(Cause::NotANumber), "{line:?}");
     }
 }
 

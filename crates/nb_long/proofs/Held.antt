@@ -1,13 +1,14 @@
 -- Handles of one typed map.
-use Rattle.std.proofs.Common.{◌≡◌, ◌∙◌, ℕ, List, [], ◌∷◌, ◌++◌, length, ap, refl}
+use Rattle.std.proofs.Common.{◌≡◌, ◌∙◌, ℕ, All, List, [], ◌∷◌, ◌++◌, length, ap, refl}
 use Rattle.std.proofs.lemmas.List.{length-map}
 use Rattle.std.proofs.lemmas.List.Elements.{All-append, All-cons, All-map, All-nil, All-same}
 use Rattle.std.specs.List.{range_with_len}
 use Rattle.std.proofs.lemmas.List.FromFn.{length-map-range_with_len}
+use Rattle.nb_core.specs.Plans.{Plan}
 use Rattle.nb_long.specs.Handles.{AreOfOneMap, HandleOf, handle_on, new_handles, seats_of}
 use Rattle.nb_long.specs.Typed.{LongMapOf}
 use Rattle.nb_map.specs.Logs.{HaveEmptyLogs, log}
-use Rattle.nb_map.specs.Maps.{AreMine, IsMine, MapOf, SeatOf, new_seat, new_seats}
+use Rattle.nb_map.specs.Maps.{AreMine, IsMadeFor, IsMine, MapOf, SeatOf, new_seat, new_seats}
 
 -- as many as were asked for
 pub length-new : (m : LongMapOf) (count : ℕ) → length (new_handles m count) ≡ count
@@ -25,6 +26,15 @@ of-one m count handles are = (
       (All-map (λ handle. handle.map ≡ m) (handle_on m) (new_seats m.map count)
       (λ k d lt. refl)),
 )
+
+-- each is of a map of the shape
+pub made-for :
+    (m : LongMapOf) (shape : Plan) (handles : List HandleOf) → IsMadeFor m.map shape
+    → handles ≡ new_handles m shape.seats → All (λ handle. IsMadeFor handle.map.map shape) handles
+made-for m shape handles made are =
+    All-same (λ handle. IsMadeFor handle.map.map shape) handles (new_handles m shape.seats) are
+    (All-map (λ handle. IsMadeFor handle.map.map shape) (handle_on m) (new_seats m.map shape.seats)
+    (λ k d lt. made))
 
 -- their seats know of no call
 pub handle-logs :

@@ -1,10 +1,11 @@
 -- The rounds of a call that compares: what their steps add up to, and what they count.
-use Rattle.std.proofs.Common.{◌≡◌, ◌∙◌, ◌+◌, ◌*◌, ◌≤◌, ◌<◌, ℕ, suc, zero, true, false, min, pos, List, [], ◌∷◌, ◌++◌, length, Some, ap, ap₂, refl, subst, subst₂, sym, inl, inr, arith}
+use Rattle.std.proofs.Common.{◌≡◌, ◌∙◌, ◌+◌, ◌*◌, ◌≤◌, ◌<◌, ℕ, suc, zero, true, false, min, pos, List, [], ◌∷◌, ◌++◌, length, Ok, Some, ap, ap₂, refl, subst, subst₂, sym, inl, inr, arith}
 use Rattle.std.specs.List.{All}
 use Rattle.std.proofs.Math.IntN.{◌+ℤ◌}
 use Rattle.std.proofs.Math.Nat.{add-mul, mul-le-mul_right}
 use Rattle.std.proofs.lemmas.Int.{ints}
 use Rattle.std.proofs.lemmas.List.Elements.{All-append, All-cons, All-nil, All-weaker}
+use Rattle.boxcar.specs.Table.{Where}
 use Rattle.nb_core.proofs.Theorems.{calls_append, passed_over_adds}
 use Rattle.nb_core.specs.Laws.{Lasts}
 use Rattle.nb_core.specs.Log.{calls_of, reply_at}
@@ -24,11 +25,13 @@ use Rattle.nb_table.specs.Chains.{ChainOf, Grown, IsOwn, SeenBy}
 use Rattle.nb_map.proofs.Theorems.{logs_add_up, replies_fit}
 use Rattle.nb_map.specs.Calling.{HasCountedTurned, HasStepped, MayMake}
 use Rattle.nb_map.specs.Logs.{HasLogged, HasReplied, log}
-use Rattle.nb_map.specs.Steps.{get_steps}
 use Rattle.nb_map.specs.Maps.{HasWorked, IsMine, MapOf, SeatOf, accounted}
-use Rattle.nb_map.specs.Steps.{put_steps}
 use Rattle.nb_map.specs.Progress.{passed_since}
+use Rattle.nb_map.specs.Promises.{HasGot, HasTriedToWrite, Outcome}
+use Rattle.nb_map.specs.Steps.{put_steps}
+use Rattle.nb_map.specs.declared.faults.PutFault.{PutFault}
 use Rattle.nb_long.proofs.Passed.{others-won}
+use Rattle.nb_long.specs.Promises.{HasGotValue}
 use Rattle.nb_long.specs.Typed.{HasIdled, IsIdle, IsLockFreeIf, LongMapOf, passed_on, round_steps}
 
 -- ---- steps as of a read
@@ -232,44 +235,31 @@ one-round passed most =
 -- ---- one round
 
 -- A read, and a write with one try on the number that it found.
-pub record HasRound (m : LongMapOf) (key n : ℕ) (change : Change) (before then' after : SeatOf) :
-    Type 0 where
+pub record HasRound (m : LongMapOf) (key n : ℕ) (change : Change) (before then' after : SeatOf)
+    (outcome : Outcome PutFault) : Type 0 where
   pub own : IsMine m.map before
-  pub read_own : IsMine m.map then'
-  pub read : HasReplied (call.Get key) before then' (reply_at (call.Get key) (Some n))
-  pub read_worked : HasWorked m.map (call.Get key) before then' (get_steps m.map.chain.shape)
-  pub written_own : IsMine m.map after
-  pub write_worked : HasWorked m.map (call.Write key (want.Equal n) change) then' after
-      (put_steps m.map.chain.shape
-      (min 1 (passed_since (call.Write key (want.Equal n) change) then'.chain after.chain + 1)))
+  pub got : HasGot m.map key before then' (Some n)
+  pub wrote : HasTriedToWrite m.map (call.Write key (want.Equal n) change) then' after 1 outcome
 
--- the write is of this map
+-- the read has shown this, and the write is of this map
 pub round-of :
-    {m m' : LongMapOf} {key n : ℕ} {change : Change} {before then' after : SeatOf} → m' ≡ m
-    → IsMine m.map before → IsMine m.map then'
-    → HasReplied (call.Get key) before then' (reply_at (call.Get key) (Some n))
-    → HasWorked m.map (call.Get key) before then' (get_steps m.map.chain.shape)
-    → IsMine m'.map after
-    → HasWorked m'.map (call.Write key (want.Equal n) change) then' after
-    (put_steps m'.map.chain.shape
-    (min 1 (passed_since (call.Write key (want.Equal n) change) then'.chain after.chain + 1)))
-    → HasRound m key n change before then' after
-round-of {key = key} {n} {change} {then' = then'} {after} same own read_own read read_worked
-    written_own write_worked = record {
+    {V : Type 0} {m m' : LongMapOf} {key n : ℕ} {change : Change} {before then' after : SeatOf}
+    {shown : Where V} {outcome : Outcome PutFault}
+    → m' ≡ m → IsMine m.map before → HasGotValue m key before then' (Ok (Some shown))
+    → n ≡ shown.index
+    → HasTriedToWrite m'.map (call.Write key (want.Equal n) change) then' after 1 outcome
+    → HasRound m key n change before then' after outcome
+round-of {m = m} {key = key} {n} {change} {before} {then'} {after} {outcome = outcome} same own got is
+    wrote = record {
       own = own;
-      read_own = read_own;
-      read = read;
-      read_worked = read_worked;
-      written_own = subst (λ (m : LongMapOf). IsMine m.map after) same written_own;
-      write_worked = subst (λ (m : LongMapOf). HasWorked m.map
-          (call.Write key (want.Equal n) change) then' after (put_steps m.map.chain.shape
-          (min 1 (passed_since (call.Write key (want.Equal n) change) then'.chain after.chain
-          + 1)))) same write_worked;
+      got = subst (HasGot m.map key before then') (got.shown.1 ∙ ap Some (sym is)) got.got;
+      wrote = subst (λ (m : LongMapOf). HasTriedToWrite m.map
+          (call.Write key (want.Equal n) change) then' after 1 outcome) same wrote;
     }
 
 module _
     {m : LongMapOf} {key n : ℕ} {change : Change} {before then' after : SeatOf}
-    (round : HasRound m key n change before then' after)
+    {outcome : Outcome PutFault} (round : HasRound m key n change before then' after outcome)
   where
     abbrev p : Plan
     p = m.map.chain.shape
@@ -283,21 +273,21 @@ module _
     write-steps : HasStepped p (call.Get key) then'.chain after.chain (put_steps p 1)
     write-steps = subst (λ t. HasStepped p (call.Get key) then'.chain after.chain (put_steps p t))
         (one-try (passed_since write then'.chain after.chain))
-        (stepped-as-read round.write_worked.steps)
+        (stepped-as-read round.wrote.wait_free.steps)
 
     all-steps : HasStepped p (call.Get key) before.chain after.chain (round_steps p)
-    all-steps = stepped-then m.map.chain round.own.chain round.read_worked.steps write-steps
+    all-steps = stepped-then m.map.chain round.own.chain round.got.worked.steps write-steps
 
     read-count : then'.count ≡ before.count
-    read-count = uncounted round.own round.read_own round.read refl round.read_worked
+    read-count = uncounted round.own round.got.own round.got.replied refl round.got.worked
 
     -- it is lock-free
     pub round-free : IsLockFreeIf m key before after
     round-free = record {
       steps = stepped-within (round_steps p) ((passed_on key before after + 1) * round_steps p)
           (one-round (passed_on key before after) (round_steps p)) all-steps;
-      net = round.write_worked.net;
-      count = round.write_worked.count ∙ ap (accounted round.write_worked.net) read-count;
+      net = round.wrote.wait_free.net;
+      count = round.wrote.wait_free.count ∙ ap (accounted round.wrote.wait_free.net) read-count;
     }
 
     -- it has changed nothing, and another seat has won an exchange on the key
@@ -322,12 +312,12 @@ module _
         → HasIdled m key before after
     idles reply replied missed =
         let asked : Call × Reply = (call.Get key, reply_at (call.Get key) (Some n)) in
-        let both = logs_add_up.more round.read replied in
+        let both = logs_add_up.more round.got.replied replied in
         idled ((write, reply) ∷ asked ∷ [])
         (All-cons (IsIdle key) (write, reply) (asked ∷ []) (refl, missed)
         (All-cons (IsIdle key) asked [] refl (All-nil (IsIdle key)))) both
-        (uncounted round.read_own round.written_own replied (none reply missed)
-        round.write_worked)
+        (uncounted round.got.own round.wrote.own replied (none reply missed)
+        round.wrote.wait_free)
         (others-won round.own.chain.plan all-steps.1.grown both
         (replies_fit then' after write reply replied) missed)
       where
@@ -339,12 +329,12 @@ module _
         → HasIdled m key before after
     gives-up refused won =
         let asked : Call × Reply = (call.Get key, reply_at (call.Get key) (Some n)) in
-        let sum = passed-sum key before then' after round.read_worked.steps.1.grown
+        let sum = passed-sum key before then' after round.got.worked.steps.1.grown
         write-steps.1.grown in
         let here : 1 ≤ passed_on key then' after = won in
         idled (asked ∷ []) (All-cons (IsIdle key) asked [] refl (All-nil (IsIdle key)))
-        (logs_add_up.more round.read refused)
-        (uncounted round.read_own round.written_own refused refl round.write_worked)
+        (logs_add_up.more round.got.replied refused)
+        (uncounted round.got.own round.wrote.own refused refl round.wrote.wait_free)
         (omega (arith, sum, here))
 
 -- ---- rounds one after another

@@ -1,3 +1,4 @@
 pub mod Stores
 pub mod Typed
+pub mod Promises
 pub mod Handles

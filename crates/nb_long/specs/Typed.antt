@@ -1,32 +1,26 @@
--- How contracts see a typed map, and what its calls do: each is calls of the map of numbers, in its
+-- How contracts see a typed map, and of what its calls are made: calls of the map of numbers, in its
 -- log, with values that the store holds under these numbers.
 use Rattle.std.specs.Prelude.{◌≡◌, ℕ, ◌+◌, ◌*◌, Bool, true, false, List, ◌∷◌, Option, Some, None, option_map, Result, Ok, Err, All}
 use Rattle.boxcar.specs.Table.{Shelves, Shows, Where}
-use Rattle.nb_core.specs.declared.calls.Call.{Call}
-use Rattle.nb_core.specs.declared.calls.Call.TheVariants as call
-use Rattle.nb_core.specs.declared.calls.Change.{Change}
-use Rattle.nb_core.specs.declared.calls.Change.TheVariants as change
-use Rattle.nb_core.specs.declared.calls.Want.{Want}
-use Rattle.nb_core.specs.declared.calls.Want.TheVariants as want
 use Rattle.nb_core.specs.Log.{reply_at}
 use Rattle.nb_core.specs.Plans.{Plan}
+use Rattle.nb_core.specs.declared.calls.Call.TheVariants as call
+use Rattle.nb_core.specs.declared.calls.Call.{Call}
+use Rattle.nb_core.specs.declared.calls.Change.TheVariants as change
+use Rattle.nb_core.specs.declared.calls.Change.{Change}
 use Rattle.nb_core.specs.declared.calls.Reply.{Reply}
+use Rattle.nb_core.specs.declared.calls.Want.TheVariants as want
+use Rattle.nb_core.specs.declared.calls.Want.{Want}
 use Rattle.nb_map.specs.Calling.{HasStepped}
-use Rattle.nb_map.specs.Logs.{HasLogged, HasReplied}
-use Rattle.nb_map.specs.Steps.{get_steps}
+use Rattle.nb_map.specs.Logs.{HasLogged}
 use Rattle.nb_map.specs.Maps.{HasWorked, MapOf, SeatOf}
-use Rattle.nb_map.specs.Refusals.{HasRefused}
-use Rattle.nb_map.specs.Progress.{IsLockFree}
-use Rattle.nb_map.specs.Steps.{put_steps}
 use Rattle.nb_map.specs.Progress.{passed_since}
-use Rattle.nb_map.specs.declared.faults.AddFault.TheVariants as add_fault
-use Rattle.nb_long.specs.Stores.{GivesBack, HasStored}
-use Rattle.nb_long.specs.declared.map.LongFault.{LongFault}
+use Rattle.nb_map.specs.Steps.{get_steps, put_steps}
 use Rattle.nb_long.specs.declared.map.LongFault.TheVariants as fault
-use Rattle.nb_long.specs.declared.map.Stored.{Stored}
+use Rattle.nb_long.specs.declared.map.LongFault.{LongFault}
 use Rattle.nb_long.specs.declared.map.Unshown.{Unshown}
-use Rattle.nb_long.specs.declared.store.StoreFault.{StoreFault}
 use Rattle.nb_long.specs.declared.store.StoreFault.TheVariants as store_fault
+use Rattle.nb_long.specs.declared.store.StoreFault.{StoreFault}
 
 -- a typed map: the map of numbers, and the store
 pub record LongMapOf : Type 0 where
@@ -44,40 +38,16 @@ IsShown store number (Err unshown) = (n : ℕ) × (number ≡ Some n)
 
 -- ---- writes
 
--- the map's call that puts the number of this token
-abbrev pub put_of : {V : Type 0} → (key : ℕ) → Want → Where V → Call
-put_of key want token = call.Write key want (change.Put token.index)
-
--- The value is stored, and the seat has made the one call that puts its number where the condition
--- holds. The answers are that call's; it compares no values.
-pub record HasWritten {V : Type 0} (m : LongMapOf) (key : ℕ) (want : Want) (value : V)
-    (before after : SeatOf) (stored : Stored V) : Type 0 where
-  pub held : HasStored m.store value stored.receipt
-  pub replied : HasReplied (put_of key want stored.receipt) before after
-      (record { before = stored.before; matched = stored.done })
-  pub lock_free : IsLockFree m.map (put_of key want stored.receipt) before after
-  pub uncompared : stored.compared ≡ None
+-- the map's call that puts the number of this token where the condition holds
+abbrev pub put_where : {V : Type 0} → (key : ℕ) → Want → Where V → Call
+put_where key want token = call.Write key want (change.Put token.index)
 
 -- a fault of the store, as one of the map
 abbrev pub as_fault : {V : Type 0} → StoreFault V → LongFault V
 as_fault (store_fault.OutOfMemory back) = fault.OutOfMemory back
 as_fault (store_fault.ValueRange placed) = fault.ValueRange placed
 
--- What is given back where a value isn't written: the value itself, or a token by which the store
--- gives it. Only where it was stored was the map called, and its call was refused.
-abbrev pub IsWriteRefused :
-    {V : Type 0} → LongMapOf → (key : ℕ) → Want → V → (before after : SeatOf) → LongFault V → Type 0
-IsWriteRefused m key want value before after (fault.OutOfMemory back) =
-    GivesBack m.store value (store_fault.OutOfMemory back) × (after ≡ before)
-IsWriteRefused m key want value before after (fault.ValueRange placed) =
-    GivesBack m.store value (store_fault.ValueRange placed) × (after ≡ before)
-IsWriteRefused m key want value before after (fault.Full receipt) =
-    HasStored m.store value receipt × HasRefused m.map (put_of key want receipt)
-    before after add_fault.Full
-    × IsLockFree m.map (put_of key want receipt) before after
-IsWriteRefused m key want value before after (fault.Unshown receipt) = ⊥
-
--- ---- writes where an equal value stands
+-- ---- writes where the key has an equal value
 
 -- a call of the key that has changed nothing: a read, or a write whose condition didn't hold
 abbrev pub IsIdle : (key : ℕ) → Call × Reply → Type 0
@@ -130,13 +100,13 @@ last_call key n change false = read_of key (Some n)
 
 -- What was found at the key at last, as a token of the store, and whether the change was done: just
 -- where the token's value is equal to the given one. Where nothing was found, nothing is done.
-abbrev pub HasChangedIf :
+abbrev pub HasCompared :
     {V : Type 0} → (V → V → Bool) → LongMapOf → (key : ℕ) → V → Change → (before after : SeatOf)
     → Option (Where V) → Bool → Type 0
-HasChangedIf eq m key value change before after (Some token) done =
+HasCompared eq m key value change before after (Some token) done =
     Shows m.store token × (eq token.value value ≡ done)
     × HasMadeLast key (last_call key token.index change done) before after
-HasChangedIf eq m key value change before after None done =
+HasCompared eq m key value change before after None done =
     (done ≡ false) × HasMadeLast key (read_of key None) before after
 
 -- the number of a token, if there is one
@@ -147,15 +117,3 @@ number_of token = option_map (λ (token : Where _). token.index) token
 abbrev pub IsUnshown : (key : ℕ) → (before after : SeatOf) → Type 0
 IsUnshown key before after =
     (n : ℕ) × HasMadeLast key (read_of key (Some n)) before after
-
--- What is given back where a value isn't written in place of an equal one. There is always a slot
--- for it.
-abbrev pub IsRefusedIf :
-    {V : Type 0} → LongMapOf → (key : ℕ) → V → (before after : SeatOf) → LongFault V → Type 0
-IsRefusedIf m key value before after (fault.OutOfMemory back) =
-    GivesBack m.store value (store_fault.OutOfMemory back) × (after ≡ before)
-IsRefusedIf m key value before after (fault.ValueRange placed) =
-    GivesBack m.store value (store_fault.ValueRange placed) × (after ≡ before)
-IsRefusedIf m key value before after (fault.Full receipt) = ⊥
-IsRefusedIf m key value before after (fault.Unshown receipt) =
-    HasStored m.store value receipt × IsUnshown key before after

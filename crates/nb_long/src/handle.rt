@@ -1,54 +1,20 @@
 //! Handles: the ways of threads to a typed map that they share.
-ghost use Rattle.std.specs.Prelude.{
-  ◌≡◌,
-  ◌↔◌,
-  ◌+◌,
-  ◌<◌,
-  ◌≤◌,
-  ◌∷◌,
-  ◌++◌,
-  ℕ,
-  [],
-  All,
-  IfErr,
-  IfOk,
-  IfSome,
-  Option,
-  false,
-  is_ok,
-  length,
-  true,
-  vec_capacity,
-};
 ghost use Rattle.std.specs.Arc.{arc_value};
+ghost use Rattle.std.specs.Prelude.{All, IfErr, IfOk, IfSome, Option, [], false, is_ok, length, true, vec_capacity, ◌++◌, ◌+◌, ◌<◌, ◌↔◌, ◌∷◌, ◌≡◌};
 ghost use Rattle.boxcar.specs.Table.{Shows, Where};
-ghost use Rattle.nb_core.specs.Log.{IsBeginning, reply_at};
-ghost use Rattle.nb_core.specs.declared.calls.Call.TheVariants as call;
 ghost use Rattle.nb_core.specs.declared.calls.Change.TheVariants as change;
 ghost use Rattle.nb_core.specs.declared.calls.Want.TheVariants as want;
-ghost use Rattle.nb_table.specs.Chains.{Extended};
 ghost use Rattle.nb_map.specs.Ending.{EndedWith, HasTablesLeft};
-ghost use Rattle.nb_map.specs.Logs.{HasFound, HasLogged, HasReplied, HaveEmptyLogs, log};
-ghost use Rattle.nb_map.specs.Progress.{IsSeenAtHome};
-ghost use Rattle.nb_map.specs.Steps.{get_steps};
-ghost use Rattle.nb_map.specs.Maps.{AreMine, HasWorked, IsMine, MapOf};
-ghost use Rattle.nb_map.specs.Progress.{IsLockFree};
-ghost use Rattle.nb_map.specs.Progress.{IsShortAtHome};
+ghost use Rattle.nb_map.specs.Logs.{HaveEmptyLogs};
+ghost use Rattle.nb_map.specs.Maps.{AreMine, IsMadeFor, IsMine};
+ghost use Rattle.nb_map.specs.NamedCalls.{remove_of};
+ghost use Rattle.nb_map.specs.Promises.{Found, HasGot, HasMet, HasWritten};
 ghost use Rattle.nb_long.specs.Handles.{AreOfOneMap, IsSameMap, new_handles, seats_of};
-ghost use Rattle.nb_long.specs.Stores.{HasStored};
-ghost use Rattle.nb_long.specs.Typed.{
-  HasChangedIf,
-  HasWritten,
-  IsLockFreeIf,
-  IsRefusedIf,
-  IsUnshown,
-  IsWriteRefused,
-  LongMapOf,
-  number_of,
-};
+ghost use Rattle.nb_long.specs.Promises.{HasChangedIf, HasPutValue, HasReplacedIf, with_token};
+ghost use Rattle.nb_long.specs.Typed.{LongMapOf};
 
 use crate::map::{Compared, LongFault, LongMap, Stored, Unshown};
-use crate::store::{Found, Store};
+use crate::store::{Shown, Store};
 use nb_core::{Key, MAX_SEATS, Num, OutOfMemory, Shape};
 use nb_map::{Ended, Seat};
 use std::alloc::Global;
@@ -81,8 +47,10 @@ impl<V: Drop> Handle<V> {
     pub fn open(alloc: Global, shape: Shape) -> Result<Vec<Handle<V>>, OutOfMemory>
         ensures new { IfOk result (λ handles. (m : LongMapOf) × (m.map.chain.shape ≡ shape)
             × (handles.items ≡ new_handles m shape.seats)) }
-        ensures one { IfOk result (λ handles. AreOfOneMap handles.items) }
+        ensures made { IfOk result (λ handles. All (λ handle. IsMadeFor handle.map.map shape)
+            handles.items) }
         ensures empty { IfOk result (λ handles. HaveEmptyLogs (seats_of handles.items)) }
+        ensures one { IfOk result (λ handles. AreOfOneMap handles.items) }
     {
         let mut handles = Vec::with_capacity(alloc, shape.seats())?;
         let (map, seats) = LongMap::new(alloc, shape)?;
@@ -99,7 +67,8 @@ impl<V: Drop> Handle<V> {
         Ok(handles)
     }
 
-    /// Reminds a proof that the handle's seat is the map's. It does nothing.
+    /// What every handle is: its seat is a seat of its map. Nothing runs. A proof over several calls
+    /// of a handle sets out from it.
     pub fn known(&self)
         ensures { IsMine self.now.map.map self.now.seat }
     {
@@ -109,32 +78,24 @@ impl<V: Drop> Handle<V> {
     /// The number of the value that the map has at a key, which `show` reads. It is `LongMap::get`
     /// in two calls: what is shown is borrowed from the handle, and a read changes the handle.
     pub fn number_at(&mut self, key: Key) -> Option<Num>
-        ensures replied { HasReplied (call.Get key) self.old.seat self.new.seat
-            (reply_at (call.Get key) result) }
-        ensures worked { HasWorked self.old.map.map (call.Get key) self.old.seat self.new.seat
-            (get_steps self.old.map.map.chain.shape) }
-        ensures three_steps { IsSeenAtHome self.old.map.map.chain.shape self.old.seat.chain
-            self.new.seat.chain key
-            → self.new.seat.chain.steps ≤ self.old.seat.chain.steps + 3 }
+        ensures got { HasGot self.old.map.map key self.old.seat self.new.seat result }
         ensures map { IsSameMap self.old self.new }
     {
         self.map.number_at(&mut self.seat, key)
     }
 
     /// What the store has under a number, if it shows anything: `Store::show`.
-    pub fn show(&self, number: Num) -> Option<Found<'_, V>>
-        ensures { IfSome result (λ found. Shows self.now.map.store found
-            × (found.index ≡ number)) }
+    pub fn show(&self, number: Num) -> Option<Shown<'_, V>>
+        ensures { IfSome result (λ shown. Shows self.now.map.store shown
+            × (shown.index ≡ number)) }
     {
         self.map.store().show(number)
     }
 
     /// Stores a value and puts its number at a key: `LongMap::put`.
     pub fn put<R: Wait>(&mut self, rt: &R, key: Key, value: V) -> Result<Stored<V>, LongFault<V>>
-        ensures written { IfOk result (HasWritten self.old.map key want.Any value
-            self.old.seat self.new.seat) }
-        ensures refused { IfErr result (IsWriteRefused self.old.map key want.Any value
-            self.old.seat self.new.seat) }
+        ensures wrote { HasPutValue self.old.map key want.Any value self.old.seat self.new.seat
+            result }
         ensures map { IsSameMap self.old self.new }
     {
         self.map.put(rt, &mut self.seat, key, value)
@@ -147,10 +108,8 @@ impl<V: Drop> Handle<V> {
         key: Key,
         value: V,
     ) -> Result<Stored<V>, LongFault<V>>
-        ensures written { IfOk result (HasWritten self.old.map key want.Absent value
-            self.old.seat self.new.seat) }
-        ensures refused { IfErr result (IsWriteRefused self.old.map key want.Absent value
-            self.old.seat self.new.seat) }
+        ensures wrote { HasPutValue self.old.map key want.Absent value self.old.seat self.new.seat
+            result }
         ensures map { IsSameMap self.old self.new }
     {
         self.map.put_if_absent(rt, &mut self.seat, key, value)
@@ -163,10 +122,8 @@ impl<V: Drop> Handle<V> {
         key: Key,
         value: V,
     ) -> Result<Stored<V>, LongFault<V>>
-        ensures written { IfOk result (HasWritten self.old.map key want.Present value
-            self.old.seat self.new.seat) }
-        ensures refused { IfErr result (IsWriteRefused self.old.map key want.Present value
-            self.old.seat self.new.seat) }
+        ensures wrote { HasPutValue self.old.map key want.Present value self.old.seat self.new.seat
+            result }
         ensures map { IsSameMap self.old self.new }
     {
         self.map.replace(rt, &mut self.seat, key, value)
@@ -182,14 +139,8 @@ impl<V: Drop> Handle<V> {
     ) -> Result<Stored<V>, LongFault<V>>
     where
         V: PartialEq,
-        ensures stored { IfOk result (λ stored. HasStored self.old.map.store new stored.receipt) }
-        ensures changed { IfOk result (λ stored. HasChangedIf V.eq self.old.map key old.now
-            (change.Put stored.receipt.index) self.old.seat self.new.seat
-            stored.compared stored.done) }
-        ensures before { IfOk result (λ stored. stored.before ≡ number_of stored.compared) }
-        ensures refused { IfErr result (IsRefusedIf self.old.map key new
-            self.old.seat self.new.seat) }
-        ensures lock_free { IsLockFreeIf self.old.map key self.old.seat self.new.seat }
+        ensures wrote { HasReplacedIf V.eq self.old.map key old.now new self.old.seat self.new.seat
+            result }
         ensures map { IsSameMap self.old self.new }
     {
         self.map.replace_if(rt, &mut self.seat, key, old, new)
@@ -197,12 +148,8 @@ impl<V: Drop> Handle<V> {
 
     /// Takes out a key, and answers the number that was there: `LongMap::remove`.
     pub fn remove<R: Wait>(&mut self, rt: &R, key: Key) -> Option<Num>
-        ensures found { HasFound (call.Write key want.Any change.Remove)
-            self.old.seat self.new.seat result }
-        ensures lock_free { IsLockFree self.old.map.map (call.Write key want.Any change.Remove)
-            self.old.seat self.new.seat }
-        ensures short { IsShortAtHome self.old.map.map.chain.shape
-            (call.Write key want.Any change.Remove) self.old.seat.chain self.new.seat.chain }
+        ensures wrote { HasWritten self.old.map.map (remove_of key) self.old.seat self.new.seat
+            (Found result) }
         ensures map { IsSameMap self.old self.new }
     {
         self.map.remove(rt, &mut self.seat, key)
@@ -213,11 +160,8 @@ impl<V: Drop> Handle<V> {
     pub fn remove_if<R: Wait>(&mut self, rt: &R, key: Key, value: &V) -> Result<bool, Unshown>
     where
         V: PartialEq,
-        ensures changed { IfOk result (λ done. (found : Option (Where _))
-            × HasChangedIf V.eq self.old.map key value.now change.Remove
-            self.old.seat self.new.seat found done) }
-        ensures unshown { IfErr result (λ fault. IsUnshown key self.old.seat self.new.seat) }
-        ensures lock_free { IsLockFreeIf self.old.map key self.old.seat self.new.seat }
+        ensures wrote { (found : Option (Where _)) × HasChangedIf V.eq self.old.map key value.now
+            change.Remove self.old.seat self.new.seat (with_token found result) }
         ensures map { IsSameMap self.old self.new }
     {
         self.map.remove_if(rt, &mut self.seat, key, value)
@@ -227,10 +171,8 @@ impl<V: Drop> Handle<V> {
     pub fn take_if<R: Wait>(&mut self, rt: &R, key: Key, value: &V) -> Result<Compared<V>, Unshown>
     where
         V: PartialEq,
-        ensures changed { IfOk result (λ compared. HasChangedIf V.eq self.old.map key value.now
-            change.Remove self.old.seat self.new.seat compared.found compared.done) }
-        ensures unshown { IfErr result (λ fault. IsUnshown key self.old.seat self.new.seat) }
-        ensures lock_free { IsLockFreeIf self.old.map key self.old.seat self.new.seat }
+        ensures wrote { HasChangedIf V.eq self.old.map key value.now change.Remove
+            self.old.seat self.new.seat result }
         ensures map { IsSameMap self.old self.new }
     {
         self.map.take_if(rt, &mut self.seat, key, value)
@@ -240,18 +182,8 @@ impl<V: Drop> Handle<V> {
     /// can't be told when it runs, so it is asked for.
     pub fn meet(&mut self, other: &mut Handle<V>)
         requires one { self.old.map ≡ other.old.map }
-        ensures here { HasLogged self.old.seat self.new.seat []
-            × IsBeginning (log other.old.seat) (log self.new.seat) }
-        ensures there { HasLogged other.old.seat other.new.seat []
-            × IsBeginning (log self.old.seat) (log other.new.seat) }
-        ensures here_grows { Extended self.old.map.map.chain.shape self.old.seat.chain
-            self.new.seat.chain [] 1
-            × IsBeginning other.old.seat.chain.seen self.new.seat.chain.seen
-            × (self.new.seat.count ≡ self.old.seat.count) }
-        ensures there_grows { Extended self.old.map.map.chain.shape other.old.seat.chain
-            other.new.seat.chain [] 1
-            × IsBeginning self.old.seat.chain.seen other.new.seat.chain.seen
-            × (other.new.seat.count ≡ other.old.seat.count) }
+        ensures here { HasMet self.old.map.map other.old.seat self.old.seat self.new.seat }
+        ensures there { HasMet self.old.map.map self.old.seat other.old.seat other.new.seat }
         ensures map { IsSameMap self.old self.new × IsSameMap other.old other.new }
     {
         self.map.meet(&mut self.seat, &mut other.seat);

@@ -11,7 +11,7 @@ mod store;
 
 pub use handle::Handle;
 pub use map::{Compared, LongFault, LongMap, Stored, Unshown};
-pub use store::{Found, Placed, Receipt, Store, StoreFault};
+pub use store::{Placed, Receipt, Shown, Store, StoreFault};
 
 #[cfg(test)]
 mod tests;

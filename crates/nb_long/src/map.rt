@@ -1,50 +1,20 @@
 //! The typed map, and its calls.
-ghost use Rattle.std.specs.Prelude.{
-  ◌≡◌,
-  ◌+◌,
-  ◌≤◌,
-  ◌↔◌,
-  ℕ,
-  false,
-  IfOk,
-  IfErr,
-  IfNone,
-  IfSome,
-  Option,
-  [],
-  is_ok,
-  length,
-  true,
-};
+ghost use Rattle.std.specs.Prelude.{IfErr, IfOk, Option, false, is_ok, length, true, ℕ, ◌↔◌, ◌≡◌};
 ghost use Rattle.boxcar.specs.Table.{Where};
 ghost use Rattle.nb_core.specs.Calls.{overflows};
-ghost use Rattle.nb_core.specs.Log.{IsBeginning, Numbers, reply_at};
-ghost use Rattle.nb_core.specs.Plans.{IsPlan};
+ghost use Rattle.nb_core.specs.Log.{Numbers};
 ghost use Rattle.nb_core.specs.declared.calls.Call.TheVariants as call;
 ghost use Rattle.nb_core.specs.declared.calls.Change.TheVariants as change;
 ghost use Rattle.nb_core.specs.declared.calls.Want.TheVariants as want;
-ghost use Rattle.nb_table.specs.Chains.{Extended};
 ghost use Rattle.nb_map.specs.Ending.{EndedWith, HasTablesLeft};
-ghost use Rattle.nb_map.specs.Logs.{HasFound, HasLogged, HasReplied, HaveEmptyLogs, log};
-ghost use Rattle.nb_map.specs.Progress.{IsSeenAtHome};
-ghost use Rattle.nb_map.specs.Steps.{get_steps};
-ghost use Rattle.nb_map.specs.Maps.{AreMine, HasWorked, IsMine, new_seats};
-ghost use Rattle.nb_map.specs.Progress.{IsLockFree};
-ghost use Rattle.nb_map.specs.Progress.{IsShortAtHome};
-ghost use Rattle.nb_long.specs.Stores.{HasStored};
-ghost use Rattle.nb_long.specs.Typed.{
-  HasChangedIf,
-  HasIdled,
-  HasWritten,
-  IsLockFreeIf,
-  IsRefusedIf,
-  IsShown,
-  IsUnshown,
-  IsWriteRefused,
-  number_of,
-};
+ghost use Rattle.nb_map.specs.Logs.{HaveEmptyLogs};
+ghost use Rattle.nb_map.specs.Maps.{AreMine, IsMadeFor, IsMine, new_seats};
+ghost use Rattle.nb_map.specs.NamedCalls.{remove_of};
+ghost use Rattle.nb_map.specs.Promises.{Found, HasGot, HasMet, HasWritten};
+ghost use Rattle.nb_long.specs.Promises.{HasChangedIf, HasGotValue, HasMadeRound, HasPutValue, HasReplacedIf, with_token};
+ghost use Rattle.nb_long.specs.Typed.{number_of};
 
-use crate::store::{Found, Placed, Receipt, Store, StoreFault};
+use crate::store::{Placed, Receipt, Shown, Store, StoreFault};
 use nb_core::{Change, Key, NotAll, Num, OutOfMemory, Shape, Want};
 use nb_map::{Ended, Full, Map, PutFault, Seat};
 use std::alloc::Global;
@@ -81,7 +51,7 @@ pub struct Stored<V> {
     pub compared: Option<Receipt<V>>,
 }
 
-/// What a change where an equal value stands came to.
+/// What a change came to that is made where the key has an equal value.
 #[derive(Drop)]
 pub struct Compared<V> {
     /// What reads the value that the key had at last, which was compared; none where it had none.
@@ -129,10 +99,7 @@ impl<V: Drop> From<StoreFault<V>> for LongFault<V> {
 impl<V: Drop> LongMap<V> {
     /// An empty map with an empty store, and its seats.
     pub fn new(alloc: Global, shape: Shape) -> Result<(LongMap<V>, Vec<Seat>), OutOfMemory>
-        ensures shape { IfOk result (λ made. made.0.map.chain.shape ≡ shape) }
-        ensures plan { IfOk result (λ made. IsPlan made.0.map.chain.shape) }
-        ensures counter { IfOk result (λ made. (made.0.map.counter.stripes ≡ shape.stripes)
-            × (made.0.map.counter.seats ≡ shape.seats)) }
+        ensures made { IfOk result (λ made. IsMadeFor made.0.map shape) }
         ensures seats { IfOk result (λ made. made.1.items ≡ new_seats made.0.map shape.seats) }
         ensures empty { IfOk result (λ made. HaveEmptyLogs made.1.items) }
         ensures own { IfOk result (λ made. AreMine made.0.map made.1.items) }
@@ -155,10 +122,7 @@ impl<V: Drop> LongMap<V> {
         value: V,
     ) -> Result<Stored<V>, LongFault<V>>
         requires own { IsMine self.now.map seat.old }
-        ensures written { IfOk result (HasWritten self.now key want.Any value seat.old seat.new) }
-        ensures refused { IfErr result (IsWriteRefused self.now key want.Any value seat.old
-            seat.new) }
-        ensures own { IsMine self.now.map seat.new }
+        ensures { HasPutValue self.now key want.Any value seat.old seat.new result }
     {
         let receipt = self.store.push(rt, value)?;
         match self.map.put(rt, seat, key, receipt.number()) {
@@ -182,11 +146,7 @@ impl<V: Drop> LongMap<V> {
         value: V,
     ) -> Result<Stored<V>, LongFault<V>>
         requires own { IsMine self.now.map seat.old }
-        ensures written { IfOk result (HasWritten self.now key want.Absent value seat.old
-            seat.new) }
-        ensures refused { IfErr result (IsWriteRefused self.now key want.Absent value seat.old
-            seat.new) }
-        ensures own { IsMine self.now.map seat.new }
+        ensures { HasPutValue self.now key want.Absent value seat.old seat.new result }
     {
         let receipt = self.store.push(rt, value)?;
         match self.map.put_if_absent(rt, seat, key, receipt.number()) {
@@ -210,11 +170,7 @@ impl<V: Drop> LongMap<V> {
         value: V,
     ) -> Result<Stored<V>, LongFault<V>>
         requires own { IsMine self.now.map seat.old }
-        ensures written { IfOk result (HasWritten self.now key want.Present value seat.old
-            seat.new) }
-        ensures refused { IfErr result (IsWriteRefused self.now key want.Present value seat.old
-            seat.new) }
-        ensures own { IsMine self.now.map seat.new }
+        ensures { HasPutValue self.now key want.Present value seat.old seat.new result }
     {
         let receipt = self.store.push(rt, value)?;
         let before = self.map.replace(rt, seat, key, receipt.number());
@@ -245,14 +201,7 @@ impl<V: Drop> LongMap<V> {
     where
         V: PartialEq,
         requires own { IsMine self.now.map seat.old }
-        ensures stored { IfOk result (λ stored. HasStored self.now.store new stored.receipt) }
-        ensures changed { IfOk result (λ stored. HasChangedIf V.eq self.now key old.now
-            (change.Put stored.receipt.index) seat.old seat.new
-            stored.compared stored.done) }
-        ensures before { IfOk result (λ stored. stored.before ≡ number_of stored.compared) }
-        ensures refused { IfErr result (IsRefusedIf self.now key new seat.old seat.new) }
-        ensures lock_free { IsLockFreeIf self.now key seat.old seat.new }
-        ensures own { IsMine self.now.map seat.new }
+        ensures { HasReplacedIf V.eq self.now key old.now new seat.old seat.new result }
     {
         let receipt = self.store.push(rt, new)?;
         let change = Change::Put(receipt.number());
@@ -295,22 +244,15 @@ impl<V> LongMap<V> {
 
     /// What the map has at a key. It is a `get` of the map of numbers, and a look at the store; it
     /// waits for nobody.
-    pub fn get(&self, seat: &mut Seat, key: Key) -> Result<Option<Found<'_, V>>, Unshown>
+    pub fn get(&self, seat: &mut Seat, key: Key) -> Result<Option<Shown<'_, V>>, Unshown>
         requires own { IsMine self.now.map seat.old }
-        ensures found { (number : Option ℕ) × IsShown self.now.store number result
-            × HasReplied (call.Get key) seat.old seat.new (reply_at (call.Get key) number) }
-        ensures worked { HasWorked self.now.map (call.Get key) seat.old seat.new
-            (get_steps self.now.map.chain.shape) }
-        ensures three_steps { IsSeenAtHome self.now.map.chain.shape seat.old.chain seat.new.chain
-            key
-            → seat.new.chain.steps ≤ seat.old.chain.steps + 3 }
-        ensures own { IsMine self.now.map seat.new }
+        ensures { HasGotValue self.now key seat.old seat.new result }
     {
         let Some(number) = self.map.get(seat, key) else {
             return Ok(None);
         };
         match self.store.show(number) {
-            Some(found) => Ok(Some(found)),
+            Some(shown) => Ok(Some(shown)),
             None => Err(Unshown),
         }
     }
@@ -318,14 +260,7 @@ impl<V> LongMap<V> {
     /// The number of the value that the map has at a key: a `get` without the look at the store.
     pub(crate) fn number_at(&self, seat: &mut Seat, key: Key) -> Option<Num>
         requires own { IsMine self.now.map seat.old }
-        ensures replied { HasReplied (call.Get key) seat.old seat.new
-            (reply_at (call.Get key) result) }
-        ensures worked { HasWorked self.now.map (call.Get key) seat.old seat.new
-            (get_steps self.now.map.chain.shape) }
-        ensures three_steps { IsSeenAtHome self.now.map.chain.shape seat.old.chain seat.new.chain
-            key
-            → seat.new.chain.steps ≤ seat.old.chain.steps + 3 }
-        ensures own { IsMine self.now.map seat.new }
+        ensures { HasGot self.now.map key seat.old seat.new result }
     {
         self.map.get(seat, key)
     }
@@ -334,12 +269,7 @@ impl<V> LongMap<V> {
     /// stays in the store.
     pub fn remove<R: Wait>(&self, rt: &R, seat: &mut Seat, key: Key) -> Option<Num>
         requires own { IsMine self.now.map seat.old }
-        ensures found { HasFound (call.Write key want.Any change.Remove) seat.old seat.new result }
-        ensures lock_free { IsLockFree self.now.map (call.Write key want.Any change.Remove)
-            seat.old seat.new }
-        ensures short { IsShortAtHome self.now.map.chain.shape
-            (call.Write key want.Any change.Remove) seat.old.chain seat.new.chain }
-        ensures own { IsMine self.now.map seat.new }
+        ensures { HasWritten self.now.map (remove_of key) seat.old seat.new (Found result) }
     {
         self.map.remove(rt, seat, key)
     }
@@ -359,12 +289,8 @@ impl<V> LongMap<V> {
     where
         V: PartialEq,
         requires own { IsMine self.now.map seat.old }
-        ensures changed { IfOk result (λ done. (found : Option (Where _))
-            × HasChangedIf V.eq self.now key value.now change.Remove seat.old seat.new found
-            done) }
-        ensures unshown { IfErr result (λ fault. IsUnshown key seat.old seat.new) }
-        ensures lock_free { IsLockFreeIf self.now key seat.old seat.new }
-        ensures own { IsMine self.now.map seat.new }
+        ensures { (found : Option (Where _)) × HasChangedIf V.eq self.now key value.now
+            change.Remove seat.old seat.new (with_token found result) }
     {
         let compared = self.take_if(rt, seat, key, value)?;
         Ok(compared.done)
@@ -381,11 +307,7 @@ impl<V> LongMap<V> {
     where
         V: PartialEq,
         requires own { IsMine self.now.map seat.old }
-        ensures changed { IfOk result (λ compared. HasChangedIf V.eq self.now key value.now
-            change.Remove seat.old seat.new compared.found compared.done) }
-        ensures unshown { IfErr result (λ fault. IsUnshown key seat.old seat.new) }
-        ensures lock_free { IsLockFreeIf self.now key seat.old seat.new }
-        ensures own { IsMine self.now.map seat.new }
+        ensures { HasChangedIf V.eq self.now key value.now change.Remove seat.old seat.new result }
     {
         self.change_if(rt, seat, key, value, &Change::Remove)
     }
@@ -404,11 +326,7 @@ impl<V> LongMap<V> {
         requires own { IsMine self.now.map seat.old }
         requires in_range { (n : ℕ) (m : Numbers)
             → overflows (call.Write key (want.Equal n) change.now) m ≡ false }
-        ensures changed { IfOk result (λ compared. HasChangedIf V.eq self.now key value.now
-            change.now seat.old seat.new compared.found compared.done) }
-        ensures unshown { IfErr result (λ fault. IsUnshown key seat.old seat.new) }
-        ensures lock_free { IsLockFreeIf self.now key seat.old seat.new }
-        ensures own { IsMine self.now.map seat.new }
+        ensures { HasChangedIf V.eq self.now key value.now change.now seat.old seat.new result }
     {
         for _ in rt.forever() {
             if let Some(compared) = self.change_once(seat, key, value, change)? {
@@ -431,14 +349,7 @@ impl<V> LongMap<V> {
         requires own { IsMine self.now.map seat.old }
         requires in_range { (n : ℕ) (m : Numbers)
             → overflows (call.Write key (want.Equal n) change.now) m ≡ false }
-        ensures changed { IfOk result (λ round. IfSome round
-            (λ compared. HasChangedIf V.eq self.now key value.now change.now seat.old seat.new
-            compared.found compared.done)) }
-        ensures idle { IfOk result (λ round. IfNone round
-            (HasIdled self.now key seat.old seat.new)) }
-        ensures unshown { IfErr result (λ fault. IsUnshown key seat.old seat.new) }
-        ensures lock_free { IsLockFreeIf self.now key seat.old seat.new }
-        ensures own { IsMine self.now.map seat.new }
+        ensures { HasMadeRound V.eq self.now key value.now change.now seat.old seat.new result }
     {
         let Some(found) = self.get(seat, key)? else {
             return Ok(Some(Compared {
@@ -468,14 +379,8 @@ impl<V> LongMap<V> {
     pub fn meet(&self, a: &mut Seat, b: &mut Seat)
         requires a_own { IsMine self.now.map a.old }
         requires b_own { IsMine self.now.map b.old }
-        ensures a { HasLogged a.old a.new [] × IsBeginning (log b.old) (log a.new) }
-        ensures b { HasLogged b.old b.new [] × IsBeginning (log a.old) (log b.new) }
-        ensures a_grows { Extended self.now.map.chain.shape a.old.chain a.new.chain [] 1
-            × IsBeginning b.old.chain.seen a.new.chain.seen × (a.new.count ≡ a.old.count) }
-        ensures b_grows { Extended self.now.map.chain.shape b.old.chain b.new.chain [] 1
-            × IsBeginning a.old.chain.seen b.new.chain.seen × (b.new.count ≡ b.old.count) }
-        ensures a_own { IsMine self.now.map a.new }
-        ensures b_own { IsMine self.now.map b.new }
+        ensures a { HasMet self.now.map b.old a.old a.new }
+        ensures b { HasMet self.now.map a.old b.old b.new }
     {
         self.map.meet(a, b);
     }

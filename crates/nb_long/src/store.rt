@@ -79,15 +79,15 @@ impl<V> Receipt<V> {
     }
 }
 
-/// A value that a store holds under a number.
+/// A value that a store shows under a number.
 #[derive(Drop)]
-pub struct Found<'a, V> {
+pub struct Shown<'a, V> {
     number: Num,
     pushed: Pushed<V>,
     value: &'a V,
 }
 
-impl<'a, V> Model for Found<'a, V> {
+impl<'a, V> Model for Shown<'a, V> {
     ghost use Rattle.std.specs.Prelude.{◌≡◌};
     ghost use Rattle.boxcar.specs.Table.{Where, where_coded};
 
@@ -95,22 +95,22 @@ impl<'a, V> Model for Found<'a, V> {
 
     ghost coded = { where_coded V.code };
 
-    ghost view = { λ f. f.pushed };
+    ghost view = { λ s. s.pushed };
 
-    ghost invariant = { λ f. (f.number ≡ f.pushed.index) × (f.value.now ≡ f.pushed.value) };
+    ghost invariant = { λ s. (s.number ≡ s.pushed.index) × (s.value.now ≡ s.pushed.value) };
 }
 
-impl<V> Deref for Found<'_, V> {
+impl<V> Deref for Shown<'_, V> {
     type Target = V;
 
-    ghost deref_gives = { λ found value. value ≡ found.value };
+    ghost deref_gives = { λ shown value. value ≡ shown.value };
 
     fn deref(&self) -> &V {
         self.value
     }
 }
 
-impl<'a, V> Found<'a, V> {
+impl<'a, V> Shown<'a, V> {
     /// The number under which the store holds the value, and which the map had.
     pub fn number(&self) -> Num
         ensures { result ≡ self.now.index }
@@ -129,7 +129,7 @@ impl<'a, V> Found<'a, V> {
     pub fn into_receipt(self) -> Receipt<V>
         ensures { result ≡ self.entry }
     {
-        let Found { pushed, .. } = self;
+        let Shown { pushed, .. } = self;
         Receipt { pushed }
     }
 }
@@ -203,12 +203,12 @@ impl<V> Store<V> {
     }
 
     /// What is stored under a number, if there is anything now.
-    pub fn show(&self, number: Num) -> Option<Found<'_, V>>
-        ensures { IfSome result (λ found. Shows self.now found × (found.index ≡ number)) }
+    pub fn show(&self, number: Num) -> Option<Shown<'_, V>>
+        ensures { IfSome result (λ shown. Shows self.now shown × (shown.index ≡ number)) }
     {
         let pushed = self.values.witness(number.get() as usize)?;
         let value = self.values.value(&pushed);
-        Some(Found {
+        Some(Shown {
             number,
             pushed,
             value,
@@ -216,16 +216,16 @@ impl<V> Store<V> {
     }
 
     /// Whether both have one number; then they have one value.
-    pub fn agree(&self, receipt: &Receipt<V>, found: &Found<'_, V>) -> bool
+    pub fn agree(&self, receipt: &Receipt<V>, shown: &Shown<'_, V>) -> bool
         requires receipt { Shows self.now receipt.now }
-        requires found { Shows self.now found.now }
-        ensures agrees { result ≡ (receipt.now.index == found.now.index) }
-        ensures same { result ≡ true → receipt.now.value ≡ found.now.value }
+        requires shown { Shows self.now shown.now }
+        ensures agrees { result ≡ (receipt.now.index == shown.now.index) }
+        ensures same { result ≡ true → receipt.now.value ≡ shown.now.value }
     {
-        if receipt.pushed.index() != found.pushed.index() {
+        if receipt.pushed.index() != shown.pushed.index() {
             return false;
         }
-        self.values.agrees(&receipt.pushed, &found.pushed);
+        self.values.agrees(&receipt.pushed, &shown.pushed);
         true
     }
 }

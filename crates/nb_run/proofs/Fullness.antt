@@ -203,12 +203,12 @@ module _ (m : MapOf) (plan : IsPlan m.chain.shape) where
         → HasAnswered m c answer.Full before after → IsLone p done before.chain
         → MayCrowd p done c
     lone-full done c before after is lone = (
-      ap not is.0.1.0,
+      ap not is.0.just.0,
       subst (λ most. size_of p (generations_of p - 1) ≤ most)
           (ap (others_filled k) (map-append call_of done (c ∷ []))
           ∙ others-same k (map call_of done) (call_of c) refl)
           (crowded_by_calls p plan (map call_of (done ++ c ∷ [])) h is.1.1.1.grown.legal asked h
-          (record { later = []; is = refl }) k is.0.1.1),
+          (record { later = []; is = refl }) k is.0.just.1),
     )
       where
         h : List Event

@@ -364,11 +364,11 @@ module _
     answered-plain c (answer.Matched b) before after first is =
         shown-plain c (answer.Matched b) before after first is.1.1.1.grown.legal is.0
     answered-plain c answer.Full before after first is =
-        let more = called-more before after [] first is.1.1.1.grown.legal is.0.0 in
-        (more.first, (refused-absent c before after more is.0.1.1, refused-left before after more))
+        let more = called-more before after [] first is.1.1.1.grown.legal is.0.unmade in
+        (more.first, (refused-absent c before after more is.0.just.1, refused-left before after more))
     answered-plain c answer.Range before after first is =
-        let more = called-more before after [] first is.1.1.1.grown.legal is.0.0 in
-        (more.first, past-plain c before after more is.0.1)
+        let more = called-more before after [] first is.1.1.1.grown.legal is.0.unmade in
+        (more.first, past-plain c before after more is.0.just)
 
     commands-plain :
         (cs : List Command) (answers : List Answer) (before after : SeatOf) → IsFirst before

@@ -4,7 +4,8 @@ use Rattle.std.specs.List.{All, onto_first}
 use Rattle.std.specs.Option.{ok_or}
 use Rattle.std.specs.Str.{bytes_eq}
 use Rattle.std.proofs.lemmas.List.Elements.{All-append, All-cons, All-head, All-nil, All-tail}
-use Rattle.nb_script.specs.Script.{Bytes, Fault, Phase, ◌>>=◌, at_line, below, command_of, line_of, lines_from, lines_of, number_spelled, numbered_line, op_of, phases_of, said_by, script_of, task_of, words_in, worker_of}
+use Rattle.nb_core.specs.Digits.{number_spelled}
+use Rattle.nb_script.specs.Script.{Bytes, Fault, Phase, ◌>>=◌, at_line, below, command_of, line_of, lines_from, lines_of, numbered_line, op_of, phases_of, said_by, script_of, task_of, words_in, worker_of}
 use Rattle.nb_script.specs.declared.script.TheConstants.{LINE_MAX, LINES_MAX}
 use Rattle.nb_script.specs.declared.script.Cause.{Cause}
 use Rattle.nb_script.specs.declared.script.Cause.TheVariants as cause

@@ -102,8 +102,8 @@ answered-logged :
 answered-logged m c answer.Nothing before after h = (_, h.2)
 answered-logged m c (answer.Value n) before after h = (_, h.2)
 answered-logged m c (answer.Matched b) before after h = (_, h.2)
-answered-logged m c answer.Full before after h = (_, h.0)
-answered-logged m c answer.Range before after h = (_, h.0)
+answered-logged m c answer.Full before after h = (_, h.unmade)
+answered-logged m c answer.Range before after h = (_, h.unmade)
 
 -- ---- with nothing before and after
 
@@ -172,12 +172,13 @@ module _ (m : MapOf) (script : List Command) (history : List Event)
       after.chain.seen,
       seen,
       refl,
-      h.1.1,
-      (ap not h.1.0, crowded (key_of_command c) after.chain.seen seen h.1.1),
+      h.just.1,
+      (ap not h.just.0, crowded (key_of_command c) after.chain.seen seen h.just.1),
     ),
-    done-of w [] before after is h.0,
+    done-of w [] before after is h.unmade,
   )
-  answered-told w c answer.Range before after is h seen = (h.1, done-of w [] before after is h.0)
+  answered-told w c answer.Range before after is h seen =
+      (h.just, done-of w [] before after is h.unmade)
 
   -- what was seen before these commands is a beginning of what is seen after them
   answered-seen :

@@ -1,6 +1,5 @@
 mod FaultLemmas
 mod FoundLemmas
-mod Numbers
 mod PlanLemmas
 mod Open
 mod Reading

@@ -7,7 +7,8 @@ use Rattle.std.specs.List.{list_any}
 use Rattle.std.specs.Option.{ok_or}
 use Rattle.std.specs.Str.{bytes_eq}
 use Rattle.std.proofs.lemmas.List.Folds.{list_any-append}
-use Rattle.nb_script.specs.Script.{Bytes, Fault, Phase, ◌>>=◌, arity, at_line, below, command_of, command_on, is_newline, key_at, key_of, lines_from, lines_of, number_spelled, numbered_line, op_of, said_by, task_of, value_at, value_of, words_in, worker_of}
+use Rattle.nb_core.specs.Digits.{number_spelled}
+use Rattle.nb_script.specs.Script.{Bytes, Fault, Phase, ◌>>=◌, arity, at_line, below, command_of, command_on, is_newline, key_at, key_of, lines_from, lines_of, numbered_line, op_of, said_by, task_of, value_at, value_of, words_in, worker_of}
 use Rattle.nb_script.specs.declared.script.TheConstants.{LINE_MAX, LINES_MAX}
 use Rattle.nb_script.specs.declared.script.Cause.{Cause}
 use Rattle.nb_script.specs.declared.script.Cause.TheVariants as cause

@@ -9,7 +9,7 @@ use Rattle.std.proofs.lemmas.List.Folds.{list_all_at}
 use Rattle.clap.specs.Words.{Text}
 use Rattle.nb_core.specs.Plans.{Plan, checked_plan, is_within}
 use Rattle.nb_script.specs.Options.{exponents_of, numbers_of, plan_of_text}
-use Rattle.nb_script.specs.Script.{number_spelled}
+use Rattle.nb_core.specs.Digits.{number_spelled}
 
 -- the numbers of the first text and of the others
 numbers_of_parts : (t : Text) (ts : List Text) (es : List ℕ) → numbers_of (t ∷ ts) ≡ Some es

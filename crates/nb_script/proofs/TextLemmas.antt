@@ -7,7 +7,7 @@ use Rattle.std.specs.Str.Parse.{ParsesUnsigned, digits_value, without_leading_pl
 use Rattle.std.proofs.lemmas.Str.Parse.{IsNumeralModel, numerals_by_value, parse_plain, tells_all_ascii_digits}
 use Rattle.clap.proofs.WalkLemmas.{both}
 use Rattle.nb_script.specs.Options.{u32_of}
-use Rattle.nb_script.specs.Script.{number_spelled}
+use Rattle.nb_core.specs.Digits.{number_spelled}
 
 -- the digits that `parse` reads
 digits : IsNumeralModel (λ ds. all_ascii_digits ds ≡ true) (digits_value 10)

@@ -9,7 +9,7 @@ use Rattle.clap.specs.declared.error.kind.ErrorKind.TheVariants as kind
 use Rattle.clap.specs.declared.error.kind.ErrorKind.TheVariants.{DisplayHelp}
 use Rattle.nb_script.specs.declared.options.OptionFault.{OptionFault}
 use Rattle.nb_script.specs.declared.options.OptionFault.TheVariants.{Usage, Help, OutOfMemory}
-use Rattle.nb_script.specs.Script.{number_spelled}
+use Rattle.nb_core.specs.Digits.{number_spelled}
 use Rattle.nb_core.specs.Plans.{Plan, checked_chunk, checked_plan, checked_reprobes, checked_shape}
 use Rattle.clap.specs.declared.builder.ArgAction.TheVariants.{Set}
 use Rattle.clap.specs.declared.builder.value_parser.ValueParser.{ValueParser}

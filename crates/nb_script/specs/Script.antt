@@ -2,9 +2,9 @@
 -- line that has words.
 use Rattle.std.specs.Prelude.{ℕ, ◌==◌, ◌||◌, ◌&&◌, suc, nat_lt, if◌then◌else◌, Bool, List, [], ◌∷◌, ◌++◌, length, filter, codes, slice_get, Option, Some, None, Result, Ok, Err, option_to_list}
 use Rattle.std.specs.List.{slice_split, onto_first}
-use Rattle.std.specs.Str.{all_ascii_digits, bytes_eq}
+use Rattle.std.specs.Str.{bytes_eq}
 use Rattle.std.specs.Option.{ok_or}
-use Rattle.std.specs.Str.Parse.{digits_value}
+use Rattle.nb_core.specs.Digits.{number_spelled}
 use Rattle.nb_core.specs.declared.numbers.TheConstants.{KEY_MAX, VALUE_MAX}
 use Rattle.nb_script.specs.declared.script.TheConstants.{LINE_MAX, LINES_MAX}
 use Rattle.nb_script.specs.declared.script.Cause.{Cause}
@@ -48,11 +48,6 @@ abbrev pub words_in : Bytes → List Bytes
 words_in line = filter (λ word. nat_lt 0 (length word)) (slice_split is_space line)
 
 -- ---- numbers
-
--- the number that a word spells: one or more digits, in base ten
-abbrev pub number_spelled : Bytes → Option ℕ
-number_spelled word =
-    if nat_lt 0 (length word) && all_ascii_digits word then Some (digits_value 10 word) else None
 
 abbrev pub below : ℕ → Cause → Option ℕ → Result ℕ Cause
 below limit too_great None = Err cause.Number

@@ -18,6 +18,7 @@ ghost use Rattle.std.specs.Prelude.{
   string_bytes,
 };
 ghost use Rattle.clap.specs.Words.{app_of, fault_of, first_of, found_of, kind_of, rows_of, rule_of};
+ghost use Rattle.nb_core.specs.Digits.{number_spelled};
 ghost use Rattle.nb_core.specs.Plans.{Plan};
 ghost use Rattle.nb_script.specs.Options.{
   AreGiven,
@@ -30,7 +31,6 @@ ghost use Rattle.nb_script.specs.Options.{
   plan_of_text,
   tuned_plan,
 };
-ghost use Rattle.nb_script.specs.Script.{number_spelled};
 
 use crate::help;
 use clap::error::ErrorKind;

@@ -4,8 +4,6 @@ ghost use Rattle.std.specs.Prelude.{
   ◌<◌,
   ◌≤◌,
   ◌+◌,
-  ◌-◌,
-  ◌^◌,
   ◌∷◌,
   ◌++◌,
   ◌↔◌,
@@ -47,7 +45,6 @@ pub(crate) struct Lines {
     partial: ArrayVec<u8, LINE_MAX>,
     over: Vec<Phase>,
     current: Phase,
-    ghost few_seats: { seats < 2 ^ 64 - 1 },
     ghost few_lines: { number ≤ LINES_MAX + 1 },
     ghost begun: { 0 < length partial.items → number ≤ LINES_MAX },
     ghost short: { length partial.items ≤ LINE_MAX },
@@ -64,7 +61,6 @@ impl Lines {
     };
 
     fn new(alloc: Global, seats: usize) -> Lines
-        requires { seats < 2 ^ 64 - 1 }
         ensures { (more : Bytes) → with_bytes result more ≡ script_of seats more }
     {
         Lines {
@@ -187,7 +183,6 @@ pub fn read_script<R: Source>(
     seats: usize,
     reader: &mut R,
 ) -> Result<Vec<Phase>, RunFault>
-    requires seats { seats < 2 ^ 64 - 1 }
     requires unfailed { R.failed reader.old ≡ false }
     requires more { R.ended reader.old ≡ false }
     ensures ok { IfOk result (λ phases. HasReadScript seats (R.remaining reader.old)

@@ -3,26 +3,25 @@ ghost use Rattle.std.specs.Prelude.{
   ◌≡◌,
   ◌∷◌,
   [],
-  ◌-◌,
   ◌^◌,
   length,
   ◌<◌,
   option_map,
-  min,
   IfNone,
   IfSome,
   not,
   slice_get,
   take_while,
 };
+ghost use Rattle.nb_core.specs.Digits.{number_spelled};
 ghost use Rattle.nb_script.specs.Script.{
   arity,
+  below,
   command_of,
   command_on,
   is_space,
   key_at,
   key_of,
-  number_spelled,
   op_of,
   said_by,
   task_of,
@@ -32,7 +31,7 @@ ghost use Rattle.nb_script.specs.Script.{
   worker_of,
 };
 
-use nb_core::{Key, Num};
+use nb_core::{DigitsFault, Key, Num, read_number};
 use thiserror::Error;
 
 /// The most bytes of a line, without its newline.
@@ -195,29 +194,21 @@ fn word_at(text: &[u8], place: usize) -> Option<&[u8]>
     Some(word)
 }
 
-/// The number that a word spells, or the greatest `u64` where it is past that.
-fn number(word: &[u8]) -> Option<u64>
-    ensures { result ≡ option_map (min (2 ^ 64 - 1)) (number_spelled word.now) }
+/// The number that a word spells. Where that has more than 64 bits, this is the cause.
+fn number(word: &[u8], too_large: Cause) -> Result<u64, Cause>
+    ensures { result ≡ below (2 ^ 64) too_large (number_spelled word.now) }
 {
-    if word.is_empty() {
-        return None;
+    match read_number(word) {
+        Ok(number) => Ok(number),
+        Err(DigitsFault::NotANumber) => Err(Cause::Number),
+        Err(DigitsFault::TooLarge) => Err(too_large),
     }
-    let mut number = 0u64;
-    for byte in word {
-        if !byte.is_ascii_digit() {
-            return None;
-        }
-        let digit = u64::from(byte - b'0');
-        number = number.saturating_mul(10).saturating_add(digit);
-    }
-    Some(number)
 }
 
 fn worker(word: &[u8], seats: usize) -> Result<usize, Cause>
-    requires { seats < 2 ^ 64 - 1 }
     ensures { result ≡ worker_of seats word.now }
 {
-    let worker = number(word).ok_or(Cause::Number)?;
+    let worker = number(word, Cause::Worker)?;
     if worker < seats as u64 {
         Ok(worker as usize)
     } else {
@@ -228,14 +219,14 @@ fn worker(word: &[u8], seats: usize) -> Result<usize, Cause>
 fn key(word: &[u8]) -> Result<Key, Cause>
     ensures { result ≡ key_of word.now }
 {
-    let number = number(word).ok_or(Cause::Number)?;
+    let number = number(word, Cause::KeyRange)?;
     Key::new(number).map_err(|_| Cause::KeyRange)
 }
 
 fn value(word: &[u8]) -> Result<Num, Cause>
     ensures { result ≡ value_of word.now }
 {
-    let number = number(word).ok_or(Cause::Number)?;
+    let number = number(word, Cause::ValueRange)?;
     Num::new(number).map_err(|_| Cause::ValueRange)
 }
 
@@ -288,7 +279,6 @@ fn command_of(op: Op, text: &[u8]) -> Result<Command, Cause>
 /// A line with a command: a worker's number, an op and its arguments.
 #[tactic(auto, unfolding(crate::specs::Script::task_of))]
 fn task_of(seats: usize, first: &[u8], text: &[u8]) -> Result<(usize, Command), Cause>
-    requires { seats < 2 ^ 64 - 1 }
     ensures { result ≡ task_of seats first.now (words_in text.now) }
 {
     let worker = worker(first, seats)?;
@@ -301,7 +291,6 @@ fn task_of(seats: usize, first: &[u8], text: &[u8]) -> Result<(usize, Command), 
 /// What a line says, if it has words.
 #[tactic(auto, unfolding(crate::specs::Script::said_by))]
 pub(crate) fn said_by(seats: usize, line: &[u8]) -> Result<Option<Line>, Cause>
-    requires { seats < 2 ^ 64 - 1 }
     ensures { result ≡ said_by seats (words_in line.now) }
 {
     let Some((first, rest)) = next_word(line) else {

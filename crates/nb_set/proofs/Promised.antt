@@ -38,7 +38,7 @@ pub refused :
     → of_map.HasWritten set.map (put_if_absent_of k 0) before.map after.map (Refused add_fault.Full)
     → HasWritten set (Add k) before after (Err full)
 refused k full wrote = record {
-  answered = (logged-as wrote.answered.0, wrote.answered.1.1);
+  answered = (logged-as wrote.answered.unmade, wrote.answered.just.1);
   lock_free = wrote.lock_free;
   short = wrote.short;
   own = wrote.own;

@@ -75,7 +75,9 @@ impl HandleWalk {
     }
 }
 
-/// A walk is an iterator over what `next_key` shows: `for key in &mut walk` goes through the set.
+/// A walk is an iterator over what `next_key` shows: `for key in handle.walk() { .. }` goes through
+/// the set. Where the handle is needed again, `while let Some(key) = walk.next_key()` and
+/// `walk.end()` serve.
 impl Iterator for HandleWalk {
     type Item = Key;
 

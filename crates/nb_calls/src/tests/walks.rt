@@ -5,7 +5,7 @@ ghost use Rattle.nb_map.specs.Handles.{AreOfOneMap};
 use super::rows::Answer::{Nothing, Was};
 use super::rows::Call::{Get, Put, Remove, Replace, TryPut};
 use super::rows::*;
-use nb_core::Shape;
+use nb_core::{OutOfMemory, Shape};
 use nb_map::{Handle, HandleWalk};
 use std::alloc::Global;
 use std::process::Abort;
@@ -65,6 +65,37 @@ fn walk_gives_its_handle_back(rt: HostRuntime) -> Result<(), Fail> {
     shows(&rt, &mut walk, &[(2, 1), (3, 1)]);
     let mut handle = walk.end();
     sees(&rt, &mut handle, &[(3, Get, Was(1))]);
+    Ok(())
+}
+
+/// The pairs of a handle's map. The loop takes the handle with it.
+fn pairs_of(alloc: Global, handle: Handle) -> Result<Vec<(u64, u64)>, OutOfMemory> {
+    let mut pairs = Vec::new(alloc);
+    for (key, number) in handle.walk() {
+        pairs.push((key.get(), number.get()))?;
+    }
+    Ok(pairs)
+}
+
+/// The same by a loop after which the handle is there again.
+fn pairs_by(alloc: Global, handle: Handle) -> Result<(Vec<(u64, u64)>, Handle), OutOfMemory> {
+    let mut pairs = Vec::new(alloc);
+    let mut walk = handle.walk();
+    while let Some((key, number)) = walk.next_key() {
+        pairs.push((key.get(), number.get()))?;
+    }
+    Ok((pairs, walk.end()))
+}
+
+/// Both loops go over all pairs of the map.
+#[test]
+fn loops_over_pairs(rt: HostRuntime) -> Result<(), Fail> {
+    let (mut a, b) = two(&rt, Handle::open(rt.alloc(), Shape::new(4, 4, 2, 1)?)?);
+    puts(&rt, &mut a, &[(5, 15), (6, 16)]);
+    let (pairs, mut a) = pairs_by(rt.alloc(), a)?;
+    assert_eq!(rt; pairs.as_slice(), [(5, 15), (6, 16)].as_slice());
+    sees(&rt, &mut a, &[(5, Remove, Was(15))]);
+    assert_eq!(rt; pairs_of(rt.alloc(), b)?.as_slice(), [(6, 16)].as_slice());
     Ok(())
 }
 

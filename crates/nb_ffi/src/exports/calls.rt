@@ -2,8 +2,8 @@
 ghost use Rattle.std.specs.Prelude.{Ok};
 ghost use Rattle.nb_ffi.specs.Codes.{checked_call, checked_key, write_of};
 ghost use Rattle.nb_ffi.specs.Handles.{IsOpen, StaysOpen};
-ghost use Rattle.nb_ffi.specs.Looks.{HasEstimated, HasFoundTop};
-ghost use Rattle.nb_ffi.specs.Telling.{AreOfOneMap, HasMet, IsGet, IsWrite};
+ghost use Rattle.nb_ffi.specs.Promises.{HasEstimated, HasSeenTop};
+ghost use Rattle.nb_ffi.specs.Telling.{AreOfOneMap, HasMetHandle, IsGet, IsWrite};
 
 use crate::codes::{
     ABSENT, OK, PRESENT, WriteAsked, WriteReply, asked, fault_code, key_of, reply_in_c,
@@ -80,7 +80,7 @@ pub extern "C" fn samvolip_size_estimate(seat: &mut SeatHandle) -> u64
 #[unsafe(no_mangle)]
 pub extern "C" fn samvolip_generation(seat: &mut SeatHandle) -> u32
     requires open { IsOpen seat.old.session }
-    ensures { StaysOpen seat.old.session seat.new.session (HasFoundTop result) }
+    ensures { StaysOpen seat.old.session seat.new.session (HasSeenTop result) }
 {
     seat.lend().generation()
 }
@@ -91,8 +91,8 @@ pub extern "C" fn samvolip_meet(seat: &mut SeatHandle, other: &mut SeatHandle)
     requires open { IsOpen seat.old.session }
     requires other_open { IsOpen other.old.session }
     requires one { AreOfOneMap seat.old.session other.old.session }
-    ensures here { StaysOpen seat.old.session seat.new.session (HasMet other.old.session) }
-    ensures there { StaysOpen other.old.session other.new.session (HasMet seat.old.session) }
+    ensures here { StaysOpen seat.old.session seat.new.session (HasMetHandle other.old.session) }
+    ensures there { StaysOpen other.old.session other.new.session (HasMetHandle seat.old.session) }
 {
     seat.lend().meet(other.lend());
 }

@@ -1,6 +1,7 @@
 //! Walks over the map's keys.
 ghost use Rattle.nb_ffi.specs.Handles.{IsOpen, StaysOpen};
-ghost use Rattle.nb_ffi.specs.Walking.{HasBegun, IsNext};
+ghost use Rattle.nb_ffi.specs.Promises.{HasBegunWalk};
+ghost use Rattle.nb_ffi.specs.Telling.{IsNext};
 
 use crate::codes::{ABSENT, PRESENT};
 use crate::seat_handle::SeatHandle;
@@ -9,7 +10,7 @@ use crate::seat_handle::SeatHandle;
 #[unsafe(no_mangle)]
 pub extern "C" fn samvolip_walk(seat: &mut SeatHandle)
     requires open { IsOpen seat.old.session }
-    ensures { StaysOpen seat.old.session seat.new.session HasBegun }
+    ensures { StaysOpen seat.old.session seat.new.session HasBegunWalk }
 {
     seat.lend().begin_walk();
 }

@@ -3,7 +3,7 @@ ghost use Rattle.std.specs.Prelude.{IfOk, IfSome};
 ghost use Rattle.boxcar.specs.Table.{Shows};
 ghost use Rattle.nb_map.specs.Maps.{AreMine, IsMine};
 
-use crate::{Found, LongMap};
+use crate::{LongMap, Shown};
 use nb_core::{Key, OutOfMemory, Shape};
 use nb_map::Seat;
 use std::alloc::Global;
@@ -68,7 +68,7 @@ pub(super) fn found<'a, R: Abort, V>(
     map: &'a LongMap<V>,
     seat: &mut Seat,
     k: u64,
-) -> Option<Found<'a, V>>
+) -> Option<Shown<'a, V>>
     requires own { IsMine map.now.map seat.old }
     ensures found { IfSome result (λ found. Shows map.now.store found) }
     ensures own { IsMine map.now.map seat.new }

@@ -3,7 +3,8 @@ ghost use Rattle.std.specs.Prelude.{◌≡◌};
 ghost use Rattle.nb_set.specs.Handles.{AreOfOneSet, IsSameSet};
 
 use crate::Handle;
-use nb_core::{Key, RangeFault, Shape};
+use nb_core::{Key, OutOfMemory, RangeFault, Shape};
+use std::alloc::Global;
 use std::process::Abort;
 use std::sync::Wait;
 use std::test::Fail;
@@ -61,6 +62,40 @@ fn calls_by_name(rt: HostRuntime) -> Result<(), Fail> {
     assert_eq!(rt; walk.next_key().map(Key::get), Some(5));
     assert!(rt; walk.next_key().is_none());
     assert_eq!(rt; walk.end().contains(five), true);
+    Ok(())
+}
+
+/// The keys of a handle's set. The loop takes the handle with it.
+fn keys_of(alloc: Global, handle: Handle) -> Result<Vec<u64>, OutOfMemory> {
+    let mut keys = Vec::new(alloc);
+    for key in handle.walk() {
+        keys.push(key.get())?;
+    }
+    Ok(keys)
+}
+
+/// The same by a loop after which the handle is there again.
+fn keys_by(alloc: Global, handle: Handle) -> Result<(Vec<u64>, Handle), OutOfMemory> {
+    let mut keys = Vec::new(alloc);
+    let mut walk = handle.walk();
+    while let Some(key) = walk.next_key() {
+        keys.push(key.get())?;
+    }
+    Ok((keys, walk.end()))
+}
+
+/// Both loops go over all keys of the set.
+#[test]
+fn loops_over_keys(rt: HostRuntime) -> Result<(), Fail> {
+    let mut handles = Handle::open(rt.alloc(), Shape::new(4, 4, 2, 1)?)?;
+    let mut mine = one_of(&rt, &mut handles);
+    let theirs = one_of(&rt, &mut handles);
+    assert_eq!(rt; mine.add(&rt, key(5)?)?, true);
+    assert_eq!(rt; mine.add(&rt, key(6)?)?, true);
+    let (keys, mut mine) = keys_by(rt.alloc(), mine)?;
+    assert_eq!(rt; keys.as_slice(), [5, 6].as_slice());
+    assert_eq!(rt; mine.remove(&rt, key(5)?), true);
+    assert_eq!(rt; keys_of(rt.alloc(), theirs)?.as_slice(), [6].as_slice());
     Ok(())
 }
 

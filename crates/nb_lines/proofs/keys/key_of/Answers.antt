@@ -1,4 +1,4 @@
-use Rattle.std.proofs.Common.{◌≡◌, nat_le, refl}
+use Rattle.std.proofs.Common.{◌≡◌, nat_le, refl, arith}
 use Rattle.nb_core.specs.declared.numbers.TheConstants.{KEY_MAX}
 use Rattle.nb_core.specs.declared.numbers.RangeFault.TheVariants as fault
 use Rattle.nb_lines.proofs.Mixed.{again_fits, twice, where_ok}
@@ -17,3 +17,7 @@ returns-then-mixed-gt-KEY_MAX-clause-taken c in_range =
       again_fits c.mix-mixed.result c.mix.result c.if-mixed-gt-KEY_MAX.true c.mix-mixed.type_inv
           c.mix.ensures.value,
     ) refl
+
+pub returns-then-mixed-gt-KEY_MAX-clause-refused :
+    goal.returns-then-mixed-gt-KEY_MAX-clause-refused
+returns-then-mixed-gt-KEY_MAX-clause-refused c past = absurd (omega arith)

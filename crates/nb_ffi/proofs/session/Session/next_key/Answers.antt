@@ -1,9 +1,8 @@
-use Rattle.nb_ffi.proofs.Beginning.{walked-on}
 use Rattle.nb_ffi.specs.Inside.{session_of}
+use Rattle.nb_ffi.proofs.Promised.{walked-on}
 use Rattle.nb_ffi.proofs.session.Session.next_key.Goals as goal
 
 pub returns-in-Some : goal.returns-in-Some
 returns-in-Some c =
     rw (← c.self.view_is) (walked-on (session_of c.self.inside) c.deref.ensures c.in-Some.is
-    c.next_key.ensures.own c.next_key.ensures.read c.next_key.ensures.walked
-    c.next_key.ensures.worked c.next_key.ensures.ahead c.next_key.ensures.walk)
+    c.next_key.ensures)

@@ -2,10 +2,11 @@ use Rattle.std.proofs.Common.{◌∙◌, All, ap, length, subst, sym, arith}
 use Rattle.std.specs.Arc.{arc_value}
 use Rattle.std.proofs.lemmas.List.Elements.{All-tail}
 use Rattle.nb_core.proofs.Seating.{all-moved, moved-count, moved-more}
-use Rattle.nb_long.proofs.Held.{handle-logs, length-new, of-one}
+use Rattle.nb_long.proofs.Held.{handle-logs, length-new, made-for, of-one}
 use Rattle.nb_long.specs.Handles.{handle_on}
+use Rattle.nb_long.specs.Typed.{LongMapOf}
 use Rattle.nb_map.specs.inside.Models.{seat_of}
-use Rattle.nb_map.specs.Maps.{IsMine}
+use Rattle.nb_map.specs.Maps.{IsMadeFor, IsMine}
 use Rattle.nb_long.proofs.handle.Handle.open.Goals as goal
 
 pub push_reserved-requires : goal.push_reserved-requires
@@ -37,6 +38,14 @@ loop-seat-preserved g c =
 pub returns-clause-one : goal.returns-clause-one
 returns-clause-one g c =
     of-one (arc_value c.in-Ok.map) c.args.shape.seats c.loop-seat.handles.items
+    (all-moved c.loop-seat.invariant.2
+    (omega (arith, c.in-None.ensures.steps, c.loop-seat.seat-iterator.rest.ok)))
+
+pub returns-clause-made : goal.returns-clause-made
+returns-clause-made g c =
+    made-for (arc_value c.in-Ok.map) c.args.shape c.loop-seat.handles.items
+    (subst (λ (m : LongMapOf). IsMadeFor m.map c.args.shape) (sym c.in-Ok.ensures.ok)
+    c.in_ok-map.ensures.made)
     (all-moved c.loop-seat.invariant.2
     (omega (arith, c.in-None.ensures.steps, c.loop-seat.seat-iterator.rest.ok)))
 

@@ -52,7 +52,7 @@ or-swap false false = refl
 pub loop-key-init : goal.loop-key-init
 loop-key-init c = record {
   own = c.walk-walk.ensures.own;
-  is_walk = c.walk-walk.ensures.walk;
+  is_walk = c.walk-walk.ensures.is_walk;
   quiet = subst (λ seat. HasLogged c.args.seat.now seat []) (sym c.walk-walk.ensures.begun)
       c.walk-walk.ensures.logged;
   keys = [];
@@ -73,7 +73,7 @@ loop-key-preserved c =
     (past c.contains.new.seat c.contains.ensures.own
     (walk_lasts.later set (Contains c.args.sought) c.contains.ensures.worked) (record {
       own = c.next_key.ensures.own;
-      is_walk = c.next_key.ensures.walk;
+      is_walk = c.next_key.ensures.is_walk;
       quiet = subst (λ seat. HasLogged c.args.seat.now seat []) (sym c.next_key.ensures.begun)
           was.quiet;
       keys = key ∷ was.keys;
