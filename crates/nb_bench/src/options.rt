@@ -53,52 +53,89 @@ fn option<'a>(alloc: Global, name: &'a str, value: &'a str, help: &'a str) -> Ar
         .help(help)
 }
 
+const WORKLOADS: &str = "A: gets; B: 90% gets; C: 50% gets; D: puts that make the map grow; \
+    E: puts at one key; kinds: one kind of call after another; check: a test under load";
+
 /// The words that each run is given.
 fn with_words<'a>(alloc: Global, command: Command<'a>) -> Result<Command<'a>, AllocError> {
     let workload = Arg::new(alloc, "WORKLOAD")
         .required(true)
         .action(ArgAction::Set)
-        .help("A gets, B 90% gets, C 50% gets, D growth, E one key; kinds, check");
+        .help(WORKLOADS);
     let threads = Arg::new(alloc, "THREADS")
         .action(ArgAction::Set)
         .value_parser(value_parser!(u32).range(1..=8))
         .default_value("1")
-        .help("Threads at once, each with a seat");
+        .help("How many threads run at once, each with its own seat");
     let seconds = Arg::new(alloc, "SECONDS")
         .action(ArgAction::Set)
         .default_value("1")
-        .help("How long to measure; 0.5 is half a second");
+        .help("How many seconds to measure, such as 0.5");
     command.arg(workload)?.arg(threads)?.arg(seconds)
 }
 
 /// The command line.
 fn command<'a>(alloc: Global) -> Result<Command<'a>, AllocError> {
-    let plan = option(alloc, "plan", "E,E,..", "A table of 2^E slots for each E");
-    let stripes = option(alloc, "stripes", "P", "Words that a count is spread over").value_parser(
-        value_parser!(u32).range(1..=8),
+    let plan = option(
+        alloc,
+        "plan",
+        "E,E,..",
+        "Tables of 2^E slots, one for each E",
     );
+    let stripes = option(
+        alloc,
+        "stripes",
+        "P",
+        "How many words the count of keys is spread over",
+    )
+    .value_parser(value_parser!(u32).range(1..=8));
     let reprobes = option(
         alloc,
         "reprobes",
         "N",
-        "Slots of a path that are tried before a table grows",
+        "How many slots a new key may try before a table grows",
     )
     .value_parser(value_parser!(u32));
-    let chunk = option(alloc, "chunk", "C", "Slots that are copied at once")
-        .value_parser(value_parser!(u32))
-        .default_value("8");
-    let keys = option(alloc, "keys", "WHICH", "dense (from 0 on) or spread").default_value("dense");
-    let calls = option(alloc, "calls", "N", "Calls of a thread, at most").value_parser(
-        value_parser!(u64),
-    );
-    let puts = option(alloc, "puts", "N", "Puts of a thread in the check")
-        .value_parser(value_parser!(u32).range(0..=1_000_000))
-        .default_value("150000");
-    let adds = option(alloc, "adds", "N", "Adds of all threads in the check")
-        .value_parser(value_parser!(u32))
-        .default_value("10000000");
+    let chunk = option(
+        alloc,
+        "chunk",
+        "C",
+        "How many slots a thread copies at a time",
+    )
+    .value_parser(value_parser!(u32))
+    .default_value("8");
+    let keys = option(
+        alloc,
+        "keys",
+        "WHICH",
+        "dense (0, 1, 2 and so on) or spread (over the whole range)",
+    )
+    .default_value("dense");
+    let calls = option(
+        alloc,
+        "calls",
+        "N",
+        "How many calls each thread makes at most",
+    )
+    .value_parser(value_parser!(u64));
+    let puts = option(
+        alloc,
+        "puts",
+        "N",
+        "In check: how many puts each thread makes",
+    )
+    .value_parser(value_parser!(u32).range(0..=1_000_000))
+    .default_value("150000");
+    let adds = option(
+        alloc,
+        "adds",
+        "N",
+        "In check: how many adds all threads make together",
+    )
+    .value_parser(value_parser!(u32))
+    .default_value("10000000");
     let command = Command::new(alloc, "nb_bench").about(
-        "Measures a map of whole numbers, and prints 'nb WORKLOAD THREADS OPS NANOSECONDS'",
+        "Measures a map of whole numbers and prints 'nb WORKLOAD THREADS OPS NANOSECONDS'",
     );
     with_words(alloc, command)?
         .arg(plan)?

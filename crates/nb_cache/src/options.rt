@@ -26,15 +26,15 @@ impl Options {
 
 /// What `--help` tells behind the options.
 const MORE: &str = "\
-A line of the trace is 'get KEY' or 'put KEY TEXT', with one blank between the
-words; the text is the rest of the line. Keys go from 0 to 18446744073709551613,
-at most 524288 different ones. The lines of one key are replayed in their order,
-by one worker. A text that was put stays in memory to the end: 'stale' tells how
-many texts are there that no get finds any more.
+Each line of the trace is 'get KEY' or 'put KEY TEXT', with one space between the
+words. TEXT is the rest of the line. Keys go from 0 to 18446744073709551613, and
+there can be at most 524288 different keys. One worker replays all lines of a key,
+in their order. Each text that was put stays in memory to the end. 'stale' is the
+number of texts that no get finds any more.
 
-Exit status: 0 done; 1 a read or a write failed; 2 a line is neither; 3 bad
-usage; 4 out of memory; 5 more different keys than there is room for; 6 a text
-that is stored isn't shown, which no test has seen.
+Exit status: 0 done; 1 a read or a write failed; 2 a line is not of this form;
+3 bad usage; 4 out of memory; 5 more different keys than there is room for;
+6 a stored text was not shown; no test has seen this.
 
 Example: printf 'put 7 tea\\nget 7\\nget 8\\n' | nb_cache --replies
 8 -
@@ -48,9 +48,14 @@ stale 0";
 
 /// The command line.
 fn command<'a>(alloc: Global) -> Result<Command<'a>, AllocError> {
-    let workers = option(alloc, "workers", "N", "Threads that replay it, 1 to 8")
-        .value_parser(value_parser!(u32).range(1..=8))
-        .default_value("4");
+    let workers = option(
+        alloc,
+        "workers",
+        "N",
+        "How many threads replay the trace; 1 to 8",
+    )
+    .value_parser(value_parser!(u32).range(1..=8))
+    .default_value("4");
     let replies = Arg::new(alloc, "replies")
         .long("replies")
         .action(ArgAction::SetTrue)

@@ -1,5 +1,5 @@
 -- How words stand for the states of values.
-use Rattle.std.proofs.Common.{◌≡◌, ◌≢◌, ◌∙◌, ◌⊎◌, inl, inr, ℕ, ◌+◌, ◌-◌, ◌*◌, ◌/◌, ◌%◌, ◌<◌, ◌≤◌, bit_or, Some, ap, sym, refl, arith}
+use Rattle.std.proofs.Common.{◌≡◌, ◌∙◌, ℕ, ◌+◌, ◌*◌, ◌/◌, ◌%◌, bit_or, Some, ap, sym, refl, arith}
 use Rattle.std.proofs.lemmas.Bool.Decides.{nat_tests}
 use Rattle.std.proofs.lemmas.Nat.{and_mask}
 use Rattle.std.proofs.lemmas.Nat.Bits.{and_pow, bit_at-suc, bit_at_lowest}
@@ -7,7 +7,6 @@ use Rattle.std.specs.Int.Bits.{or_add_and}
 use Rattle.nb_core.specs.States.{IsValueState, value_state, value_word, primed}
 use Rattle.nb_core.specs.Tables.{IsUnprimed}
 use Rattle.nb_core.specs.Laws.{Codings}
-use Rattle.nb_core.specs.declared.numbers.TheConstants.{VALUE_MAX}
 use Rattle.nb_core.specs.declared.states.ValueState.{ValueState}
 use Rattle.nb_core.specs.declared.states.ValueState.TheVariants.{Null, Tombstone, Live, PrimedNull, PrimedTombstone, Primed, Finished}
 
@@ -72,46 +71,3 @@ codings = record {
   finish_again = λ n. omega (arith, or_two (4 * n + 11));
   even = λ v. (even-word v, word-even v);
 }
-
--- ---- what a word says by its last two digits
-
--- a word's value, which is a number in it or none
-pub live-by :
-    (word : ℕ) (v : ValueState) → word ≡ value_word v → word % 4 ≡ 0 → 8 ≤ word
-    → v ≡ Live (word / 4 - 2)
-live-by word Null is even large = absurd (omega (arith, is, large))
-live-by word Tombstone is even large = absurd (omega (arith, is, large))
-live-by word (Live n) is even large = let same : n ≡ word / 4 - 2 = omega (arith, is) in
-    ap Live same
-live-by word PrimedNull is even large = absurd (omega (arith, is, large))
-live-by word PrimedTombstone is even large = absurd (omega (arith, is, large))
-live-by word (Primed n) is even large = absurd (omega (arith, is, even))
-live-by word (Finished n) is even large = absurd (omega (arith, is, even))
-
-pub none-by :
-    (word : ℕ) (v : ValueState) → word ≡ value_word v → word % 4 ≡ 0 → word < 8
-    → (v ≡ Null) ⊎ (v ≡ Tombstone)
-none-by word Null is even small = inl refl
-none-by word Tombstone is even small = inr refl
-none-by word (Live n) is even small = absurd (omega (arith, is, small))
-none-by word PrimedNull is even small = absurd (omega (arith, is, even))
-none-by word PrimedTombstone is even small = absurd (omega (arith, is, even))
-none-by word (Primed n) is even small = absurd (omega (arith, is, small))
-none-by word (Finished n) is even small = absurd (omega (arith, is, small))
-
-pub primed-by : (word : ℕ) (v : ValueState) → word ≡ value_word v → word % 4 ≢ 0 → ¬ IsUnprimed v
-primed-by word Null is odd unprimed = odd (omega (arith, is))
-primed-by word Tombstone is odd unprimed = odd (omega (arith, is))
-primed-by word (Live n) is odd unprimed = odd (omega (arith, is))
-primed-by word _ is odd unprimed = unprimed
-
--- the number in a word is one of the map
-pub number-fits :
-    (word : ℕ) (v : ValueState) → word ≡ value_word v → IsValueState v → word / 4 - 2 ≤ VALUE_MAX
-number-fits word Null is range = omega (arith, is)
-number-fits word Tombstone is range = omega (arith, is)
-number-fits word (Live n) is range = omega (arith, is, range)
-number-fits word PrimedNull is range = omega (arith, is)
-number-fits word PrimedTombstone is range = omega (arith, is)
-number-fits word (Primed n) is range = omega (arith, is, range)
-number-fits word (Finished n) is range = omega (arith, is, range)

@@ -5,7 +5,7 @@ use Rattle.std.proofs.lemmas.Bool.{cases_lt, ne_eqb}
 use Rattle.std.proofs.lemmas.Bool.Decides.{nat_tests}
 use Rattle.std.specs.Option.{unwrap_or}
 use Rattle.nb_core.specs.Plans.{Plan, IsPlan, Header, Key, Value, generations_of, value_index}
-use Rattle.nb_core.specs.States.{IsValueState, key_state, key_word, value_state, value_word, primed}
+use Rattle.nb_core.specs.States.{IsValueState, key_state, key_word, value_in_word, value_state, value_word, primed}
 use Rattle.nb_core.specs.Tables.{IsSlot, tables_at, words_of}
 use Rattle.nb_core.specs.History.{IsInRange, IsLegal}
 use Rattle.nb_core.proofs.Codings.{finished-word, primed-word, value_state-word}
@@ -71,10 +71,6 @@ key-frame p e h plan range g i slot = ap key_state (word-frame p plan h (Key g i
 
 -- ---- values
 
--- what a value word says
-abbrev value_of : ℕ → ValueState
-value_of x = unwrap_or (value_state x) Null
-
 -- the word is this state's, whose number is the map's
 pub record IsWordOf (x : ℕ) (v : ValueState) : Type 0 where
   pub in_range : IsValueState v
@@ -103,10 +99,10 @@ finished-word_of x n v primed =
     (λ w. record { in_range = w.in_range; is = ap (λ x. bit_or x 2) w.is ∙ finished-word n })
 
 -- a state's word says that state
-says : (x : ℕ) (v : ValueState) → IsWordOf x v → value_of x ≡ v
+says : (x : ℕ) (v : ValueState) → IsWordOf x v → value_in_word x ≡ v
 says x v w = ap (λ o. unwrap_or o Null) (ap value_state w.is ∙ value_state-word v w.in_range)
 
-says-itself : (x : ℕ) (v : ValueState) → IsWordOf x v → IsWordOf x (value_of x)
+says-itself : (x : ℕ) (v : ValueState) → IsWordOf x v → IsWordOf x (value_in_word x)
 says-itself x v w = subst (IsWordOf x) (sym (says x v w)) w
 
 -- the word of a slot's value
@@ -213,7 +209,7 @@ key-first p plan g i slot = ap key_state (word-first p plan (Key g i) slot)
 -- each value is null,
 pub value-first :
     (p : Plan) → IsPlan p → (g i : ℕ) → IsSlot p g i → (tables_at p []).value g i ≡ Null
-value-first p plan g i slot = ap value_of (word-first p plan (Value g i) slot)
+value-first p plan g i slot = ap value_in_word (word-first p plan (Value g i) slot)
 
 -- and each next word is 0
 pub next-first : (p : Plan) → IsPlan p → (g : ℕ) → (tables_at p []).next g ≡ 0

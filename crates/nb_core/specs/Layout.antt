@@ -1,4 +1,5 @@
--- How a shape keeps its plan: the exponents, the last slot of the table of each, and where it begins.
+-- How a shape keeps its plan: the exponents, the last slot of the table of each, and where it
+-- begins.
 use Rattle.std.specs.Prelude.{◌≡◌, ◌-◌, ℕ, List, if◌then◌else◌, map, nat_lt, slice_index, take}
 use Rattle.std.specs.List.{range_with_len}
 use Rattle.nb_core.specs.declared.shapes.Shape.TheInside.{Inside}

@@ -94,8 +94,8 @@ HeldThrough first last k = (log : List Entry) → IsBeginning first log → IsBe
 
 -- ---- the log of a history
 
--- Two kinds of events are calls: the exchange that a call wins, and the load or the lost exchange that
--- showed that the call changes nothing. No other event is in the log.
+-- Two kinds of events are calls: the exchange that a call wins, and the load or the lost exchange
+-- that showed that the call changes nothing. No other event is in the log.
 abbrev pub entry_of : Event → Option Entry
 entry_of (Won s g i a b c r) = Some (record { seat = s; call = c; reply = r })
 entry_of (Read s c r) = Some (record { seat = s; call = c; reply = r })

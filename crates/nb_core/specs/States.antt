@@ -1,5 +1,5 @@
 -- What the words of a slot mean.
-use Rattle.std.specs.Prelude.{◌≡◌, ℕ, ◌+◌, ◌-◌, ◌*◌, ◌/◌, ◌%◌, ◌==◌, ◌≤◌, nat_lt, if◌then◌else◌, Option, Some, None}
+use Rattle.std.specs.Prelude.{◌≡◌, ℕ, ◌+◌, ◌-◌, ◌*◌, ◌/◌, ◌%◌, ◌==◌, ◌≤◌, nat_lt, if◌then◌else◌, unwrap_or, Option, Some, None}
 use Rattle.nb_core.specs.declared.numbers.TheConstants.{KEY_MAX, VALUE_MAX}
 use Rattle.nb_core.specs.declared.states.KeyState.{KeyState}
 use Rattle.nb_core.specs.declared.states.KeyState.TheVariants.{Empty, Dead, Claimed}
@@ -44,6 +44,21 @@ value_state w =
     else if w == 5 then Some PrimedTombstone
     else if nat_lt w 8 then None
     else number_state (w / 4 - 2) (w % 4)
+
+-- the value that a value word stands for
+abbrev pub value_in_word : ℕ → ValueState
+value_in_word w = unwrap_or (value_state w) Null
+
+-- what the value in a key's slot shows of the key: the number in it, or that there is none; once it
+-- is primed, nothing
+abbrev pub shown_by_value : ValueState → Option (Option ℕ)
+shown_by_value Null = Some None
+shown_by_value Tombstone = Some None
+shown_by_value (Live n) = Some (Some n)
+shown_by_value PrimedNull = None
+shown_by_value PrimedTombstone = None
+shown_by_value (Primed n) = None
+shown_by_value (Finished n) = None
 
 -- the state's key, if it has one, is a key of the map
 abbrev pub IsKeyState : KeyState → Type 0

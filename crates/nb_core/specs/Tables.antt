@@ -1,7 +1,7 @@
 -- The words of a chain of tables after a history, and what they say of its slots.
-use Rattle.std.specs.Prelude.{◌≡◌, ◌≢◌, ℕ, suc, zero, ◌+◌, ◌%◌, ◌^◌, ◌<◌, ◌⊎◌, ◌||◌, min, max, bit_or, Bool, true, false, if◌then◌else◌, IsTrue, List, [], ◌∷◌, replicate, slice_index, slice_set, unwrap_or}
+use Rattle.std.specs.Prelude.{◌≡◌, ◌≢◌, ℕ, suc, zero, ◌+◌, ◌%◌, ◌^◌, ◌<◌, ◌⊎◌, ◌||◌, min, max, bit_or, Bool, true, false, if◌then◌else◌, IsTrue, List, [], ◌∷◌, replicate, slice_index, slice_set}
 use Rattle.nb_core.specs.Plans.{Plan, generations_of, header_index, key_index, size_of, value_index, word_count}
-use Rattle.nb_core.specs.States.{key_state, key_word, value_state, value_word}
+use Rattle.nb_core.specs.States.{key_state, key_word, value_in_word, value_word}
 use Rattle.nb_core.specs.declared.events.Event.{Event}
 use Rattle.nb_core.specs.declared.events.Event.TheVariants.{Claim, Kill, Won, CopyIn, Prime, Finish, Install, Take, Count, Promote, Read}
 use Rattle.nb_core.specs.declared.states.KeyState.{KeyState}
@@ -54,7 +54,7 @@ pub record Tables : Type 0 where
 abbrev pub tables_of : Plan → List ℕ → Tables
 tables_of p w = record {
   key = λ g i. key_state (slice_index w (key_index p g i));
-  value = λ g i. unwrap_or (value_state (slice_index w (value_index p g i))) Null;
+  value = λ g i. value_in_word (slice_index w (value_index p g i));
   next = λ g. slice_index w (header_index p g 0);
   taken = λ g. slice_index w (header_index p g 1);
   counted = λ g. slice_index w (header_index p g 2);

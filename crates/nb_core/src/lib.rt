@@ -17,6 +17,7 @@ mod numbers;
 mod plain;
 mod seats;
 mod shapes;
+mod slot_words;
 mod states;
 
 pub use calls::{Call, Change, Reply, Want};
@@ -27,10 +28,12 @@ pub use numbers::{KEY_MAX, Key, Num, RangeFault, VALUE_MAX};
 pub use plain::{PlainFault, PlainMap};
 pub use seats::NotAll;
 pub use shapes::{
-    HeaderWord, MAX_GENERATIONS, MAX_SEATS, MAX_STRIPES, MOST_KEYS, Shape, ShapeFault,
+    HeaderWord, INSTALLED, MAX_GENERATIONS, MAX_SEATS, MAX_STRIPES, MOST_KEYS, NOT_INSTALLED,
+    Shape, ShapeFault, TOP_INDEX,
 };
-pub use states::{
-    KeyState, ValueState, decode_key, decode_lawful_value, decode_value, encode_key, encode_value,
-    number_in_word,
+pub use slot_words::{
+    DEAD_KEY, EMPTY_KEY, FINISHED_BIT, KeyWord, NULL_VALUE, PRIMED_BIT, ValueWord, decode_key,
+    decode_value, encode_key, encode_value,
 };
+pub use states::{KeyState, ValueState};
 pub use std::alloc::AllocError as OutOfMemory;

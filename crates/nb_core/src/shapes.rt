@@ -76,6 +76,15 @@ const SHORT_PATH: u32 = 18;
 /// The chunk of a shape for a number of keys.
 const LARGE_CHUNK: u32 = 64;
 
+/// The index of the top word, of any chain.
+pub const TOP_INDEX: usize = 0;
+
+/// The next word of a table with no next one, as all words are at first.
+pub const NOT_INSTALLED: u64 = 0;
+
+/// The next word of a table that has a next one.
+pub const INSTALLED: u64 = 1;
+
 /// The words that a table begins with, by what they tell.
 #[derive(Clone, Copy, Debug, PartialEq, Eq, Hash)]
 pub enum HeaderWord {
@@ -202,8 +211,8 @@ impl Shape {
 
     /// The shape for so many different keys, up to [`MOST_KEYS`], with a stripe for each seat. Its
     /// last table has half as many slots again as there are keys, and more by the next power of
-    /// two. The table before it has an eighth of its slots, so a map that fills grows once. Paths are
-    /// kept short and chunks large, by the numbers that measured best.
+    /// two. The table before it has an eighth of its slots, so a map that fills grows once. Paths
+    /// are kept short and chunks large, by the numbers that measured best.
     pub fn for_keys(most: usize, seats: usize) -> Result<Shape, ShapeFault>
         ensures shape { result ≡ checked_for_keys most seats }
         ensures room { IfOk result (λ p. HasRoomFor p most) }

@@ -26,12 +26,12 @@ impl Options {
 
 /// What `--help` tells behind the options.
 const MORE: &str = "\
-Numbers go from 0 to 18446744073709551613, one a line, in digits alone; at most
-524288 different ones. They are printed in ascending order, so that the output
-is the same whoever came first; only --who tells that, and it is the same from
-run to run with one worker alone.
+Each line is one number from 0 to 18446744073709551613, in digits only. There can
+be at most 524288 different numbers. They are printed in ascending order, so the
+output is the same in every run. Only the workers that --who prints can differ
+from run to run. With one worker, they are the same too.
 
-Exit status: 0 done; 1 a read or a write failed; 2 a line is no such number;
+Exit status: 0 done; 1 a read or a write failed; 2 a line is not such a number;
 3 bad usage; 4 out of memory; 5 more different numbers than there is room for.
 
 Example: printf '7\\n3\\n7\\n' | nb_dedup
@@ -40,15 +40,20 @@ Example: printf '7\\n3\\n7\\n' | nb_dedup
 
 /// The command line.
 fn command<'a>(alloc: Global) -> Result<Command<'a>, AllocError> {
-    let workers = option(alloc, "workers", "N", "Threads that take jobs, 1 to 8")
-        .value_parser(value_parser!(u32).range(1..=8))
-        .default_value("4");
+    let workers = option(
+        alloc,
+        "workers",
+        "N",
+        "How many threads take numbers; 1 to 8",
+    )
+    .value_parser(value_parser!(u32).range(1..=8))
+    .default_value("4");
     let who = Arg::new(alloc, "who")
         .long("who")
         .action(ArgAction::SetTrue)
-        .help("Also print which worker took each, counted from 1");
+        .help("Also print which worker took each number; workers are numbered from 1");
     Command::new(alloc, "nb_dedup")
-        .about("Prints each number of standard input once: sort -nu")
+        .about("Prints each number of standard input once, like sort -nu")
         .after_help(MORE)
         .arg(workers)?
         .arg(who)

@@ -34,18 +34,22 @@ pub record StaysOpen (before after : Option SessionOf) (Change : SessionOf → S
   pub is : after ≡ Some new
   pub holds : Change old new
 
--- The handle's seat has gone on: it is the map's, it has its number, and it has forgotten nothing.
--- The handle is of the same map, and has the same seats in reserve.
+-- the session has gone on with its seat
 pub record HasGoneOn (before after : SessionOf) : Type 0 where
+  -- the seat is the map's
   pub own : IsMine after.map after.seat
+  -- it has its number, and has forgotten nothing
   pub later : IsLater before.seat after.seat
+  -- the map is the same, and so are the seats in reserve
   pub map : after.map ≡ before.map
   pub spare : after.spare ≡ before.spare
 
--- The same, and its walk is where it was. A walk that was underway is so still.
+-- the same, and so has its walk
 pub record KeepsRest (before after : SessionOf) : Type 0 where
   pub on : HasGoneOn before after
+  -- the walk is where it was
   pub walk : after.walk ≡ before.walk
+  -- a walk that was underway is so still
   pub underway :
       (walk : WalkOf) (pairs : List (ℕ × ℕ)) → IsUnderway before.map before.seat walk pairs
       → IsUnderway after.map after.seat walk pairs

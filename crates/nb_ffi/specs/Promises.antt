@@ -1,5 +1,6 @@
--- What the calls of a handle promise: what the map promises of each call, said of the handle's seat,
--- and what becomes of the rest of its session.
+-- What the calls of a handle promise: one record for each kind of call. It has what the map
+-- promises of the call, said of the handle's seat, and what becomes of the rest of the session.
+-- The exports cite them.
 use Rattle.std.specs.Prelude.{◌≡◌, ℕ, max, Option, Some, None}
 use Rattle.nb_core.specs.declared.calls.Call.{Call}
 use Rattle.nb_map.specs.Promises as of_map
@@ -12,7 +13,9 @@ use Rattle.nb_ffi.specs.Handles.{HasGoneOn, KeepsRest, SessionOf}
 
 -- what a read of a key promises, which finds this number there, or none
 pub record HasGot (key : ℕ) (found : Option ℕ) (before after : SessionOf) : Type 0 where
+  -- what the map promises of it
   pub promised : of_map.HasGot before.map key before.seat after.seat found
+  -- all else of the session is as it was, and its walk goes on
   pub rest : KeepsRest before after
 
 -- what a write promises that has so many tries, and one at least
@@ -43,14 +46,17 @@ pub record HasMet (other before after : SessionOf) : Type 0 where
 
 -- what the beginning of a walk promises, which is then the handle's
 pub record HasBegunWalk (before after : SessionOf) : Type 0 where
+  -- the walk that the handle has now, whatever it had before
   pub walk : WalkOf
   pub is : after.walk ≡ Some walk
   pub promised : of_map.HasBegunWalk before.map before.seat after.seat walk
+  -- all else of the session is as it was
   pub on : HasGoneOn before after
 
 -- what a step of the handle's walk promises, which shows this pair, or ends the walk
 pub record HasWalkedOn (walk : WalkOf) (shown : Option (ℕ × ℕ)) (before after : SessionOf) :
     Type 0 where
+  -- the walk, as it is now
   pub walk' : WalkOf
   pub is : after.walk ≡ Some walk'
   pub promised : of_map.HasWalkedOn before.map before.seat after.seat walk walk' shown

@@ -1,4 +1,4 @@
-//! What a handle lends. It stands apart, since specs that the struct cites may not cite it.
+//! What a handle lends. It is a file of its own, since specs that the struct cites may not cite it.
 ghost use Rattle.std.specs.Prelude.{◌≡◌, Some};
 ghost use types.Logic.{sem};
 ghost use Rattle.nb_ffi.specs.declared.ended_map.EndedMap.{EndedMap};

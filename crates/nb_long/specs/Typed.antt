@@ -1,5 +1,5 @@
--- How contracts see a typed map, and of what its calls are made: calls of the map of numbers, in its
--- log, with values that the store holds under these numbers.
+-- How contracts see a typed map, and what its calls are made of: calls of the map of numbers, in
+-- its log, with values that the store holds under these numbers.
 use Rattle.std.specs.Prelude.{◌≡◌, ℕ, ◌+◌, ◌*◌, Bool, true, false, List, ◌∷◌, Option, Some, None, option_map, Result, Ok, Err, All}
 use Rattle.boxcar.specs.Table.{Shelves, Shows, Where}
 use Rattle.nb_core.specs.Log.{reply_at}

@@ -67,8 +67,8 @@ impl<V: Drop> Handle<V> {
         Ok(handles)
     }
 
-    /// What every handle is: its seat is a seat of its map. Nothing runs. A proof over several calls
-    /// of a handle sets out from it.
+    /// What every handle is: its seat is a seat of its map. Nothing runs. A proof over several
+    /// calls of a handle sets out from it.
     pub fn known(&self)
         ensures { IsMine self.now.map.map self.now.seat }
     {

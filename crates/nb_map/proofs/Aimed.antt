@@ -1,11 +1,10 @@
 -- What a look at a key's home slot leaves open for a write.
 use Rattle.std.proofs.Common.{◌≡◌, ◌∙◌, ◌==◌, ◌-◌, ℕ, ◌<◌, Bool, true, false, cond, List, [], None, Some, ap, sym, subst, refl, inl, inr}
-use Rattle.std.proofs.lemmas.Bool.{eqb-false, eqb-true}
+use Rattle.std.proofs.lemmas.Bool.{eqb-false}
 use Rattle.std.proofs.lemmas.Nat.{pow_pos}
 use Rattle.nb_core.specs.Calls.{Fills}
 use Rattle.nb_core.specs.History.{key_of_call}
 use Rattle.nb_core.specs.Plans.{Plan, generations_of}
-use Rattle.nb_core.specs.States.{key_state}
 use Rattle.nb_core.specs.Tables.{path_slot}
 use Rattle.nb_core.specs.declared.calls.Call.{Call}
 use Rattle.nb_core.specs.declared.calls.Reply.{Reply}
@@ -56,27 +55,14 @@ made-at-home chain call {before} {after} g i (Claimed other) own table at fills 
         subst (λ made. HasMade p call before after made 1) none
         (made-read p call (shown_by_key p g i (Claimed other) k) step)
 
--- only the word of an empty slot says that it is empty
-pub empty-word : (word : ℕ) → key_state word ≡ Empty → word ≡ 0
-empty-word word is =
-    elim (word == 0) as (λ b. (word == 0) ≡ b
-    → cond b Empty (cond (word == 1) Dead (Claimed (word - 2))) ≡ Empty → word ≡ 0) [
-      | true ↦ λ zero same. eqb-true word 0 zero
-      | false ↦ λ other same. one (word == 1) same
-    ] refl is
-  where
-    one : (b : Bool) → cond b Dead (Claimed (word - 2)) ≡ Empty → word ≡ 0
-    one true same = absurd cc
-    one false same = absurd cc
-
--- A write has loaded the word of its key's home slot, and it may be claimed the slot.
-module _ (chain : ChainOf) {call : Call} {start looked there : SeenBy} (g i key word : ℕ)
-    (own : IsOwn chain start) (table : g < generations_of chain.shape)
+-- A write has loaded the key word of its key's home slot, and it may be claimed the slot.
+module _ (chain : ChainOf) {call : Call} {start looked there : SeenBy} (g i key : ℕ)
+    (state : KeyState) (own : IsOwn chain start) (table : g < generations_of chain.shape)
     (is : key_of_call call ≡ key) (at : path_slot chain.shape g key 0 ≡ i)
     (load : Extended chain.shape start looked
-    (read start.number call (shown_by_key chain.shape g i (key_state word) (key_of_call call))) 1)
-    (found : (seen_by chain.shape looked).key g i ≡ key_state word)
-    (acts : word ≡ 0 → Fills call)
+    (read start.number call (shown_by_key chain.shape g i state (key_of_call call))) 1)
+    (found : (seen_by chain.shape looked).key g i ≡ state)
+    (acts : state ≡ Empty → Fills call)
     (claim : HasMade chain.shape call looked there [] 2) where
   mine : IsOwn chain looked
   mine = steps_add_up.own own (steps_add_up.one load)
@@ -84,22 +70,19 @@ module _ (chain : ChainOf) {call : Call} {start looked there : SeenBy} (g i key 
   home : path_slot chain.shape g (key_of_call call) 0 ≡ i
   home = ap (λ k. path_slot chain.shape g k 0) is ∙ at
 
-  fills : key_state word ≡ Empty → Fills call
-  fills empty = acts (empty-word word empty)
-
   -- that was no call
   pub made-look : HasMade chain.shape call start there [] 3
   made-look =
-      made-then own (made-at-home chain call g i (key_state word) own table home fills load) claim
+      made-then own (made-at-home chain call g i state own table home acts load) claim
 
   -- and where the key is at home in the end, and was known there if the call puts a number at an
-  -- absent key, the word was the key's
-  pub own-word :
+  -- absent key, the slot was the key's
+  pub own-slot :
       {after : SeenBy} {calls : List (Call × Reply)} {most : ℕ}
       → HasMade chain.shape call there after calls most
       → IsAloneAtHome chain.shape g call start after → IsKnownHome chain.shape g call start
-      → key_state word ≡ Claimed key
-  own-word {after} made alone known =
+      → state ≡ Claimed key
+  own-slot {after} made alone known =
       let p = chain.shape in
       let k = key_of_call call in
       let first = steps_add_up.stays own (steps_add_up.one load) in
@@ -107,7 +90,7 @@ module _ (chain : ChainOf) {call : Call} {start looked there : SeenBy} (g i key 
       elim (home-before p (seen_by p looked) (seen_by p after) second g k table alone.home) [
         | inl empty ↦
             let none = sym found ∙ sym (ap ((seen_by p looked).key g) home) ∙ empty in
-            let still = first.claimed g _ k (home-in p g k table) (known.known (fills none)) in
+            let still = first.claimed g _ k (home-in p g k table) (known.known (acts none)) in
             let both : Empty ≡ Claimed k = sym empty ∙ still in
             absurd cc
         | inr here ↦

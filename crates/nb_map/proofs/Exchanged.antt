@@ -1,7 +1,7 @@
 -- What a call does at its key's slot, and what others did meanwhile.
-use Rattle.std.proofs.Common.{◌≡◌, ◌≢◌, ◌∙◌, ℕ, suc, zero, Bool, ◌+◌, ◌≤◌, ◌<◌, true, false, cond, List, [], ◌∷◌, ◌++◌, length, Option, Some, None, ap, sym, subst, subst₂, refl, arith}
+use Rattle.std.proofs.Common.{◌≡◌, ◌≢◌, ◌∙◌, ℕ, suc, zero, Bool, ◌+◌, ◌≤◌, ◌<◌, true, false, cond, List, [], ◌∷◌, ◌++◌, length, Option, Some, None, Result, Ok, Err, ap, sym, subst, subst₂, refl, arith}
 use Rattle.std.specs.FinMap as map
-use Rattle.std.specs.Option.{unwrap_or}
+use Rattle.std.specs.Prelude.{OnOk}
 use Rattle.std.specs.List.{All}
 use Rattle.std.proofs.lemmas.Bool.{eq-eqb, ne_eqb}
 use Rattle.std.proofs.lemmas.List.Elements.{All-head, All-tail}
@@ -12,7 +12,7 @@ use Rattle.nb_core.specs.Laws.{Shows}
 use Rattle.nb_core.specs.Meaning.{passed_over}
 use Rattle.nb_core.specs.Plans.{IsPlan, Plan, generations_of}
 use Rattle.nb_core.specs.Tables.{IsSettledBelow, IsSlot, IsUnprimed, tables_at}
-use Rattle.nb_core.specs.States.{IsValueWord, value_word}
+use Rattle.nb_core.specs.States.{shown_by_value}
 use Rattle.nb_core.specs.declared.calls.Call.{Call}
 use Rattle.nb_core.specs.declared.calls.Reply.{Reply}
 use Rattle.nb_core.specs.declared.events.Event.{Event}
@@ -22,7 +22,7 @@ use Rattle.nb_core.specs.declared.states.ValueState.{ValueState}
 use Rattle.nb_core.specs.declared.states.ValueState.TheVariants.{Null, Tombstone, Live, PrimedNull, PrimedTombstone, Primed, Finished}
 use Rattle.nb_table.specs.Chains.{ChainOf, Extended, Grown, IsOwn, SeenBy, seen_by}
 use Rattle.nb_table.specs.Conditions.{IsReached}
-use Rattle.nb_table.specs.Events.{only, read, shown_by_value, value_in}
+use Rattle.nb_table.specs.Events.{only, read}
 use Rattle.nb_map.specs.Logs.{as_replied}
 use Rattle.nb_map.proofs.Made.{made-more, made-own, made-read, made-stays, made-step, made-within}
 use Rattle.nb_map.proofs.Searched.{made-then, reached-lasts}
@@ -36,7 +36,7 @@ use Rattle.nb_map.specs.declared.steps.claim.Below.TheVariants.{HasKey}
 use Rattle.nb_map.specs.declared.steps.decide.Decision.{Decision}
 use Rattle.nb_map.specs.declared.steps.decide.Decision.TheVariants as decision
 use Rattle.nb_map.specs.declared.steps.write.Written.TheVariants.{Above}
-use Rattle.nb_core.proofs.Theorems.{beginnings_are_legal, codings, decided, log_is_replayed, lost_exchange, passed_over_adds, passed_settled}
+use Rattle.nb_core.proofs.Theorems.{beginnings_are_legal, decided, log_is_replayed, lost_exchange, passed_over_adds, passed_settled}
 use Rattle.nb_table.proofs.Theorems.{steps_add_up}
 
 -- ---- what a value shows
@@ -72,14 +72,11 @@ pub none-of : {A : Type 0} (o : Option A) → ((x : A) → o ≡ Some x → ⊥)
 none-of None not_some = refl
 none-of (Some x) not_some = absurd (not_some x refl)
 
--- words that differ stand for values that differ
-same-word :
-    (x y : ℕ) → IsValueWord x → IsValueWord y → value_in x ≡ value_in y → x ≡ y
-same-word x y a b same =
-    let is = λ (w : ℕ) (word : IsValueWord w). word.decodes
-    ∙ ap Some (sym (ap (λ o. unwrap_or o Null) word.decodes)) in
-    (codings.word_of_state x (value_in x) (is x a)).0 ∙ ap value_word same
-    ∙ sym (codings.word_of_state y (value_in y) (is y b)).0
+-- what holds if a step was won, where it wasn't lost
+pub on-ok :
+    {A B P : Type 0} (r : Result A B) → ((x : B) → r ≡ Err x → ⊥) → OnOk r P → P
+on-ok (Ok x) not_lost holds = holds
+on-ok (Err x) not_lost holds = absurd (not_lost x refl)
 
 -- a call that is decided otherwise doesn't leave the number alone
 pub acts-unless :
@@ -101,14 +98,13 @@ read-tables p number call (Some n) h = one (leaves_alone call n)
     one true = refl
     one false = refl
 
--- A write has lost so many tries at its key's slot, whose value was found last in this word, and
--- shows this number, or none.
-pub record HasTried (p : Plan) (call : Call) (start now : SeenBy) (g i lost from : ℕ)
-    (number : Option ℕ) : Type 0 where
+-- A write has lost so many tries at its key's slot, where this value was found last. It shows this
+-- number, or none.
+pub record HasTried (p : Plan) (call : Call) (start now : SeenBy) (g i lost : ℕ)
+    (from : ValueState) (number : Option ℕ) : Type 0 where
   pub made : HasMade p call start now (read_of call number) (lost + 1)
-  pub word : IsValueWord from
-  pub held : (seen_by p now).value g i ≡ value_in from
-  pub shows : shown_by_value (value_in from) ≡ Some number
+  pub held : (seen_by p now).value g i ≡ from
+  pub shows : shown_by_value from ≡ Some number
   pub passed : lost ≤ passed_since call start now
 
 -- ---- the exchanges that others won
@@ -262,7 +258,8 @@ module _ (chain : ChainOf) where
 
   -- ---- the tries of a write
 
-  module _ {call : Call} {start now : SeenBy} {g i lost from : ℕ} {number : Option ℕ}
+  module _ {call : Call} {start now : SeenBy} {g i lost : ℕ} {from : ValueState}
+      {number : Option ℕ}
       (own : IsOwn chain start) (tried : HasTried p call start now g i lost from number) where
     -- what was found last was the call's read, if the call leaves it as it is
     pub tried-left :
@@ -282,20 +279,20 @@ module _ (chain : ChainOf) where
     -- an exchange of it is won
     pub tried-won :
         {after : SeenBy} {to : ValueState} → leaves_alone call number ≡ false
-        → Extended p now after (Won now.number g i (value_in from) to call
-        (record { before = number_in_value (value_in from); matched = true }) ∷ []) 1
+        → Extended p now after (Won now.number g i from to call
+        (record { before = number_in_value from; matched = true }) ∷ []) 1
         → HasMade p call start after ((call, record { before = number; matched = true }) ∷ [])
         (lost + 1 + 1)
     tried-won acts won =
         made-more chain own (tried-none acts)
-        (made-won number (shown-some (value_in from) number tried.shows).1 won)
+        (made-won number (shown-some from number tried.shows).1 won)
 
-    module _ (found : ℕ) {after : SeenBy} (acts : leaves_alone call number ≡ false)
-        (step : Extended p now after (read now.number call (shown_by_value (value_in found))) 1)
+    module _ (found : ValueState) {after : SeenBy} (acts : leaves_alone call number ≡ false)
+        (step : Extended p now after (read now.number call (shown_by_value found)) 1)
       where
         -- or lost, and what was found is primed
         pub tried-primed :
-            shown_by_value (value_in found) ≡ None → HasMade p call start after [] (lost + 1 + 1)
+            shown_by_value found ≡ None → HasMade p call start after [] (lost + 1 + 1)
         tried-primed shows =
             made-then own (tried-none acts)
             (made-read p call None
@@ -305,19 +302,18 @@ module _ (chain : ChainOf) where
         pub tried-lost :
             (shown : Option ℕ) → IsSlot p g i → (seen_by p now).key g i ≡ Claimed (key_of_call call)
             → IsSettledBelow p (seen_by p now) g (key_of_call call)
-            → IsValueWord found → (seen_by p after).value g i ≡ value_in found → found ≢ from
-            → shown_by_value (value_in found) ≡ Some shown
+            → (seen_by p after).value g i ≡ found → found ≢ from
+            → shown_by_value found ≡ Some shown
             → HasTried p call start after g i (lost + 1) found shown
-        tried-lost shown slot claimed settled word held differs shows =
+        tried-lost shown slot claimed settled held differs shows =
             let mine = steps_add_up.own own tried.made.grown in
-            let one = lost-one call g i (value_in found) mine step slot claimed settled held
-            (shown-some (value_in found) shown shows).0
-            (λ same. differs (same-word found from word tried.word (same ∙ tried.held))) in
+            let one = lost-one call g i found mine step slot claimed settled held
+            (shown-some found shown shows).0
+            (λ same. differs (same ∙ tried.held)) in
             record {
               made = made-then own (tried-none acts)
                   (made-read p call (Some shown)
                   (subst (λ s. Extended p now after (read now.number call s) 1) shows step));
-              word = word;
               held = held;
               shows = shows;
               passed = omega (
@@ -330,16 +326,15 @@ module _ (chain : ChainOf) where
 
   -- a load comes first
   pub tried-first :
-      {call : Call} {start after : SeenBy} (g i word : ℕ) (number : Option ℕ)
-      → Extended p start after (read start.number call (shown_by_value (value_in word))) 1
-      → IsValueWord word → (seen_by p after).value g i ≡ value_in word
-      → shown_by_value (value_in word) ≡ Some number
-      → HasTried p call start after g i 0 word number
-  tried-first {call} {start} {after} g i word number load is held shows = record {
+      {call : Call} {start after : SeenBy} (g i : ℕ) (v : ValueState) (number : Option ℕ)
+      → Extended p start after (read start.number call (shown_by_value v)) 1
+      → (seen_by p after).value g i ≡ v
+      → shown_by_value v ≡ Some number
+      → HasTried p call start after g i 0 v number
+  tried-first {call} {start} {after} g i v number load held shows = record {
     made = made-within 1 (0 + 1) (omega arith)
         (made-read p call (Some number)
         (subst (λ s. Extended p start after (read start.number call s) 1) shows load));
-    word = is;
     held = held;
     shows = shows;
     passed = omega arith;
@@ -347,10 +342,10 @@ module _ (chain : ChainOf) where
 
   -- or it finds a primed value
   pub loaded-primed :
-      {call : Call} {start after : SeenBy} (word : ℕ)
-      → Extended p start after (read start.number call (shown_by_value (value_in word))) 1
-      → shown_by_value (value_in word) ≡ None → HasMade p call start after [] 1
-  loaded-primed {call} {start} {after} word load shows =
+      {call : Call} {start after : SeenBy} (v : ValueState)
+      → Extended p start after (read start.number call (shown_by_value v)) 1
+      → shown_by_value v ≡ None → HasMade p call start after [] 1
+  loaded-primed {call} {start} {after} v load shows =
       made-read p call None
       (subst (λ s. Extended p start after (read start.number call s) 1) shows load)
 

@@ -13,8 +13,8 @@ log seat = log_of seat.chain.seen
 abbrev pub HaveEmptyLogs : List SeatOf → Type 0
 HaveEmptyLogs seats = All (λ seat. log seat ≡ []) seats
 
--- The log has gone on. All of it is replayed, and of what is new just these calls are the seat's, the
--- newest first.
+-- The log has gone on. All of it is replayed, and of what is new just these calls are the seat's,
+-- the newest first.
 pub record HasLogged (before after : SeatOf) (made : List (Call × Reply)) : Type 0 where
   pub number : after.chain.number ≡ before.chain.number
   pub later : List Entry

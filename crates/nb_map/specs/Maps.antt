@@ -68,8 +68,8 @@ accounted net count =
     }
 
 -- The seat's events were such as this call may make, in at most so many steps on the chain. On the
--- counter it made no step, or one that added some number. (Which number follows from `IsMine` before
--- and after: what a seat has counted is what its calls did to the number of keys.)
+-- counter it made no step, or one that added some number. (Which number follows from `IsMine`
+-- before and after: what a seat has counted is what its calls did to the number of keys.)
 pub record HasWorked (map : MapOf) (call : Call) (before after : SeatOf) (most : ℕ) : Type 0 where
   pub steps : HasStepped map.chain.shape call before.chain after.chain most
   pub net : ℤ

@@ -16,9 +16,9 @@ abbrev pub passed_since : Call → (before after : SeenBy) → ℕ
 passed_since call before after =
     passed_over after.seen (length before.seen) (key_of_call call) before.number
 
--- The call has made no more steps than a write may that has as many tries as others won exchanges on
--- its key, and one more: these are counted from the seat's last step before the call. So the call is
--- lock-free: its bound grows only with other writes of its key.
+-- The call has made no more steps than a write may that has as many tries as others won exchanges
+-- on its key, and one more: these are counted from the seat's last step before the call. So the
+-- call is lock-free: its bound grows only with other writes of its key.
 abbrev pub IsLockFree : MapOf → Call → (before after : SeatOf) → Type 0
 IsLockFree map call before after = HasWorked map call before after
     (put_steps map.chain.shape (passed_since call before.chain after.chain + 1))

@@ -74,8 +74,8 @@ pub record HasWritten (map : MapOf) (call : Call) (before after : SeatOf)
 pub record HasTriedToWrite (map : MapOf) (call : Call) (before after : SeatOf) (tries : ℕ)
     (outcome : Outcome PutFault) : Type 0 where
   pub answered : HasAnswered (HasGivenUp map call before after tries) call before after outcome
-  -- its steps have a bound whatever others do, which grows with its tries, or with the exchanges that
-  -- others win on its key if these are fewer
+  -- its steps have a bound whatever others do, which grows with its tries, or with the exchanges
+  -- that others win on its key if these are fewer
   pub wait_free : IsWaitFree map call before after tries
   pub short : IsShortAtHome map.chain.shape call before.chain after.chain
   pub own : IsMine map after
@@ -97,8 +97,8 @@ pub record HasGot (map : MapOf) (key : ℕ) (before after : SeatOf) (found : Opt
 
 -- ---- looks at the map as a whole
 
--- what a look at the top word promises, which shows that so many tables are complete, from the first
--- on
+-- what a look at the top word promises, which shows that so many tables are complete, from the
+-- first on
 pub record HasSeenTop (map : MapOf) (before after : SeatOf) (top : ℕ) : Type 0 where
   pub found : (seen_by map.chain.shape after.chain).top ≡ top
   pub complete :
@@ -109,8 +109,8 @@ pub record HasSeenTop (map : MapOf) (before after : SeatOf) (top : ℕ) : Type 0
   pub count : after.count ≡ before.count
   pub own : IsMine map after
 
--- what a look at the counter promises: it is no call of the log, and makes a step on the counter for
--- each stripe, and none on the tables
+-- what a look at the counter promises: it is no call of the log, and makes a step on the counter
+-- for each stripe, and none on the tables
 pub record HasEstimated (map : MapOf) (before after : SeatOf) : Type 0 where
   pub logged : HasLogged before after []
   pub chain : after.chain ≡ before.chain
@@ -143,8 +143,8 @@ pub record HasBegunWalk (map : MapOf) (before after : SeatOf) (walk : WalkOf) : 
 -- what a call of a walk promises, which shows this pair, or ends the walk
 pub record HasWalkedOn (map : MapOf) (before after : SeatOf) (walk walk' : WalkOf)
     (shown : Option (ℕ × ℕ)) : Type 0 where
-  -- its calls in the log are reads: such as found nothing, and at last that of the pair, if it shows
-  -- one
+  -- its calls in the log are reads: such as found nothing, and at last that of the pair, if it
+  -- shows one
   pub read : HasRead before after shown
   -- it passed over no other key that the map had all the while
   pub walked : HasWalked map.chain.shape before after walk walk' shown

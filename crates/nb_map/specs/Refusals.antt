@@ -29,8 +29,8 @@ IsJust p call before after tries fault.Full = IsJustAdd p call after add_fault.F
 IsJust p call before after tries fault.Contended = tries ≤ passed_since call before after
 IsJust p call before after tries fault.ValueRange = IsJustAdd p call after add_fault.ValueRange
 
--- The write is refused: the seat has made no call, and the reason is just, by what it has seen with a
--- step of its own since.
+-- The write is refused: the seat has made no call, and the reason is just, by what it has seen with
+-- a step of its own since.
 pub record HasRefused (map : MapOf) (call : Call) (before after : SeatOf) (fault : AddFault) :
     Type 0 where
   pub unmade : HasLogged before after []

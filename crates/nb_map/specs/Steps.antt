@@ -46,8 +46,8 @@ abbrev pub looked_below : Plan → ℕ → ℕ
 looked_below p zero = 0
 looked_below p (suc g) = look_steps p g + looked_below p g
 
--- the most steps of a read, with T slots in all tables, G tables, and N slots in the last one: 8 (T +
--- G) (N + 8)
+-- the most steps of a read, with T slots in all tables, G tables, and N slots in the last one: 8 (T
+-- + G) (N + 8)
 abbrev pub get_steps : Plan → ℕ
 get_steps p = 8 * (slots_below p (generations_of p) + generations_of p)
     * (size_of p (generations_of p - 1) + 8)
@@ -76,8 +76,8 @@ abbrev pub search_steps : Plan → ℕ → ℕ
 search_steps p g = 3 * size_of p g + steps_below p g + 4 + table_steps p g
 
 -- the most steps of a write at its key's home slot: a load of the key, and one of its value; an
--- exchange for each try that was lost and for one more; and, it may be, a look at the next word and a
--- claim, and the end of a copy
+-- exchange for each try that was lost and for one more; and, it may be, a look at the next word and
+-- a claim, and the end of a copy
 abbrev pub home_steps : Plan → (g tries passed : ℕ) → ℕ
 home_steps p g tries passed = min tries passed + 5 + pass_steps p g
 

@@ -15,10 +15,10 @@ use Rattle.nb_map.specs.Steps.{update_steps}
 use Rattle.nb_map.specs.declared.faults.PutFault.TheVariants as fault
 use Rattle.nb_map.specs.declared.faults.PutFault.{PutFault}
 
--- What an update that hasn't ended has called: its calls, the newest first; what the newest found at
--- the key; and the function, as these calls left it. It has read the key. Each exchange after that
--- was of what the call before it found, for what the function made of that, in one call of it; and
--- it was lost, since something else was at the key by then.
+-- What an update that hasn't ended has called: its calls, the newest first; what the newest found
+-- at the key; and the function, as these calls left it. It has read the key. Each exchange after
+-- that was of what the call before it found, for what the function made of that, in one call of it;
+-- and it was lost, since something else was at the key by then.
 pub data HasTried {F : Type 0} (Step : F → Option ℕ → Option ℕ → F → Type 0) (k : ℕ) (first : F) :
     List (Call × Reply) → Option ℕ → F → Type 0 where
   Read : (reply : Reply) → HasTried Step k first ((Get k, reply) ∷ []) reply.before first
@@ -36,10 +36,10 @@ IsComputed {F} Step k found function call =
     × (call ≡ exchange_of k found new)
 
 -- How an update ends after these calls, the last of which found this. It has lost fewer exchanges
--- than it has tries, and makes one more. That is won; or it is refused for a just reason, and the map
--- is as it was. Or there is no further one: it has lost as many as it has tries, and others have won
--- as many exchanges on the key. (Its calls have the read as well, so they are one more than the
--- exchanges that it lost.)
+-- than it has tries, and makes one more. That is won; or it is refused for a just reason, and the
+-- map is as it was. Or there is no further one: it has lost as many as it has tries, and others
+-- have won as many exchanges on the key. (Its calls have the read as well, so they are one more
+-- than the exchanges that it lost.)
 abbrev pub IsEnd :
     (m : MapOf) → (k : ℕ) → (before after : SeatOf) → (tries : ℕ) → (calls : List (Call × Reply))
     → (found : Option ℕ) → (last : Option Call) → Result (Option ℕ) PutFault → Type 0
@@ -71,8 +71,8 @@ pub record IsUpdate {F : Type 0} (m : MapOf) (Step : F → Option ℕ → Option
   pub last : Option Call
   pub computed : IfSome last (IsComputed Step k found function)
   pub ended : IsEnd m k before after tries calls found last result
-  -- All that its steps did one of these calls may do. So a slot is claimed for a key that has none in
-  -- the table below only if this call puts a number at an absent key.
+  -- All that its steps did one of these calls may do. So a slot is claimed for a key that has none
+  -- in the table below only if this call puts a number at an absent key.
   pub call : Call
   pub asked : Contains (asked_for last calls) call
   pub worked : HasWorked m call before after (update_steps m.chain.shape tries)

@@ -63,8 +63,8 @@ impl Handle {
         Ok(handles)
     }
 
-    /// What every handle is: its seat is a seat of its map. Nothing runs. A proof over several calls
-    /// of a handle, as one by the laws `logs_add_up` and `one_seat`, sets out from it.
+    /// What every handle is: its seat is a seat of its map. Nothing runs. A proof over several
+    /// calls of a handle, as one by the laws `logs_add_up` and `one_seat`, sets out from it.
     pub fn known(&self)
         ensures { IsMine self.now.map self.now.seat }
     {

@@ -59,7 +59,7 @@ answers-at phases w (first ∷ others) all (suc k) mine at v is =
 -- ---- worker by worker, and phase by phase
 
 -- the part of a list that is said
-pub part-is :
+part-is :
     (w first start count n : ℕ) (all items : List Answer) → first ≡ start → count ≡ n → all ≡ items
     → flat_map (answer_line w) (take (first + count - first) (drop first all))
     ≡ flat_map (answer_line w) (take n (drop start items))
@@ -90,7 +90,7 @@ module _ {V : Type 0} (f : V → List Answer) (phase : Phase) (done : List ℕ) 
   abbrev Lines : ℕ → Bytes
   Lines i = phase_lines phase i (left done i (map f (drop i vs)))
 
-  pub lines-next :
+  lines-next :
       (i : ℕ) (v : V) → i < length vs → v ≡ get_or vs i v
       → Lines i ≡ flat_map (answer_line i)
       (take (length (commands_of i phase)) (drop (slice_index done i) (f v))) ++ Lines (i + 1)
@@ -100,6 +100,17 @@ module _ {V : Type 0} (f : V → List Answer) (phase : Phase) (done : List ℕ) 
       ap (λ us. phase_lines phase i (left done i (map f us))) (drop-cons vs i v below
       ∙ ap (λ u. u ∷ drop (suc i) vs) (sym is))
       ∙ ap (λ n. mine ++ Lines n) (sym (add-one i))
+
+  -- the same, where the part that is said is named by other values
+  pub lines-handed :
+      (i first count : ℕ) (v : V) (all : List Answer) → i < length vs → v ≡ get_or vs i v
+      → first ≡ slice_index done i → count ≡ length (commands_of i phase) → all ≡ f v
+      → Lines i
+      ≡ flat_map (answer_line i) (take (first + count - first) (drop first all)) ++ Lines (i + 1)
+  lines-handed i first count v all below is at so_many same =
+      lines-next i v below is
+      ∙ ap (λ bytes. bytes ++ Lines (i + 1)) (sym (part-is i first (slice_index done i) count
+      (length (commands_of i phase)) all (f v) at so_many same))
 
 module _ {V : Type 0} (f : V → Phase) (vs : List V) where
   rest-next : (i : ℕ) (v : V) → i < length vs → v ≡ get_or vs i v

@@ -1,5 +1,5 @@
 -- A script that was read, run and told.
-use Rattle.std.proofs.Common.{◌≡◌, ◌∙◌, [], List, Option, Result, Ok, Err, ap, append-nil, arith, length, refl, sym}
+use Rattle.std.proofs.Common.{◌≡◌, ◌∙◌, [], List, Option, Result, Ok, Err, ap, append-nil, arith, sym}
 use Rattle.std.specs.Io.KnownBytes.{Appends}
 use Rattle.nb_core.specs.Plans.{Plan}
 use Rattle.nb_run.specs.Outcomes.{IsOutcome, text_of_outcome}

@@ -1,150 +1,162 @@
 -- What is said through the buffer, one part after another.
-use Rattle.std.proofs.Common.{◌≡◌, ◌∙◌, ℕ, suc, Result, Ok, Err, IfErr, ◌+◌, ◌<◌, List, [], ◌∷◌, ◌++◌, Option, ap, sym, subst, refl, length, drop, get_or, append_assoc, append-nil, add-one}
+use Rattle.std.proofs.Common.{◌≡◌, ◌∙◌, ℕ, suc, Bool, false, Result, Ok, Err, IfErr, OnOk, is_err, ◌+◌, ◌<◌, List, [], ◌∷◌, ◌++◌, Option, ap, sym, subst, refl, length, drop, get_or, append_assoc, append-nil, add-one}
 use Rattle.std.proofs.Math.Seq.{drop-cons}
 use Rattle.std.specs.List.{flat_map}
+use Rattle.std.specs.Result.{IsErr}
 use Rattle.std.specs.Io.KnownBytes.{Appends}
 use Rattle.std.proofs.KnownBytes.{Appends-nil, Appends-trans}
 use Rattle.nb_script.specs.Script.{Bytes}
 use Rattle.nb_script.specs.Streams.{AppendsSome}
-use Rattle.nb_run.specs.Output.{Says}
-
-pub says-nothing :
-    (written : Option Bytes) (waiting : Bytes) → Says written waiting written waiting []
-says-nothing written waiting = record {
-  out = [];
-  appended = Appends-nil written;
-  is =
-      append-nil waiting;
-}
-
--- all goes out
-pub says-through :
-    (old mid new : Option Bytes) (waiting waiting' text : Bytes) → Appends old mid waiting
-    → waiting' ≡ [] → Appends mid new text
-    → Says old waiting new waiting' text
-says-through old mid new waiting waiting' text gone none through = record {
-  out = waiting ++ text;
-  appended = Appends-trans old mid new waiting text gone through;
-  is = sym (append-nil (waiting ++ text)) ∙ ap (λ bytes. (waiting ++ text) ++ bytes) (sym none);
-}
-
-pub says-both :
-    (a b c : Option Bytes) (p q r first second : Bytes) → Says a p b q first → Says b q c r second
-    → Says a p c r (first ++ second)
-says-both a b c p q r first second one two = record {
-  out = one.out ++ two.out;
-  appended = Appends-trans a b c one.out two.out one.appended two.appended;
-  is = sym (append_assoc p first second) ∙ ap (λ bytes. bytes ++ second) one.is
-      ∙ append_assoc one.out q second
-      ∙ ap (λ bytes. one.out ++ bytes) two.is ∙ sym (append_assoc one.out two.out r);
-}
-
--- ---- a write that failed
-
-pub some-longer :
-    (a b : Option Bytes) (text rest : Bytes) → AppendsSome a b text → AppendsSome a b (text ++ rest)
-some-longer a b text rest some = record {
-  out = some.out;
-  missing = some.missing ++ rest;
-  are = sym (append_assoc some.out some.missing rest) ∙ ap (λ bytes. bytes ++ rest) some.are;
-  appended = some.appended;
-}
-
-pub some-after :
-    (a b c : Option Bytes) (p q first second : Bytes) → Says a p b q first
-    → AppendsSome b c (q ++ second) → AppendsSome a c (p ++ (first ++ second))
-some-after a b c p q first second said some = record {
-  out = said.out ++ some.out;
-  missing = some.missing;
-  are = append_assoc said.out some.out some.missing ∙ ap (λ bytes. said.out ++ bytes) some.are
-      ∙ sym (append_assoc said.out q second)
-      ∙ ap (λ bytes. bytes ++ second) (sym said.is) ∙ append_assoc p first second;
-  appended = Appends-trans a b c said.out some.out said.appended some.appended;
-}
-
--- what waited went out, and then a beginning of the text
-pub some-through :
-    (a b c : Option Bytes) (p text : Bytes) → Appends a b p → AppendsSome b c text
-    → AppendsSome a c (p ++ text)
-some-through a b c p text gone some = record {
-  out = p ++ some.out;
-  missing = some.missing;
-  are = append_assoc p some.out some.missing ∙ ap (λ bytes. p ++ bytes) some.are;
-  appended = Appends-trans a b c p some.out gone some.appended;
-}
-
--- ---- one part after another of a whole
+use Rattle.nb_script.specs.declared.streams.Failed.{Failed}
+use Rattle.nb_run.specs.Output.{HasSaid, Says}
 
 -- something of the whole was said, and this is the rest
-pub record HasSaid (written : Option Bytes) (waiting : Bytes) (written' : Option Bytes)
-    (waiting' : Bytes) (rest whole : Bytes) : Type 0 where
+pub record SaysOn {W : Type 0} (contents : W → Option Bytes) (failed : W → Bool)
+    (before after : W) (waiting waiting' rest whole : Bytes) : Type 0 where
   pub text : Bytes
-  pub said : Says written waiting written' waiting' text
+  pub said : HasSaid contents failed before after waiting waiting' text (Ok tt)
   pub all : text ++ rest ≡ whole
 
-pub has-begun :
-    (written : Option Bytes) (waiting whole : Bytes)
-    → HasSaid written waiting written waiting whole whole
-has-begun written waiting whole = record {
-  text = [];
-  said = says-nothing written waiting;
-  all =
-      refl;
-}
+module _ {W : Type 0} {contents : W → Option Bytes} {failed : W → Bool} where
+  said-nothing :
+      (w : W) (p : Bytes) → failed w ≡ false → HasSaid contents failed w w p p [] (Ok tt)
+  said-nothing w p unfailed = record {
+    said = record {
+      out = [];
+      appended = Appends-nil (contents w);
+      is = append-nil p;
+    };
+    begun = tt;
+    marks = unfailed;
+  }
 
-pub has-more :
-    (a b c : Option Bytes) (p q r part rest rest' whole : Bytes) → HasSaid a p b q rest whole
-    → Says b q c r part → rest ≡ part ++ rest'
-    → HasSaid a p c r rest' whole
-has-more a b c p q r part rest rest' whole so_far said next = record {
-  text = so_far.text ++ part;
-  said = says-both a b c p q r so_far.text part so_far.said said;
-  all = append_assoc so_far.text part rest' ∙ ap (λ bytes. so_far.text ++ bytes) (sym next)
-      ∙ so_far.all;
-}
+  -- one text after another, of which the second may have failed
+  pub said-both :
+      {a b c : W} {p q r first second : Bytes} {result : Result (Unit {0}) Failed}
+      → HasSaid contents failed a b p q first (Ok tt)
+      → HasSaid contents failed b c q r second result
+      → HasSaid contents failed a c p r (first ++ second) result
+  said-both {a = a} {b = b} {c = c} {p = p} {q = q} {r = r} {first = first} {second = second}
+      {result = Ok x} one two =
+      let s : Says (contents a) p (contents b) q first = one.said in
+      let t : Says (contents b) q (contents c) r second = two.said in
+      record {
+        said = record {
+          out = s.out ++ t.out;
+          appended = Appends-trans _ _ _ s.out t.out s.appended t.appended;
+          is = sym (append_assoc p first second) ∙ ap (λ bytes. bytes ++ second) s.is
+              ∙ append_assoc s.out q second
+              ∙ ap (λ bytes. s.out ++ bytes) t.is ∙ sym (append_assoc s.out t.out r);
+        };
+        begun = tt;
+        marks = two.marks;
+      }
+  said-both {a = a} {b = b} {c = c} {p = p} {q = q} {r = r} {first = first} {second = second}
+      {result = Err e} one two =
+      let s : Says (contents a) p (contents b) q first = one.said in
+      let t : AppendsSome (contents b) (contents c) (q ++ second) = two.begun in
+      record {
+        said = tt;
+        begun = record {
+          out = s.out ++ t.out;
+          missing = t.missing;
+          are = append_assoc s.out t.out t.missing ∙ ap (λ bytes. s.out ++ bytes) t.are
+              ∙ sym (append_assoc s.out q second)
+              ∙ ap (λ bytes. bytes ++ second) (sym s.is) ∙ append_assoc p first second;
+          appended = Appends-trans _ _ _ s.out t.out s.appended t.appended;
+        };
+        marks = two.marks;
+      }
 
-said-whole :
-    (a b : Option Bytes) (q rest whole : Bytes) → (so_far : HasSaid a [] b q rest whole) → rest ≡ []
-    → so_far.text ≡ whole
-said-whole a b q rest whole so_far none =
-    sym (append-nil so_far.text) ∙ ap (λ bytes. so_far.text ++ bytes) (sym none) ∙ so_far.all
+  -- where a part failed, the whole did
+  pub part-failed :
+      {a b : W} {p q part : Bytes} {e : Failed} (rest : Bytes) (result : Result (Unit {0}) Failed)
+      → HasSaid contents failed a b p q part (Err e) → IsErr result
+      → HasSaid contents failed a b p q (part ++ rest) result
+  part-failed rest (Ok x) h err = absurd cc
+  part-failed {a = a} {b = b} {p = p} {part = part} rest (Err e) h err =
+      let some : AppendsSome (contents a) (contents b) (p ++ part) = h.begun in
+      record {
+        said = tt;
+        begun = record {
+          out = some.out;
+          missing = some.missing ++ rest;
+          are = sym (append_assoc some.out some.missing rest)
+              ∙ ap (λ bytes. bytes ++ rest) some.are ∙ append_assoc p part rest;
+          appended = some.appended;
+        };
+        marks = h.marks;
+      }
 
--- the next part failed
-pub some-of :
-    (a b c : Option Bytes) (p q part rest rest' whole : Bytes) → HasSaid a p b q rest whole
-    → AppendsSome b c (q ++ part) → rest ≡ part ++ rest'
-    → AppendsSome a c (p ++ whole)
-some-of a b c p q part rest rest' whole so_far some next =
-    let longer : AppendsSome b c (q ++ rest) =
-    subst (AppendsSome b c) (append_assoc q part rest' ∙ ap (λ bytes. q ++ bytes) (sym next))
-    (some-longer b c (q ++ part) rest' some) in
-    subst (λ bytes. AppendsSome a c (p ++ bytes)) so_far.all
-    (some-after a b c p q so_far.text rest so_far.said longer)
+  -- ---- one part after another of a whole
 
--- all of the whole was said, and what follows it failed
-pub some-last :
-    (a b c : Option Bytes) (q rest whole ending : Bytes) → HasSaid a [] b q rest whole → rest ≡ []
-    → AppendsSome b c (q ++ ending)
-    → AppendsSome a c (whole ++ ending)
-some-last a b c q rest whole ending so_far none some =
-    subst (λ text. AppendsSome a c (text ++ ending)) (said-whole a b q rest whole so_far none)
-    (some-after a b c [] q so_far.text ending so_far.said some)
+  pub none-said :
+      (w : W) (p whole : Bytes) → failed w ≡ false → SaysOn contents failed w w p p whole whole
+  none-said w p whole unfailed = record {
+    text = [];
+    said = said-nothing w p unfailed;
+    all = refl;
+  }
 
--- all was said, and what still waited failed
-pub some-flushed :
-    (a b c d : Option Bytes) (q r rest whole ending : Bytes) → HasSaid a [] b q rest whole
-    → rest ≡ [] → Says b q c r ending
-    → AppendsSome c d r → AppendsSome a d (whole ++ ending)
-some-flushed a b c d q r rest whole ending so_far none said some =
-    let all = says-both a b c [] q r so_far.text ending so_far.said said in
-    subst (λ text. AppendsSome a d (text ++ ending)) (said-whole a b q rest whole so_far none)
-    record {
-      out = all.out ++ some.out;
-      missing = some.missing;
-      are = append_assoc all.out some.out some.missing ∙ ap (λ bytes. all.out ++ bytes) some.are
-          ∙ sym all.is;
-      appended = Appends-trans a c d all.out some.out all.appended some.appended;
-    }
+  pub more-said :
+      {a b c : W} {p q r part rest rest' whole : Bytes}
+      → SaysOn contents failed a b p q rest whole → HasSaid contents failed b c q r part (Ok tt)
+      → rest ≡ part ++ rest' → SaysOn contents failed a c p r rest' whole
+  more-said {part = part} {rest' = rest'} so_far said next = record {
+    text = so_far.text ++ part;
+    said = said-both so_far.said said;
+    all = append_assoc so_far.text part rest' ∙ ap (λ bytes. so_far.text ++ bytes) (sym next)
+        ∙ so_far.all;
+  }
+
+  pub all-said :
+      {a b : W} {p q rest whole : Bytes} → SaysOn contents failed a b p q rest whole
+      → rest ≡ [] → HasSaid contents failed a b p q whole (Ok tt)
+  all-said {a = a} {b = b} {p = p} {q = q} so_far none =
+      subst (λ text. HasSaid contents failed a b p q text (Ok tt))
+      (sym (append-nil so_far.text) ∙ ap (λ bytes. so_far.text ++ bytes) (sym none) ∙ so_far.all)
+      so_far.said
+
+  -- the next part failed
+  pub next-failed :
+      {a b c : W} {p q r part rest whole : Bytes} {e : Failed} (rest' : Bytes)
+      (result : Result (Unit {0}) Failed) → SaysOn contents failed a b p q rest whole → HasSaid contents failed b c q r part (Err e)
+      → rest ≡ part ++ rest' → IsErr result → HasSaid contents failed a c p r whole result
+  next-failed {a = a} {c = c} {p = p} {r = r} rest' result so_far said next err =
+      subst (λ text. HasSaid contents failed a c p r text result)
+      (ap (λ bytes. so_far.text ++ bytes) (sym next) ∙ so_far.all)
+      (said-both so_far.said (part-failed rest' result said err))
+
+  -- the last part, which may have failed
+  pub last-said :
+      {a b c : W} {p q r part rest whole : Bytes} {result : Result (Unit {0}) Failed}
+      → SaysOn contents failed a b p q rest whole → HasSaid contents failed b c q r part result
+      → rest ≡ part → HasSaid contents failed a c p r whole result
+  last-said {a = a} {c = c} {p = p} {r = r} {result = result} so_far said is =
+      subst (λ text. HasSaid contents failed a c p r text result)
+      (ap (λ bytes. so_far.text ++ bytes) (sym is) ∙ so_far.all) (said-both so_far.said said)
+
+  -- where nothing waits, the text goes out at once
+  pub written :
+      {a b : W} {p q text : Bytes} (result : Result (Unit {0}) Failed) → p ≡ [] → q ≡ []
+      → OnOk result (Appends (contents a) (contents b) text)
+      → IfErr result (λ e. AppendsSome (contents a) (contents b) text)
+      → failed b ≡ is_err result → HasSaid contents failed a b p q text result
+  written {text = text} (Ok x) before after gone some marks = record {
+    said = record {
+      out = text;
+      appended = gone;
+      is = ap (λ bytes. bytes ++ text) before ∙ sym (append-nil text)
+          ∙ ap (λ bytes. text ++ bytes) (sym after);
+    };
+    begun = tt;
+    marks = marks;
+  }
+  written {a = a} {b = b} {text = text} (Err e) before after gone some marks = record {
+    said = tt;
+    begun = subst (λ bytes. AppendsSome (contents a) (contents b) (bytes ++ text)) (sym before) some;
+    marks = marks;
+  }
 
 -- ---- items, each with its text
 
@@ -159,8 +171,3 @@ module _ {X : Type 0} (f : X → Bytes) (xs : List X) where
   texts-next i x below is =
       ap (flat_map f) (drop-cons xs i x below ∙ ap (λ y. y ∷ drop (suc i) xs) (sym is))
       ∙ ap (λ n. f x ++ flat_map f (drop n xs)) (sym (add-one i))
-
--- what holds whatever the error is
-pub on-err : {T E X : Type 0} (r : Result T E) → X → IfErr r (λ e. X)
-on-err (Ok x) so = tt
-on-err (Err e) so = so

@@ -4,6 +4,7 @@ use Rattle.std.specs.declared.alloc.Global.{Global}
 use Rattle.std.specs.declared.vec.Vec.{Vec}
 use Rattle.nb_core.specs.Plans.{Plan}
 use Rattle.nb_core.specs.declared.events.Event.{Event}
+use Rattle.nb_core.specs.declared.shapes.TheConstants.{MAX_SEATS}
 use Rattle.nb_run.specs.Output.{AreAnswersOf, all_lines}
 use Rattle.nb_script.specs.Script.{Bytes, Phase}
 use Rattle.nb_run.specs.Text.{ending_of}
@@ -29,7 +30,7 @@ HaveWorkers seats phases = All (λ phase. All (λ task. task.0 < seats) phase) p
 -- and there was a legal history of which the text tells. With one seat, whose worker has all
 -- commands, the text is the plain map's but for refusals.
 pub record IsOutcome (p : Plan) (phases : List Phase) (o : Outcome) : Type 0 where
-  pub few : length o.answers.items ≤ 8
+  pub few : length o.answers.items ≤ MAX_SEATS
   pub answered : AreAnswersOf phases 0 (lists_in o.answers.items)
   pub history : List Event
   pub told : IsToldBy p phases history (text_of_outcome phases o)

@@ -1,9 +1,11 @@
 -- The output, written through a buffer from the workers' answers, each worker's in one list for all
 -- phases.
-use Rattle.std.specs.Prelude.{◌≡◌, ℕ, suc, List, [], ◌∷◌, ◌++◌, Option, drop, length, slice_index, take}
+use Rattle.std.specs.Prelude.{◌≡◌, ℕ, suc, Bool, List, [], ◌∷◌, ◌++◌, IfErr, OnOk, Option, Result, drop, is_err, length, slice_index, take}
 use Rattle.std.specs.Io.KnownBytes.{Appends}
 use Rattle.std.specs.List.{flat_map}
 use Rattle.nb_script.specs.Script.{Bytes, Phase}
+use Rattle.nb_script.specs.Streams.{AppendsSome}
+use Rattle.nb_script.specs.declared.streams.Failed.{Failed}
 use Rattle.nb_run.specs.Text.{answer_line}
 use Rattle.nb_run.specs.Working.{commands_of}
 use Rattle.nb_run.specs.declared.answers.Answer.{Answer}
@@ -14,6 +16,15 @@ pub record Says (written : Option Bytes) (waiting : Bytes) (written' : Option By
   pub out : Bytes
   pub appended : Appends written written' out
   pub is : waiting ++ text ≡ out ++ waiting'
+
+-- What has come of saying a text to a writer, behind the bytes that waited.
+pub record HasSaid {W : Type 0} (contents : W → Option Bytes) (failed : W → Bool)
+    (before after : W) (waiting waiting' text : Bytes) (result : Result (Unit {0}) Failed) :
+    Type 0 where
+  pub said : OnOk result (Says (contents before) waiting (contents after) waiting' text)
+  -- a beginning of all of it went out, perhaps none and perhaps all
+  pub begun : IfErr result (λ _. AppendsSome (contents before) (contents after) (waiting ++ text))
+  pub marks : failed after ≡ is_err result
 
 -- ---- the text
 

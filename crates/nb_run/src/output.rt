@@ -22,7 +22,7 @@ ghost use Rattle.std.specs.Prelude.{
 ghost use Rattle.std.specs.Io.KnownBytes.{Appends};
 ghost use Rattle.std.specs.List.{flat_map};
 ghost use Rattle.nb_script.specs.Streams.{AppendsSome};
-ghost use Rattle.nb_run.specs.Output.{AreAnswersOf, Says, all_lines, left, phase_lines};
+ghost use Rattle.nb_run.specs.Output.{AreAnswersOf, HasSaid, all_lines, left, phase_lines};
 ghost use Rattle.nb_run.specs.Text.{answer_line, answer_text, ending_of, entry_line};
 ghost use Rattle.nb_run.specs.Working.{commands_of};
 
@@ -43,12 +43,9 @@ type Waiting = ArrayVec<u8, ROOM>;
 /// Writes the bytes that wait.
 fn flush<W: Sink>(writer: &mut W, waiting: &mut Waiting) -> Result<(), Failed>
     requires unfailed { W.failed writer.old ≡ false }
-    ensures written { OnOk result (Appends (W.contents writer.old) (W.contents writer.new)
-        waiting.old.items) }
+    ensures flushed { HasSaid W.contents W.failed writer.old writer.new waiting.old.items
+        waiting.new.items [] result }
     ensures empty { OnOk result (waiting.new.items ≡ []) }
-    ensures begun { IfErr result (λ _. AppendsSome (W.contents writer.old) (W.contents writer.new)
-        waiting.old.items) }
-    ensures marks { W.failed writer.new ≡ is_err result }
 {
     write_all(writer, waiting.as_slice())?;
     waiting.clear();
@@ -58,11 +55,8 @@ fn flush<W: Sink>(writer: &mut W, waiting: &mut Waiting) -> Result<(), Failed>
 /// Puts the bytes behind those that wait. Where there is no room, it writes those first.
 fn say<W: Sink>(writer: &mut W, waiting: &mut Waiting, bytes: &[u8]) -> Result<(), Failed>
     requires unfailed { W.failed writer.old ≡ false }
-    ensures said { OnOk result (Says (W.contents writer.old) waiting.old.items
-        (W.contents writer.new) waiting.new.items bytes.now) }
-    ensures begun { IfErr result (λ _. AppendsSome (W.contents writer.old) (W.contents writer.new)
-        (waiting.old.items ++ bytes.now)) }
-    ensures marks { W.failed writer.new ≡ is_err result }
+    ensures { HasSaid W.contents W.failed writer.old writer.new waiting.old.items
+        waiting.new.items bytes.now result }
 {
     if waiting.try_extend_from_slice(bytes).is_ok() {
         return Ok(());
@@ -78,11 +72,8 @@ fn say<W: Sink>(writer: &mut W, waiting: &mut Waiting, bytes: &[u8]) -> Result<(
 /// Says the pieces of a line.
 fn say_all<W: Sink>(writer: &mut W, waiting: &mut Waiting, pieces: &[&[u8]]) -> Result<(), Failed>
     requires unfailed { W.failed writer.old ≡ false }
-    ensures said { OnOk result (Says (W.contents writer.old) waiting.old.items
-        (W.contents writer.new) waiting.new.items (flat_map (λ piece. piece.now) pieces.now)) }
-    ensures begun { IfErr result (λ _. AppendsSome (W.contents writer.old) (W.contents writer.new)
-        (waiting.old.items ++ (flat_map (λ piece. piece.now) pieces.now))) }
-    ensures marks { W.failed writer.new ≡ is_err result }
+    ensures { HasSaid W.contents W.failed writer.old writer.new waiting.old.items
+        waiting.new.items (flat_map (λ piece. piece.now) pieces.now) result }
 {
     for piece in pieces {
         say(writer, waiting, *piece)?;
@@ -112,11 +103,8 @@ fn say_line<W: Sink>(
     answer: &Answer,
 ) -> Result<(), Failed>
     requires unfailed { W.failed writer.old ≡ false }
-    ensures said { OnOk result (Says (W.contents writer.old) waiting.old.items
-        (W.contents writer.new) waiting.new.items (answer_line worker answer.now)) }
-    ensures begun { IfErr result (λ _. AppendsSome (W.contents writer.old) (W.contents writer.new)
-        (waiting.old.items ++ (answer_line worker answer.now))) }
-    ensures marks { W.failed writer.new ≡ is_err result }
+    ensures { HasSaid W.contents W.failed writer.old writer.new waiting.old.items
+        waiting.new.items (answer_line worker answer.now) result }
 {
     let (mut number, mut digits) = (Buffer::new(), Buffer::new());
     let number = number.format(worker as u64).as_bytes();
@@ -132,11 +120,8 @@ fn say_lines<W: Sink>(
     answers: &[Answer],
 ) -> Result<(), Failed>
     requires unfailed { W.failed writer.old ≡ false }
-    ensures said { OnOk result (Says (W.contents writer.old) waiting.old.items
-        (W.contents writer.new) waiting.new.items (flat_map (answer_line worker) answers.now)) }
-    ensures begun { IfErr result (λ _. AppendsSome (W.contents writer.old) (W.contents writer.new)
-        (waiting.old.items ++ (flat_map (answer_line worker) answers.now))) }
-    ensures marks { W.failed writer.new ≡ is_err result }
+    ensures { HasSaid W.contents W.failed writer.old writer.new waiting.old.items
+        waiting.new.items (flat_map (answer_line worker) answers.now) result }
 {
     for answer in answers {
         say_line(writer, waiting, worker, answer)?;
@@ -161,19 +146,15 @@ fn say_phase<W: Sink>(
     done: &mut [usize; MAX_SEATS],
 ) -> Result<(), Failed>
     requires unfailed { W.failed writer.old ≡ false }
-    requires few { length answers.now ≤ 8 }
+    requires few { length answers.now ≤ MAX_SEATS }
     requires enough { (w : ℕ) (mine : List Answer)
         → slice_get (map (λ list. list.items) answers.now) w ≡ Some mine
         → slice_index done.old w + length (commands_of w phase.now) ≤ length mine }
-    ensures said { OnOk result (Says (W.contents writer.old) waiting.old.items
-        (W.contents writer.new) waiting.new.items
-        (phase_lines phase.now 0 (left done.old 0 (map (λ list. list.items) answers.now)))) }
+    ensures said { HasSaid W.contents W.failed writer.old writer.new waiting.old.items
+        waiting.new.items
+        (phase_lines phase.now 0 (left done.old 0 (map (λ list. list.items) answers.now))) result }
     ensures done { OnOk result ((w : ℕ) → w < length answers.now
         → slice_index done.new w ≡ slice_index done.old w + length (commands_of w phase.now)) }
-    ensures begun { IfErr result (λ _. AppendsSome (W.contents writer.old) (W.contents writer.new)
-        (waiting.old.items
-        ++ (phase_lines phase.now 0 (left done.old 0 (map (λ list. list.items) answers.now))))) }
-    ensures marks { W.failed writer.new ≡ is_err result }
 {
     for (worker, list) in answers.iter().enumerate() {
         let first = done[worker];
@@ -192,11 +173,8 @@ fn say_ending<W: Sink>(
     entries: &[(Key, Num)],
 ) -> Result<(), Failed>
     requires unfailed { W.failed writer.old ≡ false }
-    ensures said { OnOk result (Says (W.contents writer.old) waiting.old.items
-        (W.contents writer.new) waiting.new.items (ending_of size entries.now)) }
-    ensures begun { IfErr result (λ _. AppendsSome (W.contents writer.old) (W.contents writer.new)
-        (waiting.old.items ++ (ending_of size entries.now))) }
-    ensures marks { W.failed writer.new ≡ is_err result }
+    ensures { HasSaid W.contents W.failed writer.old writer.new waiting.old.items
+        waiting.new.items (ending_of size entries.now) result }
 {
     let mut digits = Buffer::new();
     let size = digits.format(size).as_bytes();
@@ -211,11 +189,8 @@ fn say_entries<W: Sink>(
     entries: &[(Key, Num)],
 ) -> Result<(), Failed>
     requires unfailed { W.failed writer.old ≡ false }
-    ensures said { OnOk result (Says (W.contents writer.old) waiting.old.items
-        (W.contents writer.new) waiting.new.items (flat_map entry_line entries.now)) }
-    ensures begun { IfErr result (λ _. AppendsSome (W.contents writer.old) (W.contents writer.new)
-        (waiting.old.items ++ (flat_map entry_line entries.now))) }
-    ensures marks { W.failed writer.new ≡ is_err result }
+    ensures { HasSaid W.contents W.failed writer.old writer.new waiting.old.items
+        waiting.new.items (flat_map entry_line entries.now) result }
 {
     let (mut key_digits, mut digits) = (Buffer::new(), Buffer::new());
     for (key, number) in entries {
@@ -237,7 +212,7 @@ pub(crate) fn tell<W: Sink>(
     entries: &[(Key, Num)],
 ) -> Result<(), Failed>
     requires unfailed { W.failed writer.old ≡ false }
-    requires few { length answers.now ≤ 8 }
+    requires few { length answers.now ≤ MAX_SEATS }
     requires enough { AreAnswersOf (map (λ phase. phase.items) phases.now) 0
         (map (λ list. list.items) answers.now) }
     ensures told { OnOk result (Appends (W.contents writer.old) (W.contents writer.new)

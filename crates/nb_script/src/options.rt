@@ -105,7 +105,7 @@ fn command<'a>(alloc: Global) -> Result<Command<'a>, AllocError>
     let plan = option(alloc, "plan", "E,E,..", help::PLAN);
     Command::new(alloc, "nbrun")
         .after_help(help::SCRIPTS)
-        .about("Runs a script, read from standard input, on a map that its workers share")
+        .about("Runs a script from standard input on a map that all workers share")
         .arg(bits)?
         .arg(generations)?
         .arg(seats)?

@@ -1,6 +1,6 @@
 mod Added
 mod Dealt
-mod Held
+mod Handles
 mod Items
 mod Logged
 mod Promised

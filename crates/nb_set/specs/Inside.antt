@@ -1,8 +1,12 @@
--- What is in a set, its seats, its walks and what is left of it, and how it is seen.
+-- What is in a set, its seats, walks and handles, and in what is left of it, and how contracts see
+-- it.
 use Rattle.nb_set.specs.Ending.{EndedOf}
+use Rattle.nb_set.specs.Handles.{HandleOf, HandleWalkOf}
 use Rattle.nb_set.specs.Sets.{SeatOf, SetOf}
 use Rattle.nb_set.specs.Walks.{WalkOf}
 use Rattle.nb_set.specs.declared.ended.SetEnded.TheInside as ended
+use Rattle.nb_set.specs.declared.handle.Handle.TheInside as handle
+use Rattle.nb_set.specs.declared.handle_walk.HandleWalk.TheInside as handle_walk
 use Rattle.nb_set.specs.declared.set.LongSet.TheInside as set
 use Rattle.nb_set.specs.declared.set.Seat.TheInside as seat
 use Rattle.nb_set.specs.declared.set.Walk.TheInside as walk
@@ -18,6 +22,18 @@ seat_of c = record { map = c.map }
 -- the walk, as contracts see it
 abbrev pub walk_of : walk.Inside → WalkOf
 walk_of c = record { map = c.map }
+
+-- the handle, as contracts see it
+abbrev pub handle_of : handle.Inside → HandleOf
+handle_of c = record { set = record { map = c.map.map }; seat = record { map = c.map.seat } }
+
+-- the walk by a handle, as contracts see it
+abbrev pub handle_walk_of : handle_walk.Inside → HandleWalkOf
+handle_walk_of c = record {
+  set = record { map = c.map.map };
+  seat = record { map = c.map.seat };
+  walk = record { map = c.map.walk };
+}
 
 -- the ended set, as contracts see it
 abbrev pub ended_of : ended.Inside → EndedOf

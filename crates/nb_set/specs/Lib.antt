@@ -7,4 +7,3 @@ pub mod Inside
 pub mod Laws
 pub mod Handles
 pub mod Promises
-pub mod Held

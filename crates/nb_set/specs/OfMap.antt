@@ -15,14 +15,14 @@ call_for (Add k) = on_map.Write k want.Absent (change.Put 0)
 call_for (Remove k) = on_map.Write k want.Any change.Remove
 call_for (Contains k) = on_map.Get k
 
--- A write that puts a number is an `add`, but where its condition kept it from an absent key: then
--- it only asked.
+-- A write that puts a number is an `add`, except where its condition kept it from an absent key:
+-- then it only asked.
 abbrev pub put_as : ℕ → Reply → Call × Bool
 put_as k reply = if reply.matched || is_some reply.before then (Add k, is_none reply.before)
     else (Contains k, is_some reply.before)
 
--- A write that removes is a `remove`, but where its condition kept it from a key that was there:
--- then it only asked.
+-- A write that removes is a `remove`, except where its condition kept it from a key that was
+-- there: then it only asked.
 abbrev pub removal_as : ℕ → Reply → Call × Bool
 removal_as k reply = if reply.matched || is_none reply.before then (Remove k, is_some reply.before)
     else (Contains k, is_some reply.before)

@@ -45,20 +45,23 @@ pub record HasLookedUp (set : SetOf) (key : ℕ) (before after : SeatOf) (found 
   pub worked : HasWorked set (Contains key) before after (get_steps (shape_of set))
   -- where the key is at home in the top table, it makes three steps
   pub short : IsSeenAtHome set key before after → steps_of after ≤ steps_of before + 3
+  -- the seat is still the set's
   pub own : IsMine set after
 
 -- ---- looks at the set as a whole
 
 -- what a look at the tables promises, which shows that so many of them are complete
 pub record HasSeenTop (set : SetOf) (before after : SeatOf) (top : ℕ) : Type 0 where
+  -- so many the seat then knows to be complete
   pub found : generation_of set after ≡ top
+  -- and they are
   pub complete :
       (g : ℕ) → g < top
       → IsComplete (shape_of set) (tables_at (shape_of set) after.map.chain.seen) g
   -- it is no call of the log, and makes one step, the look
   pub logged : HasLogged before after []
   pub looked : HasLookedOnce before after
-  -- the seat has forgotten nothing, so its walks go on
+  -- the seat has forgotten nothing, so its walks go on, and is still the set's
   pub later : IsLater before after
   pub own : IsMine set after
 
@@ -71,6 +74,7 @@ pub record HasEstimated (set : SetOf) (before after : SeatOf) : Type 0 where
   pub count :
       let count = before.map.count in
       after.map.count ≡ record count { steps = count.steps + set.map.counter.stripes }
+  -- the seat has forgotten nothing, and is still the set's
   pub later : IsLater before after
   pub own : IsMine set after
 
@@ -82,6 +86,7 @@ pub record HasMet (set : SetOf) (other before after : SeatOf) : Type 0 where
   -- it makes one step, a look, and has then seen all that the other had
   pub looked : HasLookedOnce before after
   pub seen : IsBeginning other.map.chain.seen after.map.chain.seen
+  -- it has forgotten nothing, and is still the set's
   pub later : IsLater before after
   pub own : IsMine set after
 
@@ -96,6 +101,7 @@ pub record HasBegunWalk (set : SetOf) (before after : SeatOf) (walk : WalkOf) : 
   -- it is no call of the log, and makes one step, a look
   pub logged : HasLogged before after []
   pub looked : HasLookedOnce before after
+  -- the seat has forgotten nothing, so its other walks go on, and is still the set's
   pub later : IsLater before after
   pub own : IsMine set after
 
@@ -109,19 +115,23 @@ pub record HasWalkedOn (set : SetOf) (before after : SeatOf) (walk walk' : WalkO
   pub shown :
       (keys : List ℕ) → HasShown set before walk keys
       → HasShown set after walk' (with_shown next keys)
+  -- where it shows none, the walk is at its end
   pub ended : next ≡ None → HasEnded walk'
   -- its steps are such as a `contains` may make, of any key, and bounded
   pub worked :
       (key : ℕ) → HasWorked set (Contains key) before after (walking_steps set walk walk')
   -- each key that is shown brings the end nearer
   pub ahead : IfSome next (λ key. slots_before set walk' < slots_before set walk)
+  -- the walk is still the seat's, and the seat the set's
   pub is_walk : IsWalkOf set after walk'
   pub own : IsMine set after
 
 -- the same of a walk by a handle, which stays the set's
 pub record HandleHasWalkedOn (before : HandleWalkOf) (next : Option ℕ) (after : HandleWalkOf) :
     Type 0 where
+  -- what a step of a walk promises
   pub on : HasWalkedOn before.set before.seat after.seat before.walk after.walk next
+  -- the set is the same
   pub set : after.set ≡ before.set
 
 -- how many slots a walk by a handle has ahead of it: a measure of loops over it

@@ -1,5 +1,5 @@
--- How contracts see a set and its seats, and what calls of the set do, told by the log of all calls.
--- What each call promises is in Promises.antt.
+-- How contracts see a set and its seats, and what calls of the set do, told by the log of all
+-- calls. What each call promises is in Promises.antt.
 use Rattle.std.specs.Prelude.{◌≡◌, ◌≢◌, ℕ, ◌+◌, Bool, List, [], ◌∷◌, ◌++◌, map, All}
 use Rattle.std.specs.List.{range_with_len}
 use Rattle.nb_core.specs.History.{seat_of_event}

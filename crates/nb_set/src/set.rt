@@ -20,7 +20,7 @@ pub struct LongSet {
     map: Map,
     /// Room for the map's seats, so that `finish` takes no memory. A vector for seats can't be
     /// shared by threads, and a lock that holds one can. No call takes this lock.
-    room: Mutex<Room>,
+    room: Mutex<Room<nb_map::Seat>>,
 }
 
 impl Model for LongSet {
@@ -34,7 +34,7 @@ impl Model for LongSet {
 }
 
 /// The right of one holder to make calls of a set. Contracts see what it has seen of the calls of
-/// all seats, in which its own stand.
+/// all seats, its own among them.
 #[derive(Drop)]
 pub struct Seat {
     pub(crate) map: nb_map::Seat,
@@ -70,8 +70,8 @@ impl Model for Walk {
 
 impl LongSet {
     /// An empty set, and its seats. It takes memory for the words of its tables and its counter,
-    /// for the seats, and for room to gather them: nothing that comes later but `SetEnded::entries`
-    /// takes any.
+    /// for the seats, and for room to gather them: nothing that comes later takes any, except
+    /// `SetEnded::entries`.
     pub fn new(alloc: Global, shape: Shape) -> Result<(LongSet, Vec<Seat>), OutOfMemory>
         ensures made { IfOk result (λ made. IsMadeFor made.0 shape) }
         ensures seats { IfOk result (λ made. made.1.items ≡ new_seats made.0 shape.seats) }
@@ -195,8 +195,8 @@ impl LongSet {
             return Err(NotAll { whole: self, seats });
         }
         let LongSet { map, room } = self;
-        let Room { seats: room } = room.into_inner();
-        match map.finish(of_map(seats, room)) {
+        let Room { gathered } = room.into_inner();
+        match map.finish(of_map(seats, gathered)) {
             Ok(map) => Ok(SetEnded { map }),
             Err(_) => unreachable!(),
         }

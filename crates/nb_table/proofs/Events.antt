@@ -2,13 +2,13 @@
 -- changes its word.
 use Rattle.std.specs.Prelude.{ℕ, ◌%◌, ◌==◌, nat_le, true, if◌then◌else◌, List, [], ◌∷◌}
 use Rattle.nb_core.specs.History.{number_in_value}
-use Rattle.nb_core.specs.States.{value_word}
+use Rattle.nb_core.specs.States.{shown_by_value, value_in_word, value_word}
 use Rattle.nb_core.specs.declared.calls.Call.{Call}
 use Rattle.nb_core.specs.declared.events.Event.{Event}
 use Rattle.nb_core.specs.declared.events.Event.TheVariants.{Claim, Kill, Won, CopyIn, Prime, Finish, Install, Take, Count, Promote}
 use Rattle.nb_core.specs.declared.states.ValueState.{ValueState}
 use Rattle.nb_core.specs.declared.states.ValueState.TheVariants.{Primed}
-use Rattle.nb_table.specs.Events.{only, read, shown_by_value, value_in}
+use Rattle.nb_table.specs.Events.{only, read}
 
 -- ---- steps on keys
 
@@ -24,12 +24,13 @@ kill_events number g i found = only (found == 0) (Kill number g i)
 
 -- a call wins its exchange where it finds the word that it replaces, and replies the content of
 -- that; what it finds else may be its read
-abbrev pub win_events : (number g i old : ℕ) (to : ValueState) (call : Call) → ℕ → List Event
-win_events number g i old to call found =
-    if found == old
-    then Won number g i (value_in old) to call
-    (record { before = number_in_value (value_in old); matched = true }) ∷ []
-    else read number call (shown_by_value (value_in found))
+abbrev pub win_events :
+    (number g i : ℕ) (from to : ValueState) (call : Call) → ℕ → List Event
+win_events number g i from to call found =
+    if found == value_word from
+    then Won number g i from to call
+    (record { before = number_in_value from; matched = true }) ∷ []
+    else read number call (shown_by_value (value_in_word found))
 
 -- a number is copied only where the value is null
 abbrev pub copy_events : (number g i k n : ℕ) → ℕ → List Event

@@ -1,6 +1,6 @@
 -- What a load may be the read of, and what it finds.
 use Rattle.std.proofs.Common.{◌≡◌, ◌≢◌, ◌∙◌, ℕ, suc, ◌+◌, ◌-◌, ◌%◌, ◌<◌, ◌⊎◌, Bool, true, false, not, ◌&&◌, cond, eqb, List, ◌++◌, slice_index, Option, Some, None, ap, sym, subst, refl, inl, inr, arith}
-use Rattle.std.specs.Option.{IfSome, unwrap_or}
+use Rattle.std.specs.Option.{IfSome}
 use Rattle.std.specs.FinMap as map
 use Rattle.std.proofs.Math.Nat.{mod-add-mod, mod-eq-sub-mod, mod-eq_of_lt, mod-lt}
 use Rattle.std.proofs.lemmas.Bool.{cases_lt, eqb-false, eqb-true}
@@ -9,7 +9,7 @@ use Rattle.std.proofs.lemmas.Option.{IfSome_then}
 use Rattle.nb_core.specs.Calls.{leaves_alone}
 use Rattle.nb_core.specs.Log.{reply_at}
 use Rattle.nb_core.specs.Plans.{Plan, IsPlan, generations_of, header_index, key_index, size_of, value_index}
-use Rattle.nb_core.specs.States.{key_state, value_state}
+use Rattle.nb_core.specs.States.{key_state, shown_by_value, value_in_word}
 use Rattle.nb_core.specs.Tables.{AreOthers, IsOnPath, IsSlot, IsUnprimed, Tables, path_slot, tables_at, tables_of, words_of}
 use Rattle.nb_core.specs.History.{IsCallInRange, IsLegal, number_in_value, key_of_call, map_of}
 use Rattle.nb_core.specs.Laws.{Lasts, Shows, AtEmpty, AtValue, NoNext, InLast}
@@ -24,7 +24,7 @@ use Rattle.nb_core.specs.declared.states.ValueState.TheVariants.{Null, Tombstone
 use Rattle.nb_table.proofs.Following.{if-follows, later, none-follows, one-follows}
 use Rattle.nb_table.specs.Chains.{SeenBy, seen_by}
 use Rattle.nb_table.specs.Conditions.{IsReached}
-use Rattle.nb_table.specs.Events.{is_last_slot, only, read, reads, shown_by_key, shown_by_next, shown_by_value}
+use Rattle.nb_table.specs.Events.{is_last_slot, only, read, reads, shown_by_key, shown_by_next}
 use Rattle.nb_table.specs.Steps.{Can, MayStep, Stepped}
 use Rattle.nb_core.proofs.Theorems.{decided, linked, read_replies}
 
@@ -221,11 +221,10 @@ module _
       → IfSome call (λ c. IsReached p (tables_at p seen) g (key_of_call c))
       → IfSome call (λ c. (tables_at p seen).key g i ≡ Claimed (key_of_call c))
       → Can p (λ found. reads number call
-      (λ k. shown_by_value (unwrap_or (value_state found) Null))) number seen
+      (λ k. shown_by_value (value_in_word found))) number seen
       (value_index p g i) (λ found. found)
   can-load_value i call slot ranges reached claimed =
-      can-read call (value_index p g i) (λ found k. shown_by_value
-      (unwrap_or (value_state found) Null)) ranges reached
+      can-read call (value_index p g i) (λ found k. shown_by_value (value_in_word found)) ranges reached
       (IfSome_then call claimed (λ c is_claimed others legal lasting n is.
       value-shows p (tables_at p (others ++ seen)) g i (key_of_call c) _ n slot
       (lasting.claimed g i (key_of_call c) slot is_claimed) refl is))

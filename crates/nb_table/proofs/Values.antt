@@ -4,7 +4,7 @@ use Rattle.std.proofs.lemmas.Bool.{eq-eqb, eqb-true, eqb-false, ne_eqb}
 use Rattle.std.proofs.lemmas.List.{get_or-set_same}
 use Rattle.std.specs.Option.{unwrap_or}
 use Rattle.nb_core.specs.Plans.{Plan, IsPlan, Value, generations_of, value_index, word_count}
-use Rattle.nb_core.specs.States.{IsKeyState, IsValueState, value_state, value_word, IsValueWord, primed}
+use Rattle.nb_core.specs.States.{IsKeyState, IsValueState, IsValueWord, primed, value_in_word, value_state, value_word}
 use Rattle.nb_core.specs.Tables.{IsInstalled, IsSlot, IsUnprimed, Tables, tables_at, words_of, IsPrimedOrFinished}
 use Rattle.nb_core.specs.History.{HasValue, IsLegal, IsPrimedBelow, MayPrime}
 use Rattle.nb_core.specs.Laws.{Lasts}
@@ -39,8 +39,8 @@ primed-again _ other = refl
 
 -- the word holds this number, primed or finished
 abbrev Holds : ℕ → ℕ → Type 0
-Holds x n = (unwrap_or (value_state x) Null ≡ Primed n)
-    ⊎ (unwrap_or (value_state x) Null ≡ Finished n)
+Holds x n = (value_in_word x ≡ Primed n)
+    ⊎ (value_in_word x ≡ Finished n)
 
 module _ where
   -- the words of unprimed values are even, and no others
@@ -76,7 +76,7 @@ module _ where
 
   -- the word of a value that was seen
   word-seen :
-      (x : ℕ) (v : ValueState) → unwrap_or (value_state x) Null ≡ v → IsValueWord x
+      (x : ℕ) (v : ValueState) → value_in_word x ≡ v → IsValueWord x
       → (x ≡ value_word v) × IsValueState v
   word-seen x v value word =
       codings.word_of_state x v (word.decodes
@@ -84,7 +84,7 @@ module _ where
 
   -- a number that is seen primed or finished, in the word of a primed one, is primed
   held-primed : (x n : ℕ) → Holds x n → IsValueWord x → x ≡ value_word (Primed n)
-      → unwrap_or (value_state x) Null ≡ Primed n
+      → value_in_word x ≡ Primed n
   held-primed x n held word is =
       elim held [
         | inl is_primed ↦ is_primed
@@ -153,7 +153,7 @@ module _ where
   -- a value whose word is even may be primed
   may-prime :
       (t : Tables) (g i x : ℕ) → t.next g ≡ 1 → (k : ℕ) × (t.key g i ≡ Claimed k)
-      → t.value g i ≡ unwrap_or (value_state x) Null
+      → t.value g i ≡ value_in_word x
       → IsValueWord x → x % 2 ≡ 0 → MayPrime t g i
   may-prime t g i x growing claimed value word even =
       let at : t.value g i ≡ word.state = value ∙ ap (λ o. unwrap_or o Null) word.decodes in
@@ -239,7 +239,7 @@ module _ where
       let claimed' = still.claimed g i k slot claimed in
       if-follows p (eqb found 0) (CopyIn number g i k n) number index new h
       (λ same.
-      let null = ap (λ x. unwrap_or (value_state x) Null) (eqb-true found 0 same) in
+      let null = ap value_in_word (eqb-true found 0 same) in
       one-follows p (CopyIn number g i k n) number index new h (
         legal,
         (
@@ -298,7 +298,7 @@ module _
     subst (λ b. Extended p before after (only b e) 1) is step.grows,
     ap (λ s. (tables_at p s).value g i)
         (step.grows.seen ∙ ap (λ b. only b e ++ (step.grows.others ++ before.seen)) is)
-        ∙ ap (λ x. unwrap_or (value_state x) Null) word ∙ ap (λ o. unwrap_or o Null) says,
+        ∙ ap value_in_word word ∙ ap (λ o. unwrap_or o Null) says,
   )
 
   -- where the test fails there is no event, and the value is as it was
@@ -314,7 +314,7 @@ module _
   value-before holds v says =
       ap (λ s. (tables_at p (drop 1 s)).value g i)
       (step.grows.seen ∙ ap (λ b. only b e ++ (step.grows.others ++ before.seen)) holds)
-      ∙ ap (λ x. unwrap_or (value_state x) Null) step.word ∙ ap (λ o. unwrap_or o Null) says
+      ∙ ap value_in_word step.word ∙ ap (λ o. unwrap_or o Null) says
 
   -- and the event made a word of the one found
   pub value-made :
@@ -398,7 +398,7 @@ module _
       let h = step.grows.others ++ before.seen in
       let legal = met-legal p plan (finish_events before.number g i n)
       before found after g i slot step in
-      let value : (tables_at p h).value g i ≡ v = ap (λ x. unwrap_or (value_state x) Null) step.word
+      let value : (tables_at p h).value g i ≡ v = ap value_in_word step.word
       ∙ ap (λ o. unwrap_or o Null) says in
       subst (λ x. (x ≡ Primed n) ⊎ (x ≡ Finished n)) value
       ((seen_lasts p plan step.grows.others before.seen legal).primed_or_finished g i n slot held)

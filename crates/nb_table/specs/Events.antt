@@ -1,19 +1,16 @@
 -- When a load is an event, or an exchange that is lost: as the read of a call, where what it shows
 -- of the call's key decides the call.
-use Rattle.std.specs.Prelude.{ℕ, suc, ◌-◌, ◌==◌, ◌&&◌, Bool, not, if◌then◌else◌, unwrap_or, List, [], ◌∷◌, Option, Some, None}
+use Rattle.std.specs.Prelude.{ℕ, suc, ◌-◌, ◌==◌, ◌&&◌, Bool, not, if◌then◌else◌, List, [], ◌∷◌, Option, Some, None}
 use Rattle.nb_core.specs.Calls.{leaves_alone}
 use Rattle.nb_core.specs.Log.{reply_at}
 use Rattle.nb_core.specs.History.{key_of_call}
 use Rattle.nb_core.specs.Plans.{Plan, generations_of, size_of}
-use Rattle.nb_core.specs.States.{value_state}
 use Rattle.nb_core.specs.Tables.{path_slot}
 use Rattle.nb_core.specs.declared.calls.Call.{Call}
 use Rattle.nb_core.specs.declared.events.Event.{Event}
 use Rattle.nb_core.specs.declared.events.Event.TheVariants.{Read}
 use Rattle.nb_core.specs.declared.states.KeyState.{KeyState}
 use Rattle.nb_core.specs.declared.states.KeyState.TheVariants.{Empty, Dead, Claimed}
-use Rattle.nb_core.specs.declared.states.ValueState.{ValueState}
-use Rattle.nb_core.specs.declared.states.ValueState.TheVariants.{Null, Tombstone, Live, PrimedNull, PrimedTombstone, Primed, Finished}
 
 -- the event, if this holds
 abbrev pub only : Bool → Event → List Event
@@ -43,21 +40,6 @@ abbrev pub shown_by_key : Plan → (g i : ℕ) → KeyState → ℕ → Option (
 shown_by_key p g i Empty k = Some None
 shown_by_key p g i Dead k = None
 shown_by_key p g i (Claimed j) k = if not (j == k) && is_last_slot p g i k then Some None else None
-
--- the value that a value word stands for
-abbrev pub value_in : ℕ → ValueState
-value_in word = unwrap_or (value_state word) Null
-
--- what the value in a key's slot shows of the key: the number in it, or that there is none; once it
--- is primed, nothing
-abbrev pub shown_by_value : ValueState → Option (Option ℕ)
-shown_by_value Null = Some None
-shown_by_value Tombstone = Some None
-shown_by_value (Live n) = Some (Some n)
-shown_by_value PrimedNull = None
-shown_by_value PrimedTombstone = None
-shown_by_value (Primed n) = None
-shown_by_value (Finished n) = None
 
 -- what a next word shows of a key whose whole path is other keys': where there is no next table,
 -- that the map doesn't have it

@@ -1,16 +1,16 @@
 //! The steps by which calls change the map.
-ghost use Rattle.std.specs.Prelude.{◌≡◌, ◌≢◌, true, [], ◌∷◌};
+ghost use Rattle.std.specs.Prelude.{◌≡◌, ◌≢◌, true, [], ◌∷◌, IfErr, OnOk};
 ghost use Rattle.nb_core.specs.History.{IsCallInRange, IsExchange, number_in_value, key_of_call};
-ghost use Rattle.nb_core.specs.States.{IsValueWord};
+ghost use Rattle.nb_core.specs.States.{shown_by_value};
 ghost use Rattle.nb_core.specs.Tables.{IsSlot, IsUnprimed};
 ghost use Rattle.nb_core.specs.declared.events.Event.TheVariants as event;
 ghost use Rattle.nb_core.specs.declared.states.KeyState.TheVariants as key_is;
 ghost use Rattle.nb_table.specs.Chains.{Extended, IsOwn, seen_by};
 ghost use Rattle.nb_table.specs.Conditions.{IsReached};
-ghost use Rattle.nb_table.specs.Events.{read, shown_by_value, value_in};
+ghost use Rattle.nb_table.specs.Events.{read};
 
 use crate::chain::{Chain, ChainSeat, Spot};
-use nb_core::{Call, Change, ValueState, Want, encode_value};
+use nb_core::{Call, Change, ValueState, ValueWord, Want};
 use std::marker::Brand;
 
 /// Reminds a proof of the ranges of a call's key and numbers. It does nothing.
@@ -34,9 +34,8 @@ pub(crate) fn known(call: &Call)
 
 impl Chain {
     /// Puts a value in place of another for a call, by one compare-exchange on the value word of
-    /// the key's slot `i` of table `g`, and answers the word as it was. Another word than `from`
-    /// stays as it is; what it shows of the key may be the call's read then, as at
-    /// `load_value_word`.
+    /// the key's slot `i` of table `g`. Another word than `from` stays as it is, and is the answer;
+    /// what it shows of the key may be the call's read then, as at `load_value_word`.
     #[inline]
     pub fn win_value(
         &self,
@@ -44,38 +43,41 @@ impl Chain {
         g: u32,
         i: usize,
         call: Call,
-        from: u64,
+        from: ValueWord,
         to: ValueState,
-    ) -> u64
+    ) -> Result<(), ValueWord>
         requires own { IsOwn self.now seat.old }
         requires slot { IsSlot self.now.shape g i }
         requires reached { IsReached self.now.shape (seen_by self.now.shape seat.old) g
             (key_of_call call) }
         requires claimed { (seen_by self.now.shape seat.old).key g i
             ≡ key_is.Claimed (key_of_call call) }
-        requires word { IsValueWord from }
-        requires unprimed { IsUnprimed (value_in from) }
-        requires exchange { IsExchange call (key_of_call call) (value_in from) to }
-        ensures lawful { IsValueWord result }
-        ensures won { result ≡ from
-            → Extended self.now.shape seat.old seat.new
-            (event.Won seat.old.number g i (value_in from) to call
-            (record { before = number_in_value (value_in from); matched = true }) ∷ []) 1
-            × ((seen_by self.now.shape seat.new).value g i ≡ to) }
-        ensures lost { result ≢ from
-            → Extended self.now.shape seat.old seat.new
-            (read seat.old.number call (shown_by_value (value_in result))) 1
-            × ((seen_by self.now.shape seat.new).value g i ≡ value_in result) }
+        requires unprimed { IsUnprimed from }
+        requires exchange { IsExchange call (key_of_call call) from to }
+        ensures won { OnOk result (Extended self.now.shape seat.old seat.new
+            (event.Won seat.old.number g i from to call
+            (record { before = number_in_value from; matched = true }) ∷ []) 1
+            × ((seen_by self.now.shape seat.new).value g i ≡ to)) }
+        ensures lost { IfErr result (λ found. (found ≢ from)
+            × Extended self.now.shape seat.old seat.new
+            (read seat.old.number call (shown_by_value found)) 1
+            × ((seen_by self.now.shape seat.new).value g i ≡ found)) }
     {
         known(&call);
         let index = self.shape.value_index(g, i);
-        let new = encode_value(to);
+        let old = from.get();
+        let new = ValueWord::of(to).get();
         let spot = Spot {
             g,
             i,
             key: None,
             number: None,
         };
-        self.exchanges::<Brand>(seat, index, from, new, spot, Some(call))
+        let found = self.exchanges::<Brand>(seat, index, old, new, spot, Some(call));
+        if found == old {
+            Ok(())
+        } else {
+            Err(ValueWord::lawful(found))
+        }
     }
 }

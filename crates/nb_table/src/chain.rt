@@ -31,7 +31,7 @@ ghost use Rattle.nb_table.specs.Views.{Moves};
 use crate::closed::Closed;
 use crate::view::{Chained, Deal, Learn, Move, Note, Told, View};
 use atomic_table::{Seat, Table};
-use nb_core::{Call, Key, NotAll, Num, OutOfMemory, Shape};
+use nb_core::{Call, Key, NotAll, Num, OutOfMemory, Shape, TOP_INDEX};
 use std::alloc::Global;
 use std::marker::{Brand, Model};
 use std::snapshot::Snapshot;
@@ -237,9 +237,9 @@ impl Chain {
         requires one { seat.old.me.0.parts ≡ part_of seat.old.me.0.parts ∷ [] }
         requires none { B.events ≡ (λ found. []) }
         ensures own { seat.new.table_id ≡ seat.old.table_id }
-        ensures heard { Moves B.shape B.events 0 seat.old.me result seat.new.me }
+        ensures heard { Moves B.shape B.events TOP_INDEX seat.old.me result seat.new.me }
     {
-        self.table.shared.load::<Move<B>>(seat, 0)
+        self.table.shared.load::<Move<B>>(seat, TOP_INDEX)
     }
 
     /// With all seats: what is left of the chain. With another number of seats everything comes

@@ -7,7 +7,7 @@ ghost use Rattle.nb_core.specs.declared.states.KeyState.TheVariants as key_is;
 ghost use Rattle.nb_table.specs.Chains.{Extended, IsOwn, seen_by};
 
 use crate::chain::{Chain, ChainSeat, Spot};
-use nb_core::{Key, KeyState, decode_key, encode_key};
+use nb_core::{DEAD_KEY, EMPTY_KEY, Key, KeyState, KeyWord};
 use std::marker::Brand;
 
 impl Chain {
@@ -25,14 +25,15 @@ impl Chain {
             × ((seen_by self.now.shape seat.new).key g i ≡ result) }
     {
         let index = self.shape.key_index(g, i);
-        let word = encode_key(KeyState::Claimed(key));
+        let word = KeyWord::of(KeyState::Claimed(key)).get();
         let spot = Spot {
             g,
             i,
             key: Some(key),
             number: None,
         };
-        decode_key(self.exchanges::<Brand>(seat, index, 0, word, spot, None))
+        let found = self.exchanges::<Brand>(seat, index, EMPTY_KEY, word, spot, None);
+        KeyWord::new(found).state()
     }
 
     /// Closes the slot to keys if it is empty, by one compare-exchange, and answers what its key
@@ -54,6 +55,7 @@ impl Chain {
             key: None,
             number: None,
         };
-        decode_key(self.exchanges::<Brand>(seat, index, 0, 1, spot, None))
+        let found = self.exchanges::<Brand>(seat, index, EMPTY_KEY, DEAD_KEY, spot, None);
+        KeyWord::new(found).state()
     }
 }

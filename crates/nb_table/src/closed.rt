@@ -10,8 +10,8 @@ ghost use Rattle.nb_table.specs.Listing.{IsListing};
 
 use crate::chain::ChainSeat;
 use nb_core::{
-    Change, HeaderWord, Key, KeyState, Num, OutOfMemory, PlainMap, Shape, ValueState, Want,
-    decode_key, decode_lawful_value,
+    Change, HeaderWord, INSTALLED, Key, KeyState, KeyWord, Num, OutOfMemory, PlainMap, Shape,
+    TOP_INDEX, ValueState, ValueWord, Want,
 };
 use std::alloc::Global;
 use std::marker::Model;
@@ -149,7 +149,7 @@ impl Closed {
     fn top(&self) -> u32
         ensures { result ≡ (tables_left self.now).top }
     {
-        self.table.word(0) as u32
+        self.table.word(TOP_INDEX) as u32
     }
 
     /// Whether table `g` is there: the first is from the start.
@@ -157,21 +157,21 @@ impl Closed {
         requires { g < generations_of self.now.shape }
         ensures { result ≡ is_installed (tables_left self.now) g }
     {
-        g == 0 || self.word(self.shape.header_index(g - 1, HeaderWord::Next)) == 1
+        g == 0 || self.word(self.shape.header_index(g - 1, HeaderWord::Next)) == INSTALLED
     }
 
     fn key_at(&self, g: u32, i: usize) -> KeyState
         requires { IsSlot self.now.shape g i }
         ensures { result ≡ (tables_left self.now).key g i }
     {
-        decode_key(self.word(self.shape.key_index(g, i)))
+        KeyWord::new(self.word(self.shape.key_index(g, i))).state()
     }
 
     fn value_at(&self, g: u32, i: usize) -> ValueState
         requires { IsSlot self.now.shape g i }
         ensures { result ≡ (tables_left self.now).value g i }
     {
-        decode_lawful_value(self.word(self.shape.value_index(g, i)))
+        ValueWord::lawful(self.word(self.shape.value_index(g, i))).state()
     }
 
     fn word(&self, index: usize) -> u64

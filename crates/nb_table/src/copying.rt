@@ -9,7 +9,7 @@ ghost use Rattle.nb_table.specs.Conditions.{HasSource, IsCopied};
 ghost use Rattle.nb_table.specs.Chains.{Extended, IsOwn, seen_before, seen_by};
 
 use crate::chain::{Chain, ChainSeat, Spot};
-use nb_core::{Key, Num, ValueState, decode_lawful_value, encode_value};
+use nb_core::{FINISHED_BIT, Key, NULL_VALUE, Num, PRIMED_BIT, ValueState, ValueWord};
 use std::marker::Brand;
 
 impl Chain {
@@ -35,7 +35,7 @@ impl Chain {
             key: None,
             number: None,
         };
-        decode_lawful_value(self.ors::<Brand>(seat, index, 1, spot))
+        ValueWord::lawful(self.ors::<Brand>(seat, index, PRIMED_BIT, spot)).state()
     }
 
     /// Copies the number of a key in the table below `g` to the key's slot `i` of table `g`, by one
@@ -61,14 +61,15 @@ impl Chain {
             × ((seen_by self.now.shape seat.new).value g i ≡ result) }
     {
         let index = self.shape.value_index(g, i);
-        let word = encode_value(ValueState::Live(number));
+        let word = ValueWord::of(ValueState::Live(number)).get();
         let spot = Spot {
             g,
             i,
             key: Some(key),
             number: Some(number),
         };
-        decode_lawful_value(self.exchanges::<Brand>(seat, index, 0, word, spot, None))
+        let found = self.exchanges::<Brand>(seat, index, NULL_VALUE, word, spot, None);
+        ValueWord::lawful(found).state()
     }
 
     /// Marks the primed number in slot `i` of table `g` as copied, by one fetch-or of 2 on its
@@ -92,6 +93,6 @@ impl Chain {
             key: None,
             number: Some(number),
         };
-        decode_lawful_value(self.ors::<Brand>(seat, index, 2, spot))
+        ValueWord::lawful(self.ors::<Brand>(seat, index, FINISHED_BIT, spot)).state()
     }
 }

@@ -8,7 +8,7 @@ ghost use Rattle.nb_table.specs.Chains.{Extended, IsOwn, seen_before, seen_by};
 ghost use Rattle.nb_table.specs.Conditions.{IsKnownComplete};
 
 use crate::chain::{Chain, ChainSeat, Spot};
-use nb_core::{HeaderWord, Key};
+use nb_core::{HeaderWord, INSTALLED, Key, NOT_INSTALLED, TOP_INDEX};
 use std::marker::Brand;
 
 impl Chain {
@@ -56,7 +56,7 @@ impl Chain {
         ensures was_higher { g < result → Extended self.now.shape seat.old seat.new [] 1
             × ((seen_by self.now.shape seat.new).top ≡ result) }
     {
-        self.raises::<Brand>(seat, 0, u64::from(g) + 1, g) as u32
+        self.raises::<Brand>(seat, TOP_INDEX, u64::from(g) + 1, g) as u32
     }
 
     /// Installs the table above `g`, for a key whose path in `g` is crowded, by one
@@ -80,6 +80,7 @@ impl Chain {
             key: Some(key),
             number: None,
         };
-        self.exchanges::<Brand>(seat, index, 0, 1, spot, None) == 0
+        let found = self.exchanges::<Brand>(seat, index, NOT_INSTALLED, INSTALLED, spot, None);
+        found == NOT_INSTALLED
     }
 }

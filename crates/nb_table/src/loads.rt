@@ -3,21 +3,15 @@ ghost use Rattle.std.specs.Prelude.{◌≡◌, ◌<◌, ◌↔◌, suc, [], true
 ghost use Rattle.nb_core.specs.History.{IsCallInRange, key_of_call};
 ghost use Rattle.nb_core.specs.Plans.{generations_of, size_of};
 ghost use Rattle.nb_core.specs.Tables.{AreOthers, IsInstalled, IsOnPath, IsSlot};
-ghost use Rattle.nb_core.specs.States.{IsValueWord, key_state};
+ghost use Rattle.nb_core.specs.States.{shown_by_value};
 ghost use Rattle.nb_core.specs.declared.states.KeyState.TheVariants as key_is;
 ghost use Rattle.nb_table.specs.Chains.{Extended, IsOwn, seen_by};
 ghost use Rattle.nb_table.specs.Conditions.{IsReached};
-ghost use Rattle.nb_table.specs.Events.{
-  reads,
-  shown_by_key,
-  shown_by_next,
-  shown_by_value,
-  value_in,
-};
+ghost use Rattle.nb_table.specs.Events.{reads, shown_by_key, shown_by_next};
 
 use crate::calls::known;
 use crate::chain::{Chain, ChainSeat, Spot};
-use nb_core::{Call, HeaderWord, KeyState, ValueState, decode_key, decode_lawful_value};
+use nb_core::{Call, HeaderWord, INSTALLED, KeyState, KeyWord, TOP_INDEX, ValueState, ValueWord};
 use std::marker::Brand;
 
 /// Reminds a proof of the ranges of a load's call, if it has one. It does nothing.
@@ -35,7 +29,13 @@ impl Chain {
     /// the path's last slot in the last table: where the call leaves that as it is, the load is its
     /// read.
     #[inline]
-    pub fn load_key_word(&self, seat: &mut ChainSeat, g: u32, i: usize, call: Option<Call>) -> u64
+    pub fn load_key_word(
+        &self,
+        seat: &mut ChainSeat,
+        g: u32,
+        i: usize,
+        call: Option<Call>,
+    ) -> KeyWord
         requires own { IsOwn self.now seat.old }
         requires slot { IsSlot self.now.shape g i }
         requires reached { IfSome call (λ c. IsReached self.now.shape
@@ -43,8 +43,8 @@ impl Chain {
         requires on_path { IfSome call (λ c. IsOnPath self.now.shape
             (seen_by self.now.shape seat.old) g i (key_of_call c)) }
         ensures grows { Extended self.now.shape seat.old seat.new
-            (reads seat.old.number call (shown_by_key self.now.shape g i (key_state result))) 1 }
-        ensures found { (seen_by self.now.shape seat.new).key g i ≡ key_state result }
+            (reads seat.old.number call (shown_by_key self.now.shape g i result)) 1 }
+        ensures found { (seen_by self.now.shape seat.new).key g i ≡ result }
     {
         known_if_some(&call);
         let index = self.shape.key_index(g, i);
@@ -54,7 +54,7 @@ impl Chain {
             key: None,
             number: None,
         };
-        self.loads::<Brand>(seat, index, spot, call)
+        KeyWord::new(self.loads::<Brand>(seat, index, spot, call))
     }
 
     /// What the key word of slot `i` of table `g` holds, by the same load.
@@ -70,24 +70,29 @@ impl Chain {
             (reads seat.old.number call (shown_by_key self.now.shape g i result)) 1 }
         ensures found { (seen_by self.now.shape seat.new).key g i ≡ result }
     {
-        decode_key(self.load_key_word(seat, g, i, call))
+        self.load_key_word(seat, g, i, call).state()
     }
 
     /// The value word of slot `i` of table `g`, by one load. With a call whose key has the slot, a
     /// value that isn't primed is what the map has at the key: where the call leaves that as it is,
     /// the load is its read.
     #[inline]
-    pub fn load_value_word(&self, seat: &mut ChainSeat, g: u32, i: usize, call: Option<Call>) -> u64
+    pub fn load_value_word(
+        &self,
+        seat: &mut ChainSeat,
+        g: u32,
+        i: usize,
+        call: Option<Call>,
+    ) -> ValueWord
         requires own { IsOwn self.now seat.old }
         requires slot { IsSlot self.now.shape g i }
         requires reached { IfSome call (λ c. IsReached self.now.shape
             (seen_by self.now.shape seat.old) g (key_of_call c)) }
         requires claimed { IfSome call (λ c. (seen_by self.now.shape seat.old).key g i
             ≡ key_is.Claimed (key_of_call c)) }
-        ensures lawful { IsValueWord result }
         ensures grows { Extended self.now.shape seat.old seat.new
-            (reads seat.old.number call (λ k. shown_by_value (value_in result))) 1 }
-        ensures found { (seen_by self.now.shape seat.new).value g i ≡ value_in result }
+            (reads seat.old.number call (λ k. shown_by_value result)) 1 }
+        ensures found { (seen_by self.now.shape seat.new).value g i ≡ result }
     {
         known_if_some(&call);
         let index = self.shape.value_index(g, i);
@@ -97,7 +102,7 @@ impl Chain {
             key: None,
             number: None,
         };
-        self.loads::<Brand>(seat, index, spot, call)
+        ValueWord::lawful(self.loads::<Brand>(seat, index, spot, call))
     }
 
     /// What the value word of slot `i` of table `g` holds, by the same load.
@@ -119,7 +124,7 @@ impl Chain {
             (reads seat.old.number call (λ k. shown_by_value result)) 1 }
         ensures found { (seen_by self.now.shape seat.new).value g i ≡ result }
     {
-        decode_lawful_value(self.load_value_word(seat, g, i, call))
+        self.load_value_word(seat, g, i, call).state()
     }
 
     /// Whether table `g` has a next one, by one load of its next word. With a call whose key's
@@ -145,7 +150,7 @@ impl Chain {
             key: None,
             number: None,
         };
-        self.loads::<Brand>(seat, index, spot, call) == 1
+        self.loads::<Brand>(seat, index, spot, call) == INSTALLED
     }
 
     /// The number of tables, from the first on, that are known to be complete, by one load of the
@@ -161,6 +166,6 @@ impl Chain {
             key: None,
             number: None,
         };
-        self.loads::<Brand>(seat, 0, spot, None) as u32
+        self.loads::<Brand>(seat, TOP_INDEX, spot, None) as u32
     }
 }

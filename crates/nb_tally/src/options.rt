@@ -31,9 +31,9 @@ impl Options {
 
 /// What `--help` tells behind the options.
 const MORE: &str = "\
-Numbers go from 0 to 18446744073709551613, one a line, in digits alone.
+Each line is one number from 0 to 18446744073709551613, in digits only.
 
-Exit status: 0 done; 1 a read or a write failed; 2 a line is no such number;
+Exit status: 0 done; 1 a read or a write failed; 2 a line is not such a number;
 3 bad usage; 4 out of memory; 5 more different numbers than there is room for.
 
 Example: printf '3\\n7\\n3\\n' | nb_tally --top 1
@@ -41,26 +41,26 @@ Example: printf '3\\n7\\n3\\n' | nb_tally --top 1
 
 /// The command line.
 fn command<'a>(alloc: Global) -> Result<Command<'a>, AllocError> {
-    let workers = option(alloc, "workers", "N", "Threads that count, 1 to 8")
+    let workers = option(alloc, "workers", "N", "How many threads count; 1 to 8")
         .value_parser(value_parser!(u32).range(1..=8))
         .default_value("4");
     let top = option(
         alloc,
         "top",
         "K",
-        "Only the K most frequent numbers, the most frequent first",
+        "Print only the K most frequent numbers, the most frequent first",
     )
     .value_parser(value_parser!(u32));
     let keys = option(
         alloc,
         "keys",
         "N",
-        "Room for N different numbers at least, 1 to 524288",
+        "Make room for at least N different numbers; 1 to 524288",
     )
     .value_parser(value_parser!(u32).range(1..=524_288))
     .default_value("524288");
     Command::new(alloc, "nb_tally")
-        .about("Counts how often each number comes on standard input: sort -n | uniq -c")
+        .about("Counts how often each number occurs in standard input, like sort -n | uniq -c")
         .after_help(MORE)
         .arg(workers)?
         .arg(top)?

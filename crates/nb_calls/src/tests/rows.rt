@@ -9,8 +9,8 @@ use std::process::Abort;
 use std::sync::Wait;
 use std::test::Fail;
 
-/// A call at a key, with plain numbers; `Estimate` and `Generation` are of the whole map. Those from
-/// `TryPut` on wait for nobody and have one try, but `Turn` has two.
+/// A call at a key, with plain numbers; `Estimate` and `Generation` are of the whole map. Those
+/// from `TryPut` on wait for nobody and have one try, but `Turn` has two.
 #[derive(Clone, Copy)]
 pub(super) enum Call {
     Get,

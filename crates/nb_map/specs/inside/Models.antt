@@ -1,4 +1,5 @@
--- What is in a map, its seats, walks and handles, and in what is left of it, and how contracts see it.
+-- What is in a map, its seats, walks and handles, and in what is left of it, and how contracts see
+-- it.
 use Rattle.std.specs.Arc.{arc_value}
 use Rattle.std.specs.FinMap as numbers
 use Rattle.std.specs.Prelude.{◌≡◌, ◌≤◌, [], vec_capacity, length, List, map}

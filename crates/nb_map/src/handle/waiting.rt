@@ -43,8 +43,8 @@ impl Handle {
 
     /// Puts a number in place of this one, and answers whether it did.
     pub fn replace_if<R: Wait>(&mut self, rt: &R, key: Key, old: Num, new: Num) -> bool
-        ensures wrote { HasWritten self.old.map (replace_if_of key old new) self.old.seat self.new.seat
-            (Matched result) }
+        ensures wrote { HasWritten self.old.map (replace_if_of key old new)
+            self.old.seat self.new.seat (Matched result) }
         ensures map { IsSameMap self.old self.new }
     {
         self.map.replace_if(rt, &mut self.seat, key, old, new)
@@ -61,8 +61,8 @@ impl Handle {
 
     /// Takes out a key that has this number, and answers whether it did.
     pub fn remove_if<R: Wait>(&mut self, rt: &R, key: Key, number: Num) -> bool
-        ensures wrote { HasWritten self.old.map (remove_if_of key number) self.old.seat self.new.seat
-            (Matched result) }
+        ensures wrote { HasWritten self.old.map (remove_if_of key number)
+            self.old.seat self.new.seat (Matched result) }
         ensures map { IsSameMap self.old self.new }
     {
         self.map.remove_if(rt, &mut self.seat, key, number)

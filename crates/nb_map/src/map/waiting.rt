@@ -69,7 +69,8 @@ impl Map {
     /// three arguments. Lock-free, with the bound of `put`.
     pub fn replace_if<R: Wait>(&self, rt: &R, seat: &mut Seat, key: Key, old: Num, new: Num) -> bool
         requires own { IsMine self.now seat.old }
-        ensures { HasWritten self.now (replace_if_of key old new) seat.old seat.new (Matched result) }
+        ensures { HasWritten self.now (replace_if_of key old new) seat.old seat.new
+            (Matched result) }
     {
         self.change_where(rt, seat, key, Want::Equal(old), Change::Put(new))
             .matched

@@ -2,7 +2,6 @@
 ghost use Rattle.std.specs.Prelude.{IsTrue, [], false, ◌≡◌, ◌≤◌};
 ghost use Rattle.nb_core.specs.Calls.{Fills};
 ghost use Rattle.nb_core.specs.History.{key_of_call};
-ghost use Rattle.nb_core.specs.States.{key_state};
 ghost use Rattle.nb_core.specs.Tables.{IsInstalled, IsReady, IsSlot, path_slot};
 ghost use Rattle.nb_core.specs.declared.calls.Call.TheVariants as call;
 ghost use Rattle.nb_core.specs.declared.states.KeyState.TheVariants as key_is;
@@ -17,10 +16,9 @@ use crate::faults::PutFault;
 use crate::steps::claim::has_next;
 use crate::steps::decide::{Decision, decide};
 use crate::steps::exchange::exchange;
-use crate::steps::get::is_own;
 use crate::steps::pause::Pause;
 use crate::steps::write::Written;
-use nb_core::{Call, Key, KeyState, Reply};
+use nb_core::{Call, Key, KeyState, KeyWord, Reply};
 use nb_table::{Chain, ChainSeat};
 
 /// What a write comes to at its key's home slot.
@@ -62,7 +60,7 @@ pub(crate) fn write_home<P: Pause>(
 {
     let home = chain.shape().path_slot(g, key, 0);
     let word = chain.load_key_word(seat, g, home, Some(*call));
-    if word == 0 {
+    if word.is_empty() {
         if let Decision::Leave(reply) = decide(call, &None) {
             return AtHome::Replied(reply);
         }
@@ -88,7 +86,7 @@ fn has_home(
     i: usize,
     key: Key,
     call: &Call,
-    word: u64,
+    word: KeyWord,
 ) -> bool
     requires own { IsOwn chain.now seat.old }
     requires key { key_of_call call.now ≡ key }
@@ -96,19 +94,19 @@ fn has_home(
     requires home { path_slot chain.now.shape g key 0 ≡ i }
     requires installed { IsInstalled (seen_by chain.now.shape seat.old) g }
     requires ready { IsReady chain.now.shape (seen_by chain.now.shape seat.old) g }
-    requires found { (seen_by chain.now.shape seat.old).key g i ≡ key_state word }
-    requires acts { word ≡ 0 → Fills call.now }
+    requires found { (seen_by chain.now.shape seat.old).key g i ≡ word }
+    requires acts { word ≡ key_is.Empty → Fills call.now }
     ensures made { HasMade chain.now.shape call.now seat.old seat.new [] 2 }
     ensures claimed { IsTrue result
         → (seen_by chain.now.shape seat.new).key g i ≡ key_is.Claimed key }
-    ensures kept { key_state word ≡ key_is.Claimed key → IsTrue result × (seat.new ≡ seat.old) }
+    ensures kept { word ≡ key_is.Claimed key → IsTrue result × (seat.new ≡ seat.old) }
     ensures away { result ≡ false → IsLastSeen chain.now.shape g seat.new
         → IsAtHome chain.now.shape (seen_by chain.now.shape seat.new) g key → ⊥ }
 {
-    if is_own(word, key) {
+    if word.is(key) {
         return true;
     }
-    if word != 0 {
+    if !word.is_empty() {
         return false;
     }
     claim_home(chain, seat, g, i, key, call)

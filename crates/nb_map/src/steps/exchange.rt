@@ -1,13 +1,11 @@
 //! The exchange of the value in a key's slot.
 ghost use Rattle.std.specs.Prelude.{[], ℕ, ◌≡◌, ◌≤◌};
 ghost use Rattle.nb_core.specs.History.{key_of_call};
-ghost use Rattle.nb_core.specs.States.{IsValueWord};
 ghost use Rattle.nb_core.specs.Tables.{IsSlot, IsUnprimed};
 ghost use Rattle.nb_core.specs.declared.calls.Call.{Call};
 ghost use Rattle.nb_core.specs.declared.states.KeyState.TheVariants as key_is;
 ghost use Rattle.nb_table.specs.Chains.{IsOwn, seen_by};
 ghost use Rattle.nb_table.specs.Conditions.{IsReached};
-ghost use Rattle.nb_table.specs.Events.{shown_by_value, value_in};
 ghost use Rattle.nb_map.specs.Calling.{HasMade};
 ghost use Rattle.nb_map.specs.Progress.{passed_since};
 ghost use Rattle.nb_map.specs.Steps.{exchange_steps, pass_steps};
@@ -17,11 +15,10 @@ ghost use Rattle.nb_map.specs.inside.Writing.{IsWritten, made_by};
 use crate::faults::PutFault;
 use crate::steps::claim::Below;
 use crate::steps::decide::{Decision, decide};
-use crate::steps::get::number_if;
 use crate::steps::pause::Pause;
 use crate::steps::search::pass_slot;
 use crate::steps::write::Written;
-use nb_core::{Call, Key, Num, Reply, decode_lawful_value, number_in_word};
+use nb_core::{Call, Key, Reply, ValueWord};
 use nb_table::{Chain, ChainSeat};
 
 /// Makes a write at its key's slot `i` of table `g`: what the slot's value shows decides it, by a
@@ -51,7 +48,7 @@ pub(crate) fn exchange<P: Pause>(
     ensures serves { P.serves pause.new chain.now }
 {
     let mut from = chain.load_value_word(seat, g, i, Some(*call));
-    let Some(mut number) = shown_in(from) else {
+    let Some(mut number) = from.shows() else {
         pass_word(chain, seat, g, i, from);
         return Written::Above(Below::HasKey, tries);
     };
@@ -61,14 +58,13 @@ pub(crate) fn exchange<P: Pause>(
             Decision::Overflow => return Written::Refused(PutFault::ValueRange),
             Decision::Exchange(to) => {
                 pause.before_exchange(chain);
-                let found = chain.win_value(seat, g, i, *call, from, to);
-                if found == from {
+                let Err(found) = chain.win_value(seat, g, i, *call, from, to) else {
                     return Written::Replied(Reply {
                         before: number,
                         matched: true,
                     });
-                }
-                let Some(shown) = shown_in(found) else {
+                };
+                let Some(shown) = found.shows() else {
                     pass_word(chain, seat, g, i, found);
                     return Written::Above(Below::HasKey, tries - lost);
                 };
@@ -83,32 +79,17 @@ pub(crate) fn exchange<P: Pause>(
     }
 }
 
-/// What the word of a value shows of its key: the number in it, or that there is none; once it is
-/// primed, nothing.
-#[inline]
-fn shown_in(word: u64) -> Option<Option<Num>>
-    requires { IsValueWord word }
-    ensures { result ≡ shown_by_value (value_in word) }
-{
-    let number = number_in_word(word);
-    if word % 4 != 0 {
-        return None;
-    }
-    Some(number_if(word >= 8, number))
-}
-
-/// Finishes slot `i` of table `g`, which holds this word of a value, primed or final.
+/// Finishes slot `i` of table `g`, which holds the value of this word, primed or final.
 #[inline(never)]
-fn pass_word(chain: &Chain, seat: &mut ChainSeat, g: u32, i: usize, word: u64)
+fn pass_word(chain: &Chain, seat: &mut ChainSeat, g: u32, i: usize, word: ValueWord)
     requires own { IsOwn chain.now seat.old }
     requires slot { IsSlot chain.now.shape g i }
-    requires word { IsValueWord word }
-    requires primed { IsUnprimed (value_in word) → ⊥ }
-    requires held { (seen_by chain.now.shape seat.old).value g i ≡ value_in word }
+    requires primed { IsUnprimed word → ⊥ }
+    requires held { (seen_by chain.now.shape seat.old).value g i ≡ word }
     ensures made { (call : Call) → HasMade chain.now.shape call seat.old seat.new []
         (pass_steps chain.now.shape g) }
     ensures passed { (key : ℕ) → (seen_by chain.now.shape seat.old).key g i ≡ key_is.Claimed key
         → IsAbove chain.now.shape (seen_by chain.now.shape seat.new) g key }
 {
-    pass_slot(chain, seat, g, i, decode_lawful_value(word));
+    pass_slot(chain, seat, g, i, word.state());
 }

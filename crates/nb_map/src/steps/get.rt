@@ -1,7 +1,6 @@
 //! Reading a key.
-ghost use Rattle.std.specs.Prelude.{IsTrue, None, Some, [], false, if◌then◌else◌, ℕ, ◌+◌, ◌<◌, ◌≡◌, ◌≢◌, ◌≤◌, ◌⊎◌};
+ghost use Rattle.std.specs.Prelude.{IsTrue, None, Some, [], false, if◌then◌else◌, ℕ, ◌+◌, ◌<◌, ◌≡◌, ◌≤◌};
 ghost use Rattle.nb_core.specs.Plans.{generations_of, size_of};
-ghost use Rattle.nb_core.specs.States.{key_state};
 ghost use Rattle.nb_core.specs.Tables.{AreOthers, IsSlot, path_slot};
 ghost use Rattle.nb_core.specs.declared.calls.Call.TheVariants as call;
 ghost use Rattle.nb_core.specs.declared.states.KeyState.TheVariants as key_is;
@@ -15,7 +14,7 @@ ghost use Rattle.nb_map.specs.declared.steps.get.Glance.TheVariants as glance_is
 ghost use Rattle.nb_map.specs.inside.Reading.{IsGlance, IsLook, glanced_by, read_by};
 
 use crate::steps::search::{Sought, pass_slot, seek};
-use nb_core::{Call, Key, KeyState, Num, ValueState, encode_key, number_in_word};
+use nb_core::{Call, Key, KeyState, KeyWord, Num, ValueState};
 use nb_table::{Chain, ChainSeat};
 
 /// What a look at a table, or at a value, shows of a key.
@@ -69,44 +68,22 @@ fn glance_in(chain: &Chain, seat: &mut ChainSeat, g: u32, key: Key) -> Glance
 {
     let home = chain.shape().path_slot(g, key, 0);
     let word = chain.load_key_word(seat, g, home, Some(Call::Get { key }));
-    if !is_own_or_empty(word, key) {
+    if !word.is_or_empty(key) {
         return away(word);
     }
-    glance_at(chain, seat, g, home, key, word != 0)
-}
-
-/// Whether a key word is this key's, or that of an empty slot. Two tests would become two branches,
-/// of which one is a toss where half of the keys are there.
-#[inline]
-fn is_own_or_empty(word: u64, key: Key) -> bool
-    ensures yes { IsTrue result → (key_state word ≡ key_is.Claimed key) ⊎ (word ≡ 0) }
-    ensures no { result ≡ false → (key_state word ≡ key_is.Dead)
-        ⊎ ((other : ℕ) × (key_state word ≡ key_is.Claimed other) × (other ≢ key)) }
-{
-    word.min(word.wrapping_sub(encode_key(KeyState::Claimed(key)))) == 0
-}
-
-/// Whether a key word is this key's.
-#[inline]
-pub(crate) fn is_own(word: u64, key: Key) -> bool
-    ensures yes { IsTrue result → key_state word ≡ key_is.Claimed key }
-    ensures no { result ≡ false → key_state word ≢ key_is.Claimed key }
-{
-    word == encode_key(KeyState::Claimed(key))
+    glance_at(chain, seat, g, home, key, !word.is_empty())
 }
 
 /// From where the search goes on, where a home slot has this key word of another key, or is closed
 /// to keys.
 #[inline]
-fn away(word: u64) -> Glance
-    ensures dead { key_state word ≡ key_is.Dead → result ≡ glance_is.From 0 }
-    ensures other { (other : ℕ) → key_state word ≡ key_is.Claimed other
-        → result ≡ glance_is.From 1 }
+fn away(word: KeyWord) -> Glance
+    ensures dead { word ≡ key_is.Dead → result ≡ glance_is.From 0 }
+    ensures other { (other : ℕ) → word ≡ key_is.Claimed other → result ≡ glance_is.From 1 }
 {
-    if word == 1 {
-        Glance::From(0)
-    } else {
-        Glance::From(1)
+    match word.state() {
+        KeyState::Dead => Glance::From(0),
+        KeyState::Empty | KeyState::Claimed(_) => Glance::From(1),
     }
 }
 
@@ -146,23 +123,22 @@ fn glance_at(
     ensures empty { is_own ≡ false → result ≡ glance_is.Shows None }
 {
     let word = chain.load_value_word(seat, g, i, read_if(is_own, key));
-    let number = number_in_word(word);
-    if word % 4 != 0 {
+    let Some(number) = word.shows() else {
         return if is_own {
             Glance::From(0)
         } else {
             Glance::Shows(None)
         };
-    }
-    Glance::Shows(number_if(is_own & (word >= 8), number))
+    };
+    Glance::Shows(shown_if(is_own, number))
 }
 
-/// The number, where it is one of the key.
+/// What a slot's value shows, where the slot is the key's; else that there is no number.
 #[inline]
-pub(crate) fn number_if(is_there: bool, number: Num) -> Option<Num>
-    ensures { result ≡ (if is_there then Some number else None) }
+fn shown_if(is_own: bool, number: Option<Num>) -> Option<Num>
+    ensures { result ≡ (if is_own then number else None) }
 {
-    if is_there { Some(number) } else { None }
+    if is_own { number } else { None }
 }
 
 /// What the map has at a key, from a distance of its path in table `first` on.

@@ -82,22 +82,22 @@ fn refuses_what_is_no_option(rt: HostRuntime) {
 
 /// The help as far as the options go.
 const OPTIONS: &str = "\
-Runs a script, read from standard input, on a map that its workers share
+Runs a script from standard input on a map that all workers share
 
 Usage: nbrun [OPTIONS]
 
 Options:
-      --bits <B>         The first table of the map has 2^B slots; 2 to 12 [default: 4]
-      --generations <G>  How many tables there may be, each twice as large as the one before; \
+      --bits <B>         Size of the first table: 2^B slots; 2 to 12 [default: 4]
+      --generations <G>  How many tables the map may have, each twice as large as the one before; \
 1 to 8 [default: 4]
-      --seats <S>        How many workers run the script, at the same time; 1 to 8 [default: 1]
-      --stripes <P>      Over how many words the number of keys is counted; 1 to 8 [default: 1]
+      --seats <S>        How many workers run the script at the same time; 1 to 8 [default: 1]
+      --stripes <P>      How many words the count of keys is spread over; 1 to 8 [default: 1]
       --reprobes <N>     How many slots a new key may try before the map grows; \
-from 1, and the default is no limit [default: 4294967295]
-      --chunk <C>        How many slots are copied at once where the map grows; \
+1 or more, by default without limit [default: 4294967295]
+      --chunk <C>        How many slots a worker copies at a time when the map grows; \
 a power of two from 4 to 1024 [default: 8]
-      --plan <E,E,..>    A table of 2^E slots for each E, in place of --bits and --generations; \
-1 to 16 numbers from 2 to 19, none below the one before it
+      --plan <E,E,..>    Tables of 2^E slots, one for each E, instead of --bits and --generations; \
+1 to 16 numbers from 2 to 19, none smaller than the one before
   -h, --help             Print help
 
 Script:

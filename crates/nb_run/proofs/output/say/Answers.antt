@@ -1,40 +1,23 @@
-use Rattle.std.proofs.Common.{◌∙◌, ◌≡◌, ap, subst, rules}
-use Rattle.std.proofs.lemmas.Result.{IfErr-weaker, on_ok_weaker}
-use Rattle.std.specs.Io.KnownBytes.{Appends}
-use Rattle.nb_script.specs.Streams.{AppendsSome}
-use Rattle.nb_run.proofs.Saying.{on-err, says-through, some-longer, some-through}
+use Rattle.std.proofs.Common.{◌≡◌, ◌∙◌, ap, subst, rules}
+use Rattle.nb_run.specs.Output.{HasSaid}
+use Rattle.nb_run.proofs.Saying.{part-failed, said-both, written}
 use Rattle.nb_run.proofs.output.say.Goals as goal
 
-pub returns-in_err-flush-clause-begun : goal.returns-in_err-flush-clause-begun
-returns-in_err-flush-clause-begun g c =
+pub returns-in_err-flush : goal.returns-in_err-flush
+returns-in_err-flush g c =
     let kept : c.try_extend_from_slice.new.self.items ≡ c.args.waiting.now.items = search rules in
-    let contents = g.W.Sink.contents in
-    on-err c.from_residual.result
-    (some-longer (contents c.args.writer.now) (contents c.flush.new.writer)
-    c.args.waiting.now.items c.args.bytes.now
-    (subst (AppendsSome (contents c.args.writer.now) (contents c.flush.new.writer))
-    kept c.in_err-flush.ensures.begun))
+    subst (λ waiting. HasSaid g.W.Sink.contents g.W.Sink.failed c.args.writer.now c.flush.new.writer
+    waiting c.flush.new.waiting.items c.args.bytes.now c.from_residual.result) kept
+    (part-failed c.args.bytes.now c.from_residual.result c.in_err-flush.ensures.flushed
+    c.from_residual.ensures.0)
 
-pub returns-in-Err-clause-said : goal.returns-in-Err-clause-said
-returns-in-Err-clause-said g c =
+pub returns-in-Err : goal.returns-in-Err
+returns-in-Err g c =
     let kept : c.try_extend_from_slice.new.self.items ≡ c.args.waiting.now.items = search rules in
-    let contents = g.W.Sink.contents in
-    on_ok_weaker c.write_all.result
-    (says-through (contents c.args.writer.now) (contents c.flush.new.writer)
-    (contents c.write_all.new.writer) c.args.waiting.now.items
-    c.try_extend_from_slice-2.new.self.items c.args.bytes.now
-    (subst (Appends (contents c.args.writer.now) (contents c.flush.new.writer))
-    kept c.in_ok-flush.ensures.written) (ap (λ v. v.items) c.in-Err.ensures.err
-    ∙ c.in_ok-flush.ensures.empty))
-    c.write_all.ensures.written
-
-pub returns-in-Err-clause-begun : goal.returns-in-Err-clause-begun
-returns-in-Err-clause-begun g c =
-    let kept : c.try_extend_from_slice.new.self.items ≡ c.args.waiting.now.items = search rules in
-    let contents = g.W.Sink.contents in
-    IfErr-weaker c.write_all.result _ _ (λ e some.
-    some-through (contents c.args.writer.now) (contents c.flush.new.writer)
-    (contents c.write_all.new.writer) c.args.waiting.now.items
-    c.args.bytes.now (subst (Appends (contents c.args.writer.now) (contents c.flush.new.writer))
-    kept c.in_ok-flush.ensures.written) some)
-    c.write_all.ensures.begun
+    let empty = c.in_ok-flush.ensures.empty in
+    subst (λ waiting. HasSaid g.W.Sink.contents g.W.Sink.failed c.args.writer.now
+    c.write_all.new.writer waiting c.try_extend_from_slice-2.new.self.items c.args.bytes.now
+    c.write_all.result) kept
+    (said-both c.in_ok-flush.ensures.flushed
+    (written c.write_all.result empty (ap (λ v. v.items) c.in-Err.ensures.err ∙ empty)
+    c.write_all.ensures.written c.write_all.ensures.begun c.write_all.ensures.marks))

@@ -1,29 +1,33 @@
-use Rattle.std.proofs.Common.{◌≡◌, ◌∙◌, ◌+◌, ◌<◌, ◌≤◌, [], ◌++◌, ℕ, List, ap, arith, refl, sym, length, drop, map, replicate, slice_index, subst, subst₂, Vec, Global}
+use Rattle.std.proofs.Common.{◌≡◌, ◌∙◌, ◌+◌, ◌<◌, ◌≤◌, [], ◌++◌, ℕ, List, ap, append_assoc, append-nil, arith, refl, sym, length, drop, map, replicate, slice_index, subst₂, Vec, Global}
 use Rattle.std.proofs.lemmas.List.{drop_all, length-map}
-use Rattle.std.proofs.lemmas.Result.{IfErr-weaker}
 use Rattle.std.proofs.lemmas.Option.{slice_get_within}
-use Rattle.nb_script.specs.Streams.{AppendsSome}
 use Rattle.nb_run.specs.Text.{ending_of}
-use Rattle.nb_run.specs.Output.{Says, after_phase, all_lines, left, phase_lines}
+use Rattle.nb_run.specs.Output.{after_phase, all_lines, left, phase_lines}
 use Rattle.nb_script.specs.Script.{Bytes, Phase}
 use Rattle.nb_run.specs.Working.{commands_of}
 use Rattle.nb_run.specs.declared.answers.Answer.{Answer}
 use Rattle.nb_script.specs.declared.script.Command.{Command}
 use Rattle.nb_run.proofs.OutputLemmas.{answers-at, count-next, left-after, left-all, none-done, phases-next}
-use Rattle.nb_run.proofs.Saying.{HasSaid, has-begun, has-more, on-err, some-flushed, some-last, some-longer, some-of}
+use Rattle.nb_run.proofs.Saying.{SaysOn, last-said, more-said, next-failed, none-said}
 use Rattle.nb_run.proofs.output.tell.Goals as goal
+
+abbrev lists_of : List (Vec Answer Global) → List (List Answer)
+lists_of answers = map (λ list. list.items) answers
+
+abbrev tasks_of : Vec (ℕ × Command) Global → Phase
+tasks_of phase = phase.items
 
 pub loop-phase-init : goal.loop-phase-init
 loop-phase-init g c =
-    let written = g.W.Sink.contents c.args.writer.now in
-    let lists : List (List Answer) = map (λ list. list.items) c.args.answers.now in
-    let phases : List Phase = map (λ phase. phase.items) c.args.phases.now in
-    let whole : Bytes = all_lines phases lists in (
-      subst₂ (λ waiting rest. HasSaid written [] written waiting rest whole)
+    let lists = lists_of c.args.answers.now in
+    let phases = map tasks_of c.args.phases.now in
+    let ending = ending_of c.args.size c.args.entries.now in
+    let whole : Bytes = all_lines phases lists ++ ending in (
+      subst₂ (λ waiting rest. SaysOn g.W.Sink.contents g.W.Sink.failed c.args.writer.now
+          c.args.writer.now [] waiting (all_lines phases rest ++ ending) whole)
           (sym c.new-waiting.ensures)
-          (ap (all_lines phases) (sym (left-all (replicate 8 0) 0 lists (none-done 8))))
-          (has-begun written [] whole),
-      c.requires.unfailed,
+          (sym (left-all (replicate 8 0) 0 lists (none-done 8)))
+          (none-said c.args.writer.now [] whole c.requires.unfailed),
       λ w mine at.
           omega (
             arith,
@@ -32,11 +36,19 @@ loop-phase-init g c =
           ),
     )
 
+-- what is left to say begins with the phase
+phase-first :
+    (phase : Phase) (next : Vec (ℕ × Command) Global) (rest rest' ending : Bytes)
+    (lists : List (List Answer)) → phase ≡ next.items
+    → rest ≡ phase_lines next.items 0 lists ++ rest'
+    → rest ++ ending ≡ phase_lines phase 0 lists ++ (rest' ++ ending)
+phase-first phase next rest rest' ending lists same is =
+    ap (λ bytes. bytes ++ ending) is ∙ append_assoc (phase_lines next.items 0 lists) rest' ending
+    ∙ ap (λ p. phase_lines p 0 lists ++ (rest' ++ ending)) (sym same)
+
 pub loop-phase-preserved : goal.loop-phase-preserved
 loop-phase-preserved g c =
-    let contents = g.W.Sink.contents in
-    let lists : List (List Answer) = map (λ list. list.items) c.args.answers.now in
-    let tasks_of : Vec (ℕ × Command) Global → Phase = λ phase. phase.items in
+    let lists = lists_of c.args.answers.now in
     let all = c.args.phases.now in
     let i = c.loop-phase.phase-index in
     let next = c.phase-item.result in
@@ -51,26 +63,17 @@ loop-phase-preserved g c =
     said.done k (omega (arith, below, so_many))
     ∙ ap (λ phase. slice_index before k + length (commands_of k phase))
     c.as_slice.ensures.value in (
-      has-more (contents c.args.writer.now) (contents c.loop-phase.writer)
-          (contents c.say_phase.new.writer) [] c.loop-phase.waiting.items
-          c.say_phase.new.waiting.items (phase_lines next.items 0 (left before 0 lists))
-          (all_lines (map tasks_of (drop i all)) (left before 0 lists))
-          (all_lines (map tasks_of (drop (i + 1) all)) (left after 0 lists))
-          (all_lines (map tasks_of all) lists) c.loop-phase.invariant.0
-          (subst
-          (λ phase.
-          Says (contents c.loop-phase.writer) c.loop-phase.waiting.items
-          (contents c.say_phase.new.writer) c.say_phase.new.waiting.items
-          (phase_lines phase 0 (left before 0 lists)))
-          c.as_slice.ensures.value said.said)
+      more-said c.loop-phase.invariant.0 said.said
+          (phase-first c.as_slice.result.now next _
+          (all_lines (map tasks_of (drop (i + 1) all)) (left after 0 lists)) _
+          (left before 0 lists) c.as_slice.ensures.value
           (phases-next tasks_of all (left before 0 lists) (left after 0 lists)
           i next c.loop-phase-test.true c.phase-item.is
-          (left-after next.items before after 0 lists more)),
-      said.marks,
+          (left-after next.items before after 0 lists more))),
       λ w mine at.
           omega (
             arith,
-            c.loop-phase.invariant.2 w mine at,
+            c.loop-phase.invariant.1 w mine at,
             count-next tasks_of all w i next c.loop-phase-test.true c.phase-item.is,
             more w (omega arith) (omega (arith, slice_get_within lists w mine at)),
           ),
@@ -78,63 +81,36 @@ loop-phase-preserved g c =
 
 pub returns-in_err-say_phase-clause-begun : goal.returns-in_err-say_phase-clause-begun
 returns-in_err-say_phase-clause-begun g c =
-    let contents = g.W.Sink.contents in
-    let lists : List (List Answer) = map (λ list. list.items) c.args.answers.now in
-    let tasks_of : Vec (ℕ × Command) Global → Phase = λ phase. phase.items in
-    let all = c.args.phases.now in
-    let i = c.loop-phase.phase-index in
+    let now = left c.loop-phase.done 0 (lists_of c.args.answers.now) in
     let next = c.phase-item.result in
-    let before = c.loop-phase.done in
-    let part : Bytes = phase_lines next.items 0 (left before 0 lists) in
-    let rest' : Bytes = all_lines (map tasks_of (drop (i + 1) all))
-    (after_phase next.items 0 (left before 0 lists)) in
-    let whole : Bytes = all_lines (map tasks_of all) lists in
-    on-err c.from_residual.result
-    (some-longer (contents c.args.writer.now) (contents c.say_phase.new.writer) whole
-    (ending_of c.args.size c.args.entries.now)
-    (some-of (contents c.args.writer.now) (contents c.loop-phase.writer)
-    (contents c.say_phase.new.writer) [] c.loop-phase.waiting.items part
-    (all_lines (map tasks_of (drop i all)) (left before 0 lists))
-    rest' whole c.loop-phase.invariant.0
-    (subst
-    (λ phase.
-    AppendsSome (contents c.loop-phase.writer) (contents c.say_phase.new.writer)
-    (c.loop-phase.waiting.items ++ phase_lines phase 0 (left before 0 lists)))
-    c.as_slice.ensures.value c.in_err-say_phase.ensures.begun)
-    (phases-next tasks_of all (left before 0 lists) (after_phase next.items 0 (left before 0 lists))
-    i next c.loop-phase-test.true c.phase-item.is refl)))
+    let failed = next-failed _ c.from_residual.result c.loop-phase.invariant.0
+    c.in_err-say_phase.ensures.said
+    (phase-first c.as_slice.result.now next _ _ _ now c.as_slice.ensures.value
+    (phases-next tasks_of c.args.phases.now now (after_phase next.items 0 now)
+    c.loop-phase.phase-index next c.loop-phase-test.true c.phase-item.is refl))
+    c.from_residual.ensures.0 in
+    failed.begun
+
+-- once all phases are said, the ending is left
+ending-left :
+    (i : ℕ) (phases : List (Vec (ℕ × Command) Global)) (lists : List (List Answer))
+    (ending : Bytes) → length phases ≤ i
+    → all_lines (map tasks_of (drop i phases)) lists ++ ending ≡ ending ++ []
+ending-left i phases lists ending past =
+    ap (λ ps. all_lines (map tasks_of ps) lists ++ ending) (drop_all i phases past)
+    ∙ sym (append-nil ending)
 
 pub returns-in_err-say_ending-clause-begun : goal.returns-in_err-say_ending-clause-begun
 returns-in_err-say_ending-clause-begun g c =
-    let contents = g.W.Sink.contents in
-    let lists : List (List Answer) = map (λ list. list.items) c.args.answers.now in
-    let tasks_of : Vec (ℕ × Command) Global → Phase = λ phase. phase.items in
-    let all = c.args.phases.now in
-    let i = c.loop-phase.phase-index in
-    let over = ap (λ phases. all_lines (map tasks_of phases) (left c.loop-phase.done 0 lists))
-    (drop_all i all c.loop-phase-test.false) in
-    on-err c.from_residual-in_err-say_ending.result
-    (some-last (contents c.args.writer.now) (contents c.loop-phase.writer)
-    (contents c.say_ending.new.writer) c.loop-phase.waiting.items
-    (all_lines (map tasks_of (drop i all)) (left c.loop-phase.done 0 lists))
-    (all_lines (map tasks_of all) lists)
-    (ending_of c.args.size c.args.entries.now)
-    c.loop-phase.invariant.0 over c.in_err-say_ending.ensures.begun)
+    let failed = next-failed _ c.from_residual-in_err-say_ending.result c.loop-phase.invariant.0
+    c.in_err-say_ending.ensures
+    (ending-left c.loop-phase.phase-index c.args.phases.now _ _ c.loop-phase-test.false)
+    c.from_residual-in_err-say_ending.ensures.0 in
+    failed.begun
 
 pub returns-clause-begun : goal.returns-clause-begun
 returns-clause-begun g c =
-    let contents = g.W.Sink.contents in
-    let lists : List (List Answer) = map (λ list. list.items) c.args.answers.now in
-    let tasks_of : Vec (ℕ × Command) Global → Phase = λ phase. phase.items in
-    let all = c.args.phases.now in
-    let i = c.loop-phase.phase-index in
-    let over = ap (λ phases. all_lines (map tasks_of phases) (left c.loop-phase.done 0 lists))
-    (drop_all i all c.loop-phase-test.false) in
-    IfErr-weaker c.flush.result _ _ (λ e some.
-    some-flushed (contents c.args.writer.now) (contents c.loop-phase.writer)
-    (contents c.say_ending.new.writer) (contents c.flush.new.writer)
-    c.loop-phase.waiting.items c.say_ending.new.waiting.items
-    (all_lines (map tasks_of (drop i all)) (left c.loop-phase.done 0 lists))
-    (all_lines (map tasks_of all) lists) (ending_of c.args.size c.args.entries.now)
-    c.loop-phase.invariant.0 over c.in_ok-say_ending.ensures.said some)
-    c.flush.ensures.begun
+    let said = last-said (more-said c.loop-phase.invariant.0 c.in_ok-say_ending.ensures
+    (ending-left c.loop-phase.phase-index c.args.phases.now _ _ c.loop-phase-test.false))
+    c.flush.ensures.flushed refl in
+    said.begun

@@ -2,10 +2,10 @@ use Rattle.std.proofs.Common.{◌≡◌, rules, IfErr, OnOk}
 use Rattle.std.proofs.lemmas.Result.{IfErr-weaker, IfOk-weaker, err_from_is_err_and}
 use Rattle.nb_script.specs.declared.faults.RunFault.TheVariants as run
 use Rattle.nb_run.specs.Outcomes.{IsOutcome}
-use Rattle.nb_run.specs.Runs.{HasBrokenOff, HasRun, IsRunFaultOf}
-use Rattle.nb_script.specs.Inputs.{HasReadScript, IsFaultOf}
+use Rattle.nb_run.specs.Runs.{HasBrokenOff, HasRun}
+use Rattle.nb_script.specs.Inputs.{HasReadScript}
 use Rattle.nb_run.specs.Working.{phases_in}
-use Rattle.nb_run.proofs.Performed.{has-broken, has-run, memory-fault, run-fault}
+use Rattle.nb_run.proofs.Performed.{has-broken, has-run, memory-fault}
 use Rattle.nb_run.proofs.run.run_gated.Goals as goal
 
 pub returns-clause-ended : goal.returns-clause-ended

@@ -1,10 +1,10 @@
 use Rattle.std.proofs.Common.{◌≡◌, ◌∙◌, ◌+◌, ◌≤◌, ℕ, IsTrue, cond, List, [], ◌∷◌, None, Some, ap, subst, sym, arith, rules}
 use Rattle.nb_core.specs.Calls.{Fills}
 use Rattle.nb_core.specs.History.{key_of_call}
-use Rattle.nb_core.specs.States.{key_state}
 use Rattle.nb_core.specs.Tables.{path_slot}
 use Rattle.nb_core.specs.declared.calls.Call.{Call}
 use Rattle.nb_core.specs.declared.calls.Reply.{Reply}
+use Rattle.nb_core.specs.declared.states.KeyState.TheVariants.{Empty}
 use Rattle.nb_table.specs.Chains.{Extended, SeenBy, seen_by}
 use Rattle.nb_table.specs.Events.{read, shown_by_key}
 use Rattle.nb_map.specs.Logs.{as_replied}
@@ -16,7 +16,7 @@ use Rattle.nb_map.specs.Progress.{IsAloneAtHome, IsKnownHome, passed_since}
 use Rattle.nb_map.specs.inside.Writing.{IsDecided}
 use Rattle.nb_map.specs.declared.steps.at_home.AtHome.{AtHome}
 use Rattle.nb_map.specs.declared.steps.write.Written.{Written}
-use Rattle.nb_map.proofs.Aimed.{made-look, own-word}
+use Rattle.nb_map.proofs.Aimed.{made-look, own-slot}
 use Rattle.nb_map.proofs.Exchanged.{acts-unless, passed-sum}
 use Rattle.nb_map.proofs.Home.{passed-away}
 use Rattle.nb_map.proofs.Made.{made-none, made-own, made-read, made-stays, made-within}
@@ -24,7 +24,7 @@ use Rattle.nb_map.proofs.Searched.{made-then, reached-lasts, table-within}
 use Rattle.nb_map.proofs.Written.{alone-then, alone-written, just-longer}
 use Rattle.nb_map.proofs.steps.at_home.write_home.Given.{Over}
 use Rattle.nb_map.proofs.steps.at_home.write_home.Goals as goal
-use Rattle.nb_map.proofs.steps.at_home.write_home.Goals.{After-has_home-mine, then-word-eq0+in_default, else-word-eq0}
+use Rattle.nb_map.proofs.steps.at_home.write_home.Goals.{After-has_home-mine, then-is_empty+in_default, else-is_empty}
 use Rattle.nb_table.proofs.Theorems.{steps_add_up}
 
 -- ---- the look at the home slot
@@ -35,7 +35,7 @@ returns-in-Leave-clause-made g c =
     let call = c.args.call.now in
     let old = c.args.seat.now in
     let left = subst (IsDecided call None) c.in-Leave.is c.decide.ensures in
-    let empty = ap key_state c.if-word-eq0.true in
+    let empty = c.is_empty.ensures.yes c.if-is_empty.true in
     made-within 1 _ (omega arith)
     (subst (λ made. HasMade p call old c.load_key_word-word.new.seat made 1)
     (ap (λ b. cond b (as_replied call None) []) left.0 ∙ ap (λ r. (call, r) ∷ []) (sym left.1))
@@ -68,11 +68,11 @@ has_home-mine-requires-clause-ready g c =
 
 acts :
     (g : Over) (c : After-has_home-mine g)
-    → c.load_key_word-word.result ≡ 0 → Fills c.args.call.now
-acts g c zero = elim c.if-word-eq0.branch [
-  | then-word-eq0+in_default w ↦
+    → c.load_key_word-word.result ≡ Empty → Fills c.args.call.now
+acts g c empty = elim c.if-is_empty.branch [
+  | then-is_empty+in_default w ↦
       acts-unless c.args.call.now None w.decide.result w.decide.ensures w.in_default.not-Leave
-  | else-word-eq0 w ↦ absurd (w.if-word-eq0.false zero)
+  | else-is_empty w ↦ absurd (c.is_empty.ensures.no w.if-is_empty.false empty)
 ]
 
 -- up to there, no call was made
@@ -99,7 +99,7 @@ one-step :
 one-step g c made alone known =
     let at : path_slot c.args.chain.now.shape c.args.g c.args.key 0 ≡ c.path_slot-home.result =
     search rules in
-    let word = own-word c.args.chain.now c.args.g c.path_slot-home.result c.args.key
+    let word = own-slot c.args.chain.now c.args.g c.path_slot-home.result c.args.key
     c.load_key_word-word.result c.requires.own
     (table-within c.args.chain.now c.args.seat.now c.requires.own c.args.g
     c.requires.reached.installed) c.requires.key at c.load_key_word-word.ensures.grows

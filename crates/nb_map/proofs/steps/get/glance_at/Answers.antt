@@ -4,7 +4,8 @@ use Rattle.nb_core.specs.Tables.{IsUnprimed}
 use Rattle.nb_core.specs.declared.calls.Call.TheVariants as call
 use Rattle.nb_core.specs.declared.states.KeyState.TheVariants.{Claimed}
 use Rattle.nb_table.specs.Chains.{seen_by}
-use Rattle.nb_map.proofs.Glanced.{made-glance, made-primed, made-untold, primed-in}
+use Rattle.nb_map.proofs.Glanced.{made-glance, made-primed, made-untold}
+use Rattle.nb_map.proofs.Exchanged.{none-of, shown-none}
 use Rattle.nb_map.proofs.Home.{primed-away}
 use Rattle.nb_map.proofs.Searched.{others-none}
 use Rattle.nb_map.proofs.steps.get.glance_at.Goals as goal
@@ -16,9 +17,7 @@ returns-then-is_own-clause-made c =
     c.if-is_own.true in
     rw c.if-is_own.true
     (made-primed c.args.chain.now.shape c.args.key c.load_value_word-word.result c.read_if.result
-    told
-    (primed-in c.load_value_word-word.result
-    (c.number_in_word-number.ensures.primed c.if-word-ne0.true))
+    told (sym c.shows.ensures ∙ none-of c.shows.result c.in_default.not-Some)
     c.load_value_word-word.ensures.grows)
 
 pub returns-then-is_own-clause-glance : goal.returns-then-is_own-clause-glance
@@ -29,8 +28,8 @@ returns-then-is_own-clause-glance c own =
     (steps_add_up.one c.load_value_word-word.ensures.grows) in
     let claimed = lasting.claimed c.args.g c.args.i c.args.key c.requires.slot
     (c.requires.claimed own) in
-    let primed = primed-in c.load_value_word-word.result
-    (c.number_in_word-number.ensures.primed c.if-word-ne0.true) in (
+    let primed = shown-none c.load_value_word-word.result
+    (sym c.shows.ensures ∙ none-of c.shows.result c.in_default.not-Some) in (
       pow_pos _,
       others-none p seen c.args.g c.args.key,
       primed-away p seen c.args.g c.args.key
@@ -51,8 +50,5 @@ returns-else-is_own-clause-made c =
 pub returns-clause-made : goal.returns-clause-made
 returns-clause-made c =
     made-glance c.args.chain.now.shape c.args.key c.load_value_word-word.result c.read_if.result
-    c.args.is_own
-    c.number_in_word-number.result c.number_if.result c.read_if.ensures c.number_if.ensures
-    (c.number_in_word-number.ensures.live c.if-word-ne0.false)
-    (c.number_in_word-number.ensures.none c.if-word-ne0.false)
-    c.load_value_word-word.ensures.grows
+    c.args.is_own c.in-Some.number c.shown_if.result c.read_if.ensures c.shown_if.ensures
+    (sym c.shows.ensures ∙ c.in-Some.is) c.load_value_word-word.ensures.grows

@@ -1,7 +1,6 @@
 use Rattle.std.proofs.Common.{◌≡◌, ◌∙◌, None, Some, ap, inl, inr, refl, sym, subst, arith, rules, IsTrue}
 use Rattle.std.proofs.lemmas.Bool.{eq-eqb}
 use Rattle.std.proofs.lemmas.Nat.{pow_pos}
-use Rattle.nb_core.specs.States.{key_state}
 use Rattle.nb_core.specs.Tables.{path_slot}
 use Rattle.nb_core.specs.declared.calls.Call.TheVariants as call
 use Rattle.nb_core.specs.declared.states.KeyState.{KeyState}
@@ -10,15 +9,15 @@ use Rattle.nb_table.specs.Chains.{Extended, seen_by}
 use Rattle.nb_table.specs.Events.{read, shown_by_key}
 use Rattle.nb_map.specs.Calling.{HasMade}
 use Rattle.nb_map.specs.inside.Reading.{IsGlance, glanced_by}
-use Rattle.nb_map.proofs.Glanced.{is_zero, made-looked, not_zero}
+use Rattle.nb_map.proofs.Glanced.{made-looked, turned}
 use Rattle.nb_map.proofs.Home.{dead-away, others-away}
 use Rattle.nb_map.proofs.Made.{made-quiet, made-read, made-within, read_shown}
 use Rattle.nb_map.proofs.Searched.{others-more, others-none, read-before, reached-lasts, shown-other, shown-own, table-within, two-slots}
 use Rattle.nb_map.proofs.steps.get.glance_in.Goals as goal
 use Rattle.nb_table.proofs.Theorems.{steps_add_up}
 
-pub returns-then-not-is_own_or_empty-clause-made : goal.returns-then-not-is_own_or_empty-clause-made
-returns-then-not-is_own_or_empty-clause-made c =
+pub returns-then-not-is_or_empty-clause-made : goal.returns-then-not-is_or_empty-clause-made
+returns-then-not-is_or_empty-clause-made c =
     let chain = c.args.chain.now in
     let p = chain.shape in
     let get = call.Get c.args.key in
@@ -26,7 +25,7 @@ returns-then-not-is_own_or_empty-clause-made c =
     let new = c.load_key_word-word.new.seat in
     let seen = λ (s : KeyState). Extended p old new
     (read old.number get (shown_by_key p c.args.g c.path_slot-home.result s c.args.key)) 1 in
-    elim (c.is_own_or_empty.ensures.no c.if-not-is_own_or_empty.true) [
+    elim (c.is_or_empty.ensures.no c.if-not-is_or_empty.true) [
       | inl dead ↦
           subst (λ glance. HasMade p get old new (glanced_by get glance) 2)
           (sym (c.away.ensures.dead dead))
@@ -48,14 +47,14 @@ returns-then-not-is_own_or_empty-clause-made c =
           (subst seen other.1 c.load_key_word-word.ensures.grows))))
     ]
 
-pub returns-then-not-is_own_or_empty-clause-glance :
-    goal.returns-then-not-is_own_or_empty-clause-glance
-returns-then-not-is_own_or_empty-clause-glance c =
+pub returns-then-not-is_or_empty-clause-glance :
+    goal.returns-then-not-is_or_empty-clause-glance
+returns-then-not-is_or_empty-clause-glance c =
     let chain = c.args.chain.now in
     let p = chain.shape in
     let seen = seen_by p c.load_key_word-word.new.seat in
     let at : path_slot p c.args.g c.args.key 0 ≡ c.path_slot-home.result = search rules in
-    elim (c.is_own_or_empty.ensures.no c.if-not-is_own_or_empty.true) [
+    elim (c.is_or_empty.ensures.no c.if-not-is_or_empty.true) [
       | inl dead ↦
           subst (IsGlance p seen c.args.g c.args.key) (sym (c.away.ensures.dead dead)) (
             pow_pos _,
@@ -91,12 +90,11 @@ returns-clause-made c =
     let p = chain.shape in
     let get = call.Get c.args.key in
     let old = c.args.seat.now in
-    let word = c.load_key_word-word.result in
     let seen = λ (s : KeyState). Extended p old c.load_key_word-word.new.seat
     (read old.number get (shown_by_key p c.args.g c.path_slot-home.result s c.args.key)) 1 in
-    let passed : IsTrue c.is_own_or_empty.result = search rules in
+    let passed : IsTrue c.is_or_empty.result = search rules in
     made-looked chain c.args.key _ c.glance_at.result c.requires.own
-    (λ own. elim (c.is_own_or_empty.ensures.yes passed) [
+    (λ own. elim (c.is_or_empty.ensures.yes passed) [
       | inl mine ↦
           let none = shown-own p c.args.g c.path_slot-home.result c.args.key c.args.key c.args.key
           refl (sym (eq-eqb c.args.key c.args.key refl)) in
@@ -104,8 +102,8 @@ returns-clause-made c =
           (subst (λ shown. Extended p old c.load_key_word-word.new.seat (read old.number get shown)
           1) none
           (subst seen mine c.load_key_word-word.ensures.grows))
-      | inr zero ↦ absurd (not_zero word own zero)
+      | inr empty ↦ absurd (c.is_empty.ensures.no (turned _ _ own) empty)
     ])
-    (λ own. made-read p get (Some None) (subst seen (ap key_state (is_zero word own))
+    (λ own. made-read p get (Some None) (subst seen (c.is_empty.ensures.yes (turned _ _ own))
     c.load_key_word-word.ensures.grows))
     c.glance_at.ensures.empty c.glance_at.ensures.made

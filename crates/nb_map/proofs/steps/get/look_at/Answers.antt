@@ -1,7 +1,8 @@
 use Rattle.std.proofs.Common.{◌≡◌, ◌+◌, None, Some, [], ap, inl, inr, subst, arith}
+use Rattle.nb_core.specs.States.{shown_by_value}
 use Rattle.nb_core.specs.declared.calls.Call.TheVariants as call
 use Rattle.nb_table.specs.Chains.{Extended}
-use Rattle.nb_table.specs.Events.{read, shown_by_value}
+use Rattle.nb_table.specs.Events.{read}
 use Rattle.nb_map.specs.Steps.{pass_steps}
 use Rattle.nb_map.proofs.Made.{made-more, made-quiet, made-read, made-within}
 use Rattle.nb_map.proofs.Searched.{is-primed, shown-primed}

@@ -7,7 +7,7 @@ use Rattle.nb_set.specs.Ending.{EndedOf}
 use Rattle.nb_set.specs.Handles.{on_map, seats_of}
 use Rattle.nb_set.specs.Sets.{shape_of}
 use Rattle.nb_set.proofs.Dealt.{ended-with}
-use Rattle.nb_set.proofs.Held.{gathered-all, on-one-map, seats-on-map, tables-left}
+use Rattle.nb_set.proofs.Handles.{gathered-all, on-one-map, seats-on-map, tables-left}
 use Rattle.nb_set.proofs.handle.Handle.close.Goals as goal
 
 pub close-requires : goal.close-requires

@@ -4,7 +4,7 @@ use Rattle.std.proofs.lemmas.List.Elements.{All-map, All-same}
 use Rattle.std.specs.Vec.Iter.{into_iter_items}
 use Rattle.nb_core.proofs.Seating.{all-moved, moved-count, moved-more, none-moved}
 use Rattle.nb_set.specs.Sets.{IsMadeFor, SetOf}
-use Rattle.nb_set.proofs.Held.{as_handle, handles-dealt, handles-many, logs-empty, of-one}
+use Rattle.nb_set.proofs.Handles.{as_handle, handles-dealt, handles-many, logs-empty, of-one}
 use Rattle.nb_set.proofs.handle.Handle.open.Goals as goal
 
 pub push_reserved-requires : goal.push_reserved-requires

@@ -1,7 +1,7 @@
 use Rattle.std.proofs.Common.{◌≤◌, length, map, vec_capacity}
 use Rattle.std.specs.Vec.Iter.{into_iter_items}
 use Rattle.nb_core.proofs.Seating.{AreMoved}
-use Rattle.nb_set.proofs.Held.{as_handle}
+use Rattle.nb_set.proofs.Handles.{as_handle}
 use Rattle.nb_set.proofs.handle.Handle.open.Given as goal
 
 abbrev pub invariant-loop-map : goal.invariant-loop-map

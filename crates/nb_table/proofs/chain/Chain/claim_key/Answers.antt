@@ -1,5 +1,6 @@
 use Rattle.std.proofs.Common.{◌∙◌, ◌<◌, ap, cond, eqb, subst, sym, slice_set}
 use Rattle.nb_core.specs.Plans.{Key, key_index, word_count}
+use Rattle.nb_core.specs.States.{IsKeyState, key_word}
 use Rattle.nb_core.specs.Tables.{words_of}
 use Rattle.nb_core.specs.declared.events.Event.TheVariants.{Claim}
 use Rattle.nb_table.proofs.Events.{claim_events}
@@ -8,19 +9,19 @@ use Rattle.nb_table.proofs.Keys.{can-claim, key-won}
 use Rattle.nb_table.proofs.chain.Chain.claim_key.Goals as goal
 use Rattle.nb_core.proofs.Theorems.{indices_are_distinct}
 
-pub exchanges-requires-clause-within : goal.exchanges-requires-clause-within
-exchanges-requires-clause-within c =
+pub exchanges-found-requires-clause-within : goal.exchanges-found-requires-clause-within
+exchanges-found-requires-clause-within c =
     let p = c.args.self.now.shape in
     let at_index = c.key_index-index.ensures
     ∙ ap (λ v. key_index v.shape c.args.g c.args.i) c.self.view_is in
     subst (λ index. index < word_count p) (sym at_index)
     ((indices_are_distinct p c.requires.own.plan).below (Key c.args.g c.args.i) c.requires.slot)
 
-pub exchanges-requires-clause-can : goal.exchanges-requires-clause-can
-exchanges-requires-clause-can c =
+pub exchanges-found-requires-clause-can : goal.exchanges-found-requires-clause-can
+exchanges-found-requires-clause-can c =
     let p = c.args.self.now.shape in
     let seat = c.args.seat.now in
-    let word = c.encode_key-word.result in
+    let word = c.get-word.result in
     let at_index = c.key_index-index.ensures
     ∙ ap (λ v. key_index v.shape c.args.g c.args.i) c.self.view_is in
     let events = claim_events seat.number c.args.g c.args.i c.args.key in
@@ -28,7 +29,8 @@ exchanges-requires-clause-can c =
     (λ found. cond (eqb found 0) word found)) (sym at_index)
     (can-claim p seat.number c.args.g seat.seen c.args.i c.args.key word c.requires.slot
     c.requires.installed c.requires.way
-    c.encode_key-word.ensures.in_range c.encode_key-word.ensures.word)
+    (subst IsKeyState c.of.ensures c.get-word.ensures.in_range)
+    (c.get-word.ensures.word ∙ ap key_word c.of.ensures))
 
 pub returns-clause-won : goal.returns-clause-won
 returns-clause-won c = λ empty.
@@ -36,11 +38,11 @@ returns-clause-won c = λ empty.
     let e = Claim c.args.seat.now.number c.args.g c.args.i c.args.key in
     let at_index = c.key_index-index.ensures
     ∙ ap (λ v. key_index v.shape c.args.g c.args.i) c.self.view_is in
-    let word = c.encode_key-word.result in
+    let word = c.get-word.result in
     let won =
-    key-won p e c.args.g c.args.i _ _ _ _ at_index c.exchanges.ensures c.decode_key.result word
+    key-won p e c.args.g c.args.i _ _ _ _ at_index c.exchanges-found.ensures c.state.result word
     c.requires.own.plan c.requires.slot
     (λ h. ap (slice_set (words_of p h) (key_index p c.args.g c.args.i))
-    (sym c.encode_key-word.ensures.word))
-    c.decode_key.ensures.back empty in
-    (won.0, won.1 ∙ c.encode_key-word.ensures.back)
+    (sym (c.get-word.ensures.word ∙ ap key_word c.of.ensures)))
+    (ap key_word c.state.ensures ∙ c.new.ensures.back) empty in
+    (won.0, won.1 ∙ c.get-word.ensures.back ∙ c.of.ensures)

@@ -1,4 +1,4 @@
-use Rattle.std.proofs.Common.{◌∙◌, ◌<◌, ap, sym, subst, bit_or}
+use Rattle.std.proofs.Common.{◌∙◌, Some, ◌<◌, ap, sym, subst, bit_or}
 use Rattle.nb_core.specs.Plans.{value_index, word_count}
 use Rattle.nb_table.proofs.Events.{finish_events}
 use Rattle.nb_table.specs.Steps.{Can, Stepped}
@@ -26,8 +26,8 @@ ors-requires-clause-can c =
     c.args.i c.args.number c.requires.slot
     c.requires.copied)
 
-pub decode_lawful_value-requires : goal.decode_lawful_value-requires
-decode_lawful_value-requires c =
+pub lawful-requires : goal.lawful-requires
+lawful-requires c =
     let p = c.args.self.now.shape in
     let events = finish_events c.args.seat.now.number c.args.g c.args.i c.args.number in
     let index = c.value_index-index.ensures
@@ -47,7 +47,7 @@ returns-clause-won c =
     index c.ors.ensures in
     finish-won p c.requires.own.plan c.args.seat.now c.ors.result
     c.ors.new.seat c.args.g c.args.i c.args.number c.requires.slot step
-    c.decode_lawful_value.result c.decode_lawful_value.ensures
+    c.state.result (c.lawful.ensures.decodes ∙ ap Some (sym c.state.ensures))
 
 pub returns-clause-lost : goal.returns-clause-lost
 returns-clause-lost c =
@@ -59,5 +59,5 @@ returns-clause-lost c =
     index c.ors.ensures in
     finish-lost p c.requires.own.plan c.args.seat.now c.ors.result
     c.ors.new.seat c.args.g c.args.i c.args.number c.requires.slot step
-    c.decode_lawful_value.result c.decode_lawful_value.ensures
+    c.state.result (c.lawful.ensures.decodes ∙ ap Some (sym c.state.ensures))
     c.requires.copied.held

@@ -6,8 +6,8 @@ use Rattle.nb_table.proofs.Keys.{can-install, exchange-installs}
 use Rattle.nb_table.proofs.chain.Chain.install.Goals as goal
 use Rattle.nb_core.proofs.Theorems.{indices_are_distinct}
 
-pub exchanges-requires-clause-within : goal.exchanges-requires-clause-within
-exchanges-requires-clause-within c =
+pub exchanges-found-requires-clause-within : goal.exchanges-found-requires-clause-within
+exchanges-found-requires-clause-within c =
     let p = c.args.self.now.shape in
     let at_index = c.header_index-index.ensures
     ∙ ap (λ v. header_index v.shape c.args.g 0) c.self.view_is in
@@ -15,8 +15,8 @@ exchanges-requires-clause-within c =
     ((indices_are_distinct p c.requires.own.plan).below (Header c.args.g 0)
     (omega (arith, c.requires.room), omega arith))
 
-pub exchanges-requires-clause-can : goal.exchanges-requires-clause-can
-exchanges-requires-clause-can c =
+pub exchanges-found-requires-clause-can : goal.exchanges-found-requires-clause-can
+exchanges-found-requires-clause-can c =
     let p = c.args.self.now.shape in
     let seat = c.args.seat.now in
     let at_index = c.header_index-index.ensures
@@ -35,5 +35,5 @@ returns-clause-installed c =
     let at_index = c.header_index-index.ensures
     ∙ ap (λ v. header_index v.shape c.args.g 0) c.self.view_is in
     exchange-installs p c.args.seat.now.number c.args.g c.args.key _ _ _ _ at_index
-    c.exchanges.ensures
+    c.exchanges-found.ensures
     c.requires.own.plan (omega (arith, c.requires.room))

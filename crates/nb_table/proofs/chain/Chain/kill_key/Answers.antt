@@ -1,13 +1,14 @@
 use Rattle.std.proofs.Common.{◌∙◌, ap, cond, eqb, refl, subst, sym}
 use Rattle.nb_core.specs.Plans.{key_index}
+use Rattle.nb_core.specs.States.{key_word}
 use Rattle.nb_core.specs.declared.events.Event.TheVariants.{Kill}
 use Rattle.nb_table.proofs.Events.{kill_events}
 use Rattle.nb_table.specs.Steps.{Can}
 use Rattle.nb_table.proofs.Keys.{can-kill, key-lost, key-won}
 use Rattle.nb_table.proofs.chain.Chain.kill_key.Goals as goal
 
-pub exchanges-requires-clause-can : goal.exchanges-requires-clause-can
-exchanges-requires-clause-can c =
+pub exchanges-found-requires-clause-can : goal.exchanges-found-requires-clause-can
+exchanges-found-requires-clause-can c =
     let p = c.args.self.now.shape in
     let seat = c.args.seat.now in
     let at_index = c.key_index-index.ensures
@@ -23,8 +24,8 @@ returns-clause-won c =
     let e = Kill c.args.seat.now.number c.args.g c.args.i in
     let at_index = c.key_index-index.ensures
     ∙ ap (λ v. key_index v.shape c.args.g c.args.i) c.self.view_is in
-    key-won p e c.args.g c.args.i _ _ _ _ at_index c.exchanges.ensures c.decode_key.result 1
-    c.requires.own.plan c.requires.slot (λ h. refl) c.decode_key.ensures.back
+    key-won p e c.args.g c.args.i _ _ _ _ at_index c.exchanges-found.ensures c.state.result 1
+    c.requires.own.plan c.requires.slot (λ h. refl) (ap key_word c.state.ensures ∙ c.new.ensures.back)
 
 pub returns-clause-lost : goal.returns-clause-lost
 returns-clause-lost c =
@@ -32,5 +33,5 @@ returns-clause-lost c =
     let e = Kill c.args.seat.now.number c.args.g c.args.i in
     let at_index = c.key_index-index.ensures
     ∙ ap (λ v. key_index v.shape c.args.g c.args.i) c.self.view_is in
-    key-lost p e c.args.g c.args.i _ _ _ _ at_index c.exchanges.ensures c.decode_key.result
-    c.decode_key.ensures.state
+    key-lost p e c.args.g c.args.i _ _ _ _ at_index c.exchanges-found.ensures c.state.result
+    (c.state.ensures ∙ c.new.ensures.state)

@@ -31,3 +31,4 @@ returns-clause-found c =
     ap (λ t. t.key c.args.g c.args.i) (load-sees p seat.number c.args.call events _ _ seat
     c.loads.new.seat
     step) ∙ ap key_state (ap (slice_index _) (sym at_index) ∙ step.word)
+    ∙ sym c.new.ensures.state

@@ -1,9 +1,7 @@
 use Rattle.std.proofs.Common.{◌∙◌, ℕ, ap, slice_index, subst, sym}
-use Rattle.std.specs.Option.{unwrap_or}
 use Rattle.nb_core.specs.Plans.{value_index}
-use Rattle.nb_core.specs.States.{value_state}
-use Rattle.nb_core.specs.declared.states.ValueState.TheVariants.{Null}
-use Rattle.nb_table.specs.Events.{reads, shown_by_value}
+use Rattle.nb_core.specs.States.{shown_by_value, value_in_word}
+use Rattle.nb_table.specs.Events.{reads}
 use Rattle.nb_table.specs.Steps.{Can, Stepped}
 use Rattle.nb_table.proofs.Loading.{can-load_value, load-sees}
 use Rattle.nb_table.proofs.Values.{found-is}
@@ -16,7 +14,7 @@ loads-requires-clause-can c =
     let g = c.args.g in
     let i = c.args.i in
     let events = λ (found : ℕ). reads seat.number c.args.call
-    (λ k. shown_by_value (unwrap_or (value_state found) Null)) in
+    (λ k. shown_by_value (value_in_word found)) in
     let at_index = c.value_index-index.ensures ∙ ap (λ v. value_index v.shape g i) c.self.view_is in
     subst (λ index. Can p events seat.number seat.seen index (λ found. found)) (sym at_index)
     (can-load_value p seat.number seat.seen g c.requires.slot.0
@@ -24,12 +22,12 @@ loads-requires-clause-can c =
     c.requires.reached
     c.requires.claimed)
 
-pub returns-clause-lawful : goal.returns-clause-lawful
-returns-clause-lawful c =
+pub lawful-requires : goal.lawful-requires
+lawful-requires c =
     let p = c.args.self.now.shape in
     let seat = c.args.seat.now in
     let events = λ (found : ℕ). reads seat.number c.args.call
-    (λ k. shown_by_value (unwrap_or (value_state found) Null)) in
+    (λ k. shown_by_value (value_in_word found)) in
     let index = c.value_index-index.ensures
     ∙ ap (λ v. value_index v.shape c.args.g c.args.i) c.self.view_is in
     let step = subst (λ x. Stepped p events x seat c.loads.result c.loads.new.seat)
@@ -43,8 +41,9 @@ returns-clause-found c =
     let seat = c.args.seat.now in
     let index = c.value_index-index.ensures
     ∙ ap (λ v. value_index v.shape c.args.g c.args.i) c.self.view_is in
-    let shown = λ (found : ℕ) (k : ℕ). shown_by_value (unwrap_or (value_state found) Null) in
+    let shown = λ (found : ℕ) (k : ℕ). shown_by_value (value_in_word found) in
     let step = c.loads.ensures in
     ap (λ t. t.value c.args.g c.args.i) (load-sees p seat.number c.args.call shown _ _ seat
     c.loads.new.seat
-    step) ∙ ap (λ x. unwrap_or (value_state x) Null) (ap (slice_index _) (sym index) ∙ step.word)
+    step) ∙ ap value_in_word (ap (slice_index _) (sym index) ∙ step.word)
+    ∙ sym c.lawful.ensures.value

@@ -1,4 +1,4 @@
-use Rattle.std.proofs.Common.{◌∙◌, ◌<◌, ap, sym, subst, bit_or}
+use Rattle.std.proofs.Common.{◌∙◌, Some, ◌<◌, ap, sym, subst, bit_or}
 use Rattle.nb_core.specs.Plans.{value_index, word_count}
 use Rattle.nb_table.proofs.Events.{prime_events}
 use Rattle.nb_table.specs.Steps.{Can, Stepped}
@@ -25,8 +25,8 @@ ors-requires-clause-can c =
     c.requires.slot c.requires.growing
     c.requires.claimed)
 
-pub decode_lawful_value-requires : goal.decode_lawful_value-requires
-decode_lawful_value-requires c =
+pub lawful-requires : goal.lawful-requires
+lawful-requires c =
     let p = c.args.self.now.shape in
     let events = prime_events c.args.seat.now.number c.args.g c.args.i in
     let index = c.value_index-index.ensures
@@ -46,7 +46,7 @@ returns-clause-won c =
     index c.ors.ensures in
     prime-won p c.requires.own.plan c.args.seat.now c.ors.result
     c.ors.new.seat c.args.g c.args.i c.requires.slot step
-    c.decode_lawful_value.result c.decode_lawful_value.ensures
+    c.state.result (c.lawful.ensures.decodes ∙ ap Some (sym c.state.ensures))
 
 pub returns-clause-lost : goal.returns-clause-lost
 returns-clause-lost c =
@@ -58,4 +58,4 @@ returns-clause-lost c =
     index c.ors.ensures in
     prime-lost p c.requires.own.plan c.args.seat.now c.ors.result
     c.ors.new.seat c.args.g c.args.i c.requires.slot step
-    c.decode_lawful_value.result c.decode_lawful_value.ensures
+    c.state.result (c.lawful.ensures.decodes ∙ ap Some (sym c.state.ensures))

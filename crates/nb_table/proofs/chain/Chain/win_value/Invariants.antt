@@ -1,13 +1,12 @@
 use Rattle.std.specs.Prelude.{unwrap_or}
-use Rattle.nb_core.specs.States.{value_state}
+use Rattle.nb_core.specs.States.{value_in_word}
 use Rattle.nb_core.specs.declared.calls.Call.TheVariants.{Get}
-use Rattle.nb_core.specs.declared.states.ValueState.TheVariants.{Null}
 use Rattle.nb_table.proofs.Events.{win_events}
 use Rattle.nb_table.proofs.chain.Chain.win_value.Given as goal
 
 abbrev pub ghosts-exchanges : goal.ghosts-exchanges
 ghosts-exchanges a = record {
   shape = a.self.now.shape;
-  events = win_events a.seat.now.number a._spot.g a._spot.i a.old
-      (unwrap_or (value_state a.new) Null) (unwrap_or a._call (Get 0));
+  events = win_events a.seat.now.number a._spot.g a._spot.i (value_in_word a.old)
+      (value_in_word a.new) (unwrap_or a._call (Get 0));
 }

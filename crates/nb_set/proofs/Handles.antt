@@ -71,7 +71,7 @@ seats-on-map these =
     map-map (λ handle. handle.seat) on_map these
     ∙ sym (map-map (λ seat. seat.map) (λ handle. handle.seat) these)
 
--- the map's handles in all handles but the last, and that in the last, are those in all
+-- the map's handles in all handles except the last, and that in the last, are those in all
 pub gathered-all :
     (these rest : List HandleOf) (last : HandleOf) (on : handles.HandleOf)
     → these ≡ rest ++ last ∷ [] → on_map last ≡ on → map on_map rest ++ on ∷ [] ≡ map on_map these
