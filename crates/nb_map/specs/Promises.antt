@@ -73,11 +73,14 @@ pub record HasWritten (map : MapOf) (call : Call) (before after : SeatOf)
 -- what a write promises that has so many tries
 pub record HasTriedToWrite (map : MapOf) (call : Call) (before after : SeatOf) (tries : ℕ)
     (outcome : Outcome PutFault) : Type 0 where
+  -- it is in the log once, with its reply; or it isn't there, and is refused for a just reason
   pub answered : HasAnswered (HasGivenUp map call before after tries) call before after outcome
   -- its steps have a bound whatever others do, which grows with its tries, or with the exchanges
   -- that others win on its key if these are fewer
   pub wait_free : IsWaitFree map call before after tries
+  -- at most four steps, or six, where it is alone with its key at home in the top table
   pub short : IsShortAtHome map.chain.shape call before.chain after.chain
+  -- the seat is still the map's, as after every call
   pub own : IsMine map after
 
 -- ---- reads
@@ -100,19 +103,23 @@ pub record HasGot (map : MapOf) (key : ℕ) (before after : SeatOf) (found : Opt
 -- what a look at the top word promises, which shows that so many tables are complete, from the
 -- first on
 pub record HasSeenTop (map : MapOf) (before after : SeatOf) (top : ℕ) : Type 0 where
+  -- the answer is the top word that the seat has now seen
   pub found : (seen_by map.chain.shape after.chain).top ≡ top
+  -- and the tables below that one are complete
   pub complete :
       (g : ℕ) → g < top → IsComplete map.chain.shape (seen_by map.chain.shape after.chain) g
-  -- it is no call of the log, and makes one step
+  -- it is no call of the log
   pub logged : HasLogged before after []
+  -- it makes one step on the tables, and none on the counter
   pub grows : Extended map.chain.shape before.chain after.chain [] 1
   pub count : after.count ≡ before.count
   pub own : IsMine map after
 
--- what a look at the counter promises: it is no call of the log, and makes a step on the counter
--- for each stripe, and none on the tables
+-- what a look at the counter promises
 pub record HasEstimated (map : MapOf) (before after : SeatOf) : Type 0 where
+  -- it is no call of the log
   pub logged : HasLogged before after []
+  -- it makes no step on the tables, and one on the counter for each stripe
   pub chain : after.chain ≡ before.chain
   pub count : after.count ≡ with_looks map.counter.stripes before.count
   pub own : IsMine map after
@@ -122,20 +129,26 @@ pub record HasMet (map : MapOf) (other before after : SeatOf) : Type 0 where
   -- it is no call of the log, and the seat now knows all that the other knew
   pub logged : HasLogged before after []
   pub knows : IsBeginning (log other) (log after)
-  -- it makes one step
+  -- it makes one step on the tables that is counted, and none on the counter
   pub grows : Extended map.chain.shape before.chain after.chain [] 1
+  -- by it, the seat has seen all that the other had
   pub seen : IsBeginning other.chain.seen after.chain.seen
   pub count : after.count ≡ before.count
   pub own : IsMine map after
 
 -- ---- walks
 
--- what the beginning of a walk promises: one load of the top word, which is no call of the log
+-- what the beginning of a walk promises
 pub record HasBegunWalk (map : MapOf) (before after : SeatOf) (walk : WalkOf) : Type 0 where
+  -- it begins in the top table that the seat has now seen, with its first slot
   pub begun : walk ≡ begun_by map after
+  -- it is this seat's walk over this map
   pub is_walk : IsWalkOf map after walk
+  -- it has shown nothing so far
   pub underway : IsUnderway map after walk []
+  -- it is no call of the log
   pub logged : HasLogged before after []
+  -- it makes one step on the tables, a load of the top word, and none on the counter
   pub grows : Extended map.chain.shape before.chain after.chain [] 1
   pub count : after.count ≡ before.count
   pub own : IsMine map after
@@ -160,12 +173,14 @@ pub record HasWalkedOn (map : MapOf) (before after : SeatOf) (walk walk' : WalkO
   pub ahead :
       IfSome shown (λ pair. slots_ahead map.chain.shape walk'.place
       < slots_ahead map.chain.shape walk.place)
+  -- it is still the seat's walk over this map
   pub is_walk : IsWalkOf map after walk'
   pub own : IsMine map after
 
 -- the same of a walk by a handle, and the map of the handle is the same
 pub record HandleHasWalkedOn (before : HandleWalkOf) (shown : Option (ℕ × ℕ))
     (after : HandleWalkOf) : Type 0 where
+  -- what the map's call promises, of the handle's map, seat and walk
   pub on : HasWalkedOn before.map before.seat after.seat before.walk after.walk shown
   pub map : after.map ≡ before.map
 

@@ -36,7 +36,7 @@ Ops, with the reply and what each does:
   remove K           the old value; removes K
   removeif K V       whether K has V: true or false; if true, removes K
   add K N            the old value; adds N to it, or to 0 if K has no value
-  The reply is - if K has no value. It is full if there is no room for a new key,
+  The reply is - if K had no value. It is full if there is no room for a new key,
   and range if a sum would exceed the greatest value. After full or range, nothing
   has changed.
 
