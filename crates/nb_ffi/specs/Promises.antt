@@ -53,7 +53,7 @@ pub record HasBegunWalk (before after : SessionOf) : Type 0 where
   -- all else of the session is as it was
   pub on : HasGoneOn before after
 
--- what a step of the handle's walk promises, which shows this pair, or ends the walk
+-- what a call of the handle's walk promises, which shows this pair, or ends the walk
 pub record HasWalkedOn (walk : WalkOf) (shown : Option (ℕ × ℕ)) (before after : SessionOf) :
     Type 0 where
   -- the walk, as it is now

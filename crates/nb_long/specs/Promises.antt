@@ -83,7 +83,7 @@ pub record HasChangedIf {V : Type 0} (eq : V → V → Bool) (m : LongMapOf) (ke
     Type 0 where
   -- the change was made just where the value that was compared is equal to the given one
   pub answered : HasAnsweredIf eq m key value change before after result
-  -- only where others win exchanges on its key does it compare again
+  -- its steps have a bound that grows only with the exchanges that others win on its key
   pub lock_free : IsLockFreeIf m key before after
   pub own : IsMine m.map after
 

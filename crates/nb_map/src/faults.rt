@@ -21,7 +21,8 @@ pub enum AddFault {
     ValueRange,
 }
 
-/// Why a write was refused. The map is unchanged by it then, and no call of its was made.
+/// Why a write was refused. The map is unchanged by it then. A refused update has made its read and
+/// its lost exchanges, and any other write no call.
 #[derive(Clone, Copy, Debug, PartialEq, Eq, Error)]
 pub enum PutFault {
     /// Other keys have all slots of the last table.

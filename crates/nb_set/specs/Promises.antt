@@ -27,9 +27,9 @@ pub record HasWritten (set : SetOf) (call : Call) (before after : SeatOf)
     (answer : Result Bool Full) : Type 0 where
   -- it is in the log once, with its reply; or it isn't there, and is refused for want of room
   pub answered : HasAnswered set call before after answer
-  -- only where others win exchanges on its key does it make more steps
+  -- its steps have a bound that grows only with the exchanges that others win on its key
   pub lock_free : IsLockFree set call before after
-  -- alone with its key at home in the top table, it makes four steps, or six
+  -- at most four steps, or six, where it is alone with its key at home in the top table
   pub short : IsShortAtHome set call before after
   -- the seat is still the set's
   pub own : IsMine set after
@@ -43,7 +43,7 @@ pub record HasLookedUp (set : SetOf) (key : ℕ) (before after : SeatOf) (found 
   pub replied : HasReplied (Contains key) before after found
   -- it is wait-free: its steps are bounded
   pub worked : HasWorked set (Contains key) before after (get_steps (shape_of set))
-  -- where the key is at home in the top table, it makes three steps
+  -- at most three steps, where the key is at home in the top table
   pub short : IsSeenAtHome set key before after → steps_of after ≤ steps_of before + 3
   -- the seat is still the set's
   pub own : IsMine set after
@@ -70,7 +70,7 @@ pub record HasEstimated (set : SetOf) (before after : SeatOf) : Type 0 where
   -- it is no call of the log, and makes no step on the tables
   pub logged : HasLogged before after []
   pub chain : after.map.chain ≡ before.map.chain
-  -- it looks at each stripe of the counter once
+  -- it makes as many steps on the counter as that has stripes
   pub count :
       let count = before.map.count in
       after.map.count ≡ record count { steps = count.steps + set.map.counter.stripes }
@@ -105,7 +105,7 @@ pub record HasBegunWalk (set : SetOf) (before after : SeatOf) (walk : WalkOf) : 
   pub later : IsLater before after
   pub own : IsMine set after
 
--- what a step of a walk promises, which shows this key next, or ends the walk
+-- what a call of a walk promises, which shows this key next, or ends the walk
 pub record HasWalkedOn (set : SetOf) (before after : SeatOf) (walk walk' : WalkOf)
     (next : Option ℕ) : Type 0 where
   -- the seat has seen the key in the set, with its place in the log
@@ -126,10 +126,10 @@ pub record HasWalkedOn (set : SetOf) (before after : SeatOf) (walk walk' : WalkO
   pub is_walk : IsWalkOf set after walk'
   pub own : IsMine set after
 
--- the same of a walk by a handle, which stays the set's
+-- the same of a walk by a handle, and the set of the handle is the same
 pub record HandleHasWalkedOn (before : HandleWalkOf) (next : Option ℕ) (after : HandleWalkOf) :
     Type 0 where
-  -- what a step of a walk promises
+  -- what the set's call promises, of the handle's set, seat and walk
   pub on : HasWalkedOn before.set before.seat after.seat before.walk after.walk next
   -- the set is the same
   pub set : after.set ≡ before.set
