@@ -1,6 +1,7 @@
 //! The calls of a map, and their replies.
 ghost use Rattle.std.specs.Prelude.{◌≡◌, if◌then◌else◌};
 ghost use Rattle.nb_core.specs.Calls.{is_past_max};
+ghost use Rattle.nb_core.specs.History.{key_of_call};
 ghost use Rattle.nb_core.specs.Log.{changed, holds_of};
 
 use crate::numbers::{Key, Num, RangeFault};
@@ -84,4 +85,16 @@ pub enum Call {
         want: Want,
         change: Change,
     },
+}
+
+impl Call {
+    /// The key that the call is about.
+    #[inline]
+    pub fn key(&self) -> Key
+        ensures { result ≡ key_of_call self.now }
+    {
+        match *self {
+            Call::Get { key } | Call::Write { key, .. } => key,
+        }
+    }
 }

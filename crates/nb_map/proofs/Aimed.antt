@@ -16,6 +16,8 @@ use Rattle.nb_table.specs.Events.{read, shown_by_key}
 use Rattle.nb_map.specs.Logs.{as_replied}
 use Rattle.nb_map.specs.Calling.{HasMade}
 use Rattle.nb_map.specs.Progress.{IsAloneAtHome, IsKnownHome}
+use Rattle.nb_map.specs.declared.steps.rung.Rung.{Rung}
+use Rattle.nb_map.specs.inside.Climbing.{IsAt}
 use Rattle.nb_map.proofs.Home.{home-before, home-in}
 use Rattle.nb_map.proofs.Made.{made-quiet, made-read, made-stays, read_shown}
 use Rattle.nb_map.proofs.Searched.{made-then, read-before, shown-other, shown-own, two-slots}
@@ -56,43 +58,41 @@ made-at-home chain call {before} {after} g i (Claimed other) own table at fills 
         (made-read p call (shown_by_key p g i (Claimed other) k) step)
 
 -- A write has loaded the key word of its key's home slot, and it may be claimed the slot.
-module _ (chain : ChainOf) {call : Call} {start looked there : SeenBy} (g i key : ℕ)
-    (state : KeyState) (own : IsOwn chain start) (table : g < generations_of chain.shape)
-    (is : key_of_call call ≡ key) (at : path_slot chain.shape g key 0 ≡ i)
+module _ (chain : ChainOf) {call : Call} {start looked there : SeenBy} (rung : Rung)
+    (i : ℕ) (state : KeyState) (at : IsAt chain call start rung)
+    (is : path_slot chain.shape rung.g (key_of_call call) 0 ≡ i)
     (load : Extended chain.shape start looked
-    (read start.number call (shown_by_key chain.shape g i state (key_of_call call))) 1)
-    (found : (seen_by chain.shape looked).key g i ≡ state)
-    (acts : state ≡ Empty → Fills call)
+    (read start.number call (shown_by_key chain.shape rung.g i state (key_of_call call))) 1)
+    (found : (seen_by chain.shape looked).key rung.g i ≡ state)
+    (fills : state ≡ Empty → Fills call)
     (claim : HasMade chain.shape call looked there [] 2) where
   mine : IsOwn chain looked
-  mine = steps_add_up.own own (steps_add_up.one load)
-
-  home : path_slot chain.shape g (key_of_call call) 0 ≡ i
-  home = ap (λ k. path_slot chain.shape g k 0) is ∙ at
+  mine = steps_add_up.own at.own (steps_add_up.one load)
 
   -- that was no call
   pub made-look : HasMade chain.shape call start there [] 3
   made-look =
-      made-then own (made-at-home chain call g i state own table home acts load) claim
+      made-then at.own
+      (made-at-home chain call rung.g i state at.own at.table is fills load) claim
 
   -- and where the key is at home in the end, and was known there if the call puts a number at an
   -- absent key, the slot was the key's
   pub own-slot :
       {after : SeenBy} {calls : List (Call × Reply)} {most : ℕ}
       → HasMade chain.shape call there after calls most
-      → IsAloneAtHome chain.shape g call start after → IsKnownHome chain.shape g call start
-      → state ≡ Claimed key
+      → IsAloneAtHome chain.shape rung.g call start after
+      → IsKnownHome chain.shape rung.g call start → state ≡ Claimed (key_of_call call)
   own-slot {after} made alone known =
       let p = chain.shape in
+      let g = rung.g in
       let k = key_of_call call in
-      let first = steps_add_up.stays own (steps_add_up.one load) in
+      let first = steps_add_up.stays at.own (steps_add_up.one load) in
       let second = made-stays chain mine (made-then mine claim made) in
-      elim (home-before p (seen_by p looked) (seen_by p after) second g k table alone.home) [
+      elim (home-before p (seen_by p looked) (seen_by p after) second g k at.table alone.home) [
         | inl empty ↦
-            let none = sym found ∙ sym (ap ((seen_by p looked).key g) home) ∙ empty in
-            let still = first.claimed g _ k (home-in p g k table) (known.known (acts none)) in
+            let none = sym found ∙ sym (ap ((seen_by p looked).key g) is) ∙ empty in
+            let still = first.claimed g _ k (home-in p g k at.table) (known.known (fills none)) in
             let both : Empty ≡ Claimed k = sym empty ∙ still in
             absurd cc
-        | inr here ↦
-            sym found ∙ sym (ap ((seen_by p looked).key g) home) ∙ here.0 ∙ ap Claimed is
+        | inr here ↦ sym found ∙ sym (ap ((seen_by p looked).key g) is) ∙ here.0
       ]

@@ -6,6 +6,7 @@ use Rattle.nb_core.specs.Calls.{leaves_alone}
 use Rattle.nb_core.specs.History.{HasWay, key_of_call}
 use Rattle.nb_core.specs.Tables.{IsPassed, AreOthers, HasSlotBelow, IsComplete, IsInstalled, IsReady, Tables, path_slot, tables_at}
 use Rattle.nb_core.specs.Laws.{Lasts}
+use Rattle.nb_core.specs.Meaning.{IsCrowded}
 use Rattle.nb_core.specs.Plans.{IsPlan, Plan, generations_of, limit_of, size_of}
 use Rattle.nb_core.specs.declared.calls.Call.{Call}
 use Rattle.nb_core.specs.declared.calls.Reply.{Reply}
@@ -16,14 +17,14 @@ use Rattle.nb_table.specs.Chains.{ChainOf, Extended, IsOwn, SeenBy, seen_by}
 use Rattle.nb_copy.specs.Handing.{HasCompleted, table_steps}
 use Rattle.nb_map.specs.Logs.{as_replied}
 use Rattle.nb_map.proofs.Made.{made-copied, made-more, made-none, made-quiet, made-step, made-within, slot-below-lasts}
+use Rattle.nb_map.proofs.Searched.{made-then}
 use Rattle.nb_map.specs.Calling.{HasMade, IsBeforeNext}
 use Rattle.nb_map.specs.inside.Reading.{read_at}
 use Rattle.nb_map.specs.Steps.{probe_steps}
-use Rattle.nb_map.specs.inside.Writing.{HasBelow, IsFound}
+use Rattle.nb_map.specs.inside.Climbing.{GoesOn, HasBelow}
 use Rattle.nb_map.specs.Steps.{search_steps, grow_steps, owed_below, steps_below}
-use Rattle.nb_map.specs.declared.steps.claim.Below.{Below}
-use Rattle.nb_map.specs.declared.steps.claim.Below.TheVariants.{Complete, HasKey, Passed}
-use Rattle.nb_map.specs.declared.steps.claim.SlotFor.TheVariants.{Above, Full}
+use Rattle.nb_map.specs.declared.steps.rung.Below.{Below}
+use Rattle.nb_map.specs.declared.steps.rung.Below.TheVariants.{Complete, HasKey, Passed}
 use Rattle.nb_map.specs.declared.steps.search.PathEnd.{PathEnd}
 use Rattle.nb_map.specs.declared.steps.search.PathEnd.TheVariants as ends
 use Rattle.nb_core.proofs.Theorems.{complete_passed, linked, whole_crowded}
@@ -58,14 +59,6 @@ completed-below call chain (suc g) {before} {after} some table done =
     let same : suc g - 1 ≡ g = omega arith in
     let done' = subst (λ f. HasCompleted chain.shape f before after) same done in
     (made-copied chain call table refl done'.copied, done'.complete)
-
--- what is known of the table below is so still
-pub below-lasts :
-    (p : Plan) (t u : Tables) → Lasts p t u → (g k : ℕ) → g < generations_of p → (below : Below)
-    → HasBelow p t g k below → HasBelow p u g k below
-below-lasts p t u lasting g k table Complete ready = lasting.ready g table ready
-below-lasts p t u lasting g k table HasKey slot = slot-below-lasts p t u lasting g k table slot
-below-lasts p t u lasting g k table Passed known = tt
 
 -- a slot within the limit may be claimed, by what is known of the table below
 pub way-to :
@@ -115,14 +108,13 @@ complete-next chain seat own g table complete =
 
 -- above a complete table, which has a next one, a call may go on
 pub above-complete :
-    (chain : ChainOf) (seat : SeenBy) → IsOwn chain seat → (g k : ℕ)
+    (chain : ChainOf) (call : Call) (seat : SeenBy) → IsOwn chain seat → (g : ℕ)
     → g < generations_of chain.shape → IsComplete chain.shape (seen_by chain.shape seat) g
     → IsInstalled (seen_by chain.shape seat) (suc g)
-    → IsFound chain.shape seat g k (Above Complete)
-above-complete chain seat own g k table complete next =
-    let pass : IsPassed chain.shape (seen_by chain.shape seat) g k =
-    complete_passed chain.shape own.plan seat.seen own.legal g k table
-    complete in
+    → GoesOn chain.shape call seat g Complete
+above-complete chain call seat own g table complete next =
+    let pass : IsPassed chain.shape (seen_by chain.shape seat) g (key_of_call call) =
+    complete_passed chain.shape own.plan seat.seen own.legal g (key_of_call call) table complete in
     ((pass, next), complete)
 
 -- where other keys have a key's whole path in the last table, there is no slot for the key
@@ -130,7 +122,7 @@ pub whole-full :
     (chain : ChainOf) (seat : SeenBy) → IsOwn chain seat → (g k : ℕ)
     → g + 1 ≡ generations_of chain.shape → AreOthers chain.shape (seen_by chain.shape seat) g k
     (size_of chain.shape g)
-    → IsFound chain.shape seat g k Full
+    → IsCrowded chain.shape seat.seen k
 whole-full chain seat own g k last others =
     let q = chain.shape in
     let at : g ≡ generations_of q - 1 = omega (arith, last) in
@@ -186,14 +178,6 @@ module _ (chain : ChainOf) where
   made-complete {call} next own so_far done =
       made-more chain own so_far (made-copied chain call next refl done.copied)
 
--- the number behind a slot is small
-pub behind-fits :
-    (p : Plan) → IsPlan p → (g d : ℕ) → g < generations_of p → d < size_of p g → d + 1 ≤ 2 ^ 19
-behind-fits p plan g d table near =
-    let most : size_of p g ≤ 2 ^ 19 = pow_mono
-    (All-get_or (λ e. (2 ≤ e) × (e ≤ 19)) p.exponents g 0 table plan.sizes).1 in
-    omega (arith, most, near)
-
 -- a walk of a call that puts a number at an absent key is no read
 read-never :
     (p : Plan) (g : ℕ) (call : Call) (end : PathEnd) → leaves_alone call None ≡ false
@@ -221,17 +205,13 @@ pub record HasProbed (p : Plan) (call : Call) (before after : SeenBy) (g from : 
 
 -- it begins with no step
 pub walked-none :
-    (chain : ChainOf) (call : Call) (seat : SeenBy) → IsOwn chain seat → (g : ℕ) (below : Below)
-    → HasProbed chain.shape call seat seat g 0 below
-walked-none chain call seat own g below = record {
+    (chain : ChainOf) (call : Call) (seat : SeenBy) → IsOwn chain seat
+    → (g from : ℕ) (below : Below) → HasProbed chain.shape call seat seat g from below
+walked-none chain call seat own g from below = record {
   most = 0;
   made = made-none chain call seat own;
-  few = start (owed_below chain.shape g below) (steps_below chain.shape g)
-      (owed-most chain.shape g below);
+  few = omega (arith, owed-most chain.shape g below);
 }
-  where
-    start : (owed steps : ℕ) → owed ≤ steps → 0 + owed ≤ 3 * 0 + steps
-    start owed steps most = omega (arith, most)
 
 -- its steps fit where it ends in this table, where it goes on above the whole path, and where it
 -- ends at an empty slot; and they are few still where it goes on behind the slot
@@ -288,34 +268,34 @@ module _ (chain : ChainOf) where
   -- where other keys have the whole path
   pub walked-whole :
       {call : Call} {before then whole after : SeenBy} {g from : ℕ} {below : Below}
-      → IsOwn chain before → from ≤ size_of q g
+      {made : List (Call × Reply)} → IsOwn chain before → from ≤ size_of q g
       → (walked : HasProbed q call before then g from below)
       → HasMade q call before whole [] (walked.most + (size_of q g - from))
-      → HasMade q call whole after [] (grow_steps q g below)
-      → HasMade q call before after [] (search_steps q g)
-  walked-whole {g = g} {from} {below} own within walked made left =
+      → HasMade q call whole after made (grow_steps q g below)
+      → HasMade q call before after made (search_steps q g)
+  walked-whole {g = g} {from} {below} own within walked so_far left =
       made-within (walked.most + (size_of q g - from) + grow_steps q g below) (search_steps q g)
       (few-whole walked.most (owed_below q g below) from (size_of q g) (steps_below q g)
       (table_steps q g) walked.few within)
-      (made-more chain own made left)
+      (made-then own so_far left)
 
   -- where a slot was empty and the table below is settled, and the call ends there
   pub walked-claimed :
       {call : Call} {before then settled after : SeenBy} {g from : ℕ} {below : Below}
-      (below' : Below) (d : ℕ) → IsOwn chain before
+      {made : List (Call × Reply)} (below' : Below) (d : ℕ) → IsOwn chain before
       → from ≤ size_of q g → d < size_of q g → owed_below q g below' ≤ owed_below q g below
       → (walked : HasProbed q call before then g from below)
       → HasMade q call before settled [] (walked.most + (d + 1 - from)
       + (owed_below q g below - owed_below q g below'))
-      → HasMade q call settled after [] (2 + grow_steps q g below')
-      → HasMade q call before after [] (search_steps q g)
-  walked-claimed {g = g} {from} {below} below' d own within near fewer walked made claimed =
+      → HasMade q call settled after made (2 + grow_steps q g below')
+      → HasMade q call before after made (search_steps q g)
+  walked-claimed {g = g} {from} {below} below' d own within near fewer walked so_far claimed =
       made-within (walked.most + (d + 1 - from) + (owed_below q g below - owed_below q g below')
       + (2 + grow_steps q g below')) (search_steps q g)
       (few-empty walked.most (owed_below q g below) (owed_below q g below') from d (size_of q g)
       (steps_below q g) (table_steps q g) walked.few fewer
       within near)
-      (made-more chain own made claimed)
+      (made-then own so_far claimed)
 
   -- or goes on behind the slot
   pub walked-behind :

@@ -1,7 +1,7 @@
 -- What a call does at its key's slot, and what others did meanwhile.
-use Rattle.std.proofs.Common.{◌≡◌, ◌≢◌, ◌∙◌, ℕ, suc, zero, Bool, ◌+◌, ◌≤◌, ◌<◌, true, false, cond, List, [], ◌∷◌, ◌++◌, length, Option, Some, None, Result, Ok, Err, ap, sym, subst, subst₂, refl, arith}
+use Rattle.std.proofs.Common.{◌≡◌, ◌≢◌, ◌∙◌, ℕ, suc, zero, Bool, ◌+◌, ◌-◌, ◌≤◌, ◌<◌, true, false, cond, List, [], ◌∷◌, ◌++◌, length, Option, Some, None, Result, Ok, Err, ap, sym, subst, subst₂, refl, arith}
 use Rattle.std.specs.FinMap as map
-use Rattle.std.specs.Prelude.{OnOk}
+use Rattle.std.specs.Prelude.{OnOk, is_some}
 use Rattle.std.specs.List.{All}
 use Rattle.std.proofs.lemmas.Bool.{eq-eqb, ne_eqb}
 use Rattle.std.proofs.lemmas.List.Elements.{All-head, All-tail}
@@ -24,18 +24,19 @@ use Rattle.nb_table.specs.Chains.{ChainOf, Extended, Grown, IsOwn, SeenBy, seen_
 use Rattle.nb_table.specs.Conditions.{IsReached}
 use Rattle.nb_table.specs.Events.{only, read}
 use Rattle.nb_map.specs.Logs.{as_replied}
-use Rattle.nb_map.proofs.Made.{made-more, made-own, made-read, made-stays, made-step, made-within}
-use Rattle.nb_map.proofs.Searched.{made-then, reached-lasts}
+use Rattle.nb_map.proofs.Made.{made-more, made-read, made-step, made-within, read_shown}
+use Rattle.nb_map.proofs.Rungs.{slot-stays}
+use Rattle.nb_map.proofs.Searched.{made-then}
+use Rattle.nb_map.proofs.Spent.{no-read, passed-sum, spent-later, spent-none}
 use Rattle.nb_map.specs.Calling.{HasMade}
 use Rattle.nb_map.specs.inside.Reading.{read_of}
-use Rattle.nb_map.specs.inside.Writing.{IsWritten}
-use Rattle.nb_map.specs.inside.Reading.{IsAbove}
+use Rattle.nb_map.specs.inside.Climbing.{GoesOn, IsAbove, IsAtSlot, IsSpent}
 use Rattle.nb_map.specs.inside.Writing.{IsDecided}
 use Rattle.nb_map.specs.Progress.{passed_since}
-use Rattle.nb_map.specs.declared.steps.claim.Below.TheVariants.{HasKey}
+use Rattle.nb_map.specs.declared.steps.rung.Below.TheVariants.{HasKey}
+use Rattle.nb_map.specs.declared.steps.rung.Slot.{Slot}
 use Rattle.nb_map.specs.declared.steps.decide.Decision.{Decision}
 use Rattle.nb_map.specs.declared.steps.decide.Decision.TheVariants as decision
-use Rattle.nb_map.specs.declared.steps.write.Written.TheVariants.{Above}
 use Rattle.nb_core.proofs.Theorems.{beginnings_are_legal, decided, log_is_replayed, lost_exchange, passed_over_adds, passed_settled}
 use Rattle.nb_table.proofs.Theorems.{steps_add_up}
 
@@ -98,39 +99,67 @@ read-tables p number call (Some n) h = one (leaves_alone call n)
     one true = refl
     one false = refl
 
--- A write has lost so many tries at its key's slot, where this value was found last. It shows this
--- number, or none.
-pub record HasTried (p : Plan) (call : Call) (start now : SeenBy) (g i lost : ℕ)
-    (from : ValueState) (number : Option ℕ) : Type 0 where
-  pub made : HasMade p call start now (read_of call number) (lost + 1)
-  pub held : (seen_by p now).value g i ≡ from
-  pub shows : shown_by_value from ≡ Some number
-  pub passed : lost ≤ passed_since call start now
+-- the calls that what was found last has made, and the steps after a load and so many lost
+-- exchanges: one more where the last was lost to a copier, by a primed value
+abbrev pub tried_calls : Call → Option (Option ℕ) → List (Call × Reply)
+tried_calls call None = []
+tried_calls call (Some number) = read_of call number
+
+abbrev pub tried_steps : Option (Option ℕ) → (lost : ℕ) → ℕ
+tried_steps None lost = lost + 2
+tried_steps (Some number) lost = lost + 1
+
+-- how many values it may still find
+abbrev pub tries_ahead : Option (Option ℕ) → (left : ℕ) → ℕ
+tries_ahead None left = 0
+tries_ahead (Some number) left = suc left
+
+-- A call has so many of its tries left at its key's slot, where this value was found last, which
+-- shows this. If it shows nothing, there is a try left.
+pub record HasTried (p : Plan) (call : Call) (start now : SeenBy) (slot : Slot) (tries left : ℕ)
+    (from : ValueState) (shown : Option (Option ℕ)) : Type 0 where
+  pub made : HasMade p call start now (tried_calls call shown) (tried_steps shown (tries - left))
+  pub held : (seen_by p now).value slot.g slot.i ≡ from
+  pub shows : shown_by_value from ≡ shown
+  pub spent : IsSpent call start now tries left
+  pub some : shown ≡ None → 1 ≤ left
+
+-- what was found shows this, said otherwise
+pub tried-as :
+    {p : Plan} {call : Call} {start now : SeenBy} {slot : Slot} {tries left : ℕ}
+    {from : ValueState} {shown shown' : Option (Option ℕ)} → shown ≡ shown'
+    → HasTried p call start now slot tries left from shown
+    → HasTried p call start now slot tries left from shown'
+tried-as {p} {call} {start} {now} {slot} {tries} {left} {from} is tried =
+    subst (HasTried p call start now slot tries left from) is tried
+
+-- there are fewer values that it may still find after an exchange that it lost
+pub ahead-lost :
+    (shown : Option (Option ℕ)) (left : ℕ) → 1 ≤ left → tries_ahead shown (left - 1) ≤ left
+ahead-lost None left some = omega arith
+ahead-lost (Some number) left some = omega (arith, some)
+
+pub ahead-primed :
+    (shown : Option (Option ℕ)) (left : ℕ) → shown ≡ None → tries_ahead shown left ≤ left
+ahead-primed None left is = omega arith
+ahead-primed (Some number) left is = absurd cc
+
+pub ahead-more :
+    (shown : Option (Option ℕ)) (number : Option ℕ) (left fewer : ℕ) → shown ≡ Some number
+    → fewer ≤ left → suc fewer ≤ tries_ahead shown left
+ahead-more None number left fewer is few = absurd cc
+ahead-more (Some other) number left fewer is few = omega (arith, few)
+
+-- a value that is there
+pub some-of : {A : Type 0} (o : Option A) → is_some o ≡ true → (x : A) × (o ≡ Some x)
+some-of None is = absurd cc
+some-of (Some x) is = (x, refl)
+
+pub none-unless : {A : Type 0} (o : Option A) → is_some o ≡ false → o ≡ None
+none-unless None is = refl
+none-unless (Some x) is = absurd cc
 
 -- ---- the exchanges that others won
-
--- up to a moment and since then
-pub passed-sum :
-    (call : Call) {p : Plan} {start mid after : SeenBy} {own own' : List Event} {count count' : ℕ}
-    → Grown p start mid own count
-    → Grown p mid after own' count' → passed_since call start mid + passed_since call mid after
-    ≡ passed_since call start after
-passed-sum call {p} {start} {mid} {after} a b =
-    subst (λ s. passed_since call start mid + passed_over after.seen (length mid.seen)
-    (key_of_call call) s ≡ passed_since call start after) (sym a.number)
-    (omega (
-      arith,
-      at mid.seen after.seen a.later b.later a.seen b.seen (key_of_call call)
-          start.number,
-    ))
-  where
-    at : (m a later later' : List Event) → m ≡ later ++ start.seen → a ≡ later' ++ m → (k s : ℕ)
-        → passed_over a (length start.seen) k s ≡ passed_over a (length m) k s
-        + passed_over m (length start.seen) k s
-    at m a later later' is is' k s =
-        subst₂ (λ m a. passed_over a (length start.seen) k s ≡ passed_over a (length m) k s
-        + passed_over m (length start.seen) k s) (sym is)
-        (sym (is' ∙ ap (λ h. later' ++ h) is)) (passed_over_adds later' later start.seen k s)
 
 -- events of others are no calls of the seat
 pub calls-others :
@@ -203,21 +232,6 @@ module _ (chain : ChainOf) where
   abbrev p : Plan
   p = chain.shape
 
-  -- the key has the slot still, and is passed below still
-  pub still-stands :
-      {call : Call} {start after : SeenBy} {made : List (Call × Reply)} {most : ℕ}
-      → IsOwn chain start → HasMade p call start after made most
-      → (g i key : ℕ) → key_of_call call ≡ key → IsSlot p g i
-      → (seen_by p start).key g i ≡ Claimed key → IsReached p (seen_by p start) g key
-      → ((seen_by p after).key g i ≡ Claimed (key_of_call call))
-      × IsReached p (seen_by p after) g (key_of_call call)
-  still-stands {call} {start} {after} own steps g i key is slot claimed reached =
-      let lasting = made-stays chain own steps in (
-        lasting.claimed g i key slot claimed ∙ ap Claimed (sym is),
-        subst (λ k. IsReached p (seen_by p after) g k) (sym is)
-            (reached-lasts p (seen_by p start) (seen_by p after) lasting g key slot.0 reached),
-      )
-
   -- an exchange that was won
   pub made-won :
       {call : Call} {before after : SeenBy} {g i : ℕ} {from to : ValueState} (number : Option ℕ)
@@ -256,114 +270,126 @@ module _ (chain : ChainOf) where
       ∙ passed_over_adds mine step.others before.seen k before.number in
       omega (arith, one, both)
 
-  -- ---- the tries of a write
+  -- ---- the tries of a call
 
-  module _ {call : Call} {start now : SeenBy} {g i lost : ℕ} {from : ValueState}
-      {number : Option ℕ}
-      (own : IsOwn chain start) (tried : HasTried p call start now g i lost from number) where
+  -- a load comes first
+  pub tried-first :
+      {call : Call} {start after : SeenBy} (slot : Slot) (v : ValueState) (tries : ℕ)
+      → Extended p start after (read start.number call (shown_by_value v)) 1
+      → (seen_by p after).value slot.g slot.i ≡ v → 1 ≤ tries
+      → HasTried p call start after slot tries tries v (shown_by_value v)
+  tried-first {call} {start} {after} slot v tries load held some =
+      at (shown_by_value v) refl (made-read p call (shown_by_value v) load)
+    where
+      at : (shown : Option (Option ℕ)) → shown_by_value v ≡ shown
+          → HasMade p call start after (read_shown call shown) 1
+          → HasTried p call start after slot tries tries v shown
+      at None is made = record {
+        made = made-within 1 _ (omega arith) made;
+        held = held;
+        shows = is;
+        spent = spent-none call start after tries;
+        some = λ none. some;
+      }
+      at (Some number) is made = record {
+        made = made-within 1 _ (omega arith) made;
+        held = held;
+        shows = is;
+        spent = spent-none call start after tries;
+        some = λ none. some;
+      }
+
+  module _ {call : Call} {start now : SeenBy} {slot : Slot} {tries left : ℕ} {from : ValueState}
+      {number : Option ℕ} (at : IsAtSlot chain call start slot)
+      (tried : HasTried p call start now slot tries left from (Some number)) where
     -- what was found last was the call's read, if the call leaves it as it is
     pub tried-left :
         (reply : Reply) → leaves_alone call number ≡ true → reply ≡ reply_at call number
-        → HasMade p call start now ((call, reply) ∷ []) (lost + 1)
+        → HasMade p call start now ((call, reply) ∷ []) (tries - left + 1)
     tried-left reply alone is =
-        subst (λ made. HasMade p call start now made (lost + 1))
+        subst (λ made. HasMade p call start now made (tries - left + 1))
         (ap (λ b. cond b (as_replied call number) []) alone ∙ ap (λ r. (call, r) ∷ []) (sym is))
         tried.made
 
     -- and else there was no call yet
-    pub tried-none : leaves_alone call number ≡ false → HasMade p call start now [] (lost + 1)
+    pub tried-none :
+        leaves_alone call number ≡ false → HasMade p call start now [] (tries - left + 1)
     tried-none acts =
-        subst (λ made. HasMade p call start now made (lost + 1))
+        subst (λ made. HasMade p call start now made (tries - left + 1))
         (ap (λ b. cond b (as_replied call number) []) acts) tried.made
 
     -- an exchange of it is won
     pub tried-won :
         {after : SeenBy} {to : ValueState} → leaves_alone call number ≡ false
-        → Extended p now after (Won now.number g i from to call
+        → Extended p now after (Won now.number slot.g slot.i from to call
         (record { before = number_in_value from; matched = true }) ∷ []) 1
         → HasMade p call start after ((call, record { before = number; matched = true }) ∷ [])
-        (lost + 1 + 1)
+        (tries - left + 1 + 1)
     tried-won acts won =
-        made-more chain own (tried-none acts)
+        made-more chain at.own (tried-none acts)
         (made-won number (shown-some from number tried.shows).1 won)
 
     module _ (found : ValueState) {after : SeenBy} (acts : leaves_alone call number ≡ false)
         (step : Extended p now after (read now.number call (shown_by_value found)) 1)
-      where
-        -- or lost, and what was found is primed
-        pub tried-primed :
-            shown_by_value found ≡ None → HasMade p call start after [] (lost + 1 + 1)
-        tried-primed shows =
-            made-then own (tried-none acts)
+        (held : (seen_by p after).value slot.g slot.i ≡ found) where
+      -- or lost to a copier
+      pub tried-primed :
+          shown_by_value found ≡ None → 1 ≤ left
+          → HasTried p call start after slot tries left found None
+      tried-primed shows some = record {
+        made = made-within _ _ (omega arith)
+            (made-then at.own (tried-none acts)
             (made-read p call None
-            (subst (λ shown. Extended p now after (read now.number call shown) 1) shows step))
+            (subst (λ shown. Extended p now after (read now.number call shown) 1) shows step)));
+        held = held;
+        shows = shows;
+        spent = spent-later tried.spent tried.made.grown (steps_add_up.one step);
+        some = λ none. some;
+      }
 
-        -- or it isn't
-        pub tried-lost :
-            (shown : Option ℕ) → IsSlot p g i → (seen_by p now).key g i ≡ Claimed (key_of_call call)
-            → IsSettledBelow p (seen_by p now) g (key_of_call call)
-            → (seen_by p after).value g i ≡ found → found ≢ from
-            → shown_by_value found ≡ Some shown
-            → HasTried p call start after g i (lost + 1) found shown
-        tried-lost shown slot claimed settled held differs shows =
-            let mine = steps_add_up.own own tried.made.grown in
-            let one = lost-one call g i found mine step slot claimed settled held
-            (shown-some found shown shows).0
-            (λ same. differs (same ∙ tried.held)) in
-            record {
-              made = made-then own (tried-none acts)
-                  (made-read p call (Some shown)
-                  (subst (λ s. Extended p now after (read now.number call s) 1) shows step));
-              held = held;
-              shows = shows;
-              passed = omega (
+      -- or to another write, and what was found shows another number
+      pub tried-lost :
+          (other : Option ℕ) → found ≢ from → shown_by_value found ≡ Some other → 1 ≤ left
+          → HasTried p call start after slot tries (left - 1) found (Some other)
+      tried-lost other differs shows some =
+          let here = slot-stays chain at tried.made in
+          let settled = reached-settled chain now here.own slot.g (key_of_call call) here.slot.0
+          here.reached in
+          let one = lost-one call slot.g slot.i found here.own step here.slot here.claimed settled
+          held (shown-some found other shows).0 (λ same. differs (same ∙ tried.held)) in
+          record {
+            made = made-within _ _ (omega (arith, tried.spent.fewer, some))
+                (made-then at.own (tried-none acts)
+                (made-read p call (Some other)
+                (subst (λ shown. Extended p now after (read now.number call shown) 1) shows
+                step)));
+            held = held;
+            shows = shows;
+            spent = record {
+              fewer = omega (arith, tried.spent.fewer);
+              lost = omega (
                 arith,
-                tried.passed,
+                tried.spent.lost,
                 passed-sum call tried.made.grown (steps_add_up.one step),
                 one,
               );
-            }
+              read = λ read. absurd (no-read call number acts read);
+            };
+            some = λ none. absurd cc;
+          }
 
-  -- a load comes first
-  pub tried-first :
-      {call : Call} {start after : SeenBy} (g i : ℕ) (v : ValueState) (number : Option ℕ)
-      → Extended p start after (read start.number call (shown_by_value v)) 1
-      → (seen_by p after).value g i ≡ v
-      → shown_by_value v ≡ Some number
-      → HasTried p call start after g i 0 v number
-  tried-first {call} {start} {after} g i v number load held shows = record {
-    made = made-within 1 (0 + 1) (omega arith)
-        (made-read p call (Some number)
-        (subst (λ s. Extended p start after (read start.number call s) 1) shows load));
-    held = held;
-    shows = shows;
-    passed = omega arith;
-  }
-
-  -- or it finds a primed value
-  pub loaded-primed :
-      {call : Call} {start after : SeenBy} (v : ValueState)
-      → Extended p start after (read start.number call (shown_by_value v)) 1
-      → shown_by_value v ≡ None → HasMade p call start after [] 1
-  loaded-primed {call} {start} {after} v load shows =
-      made-read p call None
-      (subst (λ s. Extended p start after (read start.number call s) 1) shows load)
-
-  -- and it goes on in the next table, once the slot is finished
-  pub above-written :
-      {call : Call} {start then after : SeenBy} {made : List (Call × Reply)} {most pass : ℕ}
-      → IsOwn chain start → HasMade p call start then made most → (g i key : ℕ)
-      → key_of_call call ≡ key → IsSlot p g i → (seen_by p start).key g i ≡ Claimed key
-      → HasMade p call then after [] pass
-      → ((k : ℕ) → (seen_by p then).key g i ≡ Claimed k → IsAbove p (seen_by p after) g k)
-      → (tries left : ℕ) → 1 ≤ left → left ≤ tries → tries ≤ left + passed_since call start then
-      → IsWritten p call start after g tries (Above HasKey left)
-  above-written {call} own steps g i key is slot claimed pass above tries left some fewer lost =
-      let here = (made-stays chain own steps).claimed g i key slot claimed in
-      let still = (made-stays chain (made-own chain own steps) pass).claimed g i key slot here in (
-        above (key_of_call call) (here ∙ ap Claimed (sym is)),
-        record { slot = i; in_table = slot.1; is = still ∙ ap Claimed (sym is) },
-        some,
-        fewer,
-        omega (arith, lost, passed-sum call steps.grown pass.grown),
+  -- it goes on in the next table, once the slot is finished
+  pub tried-above :
+      {call : Call} {start now after : SeenBy} {slot : Slot} {tries left pass : ℕ}
+      {from : ValueState} → IsAtSlot chain call start slot
+      → HasTried p call start now slot tries left from None
+      → HasMade p call now after [] pass
+      → ((k : ℕ) → (seen_by p now).key slot.g slot.i ≡ Claimed k
+      → IsAbove p (seen_by p after) slot.g k)
+      → GoesOn p call after slot.g HasKey
+  tried-above {call = call} {slot = slot} at tried made above =
+      let here = slot-stays chain at tried.made in
+      let still = slot-stays chain here made in (
+        above (key_of_call call) here.claimed,
+        record { slot = slot.i; in_table = still.slot.1; is = still.claimed },
       )

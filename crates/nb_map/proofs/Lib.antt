@@ -1,6 +1,7 @@
 mod Aimed
 mod Bounds
 mod Claimed
+mod Climbed
 mod Counted
 mod Crowding
 mod Earlier
@@ -15,8 +16,10 @@ mod Passed
 mod Passing
 mod Replied
 mod Rounds
+mod Rungs
 mod Searched
 mod Sizes
+mod Spent
 mod Straight
 pub mod Theorems
 mod Turned

@@ -66,13 +66,6 @@ logged-then {before} a b = record {
 pub logs_add_up : LogsAddUp
 logs_add_up = record { none = λ mine. logged-same mine refl; more = λ a b. logged-then a b }
 
--- some calls after none
-pub logged-more :
-    {before then after : SeatOf} {made : List (Call × Reply)} → HasLogged before then []
-    → HasLogged then after made → HasLogged before after made
-logged-more {before} {then} {after} {made} a b =
-    subst (HasLogged before after) (append-nil made) (logged-then a b)
-
 -- ---- the tries of a write that waits
 
 -- the same seat of the counter, where nothing is counted

@@ -21,8 +21,8 @@ use Rattle.nb_table.specs.Events.{is_last_slot, read, shown_by_key}
 use Rattle.nb_map.specs.Logs.{as_replied}
 use Rattle.nb_map.proofs.Made.{made-more, made-read, made-within, read_shown}
 use Rattle.nb_map.specs.Calling.{HasMade}
-use Rattle.nb_map.specs.inside.Reading.{read_of}
-use Rattle.nb_map.specs.inside.Reading.{IsAbove, IsClosedTo}
+use Rattle.nb_map.specs.inside.Climbing.{IsAbove}
+use Rattle.nb_map.specs.inside.Reading.{IsClosedTo, read_of}
 use Rattle.nb_core.proofs.Theorems.{complete_passed, linked, paths_are_distinct, top_complete}
 
 -- a table that is there is one of the plan's
@@ -49,27 +49,6 @@ primed-next chain seat own g i slot value is primed =
       | inl unprimed ↦ absurd (primed (subst IsUnprimed is unprimed))
       | inr next ↦ next
     ]
-
--- a value that isn't null, a tombstone or live is primed
-pub is-primed :
-    (v : ValueState) → v ≢ Null → v ≢ Tombstone → ((n : ℕ) → v ≢ Live n) → IsUnprimed v → ⊥
-is-primed Null null stone live unprimed = null refl
-is-primed Tombstone null stone live unprimed = stone refl
-is-primed (Live n) null stone live unprimed = live n refl
-is-primed PrimedNull null stone live unprimed = unprimed
-is-primed PrimedTombstone null stone live unprimed = unprimed
-is-primed (Primed n) null stone live unprimed = unprimed
-is-primed (Finished n) null stone live unprimed = unprimed
-
--- and shows nothing
-pub shown-primed : (v : ValueState) → (IsUnprimed v → ⊥) → shown_by_value v ≡ None
-shown-primed Null primed = absurd (primed tt)
-shown-primed Tombstone primed = absurd (primed tt)
-shown-primed (Live n) primed = absurd (primed tt)
-shown-primed PrimedNull primed = refl
-shown-primed PrimedTombstone primed = refl
-shown-primed (Primed n) primed = refl
-shown-primed (Finished n) primed = refl
 
 -- a key whose slot is finished is passed
 pub finished-passed :

@@ -1,5 +1,6 @@
 -- A write that looks at its key's home slot in the top table first.
-use Rattle.std.proofs.Common.{◌≡◌, ◌∙◌, ◌⊎◌, ℕ, ◌+◌, ◌*◌, ◌^◌, ◌-◌, ◌<◌, ◌≤◌, min, List, [], inl, inr, subst, arith}
+use Rattle.std.proofs.Common.{◌≡◌, ◌∙◌, ◌⊎◌, ℕ, ◌+◌, ◌-◌, ◌<◌, ◌≤◌, min, List, [], Option, Result, inl, inr, subst, sym, arith}
+use Rattle.std.proofs.lemmas.Nat.{pow_pos}
 use Rattle.nb_core.specs.History.{key_of_call}
 use Rattle.nb_core.specs.Plans.{generations_of}
 use Rattle.nb_core.specs.Tables.{IsReady}
@@ -9,18 +10,18 @@ use Rattle.nb_core.specs.declared.events.Event.{Event}
 use Rattle.nb_table.proofs.Theorems.{steps_add_up}
 use Rattle.nb_table.specs.Chains.{ChainOf, Extended, Grown, IsOwn, SeenBy, seen_by}
 use Rattle.nb_table.specs.Conditions.{IsReached}
-use Rattle.nb_map.proofs.Exchanged.{passed-sum}
 use Rattle.nb_map.proofs.Home.{home-before}
 use Rattle.nb_map.proofs.Made.{made-own, made-quiet, made-stays, made-within}
-use Rattle.nb_map.proofs.Rounds.{before-bound}
-use Rattle.nb_map.proofs.Searched.{made-then, reached-lasts, reached-top, ready-top, table-within}
-use Rattle.nb_map.proofs.Written.{alone-top, elsewhere-bound, home-bound, known-then, last-before, same-top}
+use Rattle.nb_map.proofs.Searched.{made-then, others-none, reached-top, ready-top, table-within}
+use Rattle.nb_map.proofs.Spent.{passed-sum, spent-more}
+use Rattle.nb_map.proofs.Written.{alone-top, before-bound, known-then, last-before, same-top, whole-bound}
 use Rattle.nb_map.specs.Calling.{HasMade}
-use Rattle.nb_map.specs.Steps.{get_steps}
-use Rattle.nb_map.specs.inside.Writing.{IsShortThere}
-use Rattle.nb_map.specs.Steps.{home_steps, put_steps}
 use Rattle.nb_map.specs.Progress.{IsAloneAtHome, IsKnownHome, IsLastSeen, IsSeenAlone, IsShortAtHome, passed_since}
-use Rattle.nb_map.specs.declared.steps.at_home.AtHome.{AtHome}
+use Rattle.nb_map.specs.Steps.{climb_steps, home_steps, put_steps}
+use Rattle.nb_map.specs.declared.faults.PutFault.{PutFault}
+use Rattle.nb_map.specs.declared.steps.rung.Rung.{Rung}
+use Rattle.nb_map.specs.inside.Climbing.{IsAt, IsSpent, rung_at}
+use Rattle.nb_map.specs.inside.Writing.{IsShortThere}
 
 -- The seat has loaded the top word.
 module _ (chain : ChainOf) {start first : SeenBy} (top : ℕ) (own : IsOwn chain start)
@@ -39,17 +40,20 @@ module _ (chain : ChainOf) {start first : SeenBy} (top : ℕ) (own : IsOwn chain
   pub ready-there : IsReady chain.shape (seen_by chain.shape first) top
   ready-there = ready-top chain first mine top is
 
-  module _ {then : SeenBy} {events : List Event} {count : ℕ}
-      (grown : Grown chain.shape first then events count) where
-    -- and is so after the look at its home slot
-    pub reached-then : (k : ℕ) → IsReached chain.shape (seen_by chain.shape then) top k
-    reached-then k =
-        reached-lasts chain.shape _ _ (steps_add_up.stays mine grown) top k table-there
-        (reached-there k)
+  -- so any call may begin there
+  at-top : (call : Call) → IsAt chain call first (rung_at top)
+  at-top call = record {
+    own = mine;
+    table = table-there;
+    reached = reached-there (key_of_call call);
+    within = omega arith;
+    start = inl (pow_pos _);
+    others = others-none chain.shape (seen_by chain.shape first) top (key_of_call call);
+    known = ready-there;
+  }
 
-    pub ready-then : IsReady chain.shape (seen_by chain.shape then) top
-    ready-then =
-        (steps_add_up.stays mine grown).ready top table-there ready-there
+  pub at-there : (call : Call) (rung : Rung) → rung ≡ rung_at top → IsAt chain call first rung
+  at-there call rung begins = subst (IsAt chain call first) (sym begins) (at-top call)
 
   module _ {call : Call} {after : SeenBy} {own' : List Event} {count : ℕ}
       (grown : Grown chain.shape first after own' count)
@@ -105,20 +109,9 @@ module _ (chain : ChainOf) {start first : SeenBy} (top : ℕ) (own : IsOwn chain
             }
 
   module _ {call : Call} {after : SeenBy} {calls : List (Call × Reply)} where
-    -- where it ends at the home slot
-    pub made-there :
-        {tries : ℕ} → 1 ≤ tries → HasMade chain.shape call first after calls
-        (home_steps chain.shape top tries (passed_since call first after))
-        → HasMade chain.shape call start after calls
-        (put_steps chain.shape (min tries (passed_since call start after + 1)))
-    made-there {tries} some made =
-        made-within _ _
-        (home-bound chain.shape own.plan top tries _ _ table-there some
-        (omega (arith, passed-sum call (steps_add_up.one load) made.grown)))
-        (made-then own (made-quiet chain.shape call load) made)
-
     pub short-there :
-        {most : ℕ} (told : AtHome) → HasMade chain.shape call first after calls most
+        {most : ℕ} (told : Option (Result Reply PutFault))
+        → HasMade chain.shape call first after calls most
         → IsShortThere chain.shape top call first after told
         → IsShortAtHome chain.shape call start after
     short-there told made short = record {
@@ -138,57 +131,83 @@ module _ (chain : ChainOf) {start first : SeenBy} (top : ℕ) (own : IsOwn chain
           );
     }
 
-    -- with what the write does from there on
-    pub made-elsewhere :
-        {then : SeenBy} {tries : ℕ} (left : ℕ) → 1 ≤ tries → left ≤ tries
-        → HasMade chain.shape call first then []
-        (home_steps chain.shape top tries (passed_since call first then))
-        → HasMade chain.shape call then after calls
-        (get_steps chain.shape + 2 * min left (passed_since call then after))
+    -- where it ends at the home slot
+    pub made-there :
+        {tries left : ℕ} → 1 ≤ tries
+        → HasMade chain.shape call first after calls (home_steps chain.shape top + (tries - left))
+        → IsSpent call first after tries left
         → HasMade chain.shape call start after calls
         (put_steps chain.shape (min tries (passed_since call start after + 1)))
-    made-elsewhere {then = then} {tries = tries} left some fewer home made =
-        let both = made-then mine home made in
-        made-within _ _
-        (elsewhere-bound chain.shape own.plan top tries (passed_since call first then) _ _ left
-        table-there some
-        (omega (
-          arith,
-          passed-sum call home.grown made.grown,
-          passed-sum call (steps_add_up.one load) both.grown,
-        )) fewer)
-        (made-then own (made-quiet chain.shape call load) both)
-
-    -- in a write that tries again for as long as it takes
-    pub made-once :
-        HasMade chain.shape call first after calls
-        (home_steps chain.shape top (2 ^ 32 - 1) (passed_since call first after))
-        → HasMade chain.shape call start after calls
-        (put_steps chain.shape (passed_since call start after + 1))
-    made-once made =
+    made-there {tries} {left} some made spent =
         made-within _ _
         (omega (
           arith,
-          before-bound chain.shape own.plan top (passed_since call first after) 0
-              (passed_since call start after) table-there
-              (omega (arith, passed-sum call (steps_add_up.one load) made.grown)),
+          whole-bound chain.shape own.plan top (tries - left)
+              (min tries (passed_since call start after + 1)) table-there
+              (omega (arith, spent.lost, passed-sum call (steps_add_up.one load) made.grown)),
         ))
         (made-then own (made-quiet chain.shape call load) made)
 
-    pub made-in-rounds :
-        {then : SeenBy} → HasMade chain.shape call first then []
-        (home_steps chain.shape top (2 ^ 32 - 1) (passed_since call first then))
-        → HasMade chain.shape call then after calls
-        (put_steps chain.shape (passed_since call then after))
+    -- the same in a write that tries again for as long as it takes
+    pub made-once :
+        {tries left : ℕ}
+        → HasMade chain.shape call first after calls (home_steps chain.shape top + (tries - left))
+        → IsSpent call first after tries left
         → HasMade chain.shape call start after calls
         (put_steps chain.shape (passed_since call start after + 1))
-    made-in-rounds {then} home made =
-        let both = made-then mine home made in
+    made-once {tries} {left} made spent =
         made-within _ _
-        (before-bound chain.shape own.plan top (passed_since call first then) _ _ table-there
         (omega (
           arith,
-          passed-sum call home.grown made.grown,
-          passed-sum call (steps_add_up.one load) both.grown,
-        )))
-        (made-then own (made-quiet chain.shape call load) both)
+          whole-bound chain.shape own.plan top (tries - left) (passed_since call start after + 1)
+              table-there
+              (omega (arith, spent.lost, passed-sum call (steps_add_up.one load) made.grown)),
+        ))
+        (made-then own (made-quiet chain.shape call load) made)
+
+    module _ {then : SeenBy} {tries left : ℕ}
+        (home : HasMade chain.shape call first then []
+        (home_steps chain.shape top + (tries - left)))
+        (spent : IsSpent call first then tries left) where
+      -- with what the write does from there on
+      pub made-elsewhere :
+          {left' : ℕ} → 1 ≤ tries
+          → HasMade chain.shape call then after calls (climb_steps chain.shape + (left - left'))
+          → IsSpent call then after left left'
+          → HasMade chain.shape call start after calls
+          (put_steps chain.shape (min tries (passed_since call start after + 1)))
+      made-elsewhere {left'} some made spent' =
+          let both = made-then mine home made in
+          let all = spent-more home.grown made.grown spent spent' in
+          made-within _ _
+          (omega (
+            arith,
+            spent.fewer,
+            spent'.fewer,
+            whole-bound chain.shape own.plan top (tries - left')
+                (min tries (passed_since call start after + 1)) table-there
+                (omega (arith, all.lost, passed-sum call (steps_add_up.one load) both.grown)),
+          ))
+          (made-then own (made-quiet chain.shape call load) both)
+
+      -- in a write that tries again for as long as it takes
+      pub made-in-rounds :
+          HasMade chain.shape call then after calls
+          (put_steps chain.shape (passed_since call then after))
+          → HasMade chain.shape call start after calls
+          (put_steps chain.shape (passed_since call start after + 1))
+      made-in-rounds made =
+          let both = made-then mine home made in
+          made-within _ _
+          (omega (
+            arith,
+            before-bound chain.shape own.plan top (tries - left) (passed_since call then after)
+                (passed_since call start after) table-there
+                (omega (
+                  arith,
+                  spent.lost,
+                  passed-sum call home.grown made.grown,
+                  passed-sum call (steps_add_up.one load) both.grown,
+                )),
+          ))
+          (made-then own (made-quiet chain.shape call load) both)

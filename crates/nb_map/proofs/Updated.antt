@@ -18,7 +18,7 @@ use Rattle.nb_core.specs.declared.events.Event.{Event}
 use Rattle.nb_core.specs.declared.events.Event.TheVariants.{Claim, Install}
 use Rattle.nb_table.specs.Chains.{SeenBy}
 use Rattle.nb_map.proofs.Counted.{calls-later, net-made}
-use Rattle.nb_map.proofs.Exchanged.{passed-sum}
+use Rattle.nb_map.proofs.Spent.{passed-sum}
 use Rattle.nb_map.proofs.Logged.{counted-none, logged}
 use Rattle.nb_map.proofs.Made.{made-more, made-within}
 use Rattle.nb_map.proofs.Passed.{passed-lost}

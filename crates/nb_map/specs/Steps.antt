@@ -1,15 +1,15 @@
 -- The most steps that calls make, from single slots up to whole calls.
-use Rattle.std.specs.Prelude.{ℕ, zero, suc, ◌+◌, ◌-◌, ◌*◌, min}
+use Rattle.std.specs.Prelude.{ℕ, zero, suc, ◌+◌, ◌-◌, ◌*◌}
 use Rattle.nb_core.specs.Plans.{Plan, size_of, generations_of}
 use Rattle.nb_copy.specs.Handing.{slot_steps, table_steps}
-use Rattle.nb_map.specs.declared.steps.claim.Below.TheVariants as below
-use Rattle.nb_map.specs.declared.steps.claim.Below.{Below}
+use Rattle.nb_map.specs.declared.steps.rung.Below.TheVariants as below
+use Rattle.nb_map.specs.declared.steps.rung.Below.{Below}
+use Rattle.nb_map.specs.declared.steps.rung.Visit.TheVariants.{Told, Refused, Above}
+use Rattle.nb_map.specs.declared.steps.rung.Visit.{Visit}
 use Rattle.nb_map.specs.declared.steps.search.PathEnd.TheVariants as ends
 use Rattle.nb_map.specs.declared.steps.search.PathEnd.{PathEnd}
 use Rattle.nb_map.specs.declared.steps.walk.Place.TheVariants.{Slot, End}
 use Rattle.nb_map.specs.declared.steps.walk.Place.{Place}
-use Rattle.nb_map.specs.declared.steps.write.Written.TheVariants as written
-use Rattle.nb_map.specs.declared.steps.write.Written.{Written}
 
 -- ---- slots
 
@@ -35,16 +35,6 @@ probe_steps p g from (ends.Slot i) = size_of p g - from
 probe_steps p g from (ends.Empty d) = d + 1 - from
 probe_steps p g from ends.Closed = size_of p g - from
 probe_steps p g from ends.Whole = size_of p g - from
-
--- the most steps of a look at table g: a load for each slot, one of the next word, one of a value,
--- and the end of a copy
-abbrev pub look_steps : Plan → ℕ → ℕ
-look_steps p g = size_of p g + 2 + pass_steps p g
-
--- the most steps of looks at all tables below one
-abbrev pub looked_below : Plan → ℕ → ℕ
-looked_below p zero = 0
-looked_below p (suc g) = look_steps p g + looked_below p g
 
 -- the most steps of a read, with T slots in all tables, G tables, and N slots in the last one: 8 (T
 -- + G) (N + 8)
@@ -75,23 +65,29 @@ grow_steps p g below = owed_below p g below + 2 + table_steps p g
 abbrev pub search_steps : Plan → ℕ → ℕ
 search_steps p g = 3 * size_of p g + steps_below p g + 4 + table_steps p g
 
--- the most steps of a write at its key's home slot: a load of the key, and one of its value; an
--- exchange for each try that was lost and for one more; and, it may be, a look at the next word and
--- a claim, and the end of a copy
-abbrev pub home_steps : Plan → (g tries passed : ℕ) → ℕ
-home_steps p g tries passed = min tries passed + 5 + pass_steps p g
+-- The most steps of a call at its key's slot, besides the exchanges that it lost: a load, and an
+-- exchange. Where it goes on in the next table, there is the end of a copy.
+abbrev pub slot_visit_steps : Plan → ℕ → Visit → ℕ
+slot_visit_steps p g (Told reply) = 2
+slot_visit_steps p g (Refused fault) = 2
+slot_visit_steps p g (Above below) = 2 + pass_steps p g
 
--- The most steps at a slot, where the write had so many tries and others won so many exchanges on
--- its key: a load, and an exchange for each try that was lost and for one more. Where it goes on in
--- the next table, it has lost the tries that are gone, and there is the end of a copy.
-abbrev pub exchange_steps : Plan → (g tries passed : ℕ) → Written → ℕ
-exchange_steps p g tries passed (written.Replied reply) = min tries passed + 2
-exchange_steps p g tries passed (written.Refused fault) = min tries passed + 2
-exchange_steps p g tries passed (written.Above below left) = tries - left + 2 + pass_steps p g
+-- the same of a write at its key's home slot: a load of the key comes before, and, it may be, a look
+-- at the next word and a claim
+abbrev pub home_steps : Plan → ℕ → ℕ
+home_steps p g = 5 + pass_steps p g
 
--- the most steps of a write in table g
-abbrev pub write_steps : Plan → (g tries passed : ℕ) → Written → ℕ
-write_steps p g tries passed written = search_steps p g + exchange_steps p g tries passed written
+-- the same in table g, to which a call has come, and in all tables below one
+abbrev pub rung_steps : Plan → ℕ → ℕ
+rung_steps p g = search_steps p g + 2 + pass_steps p g
+
+abbrev pub rungs_below : Plan → ℕ → ℕ
+rungs_below p zero = 0
+rungs_below p (suc g) = rung_steps p g + rungs_below p g
+
+-- the same in all tables together
+abbrev pub climb_steps : Plan → ℕ
+climb_steps p = rungs_below p (generations_of p)
 
 -- the most steps of a write, with T slots in all tables, G tables, and N slots in the last one: 8
 -- (T + tries + G) (N + 8)

@@ -2,14 +2,14 @@
 //! down to `decide`, which says what it does to what it found. Tests that make some steps by hand
 //! use what is public here.
 
-pub(crate) mod at_home;
 pub(crate) mod claim;
+pub(crate) mod climb;
 pub(crate) mod decide;
-pub(crate) mod exchange;
 pub(crate) mod get;
 pub(crate) mod pause;
-pub(crate) mod rounds;
+pub(crate) mod rung;
 pub(crate) mod search;
+pub(crate) mod slot;
 pub(crate) mod walk;
 pub(crate) mod write;
 

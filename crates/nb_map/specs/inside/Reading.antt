@@ -1,8 +1,10 @@
--- What a search for a key comes to in a table, and what a look at a table shows of it.
-use Rattle.std.specs.Prelude.{ℕ, List, [], Option, if◌then◌else◌, suc, ◌≡◌, ◌<◌, ◌==◌, None}
+-- What a probe of a key's path comes to in a table, and what a glance at the home slot shows of the
+-- key.
+use Rattle.std.specs.Prelude.{ℕ, List, [], Option, if◌then◌else◌, suc, ◌≡◌, ◌<◌, ◌==◌, None, true}
 use Rattle.nb_core.specs.Calls.{leaves_alone}
+use Rattle.nb_core.specs.Log.{reply_at}
 use Rattle.nb_core.specs.Plans.{Plan, size_of, generations_of}
-use Rattle.nb_core.specs.Tables.{IsPassed, IsInstalled, Tables, AreOthers, path_slot}
+use Rattle.nb_core.specs.Tables.{IsInstalled, Tables, AreOthers, path_slot}
 use Rattle.nb_core.specs.declared.calls.Call.{Call}
 use Rattle.nb_core.specs.declared.calls.Reply.{Reply}
 use Rattle.nb_core.specs.declared.states.KeyState.TheVariants.{Claimed, Dead, Empty}
@@ -10,12 +12,9 @@ use Rattle.nb_map.specs.Logs.{as_replied}
 use Rattle.nb_map.specs.Progress.{IsAtHome}
 use Rattle.nb_map.specs.declared.steps.get.Glance.TheVariants as glance
 use Rattle.nb_map.specs.declared.steps.get.Glance.{Glance}
-use Rattle.nb_map.specs.declared.steps.get.Look.TheVariants.{Shows, Above}
-use Rattle.nb_map.specs.declared.steps.get.Look.{Look}
 use Rattle.nb_map.specs.declared.steps.search.PathEnd.TheVariants as ends
 use Rattle.nb_map.specs.declared.steps.search.PathEnd.{PathEnd}
-use Rattle.nb_map.specs.declared.steps.search.Sought.TheVariants as sought
-use Rattle.nb_map.specs.declared.steps.search.Sought.{Sought}
+use Rattle.nb_map.specs.inside.Climbing.{IsSlotOf}
 
 -- the call with its reply, where its key has this number, or none, if it leaves that as it is: so a
 -- look at the number is the call's read
@@ -23,14 +22,6 @@ abbrev pub read_of : Call → Option ℕ → List (Call × Reply)
 read_of call number = if leaves_alone call number then as_replied call number else []
 
 -- ---- a probe of the key's path
-
--- the search for a key may go on in the next table: it is there, and the key is passed in this one
-abbrev pub IsAbove : Plan → Tables → (g k : ℕ) → Type 0
-IsAbove p t g k = IsPassed p t g k × IsInstalled t (suc g)
-
--- this slot of the table is the key's
-abbrev pub IsSlotOf : Plan → Tables → (g i k : ℕ) → Type 0
-IsSlotOf p t g i k = (i < size_of p g) × (t.key g i ≡ Claimed k)
 
 -- the key's path in this table is closed, behind slots of other keys
 abbrev pub IsClosedTo : Plan → Tables → (g k : ℕ) → Type 0
@@ -53,31 +44,9 @@ read_at p g call (ends.Empty d) = read_of call None
 read_at p g call ends.Closed = []
 read_at p g call ends.Whole = if suc g == generations_of p then read_of call None else []
 
--- ---- a search
-
--- the tables show what a search in this table came to
-abbrev pub IsSought : Plan → Tables → (g k : ℕ) → Sought → Type 0
-IsSought p t g k (sought.Slot i) = IsSlotOf p t g i k
-IsSought p t g k sought.Absent = Unit {0}
-IsSought p t g k sought.Above = IsAbove p t g k
-
--- the read that the search was
-abbrev pub read_sought : Call → Sought → List (Call × Reply)
-read_sought call (sought.Slot i) = []
-read_sought call sought.Absent = as_replied call None
-read_sought call sought.Above = []
-
--- ---- a look
-
--- where a look shows nothing, the search goes on in the next table
-abbrev pub IsLook : Plan → Tables → (g k : ℕ) → Look → Type 0
-IsLook p t g k (Shows number) = Unit {0}
-IsLook p t g k Above = IsAbove p t g k
-
--- the read that the look was, for a call that leaves alone what it shows
-abbrev pub read_by : Call → Look → List (Call × Reply)
-read_by call (Shows number) = as_replied call number
-read_by call Above = []
+-- the reply of a call that leaves an absent key alone, where it finds none
+abbrev pub IsForAbsent : Call → Reply → Type 0
+IsForAbsent call reply = (leaves_alone call None ≡ true) × (reply ≡ reply_at call None)
 
 -- ---- a glance at the home slot
 

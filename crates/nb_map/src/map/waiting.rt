@@ -13,7 +13,7 @@ ghost use Rattle.nb_map.specs.Promises.{Found, HasWritten, Matched, Replied, fou
 
 use crate::faults::{AddFault, Full};
 use crate::map::{Map, Seat};
-use crate::steps::rounds::write_through;
+use crate::steps::write::write_through;
 use nb_core::{Change, Key, Num, Reply, Want};
 use std::sync::Wait;
 

@@ -1,128 +1,91 @@
 //! A slot for the key of a call that puts a number at an absent key.
-ghost use Rattle.std.specs.Prelude.{IfNone, IfSome, IsTrue, [], false, suc, ℕ, ◌+◌, ◌-◌, ◌<◌, ◌≡◌, ◌≢◌, ◌≤◌};
+ghost use Rattle.std.specs.Prelude.{IfErr, IfOk, IsTrue, [], false, suc, ℕ, ◌+◌, ◌-◌, ◌<◌, ◌≡◌, ◌≢◌, ◌≤◌};
 ghost use Rattle.nb_core.specs.Calls.{Fills};
 ghost use Rattle.nb_core.specs.History.{key_of_call};
 ghost use Rattle.nb_core.specs.Plans.{generations_of, limit_of, size_of};
 ghost use Rattle.nb_core.specs.Tables.{AreOthers, IsComplete, IsInstalled, IsReady};
 ghost use Rattle.nb_core.specs.declared.calls.Call.{Call};
 ghost use Rattle.nb_table.specs.Chains.{IsOwn, seen_by};
-ghost use Rattle.nb_table.specs.Conditions.{IsReached};
 ghost use Rattle.nb_map.specs.Calling.{HasMade};
 ghost use Rattle.nb_map.specs.Steps.{grow_steps, owed_below, search_steps};
-ghost use Rattle.nb_map.specs.declared.steps.claim.Below.TheVariants as below_is;
-ghost use Rattle.nb_map.specs.inside.Writing.{HasBelow, IsFound};
+ghost use Rattle.nb_map.specs.declared.steps.rung.Below.TheVariants as below_is;
+ghost use Rattle.nb_map.specs.inside.Climbing.{HasBelow, IsAt, IsClaimed, IsFound, IsVisitHere, made_by, made_if_not_found};
 
+use crate::faults::PutFault;
+use crate::steps::rung::{Below, Rung, Visit};
 use crate::steps::search::{PathEnd, probe};
 use nb_copy::complete;
-use nb_core::{Call, Key, KeyState};
+use nb_core::{Call, KeyState};
 use nb_table::{Chain, ChainSeat};
 
-/// What a call knows of the table below the one that it has come to.
-#[derive(Clone, Copy)]
-pub(crate) enum Below {
-    /// It is complete, or there is none.
-    Complete,
-    /// The call's key has a slot in it.
-    HasKey,
-    /// The call's key is passed in it.
-    Passed,
-}
-
-/// What a search for a slot comes to.
-#[derive(Clone, Copy)]
-pub(crate) enum SlotFor {
-    /// The key has this slot.
-    Slot(usize),
-    /// The call goes on in the next table.
-    Above(Below),
-    /// Other keys have all slots of the last table.
-    Full,
-}
-
-/// The key's slot in table `g`. Where it has none, one within the limit is claimed for it. If the
-/// table is being copied already, or other keys have the key's path up to the limit, the table is
-/// completed and the call goes on in the next one, which is installed first where it isn't there.
+/// The key's slot in the table that a call has come to. Where it has none, one within the limit is
+/// claimed for it. If the table is being copied already, or other keys have the key's path up to
+/// the limit, the table is completed and the call goes on in the next one, which is installed first
+/// where it isn't there.
 pub(crate) fn find_or_claim(
     chain: &Chain,
     seat: &mut ChainSeat,
-    g: u32,
-    key: Key,
     call: &Call,
-    below: Below,
-) -> SlotFor
-    requires own { IsOwn chain.now seat.old }
-    requires key { key_of_call call.now ≡ key }
-    requires acts { Fills call.now }
-    requires reached { IsReached chain.now.shape (seen_by chain.now.shape seat.old) g key }
-    requires below { HasBelow chain.now.shape (seen_by chain.now.shape seat.old) g key below }
-    ensures made { HasMade chain.now.shape call.now seat.old seat.new []
-        (search_steps chain.now.shape g) }
-    ensures found { IsFound chain.now.shape seat.new g key result }
+    rung: Rung,
+) -> Result<usize, Visit>
+    requires at { IsAt chain.now call.now seat.old rung }
+    requires fills { Fills call.now }
+    ensures made { HasMade chain.now.shape call.now seat.old seat.new
+        (made_if_not_found call.now result) (search_steps chain.now.shape rung.g) }
+    ensures found { IsFound chain.now.shape call.now seat.new rung.g result }
 {
-    let mut below = below;
-    let mut from = 0;
+    let mut rung = rung;
     loop {
-        match probe(chain, seat, g, key, call, from) {
-            PathEnd::Slot(i) => return SlotFor::Slot(i),
-            PathEnd::Closed => return SlotFor::Above(Below::Passed),
-            PathEnd::Whole => return leave_whole(chain, seat, g, key, call, below),
+        match probe(chain, seat, call, rung) {
+            PathEnd::Slot(i) => return Ok(i),
+            PathEnd::Closed => return Err(Visit::Above(Below::Passed)),
+            PathEnd::Whole => return Err(leave_whole(chain, seat, call, rung)),
             PathEnd::Empty(distance) => {
-                below = settle_below(chain, seat, g, below);
-                match claim_at(chain, seat, g, key, call, below, distance) {
-                    Some(found) => return found,
-                    None => from = distance + 1,
+                rung.from = distance;
+                rung.below = settle_below(chain, seat, rung.g, rung.below);
+                match claim_at(chain, seat, call, rung) {
+                    Ok(Some(i)) => return Ok(i),
+                    Ok(None) => rung.from = distance + 1,
+                    Err(visit) => return Err(visit),
                 }
             }
         }
     }
 }
 
-/// Claims the slot at a distance on the key's path in table `g` for it, which was seen empty, if
-/// that is within the limit and the table isn't being copied. `None` says that another key has got
-/// the slot.
+/// Claims the slot that a call has come to, which was seen empty, for the call's key, if it is
+/// within the limit and the table isn't being copied. `None` says that another key has got it.
 #[tactic(auto, using(nb_core::proofs::Theorems::linked))]
 fn claim_at(
     chain: &Chain,
     seat: &mut ChainSeat,
-    g: u32,
-    key: Key,
     call: &Call,
-    below: Below,
-    distance: usize,
-) -> Option<SlotFor>
-    requires own { IsOwn chain.now seat.old }
-    requires key { key_of_call call.now ≡ key }
-    requires acts { Fills call.now }
-    requires installed { IsInstalled (seen_by chain.now.shape seat.old) g }
-    requires below { HasBelow chain.now.shape (seen_by chain.now.shape seat.old) g key below }
-    requires known { below ≢ below_is.Passed }
-    requires near { distance < size_of chain.now.shape g }
-    requires others { AreOthers chain.now.shape (seen_by chain.now.shape seat.old) g key distance }
-    ensures found { IfSome result (λ found. HasMade chain.now.shape call.now seat.old seat.new []
-        (2 + grow_steps chain.now.shape g below)
-        × IsFound chain.now.shape seat.new g key found) }
-    ensures other { IfNone result (HasMade chain.now.shape call.now seat.old seat.new [] 2
-        × AreOthers chain.now.shape (seen_by chain.now.shape seat.new) g key (distance + 1)) }
+    rung: Rung,
+) -> Result<Option<usize>, Visit>
+    requires at { IsAt chain.now call.now seat.old rung }
+    requires fills { Fills call.now }
+    requires known { rung.below ≢ below_is.Passed }
+    requires near { rung.from < size_of chain.now.shape rung.g }
+    ensures claimed { IfOk result (λ slot. HasMade chain.now.shape call.now seat.old seat.new [] 2
+        × IsClaimed chain.now.shape call.now seat.new rung slot) }
+    ensures visit { IfErr result (λ visit. HasMade chain.now.shape call.now seat.old seat.new
+        (made_by call.now visit) (2 + grow_steps chain.now.shape rung.g rung.below)
+        × IsVisitHere chain.now.shape call.now seat.new rung.g visit) }
 {
-    if distance >= chain.shape().limit_of(g) {
-        grow(chain, seat, g, key, call, below);
-        return Some(SlotFor::Above(Below::Complete));
+    if rung.from >= chain.shape().limit_of(rung.g) {
+        grow(chain, seat, call, rung);
+        return Err(Visit::Above(Below::Complete));
     }
-    if has_next(chain, seat, g) {
-        complete(chain, seat, g);
-        return Some(SlotFor::Above(Below::Complete));
+    if has_next(chain, seat, rung.g) {
+        complete(chain, seat, rung.g);
+        return Err(Visit::Above(Below::Complete));
     }
-    let i = chain.shape().path_slot(g, key, distance);
-    match chain.claim_key(seat, g, i, key) {
-        KeyState::Empty => Some(SlotFor::Slot(i)),
-        KeyState::Dead => Some(SlotFor::Above(Below::Passed)),
-        KeyState::Claimed(other) => {
-            if other == key {
-                Some(SlotFor::Slot(i))
-            } else {
-                None
-            }
-        }
+    let key = call.key();
+    let i = chain.shape().path_slot(rung.g, key, rung.from);
+    match chain.claim_key(seat, rung.g, i, key) {
+        KeyState::Empty => Ok(Some(i)),
+        KeyState::Dead => Err(Visit::Above(Below::Passed)),
+        KeyState::Claimed(other) => { if other == key { Ok(Some(i)) } else { Ok(None) } }
     }
 }
 
@@ -138,56 +101,43 @@ pub(crate) fn has_next(chain: &Chain, seat: &mut ChainSeat, g: u32) -> bool
     g + 1 < chain.shape().generations() && chain.load_next(seat, g, None)
 }
 
-/// What a search comes to where other keys have the key's whole path in table `g`: in the last
-/// table there is no slot for the key; else it goes on in the next one.
+/// What a call comes to where other keys have its key's whole path: in the last table there is no
+/// slot for the key; else it goes on in the next one.
 #[tactic(auto, using(nb_core::proofs::Theorems::linked))]
-fn leave_whole(
-    chain: &Chain,
-    seat: &mut ChainSeat,
-    g: u32,
-    key: Key,
-    call: &Call,
-    below: Below,
-) -> SlotFor
-    requires own { IsOwn chain.now seat.old }
-    requires key { key_of_call call.now ≡ key }
-    requires acts { Fills call.now }
-    requires installed { IsInstalled (seen_by chain.now.shape seat.old) g }
-    requires below { HasBelow chain.now.shape (seen_by chain.now.shape seat.old) g key below }
-    requires others { AreOthers chain.now.shape (seen_by chain.now.shape seat.old) g key
-        (size_of chain.now.shape g) }
-    ensures made { HasMade chain.now.shape call.now seat.old seat.new []
-        (grow_steps chain.now.shape g below) }
-    ensures found { IsFound chain.now.shape seat.new g key result }
+fn leave_whole(chain: &Chain, seat: &mut ChainSeat, call: &Call, rung: Rung) -> Visit
+    requires at { IsAt chain.now call.now seat.old rung }
+    requires fills { Fills call.now }
+    requires whole { AreOthers chain.now.shape (seen_by chain.now.shape seat.old) rung.g
+        (key_of_call call.now) (size_of chain.now.shape rung.g) }
+    ensures made { HasMade chain.now.shape call.now seat.old seat.new (made_by call.now result)
+        (grow_steps chain.now.shape rung.g rung.below) }
+    ensures visit { IsVisitHere chain.now.shape call.now seat.new rung.g result }
 {
-    if g + 1 == chain.shape().generations() {
-        return SlotFor::Full;
+    if rung.g + 1 == chain.shape().generations() {
+        return Visit::Refused(PutFault::Full);
     }
-    grow(chain, seat, g, key, call, below);
-    SlotFor::Above(Below::Complete)
+    grow(chain, seat, call, rung);
+    Visit::Above(Below::Complete)
 }
 
-/// Installs the table above `g`, if it isn't there, and completes table `g`. Other keys have the
-/// key's path up to the limit.
-fn grow(chain: &Chain, seat: &mut ChainSeat, g: u32, key: Key, call: &Call, below: Below)
-    requires own { IsOwn chain.now seat.old }
-    requires key { key_of_call call.now ≡ key }
-    requires acts { Fills call.now }
-    requires room { suc g < generations_of chain.now.shape }
-    requires installed { IsInstalled (seen_by chain.now.shape seat.old) g }
-    requires below { HasBelow chain.now.shape (seen_by chain.now.shape seat.old) g key below }
-    requires crowded { AreOthers chain.now.shape (seen_by chain.now.shape seat.old) g key
-        (limit_of chain.now.shape g) }
+/// Installs the table above the one that a call has come to, if it isn't there, and completes this
+/// one. Other keys have the call's key's path up to the limit.
+fn grow(chain: &Chain, seat: &mut ChainSeat, call: &Call, rung: Rung)
+    requires at { IsAt chain.now call.now seat.old rung }
+    requires fills { Fills call.now }
+    requires room { suc rung.g < generations_of chain.now.shape }
+    requires crowded { AreOthers chain.now.shape (seen_by chain.now.shape seat.old) rung.g
+        (key_of_call call.now) (limit_of chain.now.shape rung.g) }
     ensures made { HasMade chain.now.shape call.now seat.old seat.new []
-        (grow_steps chain.now.shape g below) }
-    ensures complete { IsComplete chain.now.shape (seen_by chain.now.shape seat.new) g
-        × IsInstalled (seen_by chain.now.shape seat.new) (suc g) }
+        (grow_steps chain.now.shape rung.g rung.below) }
+    ensures complete { IsComplete chain.now.shape (seen_by chain.now.shape seat.new) rung.g
+        × IsInstalled (seen_by chain.now.shape seat.new) (suc rung.g) }
 {
-    if !chain.load_next(seat, g, None) {
-        make_ready(chain, seat, g, below);
-        chain.install(seat, g, key);
+    if !chain.load_next(seat, rung.g, None) {
+        make_ready(chain, seat, rung.g, rung.below);
+        chain.install(seat, rung.g, call.key());
     }
-    complete(chain, seat, g);
+    complete(chain, seat, rung.g);
 }
 
 /// What a call knows of the table below `g` before it claims a slot in `g`. Where it knew no more

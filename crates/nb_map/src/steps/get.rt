@@ -1,7 +1,6 @@
 //! Reading a key.
-ghost use Rattle.std.specs.Prelude.{IsTrue, None, Some, [], false, if◌then◌else◌, ℕ, ◌+◌, ◌<◌, ◌≡◌, ◌≤◌};
-ghost use Rattle.nb_core.specs.Plans.{generations_of, size_of};
-ghost use Rattle.nb_core.specs.Tables.{AreOthers, IsSlot, path_slot};
+ghost use Rattle.std.specs.Prelude.{IsTrue, None, Some, [], false, if◌then◌else◌, ℕ, ◌+◌, ◌≡◌, ◌≤◌};
+ghost use Rattle.nb_core.specs.Tables.{IsSlot, path_slot};
 ghost use Rattle.nb_core.specs.declared.calls.Call.TheVariants as call;
 ghost use Rattle.nb_core.specs.declared.states.KeyState.TheVariants as key_is;
 ghost use Rattle.nb_table.specs.Chains.{IsOwn, seen_by};
@@ -9,22 +8,17 @@ ghost use Rattle.nb_table.specs.Conditions.{IsReached};
 ghost use Rattle.nb_map.specs.Logs.{as_replied};
 ghost use Rattle.nb_map.specs.Calling.{HasMade};
 ghost use Rattle.nb_map.specs.Progress.{IsSeenAtHome};
-ghost use Rattle.nb_map.specs.Steps.{get_steps, look_steps, looked_below, pass_steps};
+ghost use Rattle.nb_map.specs.Steps.{climb_steps, get_steps};
 ghost use Rattle.nb_map.specs.declared.steps.get.Glance.TheVariants as glance_is;
-ghost use Rattle.nb_map.specs.inside.Reading.{IsGlance, IsLook, glanced_by, read_by};
+ghost use Rattle.nb_map.specs.inside.Climbing.{IsAt, IsAtSlot};
+ghost use Rattle.nb_map.specs.inside.Reading.{IsGlance, glanced_by};
 
-use crate::steps::search::{Sought, pass_slot, seek};
-use nb_core::{Call, Key, KeyState, KeyWord, Num, ValueState};
+use crate::steps::climb::{climb, top_rung};
+use crate::steps::pause::NoPause;
+use crate::steps::rung::{Rung, Slot, Visit};
+use crate::steps::slot::call_at;
+use nb_core::{Call, Key, KeyState, KeyWord, Num};
 use nb_table::{Chain, ChainSeat};
-
-/// What a look at a table, or at a value, shows of a key.
-#[derive(Clone, Copy)]
-pub(crate) enum Look {
-    /// The map has this number at the key, or none.
-    Shows(Option<Num>),
-    /// Nothing: the search goes on in the next table.
-    Above,
-}
 
 /// What a glance at a key's home slot shows of it.
 #[derive(Clone, Copy)]
@@ -47,10 +41,10 @@ pub fn get_in(chain: &Chain, seat: &mut ChainSeat, key: Key) -> Option<Num>
     ensures three_steps { IsSeenAtHome chain.now.shape seat.old seat.new key
         → seat.new.steps ≤ seat.old.steps + 3 }
 {
-    let top = chain.load_top(seat);
-    match glance_in(chain, seat, top, key) {
+    let first = top_rung(chain, seat);
+    match glance_in(chain, seat, first.g, key) {
         Glance::Shows(number) => number,
-        Glance::From(distance) => get_from(chain, seat, top, key, distance),
+        Glance::From(from) => get_from(chain, seat, key, Rung { from, ..first }),
     }
 }
 
@@ -66,12 +60,13 @@ fn glance_in(chain: &Chain, seat: &mut ChainSeat, g: u32, key: Key) -> Glance
         (glanced_by (call.Get key) result) 2 }
     ensures glance { IsGlance chain.now.shape (seen_by chain.now.shape seat.new) g key result }
 {
-    let home = chain.shape().path_slot(g, key, 0);
-    let word = chain.load_key_word(seat, g, home, Some(Call::Get { key }));
+    let i = chain.shape().path_slot(g, key, 0);
+    let word = chain.load_key_word(seat, g, i, Some(Call::Get { key }));
     if !word.is_or_empty(key) {
         return away(word);
     }
-    glance_at(chain, seat, g, home, key, !word.is_empty())
+    let home = Slot { g, i };
+    glance_at(chain, seat, key, home, !word.is_empty())
 }
 
 /// From where the search goes on, where a home slot has this key word of another key, or is closed
@@ -99,30 +94,23 @@ fn read_if(deciding: bool, key: Key) -> Option<Call>
     }
 }
 
-/// What the value in slot `i` of table `g` shows of the key, whose home slot it is: of a slot that
-/// was seen empty nothing, and the map doesn't have the key.
+/// What the value in a slot shows of the key, whose home slot it is: of a slot that was seen empty
+/// nothing, and the map doesn't have the key.
 #[inline]
-fn glance_at(
-    chain: &Chain,
-    seat: &mut ChainSeat,
-    g: u32,
-    i: usize,
-    key: Key,
-    is_own: bool,
-) -> Glance
+fn glance_at(chain: &Chain, seat: &mut ChainSeat, key: Key, home: Slot, is_own: bool) -> Glance
     requires own { IsOwn chain.now seat.old }
-    requires slot { IsSlot chain.now.shape g i }
-    requires home { path_slot chain.now.shape g key 0 ≡ i }
-    requires claimed { IsTrue is_own → (seen_by chain.now.shape seat.old).key g i
+    requires slot { IsSlot chain.now.shape home.g home.i }
+    requires home { path_slot chain.now.shape home.g key 0 ≡ home.i }
+    requires claimed { IsTrue is_own → (seen_by chain.now.shape seat.old).key home.g home.i
         ≡ key_is.Claimed key }
-    requires reached { IsReached chain.now.shape (seen_by chain.now.shape seat.old) g key }
+    requires reached { IsReached chain.now.shape (seen_by chain.now.shape seat.old) home.g key }
     ensures made { HasMade chain.now.shape (call.Get key) seat.old seat.new
         (if is_own then glanced_by (call.Get key) result else []) 1 }
     ensures glance { IsTrue is_own → IsGlance chain.now.shape (seen_by chain.now.shape seat.new)
-        g key result }
+        home.g key result }
     ensures empty { is_own ≡ false → result ≡ glance_is.Shows None }
 {
-    let word = chain.load_value_word(seat, g, i, read_if(is_own, key));
+    let word = chain.load_value_word(seat, home.g, home.i, read_if(is_own, key));
     let Some(number) = word.shows() else {
         return if is_own {
             Glance::From(0)
@@ -141,86 +129,52 @@ fn shown_if(is_own: bool, number: Option<Num>) -> Option<Num>
     if is_own { number } else { None }
 }
 
-/// What the map has at a key, from a distance of its path in table `first` on.
+/// What the map has at a key, from a rung on: the general way of a read.
 #[inline(never)]
-fn get_from(
-    chain: &Chain,
-    seat: &mut ChainSeat,
-    first: u32,
-    key: Key,
-    distance: usize,
-) -> Option<Num>
-    requires own { IsOwn chain.now seat.old }
-    requires reached { IsReached chain.now.shape (seen_by chain.now.shape seat.old) first key }
-    requires near { distance < size_of chain.now.shape first }
-    requires others { AreOthers chain.now.shape (seen_by chain.now.shape seat.old)
-        first key distance }
+fn get_from(chain: &Chain, seat: &mut ChainSeat, key: Key, rung: Rung) -> Option<Num>
+    requires at { IsAt chain.now (call.Get key) seat.old rung }
     ensures made { HasMade chain.now.shape (call.Get key) seat.old seat.new
-        (as_replied (call.Get key) result)
-        (looked_below chain.now.shape (generations_of chain.now.shape)) }
+        (as_replied (call.Get key) result) (climb_steps chain.now.shape) }
 {
-    let mut from = distance;
-    for g in first..chain.shape().generations() {
-        if let Look::Shows(number) = look_in(chain, seat, g, key, from) {
-            return number;
-        }
-        from = 0;
+    let mut tries = 1;
+    match climb(
+        chain,
+        seat,
+        &Call::Get { key },
+        rung,
+        &mut tries,
+        &mut NoPause,
+    ) {
+        Ok(reply) => reply.before,
+        Err(_) => unreachable!(),
     }
-    unreachable!()
 }
 
-/// What the map has at a key, from its slot `i` of table `g` on: in the common case by one load.
+/// What the map has at a key, from its slot on: in the common case by one load.
 #[inline]
-pub(crate) fn get_at(chain: &Chain, seat: &mut ChainSeat, g: u32, i: usize, key: Key) -> Option<Num>
-    requires own { IsOwn chain.now seat.old }
-    requires slot { IsSlot chain.now.shape g i }
-    requires claimed { (seen_by chain.now.shape seat.old).key g i ≡ key_is.Claimed key }
-    requires reached { IsReached chain.now.shape (seen_by chain.now.shape seat.old) g key }
+pub(crate) fn get_at(chain: &Chain, seat: &mut ChainSeat, key: Key, slot: Slot) -> Option<Num>
+    requires at { IsAtSlot chain.now (call.Get key) seat.old slot }
     ensures made { HasMade chain.now.shape (call.Get key) seat.old seat.new
         (as_replied (call.Get key) result) (get_steps chain.now.shape) }
 {
-    match look_at(chain, seat, g, i, key) {
-        Look::Shows(number) => number,
-        Look::Above => get_from(chain, seat, g + 1, key, 0),
-    }
-}
-
-/// What table `g` shows of a key, from a distance of its path on.
-#[tactic(auto, using(nb_core::proofs::Theorems::linked))]
-fn look_in(chain: &Chain, seat: &mut ChainSeat, g: u32, key: Key, from: usize) -> Look
-    requires own { IsOwn chain.now seat.old }
-    requires reached { IsReached chain.now.shape (seen_by chain.now.shape seat.old) g key }
-    requires near { from < size_of chain.now.shape g }
-    requires others { AreOthers chain.now.shape (seen_by chain.now.shape seat.old) g key from }
-    ensures made { HasMade chain.now.shape (call.Get key) seat.old seat.new
-        (read_by (call.Get key) result)
-        (look_steps chain.now.shape g) }
-    ensures look { IsLook chain.now.shape (seen_by chain.now.shape seat.new) g key result }
-{
-    match seek(chain, seat, g, key, &Call::Get { key }, from) {
-        Sought::Slot(i) => look_at(chain, seat, g, i, key),
-        Sought::Absent => Look::Shows(None),
-        Sought::Above => Look::Above,
-    }
-}
-
-/// What the key's slot `i` of table `g` shows of it.
-fn look_at(chain: &Chain, seat: &mut ChainSeat, g: u32, i: usize, key: Key) -> Look
-    requires own { IsOwn chain.now seat.old }
-    requires slot { IsSlot chain.now.shape g i }
-    requires claimed { (seen_by chain.now.shape seat.old).key g i ≡ key_is.Claimed key }
-    requires reached { IsReached chain.now.shape (seen_by chain.now.shape seat.old) g key }
-    ensures made { HasMade chain.now.shape (call.Get key) seat.old seat.new
-        (read_by (call.Get key) result)
-        (pass_steps chain.now.shape g + 1) }
-    ensures look { IsLook chain.now.shape (seen_by chain.now.shape seat.new) g key result }
-{
-    match chain.load_value(seat, g, i, Some(Call::Get { key })) {
-        ValueState::Null | ValueState::Tombstone => Look::Shows(None),
-        ValueState::Live(number) => Look::Shows(Some(number)),
-        value => {
-            pass_slot(chain, seat, g, i, value);
-            Look::Above
+    let mut tries = 1;
+    match call_at(
+        chain,
+        seat,
+        &Call::Get { key },
+        slot,
+        &mut tries,
+        &mut NoPause,
+    ) {
+        Visit::Told(reply) => reply.before,
+        Visit::Refused(_) => unreachable!(),
+        Visit::Above(below) => {
+            let rung = Rung {
+                g: slot.g + 1,
+                from: 0,
+                below,
+            };
+            get_from(chain, seat, key, rung)
         }
     }
 }

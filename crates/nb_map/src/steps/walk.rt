@@ -11,6 +11,7 @@ ghost use Rattle.nb_map.specs.declared.steps.walk.Place.TheVariants as walk_at;
 ghost use Rattle.nb_map.specs.inside.Walking.{HasGone, IsEarlier, IsFirstOf};
 
 use crate::steps::get::get_at;
+use crate::steps::rung::{Below, Rung, Slot};
 use crate::steps::search::{PathEnd, probe};
 use nb_core::{Call, Key, KeyState, Num};
 use nb_table::{Chain, ChainSeat};
@@ -104,7 +105,7 @@ fn next_in(chain: &Chain, seat: &mut ChainSeat, first: u32, g: u32, from: usize)
     let size = chain.shape().size_of(g);
     for i in from..size {
         if let Some(key) = first_seen(chain, seat, first, g, i) {
-            if let Some(number) = get_at(chain, seat, g, i, key) {
+            if let Some(number) = get_at(chain, seat, key, Slot { g, i }) {
                 return Stretch {
                     to: i + 1,
                     shown: Some((key, number)),
@@ -156,7 +157,12 @@ fn is_earlier(chain: &Chain, seat: &mut ChainSeat, first: u32, g: u32, key: Key)
         first g key result }
 {
     for f in first..g {
-        if let PathEnd::Slot(_) = probe(chain, seat, f, key, &Call::Get { key }, 0) {
+        let rung = Rung {
+            g: f,
+            from: 0,
+            below: Below::Passed,
+        };
+        if let PathEnd::Slot(_) = probe(chain, seat, &Call::Get { key }, rung) {
             return true;
         }
     }

@@ -1,49 +1,29 @@
-//! Writing a key.
-ghost use Rattle.std.specs.Prelude.{IfErr, min, ◌*◌, ◌+◌, ◌<◌, ◌≡◌, ◌≤◌};
+//! Where a write begins: at its key's home slot in the top table.
+ghost use Rattle.std.specs.Prelude.{IfErr, IsTrue, [], false, min, ◌+◌, ◌-◌, ◌<◌, ◌≡◌, ◌≤◌};
+ghost use Rattle.nb_core.specs.Calls.{Fills};
 ghost use Rattle.nb_core.specs.History.{key_of_call};
 ghost use Rattle.nb_core.specs.Tables.{IsReady};
 ghost use Rattle.nb_core.specs.declared.calls.Call.TheVariants as call;
+ghost use Rattle.nb_core.specs.declared.states.KeyState.TheVariants as key_is;
 ghost use Rattle.nb_table.specs.Chains.{IsOwn, seen_by};
-ghost use Rattle.nb_table.specs.Conditions.{IsReached};
-ghost use Rattle.nb_map.specs.Logs.{made_in};
 ghost use Rattle.nb_map.specs.Calling.{HasMade};
-ghost use Rattle.nb_map.specs.Progress.{IsShortAtHome, passed_since};
-ghost use Rattle.nb_map.specs.Refusals.{IsJust};
-ghost use Rattle.nb_map.specs.Steps.{get_steps, put_steps, search_steps, write_steps};
-ghost use Rattle.nb_map.specs.inside.Writing.{HasBelow, IsTarget, IsWritten, made_at, made_by};
+ghost use Rattle.nb_map.specs.Logs.{made_in};
+ghost use Rattle.nb_map.specs.Progress.{IsAtHome, IsHomeSlot, IsLastSeen, IsShortAtHome, passed_since};
+ghost use Rattle.nb_map.specs.Refusals.{IsJust, IsJustAdd};
+ghost use Rattle.nb_map.specs.Steps.{home_steps, put_steps};
+ghost use Rattle.nb_map.specs.inside.Climbing.{IsAt, IsSpent};
+ghost use Rattle.nb_map.specs.inside.Writing.{IsHomeOf, IsShortThere, IsToldAtHome, made_at_home};
 
-use crate::faults::PutFault;
-use crate::steps::at_home::{AtHome, write_home};
-use crate::steps::claim::{Below, SlotFor, find_or_claim};
+use crate::faults::{AddFault, PutFault};
+use crate::steps::claim::has_next;
+use crate::steps::climb::{climb, top_rung};
 use crate::steps::decide::{Decision, decide};
-use crate::steps::exchange::exchange;
-use crate::steps::pause::Pause;
-use crate::steps::search::{Sought, seek};
-use nb_core::{Call, Change, Key, Reply, Want};
+use crate::steps::pause::{NoPause, Pause};
+use crate::steps::rung::{Rung, Slot, Visit};
+use crate::steps::slot::call_at;
+use nb_core::{Call, Change, Key, KeyState, KeyWord, Reply, Want};
 use nb_table::{Chain, ChainSeat};
-
-/// Where a write has to look next.
-#[derive(Clone, Copy)]
-enum Target {
-    /// At the key's slot.
-    Slot(usize),
-    /// Nowhere: the map doesn't have the key, and the write leaves it at that.
-    Absent(Reply),
-    /// In the next table.
-    Above(Below),
-    /// Nowhere: there is no slot for the key.
-    Full,
-}
-
-/// What a write comes to in a table.
-#[derive(Clone, Copy)]
-pub(crate) enum Written {
-    /// It is made, and this is its reply.
-    Replied(Reply),
-    Refused(PutFault),
-    /// It goes on in the next table, with so many tries left.
-    Above(Below, u32),
-}
+use std::sync::Wait;
 
 /// Changes what the map has at a key, where the condition holds of it, and replies what it had. An
 /// exchange that another seat came before is tried again, so many times in all; the pause is made
@@ -72,105 +52,164 @@ pub fn put_if_match_in<P: Pause>(
     ensures serves { P.serves pause.new chain.now }
 {
     let call = Call::Write { key, want, change };
-    let top = chain.load_top(seat);
-    match write_home(chain, seat, top, key, &call, tries, pause) {
-        AtHome::Replied(reply) => Ok(reply),
-        AtHome::Refused(fault) => Err(fault),
-        AtHome::Elsewhere(left) => write_from(chain, seat, top, key, &call, left, pause),
+    let first = top_rung(chain, seat);
+    let mut left = tries;
+    match write_home(chain, seat, &call, first, &mut left, pause) {
+        Some(told) => told,
+        None => climb(chain, seat, &call, first, &mut left, pause),
     }
 }
 
-/// Makes a write, in the top table `first` or above it.
+/// Makes a write on a chain of tables, and tries again for as long as other seats come first.
 #[inline(always)]
-pub(crate) fn write_from<P: Pause>(
+pub(crate) fn write_through<R: Wait>(
+    rt: &R,
     chain: &Chain,
     seat: &mut ChainSeat,
-    first: u32,
     key: Key,
-    call: &Call,
-    tries: u32,
-    pause: &mut P,
-) -> Result<Reply, PutFault>
+    want: Want,
+    change: Change,
+) -> Result<Reply, AddFault>
     requires own { IsOwn chain.now seat.old }
-    requires key { key_of_call call.now ≡ key }
-    requires reached { IsReached chain.now.shape (seen_by chain.now.shape seat.old) first key }
-    requires ready { IsReady chain.now.shape (seen_by chain.now.shape seat.old) first }
-    requires some { 1 ≤ tries }
-    requires serves { P.serves pause.old chain.now }
-    ensures made { HasMade chain.now.shape call.now seat.old seat.new (made_in call.now result)
-        (get_steps chain.now.shape + 2 * min tries (passed_since call.now seat.old seat.new)) }
-    ensures refused { IfErr result (IsJust chain.now.shape call.now seat.old seat.new tries) }
-    ensures serves { P.serves pause.new chain.now }
+    ensures made { HasMade chain.now.shape (call.Write key want change) seat.old seat.new
+        (made_in (call.Write key want change) result)
+        (put_steps chain.now.shape (passed_since (call.Write key want change) seat.old seat.new
+        + 1)) }
+    ensures refused { IfErr result (IsJustAdd chain.now.shape (call.Write key want change)
+        seat.new) }
+    ensures looked { seat.old.steps < seat.new.steps }
+    ensures short { IsShortAtHome chain.now.shape (call.Write key want change) seat.old seat.new }
 {
-    let mut below = Below::Complete;
-    let mut left = tries;
-    for g in first..chain.shape().generations() {
-        match write_in(chain, seat, g, key, call, below, left, pause) {
-            Written::Replied(reply) => return Ok(reply),
-            Written::Refused(fault) => return Err(fault),
-            Written::Above(now, tries_left) => {
-                below = now;
-                left = tries_left;
-            }
+    let call = Call::Write { key, want, change };
+    let first = top_rung(chain, seat);
+    let mut left = u32::MAX;
+    match write_home(chain, seat, &call, first, &mut left, &mut NoPause) {
+        Some(Ok(reply)) => return Ok(reply),
+        Some(Err(PutFault::Full)) => return Err(AddFault::Full),
+        Some(Err(PutFault::ValueRange)) => return Err(AddFault::ValueRange),
+        Some(Err(PutFault::Contended)) => {}
+        None => {}
+    }
+    write_rounds(rt, chain, seat, call, first)
+}
+
+/// Makes a write from a rung on, in rounds of as many tries as there can be.
+#[inline(never)]
+fn write_rounds<R: Wait>(
+    rt: &R,
+    chain: &Chain,
+    seat: &mut ChainSeat,
+    call: Call,
+    first: Rung,
+) -> Result<Reply, AddFault>
+    requires at { IsAt chain.now call seat.old first }
+    ensures made { HasMade chain.now.shape call seat.old seat.new (made_in call result)
+        (put_steps chain.now.shape (passed_since call seat.old seat.new)) }
+    ensures refused { IfErr result (IsJustAdd chain.now.shape call seat.new) }
+{
+    for _ in rt.forever() {
+        let mut left = u32::MAX;
+        match climb(chain, seat, &call, first, &mut left, &mut NoPause) {
+            Ok(reply) => return Ok(reply),
+            Err(PutFault::Contended) => {}
+            Err(PutFault::Full) => return Err(AddFault::Full),
+            Err(PutFault::ValueRange) => return Err(AddFault::ValueRange),
         }
     }
     unreachable!()
 }
 
-/// Makes a write in table `g`, or finds that it goes on in the next one.
+/// The straight way of a write, at its key's home slot in the table that it begins in: where that
+/// is its own; where it is empty and the write leaves an absent key at that; or where it is empty
+/// and is claimed for the key. `None` says that the write has to look further. No loop over slots
+/// or tables is on this way, so that it can stand in the code of the call.
 #[inline(always)]
 #[tactic(auto, using(nb_core::proofs::Theorems::linked))]
-fn write_in<P: Pause>(
+fn write_home<P: Pause>(
     chain: &Chain,
     seat: &mut ChainSeat,
-    g: u32,
-    key: Key,
     call: &Call,
-    below: Below,
-    tries: u32,
+    first: Rung,
+    tries: &mut u32,
     pause: &mut P,
-) -> Written
-    requires own { IsOwn chain.now seat.old }
-    requires key { key_of_call call.now ≡ key }
-    requires reached { IsReached chain.now.shape (seen_by chain.now.shape seat.old) g key }
-    requires below { HasBelow chain.now.shape (seen_by chain.now.shape seat.old) g key below }
-    requires some { 1 ≤ tries }
+) -> Option<Result<Reply, PutFault>>
+    requires at { IsAt chain.now call.now seat.old first }
+    requires ready { IsReady chain.now.shape (seen_by chain.now.shape seat.old) first.g }
+    requires some { 1 ≤ tries.old }
     requires serves { P.serves pause.old chain.now }
-    ensures made { HasMade chain.now.shape call.now seat.old seat.new (made_by call.now result)
-        (write_steps chain.now.shape g tries (passed_since call.now seat.old seat.new) result) }
-    ensures written { IsWritten chain.now.shape call.now seat.old seat.new g tries result }
+    ensures made { HasMade chain.now.shape call.now seat.old seat.new
+        (made_at_home call.now result)
+        (home_steps chain.now.shape first.g + (tries.old - tries.new)) }
+    ensures told { IsToldAtHome chain.now.shape call.now seat.old seat.new tries.old tries.new
+        result }
+    ensures spent { IsSpent call.now seat.old seat.new tries.old tries.new }
+    ensures short { IsShortThere chain.now.shape first.g call.now seat.old seat.new result }
     ensures serves { P.serves pause.new chain.now }
 {
-    match aim(chain, seat, g, key, call, below) {
-        Target::Slot(i) => exchange(chain, seat, g, i, key, call, tries, pause),
-        Target::Absent(reply) => Written::Replied(reply),
-        Target::Above(below) => Written::Above(below, tries),
-        Target::Full => Written::Refused(PutFault::Full),
+    let i = chain.shape().path_slot(first.g, call.key(), 0);
+    let word = chain.load_key_word(seat, first.g, i, Some(*call));
+    if word.is_empty() {
+        if let Decision::Leave(reply) = decide(call, &None) {
+            return Some(Ok(reply));
+        }
+    }
+    let home = Slot { g: first.g, i };
+    if !has_home(chain, seat, call, home, word) {
+        return None;
+    }
+    match call_at(chain, seat, call, home, tries, pause) {
+        Visit::Told(reply) => Some(Ok(reply)),
+        Visit::Refused(fault) => Some(Err(fault)),
+        Visit::Above(_) => None,
     }
 }
 
-/// Where a write that has come to table `g` has to look, by a search along its key's path. The call
-/// claims a slot for its key if it puts a number there.
+/// Whether the key has its home slot, which was seen with this key word: it had it then, or the
+/// slot was empty and is claimed for it.
 #[inline(always)]
-fn aim(chain: &Chain, seat: &mut ChainSeat, g: u32, key: Key, call: &Call, below: Below) -> Target
-    requires own { IsOwn chain.now seat.old }
-    requires key { key_of_call call.now ≡ key }
-    requires reached { IsReached chain.now.shape (seen_by chain.now.shape seat.old) g key }
-    requires below { HasBelow chain.now.shape (seen_by chain.now.shape seat.old) g key below }
-    ensures made { HasMade chain.now.shape call.now seat.old seat.new (made_at call.now result)
-        (search_steps chain.now.shape g) }
-    ensures target { IsTarget chain.now.shape call.now seat.new g key result }
+fn has_home(chain: &Chain, seat: &mut ChainSeat, call: &Call, home: Slot, word: KeyWord) -> bool
+    requires home { IsHomeOf chain.now call.now seat.old home }
+    requires found { (seen_by chain.now.shape seat.old).key home.g home.i ≡ word }
+    requires fills { word ≡ key_is.Empty → Fills call.now }
+    ensures made { HasMade chain.now.shape call.now seat.old seat.new [] 2 }
+    ensures claimed { IsTrue result
+        → IsHomeSlot chain.now.shape (seen_by chain.now.shape seat.new) home.g
+        (key_of_call call.now) }
+    ensures kept { word ≡ key_is.Claimed (key_of_call call.now)
+        → IsTrue result × (seat.new ≡ seat.old) }
+    ensures away { result ≡ false → IsLastSeen chain.now.shape home.g seat.new
+        → IsAtHome chain.now.shape (seen_by chain.now.shape seat.new) home.g
+        (key_of_call call.now) → ⊥ }
 {
-    if let Decision::Leave(reply) = decide(call, &None) {
-        return match seek(chain, seat, g, key, call, 0) {
-            Sought::Slot(i) => Target::Slot(i),
-            Sought::Absent => Target::Absent(reply),
-            Sought::Above => Target::Above(Below::Passed),
-        };
+    if word.is(call.key()) {
+        return true;
     }
-    match find_or_claim(chain, seat, g, key, call, below) {
-        SlotFor::Slot(i) => Target::Slot(i),
-        SlotFor::Above(below) => Target::Above(below),
-        SlotFor::Full => Target::Full,
+    if !word.is_empty() {
+        return false;
+    }
+    claim_home(chain, seat, call, home)
+}
+
+/// Claims the key's home slot, which was seen empty, for a call that puts a number at an absent
+/// key, unless the table is being copied. Answers whether the key has the slot now.
+#[inline(always)]
+fn claim_home(chain: &Chain, seat: &mut ChainSeat, call: &Call, home: Slot) -> bool
+    requires home { IsHomeOf chain.now call.now seat.old home }
+    requires fills { Fills call.now }
+    ensures made { HasMade chain.now.shape call.now seat.old seat.new [] 2 }
+    ensures claimed { IsTrue result
+        → IsHomeSlot chain.now.shape (seen_by chain.now.shape seat.new) home.g
+        (key_of_call call.now) }
+    ensures away { result ≡ false → IsLastSeen chain.now.shape home.g seat.new
+        → IsAtHome chain.now.shape (seen_by chain.now.shape seat.new) home.g
+        (key_of_call call.now) → ⊥ }
+{
+    if has_next(chain, seat, home.g) {
+        return false;
+    }
+    match chain.claim_key(seat, home.g, home.i, call.key()) {
+        KeyState::Empty => true,
+        KeyState::Dead => false,
+        KeyState::Claimed(other) => other == call.key(),
     }
 }

@@ -1,41 +1,44 @@
-use Rattle.std.proofs.Common.{◌+◌, add-one, subst, sym, arith}
-use Rattle.nb_core.specs.Plans.{generations_of}
-use Rattle.nb_table.specs.Chains.{seen_by}
-use Rattle.nb_table.specs.Conditions.{IsReached}
-use Rattle.nb_map.specs.Steps.{get_steps, looked_below}
-use Rattle.nb_map.specs.Steps.{pass_steps}
-use Rattle.nb_map.proofs.Bounds.{get_at-bound}
-use Rattle.nb_map.proofs.Made.{made-stays, made-within}
-use Rattle.nb_map.proofs.Searched.{made-then, reached-above, reached-lasts}
+use Rattle.std.proofs.Common.{◌+◌, ◌-◌, ◌∷◌, [], ap, refl, subst, arith}
+use Rattle.nb_core.specs.declared.calls.Call.TheVariants as call
+use Rattle.nb_map.proofs.Bounds.{climb-bound}
+use Rattle.nb_map.proofs.Made.{made-within}
+use Rattle.nb_map.proofs.Rungs.{slot-above, slot-stays}
+use Rattle.nb_map.proofs.Searched.{made-then}
+use Rattle.nb_map.specs.Calling.{HasMade}
+use Rattle.nb_map.specs.Steps.{get_steps}
 use Rattle.nb_map.proofs.steps.get.get_at.Goals as goal
 
-pub get_from-requires-clause-reached : goal.get_from-requires-clause-reached
-get_from-requires-clause-reached c =
-    let chain = c.args.chain.now in
-    let p = chain.shape in
-    let lasting = made-stays chain c.requires.own c.in-Above.ensures.made in
-    let reached = reached-lasts p _ _ lasting c.args.g c.args.key c.requires.slot.0
-    c.requires.reached in
-    subst (λ g. IsReached p (seen_by p c.look_at.new.seat) g c.args.key) (sym (add-one c.args.g))
-    (reached-above p (seen_by p c.look_at.new.seat)
-    c.args.g c.args.key reached c.in-Above.ensures.look)
-
-pub returns-in-Shows : goal.returns-in-Shows
-returns-in-Shows c =
+pub returns-in-Told : goal.returns-in-Told
+returns-in-Told c =
     let p = c.args.chain.now.shape in
-    let bound = get_at-bound p c.requires.own.plan c.args.g c.requires.slot.0 in
+    let get = call.Get c.args.key in
+    let visit = c.in-Told.ensures in
+    let bound = climb-bound p c.requires.at.own.plan c.args.slot.g c.requires.at.slot.0 in
     record {
-      made = made-within (pass_steps p c.args.g + 1) (get_steps p) (omega (arith, bound))
-          c.in-Shows.ensures.made;
+      made = made-within _ (get_steps p) (omega (arith, bound, visit.spent.read (λ number. refl)))
+          (subst (λ calls. HasMade p get c.args.seat.now c.call_at.new.seat calls
+          (2 + (1 - c.call_at.new.tries)))
+          (ap (λ reply. (get, reply) ∷ []) visit.visit) visit.made);
+    }
+
+pub unreachable-requires : goal.unreachable-requires
+unreachable-requires c = c.in-Refused.ensures.visit.1 (λ number. refl)
+
+pub get_from-requires : goal.get_from-requires
+get_from-requires c =
+    let chain = c.args.chain.now in
+    let visit = c.in-Above.ensures in
+    record {
+      at = slot-above chain c.in-Above.below (slot-stays chain c.requires.at visit.made)
+          visit.visit.0;
     }
 
 pub returns-in-Above : goal.returns-in-Above
 returns-in-Above c =
-    let chain = c.args.chain.now in
-    let p = chain.shape in
+    let p = c.args.chain.now.shape in
+    let visit = c.in-Above.ensures in
+    let bound = climb-bound p c.requires.at.own.plan c.args.slot.g c.requires.at.slot.0 in
     record {
-      made = made-within (pass_steps p c.args.g + 1 + looked_below p (generations_of p))
-          (get_steps p)
-          (get_at-bound p c.requires.own.plan c.args.g c.requires.slot.0)
-          (made-then c.requires.own c.in-Above.ensures.made c.get_from.ensures.made);
+      made = made-within _ (get_steps p) (omega (arith, bound, visit.spent.read (λ number. refl)))
+          (made-then c.requires.at.own visit.made c.get_from.ensures.made);
     }

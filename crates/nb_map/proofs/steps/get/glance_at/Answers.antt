@@ -26,15 +26,15 @@ returns-then-is_own-clause-glance c own =
     let seen = seen_by c.args.chain.now.shape c.load_value_word-word.new.seat in
     let lasting = steps_add_up.stays c.requires.own
     (steps_add_up.one c.load_value_word-word.ensures.grows) in
-    let claimed = lasting.claimed c.args.g c.args.i c.args.key c.requires.slot
+    let claimed = lasting.claimed c.args.home.g c.args.home.i c.args.key c.requires.slot
     (c.requires.claimed own) in
     let primed = shown-none c.load_value_word-word.result
     (sym c.shows.ensures ∙ none-of c.shows.result c.in_default.not-Some) in (
       pow_pos _,
-      others-none p seen c.args.g c.args.key,
-      primed-away p seen c.args.g c.args.key
-          (subst (λ i. seen.key c.args.g i ≡ Claimed c.args.key) (sym c.requires.home) claimed)
-          (subst (λ i. IsUnprimed (seen.value c.args.g i) → ⊥) (sym c.requires.home)
+      others-none p seen c.args.home.g c.args.key,
+      primed-away p seen c.args.home.g c.args.key
+          (subst (λ i. seen.key c.args.home.g i ≡ Claimed c.args.key) (sym c.requires.home) claimed)
+          (subst (λ i. IsUnprimed (seen.value c.args.home.g i) → ⊥) (sym c.requires.home)
           (subst (λ v. IsUnprimed v → ⊥) (sym c.load_value_word-word.ensures.found) primed)),
     )
 

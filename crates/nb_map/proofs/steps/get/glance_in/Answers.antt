@@ -24,7 +24,7 @@ returns-then-not-is_or_empty-clause-made c =
     let old = c.args.seat.now in
     let new = c.load_key_word-word.new.seat in
     let seen = λ (s : KeyState). Extended p old new
-    (read old.number get (shown_by_key p c.args.g c.path_slot-home.result s c.args.key)) 1 in
+    (read old.number get (shown_by_key p c.args.g c.path_slot-i.result s c.args.key)) 1 in
     elim (c.is_or_empty.ensures.no c.if-not-is_or_empty.true) [
       | inl dead ↦
           subst (λ glance. HasMade p get old new (glanced_by get glance) 2)
@@ -34,7 +34,7 @@ returns-then-not-is_or_empty-clause-made c =
       | inr other ↦
           let table = table-within chain old c.requires.own c.args.g c.requires.reached.installed in
           let more = two-slots p c.requires.own.plan c.args.g table in
-          let at : path_slot p c.args.g c.args.key 0 ≡ c.path_slot-home.result = search rules in
+          let at : path_slot p c.args.g c.args.key 0 ≡ c.path_slot-i.result = search rules in
           let none = ap (λ i. read_shown get
           (shown_by_key p c.args.g i (Claimed other.0) c.args.key)) (sym at)
           ∙ shown-other chain c.args.g table get 0 other.0 (pow_pos _) other.2
@@ -42,7 +42,7 @@ returns-then-not-is_or_empty-clause-made c =
           subst (λ glance. HasMade p get old new (glanced_by get glance) 2)
           (sym (c.away.ensures.other other.0 other.1))
           (made-within 1 2 (omega arith) (subst (λ made. HasMade p get old new made 1) none
-          (made-read p get (shown_by_key p c.args.g c.path_slot-home.result (Claimed other.0)
+          (made-read p get (shown_by_key p c.args.g c.path_slot-i.result (Claimed other.0)
           c.args.key)
           (subst seen other.1 c.load_key_word-word.ensures.grows))))
     ]
@@ -53,7 +53,7 @@ returns-then-not-is_or_empty-clause-glance c =
     let chain = c.args.chain.now in
     let p = chain.shape in
     let seen = seen_by p c.load_key_word-word.new.seat in
-    let at : path_slot p c.args.g c.args.key 0 ≡ c.path_slot-home.result = search rules in
+    let at : path_slot p c.args.g c.args.key 0 ≡ c.path_slot-i.result = search rules in
     elim (c.is_or_empty.ensures.no c.if-not-is_or_empty.true) [
       | inl dead ↦
           subst (IsGlance p seen c.args.g c.args.key) (sym (c.away.ensures.dead dead)) (
@@ -91,12 +91,12 @@ returns-clause-made c =
     let get = call.Get c.args.key in
     let old = c.args.seat.now in
     let seen = λ (s : KeyState). Extended p old c.load_key_word-word.new.seat
-    (read old.number get (shown_by_key p c.args.g c.path_slot-home.result s c.args.key)) 1 in
+    (read old.number get (shown_by_key p c.args.g c.path_slot-i.result s c.args.key)) 1 in
     let passed : IsTrue c.is_or_empty.result = search rules in
     made-looked chain c.args.key _ c.glance_at.result c.requires.own
     (λ own. elim (c.is_or_empty.ensures.yes passed) [
       | inl mine ↦
-          let none = shown-own p c.args.g c.path_slot-home.result c.args.key c.args.key c.args.key
+          let none = shown-own p c.args.g c.path_slot-i.result c.args.key c.args.key c.args.key
           refl (sym (eq-eqb c.args.key c.args.key refl)) in
           made-quiet p get
           (subst (λ shown. Extended p old c.load_key_word-word.new.seat (read old.number get shown)

@@ -9,6 +9,7 @@ use Rattle.nb_map.specs.inside.Walking.{IsAway, IsEarlier}
 use Rattle.nb_map.proofs.Bounds.{slots-more}
 use Rattle.nb_map.proofs.Earlier.{away-lasts, earlier-reached, ends-away, ends-unread, probe-few}
 use Rattle.nb_map.proofs.Made.{made-none, made-own, made-stays, made-within}
+use Rattle.nb_map.proofs.Rungs.{at-path}
 use Rattle.nb_map.proofs.Searched.{made-then}
 use Rattle.nb_map.proofs.Walked.{first-still}
 use Rattle.nb_map.proofs.steps.walk.is_earlier.Goals as goal
@@ -21,17 +22,18 @@ loop-f-init c = (
   λ f from below. absurd (omega (arith, from, below)),
 )
 
-pub probe-requires-clause-reached : goal.probe-requires-clause-reached
-probe-requires-clause-reached c =
+pub probe-requires : goal.probe-requires
+probe-requires c =
     let chain = c.args.chain.now in
     let made = c.loop-f.invariant.0 in
     let below = c.loop-f-test.true in
-    earlier-reached chain c.loop-f.seat (made-own chain c.requires.own made)
-    c.args.first c.args.g c.args.key
+    let own = made-own chain c.requires.own made in
+    let reached = earlier-reached chain c.loop-f.seat own c.args.first c.args.g c.args.key
     (first-still chain c.requires.own c.requires.first made) c.requires.table
     ((made-stays chain c.requires.own made).has_slot c.args.g c.args.key c.requires.table
     c.requires.slot) c.loop-f.f (omega (arith, below))
-    c.loop-f.invariant.1
+    c.loop-f.invariant.1 in
+    record { at = at-path chain (call.Get c.args.key) c.loop-f.seat c.loop-f.f own reached }
 
 -- the key has its slot still, after the probe
 has-slot :

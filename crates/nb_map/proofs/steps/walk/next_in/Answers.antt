@@ -1,4 +1,4 @@
-use Rattle.std.proofs.Common.{◌≡◌, ◌≢◌, ℕ, ◌+◌, ◌-◌, ◌*◌, Option, None, Some, refl, sym, subst, arith}
+use Rattle.std.proofs.Common.{◌≡◌, ◌≢◌, ℕ, ◌+◌, ◌-◌, ◌*◌, Option, None, Some, refl, sym, subst, arith, rules}
 use Rattle.nb_core.specs.declared.calls.Call.TheVariants as call
 use Rattle.nb_core.proofs.Theorems.{place_is}
 use Rattle.nb_map.specs.Logs.{as_replied}
@@ -28,19 +28,22 @@ pub first_seen-requires-clause-first : goal.first_seen-requires-clause-first
 first_seen-requires-clause-first c = first-still c.args.chain.now c.requires.own c.requires.first
     (c.loop-i.invariant.made 0)
 
-pub get_at-requires-clause-own : goal.get_at-requires-clause-own
-get_at-requires-clause-own c =
-    let chain = c.args.chain.now in
-    made-own chain (made-own chain c.requires.own (c.loop-i.invariant.made 0))
-    (c.first_seen.ensures.made 0)
-
-pub get_at-requires-clause-claimed : goal.get_at-requires-clause-claimed
-get_at-requires-clause-claimed c =
+pub get_at-requires : goal.get_at-requires
+get_at-requires c =
     let chain = c.args.chain.now in
     let own = made-own chain (made-own chain c.requires.own (c.loop-i.invariant.made 0))
     (c.first_seen.ensures.made 0) in
-    ((place_is chain.shape own.plan c.first_seen.new.seat.seen own.legal c.args.first c.in-Some.key
-    c.args.g c.loop-i.i).0 c.in-Some.ensures.first.0).is
+    let first = c.in-Some.ensures.first in
+    let place = (place_is chain.shape own.plan c.first_seen.new.seat.seen own.legal c.args.first
+    c.in-Some.key c.args.g c.loop-i.i).0 first.0 in
+    record {
+      at = record {
+        own = own;
+        slot = (c.requires.table, search rules);
+        claimed = place.is;
+        reached = first.1;
+      };
+    }
 
 pub returns-in-Some-get_at-clause-gone : goal.returns-in-Some-get_at-clause-gone
 returns-in-Some-get_at-clause-gone c =

@@ -1,90 +1,72 @@
 use Rattle.std.proofs.Common.{inl, inr, arith}
 use Rattle.std.proofs.lemmas.Result.{IfErr-weaker}
 use Rattle.nb_core.specs.declared.calls.Call.TheVariants as call
-use Rattle.nb_map.proofs.Straight.{made-elsewhere, made-there, reached-then, reached-there, ready-then, ready-there, short-elsewhere, short-there}
-use Rattle.nb_map.proofs.Written.{just-longer}
+use Rattle.nb_map.proofs.Rungs.{at-stays}
+use Rattle.nb_map.proofs.Spent.{just-longer, spent-more, spent-sooner}
+use Rattle.nb_map.proofs.Straight.{at-there, made-elsewhere, made-there, ready-there, short-elsewhere, short-there}
+use Rattle.nb_map.proofs.Written.{told-longer}
 use Rattle.nb_map.proofs.steps.write.put_if_match_in.Goals as goal
 use Rattle.nb_table.proofs.Theorems.{steps_add_up}
 
-pub write_home-requires-clause-reached : goal.write_home-requires-clause-reached
-write_home-requires-clause-reached g c =
-    reached-there c.args.chain.now c.load_top-top.result c.requires.own c.load_top-top.ensures.grows
-    c.load_top-top.ensures.found c.args.key
+pub write_home-requires-clause-at : goal.write_home-requires-clause-at
+write_home-requires-clause-at g c =
+    at-there c.args.chain.now c.top_rung-first.result.g c.requires.own c.top_rung-first.ensures.grows
+    c.top_rung-first.ensures.found (call.Write c.args.key c.args.want c.args.change) c.top_rung-first.result
+    c.top_rung-first.ensures.rung
 
 pub write_home-requires-clause-ready : goal.write_home-requires-clause-ready
 write_home-requires-clause-ready g c =
-    ready-there c.args.chain.now c.load_top-top.result c.requires.own c.load_top-top.ensures.grows
-    c.load_top-top.ensures.found
+    ready-there c.args.chain.now c.top_rung-first.result.g c.requires.own c.top_rung-first.ensures.grows
+    c.top_rung-first.ensures.found
 
 -- ---- at home
 
-pub returns-in-Replied-clause-made : goal.returns-in-Replied-clause-made
-returns-in-Replied-clause-made g c =
-    made-there c.args.chain.now c.load_top-top.result c.requires.own c.load_top-top.ensures.grows
-    c.load_top-top.ensures.found c.requires.some c.in-Replied.ensures.made
-
-pub returns-in-Replied-clause-short : goal.returns-in-Replied-clause-short
-returns-in-Replied-clause-short g c =
-    short-there c.args.chain.now c.load_top-top.result c.requires.own c.load_top-top.ensures.grows
-    c.load_top-top.ensures.found c.write_home.result c.write_home.ensures.made
-    c.write_home.ensures.short
-
-pub returns-in-Refused-clause-made : goal.returns-in-Refused-clause-made
-returns-in-Refused-clause-made g c =
-    made-there c.args.chain.now c.load_top-top.result c.requires.own c.load_top-top.ensures.grows
-    c.load_top-top.ensures.found c.requires.some c.in-Refused.ensures.made
-
-pub returns-in-Refused-clause-refused : goal.returns-in-Refused-clause-refused
-returns-in-Refused-clause-refused g c =
-    just-longer c.args.chain.now.shape (call.Write c.args.key c.args.want c.args.change)
-    c.args.tries c.args.tries (steps_add_up.one c.load_top-top.ensures.grows)
-    c.in-Refused.ensures.made.grown (omega arith) c.in-Refused.fault c.in-Refused.ensures.told
-
-pub returns-in-Refused-clause-short : goal.returns-in-Refused-clause-short
-returns-in-Refused-clause-short g c =
-    short-there c.args.chain.now c.load_top-top.result c.requires.own c.load_top-top.ensures.grows
-    c.load_top-top.ensures.found c.write_home.result c.write_home.ensures.made
-    c.write_home.ensures.short
+pub returns-in-Some : goal.returns-in-Some
+returns-in-Some g c =
+    let first = steps_add_up.one c.top_rung-first.ensures.grows in
+    let home = c.in-Some.ensures in
+    record {
+      made = made-there c.args.chain.now c.top_rung-first.result.g c.requires.own c.top_rung-first.ensures.grows
+          c.top_rung-first.ensures.found c.requires.some home.made home.spent;
+      refused = told-longer c.args.chain.now.shape (call.Write c.args.key c.args.want c.args.change)
+          c.args.tries c.write_home.new.tries first home.made.grown c.in-Some.told home.told;
+      looked = omega (arith, first.steps, home.made.grown.steps);
+      short = short-there c.args.chain.now c.top_rung-first.result.g c.requires.own c.top_rung-first.ensures.grows
+          c.top_rung-first.ensures.found c.write_home.result c.write_home.ensures.made
+          c.write_home.ensures.short;
+      serves = home.serves;
+    }
 
 -- ---- elsewhere
 
-pub write_from-requires-clause-reached : goal.write_from-requires-clause-reached
-write_from-requires-clause-reached g c =
-    reached-then c.args.chain.now c.load_top-top.result c.requires.own
-    c.load_top-top.ensures.grows c.load_top-top.ensures.found c.in-Elsewhere.ensures.made.grown
-    c.args.key
+pub climb-requires-clause-at : goal.climb-requires-clause-at
+climb-requires-clause-at g c =
+    at-stays c.args.chain.now
+    (at-there c.args.chain.now c.top_rung-first.result.g c.requires.own c.top_rung-first.ensures.grows
+    c.top_rung-first.ensures.found (call.Write c.args.key c.args.want c.args.change) c.top_rung-first.result
+    c.top_rung-first.ensures.rung) c.in-None.ensures.made
 
-pub write_from-requires-clause-ready : goal.write_from-requires-clause-ready
-write_from-requires-clause-ready g c =
-    ready-then c.args.chain.now c.load_top-top.result c.requires.own
-    c.load_top-top.ensures.grows c.load_top-top.ensures.found c.in-Elsewhere.ensures.made.grown
-
-pub returns-in-Elsewhere-clause-made : goal.returns-in-Elsewhere-clause-made
-returns-in-Elsewhere-clause-made g c =
-    made-elsewhere c.args.chain.now c.load_top-top.result c.requires.own
-    c.load_top-top.ensures.grows c.load_top-top.ensures.found
-    c.in-Elsewhere.left c.requires.some c.in-Elsewhere.ensures.told.1
-    c.in-Elsewhere.ensures.made c.write_from.ensures.made
-
-pub returns-in-Elsewhere-clause-refused : goal.returns-in-Elsewhere-clause-refused
-returns-in-Elsewhere-clause-refused g c =
+pub returns-in-None : goal.returns-in-None
+returns-in-None g c =
     let p = c.args.chain.now.shape in
     let write = call.Write c.args.key c.args.want c.args.change in
-    let home = c.in-Elsewhere.ensures.made in
-    IfErr-weaker c.write_from.result _ _
-    (λ fault just. just-longer p write c.args.tries c.args.tries
-    (steps_add_up.one c.load_top-top.ensures.grows)
-    (steps_add_up.more home.grown c.write_from.ensures.made.grown) (omega arith) fault
-    (just-longer p write c.args.tries c.in-Elsewhere.left home.grown
-    c.write_from.ensures.made.grown c.in-Elsewhere.ensures.told.2 fault just))
-    c.write_from.ensures.refused
-
-pub returns-in-Elsewhere-clause-short : goal.returns-in-Elsewhere-clause-short
-returns-in-Elsewhere-clause-short g c =
-    let short = c.in-Elsewhere.ensures.short in
-    short-elsewhere c.args.chain.now c.load_top-top.result c.requires.own
-    c.load_top-top.ensures.grows c.load_top-top.ensures.found c.in-Elsewhere.ensures.made
-    (λ alone way. elim way [
-      | inl known ↦ (short.known alone known).0
-      | inr last ↦ (short.claimed alone last).0
-    ]) c.write_from.ensures.made
+    let first = steps_add_up.one c.top_rung-first.ensures.grows in
+    let home = c.in-None.ensures in
+    let climb = c.climb.ensures in
+    record {
+      made = made-elsewhere c.args.chain.now c.top_rung-first.result.g c.requires.own c.top_rung-first.ensures.grows
+          c.top_rung-first.ensures.found home.made home.spent c.requires.some climb.made climb.spent;
+      refused = IfErr-weaker c.climb.result _ _
+          (λ fault refused.
+          just-longer p write c.args.tries c.write_home.new.tries
+          (steps_add_up.more first home.made.grown) climb.made.grown
+          (spent-sooner first home.made.grown home.spent).lost fault refused.0) climb.refused;
+      looked = omega (arith, first.steps, home.made.grown.steps, climb.made.grown.steps);
+      short = short-elsewhere c.args.chain.now c.top_rung-first.result.g c.requires.own c.top_rung-first.ensures.grows
+          c.top_rung-first.ensures.found home.made
+          (λ alone way. elim way [
+            | inl known ↦ let told = (home.short.known alone known).0 in cc
+            | inr last ↦ let told = (home.short.claimed alone last).0 in cc
+          ]) climb.made;
+      serves = climb.serves;
+    }

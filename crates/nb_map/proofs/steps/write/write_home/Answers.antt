@@ -1,0 +1,243 @@
+use Rattle.std.proofs.Common.{◌≡◌, ◌∙◌, ◌+◌, ◌-◌, ◌≤◌, ℕ, IsTrue, cond, List, [], ◌∷◌, None, Some, Option, Result, ap, refl, subst, sym, arith, rules}
+use Rattle.nb_core.specs.Calls.{Fills}
+use Rattle.nb_core.specs.History.{key_of_call}
+use Rattle.nb_core.specs.Tables.{path_slot}
+use Rattle.nb_core.specs.declared.calls.Call.{Call}
+use Rattle.nb_core.specs.declared.calls.Reply.{Reply}
+use Rattle.nb_core.specs.declared.states.KeyState.TheVariants.{Empty}
+use Rattle.nb_table.specs.Chains.{Extended, SeenBy, seen_by}
+use Rattle.nb_table.specs.Events.{read, shown_by_key}
+use Rattle.nb_map.specs.Logs.{as_replied}
+use Rattle.nb_map.specs.Calling.{HasMade}
+use Rattle.nb_map.specs.Progress.{IsAloneAtHome, IsKnownHome}
+use Rattle.nb_map.specs.declared.faults.PutFault.{PutFault}
+use Rattle.nb_map.specs.inside.Writing.{IsDecided, IsShortThere}
+use Rattle.nb_map.proofs.Aimed.{made-look, own-slot}
+use Rattle.nb_map.proofs.Exchanged.{acts-unless}
+use Rattle.nb_map.proofs.Home.{passed-away}
+use Rattle.nb_map.proofs.Made.{made-none, made-read, made-within}
+use Rattle.nb_map.proofs.Rungs.{at-slot, at-stays}
+use Rattle.nb_map.proofs.Searched.{made-then}
+use Rattle.nb_map.proofs.Spent.{passed-sum, refused-longer, spent-none, spent-sooner}
+use Rattle.nb_map.proofs.steps.write.write_home.Given.{Over}
+use Rattle.nb_map.proofs.steps.write.write_home.Goals as goal
+use Rattle.nb_map.proofs.steps.write.write_home.Goals.{After-has_home, then-is_empty+in_default, else-is_empty}
+use Rattle.nb_table.proofs.Theorems.{steps_add_up}
+
+-- ---- the look at the home slot
+
+pub returns-in-Leave : goal.returns-in-Leave
+returns-in-Leave g c =
+    let p = c.args.chain.now.shape in
+    let call = c.args.call.now in
+    let old = c.args.seat.now in
+    let left = subst (IsDecided call None) c.in-Leave.is c.decide.ensures in
+    let empty = c.is_empty.ensures.yes c.if-is_empty.true in
+    let load = (steps_add_up.one c.load_key_word-word.ensures.grows).steps in
+    record {
+      made = made-within 1 _ (omega arith)
+          (subst (λ made. HasMade p call old c.load_key_word-word.new.seat made 1)
+          (ap (λ b. cond b (as_replied call None) []) left.0
+          ∙ ap (λ r. (call, r) ∷ []) (sym left.1))
+          (made-read p call (Some None)
+          (subst (λ s. Extended p old c.load_key_word-word.new.seat (read old.number call
+          (shown_by_key p c.args.first.g c.path_slot-i.result s (key_of_call call))) 1) empty
+          c.load_key_word-word.ensures.grows)));
+      told = tt;
+      spent = spent-none call old c.load_key_word-word.new.seat c.args.tries.now;
+      short = record {
+        known = λ alone known. (refl, omega (arith, load));
+        claimed = λ alone last. (refl, omega (arith, load));
+      };
+      serves = c.requires.serves;
+    }
+
+-- the slot's place on the path
+pub home-is :
+    (g : Over) (c : After-has_home g) → path_slot c.args.chain.now.shape c.args.first.g
+    (key_of_call c.args.call.now) 0 ≡ c.path_slot-i.result
+home-is g c =
+    ap (λ k. path_slot c.args.chain.now.shape c.args.first.g k 0) (sym c.key.ensures)
+    ∙ search rules
+
+pub has_home-requires-clause-home : goal.has_home-requires-clause-home
+has_home-requires-clause-home g c =
+    let load = steps_add_up.one c.load_key_word-word.ensures.grows in
+    let lasting = steps_add_up.stays c.requires.at.own load in
+    let table = c.requires.at.table in
+    record {
+      own = steps_add_up.own c.requires.at.own load;
+      slot = (table, search rules);
+      is = ap (λ k. path_slot c.args.chain.now.shape c.args.first.g k 0) (sym c.key.ensures)
+          ∙ search rules;
+      installed = lasting.installed c.args.first.g c.requires.at.reached.installed;
+      ready = lasting.ready c.args.first.g table c.requires.ready;
+    }
+
+-- ---- the slot is the key's, or is claimed for it
+
+fills :
+    (g : Over) (c : After-has_home g) → c.load_key_word-word.result ≡ Empty → Fills c.args.call.now
+fills g c empty = elim c.if-is_empty.branch [
+  | then-is_empty+in_default w ↦
+      acts-unless c.args.call.now None w.decide.result w.decide.ensures w.in_default.not-Leave
+  | else-is_empty w ↦ absurd (c.is_empty.ensures.no w.if-is_empty.false empty)
+]
+
+-- up to there, no call was made
+looked :
+    (g : Over) (c : After-has_home g)
+    → HasMade c.args.chain.now.shape c.args.call.now c.args.seat.now c.has_home.new.seat [] 3
+looked g c =
+    made-look c.args.chain.now c.args.first c.path_slot-i.result c.load_key_word-word.result
+    c.requires.at (home-is g c) c.load_key_word-word.ensures.grows
+    c.load_key_word-word.ensures.found (fills g c) c.has_home.ensures.made
+
+-- and who is alone with the key at home, which it knew as the key's, made one step
+one-step :
+    (g : Over) (c : After-has_home g) {after : SeenBy} {calls : List (Call × Reply)} {most : ℕ}
+    → HasMade c.args.chain.now.shape c.args.call.now c.has_home.new.seat after calls most
+    → IsAloneAtHome c.args.chain.now.shape c.args.first.g c.args.call.now c.args.seat.now after
+    → IsKnownHome c.args.chain.now.shape c.args.first.g c.args.call.now c.args.seat.now
+    → IsTrue c.has_home.result × (c.has_home.new.seat.steps ≤ c.args.seat.now.steps + 1)
+one-step g c made alone known =
+    let word = own-slot c.args.chain.now c.args.first c.path_slot-i.result
+    c.load_key_word-word.result c.requires.at (home-is g c) c.load_key_word-word.ensures.grows
+    c.load_key_word-word.ensures.found (fills g c) c.has_home.ensures.made made alone known in
+    let kept = c.has_home.ensures.kept word in
+    let load = (steps_add_up.one c.load_key_word-word.ensures.grows).steps in
+    let same : c.has_home.new.seat.steps ≡ c.load_key_word-word.new.seat.steps =
+    ap (λ (s : SeenBy). s.steps) kept.1 in
+    (kept.0, omega (arith, load, same))
+
+-- with the call at the slot, three steps, and five where it was claimed
+slot-short :
+    (g : Over) (c : After-has_home g) {after : SeenBy} {calls : List (Call × Reply)} {lost : ℕ}
+    (told : Result Reply PutFault)
+    → HasMade c.args.chain.now.shape c.args.call.now c.has_home.new.seat after calls (2 + lost)
+    → (IsAloneAtHome c.args.chain.now.shape c.args.first.g c.args.call.now c.args.seat.now after
+    → lost ≡ 0)
+    → IsShortThere c.args.chain.now.shape c.args.first.g c.args.call.now c.args.seat.now after
+    (Some told)
+slot-short g c told made none =
+    let look = looked g c in
+    record {
+      known = λ alone known. (
+        refl,
+        omega (
+          arith,
+          (one-step g c made alone known).1,
+          made.grown.steps,
+          made.few,
+          none alone,
+        ),
+      );
+      claimed = λ alone last. (
+        refl,
+        omega (
+          arith,
+          look.grown.steps,
+          look.few,
+          made.grown.steps,
+          made.few,
+          none alone,
+        ),
+      );
+    }
+
+pub returns-then-not-has_home-clause-made : goal.returns-then-not-has_home-clause-made
+returns-then-not-has_home-clause-made g c =
+    made-within 3 _ (omega arith)
+    (looked g (goal.at.returns-then-not-has_home-clause-made g c).After-has_home)
+
+pub returns-then-not-has_home-clause-told : goal.returns-then-not-has_home-clause-told
+returns-then-not-has_home-clause-told g c = c.requires.some
+
+pub returns-then-not-has_home-clause-spent : goal.returns-then-not-has_home-clause-spent
+returns-then-not-has_home-clause-spent g c =
+    spent-none c.args.call.now c.args.seat.now c.has_home.new.seat c.args.tries.now
+
+pub returns-then-not-has_home-clause-short : goal.returns-then-not-has_home-clause-short
+returns-then-not-has_home-clause-short g c =
+    let there = (goal.at.returns-then-not-has_home-clause-short g c).After-has_home in
+    let chain = c.args.chain.now in
+    let own = (at-stays chain c.requires.at (looked g there)).own in
+    let not = c.if-not-has_home.true in
+    let none = c.has_home.ensures.away (search (rules, not)) in
+    record {
+      known = λ alone known.
+          let had = (one-step g there (made-none chain c.args.call.now c.has_home.new.seat own)
+          alone known).0 in
+          absurd cc;
+      claimed = λ alone last. absurd (none last alone.home);
+    }
+
+-- ---- the call there
+
+pub call_at-requires-clause-at : goal.call_at-requires-clause-at
+call_at-requires-clause-at g c =
+    let there = (goal.at.call_at-requires-clause-at g c).After-has_home in
+    let chain = c.args.chain.now in
+    let here = at-stays chain c.requires.at (looked g there) in
+    at-slot chain c.path_slot-i.result here (search rules, search rules)
+
+pub returns-in-Told : goal.returns-in-Told
+returns-in-Told g c =
+    let there = (goal.at.returns-in-Told g c).After-has_home in
+    let look = looked g there in
+    let visit = c.in-Told.ensures in
+    record {
+      made = made-within _ _ (omega arith) (made-then c.requires.at.own look visit.made);
+      told = tt;
+      spent = spent-sooner look.grown visit.made.grown visit.spent;
+      short = slot-short g there _ visit.made (λ alone.
+          omega (
+            arith,
+            alone.alone,
+            visit.spent.lost,
+            passed-sum c.args.call.now look.grown visit.made.grown,
+          ));
+      serves = visit.serves;
+    }
+
+pub returns-in-Refused : goal.returns-in-Refused
+returns-in-Refused g c =
+    let there = (goal.at.returns-in-Refused g c).After-has_home in
+    let call = c.args.call.now in
+    let look = looked g there in
+    let visit = c.in-Refused.ensures in
+    record {
+      made = made-within _ _ (omega arith) (made-then c.requires.at.own look visit.made);
+      told = (refused-longer look.grown visit.made.grown
+          (spent-none call c.args.seat.now c.has_home.new.seat c.args.tries.now)
+          c.in-Refused.fault visit.visit).0;
+      spent = spent-sooner look.grown visit.made.grown visit.spent;
+      short = slot-short g there _ visit.made (λ alone.
+          omega (
+            arith,
+            alone.alone,
+            visit.spent.lost,
+            passed-sum call look.grown visit.made.grown,
+          ));
+      serves = visit.serves;
+    }
+
+pub returns-in-Above : goal.returns-in-Above
+returns-in-Above g c =
+    let there = (goal.at.returns-in-Above g c).After-has_home in
+    let chain = c.args.chain.now in
+    let look = looked g there in
+    let visit = c.in-Above.ensures in
+    let here = at-stays chain (at-stays chain c.requires.at look) visit.made in
+    let away = passed-away chain c.call_at.new.seat here.own c.args.first.g
+    (key_of_call c.args.call.now) here.table visit.visit.0.0.0 in
+    record {
+      made = made-within _ _ (omega arith) (made-then c.requires.at.own look visit.made);
+      told = visit.visit.1;
+      spent = spent-sooner look.grown visit.made.grown visit.spent;
+      short = record {
+        known = λ alone known. absurd (away alone.home);
+        claimed = λ alone last. absurd (away alone.home);
+      };
+      serves = visit.serves;
+    }

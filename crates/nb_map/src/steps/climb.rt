@@ -1,0 +1,144 @@
+//! A call on its way up the tables, from the one in which it begins.
+ghost use Rattle.std.specs.Prelude.{IfErr, IfOk, [], ◌+◌, ◌-◌, ◌≡◌, ◌≤◌};
+ghost use Rattle.nb_table.specs.Chains.{Extended, IsOwn, seen_by};
+ghost use Rattle.nb_map.specs.Calling.{HasMade};
+ghost use Rattle.nb_map.specs.Logs.{made_in};
+ghost use Rattle.nb_map.specs.Steps.{climb_steps, rung_steps, search_steps};
+ghost use Rattle.nb_map.specs.inside.Climbing.{IsAt, IsFound, IsRefused, IsReplied, IsSpent, IsVisit, made_by, made_if_not_found, rung_at};
+ghost use Rattle.nb_map.specs.inside.Reading.{IsForAbsent};
+
+use crate::faults::PutFault;
+use crate::steps::claim::find_or_claim;
+use crate::steps::decide::{Decision, decide};
+use crate::steps::pause::Pause;
+use crate::steps::rung::{Below, Rung, Slot, Visit};
+use crate::steps::search::{PathEnd, probe};
+use crate::steps::slot::call_at;
+use nb_core::{Call, Reply};
+use nb_table::{Chain, ChainSeat};
+
+/// Where a call begins: in the top table, by one load of the top word.
+#[inline(always)]
+pub(crate) fn top_rung(chain: &Chain, seat: &mut ChainSeat) -> Rung
+    requires own { IsOwn chain.now seat.old }
+    ensures grows { Extended chain.now.shape seat.old seat.new [] 1 }
+    ensures found { (seen_by chain.now.shape seat.new).top ≡ result.g }
+    ensures rung { result ≡ rung_at result.g }
+{
+    Rung {
+        g: chain.load_top(seat),
+        from: 0,
+        below: Below::Complete,
+    }
+}
+
+/// Makes a call, from a rung on: in the table that it has come to, or else in the next one, and so
+/// on. This is the general way of reads and writes alike. It takes from the tries that are left
+/// what it loses.
+#[inline(always)]
+pub(crate) fn climb<P: Pause>(
+    chain: &Chain,
+    seat: &mut ChainSeat,
+    call: &Call,
+    first: Rung,
+    tries: &mut u32,
+    pause: &mut P,
+) -> Result<Reply, PutFault>
+    requires at { IsAt chain.now call.now seat.old first }
+    requires some { 1 ≤ tries.old }
+    requires serves { P.serves pause.old chain.now }
+    ensures made { HasMade chain.now.shape call.now seat.old seat.new (made_in call.now result)
+        (climb_steps chain.now.shape + (tries.old - tries.new)) }
+    ensures replied { IfOk result (IsReplied call.now) }
+    ensures refused { IfErr result (IsRefused chain.now.shape call.now seat.old seat.new
+        tries.old) }
+    ensures spent { IsSpent call.now seat.old seat.new tries.old tries.new }
+    ensures serves { P.serves pause.new chain.now }
+{
+    let mut rung = first;
+    loop {
+        match visit(chain, seat, call, rung, tries, pause) {
+            Visit::Told(reply) => return Ok(reply),
+            Visit::Refused(fault) => return Err(fault),
+            Visit::Above(below) => {
+                rung = Rung {
+                    g: rung.g + 1,
+                    from: 0,
+                    below,
+                }
+            }
+        }
+    }
+}
+
+/// Makes a call in the table that it has come to, or finds that it goes on in the next one.
+#[inline(always)]
+fn visit<P: Pause>(
+    chain: &Chain,
+    seat: &mut ChainSeat,
+    call: &Call,
+    rung: Rung,
+    tries: &mut u32,
+    pause: &mut P,
+) -> Visit
+    requires at { IsAt chain.now call.now seat.old rung }
+    requires some { 1 ≤ tries.old }
+    requires serves { P.serves pause.old chain.now }
+    ensures made { HasMade chain.now.shape call.now seat.old seat.new (made_by call.now result)
+        (rung_steps chain.now.shape rung.g + (tries.old - tries.new)) }
+    ensures visit { IsVisit chain.now.shape call.now seat.old seat.new rung.g tries.old tries.new
+        result }
+    ensures spent { IsSpent call.now seat.old seat.new tries.old tries.new }
+    ensures serves { P.serves pause.new chain.now }
+{
+    match find(chain, seat, call, rung) {
+        Ok(i) => call_at(chain, seat, call, Slot { g: rung.g, i }, tries, pause),
+        Err(visit) => visit,
+    }
+}
+
+/// The key's slot in the table that a call has come to, by a search along the key's path; or what
+/// the call comes to there without one. A call that puts a number at an absent key claims a slot.
+#[inline(always)]
+fn find(chain: &Chain, seat: &mut ChainSeat, call: &Call, rung: Rung) -> Result<usize, Visit>
+    requires at { IsAt chain.now call.now seat.old rung }
+    ensures made { HasMade chain.now.shape call.now seat.old seat.new
+        (made_if_not_found call.now result) (search_steps chain.now.shape rung.g) }
+    ensures found { IsFound chain.now.shape call.now seat.new rung.g result }
+{
+    match decide(call, &None) {
+        Decision::Leave(reply) => seek(chain, seat, call, rung, reply),
+        _ => find_or_claim(chain, seat, call, rung),
+    }
+}
+
+/// The same for a call that leaves an absent key alone, with this reply. It claims nothing.
+fn seek(
+    chain: &Chain,
+    seat: &mut ChainSeat,
+    call: &Call,
+    rung: Rung,
+    absent: Reply,
+) -> Result<usize, Visit>
+    requires at { IsAt chain.now call.now seat.old rung }
+    requires absent { IsForAbsent call.now absent }
+    ensures made { HasMade chain.now.shape call.now seat.old seat.new
+        (made_if_not_found call.now result) (search_steps chain.now.shape rung.g) }
+    ensures found { IsFound chain.now.shape call.now seat.new rung.g result }
+{
+    match probe(chain, seat, call, rung) {
+        PathEnd::Slot(i) => Ok(i),
+        PathEnd::Empty(_) => Err(Visit::Told(absent)),
+        PathEnd::Closed => Err(Visit::Above(Below::Passed)),
+        PathEnd::Whole => {
+            if rung.g + 1 == chain.shape().generations() {
+                return Err(Visit::Told(absent));
+            }
+            if chain.load_next(seat, rung.g, Some(*call)) {
+                Err(Visit::Above(Below::Passed))
+            } else {
+                Err(Visit::Told(absent))
+            }
+        }
+    }
+}

@@ -1,0 +1,41 @@
+//! Where a call has come to on its way up the tables, and what it comes to there.
+
+use crate::faults::PutFault;
+use nb_core::Reply;
+
+/// What a call knows of the table below the one that it has come to.
+#[derive(Clone, Copy)]
+pub(crate) enum Below {
+    /// It is complete, or there is none.
+    Complete,
+    /// The call's key has a slot in it.
+    HasKey,
+    /// The call's key is passed in it.
+    Passed,
+}
+
+/// Where a call has come to: a table, a distance on its key's path there, behind slots of other
+/// keys, and what it knows of the table below.
+#[derive(Clone, Copy)]
+pub(crate) struct Rung {
+    pub(crate) g: u32,
+    pub(crate) from: usize,
+    pub(crate) below: Below,
+}
+
+/// A slot of a table.
+#[derive(Clone, Copy)]
+pub(crate) struct Slot {
+    pub(crate) g: u32,
+    pub(crate) i: usize,
+}
+
+/// What a call comes to in a table.
+#[derive(Clone, Copy)]
+pub(crate) enum Visit {
+    /// It is made, and this is its reply.
+    Told(Reply),
+    Refused(PutFault),
+    /// It goes on in the next table.
+    Above(Below),
+}

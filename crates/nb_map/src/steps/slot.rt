@@ -1,0 +1,86 @@
+//! A call at its key's slot in a table.
+ghost use Rattle.std.specs.Prelude.{[], ℕ, ◌+◌, ◌-◌, ◌≡◌, ◌≤◌};
+ghost use Rattle.nb_core.specs.Tables.{IsSlot, IsUnprimed};
+ghost use Rattle.nb_core.specs.declared.calls.Call.{Call};
+ghost use Rattle.nb_core.specs.declared.states.KeyState.TheVariants as key_is;
+ghost use Rattle.nb_table.specs.Chains.{IsOwn, seen_by};
+ghost use Rattle.nb_map.specs.Calling.{HasMade};
+ghost use Rattle.nb_map.specs.Steps.{pass_steps, slot_visit_steps};
+ghost use Rattle.nb_map.specs.inside.Climbing.{IsAbove, IsAtSlot, IsSpent, IsVisit, made_by};
+
+use crate::faults::PutFault;
+use crate::steps::decide::{Decision, decide};
+use crate::steps::pause::Pause;
+use crate::steps::rung::{Below, Slot, Visit};
+use nb_copy::copy_and_count;
+use nb_core::{Call, Reply, ValueWord};
+use nb_table::{Chain, ChainSeat};
+
+/// Makes a call at its key's slot. What the slot's value shows decides it, by a load or by an
+/// exchange that was lost; or it exchanges that value, and takes one from its tries for each
+/// exchange that it loses to another write. Where the slot is being copied, it goes on in the next
+/// table.
+#[inline(always)]
+pub(crate) fn call_at<P: Pause>(
+    chain: &Chain,
+    seat: &mut ChainSeat,
+    call: &Call,
+    slot: Slot,
+    tries: &mut u32,
+    pause: &mut P,
+) -> Visit
+    requires at { IsAtSlot chain.now call.now seat.old slot }
+    requires some { 1 ≤ tries.old }
+    requires serves { P.serves pause.old chain.now }
+    ensures made { HasMade chain.now.shape call.now seat.old seat.new (made_by call.now result)
+        (slot_visit_steps chain.now.shape slot.g result + (tries.old - tries.new)) }
+    ensures visit { IsVisit chain.now.shape call.now seat.old seat.new slot.g tries.old tries.new
+        result }
+    ensures spent { IsSpent call.now seat.old seat.new tries.old tries.new }
+    ensures serves { P.serves pause.new chain.now }
+{
+    let mut from = chain.load_value_word(seat, slot.g, slot.i, Some(*call));
+    while let Some(number) = from.shows() {
+        match decide(call, &number) {
+            Decision::Leave(reply) => return Visit::Told(reply),
+            Decision::Overflow => return Visit::Refused(PutFault::ValueRange),
+            Decision::Exchange(to) => {
+                if *tries == 0 {
+                    return Visit::Refused(PutFault::Contended);
+                }
+                pause.before_exchange(chain);
+                let Err(found) = chain.win_value(seat, slot.g, slot.i, *call, from, to) else {
+                    return Visit::Told(Reply {
+                        before: number,
+                        matched: true,
+                    });
+                };
+                if found.shows().is_some() {
+                    *tries -= 1;
+                }
+                from = found;
+            }
+        }
+    }
+    pass_slot(chain, seat, slot, from);
+    Visit::Above(Below::HasKey)
+}
+
+/// Finishes a slot that holds the value of this word, primed or final: a call that looks for the
+/// slot's key goes on above.
+#[inline(never)]
+fn pass_slot(chain: &Chain, seat: &mut ChainSeat, slot: Slot, word: ValueWord)
+    requires own { IsOwn chain.now seat.old }
+    requires slot { IsSlot chain.now.shape slot.g slot.i }
+    requires primed { IsUnprimed word → ⊥ }
+    requires held { (seen_by chain.now.shape seat.old).value slot.g slot.i ≡ word }
+    ensures made { (call : Call) → HasMade chain.now.shape call seat.old seat.new []
+        (pass_steps chain.now.shape slot.g) }
+    ensures passed { (key : ℕ)
+        → (seen_by chain.now.shape seat.old).key slot.g slot.i ≡ key_is.Claimed key
+        → IsAbove chain.now.shape (seen_by chain.now.shape seat.new) slot.g key }
+{
+    if !word.state().is_finished() {
+        copy_and_count(chain, seat, slot.g, slot.i);
+    }
+}
