@@ -74,15 +74,26 @@ impl Model for ChainSeat {
     ghost invariant = { IsSeat };
 }
 
-/// What a step is about: a slot, and the key and the number that it puts there. Only the step's
-/// proof asks for it.
+/// What a step is about: the table, the slot, and the key, the number and the call, where it has
+/// them. It is for proofs alone: the proof of a step names the step's event by it. No step reads it
+/// when it runs, and it leaves nothing behind in the machine code.
 #[derive(Clone, Copy)]
-pub(crate) struct Spot {
+pub(crate) struct ForProof {
     pub(crate) g: u32,
     pub(crate) i: usize,
     pub(crate) key: Option<Key>,
     pub(crate) number: Option<Num>,
+    pub(crate) call: Option<Call>,
 }
+
+/// For the proof of a step that needs nothing named.
+pub(crate) const NOTHING: ForProof = ForProof {
+    g: 0,
+    i: 0,
+    key: None,
+    number: None,
+    call: None,
+};
 
 impl Chain {
     /// A chain with all words 0, and its seats. It takes memory for the words and for the vector of
@@ -115,8 +126,7 @@ impl Chain {
         &self,
         seat: &mut ChainSeat,
         index: usize,
-        _spot: Spot,
-        _call: Option<Call>,
+        _for_proof: ForProof,
     ) -> u64
         requires own { seat.old.chain ≡ self.now.id }
         requires shape { B.shape ≡ self.now.shape }
@@ -135,8 +145,7 @@ impl Chain {
         index: usize,
         old: u64,
         new: u64,
-        _spot: Spot,
-        _call: Option<Call>,
+        _for_proof: ForProof,
     ) -> u64
         requires own { seat.old.chain ≡ self.now.id }
         requires shape { B.shape ≡ self.now.shape }
@@ -156,7 +165,7 @@ impl Chain {
         seat: &mut ChainSeat,
         index: usize,
         bits: u64,
-        _spot: Spot,
+        _for_proof: ForProof,
     ) -> u64
         requires own { seat.old.chain ≡ self.now.id }
         requires shape { B.shape ≡ self.now.shape }
@@ -170,14 +179,13 @@ impl Chain {
             .fetch_or::<Move<B>>(&mut seat.seat, index, bits)
     }
 
-    /// One fetch-add modulo 2^64, which returns the word as it was. The proof of a caller names its
-    /// events by `_g`, its table.
+    /// One fetch-add modulo 2^64, which returns the word as it was.
     pub(crate) fn adds<B: Told>(
         &self,
         seat: &mut ChainSeat,
         index: usize,
         amount: u64,
-        _g: u32,
+        _for_proof: ForProof,
     ) -> u64
         requires own { seat.old.chain ≡ self.now.id }
         requires shape { B.shape ≡ self.now.shape }
@@ -191,14 +199,13 @@ impl Chain {
             .fetch_add::<Move<B>>(&mut seat.seat, index, amount)
     }
 
-    /// One fetch-max, which returns the word as it was. The proof of a caller names its events by
-    /// `_g`, its table.
+    /// One fetch-max, which returns the word as it was.
     pub(crate) fn raises<B: Told>(
         &self,
         seat: &mut ChainSeat,
         index: usize,
         least: u64,
-        _g: u32,
+        _for_proof: ForProof,
     ) -> u64
         requires own { seat.old.chain ≡ self.now.id }
         requires shape { B.shape ≡ self.now.shape }

@@ -7,7 +7,7 @@ ghost use Rattle.nb_core.specs.declared.events.Event.TheVariants as event;
 ghost use Rattle.nb_table.specs.Chains.{Extended, IsOwn, seen_before, seen_by};
 ghost use Rattle.nb_table.specs.Conditions.{IsKnownComplete};
 
-use crate::chain::{Chain, ChainSeat, Spot};
+use crate::chain::{Chain, ChainSeat, ForProof, NOTHING};
 use nb_core::{HeaderWord, INSTALLED, Key, NOT_INSTALLED, TOP_INDEX};
 use std::marker::Brand;
 
@@ -24,7 +24,8 @@ impl Chain {
     {
         let index = self.shape.header_index(g, HeaderWord::Take);
         let chunk = self.shape.chunk_of(g) as u64;
-        self.adds::<Brand>(seat, index, chunk, g)
+        let for_proof = ForProof { g, ..NOTHING };
+        self.adds::<Brand>(seat, index, chunk, for_proof)
     }
 
     /// Counts finished slots of table `g` that the seat's own steps turned, by one fetch-add on its
@@ -40,7 +41,8 @@ impl Chain {
         ensures found { (seen_by self.now.shape seat.new).counted g ≡ result + slots }
     {
         let index = self.shape.header_index(g, HeaderWord::Done);
-        self.adds::<Brand>(seat, index, slots, g)
+        let for_proof = ForProof { g, ..NOTHING };
+        self.adds::<Brand>(seat, index, slots, for_proof)
     }
 
     /// Raises the top word past table `g`, by one fetch-max, and answers what it was. The seat has
@@ -56,11 +58,13 @@ impl Chain {
         ensures was_higher { g < result → Extended self.now.shape seat.old seat.new [] 1
             × ((seen_by self.now.shape seat.new).top ≡ result) }
     {
-        self.raises::<Brand>(seat, TOP_INDEX, u64::from(g) + 1, g) as u32
+        let for_proof = ForProof { g, ..NOTHING };
+        self.raises::<Brand>(seat, TOP_INDEX, u64::from(g) + 1, for_proof) as u32
     }
 
     /// Installs the table above `g`, for a key whose path in `g` is crowded, by one
-    /// compare-exchange on its next word. Answers whether this step did it.
+    /// compare-exchange on its next word. Answers whether this step did it. `key` is for proofs
+    /// alone: the step doesn't read it.
     pub fn install(&self, seat: &mut ChainSeat, g: u32, key: Key) -> bool
         requires own { IsOwn self.now seat.old }
         requires room { suc g < generations_of self.now.shape }
@@ -74,13 +78,12 @@ impl Chain {
     {
         key.known();
         let index = self.shape.header_index(g, HeaderWord::Next);
-        let spot = Spot {
+        let for_proof = ForProof {
             g,
-            i: 0,
             key: Some(key),
-            number: None,
+            ..NOTHING
         };
-        let found = self.exchanges::<Brand>(seat, index, NOT_INSTALLED, INSTALLED, spot, None);
+        let found = self.exchanges::<Brand>(seat, index, NOT_INSTALLED, INSTALLED, for_proof);
         found == NOT_INSTALLED
     }
 }
