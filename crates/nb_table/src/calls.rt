@@ -9,7 +9,7 @@ ghost use Rattle.nb_table.specs.Chains.{Extended, IsOwn, seen_by};
 ghost use Rattle.nb_table.specs.Conditions.{IsReached};
 ghost use Rattle.nb_table.specs.Events.{read};
 
-use crate::chain::{Chain, ChainSeat, Spot};
+use crate::chain::{Chain, ChainSeat, ForProof, NOTHING};
 use nb_core::{Call, Change, ValueState, ValueWord, Want};
 use std::marker::Brand;
 
@@ -35,7 +35,8 @@ pub(crate) fn known(call: &Call)
 impl Chain {
     /// Puts a value in place of another for a call, by one compare-exchange on the value word of
     /// the key's slot `i` of table `g`. Another word than `from` stays as it is, and is the answer;
-    /// what it shows of the key may be the call's read then, as at `load_value_word`.
+    /// what it shows of the key may be the call's read then, as at `load_value_word`. `call` is for
+    /// proofs alone: the step doesn't read it.
     #[inline]
     pub fn win_value(
         &self,
@@ -67,13 +68,13 @@ impl Chain {
         let index = self.shape.value_index(g, i);
         let old = from.get();
         let new = ValueWord::of(to).get();
-        let spot = Spot {
+        let for_proof = ForProof {
             g,
             i,
-            key: None,
-            number: None,
+            call: Some(call),
+            ..NOTHING
         };
-        let found = self.exchanges::<Brand>(seat, index, old, new, spot, Some(call));
+        let found = self.exchanges::<Brand>(seat, index, old, new, for_proof);
         if found == old {
             Ok(())
         } else {

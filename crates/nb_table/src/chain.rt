@@ -21,9 +21,9 @@ ghost use Rattle.std.specs.Prelude.{
   is_ok,
 };
 ghost use Rattle.nb_core.specs.Plans.{word_count};
-ghost use Rattle.nb_table.specs.Chains.{AreOwn, Extended, IsOwn, new_seats};
+ghost use Rattle.nb_table.specs.Chains.{AreOwn, Extended, IsOwn, KnowsTop, new_seats};
 ghost use Rattle.nb_table.specs.Gathered.{ClosedWith};
-ghost use Rattle.nb_table.specs.Inside.{part_of, seat_with};
+ghost use Rattle.nb_table.specs.Inside.{forgotten, part_of, seat_with};
 ghost use Rattle.nb_table.specs.Steps.{Can, Stepped};
 ghost use Rattle.nb_core.specs.Log.{IsBeginning};
 ghost use Rattle.nb_table.specs.Views.{Moves};
@@ -56,10 +56,13 @@ impl Model for Chain {
 }
 
 /// The right of one holder to make steps. Contracts see which chain's it is, its number, the
-/// history that it has seen, the newest event first, and how many steps it has made.
+/// history that it has seen, the newest event first, how many steps it has made, and the top table
+/// that it remembers.
 #[derive(Drop)]
 pub struct ChainSeat {
     seat: Seat<(), View>,
+    /// The top word as the seat knew it last.
+    pub(crate) top: u32,
 }
 
 impl Model for ChainSeat {
@@ -74,15 +77,37 @@ impl Model for ChainSeat {
     ghost invariant = { IsSeat };
 }
 
-/// What a step is about: a slot, and the key and the number that it puts there. Only the step's
-/// proof asks for it.
+impl ChainSeat {
+    /// The top table that the seat remembers: what the top word was when a step of this seat found
+    /// it last. It may have risen since. This makes no step.
+    #[inline]
+    pub fn known_top(&self) -> u32
+        ensures { result ≡ self.now.top }
+    {
+        self.top
+    }
+}
+
+/// What a step is about: the table, the slot, and the key, the number and the call, where it has
+/// them. It is for proofs alone: the proof of a step names the step's event by it. No step reads it
+/// when it runs, and it leaves nothing behind in the machine code.
 #[derive(Clone, Copy)]
-pub(crate) struct Spot {
+pub(crate) struct ForProof {
     pub(crate) g: u32,
     pub(crate) i: usize,
     pub(crate) key: Option<Key>,
     pub(crate) number: Option<Num>,
+    pub(crate) call: Option<Call>,
 }
+
+/// For the proof of a step that needs nothing named.
+pub(crate) const NOTHING: ForProof = ForProof {
+    g: 0,
+    i: 0,
+    key: None,
+    number: None,
+    call: None,
+};
 
 impl Chain {
     /// A chain with all words 0, and its seats. It takes memory for the words and for the vector of
@@ -98,7 +123,7 @@ impl Chain {
         let chain = Chain { table, shape };
         for _number in 0..shape.seats() {
             let seat = chain.table.shared.split_seat::<Deal>(&mut rest);
-            dealt.push_reserved(ChainSeat { seat });
+            dealt.push_reserved(ChainSeat { seat, top: 0 });
         }
         Ok((chain, dealt))
     }
@@ -115,8 +140,7 @@ impl Chain {
         &self,
         seat: &mut ChainSeat,
         index: usize,
-        _spot: Spot,
-        _call: Option<Call>,
+        _for_proof: ForProof,
     ) -> u64
         requires own { seat.old.chain ≡ self.now.id }
         requires shape { B.shape ≡ self.now.shape }
@@ -135,8 +159,7 @@ impl Chain {
         index: usize,
         old: u64,
         new: u64,
-        _spot: Spot,
-        _call: Option<Call>,
+        _for_proof: ForProof,
     ) -> u64
         requires own { seat.old.chain ≡ self.now.id }
         requires shape { B.shape ≡ self.now.shape }
@@ -156,7 +179,7 @@ impl Chain {
         seat: &mut ChainSeat,
         index: usize,
         bits: u64,
-        _spot: Spot,
+        _for_proof: ForProof,
     ) -> u64
         requires own { seat.old.chain ≡ self.now.id }
         requires shape { B.shape ≡ self.now.shape }
@@ -170,14 +193,13 @@ impl Chain {
             .fetch_or::<Move<B>>(&mut seat.seat, index, bits)
     }
 
-    /// One fetch-add modulo 2^64, which returns the word as it was. The proof of a caller names its
-    /// events by `_g`, its table.
+    /// One fetch-add modulo 2^64, which returns the word as it was.
     pub(crate) fn adds<B: Told>(
         &self,
         seat: &mut ChainSeat,
         index: usize,
         amount: u64,
-        _g: u32,
+        _for_proof: ForProof,
     ) -> u64
         requires own { seat.old.chain ≡ self.now.id }
         requires shape { B.shape ≡ self.now.shape }
@@ -191,14 +213,13 @@ impl Chain {
             .fetch_add::<Move<B>>(&mut seat.seat, index, amount)
     }
 
-    /// One fetch-max, which returns the word as it was. The proof of a caller names its events by
-    /// `_g`, its table.
+    /// One fetch-max, which returns the word as it was.
     pub(crate) fn raises<B: Told>(
         &self,
         seat: &mut ChainSeat,
         index: usize,
         least: u64,
-        _g: u32,
+        _for_proof: ForProof,
     ) -> u64
         requires own { seat.old.chain ≡ self.now.id }
         requires shape { B.shape ≡ self.now.shape }
@@ -213,25 +234,29 @@ impl Chain {
     }
 
     /// Each of two seats sees what the other has seen. This makes six loads of the top word, three
-    /// by each seat, of which the last counts as its step. By the others `atomic_table` passes on
-    /// what is known: what they find is ignored.
+    /// by each seat, of which the last counts as its step: what it finds the seat remembers. By the
+    /// others `atomic_table` passes on what is known: what they find is ignored.
     pub fn meet(&self, a: &mut ChainSeat, b: &mut ChainSeat)
         requires a_own { IsOwn self.now a.old }
         requires b_own { IsOwn self.now b.old }
         ensures a { Extended self.now.shape a.old a.new [] 1 × IsBeginning b.old.seen a.new.seen }
         ensures b { Extended self.now.shape b.old b.new [] 1 × IsBeginning a.old.seen b.new.seen }
+        ensures a_known { KnowsTop self.now.shape a.new }
+        ensures b_known { KnowsTop self.now.shape b.new }
     {
         let words = &self.table.shared;
         let of_a = words.split_seat::<Note>(&mut a.seat);
         let of_b = words.split_seat::<Note>(&mut b.seat);
         words.join_seat::<Learn>(&mut a.seat, of_b);
         words.join_seat::<Learn>(&mut b.seat, of_a);
-        self.hears::<Brand>(&mut a.seat);
-        self.hears::<Brand>(&mut b.seat);
+        let a_top = self.hears::<Brand>(&mut a.seat);
+        let b_top = self.hears::<Brand>(&mut b.seat);
+        a.top = a_top;
+        b.top = b_top;
     }
 
     /// One load of the top word, by a token that was told of something.
-    fn hears<B: Told>(&self, seat: &mut Seat<(), View>) -> u64
+    fn hears<B: Told>(&self, seat: &mut Seat<(), View>) -> u32
         requires own { seat.old.table_id ≡ self.now.id }
         requires shape { B.shape ≡ self.now.shape }
         requires one { seat.old.me.0.parts ≡ part_of seat.old.me.0.parts ∷ [] }
@@ -239,7 +264,7 @@ impl Chain {
         ensures own { seat.new.table_id ≡ seat.old.table_id }
         ensures heard { Moves B.shape B.events TOP_INDEX seat.old.me result seat.new.me }
     {
-        self.table.shared.load::<Move<B>>(seat, TOP_INDEX)
+        self.table.shared.load::<Move<B>>(seat, TOP_INDEX) as u32
     }
 
     /// With all seats: what is left of the chain. With another number of seats everything comes
@@ -266,19 +291,23 @@ impl Chain {
         })
     }
 
-    /// One token that knows what all these seats know.
+    /// One token that knows what all these seats know, but for the top tables that they remember.
     fn gather(&self, seats: Vec<ChainSeat>) -> Seat<(), View>
         requires own { AreOwn self.now seats.items }
         requires some { 0 < length seats.items }
         ensures own { result.table_id ≡ self.now.id }
         ensures free { result.me.1 ≡ [] }
-        ensures all { IsPermutation (map (seat_with self.now.id) result.me.0.parts) seats.items }
+        ensures all { IsPermutation (map (seat_with self.now.id 0) result.me.0.parts)
+            (map forgotten seats.items) }
     {
         let mut seats = seats;
         let last = seats.pop().unwrap();
-        let ChainSeat { mut seat } = last;
+        let ChainSeat { mut seat, top: _ } = last;
         while let Some(other) = seats.pop() {
-            let ChainSeat { seat: other } = other;
+            let ChainSeat {
+                seat: other,
+                top: _,
+            } = other;
             self.table.shared.join_seat::<Learn>(&mut seat, other);
         }
         seat

@@ -6,7 +6,7 @@ ghost use Rattle.nb_core.specs.declared.events.Event.TheVariants as event;
 ghost use Rattle.nb_core.specs.declared.states.KeyState.TheVariants as key_is;
 ghost use Rattle.nb_table.specs.Chains.{Extended, IsOwn, seen_by};
 
-use crate::chain::{Chain, ChainSeat, Spot};
+use crate::chain::{Chain, ChainSeat, ForProof, NOTHING};
 use nb_core::{DEAD_KEY, EMPTY_KEY, Key, KeyState, KeyWord};
 use std::marker::Brand;
 
@@ -26,13 +26,13 @@ impl Chain {
     {
         let index = self.shape.key_index(g, i);
         let word = KeyWord::of(KeyState::Claimed(key)).get();
-        let spot = Spot {
+        let for_proof = ForProof {
             g,
             i,
             key: Some(key),
-            number: None,
+            ..NOTHING
         };
-        let found = self.exchanges::<Brand>(seat, index, EMPTY_KEY, word, spot, None);
+        let found = self.exchanges::<Brand>(seat, index, EMPTY_KEY, word, for_proof);
         KeyWord::new(found).state()
     }
 
@@ -49,13 +49,8 @@ impl Chain {
             × ((seen_by self.now.shape seat.new).key g i ≡ result) }
     {
         let index = self.shape.key_index(g, i);
-        let spot = Spot {
-            g,
-            i,
-            key: None,
-            number: None,
-        };
-        let found = self.exchanges::<Brand>(seat, index, EMPTY_KEY, DEAD_KEY, spot, None);
+        let for_proof = ForProof { g, i, ..NOTHING };
+        let found = self.exchanges::<Brand>(seat, index, EMPTY_KEY, DEAD_KEY, for_proof);
         KeyWord::new(found).state()
     }
 }

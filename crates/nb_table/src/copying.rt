@@ -8,7 +8,7 @@ ghost use Rattle.nb_core.specs.declared.states.ValueState.TheVariants as value_i
 ghost use Rattle.nb_table.specs.Conditions.{HasSource, IsCopied};
 ghost use Rattle.nb_table.specs.Chains.{Extended, IsOwn, seen_before, seen_by};
 
-use crate::chain::{Chain, ChainSeat, Spot};
+use crate::chain::{Chain, ChainSeat, ForProof, NOTHING};
 use nb_core::{FINISHED_BIT, Key, NULL_VALUE, Num, PRIMED_BIT, ValueState, ValueWord};
 use std::marker::Brand;
 
@@ -29,18 +29,13 @@ impl Chain {
             × ((seen_by self.now.shape seat.new).value g i ≡ result) }
     {
         let index = self.shape.value_index(g, i);
-        let spot = Spot {
-            g,
-            i,
-            key: None,
-            number: None,
-        };
-        ValueWord::lawful(self.ors::<Brand>(seat, index, PRIMED_BIT, spot)).state()
+        let for_proof = ForProof { g, i, ..NOTHING };
+        ValueWord::lawful(self.ors::<Brand>(seat, index, PRIMED_BIT, for_proof)).state()
     }
 
     /// Copies the number of a key in the table below `g` to the key's slot `i` of table `g`, by one
     /// compare-exchange of null for the number on its value word, and answers what it was. A value
-    /// that is there already stays as it is.
+    /// that is there already stays as it is. `key` is for proofs alone: the step doesn't read it.
     pub fn copy_in(
         &self,
         seat: &mut ChainSeat,
@@ -62,18 +57,20 @@ impl Chain {
     {
         let index = self.shape.value_index(g, i);
         let word = ValueWord::of(ValueState::Live(number)).get();
-        let spot = Spot {
+        let for_proof = ForProof {
             g,
             i,
             key: Some(key),
             number: Some(number),
+            ..NOTHING
         };
-        let found = self.exchanges::<Brand>(seat, index, NULL_VALUE, word, spot, None);
+        let found = self.exchanges::<Brand>(seat, index, NULL_VALUE, word, for_proof);
         ValueWord::lawful(found).state()
     }
 
     /// Marks the primed number in slot `i` of table `g` as copied, by one fetch-or of 2 on its
     /// value word, and answers what the value was: that number, primed, or finished already.
+    /// `number` is for proofs alone: the step doesn't read it.
     pub fn finish_slot(&self, seat: &mut ChainSeat, g: u32, i: usize, number: Num) -> ValueState
         requires own { IsOwn self.now seat.old }
         requires slot { IsSlot self.now.shape g i }
@@ -87,12 +84,12 @@ impl Chain {
             × (result ≡ value_is.Finished number) }
     {
         let index = self.shape.value_index(g, i);
-        let spot = Spot {
+        let for_proof = ForProof {
             g,
             i,
-            key: None,
             number: Some(number),
+            ..NOTHING
         };
-        ValueWord::lawful(self.ors::<Brand>(seat, index, FINISHED_BIT, spot)).state()
+        ValueWord::lawful(self.ors::<Brand>(seat, index, FINISHED_BIT, for_proof)).state()
     }
 }

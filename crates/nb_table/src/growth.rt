@@ -4,10 +4,10 @@ ghost use Rattle.nb_core.specs.Plans.{generations_of, limit_of};
 ghost use Rattle.nb_core.specs.Tables.{AreOthers, IsInstalled, IsReady};
 ghost use Rattle.nb_core.specs.History.{counted_by, turned_by};
 ghost use Rattle.nb_core.specs.declared.events.Event.TheVariants as event;
-ghost use Rattle.nb_table.specs.Chains.{Extended, IsOwn, seen_before, seen_by};
+ghost use Rattle.nb_table.specs.Chains.{Extended, IsOwn, KnowsTop, seen_before, seen_by};
 ghost use Rattle.nb_table.specs.Conditions.{IsKnownComplete};
 
-use crate::chain::{Chain, ChainSeat, Spot};
+use crate::chain::{Chain, ChainSeat, ForProof, NOTHING};
 use nb_core::{HeaderWord, INSTALLED, Key, NOT_INSTALLED, TOP_INDEX};
 use std::marker::Brand;
 
@@ -24,7 +24,8 @@ impl Chain {
     {
         let index = self.shape.header_index(g, HeaderWord::Take);
         let chunk = self.shape.chunk_of(g) as u64;
-        self.adds::<Brand>(seat, index, chunk, g)
+        let for_proof = ForProof { g, ..NOTHING };
+        self.adds::<Brand>(seat, index, chunk, for_proof)
     }
 
     /// Counts finished slots of table `g` that the seat's own steps turned, by one fetch-add on its
@@ -40,11 +41,13 @@ impl Chain {
         ensures found { (seen_by self.now.shape seat.new).counted g ≡ result + slots }
     {
         let index = self.shape.header_index(g, HeaderWord::Done);
-        self.adds::<Brand>(seat, index, slots, g)
+        let for_proof = ForProof { g, ..NOTHING };
+        self.adds::<Brand>(seat, index, slots, for_proof)
     }
 
     /// Raises the top word past table `g`, by one fetch-max, and answers what it was. The seat has
-    /// seen that the table is complete, be it by its slots or by its count.
+    /// seen that the table is complete, be it by its slots or by its count. The seat remembers what
+    /// the top word is then.
     pub fn promote(&self, seat: &mut ChainSeat, g: u32) -> u32
         requires own { IsOwn self.now seat.old }
         requires table { g < generations_of self.now.shape }
@@ -55,12 +58,18 @@ impl Chain {
             × ((seen_by self.now.shape seat.new).top ≡ suc g) }
         ensures was_higher { g < result → Extended self.now.shape seat.old seat.new [] 1
             × ((seen_by self.now.shape seat.new).top ≡ result) }
+        ensures known { KnowsTop self.now.shape seat.new }
     {
-        self.raises::<Brand>(seat, TOP_INDEX, u64::from(g) + 1, g) as u32
+        let for_proof = ForProof { g, ..NOTHING };
+        let found = self.raises::<Brand>(seat, TOP_INDEX, u64::from(g) + 1, for_proof) as u32;
+        let top = found.max(g + 1);
+        seat.top = top;
+        found
     }
 
     /// Installs the table above `g`, for a key whose path in `g` is crowded, by one
-    /// compare-exchange on its next word. Answers whether this step did it.
+    /// compare-exchange on its next word. Answers whether this step did it. `key` is for proofs
+    /// alone: the step doesn't read it.
     pub fn install(&self, seat: &mut ChainSeat, g: u32, key: Key) -> bool
         requires own { IsOwn self.now seat.old }
         requires room { suc g < generations_of self.now.shape }
@@ -74,13 +83,12 @@ impl Chain {
     {
         key.known();
         let index = self.shape.header_index(g, HeaderWord::Next);
-        let spot = Spot {
+        let for_proof = ForProof {
             g,
-            i: 0,
             key: Some(key),
-            number: None,
+            ..NOTHING
         };
-        let found = self.exchanges::<Brand>(seat, index, NOT_INSTALLED, INSTALLED, spot, None);
+        let found = self.exchanges::<Brand>(seat, index, NOT_INSTALLED, INSTALLED, for_proof);
         found == NOT_INSTALLED
     }
 }

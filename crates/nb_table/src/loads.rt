@@ -5,12 +5,12 @@ ghost use Rattle.nb_core.specs.Plans.{generations_of, size_of};
 ghost use Rattle.nb_core.specs.Tables.{AreOthers, IsInstalled, IsOnPath, IsSlot};
 ghost use Rattle.nb_core.specs.States.{shown_by_value};
 ghost use Rattle.nb_core.specs.declared.states.KeyState.TheVariants as key_is;
-ghost use Rattle.nb_table.specs.Chains.{Extended, IsOwn, seen_by};
+ghost use Rattle.nb_table.specs.Chains.{Extended, IsOwn, KnowsTop, seen_by};
 ghost use Rattle.nb_table.specs.Conditions.{IsReached};
 ghost use Rattle.nb_table.specs.Events.{reads, shown_by_key, shown_by_next};
 
 use crate::calls::known;
-use crate::chain::{Chain, ChainSeat, Spot};
+use crate::chain::{Chain, ChainSeat, ForProof, NOTHING};
 use nb_core::{Call, HeaderWord, INSTALLED, KeyState, KeyWord, TOP_INDEX, ValueState, ValueWord};
 use std::marker::Brand;
 
@@ -27,7 +27,7 @@ impl Chain {
     /// The key word of slot `i` of table `g`, by one load. With a call whose key's path leads to
     /// the slot, an empty slot shows that the map doesn't have the key, and so does another key in
     /// the path's last slot in the last table: where the call leaves that as it is, the load is its
-    /// read.
+    /// read. `call` is for proofs alone, here and in the other loads: no load reads it.
     #[inline]
     pub fn load_key_word(
         &self,
@@ -48,16 +48,17 @@ impl Chain {
     {
         known_if_some(&call);
         let index = self.shape.key_index(g, i);
-        let spot = Spot {
+        let for_proof = ForProof {
             g,
             i,
-            key: None,
-            number: None,
+            call,
+            ..NOTHING
         };
-        KeyWord::new(self.loads::<Brand>(seat, index, spot, call))
+        KeyWord::new(self.loads::<Brand>(seat, index, for_proof))
     }
 
-    /// What the key word of slot `i` of table `g` holds, by the same load.
+    /// What the key word of slot `i` of table `g` holds, by the same load. `call` is for proofs
+    /// alone.
     #[inline]
     pub fn load_key(&self, seat: &mut ChainSeat, g: u32, i: usize, call: Option<Call>) -> KeyState
         requires own { IsOwn self.now seat.old }
@@ -75,7 +76,7 @@ impl Chain {
 
     /// The value word of slot `i` of table `g`, by one load. With a call whose key has the slot, a
     /// value that isn't primed is what the map has at the key: where the call leaves that as it is,
-    /// the load is its read.
+    /// the load is its read. `call` is for proofs alone.
     #[inline]
     pub fn load_value_word(
         &self,
@@ -96,16 +97,17 @@ impl Chain {
     {
         known_if_some(&call);
         let index = self.shape.value_index(g, i);
-        let spot = Spot {
+        let for_proof = ForProof {
             g,
             i,
-            key: None,
-            number: None,
+            call,
+            ..NOTHING
         };
-        ValueWord::lawful(self.loads::<Brand>(seat, index, spot, call))
+        ValueWord::lawful(self.loads::<Brand>(seat, index, for_proof))
     }
 
-    /// What the value word of slot `i` of table `g` holds, by the same load.
+    /// What the value word of slot `i` of table `g` holds, by the same load. `call` is for proofs
+    /// alone.
     #[inline]
     pub fn load_value(
         &self,
@@ -129,7 +131,7 @@ impl Chain {
 
     /// Whether table `g` has a next one, by one load of its next word. With a call whose key's
     /// whole path is other keys', a missing next table shows that the map doesn't have the key:
-    /// where the call leaves that as it is, the load is its read.
+    /// where the call leaves that as it is, the load is its read. `call` is for proofs alone.
     pub fn load_next(&self, seat: &mut ChainSeat, g: u32, call: Option<Call>) -> bool
         requires own { IsOwn self.now seat.old }
         requires table { g < generations_of self.now.shape }
@@ -144,28 +146,20 @@ impl Chain {
     {
         known_if_some(&call);
         let index = self.shape.header_index(g, HeaderWord::Next);
-        let spot = Spot {
-            g,
-            i: 0,
-            key: None,
-            number: None,
-        };
-        self.loads::<Brand>(seat, index, spot, call) == INSTALLED
+        let for_proof = ForProof { g, call, ..NOTHING };
+        self.loads::<Brand>(seat, index, for_proof) == INSTALLED
     }
 
     /// The number of tables, from the first on, that are known to be complete, by one load of the
-    /// top word.
+    /// top word. The seat remembers it.
     pub fn load_top(&self, seat: &mut ChainSeat) -> u32
         requires own { IsOwn self.now seat.old }
         ensures grows { Extended self.now.shape seat.old seat.new [] 1 }
         ensures found { (seen_by self.now.shape seat.new).top ≡ result }
+        ensures known { KnowsTop self.now.shape seat.new }
     {
-        let spot = Spot {
-            g: 0,
-            i: 0,
-            key: None,
-            number: None,
-        };
-        self.loads::<Brand>(seat, TOP_INDEX, spot, None) as u32
+        let top = self.loads::<Brand>(seat, TOP_INDEX, NOTHING) as u32;
+        seat.top = top;
+        top
     }
 }

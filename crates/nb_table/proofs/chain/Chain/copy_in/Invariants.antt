@@ -5,6 +5,6 @@ use Rattle.nb_table.proofs.chain.Chain.copy_in.Given as goal
 abbrev pub ghosts-exchanges : goal.ghosts-exchanges
 ghosts-exchanges a = record {
   shape = a.self.now.shape;
-  events = copy_events a.seat.now.number a._spot.g a._spot.i (unwrap_or a._spot.key 0)
-      (unwrap_or a._spot.number 0);
+  events = copy_events a.seat.now.number a._for_proof.g a._for_proof.i (unwrap_or a._for_proof.key 0)
+      (unwrap_or a._for_proof.number 0);
 }

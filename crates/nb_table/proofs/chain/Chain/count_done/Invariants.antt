@@ -5,5 +5,5 @@ abbrev pub ghosts-adds : goal.ghosts-adds
 ghosts-adds a = record {
   shape = a.self.now.shape;
   events =
-      count_events a.seat.now.number a._g a.amount;
+      count_events a.seat.now.number a._for_proof.g a.amount;
 }

@@ -5,5 +5,5 @@ use Rattle.nb_table.proofs.chain.Chain.finish_slot.Given as goal
 abbrev pub ghosts-ors : goal.ghosts-ors
 ghosts-ors a = record {
   shape = a.self.now.shape;
-  events = finish_events a.seat.now.number a._spot.g a._spot.i (unwrap_or a._spot.number 0);
+  events = finish_events a.seat.now.number a._for_proof.g a._for_proof.i (unwrap_or a._for_proof.number 0);
 }

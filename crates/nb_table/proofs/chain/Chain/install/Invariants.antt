@@ -5,5 +5,5 @@ use Rattle.nb_table.proofs.chain.Chain.install.Given as goal
 abbrev pub ghosts-exchanges : goal.ghosts-exchanges
 ghosts-exchanges a = record {
   shape = a.self.now.shape;
-  events = install_events a.seat.now.number a._spot.g (unwrap_or a._spot.key 0);
+  events = install_events a.seat.now.number a._for_proof.g (unwrap_or a._for_proof.key 0);
 }

@@ -5,5 +5,5 @@ abbrev pub ghosts-exchanges : goal.ghosts-exchanges
 ghosts-exchanges a = record {
   shape = a.self.now.shape;
   events =
-      kill_events a.seat.now.number a._spot.g a._spot.i;
+      kill_events a.seat.now.number a._for_proof.g a._for_proof.i;
 }

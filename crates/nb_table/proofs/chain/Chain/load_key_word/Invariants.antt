@@ -5,6 +5,6 @@ use Rattle.nb_table.proofs.chain.Chain.load_key_word.Given as goal
 abbrev pub ghosts-loads : goal.ghosts-loads
 ghosts-loads a = record {
   shape = a.self.now.shape;
-  events = λ found. reads a.seat.now.number a._call
-      (shown_by_key a.self.now.shape a._spot.g a._spot.i (key_state found));
+  events = λ found. reads a.seat.now.number a._for_proof.call
+      (shown_by_key a.self.now.shape a._for_proof.g a._for_proof.i (key_state found));
 }

@@ -5,5 +5,5 @@ use Rattle.nb_table.proofs.chain.Chain.load_value_word.Given as goal
 abbrev pub ghosts-loads : goal.ghosts-loads
 ghosts-loads a = record {
   shape = a.self.now.shape;
-  events = λ found. reads a.seat.now.number a._call (λ k. shown_by_value (value_in_word found));
+  events = λ found. reads a.seat.now.number a._for_proof.call (λ k. shown_by_value (value_in_word found));
 }

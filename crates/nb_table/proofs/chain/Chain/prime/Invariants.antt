@@ -5,5 +5,5 @@ abbrev pub ghosts-ors : goal.ghosts-ors
 ghosts-ors a = record {
   shape = a.self.now.shape;
   events =
-      prime_events a.seat.now.number a._spot.g a._spot.i;
+      prime_events a.seat.now.number a._for_proof.g a._for_proof.i;
 }

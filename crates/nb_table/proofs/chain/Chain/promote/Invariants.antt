@@ -5,5 +5,5 @@ abbrev pub ghosts-raises : goal.ghosts-raises
 ghosts-raises a = record {
   shape = a.self.now.shape;
   events =
-      promote_events a.seat.now.number a._g;
+      promote_events a.seat.now.number a._for_proof.g;
 }

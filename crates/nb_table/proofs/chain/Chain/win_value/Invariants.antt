@@ -7,6 +7,6 @@ use Rattle.nb_table.proofs.chain.Chain.win_value.Given as goal
 abbrev pub ghosts-exchanges : goal.ghosts-exchanges
 ghosts-exchanges a = record {
   shape = a.self.now.shape;
-  events = win_events a.seat.now.number a._spot.g a._spot.i (value_in_word a.old)
-      (value_in_word a.new) (unwrap_or a._call (Get 0));
+  events = win_events a.seat.now.number a._for_proof.g a._for_proof.i (value_in_word a.old)
+      (value_in_word a.new) (unwrap_or a._for_proof.call (Get 0));
 }
