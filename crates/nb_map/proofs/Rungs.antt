@@ -14,7 +14,7 @@ use Rattle.nb_map.specs.declared.steps.rung.Below.{Below}
 use Rattle.nb_map.specs.declared.steps.rung.Below.TheVariants.{Complete, HasKey, Passed}
 use Rattle.nb_map.specs.declared.steps.rung.Rung.{Rung}
 use Rattle.nb_map.specs.declared.steps.rung.Slot.{Slot}
-use Rattle.nb_map.specs.inside.Climbing.{GoesOn, HasBelow, IsAt, IsAtSlot, IsSlotOf}
+use Rattle.nb_map.specs.inside.Climbing.{GoesOn, HasBelow, IsAbove, IsAt, IsAtSlot, IsSlotOf}
 use Rattle.nb_map.proofs.Made.{made-own, made-stays, slot-below-lasts}
 use Rattle.nb_map.proofs.Searched.{others-none, reached-above, reached-lasts, table-within}
 
@@ -109,10 +109,10 @@ module _ (chain : ChainOf) where
     known = tt;
   }
 
-  -- from its key's slot to the next table
+  -- from its key's slot to the next table, if it may go on there
   pub slot-above :
-      {call : Call} {slot : Slot} {seat : SeenBy} (below : Below) → IsAtSlot chain call seat slot
-      → GoesOn p call seat slot.g below
-      → IsAt chain call seat (record { g = slot.g + 1; from = 0; below = below })
-  slot-above {call} {slot} {seat} below at on =
-      at-above below (at-path call seat slot.g at.own at.reached) on
+      {call : Call} {slot : Slot} {seat : SeenBy} → IsAtSlot chain call seat slot
+      → IsAbove p (seen_by p seat) slot.g (key_of_call call)
+      → IsAt chain call seat (record { g = slot.g + 1; from = 0; below = Passed })
+  slot-above {call} {slot} {seat} at above =
+      at-above Passed (at-path call seat slot.g at.own at.reached) (above, tt)

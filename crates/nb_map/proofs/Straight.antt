@@ -1,5 +1,5 @@
 -- A write that looks at its key's home slot in the top table first.
-use Rattle.std.proofs.Common.{◌≡◌, ◌∙◌, ◌⊎◌, ℕ, ◌+◌, ◌-◌, ◌<◌, ◌≤◌, min, List, [], Option, Result, inl, inr, subst, sym, arith}
+use Rattle.std.proofs.Common.{◌≡◌, ◌∙◌, ◌⊎◌, ℕ, ◌+◌, ◌-◌, ◌<◌, ◌≤◌, min, List, [], Option, Result, inl, inr, subst, arith}
 use Rattle.std.proofs.lemmas.Nat.{pow_pos}
 use Rattle.nb_core.specs.History.{key_of_call}
 use Rattle.nb_core.specs.Plans.{generations_of}
@@ -19,7 +19,6 @@ use Rattle.nb_map.specs.Calling.{HasMade}
 use Rattle.nb_map.specs.Progress.{IsAloneAtHome, IsKnownHome, IsLastSeen, IsSeenAlone, IsShortAtHome, passed_since}
 use Rattle.nb_map.specs.Steps.{climb_steps, home_steps, put_steps}
 use Rattle.nb_map.specs.declared.faults.PutFault.{PutFault}
-use Rattle.nb_map.specs.declared.steps.rung.Rung.{Rung}
 use Rattle.nb_map.specs.inside.Climbing.{IsAt, IsSpent, rung_at}
 use Rattle.nb_map.specs.inside.Writing.{IsShortThere}
 
@@ -41,8 +40,8 @@ module _ (chain : ChainOf) {start first : SeenBy} (top : ℕ) (own : IsOwn chain
   ready-there = ready-top chain first mine top is
 
   -- so any call may begin there
-  at-top : (call : Call) → IsAt chain call first (rung_at top)
-  at-top call = record {
+  pub at-there : (call : Call) → IsAt chain call first (rung_at top)
+  at-there call = record {
     own = mine;
     table = table-there;
     reached = reached-there (key_of_call call);
@@ -51,9 +50,6 @@ module _ (chain : ChainOf) {start first : SeenBy} (top : ℕ) (own : IsOwn chain
     others = others-none chain.shape (seen_by chain.shape first) top (key_of_call call);
     known = ready-there;
   }
-
-  pub at-there : (call : Call) (rung : Rung) → rung ≡ rung_at top → IsAt chain call first rung
-  at-there call rung begins = subst (IsAt chain call first) (sym begins) (at-top call)
 
   module _ {call : Call} {after : SeenBy} {own' : List Event} {count : ℕ}
       (grown : Grown chain.shape first after own' count)

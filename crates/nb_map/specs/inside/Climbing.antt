@@ -45,9 +45,13 @@ pub record IsAt (chain : ChainOf) (call : Call) (seat : SeenBy) (rung : Rung) : 
   pub others : AreOthers chain.shape (seen_by chain.shape seat) rung.g (key_of_call call) rung.from
   pub known : HasBelow chain.shape (seen_by chain.shape seat) rung.g (key_of_call call) rung.below
 
--- where a call begins in a table
+-- where a call begins in a table, if the table below it is complete
 abbrev pub rung_at : ℕ → Rung
 rung_at g = record { g = g; from = 0; below = below.Complete }
+
+-- where a read goes on in a table
+abbrev pub rung_for_read : (g from : ℕ) → Rung
+rung_for_read g from = record { g = g; from = from; below = below.Passed }
 
 -- The call has come to this slot, which is its key's.
 pub record IsAtSlot (chain : ChainOf) (call : Call) (seat : SeenBy) (at : Slot) : Type 0 where

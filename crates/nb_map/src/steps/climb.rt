@@ -1,10 +1,9 @@
 //! A call on its way up the tables, from the one in which it begins.
-ghost use Rattle.std.specs.Prelude.{IfErr, IfOk, [], ◌+◌, ◌-◌, ◌≡◌, ◌≤◌};
-ghost use Rattle.nb_table.specs.Chains.{Extended, IsOwn, seen_by};
+ghost use Rattle.std.specs.Prelude.{IfErr, IfOk, ◌+◌, ◌-◌, ◌≤◌};
 ghost use Rattle.nb_map.specs.Calling.{HasMade};
 ghost use Rattle.nb_map.specs.Logs.{made_in};
 ghost use Rattle.nb_map.specs.Steps.{climb_steps, rung_steps, search_steps};
-ghost use Rattle.nb_map.specs.inside.Climbing.{IsAt, IsFound, IsRefused, IsReplied, IsSpent, IsVisit, made_by, made_if_not_found, rung_at};
+ghost use Rattle.nb_map.specs.inside.Climbing.{IsAt, IsFound, IsRefused, IsReplied, IsSpent, IsVisit, made_by, made_if_not_found};
 ghost use Rattle.nb_map.specs.inside.Reading.{IsForAbsent};
 
 use crate::faults::PutFault;
@@ -16,21 +15,6 @@ use crate::steps::search::{PathEnd, probe};
 use crate::steps::slot::call_at;
 use nb_core::{Call, Reply};
 use nb_table::{Chain, ChainSeat};
-
-/// Where a call begins: in the top table, by one load of the top word.
-#[inline(always)]
-pub(crate) fn top_rung(chain: &Chain, seat: &mut ChainSeat) -> Rung
-    requires own { IsOwn chain.now seat.old }
-    ensures grows { Extended chain.now.shape seat.old seat.new [] 1 }
-    ensures found { (seen_by chain.now.shape seat.new).top ≡ result.g }
-    ensures rung { result ≡ rung_at result.g }
-{
-    Rung {
-        g: chain.load_top(seat),
-        from: 0,
-        below: Below::Complete,
-    }
-}
 
 /// Makes a call, from a rung on: in the table that it has come to, or else in the next one, and so
 /// on. This is the general way of reads and writes alike. It takes from the tries that are left

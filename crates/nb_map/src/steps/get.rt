@@ -10,12 +10,12 @@ ghost use Rattle.nb_map.specs.Calling.{HasMade};
 ghost use Rattle.nb_map.specs.Progress.{IsSeenAtHome};
 ghost use Rattle.nb_map.specs.Steps.{climb_steps, get_steps};
 ghost use Rattle.nb_map.specs.declared.steps.get.Glance.TheVariants as glance_is;
-ghost use Rattle.nb_map.specs.inside.Climbing.{IsAt, IsAtSlot};
+ghost use Rattle.nb_map.specs.inside.Climbing.{IsAt, IsAtSlot, rung_for_read};
 ghost use Rattle.nb_map.specs.inside.Reading.{IsGlance, glanced_by};
 
-use crate::steps::climb::{climb, top_rung};
+use crate::steps::climb::climb;
 use crate::steps::pause::NoPause;
-use crate::steps::rung::{Rung, Slot, Visit};
+use crate::steps::rung::{Below, Rung, Slot, Visit};
 use crate::steps::slot::call_at;
 use nb_core::{Call, Key, KeyState, KeyWord, Num};
 use nb_table::{Chain, ChainSeat};
@@ -41,10 +41,10 @@ pub fn get_in(chain: &Chain, seat: &mut ChainSeat, key: Key) -> Option<Num>
     ensures three_steps { IsSeenAtHome chain.now.shape seat.old seat.new key
         → seat.new.steps ≤ seat.old.steps + 3 }
 {
-    let first = top_rung(chain, seat);
-    match glance_in(chain, seat, first.g, key) {
+    let top = chain.load_top(seat);
+    match glance_in(chain, seat, top, key) {
         Glance::Shows(number) => number,
-        Glance::From(from) => get_from(chain, seat, key, Rung { from, ..first }),
+        Glance::From(from) => get_from(chain, seat, key, top, from),
     }
 }
 
@@ -129,22 +129,22 @@ fn shown_if(is_own: bool, number: Option<Num>) -> Option<Num>
     if is_own { number } else { None }
 }
 
-/// What the map has at a key, from a rung on: the general way of a read.
+/// What the map has at a key, from a distance of its path in table `g` on: the general way of a
+/// read. It need know nothing of the table below.
 #[inline(never)]
-fn get_from(chain: &Chain, seat: &mut ChainSeat, key: Key, rung: Rung) -> Option<Num>
-    requires at { IsAt chain.now (call.Get key) seat.old rung }
+fn get_from(chain: &Chain, seat: &mut ChainSeat, key: Key, g: u32, from: usize) -> Option<Num>
+    requires at { IsAt chain.now (call.Get key) seat.old (rung_for_read g from) }
     ensures made { HasMade chain.now.shape (call.Get key) seat.old seat.new
         (as_replied (call.Get key) result) (climb_steps chain.now.shape) }
 {
+    let call = Call::Get { key };
+    let rung = Rung {
+        g,
+        from,
+        below: Below::Passed,
+    };
     let mut tries = 1;
-    match climb(
-        chain,
-        seat,
-        &Call::Get { key },
-        rung,
-        &mut tries,
-        &mut NoPause,
-    ) {
+    match climb(chain, seat, &call, rung, &mut tries, &mut NoPause) {
         Ok(reply) => reply.before,
         Err(_) => unreachable!(),
     }
@@ -157,24 +157,11 @@ pub(crate) fn get_at(chain: &Chain, seat: &mut ChainSeat, key: Key, slot: Slot) 
     ensures made { HasMade chain.now.shape (call.Get key) seat.old seat.new
         (as_replied (call.Get key) result) (get_steps chain.now.shape) }
 {
+    let call = Call::Get { key };
     let mut tries = 1;
-    match call_at(
-        chain,
-        seat,
-        &Call::Get { key },
-        slot,
-        &mut tries,
-        &mut NoPause,
-    ) {
+    match call_at(chain, seat, &call, slot, &mut tries, &mut NoPause) {
         Visit::Told(reply) => reply.before,
         Visit::Refused(_) => unreachable!(),
-        Visit::Above(below) => {
-            let rung = Rung {
-                g: slot.g + 1,
-                from: 0,
-                below,
-            };
-            get_from(chain, seat, key, rung)
-        }
+        Visit::Above(_) => get_from(chain, seat, key, slot.g + 1, 0),
     }
 }

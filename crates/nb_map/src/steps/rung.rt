@@ -1,4 +1,6 @@
 //! Where a call has come to on its way up the tables, and what it comes to there.
+ghost use Rattle.std.specs.Prelude.{◌≡◌};
+ghost use Rattle.nb_map.specs.inside.Climbing.{rung_at};
 
 use crate::faults::PutFault;
 use nb_core::Reply;
@@ -21,6 +23,20 @@ pub(crate) struct Rung {
     pub(crate) g: u32,
     pub(crate) from: usize,
     pub(crate) below: Below,
+}
+
+impl Rung {
+    /// Where a call begins in table `g`, if the table below it is complete.
+    #[inline(always)]
+    pub(crate) fn at(g: u32) -> Rung
+        ensures { result ≡ rung_at g }
+    {
+        Rung {
+            g,
+            from: 0,
+            below: Below::Complete,
+        }
+    }
 }
 
 /// A slot of a table.

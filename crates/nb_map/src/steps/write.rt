@@ -2,7 +2,6 @@
 ghost use Rattle.std.specs.Prelude.{IfErr, IsTrue, [], false, min, ◌+◌, ◌-◌, ◌<◌, ◌≡◌, ◌≤◌};
 ghost use Rattle.nb_core.specs.Calls.{Fills};
 ghost use Rattle.nb_core.specs.History.{key_of_call};
-ghost use Rattle.nb_core.specs.Tables.{IsReady};
 ghost use Rattle.nb_core.specs.declared.calls.Call.TheVariants as call;
 ghost use Rattle.nb_core.specs.declared.states.KeyState.TheVariants as key_is;
 ghost use Rattle.nb_table.specs.Chains.{IsOwn, seen_by};
@@ -11,12 +10,12 @@ ghost use Rattle.nb_map.specs.Logs.{made_in};
 ghost use Rattle.nb_map.specs.Progress.{IsAtHome, IsHomeSlot, IsLastSeen, IsShortAtHome, passed_since};
 ghost use Rattle.nb_map.specs.Refusals.{IsJust, IsJustAdd};
 ghost use Rattle.nb_map.specs.Steps.{home_steps, put_steps};
-ghost use Rattle.nb_map.specs.inside.Climbing.{IsAt, IsSpent};
+ghost use Rattle.nb_map.specs.inside.Climbing.{IsAt, IsSpent, rung_at};
 ghost use Rattle.nb_map.specs.inside.Writing.{IsHomeOf, IsShortThere, IsToldAtHome, made_at_home};
 
 use crate::faults::{AddFault, PutFault};
 use crate::steps::claim::has_next;
-use crate::steps::climb::{climb, top_rung};
+use crate::steps::climb::climb;
 use crate::steps::decide::{Decision, decide};
 use crate::steps::pause::{NoPause, Pause};
 use crate::steps::rung::{Rung, Slot, Visit};
@@ -52,11 +51,11 @@ pub fn put_if_match_in<P: Pause>(
     ensures serves { P.serves pause.new chain.now }
 {
     let call = Call::Write { key, want, change };
-    let first = top_rung(chain, seat);
+    let top = chain.load_top(seat);
     let mut left = tries;
-    match write_home(chain, seat, &call, first, &mut left, pause) {
+    match write_home(chain, seat, &call, top, &mut left, pause) {
         Some(told) => told,
-        None => climb(chain, seat, &call, first, &mut left, pause),
+        None => climb(chain, seat, &call, Rung::at(top), &mut left, pause),
     }
 }
 
@@ -81,35 +80,35 @@ pub(crate) fn write_through<R: Wait>(
     ensures short { IsShortAtHome chain.now.shape (call.Write key want change) seat.old seat.new }
 {
     let call = Call::Write { key, want, change };
-    let first = top_rung(chain, seat);
+    let top = chain.load_top(seat);
     let mut left = u32::MAX;
-    match write_home(chain, seat, &call, first, &mut left, &mut NoPause) {
+    match write_home(chain, seat, &call, top, &mut left, &mut NoPause) {
         Some(Ok(reply)) => return Ok(reply),
         Some(Err(PutFault::Full)) => return Err(AddFault::Full),
         Some(Err(PutFault::ValueRange)) => return Err(AddFault::ValueRange),
         Some(Err(PutFault::Contended)) => {}
         None => {}
     }
-    write_rounds(rt, chain, seat, call, first)
+    write_rounds(rt, chain, seat, call, top)
 }
 
-/// Makes a write from a rung on, in rounds of as many tries as there can be.
+/// Makes a write in the top table or above it, in rounds of as many tries as there can be.
 #[inline(never)]
 fn write_rounds<R: Wait>(
     rt: &R,
     chain: &Chain,
     seat: &mut ChainSeat,
     call: Call,
-    first: Rung,
+    top: u32,
 ) -> Result<Reply, AddFault>
-    requires at { IsAt chain.now call seat.old first }
+    requires at { IsAt chain.now call seat.old (rung_at top) }
     ensures made { HasMade chain.now.shape call seat.old seat.new (made_in call result)
         (put_steps chain.now.shape (passed_since call seat.old seat.new)) }
     ensures refused { IfErr result (IsJustAdd chain.now.shape call seat.new) }
 {
     for _ in rt.forever() {
         let mut left = u32::MAX;
-        match climb(chain, seat, &call, first, &mut left, &mut NoPause) {
+        match climb(chain, seat, &call, Rung::at(top), &mut left, &mut NoPause) {
             Ok(reply) => return Ok(reply),
             Err(PutFault::Contended) => {}
             Err(PutFault::Full) => return Err(AddFault::Full),
@@ -119,8 +118,7 @@ fn write_rounds<R: Wait>(
     unreachable!()
 }
 
-/// The straight way of a write, at its key's home slot in the table that it begins in: where that
-/// is its own; where it is empty and the write leaves an absent key at that; or where it is empty
+/// The straight way of a write, at its key's home slot in the top table: where that is its own; where it is empty and the write leaves an absent key at that; or where it is empty
 /// and is claimed for the key. `None` says that the write has to look further. No loop over slots
 /// or tables is on this way, so that it can stand in the code of the call.
 #[inline(always)]
@@ -129,31 +127,30 @@ fn write_home<P: Pause>(
     chain: &Chain,
     seat: &mut ChainSeat,
     call: &Call,
-    first: Rung,
+    top: u32,
     tries: &mut u32,
     pause: &mut P,
 ) -> Option<Result<Reply, PutFault>>
-    requires at { IsAt chain.now call.now seat.old first }
-    requires ready { IsReady chain.now.shape (seen_by chain.now.shape seat.old) first.g }
+    requires at { IsAt chain.now call.now seat.old (rung_at top) }
     requires some { 1 ≤ tries.old }
     requires serves { P.serves pause.old chain.now }
     ensures made { HasMade chain.now.shape call.now seat.old seat.new
         (made_at_home call.now result)
-        (home_steps chain.now.shape first.g + (tries.old - tries.new)) }
+        (home_steps chain.now.shape top + (tries.old - tries.new)) }
     ensures told { IsToldAtHome chain.now.shape call.now seat.old seat.new tries.old tries.new
         result }
     ensures spent { IsSpent call.now seat.old seat.new tries.old tries.new }
-    ensures short { IsShortThere chain.now.shape first.g call.now seat.old seat.new result }
+    ensures short { IsShortThere chain.now.shape top call.now seat.old seat.new result }
     ensures serves { P.serves pause.new chain.now }
 {
-    let i = chain.shape().path_slot(first.g, call.key(), 0);
-    let word = chain.load_key_word(seat, first.g, i, Some(*call));
+    let i = chain.shape().path_slot(top, call.key(), 0);
+    let word = chain.load_key_word(seat, top, i, Some(*call));
     if word.is_empty() {
         if let Decision::Leave(reply) = decide(call, &None) {
             return Some(Ok(reply));
         }
     }
-    let home = Slot { g: first.g, i };
+    let home = Slot { g: top, i };
     if !has_home(chain, seat, call, home, word) {
         return None;
     }

@@ -28,10 +28,7 @@ pub get_from-requires : goal.get_from-requires
 get_from-requires c =
     let chain = c.args.chain.now in
     let visit = c.in-Above.ensures in
-    record {
-      at = slot-above chain c.in-Above.below (slot-stays chain c.requires.at visit.made)
-          visit.visit.0;
-    }
+    record { at = slot-above chain (slot-stays chain c.requires.at visit.made) visit.visit.0.0 }
 
 pub returns-in-Above : goal.returns-in-Above
 returns-in-Above c =

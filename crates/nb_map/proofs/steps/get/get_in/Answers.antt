@@ -13,21 +13,19 @@ use Rattle.nb_table.proofs.Theorems.{steps_add_up}
 
 pub glance_in-requires : goal.glance_in-requires
 glance_in-requires c =
-    let at = at-there c.args.chain.now c.top_rung-first.result.g c.requires.own
-    c.top_rung-first.ensures.grows c.top_rung-first.ensures.found (call.Get c.args.key) c.top_rung-first.result
-    c.top_rung-first.ensures.rung in
+    let at = at-there c.args.chain.now c.load_top-top.result c.requires.own
+    c.load_top-top.ensures.grows c.load_top-top.ensures.found (call.Get c.args.key) in
     record { own = at.own; reached = at.reached }
 
 pub returns-in-Shows : goal.returns-in-Shows
 returns-in-Shows c =
     let chain = c.args.chain.now in
     let p = chain.shape in
-    let at = at-there chain c.top_rung-first.result.g c.requires.own c.top_rung-first.ensures.grows
-    c.top_rung-first.ensures.found (call.Get c.args.key) c.top_rung-first.result
-    c.top_rung-first.ensures.rung in
-    let bound = climb-bound p c.requires.own.plan c.top_rung-first.result.g at.table in
+    let at = at-there chain c.load_top-top.result c.requires.own c.load_top-top.ensures.grows
+    c.load_top-top.ensures.found (call.Get c.args.key) in
+    let bound = climb-bound p c.requires.own.plan c.load_top-top.result at.table in
     let glanced = made-more chain c.requires.own
-    (made-quiet p (call.Get c.args.key) c.top_rung-first.ensures.grows)
+    (made-quiet p (call.Get c.args.key) c.load_top-top.ensures.grows)
     c.in-Shows.ensures.made in
     record {
       made = made-within 3 (get_steps p) (omega (arith, bound)) glanced;
@@ -39,9 +37,8 @@ get_from-requires c =
     let chain = c.args.chain.now in
     let glance = c.in-From.ensures in
     let here = at-stays chain
-    (at-there chain c.top_rung-first.result.g c.requires.own c.top_rung-first.ensures.grows
-    c.top_rung-first.ensures.found (call.Get c.args.key) c.top_rung-first.result
-    c.top_rung-first.ensures.rung) glance.made in
+    (at-there chain c.load_top-top.result c.requires.own c.load_top-top.ensures.grows
+    c.load_top-top.ensures.found (call.Get c.args.key)) glance.made in
     record {
       at = record {
         own = here.own;
@@ -50,7 +47,7 @@ get_from-requires c =
         within = omega (arith, glance.glance.0);
         start = inl glance.glance.0;
         others = glance.glance.1;
-        known = here.known;
+        known = tt;
       };
     }
 
@@ -59,13 +56,13 @@ returns-in-From c =
     let chain = c.args.chain.now in
     let p = chain.shape in
     let get = call.Get c.args.key in
-    let top = c.top_rung-first.result.g in
-    let at = at-there chain top c.requires.own c.top_rung-first.ensures.grows
-    c.top_rung-first.ensures.found get c.top_rung-first.result c.top_rung-first.ensures.rung in
+    let top = c.load_top-top.result in
+    let at = at-there chain top c.requires.own c.load_top-top.ensures.grows
+    c.load_top-top.ensures.found get in
     let bound = climb-bound p c.requires.own.plan top at.table in
-    let glanced = made-more chain c.requires.own (made-quiet p get c.top_rung-first.ensures.grows)
+    let glanced = made-more chain c.requires.own (made-quiet p get c.load_top-top.ensures.grows)
     c.in-From.ensures.made in
-    let first = steps_add_up.stays c.requires.own (steps_add_up.one c.top_rung-first.ensures.grows) in
+    let first = steps_add_up.stays c.requires.own (steps_add_up.one c.load_top-top.ensures.grows) in
     let second = made-stays chain at.own c.in-From.ensures.made in
     let third = made-stays chain (made-own chain at.own c.in-From.ensures.made)
     c.get_from.ensures.made in
@@ -74,7 +71,7 @@ returns-in-From c =
           (made-more chain c.requires.own glanced c.get_from.ensures.made);
       three_steps = λ home.
           let same : (seen_by p c.get_from.new.seat).top ≡ top =
-          omega (arith, home.0, first.top, second.top, third.top, c.top_rung-first.ensures.found) in
+          omega (arith, home.0, first.top, second.top, third.top, c.load_top-top.ensures.found) in
           absurd
           (c.in-From.ensures.glance.2 (home-before p _ _ third top c.args.key at.table
           (subst (λ g. IsAtHome p (seen_by p c.get_from.new.seat) g c.args.key) same home.1)));

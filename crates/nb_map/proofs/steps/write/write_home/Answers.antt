@@ -11,6 +11,7 @@ use Rattle.nb_map.specs.Logs.{as_replied}
 use Rattle.nb_map.specs.Calling.{HasMade}
 use Rattle.nb_map.specs.Progress.{IsAloneAtHome, IsKnownHome}
 use Rattle.nb_map.specs.declared.faults.PutFault.{PutFault}
+use Rattle.nb_map.specs.inside.Climbing.{rung_at}
 use Rattle.nb_map.specs.inside.Writing.{IsDecided, IsShortThere}
 use Rattle.nb_map.proofs.Aimed.{made-look, own-slot}
 use Rattle.nb_map.proofs.Exchanged.{acts-unless}
@@ -41,7 +42,7 @@ returns-in-Leave g c =
           ∙ ap (λ r. (call, r) ∷ []) (sym left.1))
           (made-read p call (Some None)
           (subst (λ s. Extended p old c.load_key_word-word.new.seat (read old.number call
-          (shown_by_key p c.args.first.g c.path_slot-i.result s (key_of_call call))) 1) empty
+          (shown_by_key p c.args.top c.path_slot-i.result s (key_of_call call))) 1) empty
           c.load_key_word-word.ensures.grows)));
       told = tt;
       spent = spent-none call old c.load_key_word-word.new.seat c.args.tries.now;
@@ -54,10 +55,10 @@ returns-in-Leave g c =
 
 -- the slot's place on the path
 pub home-is :
-    (g : Over) (c : After-has_home g) → path_slot c.args.chain.now.shape c.args.first.g
+    (g : Over) (c : After-has_home g) → path_slot c.args.chain.now.shape c.args.top
     (key_of_call c.args.call.now) 0 ≡ c.path_slot-i.result
 home-is g c =
-    ap (λ k. path_slot c.args.chain.now.shape c.args.first.g k 0) (sym c.key.ensures)
+    ap (λ k. path_slot c.args.chain.now.shape c.args.top k 0) (sym c.key.ensures)
     ∙ search rules
 
 pub has_home-requires-clause-home : goal.has_home-requires-clause-home
@@ -68,10 +69,10 @@ has_home-requires-clause-home g c =
     record {
       own = steps_add_up.own c.requires.at.own load;
       slot = (table, search rules);
-      is = ap (λ k. path_slot c.args.chain.now.shape c.args.first.g k 0) (sym c.key.ensures)
+      is = ap (λ k. path_slot c.args.chain.now.shape c.args.top k 0) (sym c.key.ensures)
           ∙ search rules;
-      installed = lasting.installed c.args.first.g c.requires.at.reached.installed;
-      ready = lasting.ready c.args.first.g table c.requires.ready;
+      installed = lasting.installed c.args.top c.requires.at.reached.installed;
+      ready = lasting.ready c.args.top table c.requires.at.known;
     }
 
 -- ---- the slot is the key's, or is claimed for it
@@ -89,7 +90,7 @@ looked :
     (g : Over) (c : After-has_home g)
     → HasMade c.args.chain.now.shape c.args.call.now c.args.seat.now c.has_home.new.seat [] 3
 looked g c =
-    made-look c.args.chain.now c.args.first c.path_slot-i.result c.load_key_word-word.result
+    made-look c.args.chain.now (rung_at c.args.top) c.path_slot-i.result c.load_key_word-word.result
     c.requires.at (home-is g c) c.load_key_word-word.ensures.grows
     c.load_key_word-word.ensures.found (fills g c) c.has_home.ensures.made
 
@@ -97,11 +98,11 @@ looked g c =
 one-step :
     (g : Over) (c : After-has_home g) {after : SeenBy} {calls : List (Call × Reply)} {most : ℕ}
     → HasMade c.args.chain.now.shape c.args.call.now c.has_home.new.seat after calls most
-    → IsAloneAtHome c.args.chain.now.shape c.args.first.g c.args.call.now c.args.seat.now after
-    → IsKnownHome c.args.chain.now.shape c.args.first.g c.args.call.now c.args.seat.now
+    → IsAloneAtHome c.args.chain.now.shape c.args.top c.args.call.now c.args.seat.now after
+    → IsKnownHome c.args.chain.now.shape c.args.top c.args.call.now c.args.seat.now
     → IsTrue c.has_home.result × (c.has_home.new.seat.steps ≤ c.args.seat.now.steps + 1)
 one-step g c made alone known =
-    let word = own-slot c.args.chain.now c.args.first c.path_slot-i.result
+    let word = own-slot c.args.chain.now (rung_at c.args.top) c.path_slot-i.result
     c.load_key_word-word.result c.requires.at (home-is g c) c.load_key_word-word.ensures.grows
     c.load_key_word-word.ensures.found (fills g c) c.has_home.ensures.made made alone known in
     let kept = c.has_home.ensures.kept word in
@@ -115,9 +116,9 @@ slot-short :
     (g : Over) (c : After-has_home g) {after : SeenBy} {calls : List (Call × Reply)} {lost : ℕ}
     (told : Result Reply PutFault)
     → HasMade c.args.chain.now.shape c.args.call.now c.has_home.new.seat after calls (2 + lost)
-    → (IsAloneAtHome c.args.chain.now.shape c.args.first.g c.args.call.now c.args.seat.now after
+    → (IsAloneAtHome c.args.chain.now.shape c.args.top c.args.call.now c.args.seat.now after
     → lost ≡ 0)
-    → IsShortThere c.args.chain.now.shape c.args.first.g c.args.call.now c.args.seat.now after
+    → IsShortThere c.args.chain.now.shape c.args.top c.args.call.now c.args.seat.now after
     (Some told)
 slot-short g c told made none =
     let look = looked g c in
@@ -229,7 +230,7 @@ returns-in-Above g c =
     let look = looked g there in
     let visit = c.in-Above.ensures in
     let here = at-stays chain (at-stays chain c.requires.at look) visit.made in
-    let away = passed-away chain c.call_at.new.seat here.own c.args.first.g
+    let away = passed-away chain c.call_at.new.seat here.own c.args.top
     (key_of_call c.args.call.now) here.table visit.visit.0.0.0 in
     record {
       made = made-within _ _ (omega arith) (made-then c.requires.at.own look visit.made);

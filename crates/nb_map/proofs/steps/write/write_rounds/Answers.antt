@@ -1,7 +1,8 @@
-use Rattle.std.proofs.Common.{arith}
+use Rattle.std.proofs.Common.{subst, sym, arith}
 use Rattle.nb_map.proofs.Made.{made-none, made-within}
 use Rattle.nb_map.proofs.Rounds.{rounds-end, rounds-more}
 use Rattle.nb_map.proofs.Rungs.{at-stays}
+use Rattle.nb_map.specs.inside.Climbing.{IsAt}
 use Rattle.nb_map.proofs.steps.write.write_rounds.Goals as goal
 
 pub loop-init : goal.loop-init
@@ -14,7 +15,8 @@ loop-init g c = record {
 
 pub climb-requires-clause-at : goal.climb-requires-clause-at
 climb-requires-clause-at g c =
-    at-stays c.args.chain.now c.requires.at c.loop.invariant.rounds
+    subst (IsAt c.args.chain.now c.args.call c.loop.seat) (sym c.at.ensures)
+    (at-stays c.args.chain.now c.requires.at c.loop.invariant.rounds)
 
 pub loop-preserved : goal.loop-preserved
 loop-preserved g c = record {

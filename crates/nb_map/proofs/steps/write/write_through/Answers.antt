@@ -1,7 +1,7 @@
 use Rattle.std.proofs.Common.{◌⊎◌, ◌^◌, ◌-◌, ◌+◌, ◌≡◌, ◌≤◌, [], inl, inr, sym, arith}
 use Rattle.nb_core.specs.declared.calls.Call.TheVariants as call
 use Rattle.nb_map.proofs.Rungs.{at-stays}
-use Rattle.nb_map.proofs.Straight.{at-there, made-in-rounds, made-once, ready-there, short-elsewhere, short-there}
+use Rattle.nb_map.proofs.Straight.{at-there, made-in-rounds, made-once, short-elsewhere, short-there}
 use Rattle.nb_map.proofs.steps.write.write_through.Goals as goal
 use Rattle.nb_map.proofs.steps.write.write_through.Given.{Over}
 use Rattle.nb_map.proofs.steps.write.write_through.Goals.{Joined-write_home, in-Some-Err-Contended, in-None}
@@ -12,50 +12,44 @@ use Rattle.nb_table.proofs.Theorems.{steps_add_up}
 
 pub write_home-requires-clause-at : goal.write_home-requires-clause-at
 write_home-requires-clause-at g c =
-    at-there c.args.chain.now c.top_rung-first.result.g c.requires.own c.top_rung-first.ensures.grows
-    c.top_rung-first.ensures.found (call.Write c.args.key c.args.want c.args.change) c.top_rung-first.result
-    c.top_rung-first.ensures.rung
-
-pub write_home-requires-clause-ready : goal.write_home-requires-clause-ready
-write_home-requires-clause-ready g c =
-    ready-there c.args.chain.now c.top_rung-first.result.g c.requires.own c.top_rung-first.ensures.grows
-    c.top_rung-first.ensures.found
+    at-there c.args.chain.now c.load_top-top.result c.requires.own c.load_top-top.ensures.grows
+    c.load_top-top.ensures.found (call.Write c.args.key c.args.want c.args.change)
 
 -- ---- at home
 
 pub returns-in-Some-Ok-clause-made : goal.returns-in-Some-Ok-clause-made
 returns-in-Some-Ok-clause-made g c =
-    made-once c.args.chain.now c.top_rung-first.result.g c.requires.own c.top_rung-first.ensures.grows
-    c.top_rung-first.ensures.found (rw c.in-Some-Ok.field-0-is at c.in-Some-Ok.ensures.made)
+    made-once c.args.chain.now c.load_top-top.result c.requires.own c.load_top-top.ensures.grows
+    c.load_top-top.ensures.found (rw c.in-Some-Ok.field-0-is at c.in-Some-Ok.ensures.made)
     c.in-Some-Ok.ensures.spent
 
 pub returns-in-Some-Ok-clause-short : goal.returns-in-Some-Ok-clause-short
 returns-in-Some-Ok-clause-short g c =
-    short-there c.args.chain.now c.top_rung-first.result.g c.requires.own c.top_rung-first.ensures.grows
-    c.top_rung-first.ensures.found c.write_home.result c.write_home.ensures.made c.write_home.ensures.short
+    short-there c.args.chain.now c.load_top-top.result c.requires.own c.load_top-top.ensures.grows
+    c.load_top-top.ensures.found c.write_home.result c.write_home.ensures.made c.write_home.ensures.short
 
 pub returns-in-Some-Err-Full-clause-made : goal.returns-in-Some-Err-Full-clause-made
 returns-in-Some-Err-Full-clause-made g c =
-    made-once c.args.chain.now c.top_rung-first.result.g c.requires.own c.top_rung-first.ensures.grows
-    c.top_rung-first.ensures.found (rw c.in-Some-Err-Full.field-0-is at c.in-Some-Err-Full.ensures.made)
+    made-once c.args.chain.now c.load_top-top.result c.requires.own c.load_top-top.ensures.grows
+    c.load_top-top.ensures.found (rw c.in-Some-Err-Full.field-0-is at c.in-Some-Err-Full.ensures.made)
     c.in-Some-Err-Full.ensures.spent
 
 pub returns-in-Some-Err-Full-clause-short : goal.returns-in-Some-Err-Full-clause-short
 returns-in-Some-Err-Full-clause-short g c =
-    short-there c.args.chain.now c.top_rung-first.result.g c.requires.own c.top_rung-first.ensures.grows
-    c.top_rung-first.ensures.found c.write_home.result c.write_home.ensures.made c.write_home.ensures.short
+    short-there c.args.chain.now c.load_top-top.result c.requires.own c.load_top-top.ensures.grows
+    c.load_top-top.ensures.found c.write_home.result c.write_home.ensures.made c.write_home.ensures.short
 
 pub returns-in-Some-Err-ValueRange-clause-made : goal.returns-in-Some-Err-ValueRange-clause-made
 returns-in-Some-Err-ValueRange-clause-made g c =
-    made-once c.args.chain.now c.top_rung-first.result.g c.requires.own c.top_rung-first.ensures.grows
-    c.top_rung-first.ensures.found (rw c.in-Some-Err-ValueRange.field-0-is at c.in-Some-Err-ValueRange.ensures.made)
+    made-once c.args.chain.now c.load_top-top.result c.requires.own c.load_top-top.ensures.grows
+    c.load_top-top.ensures.found (rw c.in-Some-Err-ValueRange.field-0-is at c.in-Some-Err-ValueRange.ensures.made)
     c.in-Some-Err-ValueRange.ensures.spent
 
 pub returns-in-Some-Err-ValueRange-clause-short :
     goal.returns-in-Some-Err-ValueRange-clause-short
 returns-in-Some-Err-ValueRange-clause-short g c =
-    short-there c.args.chain.now c.top_rung-first.result.g c.requires.own c.top_rung-first.ensures.grows
-    c.top_rung-first.ensures.found c.write_home.result c.write_home.ensures.made c.write_home.ensures.short
+    short-there c.args.chain.now c.load_top-top.result c.requires.own c.load_top-top.ensures.grows
+    c.load_top-top.ensures.found c.write_home.result c.write_home.ensures.made c.write_home.ensures.short
 
 -- ---- in rounds
 
@@ -63,8 +57,8 @@ returns-in-Some-Err-ValueRange-clause-short g c =
 home :
     (g : Over) (c : Joined-write_home g)
     → HasMade c.args.chain.now.shape (call.Write c.args.key c.args.want c.args.change)
-    c.top_rung-first.new.seat c.write_home.new.seat []
-    (home_steps c.args.chain.now.shape c.top_rung-first.result.g + (2 ^ 32 - 1 - c.write_home.new.tries))
+    c.load_top-top.new.seat c.write_home.new.seat []
+    (home_steps c.args.chain.now.shape c.load_top-top.result + (2 ^ 32 - 1 - c.write_home.new.tries))
 home g c = elim c.match-write_home.branch [
   | in-Some-Err-Contended w ↦ rw w.in-Some-Err-Contended.field-0-is
       at w.in-Some-Err-Contended.ensures.made
@@ -74,16 +68,16 @@ home g c = elim c.match-write_home.branch [
 -- and the write wasn't alone with its key there
 away :
     (g : Over) (c : Joined-write_home g)
-    → IsAloneAtHome c.args.chain.now.shape c.top_rung-first.result.g (call.Write c.args.key c.args.want c.args.change)
-    c.top_rung-first.new.seat c.write_home.new.seat
-    → IsKnownHome c.args.chain.now.shape c.top_rung-first.result.g (call.Write c.args.key c.args.want c.args.change)
-    c.top_rung-first.new.seat
-    ⊎ IsLastSeen c.args.chain.now.shape c.top_rung-first.result.g c.write_home.new.seat → ⊥
+    → IsAloneAtHome c.args.chain.now.shape c.load_top-top.result (call.Write c.args.key c.args.want c.args.change)
+    c.load_top-top.new.seat c.write_home.new.seat
+    → IsKnownHome c.args.chain.now.shape c.load_top-top.result (call.Write c.args.key c.args.want c.args.change)
+    c.load_top-top.new.seat
+    ⊎ IsLastSeen c.args.chain.now.shape c.load_top-top.result c.write_home.new.seat → ⊥
 away g c alone way = elim c.match-write_home.branch [
   | in-Some-Err-Contended w ↦
       let told : 4294967295
       ≤ passed_since (call.Write c.args.key c.args.want c.args.change)
-      c.top_rung-first.new.seat c.write_home.new.seat =
+      c.load_top-top.new.seat c.write_home.new.seat =
       rw (w.in-Some-Err-Contended.field-0-is, w.in-Some-Err-Contended.field-0-0-is)
       at w.in-Some-Err-Contended.ensures.told in
       absurd (omega (arith, alone.alone, told))
@@ -96,23 +90,22 @@ away g c alone way = elim c.match-write_home.branch [
 pub write_rounds-requires : goal.write_rounds-requires
 write_rounds-requires g c = record {
   at = at-stays c.args.chain.now
-      (at-there c.args.chain.now c.top_rung-first.result.g c.requires.own c.top_rung-first.ensures.grows
-      c.top_rung-first.ensures.found (call.Write c.args.key c.args.want c.args.change) c.top_rung-first.result
-      c.top_rung-first.ensures.rung)
+      (at-there c.args.chain.now c.load_top-top.result c.requires.own c.load_top-top.ensures.grows
+      c.load_top-top.ensures.found (call.Write c.args.key c.args.want c.args.change))
       (home g (goal.at.write_rounds-requires g c).Joined-write_home);
 }
 
 pub returns : goal.returns
 returns g c =
     let there = (goal.at.returns g c).Joined-write_home in
-    let first = steps_add_up.one c.top_rung-first.ensures.grows in
+    let first = steps_add_up.one c.load_top-top.ensures.grows in
     let made = home g there in
     let rounds = c.write_rounds.ensures in
     record {
-      made = made-in-rounds c.args.chain.now c.top_rung-first.result.g c.requires.own c.top_rung-first.ensures.grows
-          c.top_rung-first.ensures.found made c.write_home.ensures.spent rounds.made;
+      made = made-in-rounds c.args.chain.now c.load_top-top.result c.requires.own c.load_top-top.ensures.grows
+          c.load_top-top.ensures.found made c.write_home.ensures.spent rounds.made;
       refused = rounds.refused;
       looked = omega (arith, first.steps, made.grown.steps, rounds.made.grown.steps);
-      short = short-elsewhere c.args.chain.now c.top_rung-first.result.g c.requires.own c.top_rung-first.ensures.grows
-          c.top_rung-first.ensures.found made (away g there) rounds.made;
+      short = short-elsewhere c.args.chain.now c.load_top-top.result c.requires.own c.load_top-top.ensures.grows
+          c.load_top-top.ensures.found made (away g there) rounds.made;
     }
