@@ -1,11 +1,11 @@
 -- How many steps calls make.
-use Rattle.std.proofs.Common.{◌≡◌, ℕ, zero, suc, ◌+◌, ◌-◌, ◌*◌, ◌^◌, ◌≤◌, ◌<◌, ◌⊎◌, slice_index, add-one, ap, sym, subst, inl, inr, arith}
+use Rattle.std.proofs.Common.{◌≡◌, ℕ, zero, suc, ◌+◌, ◌-◌, ◌*◌, ◌^◌, ◌≤◌, ◌<◌, ◌⊎◌, slice_index, sym, subst, inl, inr, arith}
 use Rattle.std.proofs.Math.Nat.{le_refl, le_trans, mul-le-mul_left, mul-le-mul_right}
 use Rattle.std.proofs.lemmas.List.{get_or_past}
 use Rattle.std.proofs.lemmas.Nat.{pow_pos}
 use Rattle.nb_core.specs.Plans.{IsPlan, Plan, generations_of, size_of}
 use Rattle.nb_copy.specs.Handing.{table_steps}
-use Rattle.nb_map.specs.Steps.{climb_steps, get_steps, pass_steps, rung_steps, rungs_below, search_steps, slots_below, steps_below}
+use Rattle.nb_map.specs.Steps.{climb_steps, get_steps, pass_steps, rung_steps, rungs_below, slots_below, steps_below}
 use Rattle.nb_core.proofs.Theorems.{sizes_never_fall}
 
 -- no table is larger than the last one

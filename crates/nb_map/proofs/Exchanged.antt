@@ -1,5 +1,5 @@
 -- What a call does at its key's slot, and what others did meanwhile.
-use Rattle.std.proofs.Common.{◌≡◌, ◌≢◌, ◌∙◌, ℕ, suc, zero, Bool, ◌+◌, ◌-◌, ◌≤◌, ◌<◌, true, false, cond, List, [], ◌∷◌, ◌++◌, length, Option, Some, None, Result, Ok, Err, ap, sym, subst, subst₂, refl, arith}
+use Rattle.std.proofs.Common.{◌≡◌, ◌≢◌, ◌∙◌, ℕ, suc, zero, Bool, ◌+◌, ◌-◌, ◌≤◌, ◌<◌, true, false, cond, List, [], ◌∷◌, ◌++◌, length, Option, Some, None, Result, Ok, Err, ap, sym, subst, refl, arith}
 use Rattle.std.specs.FinMap as map
 use Rattle.std.specs.Prelude.{OnOk, is_some}
 use Rattle.std.specs.List.{All}
@@ -20,7 +20,7 @@ use Rattle.nb_core.specs.declared.events.Event.TheVariants.{Won, Read}
 use Rattle.nb_core.specs.declared.states.KeyState.TheVariants.{Claimed}
 use Rattle.nb_core.specs.declared.states.ValueState.{ValueState}
 use Rattle.nb_core.specs.declared.states.ValueState.TheVariants.{Null, Tombstone, Live, PrimedNull, PrimedTombstone, Primed, Finished}
-use Rattle.nb_table.specs.Chains.{ChainOf, Extended, Grown, IsOwn, SeenBy, seen_by}
+use Rattle.nb_table.specs.Chains.{ChainOf, Extended, IsOwn, SeenBy, seen_by}
 use Rattle.nb_table.specs.Conditions.{IsReached}
 use Rattle.nb_table.specs.Events.{only, read}
 use Rattle.nb_map.specs.Logs.{as_replied}

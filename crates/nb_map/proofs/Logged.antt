@@ -1,7 +1,7 @@
 -- The log of a seat after its calls, and what the tries of a write that waits add up to.
 use Rattle.std.proofs.Common.{◌≡◌, ◌∙◌, ◌+◌, ℕ, List, [], ◌++◌, pos, ap, ap₂, refl, subst, sym, arith}
 use Rattle.std.proofs.lemmas.Int.{ints}
-use Rattle.std.proofs.lemmas.List.{append-nil, append_assoc}
+use Rattle.std.proofs.lemmas.List.{append_assoc}
 use Rattle.std.proofs.lemmas.List.Elements.{filter_map-append}
 use Rattle.nb_core.proofs.Theorems.{calls_append, log_is_replayed}
 use Rattle.nb_core.specs.Log.{IsBeginning, calls_of, entry_of, log_of}

@@ -1,5 +1,5 @@
 -- Where a call has come to on its way up the tables.
-use Rattle.std.proofs.Common.{ℕ, zero, suc, ◌+◌, ◌<◌, ◌≤◌, List, add-one, inl, sym, subst, arith}
+use Rattle.std.proofs.Common.{ℕ, suc, ◌+◌, ◌<◌, List, add-one, inl, sym, subst, arith}
 use Rattle.std.proofs.lemmas.Nat.{pow_pos}
 use Rattle.nb_core.specs.History.{key_of_call}
 use Rattle.nb_core.specs.Laws.{Lasts}

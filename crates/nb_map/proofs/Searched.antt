@@ -9,12 +9,10 @@ use Rattle.nb_core.specs.History.{key_of_call}
 use Rattle.nb_core.specs.Tables.{AtSlot, IsPassed, AreOthers, IsComplete, IsFinished, IsInstalled, IsOnPath, IsOther, IsReady, IsSlot, IsUnprimed, Tables, UpToDead, path_slot}
 use Rattle.nb_core.specs.Laws.{Lasts}
 use Rattle.nb_core.specs.Plans.{IsPlan, Plan, generations_of, size_of}
-use Rattle.nb_core.specs.States.{shown_by_value}
 use Rattle.nb_core.specs.declared.calls.Call.{Call}
 use Rattle.nb_core.specs.declared.calls.Reply.{Reply}
 use Rattle.nb_core.specs.declared.states.KeyState.TheVariants.{Claimed, Dead}
 use Rattle.nb_core.specs.declared.states.ValueState.{ValueState}
-use Rattle.nb_core.specs.declared.states.ValueState.TheVariants.{Null, Tombstone, Live, PrimedNull, PrimedTombstone, Primed, Finished}
 use Rattle.nb_table.specs.Chains.{ChainOf, Extended, IsOwn, SeenBy, seen_by}
 use Rattle.nb_table.specs.Conditions.{IsReached}
 use Rattle.nb_table.specs.Events.{is_last_slot, read, shown_by_key}

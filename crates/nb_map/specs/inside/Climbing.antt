@@ -1,9 +1,8 @@
 -- Where a call has come to on its way up the tables, and what it comes to there.
-use Rattle.std.specs.Prelude.{ℕ, List, [], ◌∷◌, ◌≡◌, ◌≢◌, ◌≤◌, ◌<◌, ◌⊎◌, ◌+◌, suc, true, Option, None, Some, Result, Ok, Err}
+use Rattle.std.specs.Prelude.{ℕ, List, [], ◌∷◌, ◌≡◌, ◌≤◌, ◌<◌, ◌⊎◌, ◌+◌, suc, true, Option, None, Some, Result, Ok, Err}
 use Rattle.nb_core.specs.Calls.{Fills, leaves_alone}
 use Rattle.nb_core.specs.History.{key_of_call}
 use Rattle.nb_core.specs.Log.{reply_at}
-use Rattle.nb_core.specs.Meaning.{IsCrowded}
 use Rattle.nb_core.specs.Plans.{Plan, generations_of, size_of}
 use Rattle.nb_core.specs.Tables.{AreOthers, HasSlotBelow, IsInstalled, IsPassed, IsReady, IsSlot, Tables}
 use Rattle.nb_core.specs.declared.calls.Call.{Call}

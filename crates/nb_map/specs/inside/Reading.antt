@@ -7,7 +7,7 @@ use Rattle.nb_core.specs.Plans.{Plan, size_of, generations_of}
 use Rattle.nb_core.specs.Tables.{IsInstalled, Tables, AreOthers, path_slot}
 use Rattle.nb_core.specs.declared.calls.Call.{Call}
 use Rattle.nb_core.specs.declared.calls.Reply.{Reply}
-use Rattle.nb_core.specs.declared.states.KeyState.TheVariants.{Claimed, Dead, Empty}
+use Rattle.nb_core.specs.declared.states.KeyState.TheVariants.{Dead, Empty}
 use Rattle.nb_map.specs.Logs.{as_replied}
 use Rattle.nb_map.specs.Progress.{IsAtHome}
 use Rattle.nb_map.specs.declared.steps.get.Glance.TheVariants as glance

@@ -1,4 +1,4 @@
-use Rattle.std.proofs.Common.{◌≡◌, ◌∙◌, ◌+◌, ◌-◌, ◌==◌, ◌<◌, ◌≤◌, ◌∷◌, [], None, Some, ap, suc, sym, subst, refl, arith, rules}
+use Rattle.std.proofs.Common.{◌≡◌, ◌∙◌, ◌+◌, ◌-◌, ◌==◌, ◌∷◌, [], None, Some, ap, suc, sym, subst, refl, arith, rules}
 use Rattle.nb_core.specs.History.{key_of_call}
 use Rattle.nb_core.specs.Tables.{Whole}
 use Rattle.nb_core.specs.Plans.{generations_of, size_of}

@@ -1,4 +1,4 @@
-use Rattle.std.proofs.Common.{◌≡◌, ◌+◌, ◌-◌, refl, arith}
+use Rattle.std.proofs.Common.{arith}
 use Rattle.nb_map.proofs.Climbed.{visit-here, visit-longer, visited}
 use Rattle.nb_map.proofs.Made.{made-within}
 use Rattle.nb_map.proofs.Rungs.{at-slot, at-stays}

@@ -1,9 +1,8 @@
-use Rattle.std.proofs.Common.{◌≡◌, ◌≤◌, ◌∙◌, ◌+◌, ◌-◌, refl, sym, subst, arith}
+use Rattle.std.proofs.Common.{◌≤◌, ◌∙◌, refl, sym, subst, arith}
 use Rattle.nb_core.specs.History.{key_of_call}
-use Rattle.nb_map.specs.Steps.{pass_steps}
 use Rattle.nb_map.specs.inside.Writing.{IsDecided}
 use Rattle.nb_map.proofs.Exchanged.{ahead-lost, ahead-more, ahead-primed, none-of, none-unless, on-ok, shown-decided, shown-none, shown-some, some-of, tried-above, tried-as, tried-first, tried-left, tried-lost, tried-none, tried-primed, tried-won}
-use Rattle.nb_map.proofs.Made.{made-more, made-own, made-within}
+use Rattle.nb_map.proofs.Made.{made-more, made-within}
 use Rattle.nb_map.proofs.Rungs.{slot-stays}
 use Rattle.nb_map.proofs.Spent.{no-read, spent-later}
 use Rattle.nb_map.proofs.steps.slot.call_at.Goals as goal

@@ -1,4 +1,4 @@
-use Rattle.std.proofs.Common.{◌⊎◌, ◌^◌, ◌-◌, ◌+◌, ◌≡◌, ◌≤◌, [], inl, inr, sym, arith}
+use Rattle.std.proofs.Common.{◌⊎◌, ◌^◌, ◌-◌, ◌+◌, ◌≤◌, [], inl, inr, arith}
 use Rattle.nb_core.specs.declared.calls.Call.TheVariants as call
 use Rattle.nb_map.proofs.Rungs.{at-stays}
 use Rattle.nb_map.proofs.Straight.{at-there, made-in-rounds, made-once, short-elsewhere, short-there}
