@@ -54,8 +54,7 @@ pub fn get_in(chain: &Chain, seat: &mut ChainSeat, key: Key) -> Option<Num>
 #[inline]
 #[tactic(auto, using(nb_core::proofs::Theorems::linked))]
 fn glance_in(chain: &Chain, seat: &mut ChainSeat, g: u32, key: Key) -> Glance
-    requires own { IsOwn chain.now seat.old }
-    requires reached { IsReached chain.now.shape (seen_by chain.now.shape seat.old) g key }
+    requires at { IsAt chain.now (call.Get key) seat.old (rung_for_read g 0) }
     ensures made { HasMade chain.now.shape (call.Get key) seat.old seat.new
         (glanced_by (call.Get key) result) 2 }
     ensures glance { IsGlance chain.now.shape (seen_by chain.now.shape seat.new) g key result }

@@ -6,7 +6,7 @@ use Rattle.nb_map.specs.Steps.{climb_steps, get_steps}
 use Rattle.nb_map.proofs.Bounds.{climb-bound}
 use Rattle.nb_map.proofs.Home.{home-before}
 use Rattle.nb_map.proofs.Made.{made-more, made-own, made-quiet, made-stays, made-within}
-use Rattle.nb_map.proofs.Rungs.{at-stays}
+use Rattle.nb_map.proofs.Rungs.{at-path, at-stays}
 use Rattle.nb_map.proofs.Straight.{at-there}
 use Rattle.nb_map.proofs.steps.get.get_in.Goals as goal
 use Rattle.nb_table.proofs.Theorems.{steps_add_up}
@@ -15,7 +15,7 @@ pub glance_in-requires : goal.glance_in-requires
 glance_in-requires c =
     let at = at-there c.args.chain.now c.load_top-top.result c.requires.own
     c.load_top-top.ensures.grows c.load_top-top.ensures.found (call.Get c.args.key) in
-    record { own = at.own; reached = at.reached }
+    record { at = at-path c.args.chain.now (call.Get c.args.key) _ _ at.own at.reached }
 
 pub returns-in-Shows : goal.returns-in-Shows
 returns-in-Shows c =

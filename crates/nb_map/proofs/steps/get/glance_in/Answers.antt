@@ -12,7 +12,7 @@ use Rattle.nb_map.specs.inside.Reading.{IsGlance, glanced_by}
 use Rattle.nb_map.proofs.Glanced.{made-looked, turned}
 use Rattle.nb_map.proofs.Home.{dead-away, others-away}
 use Rattle.nb_map.proofs.Made.{made-quiet, made-read, made-within, read_shown}
-use Rattle.nb_map.proofs.Searched.{others-more, others-none, read-before, reached-lasts, shown-other, shown-own, table-within, two-slots}
+use Rattle.nb_map.proofs.Searched.{others-more, others-none, read-before, reached-lasts, shown-other, shown-own, two-slots}
 use Rattle.nb_map.proofs.steps.get.glance_in.Goals as goal
 use Rattle.nb_table.proofs.Theorems.{steps_add_up}
 
@@ -32,8 +32,8 @@ returns-then-not-is_or_empty-clause-made c =
           (made-within 1 2 (omega arith) (made-quiet p get
           (subst seen dead c.load_key_word-word.ensures.grows)))
       | inr other ↦
-          let table = table-within chain old c.requires.own c.args.g c.requires.reached.installed in
-          let more = two-slots p c.requires.own.plan c.args.g table in
+          let table = c.requires.at.table in
+          let more = two-slots p c.requires.at.own.plan c.args.g table in
           let at : path_slot p c.args.g c.args.key 0 ≡ c.path_slot-i.result = search rules in
           let none = ap (λ i. read_shown get
           (shown_by_key p c.args.g i (Claimed other.0) c.args.key)) (sym at)
@@ -63,10 +63,9 @@ returns-then-not-is_or_empty-clause-glance c =
                 (ap (seen.key c.args.g) at ∙ c.load_key_word-word.ensures.found ∙ dead),
           )
       | inr other ↦
-          let table = table-within chain c.args.seat.now c.requires.own c.args.g
-          c.requires.reached.installed in
-          let more = two-slots p c.requires.own.plan c.args.g table in
-          let lasting = steps_add_up.stays c.requires.own
+          let table = c.requires.at.table in
+          let more = two-slots p c.requires.at.own.plan c.args.g table in
+          let lasting = steps_add_up.stays c.requires.at.own
           (steps_add_up.one c.load_key_word-word.ensures.grows) in
           let others = others-more p _ _ lasting c.args.g c.args.key 0 _ other.0 table
           (others-none p (seen_by p c.args.seat.now) c.args.g c.args.key) at
@@ -77,12 +76,9 @@ returns-then-not-is_or_empty-clause-glance c =
 
 pub glance_at-requires-clause-reached : goal.glance_at-requires-clause-reached
 glance_at-requires-clause-reached c =
-    let chain = c.args.chain.now in
-    let table = table-within chain c.args.seat.now c.requires.own c.args.g
-    c.requires.reached.installed in
-    reached-lasts chain.shape _ _ (steps_add_up.stays c.requires.own
+    reached-lasts c.args.chain.now.shape _ _ (steps_add_up.stays c.requires.at.own
     (steps_add_up.one c.load_key_word-word.ensures.grows))
-    c.args.g c.args.key table c.requires.reached
+    c.args.g c.args.key c.requires.at.table c.requires.at.reached
 
 pub returns-clause-made : goal.returns-clause-made
 returns-clause-made c =
@@ -93,7 +89,7 @@ returns-clause-made c =
     let seen = λ (s : KeyState). Extended p old c.load_key_word-word.new.seat
     (read old.number get (shown_by_key p c.args.g c.path_slot-i.result s c.args.key)) 1 in
     let passed : IsTrue c.is_or_empty.result = search rules in
-    made-looked chain c.args.key _ c.glance_at.result c.requires.own
+    made-looked chain c.args.key _ c.glance_at.result c.requires.at.own
     (λ own. elim (c.is_or_empty.ensures.yes passed) [
       | inl mine ↦
           let none = shown-own p c.args.g c.path_slot-i.result c.args.key c.args.key c.args.key
