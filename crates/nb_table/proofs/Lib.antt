@@ -14,7 +14,6 @@ mod Moments
 mod Opening
 mod Parted
 pub mod Theorems
-mod Tops
 mod Values
 mod Views
 mod Winning
