@@ -16,6 +16,7 @@ use Rattle.nb_map.proofs.Bounds.{climbed-most}
 use Rattle.nb_map.proofs.Made.{made-none, made-within}
 use Rattle.nb_map.proofs.Rungs.{at-above, at-stays}
 use Rattle.nb_map.proofs.Searched.{made-then}
+use Rattle.nb_map.proofs.Tried.{reply-fits}
 use Rattle.nb_map.proofs.Spent.{no-read, refused-longer, spent-more, spent-none}
 
 -- ---- in one table
@@ -47,7 +48,7 @@ visit-longer p call g tries left a b (Above below) is = is
 pub visit-here :
     (p : Plan) (call : Call) (start after : SeenBy) (g tries : ℕ) → 1 ≤ tries → (visit : Visit)
     → IsVisitHere p call after g visit → IsVisit p call start after g tries tries visit
-visit-here p call start after g tries some (Told reply) is = is
+visit-here p call start after g tries some (Told reply) is = reply-fits call None reply is.1
 visit-here p call start after g tries some (Refused why) is =
     subst (IsRefused p call start after tries) (sym is.0) (is.1, no-read call None is.1.0)
 visit-here p call start after g tries some (Above below) is = (is, some)

@@ -1,13 +1,14 @@
-mod Aimed
+mod AtHome
 mod Bounds
 mod Claimed
 mod Climbed
 mod Counted
 mod Crowding
 mod Earlier
-mod Exchanged
 mod Glanced
+mod Held
 mod Home
+mod HomeSlot
 mod Logged
 mod Made
 mod OneSeat
@@ -22,9 +23,8 @@ mod Sizes
 mod Spent
 mod Straight
 pub mod Theorems
+mod Tried
 mod Turned
-mod Walked
 mod Updated
-mod Written
+mod Walked
 mod WholeWalk
-mod Held

@@ -13,7 +13,7 @@ use Rattle.nb_map.specs.Steps.{get_steps}
 use Rattle.nb_map.specs.Steps.{slots_below}
 use Rattle.nb_map.specs.inside.Walking.{HasGone}
 use Rattle.nb_map.specs.Walks.{IsFirstTable, IsMiss}
-use Rattle.nb_map.specs.Steps.{passing_steps, visit_steps, slots_ahead}
+use Rattle.nb_map.specs.Steps.{passing_steps, meeting_steps, slots_ahead}
 use Rattle.nb_map.specs.declared.steps.walk.Place.{Place}
 use Rattle.nb_map.specs.declared.steps.walk.Place.TheVariants.{Slot}
 use Rattle.nb_map.proofs.Bounds.{slots-more}
@@ -33,7 +33,7 @@ module _ (chain : ChainOf) (first g i : ℕ) (table : g < generations_of chain.s
   abbrev p : Plan
   p = chain.shape
 
-  look-fits : 1 + slots_below p g + get_steps p ≤ visit_steps p
+  look-fits : 1 + slots_below p g + get_steps p ≤ meeting_steps p
   look-fits = let below = slots-more p (generations_of p) g (omega (arith, table)) in
       omega (arith, below)
 
@@ -41,9 +41,9 @@ module _ (chain : ChainOf) (first g i : ℕ) (table : g < generations_of chain.s
   pub gone-skipped :
       {before after : SeenBy} → ((k : ℕ) → HasMade p (Get k) before after [] (1 + slots_below p g))
       → ((k : ℕ) → place_of p after.seen first k ≡ Some (g, i) → ⊥)
-      → HasGone p before after first (Slot g i) (Slot g (i + 1)) None (visit_steps p)
+      → HasGone p before after first (Slot g i) (Slot g (i + 1)) None (meeting_steps p)
   gone-skipped made none =
-      gone-within chain (1 + slots_below p g) (visit_steps p) (omega (arith, look-fits))
+      gone-within chain (1 + slots_below p g) (meeting_steps p) (omega (arith, look-fits))
       (gone-unread chain made (passed-slot chain first g i none))
 
   -- its key was read, and found
@@ -52,14 +52,14 @@ module _ (chain : ChainOf) (first g i : ℕ) (table : g < generations_of chain.s
       → ((k : ℕ) → HasMade p (Get k) before mid [] (1 + slots_below p g))
       → place_of p mid.seen first k ≡ Some (g, i)
       → HasMade p (Get k) mid after (as_replied (Get k) (Some n)) (get_steps p)
-      → HasGone p before after first (Slot g i) (Slot g (i + 1)) (Some (k, n)) (visit_steps p)
+      → HasGone p before after first (Slot g i) (Slot g (i + 1)) (Some (k, n)) (meeting_steps p)
   gone-found {before} {mid} {after} {k} {n} own made placed read =
       let own' = made-own chain own (made k) in
       let own'' = made-own chain own' read in
       record {
         misses = [];
         missed = All-nil IsMiss;
-        made = λ j. made-within (1 + slots_below p g + get_steps p) (visit_steps p) look-fits
+        made = λ j. made-within (1 + slots_below p g + get_steps p) (meeting_steps p) look-fits
             (made-more chain own (made j) (made-as chain k j read));
         passed = passed-found chain own'' first g i k n
             (placed-later chain mid after own'' (begins read.grown) first k (g, i) placed);
@@ -71,7 +71,7 @@ module _ (chain : ChainOf) (first g i : ℕ) (table : g < generations_of chain.s
       → ((k : ℕ) → HasMade p (Get k) before mid [] (1 + slots_below p g))
       → place_of p mid.seen first k ≡ Some (g, i)
       → HasMade p (Get k) mid after (as_replied (Get k) None) (get_steps p)
-      → HasGone p before after first (Slot g i) (Slot g (i + 1)) None (visit_steps p)
+      → HasGone p before after first (Slot g i) (Slot g (i + 1)) None (meeting_steps p)
   gone-missed {before} {mid} {after} {k} own is_first made placed read =
       let own' = made-own chain own (made k) in
       let own'' = made-own chain own' read in
@@ -79,7 +79,7 @@ module _ (chain : ChainOf) (first g i : ℕ) (table : g < generations_of chain.s
       record {
         misses = as_replied (Get k) None;
         missed = All-cons IsMiss (Get k, reply_at (Get k) None) [] (k, refl) (All-nil IsMiss);
-        made = λ j. made-within (1 + slots_below p g + get_steps p) (visit_steps p) look-fits
+        made = λ j. made-within (1 + slots_below p g + get_steps p) (meeting_steps p) look-fits
             (made-more chain own (made j) (made-as chain k j read));
         passed = passed-more chain own' own'' (begins (made k).grown) (begins read.grown) first
             (first-still chain own is_first (made k)) (Slot g i) (Slot g i)
@@ -91,13 +91,13 @@ module _ (chain : ChainOf) (first g i : ℕ) (table : g < generations_of chain.s
   pub gone-on :
       {start before after : SeenBy} {shown : Option (ℕ × ℕ)} (from : ℕ) → from ≤ i
       → IsOwn chain start → IsFirstTable p start first
-      → HasGone p start before first (Slot g from) (Slot g i) None ((i - from) * visit_steps p)
-      → HasGone p before after first (Slot g i) (Slot g (i + 1)) shown (visit_steps p)
+      → HasGone p start before first (Slot g from) (Slot g i) None ((i - from) * meeting_steps p)
+      → HasGone p before after first (Slot g i) (Slot g (i + 1)) shown (meeting_steps p)
       → HasGone p start after first (Slot g from) (Slot g (i + 1)) shown
-      ((i + 1 - from) * visit_steps p)
+      ((i + 1 - from) * meeting_steps p)
   gone-on from ahead own is_first so_far gone =
-      gone-within chain ((i - from) * visit_steps p + visit_steps p)
-      ((i + 1 - from) * visit_steps p) (slots-add from i (visit_steps p) ahead)
+      gone-within chain ((i - from) * meeting_steps p + meeting_steps p)
+      ((i + 1 - from) * meeting_steps p) (slots-add from i (meeting_steps p) ahead)
       (gone-more chain own is_first so_far gone)
 
 -- ---- steps
@@ -121,7 +121,7 @@ slots-fall p g from to table ahead within = let most = slots-within p g to table
 pub stretch-steps :
     (p : Plan) (g from to : ℕ) (place : Place) → g < generations_of p → from < to → to ≤ size_of p g
     → slots_ahead p place ≤ slots_ahead p (Slot g to)
-    → (to - from) * visit_steps p + 1 ≤ passing_steps p (Slot g from) place
+    → (to - from) * meeting_steps p + 1 ≤ passing_steps p (Slot g from) place
 stretch-steps p g from to place table ahead within behind =
     let most = slots-within p g to table within in
     let way : to - from ≤ slots_ahead p (Slot g from) - slots_ahead p place =

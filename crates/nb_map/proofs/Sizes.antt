@@ -27,7 +27,7 @@ use Rattle.nb_map.specs.Ending.{EndedWith, HasAll}
 use Rattle.nb_map.specs.inside.Models.{IsParted}
 use Rattle.nb_map.specs.Logs.{log}
 use Rattle.nb_map.specs.Maps.{HasCounted, SeatOf}
-use Rattle.nb_map.proofs.Exchanged.{calls-others}
+use Rattle.nb_map.proofs.Tried.{calls-others}
 
 -- ---- each number is one seat's, so a sum over the seats is one over the numbers
 

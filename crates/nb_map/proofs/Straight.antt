@@ -14,7 +14,7 @@ use Rattle.nb_map.proofs.Home.{home-before}
 use Rattle.nb_map.proofs.Made.{made-own, made-quiet, made-stays, made-within}
 use Rattle.nb_map.proofs.Searched.{made-then, others-none, reached-top, ready-top, table-within}
 use Rattle.nb_map.proofs.Spent.{passed-sum, spent-more}
-use Rattle.nb_map.proofs.Written.{alone-top, before-bound, known-then, last-before, same-top, whole-bound}
+use Rattle.nb_map.proofs.AtHome.{alone-top, before-bound, known-then, last-before, same-top, whole-bound}
 use Rattle.nb_map.specs.Calling.{HasMade}
 use Rattle.nb_map.specs.Progress.{IsAloneAtHome, IsKnownHome, IsLastSeen, IsSeenAlone, IsShortAtHome, passed_since}
 use Rattle.nb_map.specs.Steps.{climb_steps, home_steps, put_steps}

@@ -42,7 +42,7 @@ abbrev pub get_steps : Plan → ℕ
 get_steps p = 8 * (slots_below p (generations_of p) + generations_of p)
     * (size_of p (generations_of p - 1) + 8)
 
--- ---- a write
+-- ---- a call on its way up the tables
 
 -- the most steps to complete the table below one, if there is one
 abbrev pub steps_below : Plan → ℕ → ℕ
@@ -65,29 +65,33 @@ grow_steps p g below = owed_below p g below + 2 + table_steps p g
 abbrev pub search_steps : Plan → ℕ → ℕ
 search_steps p g = 3 * size_of p g + steps_below p g + 4 + table_steps p g
 
--- The most steps of a call at its key's slot, besides the exchanges that it lost: a load, and an
--- exchange. Where it goes on in the next table, there is the end of a copy.
+-- The most steps of a call at its key's slot, besides one for each exchange that it lost: a load,
+-- and an exchange. Where it goes on in the next table, there is the end of a copy.
 abbrev pub slot_visit_steps : Plan → ℕ → Visit → ℕ
 slot_visit_steps p g (Told reply) = 2
 slot_visit_steps p g (Refused fault) = 2
 slot_visit_steps p g (Above below) = 2 + pass_steps p g
 
--- the same of a write at its key's home slot: a load of the key comes before, and, it may be, a look
--- at the next word and a claim
+-- The same of a write at its key's home slot: a load of the key comes before it, and, it may be, a
+-- look at the next word and a claim.
 abbrev pub home_steps : Plan → ℕ → ℕ
 home_steps p g = 5 + pass_steps p g
 
--- the same in table g, to which a call has come, and in all tables below one
+-- the most steps of a call in table g, besides one for each exchange that it lost: the search for
+-- its key's slot, and the call at it
 abbrev pub rung_steps : Plan → ℕ → ℕ
 rung_steps p g = search_steps p g + 2 + pass_steps p g
 
+-- the same in all tables below one
 abbrev pub rungs_below : Plan → ℕ → ℕ
 rungs_below p zero = 0
 rungs_below p (suc g) = rung_steps p g + rungs_below p g
 
--- the same in all tables together
+-- and in all tables of the plan
 abbrev pub climb_steps : Plan → ℕ
 climb_steps p = rungs_below p (generations_of p)
+
+-- ---- a write
 
 -- the most steps of a write, with T slots in all tables, G tables, and N slots in the last one: 8
 -- (T + tries + G) (N + 8)
@@ -101,9 +105,10 @@ update_steps p tries = get_steps p + tries * put_steps p tries
 
 -- ---- a walk
 
--- the most steps at one slot: its key, a search for the key in the tables before, and a read of it
-abbrev pub visit_steps : Plan → ℕ
-visit_steps p = slots_below p (generations_of p) + get_steps p + 1
+-- the most steps where a walk meets a slot: its key, a search for the key in the tables before, and
+-- a read of it
+abbrev pub meeting_steps : Plan → ℕ
+meeting_steps p = slots_below p (generations_of p) + get_steps p + 1
 
 -- the most steps from one place of a walk to another, with T slots in all tables and B the bound of
 -- a read: T + B + 4 for each slot, so T (T + B + 4) for all calls of a walk together

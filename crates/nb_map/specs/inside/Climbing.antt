@@ -1,5 +1,5 @@
 -- Where a call has come to on its way up the tables, and what it comes to there.
-use Rattle.std.specs.Prelude.{ℕ, List, [], ◌∷◌, ◌≡◌, ◌≤◌, ◌<◌, ◌⊎◌, ◌+◌, suc, true, Option, None, Some, Result, Ok, Err}
+use Rattle.std.specs.Prelude.{ℕ, List, [], ◌∷◌, ◌≡◌, ◌≤◌, ◌<◌, ◌⊎◌, ◌+◌, suc, true, false, Option, None, Some, Result, Ok, Err}
 use Rattle.nb_core.specs.Calls.{Fills, leaves_alone}
 use Rattle.nb_core.specs.History.{key_of_call}
 use Rattle.nb_core.specs.Log.{reply_at}
@@ -69,7 +69,7 @@ IsSlotOf p t g i k = (i < size_of p g) × (t.key g i ≡ Claimed k)
 
 -- ---- what it comes to
 
--- the call only asks: it leaves alone whatever it finds
+-- the call leaves alone whatever it finds, as a read does
 abbrev pub IsRead : Call → Type 0
 IsRead call = (number : Option ℕ) → leaves_alone call number ≡ true
 
@@ -77,18 +77,19 @@ IsRead call = (number : Option ℕ) → leaves_alone call number ≡ true
 abbrev pub IsReplied : Call → Reply → Type 0
 IsReplied call reply = reply ≡ reply_at call reply.before
 
--- the call is a write, and is refused for a just reason
+-- the call is refused for a just reason, and doesn't leave alone whatever it finds
 abbrev pub IsRefused : Plan → Call → (before after : SeenBy) → (tries : ℕ) → PutFault → Type 0
 IsRefused p call before after tries why =
     IsJust p call before after tries why × (IsRead call → ⊥)
 
--- It has lost no more of its tries than others won exchanges on its key. A read loses none.
+-- It has lost no more of its tries than others won exchanges on its key. A call that leaves alone
+-- whatever it finds loses none.
 pub record IsSpent (call : Call) (before after : SeenBy) (tries left : ℕ) : Type 0 where
   pub fewer : left ≤ tries
   pub lost : tries ≤ left + passed_since call before after
   pub read : IsRead call → left ≡ tries
 
--- in the next table, where it may go on, it knows this of the one below
+-- it may go on in the next table, where it knows this of the table that it leaves
 abbrev pub GoesOn : Plan → Call → SeenBy → (g : ℕ) → Below → Type 0
 GoesOn p call seat g below =
     IsAbove p (seen_by p seat) g (key_of_call call)
@@ -101,6 +102,15 @@ IsVisit p call before after g tries left (Told reply) = IsReplied call reply
 IsVisit p call before after g tries left (Refused why) = IsRefused p call before after tries why
 IsVisit p call before after g tries left (Above below) = GoesOn p call after g below × (1 ≤ left)
 
+-- what a call without further tries comes to, which has found this number at its key, or none: it
+-- is made if it leaves that as it is
+abbrev pub IsWithoutTries : Call → Option ℕ → Visit → Type 0
+IsWithoutTries call found (Told reply) =
+    (leaves_alone call found ≡ true) × (reply ≡ reply_at call found)
+IsWithoutTries call found (Refused why) =
+    (leaves_alone call found ≡ false) × (why ≡ fault.Contended)
+IsWithoutTries call found (Above below) = ⊥
+
 -- the call, where it was made
 abbrev pub made_by : Call → Visit → List (Call × Reply)
 made_by call (Told reply) = (call, reply) ∷ []
@@ -109,9 +119,14 @@ made_by call (Above below) = []
 
 -- ---- the search for the key's slot
 
--- what it has come to without having tried an exchange: so it can be refused only as full
+-- the reply of a call that leaves an absent key alone, where it finds none
+abbrev pub IsForAbsent : Call → Reply → Type 0
+IsForAbsent call reply = (leaves_alone call None ≡ true) × (reply ≡ reply_at call None)
+
+-- What it has come to without a slot for its key: it is made only if it leaves an absent key alone,
+-- and it can be refused only as full.
 abbrev pub IsVisitHere : Plan → Call → SeenBy → (g : ℕ) → Visit → Type 0
-IsVisitHere p call seat g (Told reply) = IsReplied call reply
+IsVisitHere p call seat g (Told reply) = IsForAbsent call reply
 IsVisitHere p call seat g (Refused why) =
     (why ≡ fault.Full) × IsJustAdd p call seat add_fault.Full
 IsVisitHere p call seat g (Above below) = GoesOn p call seat g below
@@ -126,7 +141,7 @@ abbrev pub made_if_not_found : Call → Result ℕ Visit → List (Call × Reply
 made_if_not_found call (Ok i) = []
 made_if_not_found call (Err visit) = made_by call visit
 
--- the slot that the call had come to is its key's now, or it is another key's
+-- its key has this slot now; or another key has got the slot that the call had come to
 abbrev pub IsClaimed : Plan → Call → SeenBy → Rung → Option ℕ → Type 0
 IsClaimed p call seat rung (Some i) = IsSlotOf p (seen_by p seat) rung.g i (key_of_call call)
 IsClaimed p call seat rung None =

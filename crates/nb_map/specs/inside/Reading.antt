@@ -1,8 +1,7 @@
 -- What a probe of a key's path comes to in a table, and what a glance at the home slot shows of the
 -- key.
-use Rattle.std.specs.Prelude.{ℕ, List, [], Option, if◌then◌else◌, suc, ◌≡◌, ◌<◌, ◌==◌, None, true}
+use Rattle.std.specs.Prelude.{ℕ, List, [], Option, if◌then◌else◌, suc, ◌≡◌, ◌<◌, ◌==◌, None}
 use Rattle.nb_core.specs.Calls.{leaves_alone}
-use Rattle.nb_core.specs.Log.{reply_at}
 use Rattle.nb_core.specs.Plans.{Plan, size_of, generations_of}
 use Rattle.nb_core.specs.Tables.{IsInstalled, Tables, AreOthers, path_slot}
 use Rattle.nb_core.specs.declared.calls.Call.{Call}
@@ -43,10 +42,6 @@ read_at p g call (ends.Slot i) = []
 read_at p g call (ends.Empty d) = read_of call None
 read_at p g call ends.Closed = []
 read_at p g call ends.Whole = if suc g == generations_of p then read_of call None else []
-
--- the reply of a call that leaves an absent key alone, where it finds none
-abbrev pub IsForAbsent : Call → Reply → Type 0
-IsForAbsent call reply = (leaves_alone call None ≡ true) × (reply ≡ reply_at call None)
 
 -- ---- a glance at the home slot
 

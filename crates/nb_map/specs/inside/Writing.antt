@@ -46,7 +46,7 @@ pub record IsHomeOf (chain : ChainOf) (call : Call) (seat : SeenBy) (home : Slot
   pub ready : IsReady chain.shape (seen_by chain.shape seat) home.g
 
 -- what the seat has seen where a write with so many tries, of which so many are left, was told this
--- at its key's home slot: a reason for its refusal; or nothing, and it looks further
+-- at its key's home slot: a reason for its refusal; or nothing, and a try is left
 abbrev pub IsToldAtHome :
     Plan → Call → (before after : SeenBy) → (tries left : ℕ) → Option (Result Reply PutFault)
     → Type 0

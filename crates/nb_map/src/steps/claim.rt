@@ -19,9 +19,9 @@ use nb_core::{Call, KeyState};
 use nb_table::{Chain, ChainSeat};
 
 /// The key's slot in the table that a call has come to. Where it has none, one within the limit is
-/// claimed for it. If the table is being copied already, or other keys have the key's path up to
-/// the limit, the table is completed and the call goes on in the next one, which is installed first
-/// where it isn't there.
+/// claimed for it. If its path is closed, the call goes on in the next table. If the table has a
+/// next one, or other keys have the path up to the limit, the table is completed first, and the next
+/// one installed where it isn't there. If other keys have the whole last table, the call is refused.
 pub(crate) fn find_or_claim(
     chain: &Chain,
     seat: &mut ChainSeat,

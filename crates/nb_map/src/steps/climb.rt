@@ -1,10 +1,10 @@
 //! A call on its way up the tables, from the one in which it begins.
 ghost use Rattle.std.specs.Prelude.{IfErr, IfOk, ◌+◌, ◌-◌, ◌≤◌};
+ghost use Rattle.nb_core.specs.Plans.{size_of};
 ghost use Rattle.nb_map.specs.Calling.{HasMade};
 ghost use Rattle.nb_map.specs.Logs.{made_in};
 ghost use Rattle.nb_map.specs.Steps.{climb_steps, rung_steps, search_steps};
-ghost use Rattle.nb_map.specs.inside.Climbing.{IsAt, IsFound, IsRefused, IsReplied, IsSpent, IsVisit, made_by, made_if_not_found};
-ghost use Rattle.nb_map.specs.inside.Reading.{IsForAbsent};
+ghost use Rattle.nb_map.specs.inside.Climbing.{IsAt, IsForAbsent, IsFound, IsRefused, IsReplied, IsSpent, IsVisit, made_by, made_if_not_found};
 
 use crate::faults::PutFault;
 use crate::steps::claim::find_or_claim;
@@ -82,7 +82,8 @@ fn visit<P: Pause>(
 }
 
 /// The key's slot in the table that a call has come to, by a search along the key's path; or what
-/// the call comes to there without one. A call that puts a number at an absent key claims a slot.
+/// the call comes to there without one. A call that puts a number at an absent key claims one where
+/// its key has none.
 #[inline(always)]
 fn find(chain: &Chain, seat: &mut ChainSeat, call: &Call, rung: Rung) -> Result<usize, Visit>
     requires at { IsAt chain.now call.now seat.old rung }
@@ -107,7 +108,7 @@ fn seek(
     requires at { IsAt chain.now call.now seat.old rung }
     requires absent { IsForAbsent call.now absent }
     ensures made { HasMade chain.now.shape call.now seat.old seat.new
-        (made_if_not_found call.now result) (search_steps chain.now.shape rung.g) }
+        (made_if_not_found call.now result) (size_of chain.now.shape rung.g - rung.from + 1) }
     ensures found { IsFound chain.now.shape call.now seat.new rung.g result }
 {
     match probe(chain, seat, call, rung) {

@@ -51,7 +51,8 @@ pub(crate) struct Slot {
 pub(crate) enum Visit {
     /// It is made, and this is its reply.
     Told(Reply),
+    /// It is refused, and has made nothing.
     Refused(PutFault),
-    /// It goes on in the next table.
+    /// It goes on in the next table, and knows this of the table that it leaves.
     Above(Below),
 }

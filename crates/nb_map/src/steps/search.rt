@@ -1,4 +1,4 @@
-//! The search for a key in one table.
+//! The probe of a key's path in one table.
 ghost use Rattle.std.specs.Prelude.{◌≡◌};
 ghost use Rattle.nb_map.specs.Calling.{HasMade};
 ghost use Rattle.nb_map.specs.Steps.{probe_steps};

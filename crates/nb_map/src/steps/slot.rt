@@ -6,14 +6,14 @@ ghost use Rattle.nb_core.specs.declared.states.KeyState.TheVariants as key_is;
 ghost use Rattle.nb_table.specs.Chains.{IsOwn, seen_by};
 ghost use Rattle.nb_map.specs.Calling.{HasMade};
 ghost use Rattle.nb_map.specs.Steps.{pass_steps, slot_visit_steps};
-ghost use Rattle.nb_map.specs.inside.Climbing.{IsAbove, IsAtSlot, IsSpent, IsVisit, made_by};
+ghost use Rattle.nb_map.specs.inside.Climbing.{IsAbove, IsAtSlot, IsSpent, IsVisit, IsWithoutTries, made_by};
 
 use crate::faults::PutFault;
 use crate::steps::decide::{Decision, decide};
 use crate::steps::pause::Pause;
 use crate::steps::rung::{Below, Slot, Visit};
 use nb_copy::copy_and_count;
-use nb_core::{Call, Reply, ValueWord};
+use nb_core::{Call, Num, Reply, ValueWord};
 use nb_table::{Chain, ChainSeat};
 
 /// Makes a call at its key's slot. What the slot's value shows decides it, by a load or by an
@@ -45,9 +45,6 @@ pub(crate) fn call_at<P: Pause>(
             Decision::Leave(reply) => return Visit::Told(reply),
             Decision::Overflow => return Visit::Refused(PutFault::ValueRange),
             Decision::Exchange(to) => {
-                if *tries == 0 {
-                    return Visit::Refused(PutFault::Contended);
-                }
                 pause.before_exchange(chain);
                 let Err(found) = chain.win_value(seat, slot.g, slot.i, *call, from, to) else {
                     return Visit::Told(Reply {
@@ -55,8 +52,11 @@ pub(crate) fn call_at<P: Pause>(
                         matched: true,
                     });
                 };
-                if found.shows().is_some() {
+                if let Some(shown) = found.shows() {
                     *tries -= 1;
+                    if *tries == 0 {
+                        return without_tries(call, &shown);
+                    }
                 }
                 from = found;
             }
@@ -64,6 +64,16 @@ pub(crate) fn call_at<P: Pause>(
     }
     pass_slot(chain, seat, slot, from);
     Visit::Above(Below::HasKey)
+}
+
+/// What a call comes to that has lost its last try, and has found this number at its key, or none.
+fn without_tries(call: &Call, found: &Option<Num>) -> Visit
+    ensures { IsWithoutTries call.now found.now result }
+{
+    match decide(call, found) {
+        Decision::Leave(reply) => Visit::Told(reply),
+        _ => Visit::Refused(PutFault::Contended),
+    }
 }
 
 /// Finishes a slot that holds the value of this word, primed or final: a call that looks for the

@@ -5,7 +5,7 @@ ghost use Rattle.nb_core.specs.Tables.{HasSlot, IsInstalled, IsSlot};
 ghost use Rattle.nb_core.specs.declared.calls.Call.TheVariants as call;
 ghost use Rattle.nb_table.specs.Chains.{IsOwn, seen_by};
 ghost use Rattle.nb_map.specs.Calling.{HasMade};
-ghost use Rattle.nb_map.specs.Steps.{passing_steps, slots_ahead, slots_below, visit_steps};
+ghost use Rattle.nb_map.specs.Steps.{passing_steps, slots_ahead, slots_below, meeting_steps};
 ghost use Rattle.nb_map.specs.Walks.{HasPassed, IsFirstTable, IsPlace};
 ghost use Rattle.nb_map.specs.declared.steps.walk.Place.TheVariants as walk_at;
 ghost use Rattle.nb_map.specs.inside.Walking.{HasGone, IsEarlier, IsFirstOf};
@@ -97,7 +97,7 @@ fn next_in(chain: &Chain, seat: &mut ChainSeat, first: u32, g: u32, from: usize)
     requires within { from < size_of chain.now.shape g }
     ensures gone { HasGone chain.now.shape seat.old seat.new first (walk_at.Slot g from)
         (walk_at.Slot g result.to) result.shown
-        ((result.to - from) * visit_steps chain.now.shape) }
+        ((result.to - from) * meeting_steps chain.now.shape) }
     ensures onward { from < result.to }
     ensures within { result.to ≤ size_of chain.now.shape g }
     ensures whole { result.shown ≡ None → result.to ≡ size_of chain.now.shape g }

@@ -118,9 +118,10 @@ fn write_rounds<R: Wait>(
     unreachable!()
 }
 
-/// The straight way of a write, at its key's home slot in the top table: where that is its own; where it is empty and the write leaves an absent key at that; or where it is empty
-/// and is claimed for the key. `None` says that the write has to look further. No loop over slots
-/// or tables is on this way, so that it can stand in the code of the call.
+/// The straight way of a write, at its key's home slot in the top table. The write is made there if
+/// the slot is its key's; if it is empty and the write leaves an absent key alone; or if it is empty
+/// and can be claimed for the key. `None` says that the write has to look further. No loop over
+/// slots or tables is on this way, so that it can stand in the code of the call.
 #[inline(always)]
 #[tactic(auto, using(nb_core::proofs::Theorems::linked))]
 fn write_home<P: Pause>(

@@ -5,7 +5,7 @@ use Rattle.nb_core.specs.declared.calls.Call.TheVariants as call
 use Rattle.nb_core.specs.declared.states.KeyState.TheVariants.{Claimed}
 use Rattle.nb_table.specs.Chains.{seen_by}
 use Rattle.nb_map.proofs.Glanced.{made-glance, made-primed, made-untold}
-use Rattle.nb_map.proofs.Exchanged.{none-of, shown-none}
+use Rattle.nb_map.proofs.Tried.{none-of, shown-none}
 use Rattle.nb_map.proofs.Home.{primed-away}
 use Rattle.nb_map.proofs.Searched.{others-none}
 use Rattle.nb_map.proofs.steps.get.glance_at.Goals as goal

@@ -1,17 +1,20 @@
-use Rattle.std.proofs.Common.{◌≤◌, ◌∙◌, refl, sym, subst, arith}
+use Rattle.std.proofs.Common.{◌∙◌, ◌-◌, Some, sym, subst, arith}
 use Rattle.nb_core.specs.History.{key_of_call}
 use Rattle.nb_map.specs.inside.Writing.{IsDecided}
-use Rattle.nb_map.proofs.Exchanged.{ahead-lost, ahead-more, ahead-primed, none-of, none-unless, on-ok, shown-decided, shown-none, shown-some, some-of, tried-above, tried-as, tried-first, tried-left, tried-lost, tried-none, tried-primed, tried-won}
+use Rattle.nb_map.proofs.Tried.{HasTried, last-made, last-visit, none-of, on-ok, shown-decided, shown-none, shown-some, tried-above, tried-as, tried-first, tried-left, tried-lost, tried-none, tried-primed, tried-won}
 use Rattle.nb_map.proofs.Made.{made-more, made-within}
 use Rattle.nb_map.proofs.Rungs.{slot-stays}
 use Rattle.nb_map.proofs.Spent.{no-read, spent-later}
+use Rattle.nb_map.proofs.steps.slot.call_at.Given.{Over}
 use Rattle.nb_map.proofs.steps.slot.call_at.Goals as goal
+use Rattle.nb_map.proofs.steps.slot.call_at.Goals.{In-Some-shows}
 use Rattle.nb_table.proofs.Theorems.{steps_add_up}
 
 pub loop-number-init : goal.loop-number-init
 loop-number-init g c = record {
   tried = tried-first c.args.chain.now c.args.slot c.load_value_word-from.result c.args.tries.now
-      c.load_value_word-from.ensures.grows c.load_value_word-from.ensures.found c.requires.some;
+      c.load_value_word-from.ensures.grows c.load_value_word-from.ensures.found;
+  some = c.requires.some;
   serves = c.requires.serves;
 }
 
@@ -46,22 +49,6 @@ returns-in-Overflow g c =
             (key_of_call c.args.call.now) here.slot here.reached here.claimed _ c.in-Some.number
             tried.held tried.shows),
         no-read c.args.call.now c.in-Some.number refused.0,
-      );
-      spent = tried.spent;
-      serves = c.loop-number.invariant.serves;
-    }
-
-pub returns-then-tries-eq0 : goal.returns-then-tries-eq0
-returns-then-tries-eq0 g c =
-    let chain = c.args.chain.now in
-    let tried = tried-as (sym c.shows.ensures ∙ c.in-Some.is) c.loop-number.invariant.tried in
-    let acts = (subst (IsDecided c.args.call.now c.in-Some.number) c.in-Exchange.is
-    c.decide.ensures).0 in
-    record {
-      made = made-within _ _ (omega arith) (tried-none chain c.requires.at tried acts);
-      visit = (
-        omega (arith, tried.spent.lost, c.if-tries-eq0.true),
-        no-read c.args.call.now c.in-Some.number acts,
       );
       spent = tried.spent;
       serves = c.loop-number.invariant.serves;
@@ -104,50 +91,57 @@ returns-in_default-win_value g c =
 
 -- ---- an exchange that was lost to another write
 
-pub loop-number-smaller-then-is_some : goal.loop-number-smaller-then-is_some
-loop-number-smaller-then-is_some g c =
-    let some : 1 ≤ c.loop-number.tries = omega (arith, c.if-tries-eq0.false) in
-    ahead-more _ c.in-Some.number c.loop-number.tries _ (sym c.shows.ensures ∙ c.in-Some.is)
-    (ahead-lost _ c.loop-number.tries some)
-
-pub loop-number-preserved-then-is_some : goal.loop-number-preserved-then-is_some
-loop-number-preserved-then-is_some g c =
-    let some : 1 ≤ c.loop-number.tries = omega (arith, c.if-tries-eq0.false) in
+-- what was tried then
+lost :
+    (g : Over) (c : In-Some-shows g)
+    → HasTried c.args.chain.now.shape c.args.call.now c.args.seat.now c.win_value.new.seat
+    c.args.slot c.args.tries.now (c.loop-number.tries - 1) c.in-Err.found (Some c.in-Some-shows.shown)
+lost g c =
     let tried = tried-as (sym c.shows.ensures ∙ c.in-Some.is) c.loop-number.invariant.tried in
     let acts = (subst (IsDecided c.args.call.now c.in-Some.number) c.in-Exchange.is
     c.decide.ensures).0 in
-    let other = some-of c.shows-in-Exchange.result (sym c.is_some.ensures ∙ c.if-is_some.true) in
-    let shows = sym c.shows-in-Exchange.ensures ∙ other.1 in
-    let lost = c.in-Err.ensures.lost in
+    let other = c.in-Err.ensures.lost in
+    tried-lost c.args.chain.now c.requires.at tried c.in-Err.found acts other.1 other.2
+    c.in-Some-shows.shown other.0 (sym c.shows-in-Exchange.ensures ∙ c.in-Some-shows.is)
+    c.loop-number.invariant.some
+
+pub returns-then-tries-eq0 : goal.returns-then-tries-eq0
+returns-then-tries-eq0 g c =
+    let tried = lost g (goal.at.returns-then-tries-eq0 g c).In-Some-shows in
+    record {
+      made = last-made c.args.chain.now c.requires.at tried c.without_tries.result
+          c.without_tries.ensures;
+      visit = last-visit c.args.chain.now c.requires.at tried c.without_tries.result
+          c.if-tries-eq0.true c.without_tries.ensures;
+      spent = tried.spent;
+      serves = c.before_exchange.ensures.serves;
+    }
+
+pub loop-number-preserved-else-tries-eq0 : goal.loop-number-preserved-else-tries-eq0
+loop-number-preserved-else-tries-eq0 g c =
+    let shows = sym c.shows-in-Exchange.ensures ∙ c.in-Some-shows.is in
     record {
       tried = tried-as (sym shows)
-          (tried-lost c.args.chain.now c.requires.at tried c.in-Err.found acts lost.1 lost.2
-          other.0 lost.0 shows some);
+          (lost g (goal.at.loop-number-preserved-else-tries-eq0 g c).In-Some-shows);
+      some = omega (arith, c.if-tries-eq0.false);
       serves = c.before_exchange.ensures.serves;
     }
 
 -- ---- or to a copier
 
-pub loop-number-smaller : goal.loop-number-smaller
-loop-number-smaller g c =
-    let none = sym c.shows-in-Exchange.ensures
-    ∙ none-unless c.shows-in-Exchange.result (sym c.is_some.ensures ∙ c.if-is_some.false) in
-    ahead-more _ c.in-Some.number c.loop-number.tries _ (sym c.shows.ensures ∙ c.in-Some.is)
-    (ahead-primed _ c.loop-number.tries none)
-
 pub loop-number-preserved : goal.loop-number-preserved
 loop-number-preserved g c =
-    let some : 1 ≤ c.loop-number.tries = omega (arith, c.if-tries-eq0.false) in
     let tried = tried-as (sym c.shows.ensures ∙ c.in-Some.is) c.loop-number.invariant.tried in
     let acts = (subst (IsDecided c.args.call.now c.in-Some.number) c.in-Exchange.is
     c.decide.ensures).0 in
     let none = sym c.shows-in-Exchange.ensures
-    ∙ none-unless c.shows-in-Exchange.result (sym c.is_some.ensures ∙ c.if-is_some.false) in
-    let lost = c.in-Err.ensures.lost in
+    ∙ none-of c.shows-in-Exchange.result c.in_default-shows.not-Some in
+    let other = c.in-Err.ensures.lost in
     record {
       tried = tried-as (sym none)
-          (tried-primed c.args.chain.now c.requires.at tried c.in-Err.found acts lost.1 lost.2
-          none some);
+          (tried-primed c.args.chain.now c.requires.at tried c.in-Err.found acts other.1 other.2
+          none);
+      some = c.loop-number.invariant.some;
       serves = c.before_exchange.ensures.serves;
     }
 
@@ -175,7 +169,7 @@ returns g c =
       made = made-within _ _ (omega arith) (made-more chain c.requires.at.own tried.made pass);
       visit = (
         tried-above chain c.requires.at tried pass c.pass_slot.ensures.passed,
-        tried.some refl,
+        c.loop-number.invariant.some,
       );
       spent = spent-later tried.spent tried.made.grown pass.grown;
       serves = c.loop-number.invariant.serves;

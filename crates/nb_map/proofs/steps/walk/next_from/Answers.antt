@@ -5,7 +5,7 @@ use Rattle.nb_core.specs.Plans.{generations_of}
 use Rattle.nb_table.specs.Chains.{seen_by}
 use Rattle.nb_map.specs.inside.Walking.{HasGone}
 use Rattle.nb_map.specs.Walks.{IsPlace}
-use Rattle.nb_map.specs.Steps.{passing_steps, visit_steps, slots_ahead}
+use Rattle.nb_map.specs.Steps.{passing_steps, meeting_steps, slots_ahead}
 use Rattle.nb_map.specs.declared.steps.walk.Place.TheVariants.{Slot}
 use Rattle.nb_map.proofs.Made.{made-own, made-stays}
 use Rattle.nb_map.proofs.Passing.{slots-fall, stretch-steps, ways-add}
@@ -113,7 +113,7 @@ gone c =
     let steps = stretch-steps p g from to place (table c)
     c.next_in-to.ensures.onward c.next_in-to.ensures.within c.place_from.ensures.slots in
     let stretch =
-    gone-within chain ((to - from) * visit_steps p + 1) (passing_steps p (Slot g from) place) steps
+    gone-within chain ((to - from) * meeting_steps p + 1) (passing_steps p (Slot g from) place) steps
     (gone-then chain own is_first c.next_in-to.ensures.gone c.place_from.ensures.made
     (c.place_from.ensures.passed c.args.first)) in
     let so_far =

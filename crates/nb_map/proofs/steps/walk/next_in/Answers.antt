@@ -5,7 +5,7 @@ use Rattle.nb_map.specs.Logs.{as_replied}
 use Rattle.nb_map.specs.Calling.{HasMade}
 use Rattle.nb_map.specs.Steps.{get_steps}
 use Rattle.nb_map.specs.inside.Walking.{HasGone, IsFirstOf}
-use Rattle.nb_map.specs.Steps.{visit_steps}
+use Rattle.nb_map.specs.Steps.{meeting_steps}
 use Rattle.nb_map.specs.declared.steps.walk.Place.TheVariants.{Slot}
 use Rattle.nb_map.proofs.Made.{made-own}
 use Rattle.nb_map.proofs.Passing.{gone-found, gone-missed, gone-on, gone-skipped}
@@ -16,7 +16,7 @@ use Rattle.nb_map.proofs.steps.walk.next_in.Goals.{in-Some+in_default-get_at, in
 pub loop-i-init : goal.loop-i-init
 loop-i-init c =
     gone-within c.args.chain.now 0 ((c.args.from - c.args.from)
-    * visit_steps c.args.chain.now.shape) (omega arith)
+    * meeting_steps c.args.chain.now.shape) (omega arith)
     (gone-none c.args.chain.now c.args.seat.now c.requires.own c.args.first
     (Slot c.args.g c.args.from))
 
@@ -76,7 +76,7 @@ loop-i-preserved c =
           none w.get_at.ensures.made in
           subst (λ seat. HasGone p c.args.seat.now seat c.args.first (Slot c.args.g c.args.from)
           (Slot c.args.g (c.loop-i.i + 1)) None
-          ((c.loop-i.i + 1 - c.args.from) * visit_steps p))
+          ((c.loop-i.i + 1 - c.args.from) * meeting_steps p))
           (sym w.seat-is)
           (gone-on chain c.args.first c.args.g c.loop-i.i c.requires.table c.args.from
           c.loop-i.auto.i c.requires.own c.requires.first
@@ -89,7 +89,7 @@ loop-i-preserved c =
           none c.first_seen.ensures.first in
           subst (λ seat. HasGone p c.args.seat.now seat c.args.first (Slot c.args.g c.args.from)
           (Slot c.args.g (c.loop-i.i + 1)) None
-          ((c.loop-i.i + 1 - c.args.from) * visit_steps p))
+          ((c.loop-i.i + 1 - c.args.from) * meeting_steps p))
           (sym w.seat-is)
           (gone-on chain c.args.first c.args.g c.loop-i.i c.requires.table c.args.from
           c.loop-i.auto.i c.requires.own c.requires.first

@@ -5,7 +5,7 @@ use Rattle.nb_map.specs.inside.Climbing.{IsAt}
 use Rattle.nb_map.proofs.Rungs.{at-stays}
 use Rattle.nb_map.proofs.Spent.{just-longer, spent-sooner}
 use Rattle.nb_map.proofs.Straight.{at-there, made-elsewhere, made-there, short-elsewhere, short-there}
-use Rattle.nb_map.proofs.Written.{told-longer}
+use Rattle.nb_map.proofs.AtHome.{told-longer}
 use Rattle.nb_map.proofs.steps.write.put_if_match_in.Goals as goal
 use Rattle.nb_table.proofs.Theorems.{steps_add_up}
 

@@ -13,8 +13,8 @@ use Rattle.nb_map.specs.Progress.{IsAloneAtHome, IsKnownHome}
 use Rattle.nb_map.specs.declared.faults.PutFault.{PutFault}
 use Rattle.nb_map.specs.inside.Climbing.{rung_at}
 use Rattle.nb_map.specs.inside.Writing.{IsDecided, IsShortThere}
-use Rattle.nb_map.proofs.Aimed.{made-look, own-slot}
-use Rattle.nb_map.proofs.Exchanged.{acts-unless}
+use Rattle.nb_map.proofs.HomeSlot.{made-look, own-slot}
+use Rattle.nb_map.proofs.Tried.{acts-unless}
 use Rattle.nb_map.proofs.Home.{passed-away}
 use Rattle.nb_map.proofs.Made.{made-none, made-read, made-within}
 use Rattle.nb_map.proofs.Rungs.{at-slot, at-stays}

@@ -1,7 +1,7 @@
 -- What a call does at its key's slot, and what others did meanwhile.
 use Rattle.std.proofs.Common.{◌≡◌, ◌≢◌, ◌∙◌, ℕ, suc, zero, Bool, ◌+◌, ◌-◌, ◌≤◌, ◌<◌, true, false, cond, List, [], ◌∷◌, ◌++◌, length, Option, Some, None, Result, Ok, Err, ap, sym, subst, refl, arith}
 use Rattle.std.specs.FinMap as map
-use Rattle.std.specs.Prelude.{OnOk, is_some}
+use Rattle.std.specs.Prelude.{OnOk}
 use Rattle.std.specs.List.{All}
 use Rattle.std.proofs.lemmas.Bool.{eq-eqb, ne_eqb}
 use Rattle.std.proofs.lemmas.List.Elements.{All-head, All-tail}
@@ -14,6 +14,7 @@ use Rattle.nb_core.specs.Plans.{IsPlan, Plan, generations_of}
 use Rattle.nb_core.specs.Tables.{IsSettledBelow, IsSlot, IsUnprimed, tables_at}
 use Rattle.nb_core.specs.States.{shown_by_value}
 use Rattle.nb_core.specs.declared.calls.Call.{Call}
+use Rattle.nb_core.specs.declared.calls.Call.TheVariants.{Get, Write}
 use Rattle.nb_core.specs.declared.calls.Reply.{Reply}
 use Rattle.nb_core.specs.declared.events.Event.{Event}
 use Rattle.nb_core.specs.declared.events.Event.TheVariants.{Won, Read}
@@ -30,11 +31,14 @@ use Rattle.nb_map.proofs.Searched.{made-then}
 use Rattle.nb_map.proofs.Spent.{no-read, passed-sum, spent-later, spent-none}
 use Rattle.nb_map.specs.Calling.{HasMade}
 use Rattle.nb_map.specs.inside.Reading.{read_of}
-use Rattle.nb_map.specs.inside.Climbing.{GoesOn, IsAbove, IsAtSlot, IsSpent}
+use Rattle.nb_map.specs.inside.Climbing.{GoesOn, IsAbove, IsAtSlot, IsRefused, IsSpent, IsVisit, IsWithoutTries, made_by}
 use Rattle.nb_map.specs.inside.Writing.{IsDecided}
 use Rattle.nb_map.specs.Progress.{passed_since}
 use Rattle.nb_map.specs.declared.steps.rung.Below.TheVariants.{HasKey}
 use Rattle.nb_map.specs.declared.steps.rung.Slot.{Slot}
+use Rattle.nb_map.specs.declared.steps.rung.Visit.{Visit}
+use Rattle.nb_map.specs.declared.steps.rung.Visit.TheVariants.{Told, Refused, Above}
+use Rattle.nb_map.specs.Steps.{slot_visit_steps}
 use Rattle.nb_map.specs.declared.steps.decide.Decision.{Decision}
 use Rattle.nb_map.specs.declared.steps.decide.Decision.TheVariants as decision
 use Rattle.nb_core.proofs.Theorems.{beginnings_are_legal, decided, log_is_replayed, lost_exchange, passed_over_adds, passed_settled}
@@ -115,14 +119,13 @@ tries_ahead None left = 0
 tries_ahead (Some number) left = suc left
 
 -- A call has so many of its tries left at its key's slot, where this value was found last, which
--- shows this. If it shows nothing, there is a try left.
+-- shows this.
 pub record HasTried (p : Plan) (call : Call) (start now : SeenBy) (slot : Slot) (tries left : ℕ)
     (from : ValueState) (shown : Option (Option ℕ)) : Type 0 where
   pub made : HasMade p call start now (tried_calls call shown) (tried_steps shown (tries - left))
   pub held : (seen_by p now).value slot.g slot.i ≡ from
   pub shows : shown_by_value from ≡ shown
   pub spent : IsSpent call start now tries left
-  pub some : shown ≡ None → 1 ≤ left
 
 -- what was found shows this, said otherwise
 pub tried-as :
@@ -133,31 +136,16 @@ pub tried-as :
 tried-as {p} {call} {start} {now} {slot} {tries} {left} {from} is tried =
     subst (HasTried p call start now slot tries left from) is tried
 
--- there are fewer values that it may still find after an exchange that it lost
-pub ahead-lost :
-    (shown : Option (Option ℕ)) (left : ℕ) → 1 ≤ left → tries_ahead shown (left - 1) ≤ left
-ahead-lost None left some = omega arith
-ahead-lost (Some number) left some = omega (arith, some)
+-- a reply tells what the call found, and is the call's for that
+found-before : (call : Call) (number : Option ℕ) → (reply_at call number).before ≡ number
+found-before (Get k) number = refl
+found-before (Write k want change) number = refl
 
-pub ahead-primed :
-    (shown : Option (Option ℕ)) (left : ℕ) → shown ≡ None → tries_ahead shown left ≤ left
-ahead-primed None left is = omega arith
-ahead-primed (Some number) left is = absurd cc
-
-pub ahead-more :
-    (shown : Option (Option ℕ)) (number : Option ℕ) (left fewer : ℕ) → shown ≡ Some number
-    → fewer ≤ left → suc fewer ≤ tries_ahead shown left
-ahead-more None number left fewer is few = absurd cc
-ahead-more (Some other) number left fewer is few = omega (arith, few)
-
--- a value that is there
-pub some-of : {A : Type 0} (o : Option A) → is_some o ≡ true → (x : A) × (o ≡ Some x)
-some-of None is = absurd cc
-some-of (Some x) is = (x, refl)
-
-pub none-unless : {A : Type 0} (o : Option A) → is_some o ≡ false → o ≡ None
-none-unless None is = refl
-none-unless (Some x) is = absurd cc
+pub reply-fits :
+    (call : Call) (number : Option ℕ) (reply : Reply) → reply ≡ reply_at call number
+    → reply ≡ reply_at call reply.before
+reply-fits call number reply is =
+    is ∙ ap (reply_at call) (sym (ap (λ (r : Reply). r.before) is ∙ found-before call number))
 
 -- ---- the exchanges that others won
 
@@ -276,9 +264,9 @@ module _ (chain : ChainOf) where
   pub tried-first :
       {call : Call} {start after : SeenBy} (slot : Slot) (v : ValueState) (tries : ℕ)
       → Extended p start after (read start.number call (shown_by_value v)) 1
-      → (seen_by p after).value slot.g slot.i ≡ v → 1 ≤ tries
+      → (seen_by p after).value slot.g slot.i ≡ v
       → HasTried p call start after slot tries tries v (shown_by_value v)
-  tried-first {call} {start} {after} slot v tries load held some =
+  tried-first {call} {start} {after} slot v tries load held =
       at (shown_by_value v) refl (made-read p call (shown_by_value v) load)
     where
       at : (shown : Option (Option ℕ)) → shown_by_value v ≡ shown
@@ -289,14 +277,12 @@ module _ (chain : ChainOf) where
         held = held;
         shows = is;
         spent = spent-none call start after tries;
-        some = λ none. some;
       }
       at (Some number) is made = record {
         made = made-within 1 _ (omega arith) made;
         held = held;
         shows = is;
         spent = spent-none call start after tries;
-        some = λ none. some;
       }
 
   module _ {call : Call} {start now : SeenBy} {slot : Slot} {tries left : ℕ} {from : ValueState}
@@ -334,9 +320,8 @@ module _ (chain : ChainOf) where
         (held : (seen_by p after).value slot.g slot.i ≡ found) where
       -- or lost to a copier
       pub tried-primed :
-          shown_by_value found ≡ None → 1 ≤ left
-          → HasTried p call start after slot tries left found None
-      tried-primed shows some = record {
+          shown_by_value found ≡ None → HasTried p call start after slot tries left found None
+      tried-primed shows = record {
         made = made-within _ _ (omega arith)
             (made-then at.own (tried-none acts)
             (made-read p call None
@@ -344,7 +329,6 @@ module _ (chain : ChainOf) where
         held = held;
         shows = shows;
         spent = spent-later tried.spent tried.made.grown (steps_add_up.one step);
-        some = λ none. some;
       }
 
       -- or to another write, and what was found shows another number
@@ -375,8 +359,30 @@ module _ (chain : ChainOf) where
               );
               read = λ read. absurd (no-read call number acts read);
             };
-            some = λ none. absurd cc;
           }
+
+  -- what it comes to that has lost its last try
+  module _ {call : Call} {start now : SeenBy} {slot : Slot} {tries left : ℕ} {from : ValueState}
+      {number : Option ℕ} (at : IsAtSlot chain call start slot)
+      (tried : HasTried p call start now slot tries left from (Some number)) where
+    pub last-made :
+        (visit : Visit) → IsWithoutTries call number visit
+        → HasMade p call start now (made_by call visit)
+        (slot_visit_steps p slot.g visit + (tries - left))
+    last-made (Told reply) is =
+        made-within _ _ (omega arith) (tried-left at tried reply is.0 is.1)
+    last-made (Refused why) is = made-within _ _ (omega arith) (tried-none at tried is.0)
+    last-made (Above below) is = absurd is
+
+    pub last-visit :
+        (visit : Visit) → left ≡ 0 → IsWithoutTries call number visit
+        → IsVisit p call start now slot.g tries left visit
+    last-visit (Told reply) none is =
+        reply-fits call number reply is.1
+    last-visit (Refused why) none is =
+        subst (IsRefused p call start now tries) (sym is.1)
+        (omega (arith, tried.spent.lost, none), no-read call number is.0)
+    last-visit (Above below) none is = absurd is
 
   -- it goes on in the next table, once the slot is finished
   pub tried-above :
