@@ -179,11 +179,8 @@ fn has_home(chain: &Chain, seat: &mut ChainSeat, call: &Call, home: Slot, word: 
         → IsAtHome chain.now.shape (seen_by chain.now.shape seat.new) home.g
         (key_of_call call.now) → ⊥ }
 {
-    if word.is(call.key()) {
-        return true;
-    }
     if !word.is_empty() {
-        return false;
+        return word.is(call.key());
     }
     claim_home(chain, seat, call, home)
 }
