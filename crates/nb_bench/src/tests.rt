@@ -219,3 +219,35 @@ fn fault_texts(rt: HostRuntime) -> Result<(), Fail> {
     assert_says(&rt, &Fault::Usage, "bad usage; --help tells more")?;
     assert_says(&rt, &Fault::Write, "write failed")
 }
+
+/// What `--help` tells.
+const HELP: &str = "\
+Measures a map of whole numbers and prints 'nb WORKLOAD THREADS OPS NANOSECONDS'
+
+Usage: nb_bench [OPTIONS] <WORKLOAD> [THREADS] [SECONDS]
+
+Arguments:
+  <WORKLOAD>  A: gets; B: 90% gets; C: 50% gets; D: puts that make the map grow; \
+E: puts at one key; kinds: one kind of call after another; check: a test under load
+  [THREADS]   How many threads run at once, each with its own seat [default: 1]
+  [SECONDS]   How many seconds to measure, such as 0.5 [default: 1]
+
+Options:
+      --plan <E,E,..>  Tables of 2^E slots, one for each E
+      --stripes <P>    How many words the count of keys is spread over
+      --reprobes <N>   How many slots a new key may try before a table grows
+      --chunk <C>      How many slots a thread copies at a time [default: 8]
+      --keys <WHICH>   dense (0, 1, 2 and so on) or spread (over the whole range) [default: dense]
+      --calls <N>      How many calls each thread makes at most
+      --puts <N>       In check: how many puts each thread makes [default: 150000]
+      --adds <N>       In check: how many adds all threads make together [default: 10000000]
+  -h, --help           Print help
+";
+
+#[test]
+fn helps(rt: HostRuntime) {
+    let Err(Fault::Help(text)) = options(rt.alloc(), &["--help"]) else {
+        panic!(rt; "--help asks for help")
+    };
+    assert_eq!(rt; text.as_str(), HELP);
+}
