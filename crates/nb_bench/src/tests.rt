@@ -1,13 +1,15 @@
 //! Each workload is run with few calls.
 
 use crate::checks::{are_summed, are_told_once, do_adds, do_puts};
-use crate::faults::{Fault, Wrong};
+use crate::faults::{Fault, WorkFault, Wrong};
 use crate::keys::{KEY_COUNT, Spacing, shuffled};
 use crate::kinds;
 use crate::options::{Options, read_options};
 use crate::runs::{Measured, measure};
 use crate::workloads::Workload;
 use std::alloc::Global;
+use std::fmt::Display;
+use std::process::Abort;
 use std::rt::Clock;
 use std::sync::Wait;
 use std::test::Fail;
@@ -177,4 +179,75 @@ fn refuses_other_words(rt: HostRuntime) {
         let result = options(rt.alloc(), words);
         assert!(rt; matches!(&result, Err(Fault::Usage)), "{words:?}");
     }
+}
+
+/// Sees what is said of a fault.
+fn assert_says<R: Abort + AllocGlobal, E: Display>(
+    rt: &R,
+    fault: &E,
+    text: &str,
+) -> Result<(), Fail> {
+    let said = format!(in rt.alloc(); "{fault}")?;
+    assert_eq!(rt; said.as_str(), text);
+    Ok(())
+}
+
+#[test]
+fn fault_texts(rt: HostRuntime) -> Result<(), Fail> {
+    for (fault, text) in [
+        (
+            WorkFault::Full,
+            "the map is full: the plan has too few slots",
+        ),
+        (WorkFault::Clock, "the clock can't be read"),
+        (WorkFault::Range, "a number is too large"),
+        (WorkFault::OutOfMemory, "out of memory"),
+    ] {
+        assert_says(&rt, &fault, text)?;
+        assert_says(&rt, &Fault::Work(fault), text)?;
+    }
+    for (wrong, text) in [
+        (Wrong::Told, "a number was told twice, or never"),
+        (Wrong::Sum, "the sum isn't what was added"),
+        (Wrong::Size, "the size isn't the number of keys"),
+    ] {
+        assert_says(&rt, &wrong, text)?;
+        assert_says(&rt, &Fault::Wrong(wrong), text)?;
+    }
+    let help = String::from_str(rt.alloc(), "a help\n")?;
+    assert_says(&rt, &Fault::Help(help), "a help\n")?;
+    assert_says(&rt, &Fault::Usage, "bad usage; --help tells more")?;
+    assert_says(&rt, &Fault::Write, "write failed")
+}
+
+/// What `--help` tells.
+const HELP: &str = "\
+Measures a map of whole numbers and prints 'nb WORKLOAD THREADS OPS NANOSECONDS'
+
+Usage: nb_bench [OPTIONS] <WORKLOAD> [THREADS] [SECONDS]
+
+Arguments:
+  <WORKLOAD>  A: gets; B: 90% gets; C: 50% gets; D: puts that make the map grow; \
+E: puts at one key; kinds: one kind of call after another; check: a test under load
+  [THREADS]   How many threads run at once, each with its own seat [default: 1]
+  [SECONDS]   How many seconds to measure, such as 0.5 [default: 1]
+
+Options:
+      --plan <E,E,..>  Tables of 2^E slots, one for each E
+      --stripes <P>    How many words the count of keys is spread over
+      --reprobes <N>   How many slots a new key may try before a table grows
+      --chunk <C>      How many slots a thread copies at a time [default: 8]
+      --keys <WHICH>   dense (0, 1, 2 and so on) or spread (over the whole range) [default: dense]
+      --calls <N>      How many calls each thread makes at most
+      --puts <N>       In check: how many puts each thread makes [default: 150000]
+      --adds <N>       In check: how many adds all threads make together [default: 10000000]
+  -h, --help           Print help
+";
+
+#[test]
+fn helps(rt: HostRuntime) {
+    let Err(Fault::Help(text)) = options(rt.alloc(), &["--help"]) else {
+        panic!(rt; "--help asks for help")
+    };
+    assert_eq!(rt; text.as_str(), HELP);
 }

@@ -1,5 +1,5 @@
 /* Each call once, with each of its answers and refusals but want of memory (memory.c), a write
- * that others came before, and SAMVOLIP_E_LOST; by one thread. */
+ * that others came before, and SAMVOLIP_E_LOST; by one thread. And the text of each code. */
 #include "samvolip.h"
 
 #include "expect.h"
@@ -207,6 +207,42 @@ static void splits_and_joins(void)
     EXPECT(ended.handle == NULL);
 }
 
+static void tells_codes(void)
+{
+    static const struct {
+        int code;
+        const char *text;
+    } told[] = {
+        {SAMVOLIP_PRESENT, "made, and there was a number"},
+        {SAMVOLIP_OK, "made"},
+        {SAMVOLIP_ABSENT, "made"},
+        {SAMVOLIP_E_TABLES, "number of tables out of range"},
+        {SAMVOLIP_E_EXPONENTS, "exponent out of range"},
+        {SAMVOLIP_E_FALLING, "a table smaller than the one before it"},
+        {SAMVOLIP_E_SEATS, "number of seats out of range"},
+        {SAMVOLIP_E_STRIPES, "number of stripes out of range"},
+        {SAMVOLIP_E_REPROBES, "reprobe limit out of range"},
+        {SAMVOLIP_E_CHUNK, "chunk out of range"},
+        {SAMVOLIP_E_OUT_OF_MEMORY, "out of memory"},
+        {SAMVOLIP_E_KEY_RANGE, "key too large"},
+        {SAMVOLIP_E_VALUE_RANGE, "value too large"},
+        {SAMVOLIP_E_WANT, "no such condition"},
+        {SAMVOLIP_E_CHANGE, "no such change"},
+        {SAMVOLIP_E_FULL, "the map is full"},
+        {SAMVOLIP_E_CONTENDED, "other writes of the key came first"},
+        {SAMVOLIP_E_SUM_RANGE, "sum too large"},
+        {SAMVOLIP_E_NO_SEAT, "no seat in reserve"},
+        {SAMVOLIP_E_NOT_ALL_SEATS, "not all seats of the map"},
+        {SAMVOLIP_E_ROOM, "the array is too small"},
+        {SAMVOLIP_E_LOST, "the map was given up"},
+        {SAMVOLIP_E_VERSION, "the header isn't the library's"},
+        {SAMVOLIP_PRESENT + 1, "no such code"},
+        {SAMVOLIP_E_VERSION - 1, "no such code"},
+    };
+    for (size_t i = 0; i < sizeof told / sizeof *told; i++)
+        EXPECT(strcmp(samvolip_strerror(told[i].code), told[i].text) == 0);
+}
+
 int main(void)
 {
     EXPECT(samvolip_version() == SAMVOLIP_VERSION);
@@ -224,9 +260,7 @@ int main(void)
     EXPECT(seat.handle == NULL);
     refuses_when_full();
     splits_and_joins();
-    for (int code = SAMVOLIP_E_VERSION; code <= SAMVOLIP_PRESENT; code++)
-        EXPECT(strcmp(samvolip_strerror(code), "no such code") != 0);
-    EXPECT(strcmp(samvolip_strerror(2), "no such code") == 0);
+    tells_codes();
     puts("calls: well");
     return 0;
 }

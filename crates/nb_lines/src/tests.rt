@@ -191,3 +191,30 @@ fn a_read_fails(rt: HostRuntime) {
     let fault = finished(rt.alloc(), reader);
     assert!(rt; matches!(&fault, Err(Fault::Read)));
 }
+
+#[test]
+fn fault_texts(rt: HostRuntime) -> Result<(), Fail> {
+    for (cause, text) in [
+        (Cause::NotANumber, "not a number"),
+        (Cause::TooLarge, "number too large"),
+        (Cause::TooLong, "line too long"),
+        (Cause::NoRequest, "neither get nor put"),
+    ] {
+        assert_eq!(rt; cause.to_string(rt.alloc())?.as_str(), text);
+    }
+    let help = String::from_str(rt.alloc(), "a help\n")?;
+    for (fault, text) in [
+        (Fault::Usage, "bad usage; --help tells more"),
+        (Fault::Help(help), "a help\n"),
+        (Fault::Read, "read failed"),
+        (Fault::Write, "write failed"),
+        (Fault::Line(12, Cause::TooLong), "line 12: line too long"),
+        (Fault::Full, "more different numbers than there is room for"),
+        (Fault::TooOften, "a number comes too often"),
+        (Fault::Unshown, "a value isn't shown"),
+        (Fault::OutOfMemory, "out of memory"),
+    ] {
+        assert_eq!(rt; fault.to_string(rt.alloc())?.as_str(), text);
+    }
+    Ok(())
+}

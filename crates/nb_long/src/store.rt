@@ -229,3 +229,6 @@ impl<V> Store<V> {
         true
     }
 }
+
+#[cfg(test)]
+mod tests;

@@ -1,6 +1,7 @@
+import java.util.Arrays;
 import java.util.OptionalLong;
 
-/** Four threads add to one map; and some calls and refusals. */
+/** Threads add to one map, by seats of their own and by one seat; and each call once, and some refusals. */
 public final class SamvolipTest {
     private static void expect(boolean holds) {
         if (!holds) throw new AssertionError();
@@ -51,13 +52,34 @@ public final class SamvolipTest {
         }
     }
 
+    /** Two threads call with one seat at once: each add answers what the one before it left, and the sum is right. */
+    private static void oneSeat() throws InterruptedException {
+        Samvolip.Seat seat = Samvolip.Seat.open(new int[] {4}, 1, 1);
+        long[] found = new long[100000];
+        Thread[] threads = new Thread[2];
+        for (int t = 0; t < 2; t++) {
+            final int from = t * 50000;
+            threads[t] = new Thread(() -> {
+                for (int i = from; i < from + 50000; i++) found[i] = seat.add(7, 1).orElse(0);
+            });
+            threads[t].start();
+        }
+        for (Thread thread : threads) thread.join();
+        expect(seat.get(7).equals(OptionalLong.of(100000)));
+        Arrays.sort(found);
+        for (int i = 0; i < found.length; i++) expect(found[i] == i);
+        seat.close();
+    }
+
     private static void calls() {
         Samvolip.Seat seat = Samvolip.Seat.open(new int[] {4, 5}, 1, 1);
         expect(seat.put(1, 2).isEmpty());
         expect(seat.putIfAbsent(1, 3).equals(OptionalLong.of(2)));
         expect(seat.replace(1, 4).equals(OptionalLong.of(2)));
         expect(!seat.replace(1, 2, 5) && seat.replace(1, 4, 5));
+        expect(seat.sizeEstimate() == 1);
         expect(!seat.remove(1, 4) && seat.remove(1).equals(OptionalLong.of(5)));
+        expect(seat.sizeEstimate() == 0);
         expect(refused(() -> seat.get(-1)) == Samvolip.E_KEY_RANGE);
         expect(refused(() -> seat.put(1, -1)) == Samvolip.E_VALUE_RANGE);
         expect(refused(() -> Samvolip.Seat.open(new int[] {5, 4}, 1, 1)) == Samvolip.E_FALLING);
@@ -67,6 +89,7 @@ public final class SamvolipTest {
 
     public static void main(String[] words) throws InterruptedException {
         threads();
+        oneSeat();
         calls();
         System.out.println("java: well");
     }

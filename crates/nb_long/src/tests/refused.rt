@@ -1,9 +1,10 @@
-//! Each call that takes memory, where there is none: a value that can't be stored comes back.
+//! Each call that takes memory, where there is none: a value that can't be stored comes back, and a
+//! map that can't be opened leaves nothing.
 ghost use Rattle.nb_map.specs.Maps.{IsMine};
 
 use super::on_map::*;
-use crate::{LongFault, LongMap, Stored};
-use nb_core::OutOfMemory;
+use crate::{Handle, LongFault, LongMap, Stored};
+use nb_core::{OutOfMemory, Shape};
 use nb_map::Seat;
 use std::alloc::Global;
 use std::process::Abort;
@@ -89,6 +90,21 @@ fn replaces_if<R: Wait + Abort>(rt: &R, map: &LongMap<u64>, seat: &mut Seat)
     assert!(rt; !done);
 }
 
+/// A refused map of handles is asked for again. Then each seat has its handle, and all of them close
+/// the map.
+fn opens<R: Wait + Abort>(rt: &R, alloc: Global, shape: Shape) -> Result<(), OutOfMemory> {
+    let handles: Vec<Handle<u64>> = match Handle::open(alloc, shape) {
+        Ok(handles) => handles,
+        Err(OutOfMemory) => Handle::open(alloc, shape)?,
+    };
+    assert_eq!(rt; handles.len(), shape.seats());
+    let Ok((ended, _store)) = Handle::close(rt, handles) else {
+        panic!(rt; "all handles are here")
+    };
+    assert_eq!(rt; ended.size(), 0);
+    Ok(())
+}
+
 /// What takes memory is called again where it was refused, and then it has it: so this passes
 /// whichever one request is refused.
 #[test]
@@ -101,5 +117,6 @@ fn refused_memory(rt: HostRuntime) -> Result<(), Fail> {
     replaces(&rt, &map, &mut seat);
     let (map, mut seat) = fresh(&rt, rt.alloc());
     replaces_if(&rt, &map, &mut seat);
+    opens(&rt, rt.alloc(), Shape::new(2, 2, 3, 1)?)?;
     Ok(())
 }

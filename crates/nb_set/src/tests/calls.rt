@@ -2,8 +2,9 @@
 ghost use Rattle.nb_set.specs.Sets.{IsMine};
 
 use super::on_set::*;
-use crate::{Full, LongSet, Seat};
-use nb_core::NotAll;
+use crate::{Full, Handle, LongSet, Seat};
+use nb_core::{NotAll, OutOfMemory, Shape};
+use std::alloc::Global;
 use std::process::Abort;
 use std::sync::Wait;
 use std::test::Fail;
@@ -19,6 +20,21 @@ fn set_of_keys(rt: HostRuntime) -> Result<(), Fail> {
     assert!(rt; !has(&rt, &set, &mut seat, 3));
     assert_eq!(rt; add(&rt, &set, &mut seat, 3), Ok(true));
     one_leaves(&rt, rt.alloc(), set, seat, &[3])?;
+    Ok(())
+}
+
+/// A refused set of handles is asked for again. Then each seat has its handle, and all of them close
+/// the set.
+fn opens<R: Wait + Abort>(rt: &R, alloc: Global, shape: Shape) -> Result<(), OutOfMemory> {
+    let handles = match Handle::open(alloc, shape) {
+        Ok(handles) => handles,
+        Err(OutOfMemory) => Handle::open(alloc, shape)?,
+    };
+    assert_eq!(rt; handles.len(), shape.seats());
+    let Ok(ended) = Handle::close(rt, handles) else {
+        panic!(rt; "all handles are here")
+    };
+    assert_eq!(rt; ended.size(), 0);
     Ok(())
 }
 
@@ -39,6 +55,7 @@ fn refused_memory(rt: HostRuntime) -> Result<(), Fail> {
         Err(_) => ended.entries(rt.alloc())?,
     };
     assert_eq!(rt; entries.len(), 1);
+    opens(&rt, rt.alloc(), Shape::new(2, 2, 3, 1)?)?;
     Ok(())
 }
 

@@ -48,6 +48,7 @@ fn calls_and_refusals() {
     assert_eq!(seat.replace(1, 4), Ok(Some(2)));
     assert_eq!(seat.replace_if(1, 2, 5), Ok(false));
     assert_eq!(seat.replace_if(1, 4, 5), Ok(true));
+    assert_eq!(seat.size_estimate(), 1);
     assert_eq!(seat.remove_if(1, 4), Ok(false));
     assert_eq!(seat.remove(1), Ok(Some(5)));
     assert_eq!(seat.get(1), Ok(None));
@@ -60,4 +61,18 @@ fn calls_and_refusals() {
     assert!(Shape::for_keys(1 << 20, 1).is_none());
     let falling = Shape { exponents: vec![5, 4], ..Shape::for_keys(10, 1).unwrap() };
     assert_eq!(Seat::open(&falling).err(), Some(Fault::Falling));
+}
+
+#[test]
+fn a_map_grows() {
+    let shape = Shape {
+        exponents: vec![2, 5],
+        ..Shape::for_keys(10, 1).unwrap()
+    };
+    let mut seat = Seat::open(&shape).unwrap();
+    assert_eq!((seat.size_estimate(), seat.generation()), (0, 0));
+    for key in 0..10 {
+        assert_eq!(seat.put(key, key), Ok(None));
+    }
+    assert_eq!((seat.size_estimate(), seat.generation()), (10, 1));
 }
