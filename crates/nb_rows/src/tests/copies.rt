@@ -274,9 +274,9 @@ fn three_helpers(rt: HostRuntime) -> Result<(), Fail> {
     let mut b = taken(&rt, &chain, &mut seats);
     let mut a = taken(&rt, &chain, &mut seats);
     three_help(&rt, &chain, &mut a, &mut b, &mut c);
-    seats.push(c)?;
-    seats.push(a)?;
-    seats.push(b)?;
+    gives_back(&chain, &mut seats, c)?;
+    gives_back(&chain, &mut seats, a)?;
+    gives_back(&chain, &mut seats, b)?;
     leaves(&rt, rt.alloc(), chain, seats, &SIX)?;
     Ok(())
 }
