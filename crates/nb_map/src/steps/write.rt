@@ -185,10 +185,7 @@ fn has_home(chain: &Chain, seat: &mut ChainSeat, call: &Call, home: Slot, word: 
         → IsAtHome chain.now.shape (seen_by chain.now.shape seat.new) home.g
         (key_of_call call.now) → ⊥ }
 {
-    if !word.is_empty() {
-        return word.is(call.key());
-    }
-    claim_home(chain, seat, call, home)
+    word.is(call.key()) || (word.is_empty() && claim_home(chain, seat, call, home))
 }
 
 /// Claims the key's home slot, which was seen empty, for a call that puts a number at an absent
