@@ -314,7 +314,7 @@ static inline void samvolip_free(samvolip_seat *seat)
  * What is at a key. It returns SAMVOLIP_PRESENT, and the number is written; or SAMVOLIP_ABSENT, and
  * 0 is written. If the call is refused, `number` stays as it was.
  *
- * Cost: wait-free. In the common case three loads.
+ * Cost: wait-free. In the common case two loads.
  * Refused: SAMVOLIP_E_KEY_RANGE.
  */
 int samvolip_get(samvolip_seat *seat, uint64_t key, uint64_t *number);
@@ -326,8 +326,8 @@ int samvolip_get(samvolip_seat *seat, uint64_t key, uint64_t *number);
  * If the call is refused, `reply` stays as it was. If another thread's write of the key comes in
  * between, it tries again, `tries` times in all; 0 counts as one.
  *
- * Cost: wait-free. In the common case three loads and an exchange (a compare-and-swap), and one
- * more step on the count if a key comes or goes. A key that has no slot takes one more load and one
+ * Cost: wait-free. In the common case two loads and an exchange (a compare-and-swap), and one more
+ * step on the count if a key comes or goes. A key that has no slot takes one more load and one
  * more exchange. If a new key finds its table growing, the table is copied first.
  * Refused: SAMVOLIP_E_KEY_RANGE, SAMVOLIP_E_VALUE_RANGE, SAMVOLIP_E_WANT, SAMVOLIP_E_CHANGE,
  * SAMVOLIP_E_FULL, SAMVOLIP_E_CONTENDED, SAMVOLIP_E_SUM_RANGE.

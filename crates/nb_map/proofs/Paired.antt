@@ -108,7 +108,7 @@ new-mine m plan seats count are =
     All-same (IsMine m) seats (new_seats m count) are
     (All-numbered (IsMine m) (new_seat m) 0 count
     (λ n low high. record {
-      chain = record { at = refl; plan = plan; legal = tt };
+      chain = record { at = refl; plan = plan; legal = tt; known = omega arith };
       counter = refl;
       counted = refl;
     }))

@@ -66,18 +66,24 @@ reached-lasts p t u lasting g k table reached = record {
   below = λ f below. lasting.passed f k (omega (arith, table, below)) (reached.below f below);
 }
 
--- a search may begin at the top
-pub reached-top :
+-- a search may begin in any table up to the top
+pub reached-up-to :
     (chain : ChainOf) (seat : SeenBy) → IsOwn chain seat
-    → (k top : ℕ) → (seen_by chain.shape seat).top ≡ top
-    → IsReached chain.shape (seen_by chain.shape seat) top k
-reached-top chain seat own k top is =
-    subst (λ g. IsReached chain.shape (seen_by chain.shape seat) g k) is (record {
-      installed = (linked chain.shape own.plan seat.seen own.legal).top;
-      below = λ f low.
-          let complete = top_complete chain.shape own.plan seat.seen own.legal f low in
-          complete_passed chain.shape own.plan seat.seen own.legal f k complete.0 complete.1;
-    })
+    → (k g : ℕ) → g ≤ (seen_by chain.shape seat).top
+    → IsReached chain.shape (seen_by chain.shape seat) g k
+reached-up-to chain seat own k g low = record {
+  installed = there g low;
+  below = λ f lower.
+      let complete = top_complete chain.shape own.plan seat.seen own.legal f (omega (arith, low, lower))
+      in
+      complete_passed chain.shape own.plan seat.seen own.legal f k complete.0 complete.1;
+}
+  where
+    there : (g : ℕ) → g ≤ (seen_by chain.shape seat).top → IsInstalled (seen_by chain.shape seat) g
+    there zero low = tt
+    there (suc g) low =
+        let complete = top_complete chain.shape own.plan seat.seen own.legal g (omega (arith, low)) in
+        (linked chain.shape own.plan seat.seen own.legal).complete g complete.0 complete.1
 
 -- all tables below the top are complete
 pub complete-below :
@@ -87,13 +93,13 @@ pub complete-below :
 complete-below chain seat own top is g below =
     (top_complete chain.shape own.plan seat.seen own.legal g (omega (arith, is, below))).1
 
--- also the one just below
-pub ready-top :
-    (chain : ChainOf) (seat : SeenBy) → IsOwn chain seat → (top : ℕ)
-    → (seen_by chain.shape seat).top ≡ top → IsReady chain.shape (seen_by chain.shape seat) top
-ready-top chain seat own zero is = tt
-ready-top chain seat own (suc g) is =
-    complete-below chain seat own (suc g) is g (omega arith)
+-- so the one just below such a table is complete, if there is one
+pub ready-up-to :
+    (chain : ChainOf) (seat : SeenBy) → IsOwn chain seat → (g : ℕ)
+    → g ≤ (seen_by chain.shape seat).top → IsReady chain.shape (seen_by chain.shape seat) g
+ready-up-to chain seat own zero low = tt
+ready-up-to chain seat own (suc g) low =
+    complete-below chain seat own (seen_by chain.shape seat).top refl g (omega (arith, low))
 
 -- it goes on above where the key's path is closed
 pub closed-above :

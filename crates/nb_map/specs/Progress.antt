@@ -46,6 +46,13 @@ IsSeenAtHome p before after k =
     ((seen_by p before).top ≡ (seen_by p after).top)
     × IsAtHome p (seen_by p after) (seen_by p after).top k
 
+-- How short a read of a key is. It makes at most two steps, if the key is at home in the table that
+-- the seat remembered. It makes at most five, if the key is at home in the top table, and the seat
+-- learns of no new one.
+pub record IsShortRead (p : Plan) (key : ℕ) (before after : SeenBy) : Type 0 where
+  pub two_steps : IsAtHome p (seen_by p after) before.top key → after.steps ≤ before.steps + 2
+  pub five_steps : IsSeenAtHome p before after key → after.steps ≤ before.steps + 5
+
 -- the call's key is at home in the table after these steps, and others have won no exchange on it
 -- meanwhile
 pub record IsAloneAtHome (p : Plan) (g : ℕ) (call : Call) (before after : SeenBy) : Type 0 where
@@ -60,20 +67,13 @@ pub record IsKnownHome (p : Plan) (g : ℕ) (call : Call) (seat : SeenBy) : Type
 pub record IsLastSeen (p : Plan) (g : ℕ) (seat : SeenBy) : Type 0 where
   pub none_above : IsInstalled (seen_by p seat) (suc g) → ⊥
 
--- the seat has learned of no new top table, and was alone with the call's key at home in the one
--- that it knows
-abbrev pub IsSeenAlone : Plan → Call → (before after : SeenBy) → Type 0
-IsSeenAlone p call before after =
-    ((seen_by p before).top ≡ (seen_by p after).top)
-    × IsAloneAtHome p (seen_by p after).top call before after
-
--- How short a write is that is alone with its key at home in the top table. It makes at most four
--- steps, if it puts no number at an absent key, or if the seat knew the home slot as the key's. It
--- makes at most six, if the seat knows of no table above.
+-- How short a write is that is alone with its key at home in the table that its seat remembers. It
+-- makes at most three steps, if it puts no number at an absent key, or if the seat knew the home
+-- slot as the key's. It makes at most five, if the seat knows of no table above.
 pub record IsShortAtHome (p : Plan) (call : Call) (before after : SeenBy) : Type 0 where
-  pub four_steps :
-      IsSeenAlone p call before after → IsKnownHome p (seen_by p before).top call before
-      → after.steps ≤ before.steps + 4
-  pub six_steps :
-      IsSeenAlone p call before after → IsLastSeen p (seen_by p after).top after
-      → after.steps ≤ before.steps + 6
+  pub three_steps :
+      IsAloneAtHome p before.top call before after → IsKnownHome p before.top call before
+      → after.steps ≤ before.steps + 3
+  pub five_steps :
+      IsAloneAtHome p before.top call before after → IsLastSeen p before.top after
+      → after.steps ≤ before.steps + 5

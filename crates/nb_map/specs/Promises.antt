@@ -1,6 +1,6 @@
 -- What the calls of a map promise: one record for each kind of call. The map and its handles cite
 -- them. What an update promises is in `Updating`, and what the end of a map does in `Ending`.
-use Rattle.std.specs.Prelude.{ℕ, Bool, Option, Result, Ok, Err, ◌+◌, ◌≤◌, ◌≡◌, ◌<◌, [], List, IfSome}
+use Rattle.std.specs.Prelude.{ℕ, Bool, Option, Result, Ok, Err, ◌≡◌, ◌<◌, [], List, IfSome}
 use Rattle.nb_core.specs.Log.{reply_at, IsBeginning}
 use Rattle.nb_core.specs.Tables.{IsComplete}
 use Rattle.nb_core.specs.declared.calls.Call.TheVariants.{Get}
@@ -11,7 +11,7 @@ use Rattle.nb_table.specs.Chains.{Extended, seen_by}
 use Rattle.nb_map.specs.Handles.{HandleWalkOf}
 use Rattle.nb_map.specs.Logs.{HasReplied, HasFound, HasMatched, log, HasLogged}
 use Rattle.nb_map.specs.Maps.{SeatOf, MapOf, IsMine, HasWorked}
-use Rattle.nb_map.specs.Progress.{IsLockFree, IsShortAtHome, IsWaitFree, IsSeenAtHome}
+use Rattle.nb_map.specs.Progress.{IsLockFree, IsShortAtHome, IsShortRead, IsWaitFree}
 use Rattle.nb_map.specs.Refusals.{HasRefused, HasGivenUp}
 use Rattle.nb_map.specs.Steps.{get_steps, slots_ahead, passing_steps}
 use Rattle.nb_map.specs.Walks.{WalkOf, IsWalkOf, begun_by, IsUnderway, HasWalked, HasRead, with_shown}
@@ -65,7 +65,8 @@ pub record HasWritten (map : MapOf) (call : Call) (before after : SeatOf)
   pub answered : HasAnswered (HasRefused map call before after) call before after outcome
   -- its steps have a bound that grows only with the exchanges that others win on its key
   pub lock_free : IsLockFree map call before after
-  -- at most four steps, or six, where it is alone with its key at home in the top table
+  -- at most three steps, or five, where it is alone with its key at home in the table that the seat
+  -- remembered
   pub short : IsShortAtHome map.chain.shape call before.chain after.chain
   -- the seat is still the map's
   pub own : IsMine map after
@@ -78,7 +79,8 @@ pub record HasTriedToWrite (map : MapOf) (call : Call) (before after : SeatOf) (
   -- its steps have a bound whatever others do, which grows with its tries, or with the exchanges
   -- that others win on its key if these are fewer
   pub wait_free : IsWaitFree map call before after tries
-  -- at most four steps, or six, where it is alone with its key at home in the top table
+  -- at most three steps, or five, where it is alone with its key at home in the table that the seat
+  -- remembered
   pub short : IsShortAtHome map.chain.shape call before.chain after.chain
   -- the seat is still the map's, as after every call
   pub own : IsMine map after
@@ -92,10 +94,9 @@ pub record HasGot (map : MapOf) (key : ℕ) (before after : SeatOf) (found : Opt
   pub replied : HasReplied (Get key) before after (reply_at (Get key) found)
   -- it is wait-free: its steps have a bound, whatever others do
   pub worked : HasWorked map (Get key) before after (get_steps map.chain.shape)
-  -- at most three steps, where the key is at home in the top table
-  pub short :
-      IsSeenAtHome map.chain.shape before.chain after.chain key
-      → after.chain.steps ≤ before.chain.steps + 3
+  -- at most two steps, where the key is at home in the table that the seat remembered; and at most
+  -- five, where it is so in the top table
+  pub short : IsShortRead map.chain.shape key before.chain after.chain
   pub own : IsMine map after
 
 -- ---- looks at the map as a whole

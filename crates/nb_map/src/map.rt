@@ -108,8 +108,8 @@ impl Map {
         self.chain.shape()
     }
 
-    /// What the map has at a key. In the common case, where the key has its home slot in the top
-    /// table, these are three loads.
+    /// What the map has at a key. In the common case, where the key has its home slot in the table
+    /// that the seat remembers, these are two loads.
     #[inline]
     pub fn get(&self, seat: &mut Seat, key: Key) -> Option<Num>
         requires own { IsMine self.now seat.old }
@@ -133,11 +133,11 @@ impl Map {
     /// + G) (N + 8) steps on the chain, whose G tables have T slots and the last of them N; and
     /// however many tries it has, at most 8 (T + w + 1 + G) (N + 8) where other seats have won `w`
     /// exchanges on the key since this seat's last step. Where they have won none and the key is at
-    /// home in the top table, these are at most four: loads of the top word, of the key and of its
-    /// value, and the exchange; or six, where it may have to claim its slot first (`IsShortAtHome`
-    /// says all that is asked). A key that came is counted afterwards, and one that went, by one
-    /// step on the counter. A refused write leaves the map as it is; but tables may have been
-    /// installed and copied for it, and its key may keep a slot without a number.
+    /// home in the table that the seat remembers, these are at most three: loads of the key and of
+    /// its value, and the exchange; or five, where it may have to claim its slot first
+    /// (`IsShortAtHome` says all that is asked). A key that came is counted afterwards, and one
+    /// that went, by one step on the counter. A refused write leaves the map as it is; but tables
+    /// may have been installed and copied for it, and its key may keep a slot without a number.
     pub fn put_if_match(
         &self,
         seat: &mut Seat,

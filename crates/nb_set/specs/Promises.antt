@@ -1,6 +1,6 @@
 -- What the calls of a set promise: one record for each kind of call. The set and its handles cite
 -- them.
-use Rattle.std.specs.Prelude.{◌≡◌, ◌<◌, ◌≤◌, ◌+◌, ℕ, Bool, IfSome, List, [], None, Option, Result, Ok, Err}
+use Rattle.std.specs.Prelude.{◌≡◌, ◌<◌, ◌+◌, ℕ, Bool, IfSome, List, [], None, Option, Result, Ok, Err}
 use Rattle.nb_core.specs.History.{key_of_call}
 use Rattle.nb_core.specs.Log.{IsBeginning}
 use Rattle.nb_core.specs.Tables.{IsComplete, tables_at}
@@ -9,7 +9,7 @@ use Rattle.nb_map.specs.declared.faults.Full.{Full}
 use Rattle.nb_set.specs.Handles.{HandleWalkOf}
 use Rattle.nb_set.specs.Log.{Call, Contains}
 use Rattle.nb_set.specs.OfMap.{call_for}
-use Rattle.nb_set.specs.Sets.{HasLogged, HasLookedOnce, HasNoRoom, HasReplied, HasWorked, IsLockFree, IsMine, IsSeenAtHome, IsShortAtHome, SeatOf, SetOf, generation_of, log, shape_of, steps_of}
+use Rattle.nb_set.specs.Sets.{HasLogged, HasLookedOnce, HasNoRoom, HasReplied, HasWorked, IsLockFree, IsMine, IsShortAtHome, IsShortRead, SeatOf, SetOf, generation_of, log, shape_of}
 use Rattle.nb_set.specs.Walks.{HasAsked, HasEnded, HasShown, IsLater, IsWalkOf, WalkOf, slots_before, walking_steps, with_shown}
 use Rattle.nb_set.specs.Walks as walks
 
@@ -29,7 +29,8 @@ pub record HasWritten (set : SetOf) (call : Call) (before after : SeatOf)
   pub answered : HasAnswered set call before after answer
   -- its steps have a bound that grows only with the exchanges that others win on its key
   pub lock_free : IsLockFree set call before after
-  -- at most four steps, or six, where it is alone with its key at home in the top table
+  -- at most three steps, or five, where it is alone with its key at home in the table that the seat
+  -- remembered
   pub short : IsShortAtHome set call before after
   -- the seat is still the set's
   pub own : IsMine set after
@@ -43,8 +44,9 @@ pub record HasLookedUp (set : SetOf) (key : ℕ) (before after : SeatOf) (found 
   pub replied : HasReplied (Contains key) before after found
   -- it is wait-free: its steps are bounded
   pub worked : HasWorked set (Contains key) before after (get_steps (shape_of set))
-  -- at most three steps, where the key is at home in the top table
-  pub short : IsSeenAtHome set key before after → steps_of after ≤ steps_of before + 3
+  -- at most two steps, where the key is at home in the table that the seat remembered; and at most
+  -- five, where it is so in the top table
+  pub short : IsShortRead set key before after
   -- the seat is still the set's
   pub own : IsMine set after
 

@@ -96,15 +96,15 @@ HasWorked set call before after most =
 abbrev pub IsLockFree : SetOf → Call → (before after : SeatOf) → Type 0
 IsLockFree set call before after = progress.IsLockFree set.map (call_for call) before.map after.map
 
--- the key is at home in the top table, which is the one that the seat knew, so that a look at it
--- takes three steps
-abbrev pub IsSeenAtHome : SetOf → ℕ → (before after : SeatOf) → Type 0
-IsSeenAtHome set k before after =
-    progress.IsSeenAtHome (shape_of set) before.map.chain after.map.chain k
+-- A look at the key is short where it is at home: two steps in the table that the seat remembered;
+-- and five in the top table, if the seat learns of no new one.
+abbrev pub IsShortRead : SetOf → ℕ → (before after : SeatOf) → Type 0
+IsShortRead set k before after =
+    progress.IsShortRead (shape_of set) k before.map.chain after.map.chain
 
--- It is short where it is alone with its key at home in the top table, which is the one that the
--- seat knew: four steps on the tables; and for an `add` whose seat didn't know the slot as the
--- key's, six, while it knows of no table above.
+-- It is short where it is alone with its key at home in the table that the seat remembered: three
+-- steps on the tables; and for an `add` whose seat didn't know the slot as the key's, five, while it
+-- knows of no table above.
 abbrev pub IsShortAtHome : SetOf → Call → (before after : SeatOf) → Type 0
 IsShortAtHome set call before after =
     progress.IsShortAtHome (shape_of set) (call_for call) before.map.chain after.map.chain

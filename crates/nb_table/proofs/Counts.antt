@@ -1,7 +1,7 @@
 -- What the steps may do that hand out chunks, count and promote, and what they tell.
 use Rattle.std.proofs.Common.{◌≡◌, ◌∙◌, ℕ, zero, suc, ◌+◌, ◌%◌, ◌^◌, ◌<◌, ◌≤◌, false, leb, max, List, [], ◌∷◌, ◌++◌, drop, length, slice_index, slice_set, ap, sym, subst, refl, inl, inr, arith}
 use Rattle.std.proofs.Math.Nat.{eq-or-lt_of_le, le_trans, max-eq_right, mod-eq_of_lt}
-use Rattle.std.proofs.lemmas.Bool.{eq-eqb, le-leb, leb-true}
+use Rattle.std.proofs.lemmas.Bool.{cases_lt, eq-eqb, le-leb, leb-true, lt-leb}
 use Rattle.std.proofs.lemmas.Bool.Decides.{nat_tests}
 use Rattle.std.proofs.lemmas.List.{get_or-set_same}
 use Rattle.std.proofs.lemmas.List.Elements.{All-get_or}
@@ -17,8 +17,9 @@ use Rattle.nb_table.specs.Chains.{Extended, SeenBy, seen_before, seen_by}
 use Rattle.nb_table.specs.Conditions.{IsKnownComplete}
 use Rattle.nb_table.specs.Events.{only}
 use Rattle.nb_table.proofs.Events.{count_events, promote_events, take_events}
+use Rattle.nb_table.proofs.Tops.{top-few}
 use Rattle.nb_table.specs.Steps.{Can, Stepped}
-use Rattle.nb_core.proofs.Theorems.{beginnings_are_legal, counted, linked, lawful_words, own_lasts, indices_are_distinct}
+use Rattle.nb_core.proofs.Theorems.{beginnings_are_legal, counted, lawful_words, own_lasts, indices_are_distinct}
 
 -- ---- what may be done
 
@@ -103,8 +104,7 @@ top-found p plan events before found after step =
     let h = step.grows.others ++ before.seen in
     let legal = beginnings_are_legal p (events found) h
     (subst (IsLegal p) step.grows.seen step.grows.legal) in
-    let links = linked p plan h legal in
-    omega (arith, links.within (tables_at p h).top links.top, plan.few_tables, step.word)
+    omega (arith, top-few p plan h legal, step.word)
 
 -- ---- the done word doesn't wrap
 
@@ -215,3 +215,27 @@ raised p plan g found before after step low =
           (max (slice_index (words_of p h) 0) (suc g)) 0 some
           ∙ ap (λ n. max n (suc g)) step.word ∙ most,
     )
+
+-- and of one that found it higher
+pub was-higher :
+    (p : Plan) (g found : ℕ) (before after : SeenBy)
+    → Stepped p (promote_events before.number g) 0 before found after → g < found
+    → Extended p before after [] 1 × ((seen_by p after).top ≡ found)
+was-higher p g found before after step high =
+    let none : promote_events before.number g found ≡ []
+    = ap (λ b. only b (Promote before.number g)) (lt-leb found g high) in
+    let now = step.grows.seen ∙ ap (λ own. own ++ (step.grows.others ++ before.seen)) none in (
+      subst (λ own. Extended p before after own 1) none step.grows,
+      ap (λ h. (tables_at p h).top) now ∙ step.word,
+    )
+
+-- in both cases the top word is then what was found, or past the table if that is higher
+pub promoted :
+    (p : Plan) → IsPlan p → (g found : ℕ) (before after : SeenBy)
+    → Stepped p (promote_events before.number g) 0 before found after
+    → max found (g + 1) ≡ (seen_by p after).top
+promoted p plan g found before after step =
+    elim (cases_lt g found) [
+      | inl high ↦ omega (arith, high, (was-higher p g found before after step high).1)
+      | inr low ↦ omega (arith, low, (raised p plan g found before after step low).2)
+    ]

@@ -1,11 +1,11 @@
 -- One token gathers the parts of all seats, and what it knows fits the words that are left.
-use Rattle.std.proofs.Common.{◌≡◌, ◌∙◌, ◌⊎◌, ℕ, ◌<◌, ◌≤◌, ◌==◌, cond, ap, sym, subst, inl, inr, List, [], ◌∷◌, ◌++◌, length, length-append, map, All, arith}
+use Rattle.std.proofs.Common.{◌≡◌, ◌∙◌, ◌⊎◌, ℕ, ◌<◌, ◌≤◌, ◌==◌, cond, ap, sym, subst, inl, inr, List, [], ◌∷◌, ◌++◌, length, length-append, map, nat_lt, refl, All, arith}
 use mathlib.Core.Option.{some}
 use lib.ListN.{get_elem?}
 use Rattle.std.specs.List.{count_by}
 use Rattle.std.specs.List.Sorted.{IsPermutation}
 use Rattle.std.proofs.lemmas.Bool.{cases_lt, le-ltb, lt-ltb}
-use Rattle.std.proofs.lemmas.List.{append-nil, length-map, nil_from_length}
+use Rattle.std.proofs.lemmas.List.{append-nil, length-map, map-append, nil_from_length}
 use Rattle.std.proofs.lemmas.List.Elements.{All-cons, All-contains, All-head, All-map, All-nil, All-tail, All-weaker}
 use Rattle.std.proofs.lemmas.List.Sorted.{All-permutation, IsPermutation-map, length_permutation, sum_by-IsPermutation}
 use Rattle.atomic_table.specs.Seated.{TableId}
@@ -18,7 +18,7 @@ use Rattle.nb_core.specs.declared.events.Event.{Event}
 use Rattle.nb_table.specs.Chains.{SeenBy}
 use Rattle.nb_table.specs.Closing.{most_seen}
 use Rattle.nb_table.specs.Gathered.{ClosedWith}
-use Rattle.nb_table.specs.Inside.{IsSeat, part_of, seat_of, seat_with}
+use Rattle.nb_table.specs.Inside.{IsSeat, forgotten, part_of, seat_of, seat_with}
 use Rattle.nb_table.specs.Left.{ClosedOf}
 use Rattle.nb_core.specs.Log.{IsBeginning}
 use Rattle.nb_table.specs.Views.{HasSeen, IsChained, all_parts}
@@ -29,16 +29,29 @@ use Rattle.nb_core.proofs.Seating.{All-unmap, all-there as has-all, and_then, ba
 
 -- ---- gathering
 
--- what a token of a chain's seat knows is the seat
+-- what a token of a chain's seat knows is the seat, but for what it remembers
 pub one-seat :
     (chain : TableId) (s : seat.Inside) (next : SeenBy) → IsSeat s → seat_of s ≡ next
     → next.chain ≡ chain
-    → map (seat_with chain) s.seat.me.0.parts ≡ next ∷ []
+    → map (seat_with chain 0) s.seat.me.0.parts ≡ forgotten next ∷ []
 one-seat chain s next is_seat view own =
     let part = part_of s.seat.me.0.parts in
     let table : chain ≡ s.seat.table_id = sym (ap (λ v. v.chain) view ∙ own) in
-    ap (map (seat_with chain)) is_seat.one ∙ ap (λ id. seat_with id part ∷ []) table
-    ∙ ap (λ v. v ∷ []) view
+    ap (map (seat_with chain 0)) is_seat.one ∙ ap (λ id. seat_with id 0 part ∷ []) table
+    ∙ ap (λ v. forgotten v ∷ []) view
+
+-- the seat that is taken, and those that are left
+pub forgotten-pop :
+    (left : List SeenBy) (last : SeenBy) (seats : List SeenBy) → seats ≡ left ++ last ∷ []
+    → map forgotten seats ≡ map forgotten left ++ forgotten last ∷ []
+forgotten-pop left last seats is =
+    ap (map forgotten) is ∙ map-append forgotten left (last ∷ [])
+
+-- the most that was seen doesn't hang on what they remember
+most-forgotten : (seats : List SeenBy) → most_seen (map forgotten seats) ≡ most_seen seats
+most-forgotten [] = refl
+most-forgotten (seat ∷ seats) =
+    ap (λ rest. cond (nat_lt (length rest) (length seat.seen)) seat.seen rest) (most-forgotten seats)
 
 -- ---- the history
 
@@ -113,10 +126,10 @@ whole-beginning seen h b long =
 module _ (p : Plan) (s : State (Unit {0}) View) (rule : IsChained p s)
     (token : Seat (Unit {0}) View)
     (at : get_elem? s.views token.id ≡ some token.me.0) (chain : TableId) (seats : List SeenBy)
-    (known : IsPermutation (map (seat_with chain) token.me.0.parts) seats)
+    (known : IsPermutation (map (seat_with chain 0) token.me.0.parts) seats)
     (all : length seats ≡ p.seats) where
   abbrev knows : Part → SeenBy
-  knows = seat_with chain
+  knows = seat_with chain 0
 
   -- the token has all parts
   all-there : IsPermutation (map knows (all_parts s.views)) seats
@@ -165,7 +178,7 @@ pub closed-with :
     (closed : ClosedOf) → IsPlan closed.shape → (key : Plan) → key ≡ closed.shape
     → (chain : TableId) (token : Seat (Unit {0}) View)
     (seats : List SeenBy) (slots : List (Unit {0}))
-    → IsPermutation (map (seat_with chain) token.me.0.parts) seats
+    → IsPermutation (map (seat_with chain 0) token.me.0.parts) (map forgotten seats)
     → length seats ≡ closed.shape.seats → closed.history ≡ most_seen seats
     → Final (Seen (IsChained key) token.id token.me.0) closed.words slots → ClosedWith seats closed
 closed-with closed plan key same chain token seats slots g all history final =
@@ -173,14 +186,18 @@ closed-with closed plan key same chain token seats slots g all history final =
     let s = final.0 in
     let rule : IsChained p s = subst (λ k. IsChained k s) same final.1.0 in
     let at = final.1.1 in
+    let bare = map forgotten seats in
+    let all' = length-map seats forgotten ∙ all in
     let is : rule.history ≡ closed.history =
-    sym (history ∙ most-is p s rule token at chain seats g all) in
+    sym (history ∙ sym (most-forgotten seats) ∙ most-is p s rule token at chain bare g all') in
     record {
       left = record {
         plan = plan;
         legal = subst (IsLegal p) is rule.legal;
         is = sym final.2 ∙ rule.words ∙ ap (words_of p) is;
       };
-      seen = subst (λ h. All (FitsSeat h) seats) is (all-fit p s rule token at chain seats g all);
-      once = times-there p s rule token at chain seats g all;
+      seen = All-unmap (FitsSeat closed.history) forgotten seats
+          (subst (λ h. All (FitsSeat h) bare) is (all-fit p s rule token at chain bare g all'));
+      once = λ n below. sym (count-map (λ seat. seat.number == n) forgotten seats)
+          ∙ times-there p s rule token at chain bare g all' n below;
     }

@@ -42,6 +42,7 @@ steps_add_up = record {
     own_are = refl;
     legal = is.legal;
     steps = omega arith;
+    remembers = record { rises = omega arith; known = λ plan known. known };
   };
   one = λ {p} {before} {after} {own} {count} step. record {
     chain = step.chain;
@@ -54,6 +55,7 @@ steps_add_up = record {
         ∙ ap (λ es. own ++ es) (own-none before.number step.others step.not_own) ∙ append-nil own;
     legal = step.legal;
     steps = step.steps;
+    remembers = step.remembers;
   };
   more = λ {p} {before} {then} {after} {own} {own'} {count} {count'} a b. record {
     chain = b.chain ∙ a.chain;
@@ -65,11 +67,16 @@ steps_add_up = record {
         ∙ ap (λ es. es ++ own) (ap (λ n. own_events n b.later) (sym a.number) ∙ b.own_are);
     legal = b.legal;
     steps = omega (arith, a.steps, b.steps);
+    remembers = record {
+      rises = omega (arith, a.remembers.rises, b.remembers.rises);
+      known = λ plan known. b.remembers.known plan (a.remembers.known plan known);
+    };
   };
   own = λ {chain} {before} {after} is grown. record {
     at = grown.chain ∙ is.at;
     plan = is.plan;
     legal = grown.legal;
+    known = grown.remembers.known is.plan is.known;
   };
   stays = λ {chain} {before} {after} is grown.
       let p = chain.shape in

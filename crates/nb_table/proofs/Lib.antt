@@ -14,6 +14,7 @@ mod Moments
 mod Opening
 mod Parted
 pub mod Theorems
+mod Tops
 mod Values
 mod Views
 mod Winning

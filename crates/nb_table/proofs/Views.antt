@@ -1,5 +1,6 @@
 -- A chain and its seats, from within and as contracts see them.
-use Rattle.std.proofs.Common.{◌≡◌, ◌∙◌, ℕ, ◌<◌, Bool, true, false, cond, eqb, ap, sym, subst, refl, List, [], ◌∷◌}
+use Rattle.std.proofs.Common.{◌≡◌, ◌∙◌, ℕ, ◌<◌, Bool, true, false, cond, eqb, ap, sym, subst, refl, List, [], ◌∷◌, ◌++◌}
+use Rattle.std.proofs.lemmas.List.{append_assoc}
 use prog.Atomic.{either}
 use Rattle.atomic_table.specs.Seated.{TableId}
 use Rattle.atomic_table.specs.Table.{Allows}
@@ -8,7 +9,8 @@ use Rattle.nb_core.specs.Plans.{Plan, IsPlan, word_count}
 use Rattle.nb_core.specs.History.{IsLegal}
 use Rattle.nb_core.specs.declared.events.Event.{Event}
 use Rattle.nb_table.proofs.Keeping.{allows-step}
-use Rattle.nb_table.specs.Chains.{ChainOf, SeenBy}
+use Rattle.nb_table.proofs.Tops.{grown-remembers}
+use Rattle.nb_table.specs.Chains.{ChainOf, Remembers, SeenBy}
 use Rattle.nb_table.specs.Inside.{IsChain, IsSeat, chain_of, part_of, seat_of}
 use Rattle.nb_table.specs.Steps.{Can, Stepped}
 use Rattle.nb_table.specs.Views.{HasMoved, IsChained, Moves}
@@ -91,18 +93,27 @@ module _
       (moves.moves (part_of s.seat.me.0.parts) is_seat.one)
 
   -- it is a seat as before
-  pub stepped-is_seat : IsSeat (record { seat = after })
+  pub stepped-is_seat : IsSeat (record { seat = after; top = s.top })
   stepped-is_seat = record {
     one = ap (λ me. me.0.parts) moves.is ∙ ap (λ me. part_of me.0.parts ∷ []) (sym moves.is);
     free = ap (λ me. me.1) moves.is ∙ is_seat.free;
   }
 
+  -- which remembers the same
+  abbrev pub stepped : SeenBy
+  stepped = seat_of (record { seat = after; top = s.top })
+
+  stepped-remembers : Remembers p (seat_of s) stepped
+  stepped-remembers =
+      grown-remembers p (seat_of s) stepped (events found ++ told.others) refl
+      (ap (λ part. part.seen) told.is
+      ∙ sym (append_assoc (events found) told.others (part_of s.seat.me.0.parts).seen))
+      (subst (λ part. IsLegal p part.seen) (sym told.is) told.legal)
+
   -- and has seen more
-  pub stepped-seat :
-      after.table_id ≡ s.seat.table_id
-      → Stepped p events index before found (seat_of (record { seat = after }))
+  pub stepped-seat : after.table_id ≡ s.seat.table_id → Stepped p events index before found stepped
   stepped-seat table =
-      subst (λ v. Stepped p events index v found (seat_of (record { seat = after }))) s_is (record {
+      subst (λ v. Stepped p events index v found stepped) s_is (record {
         grows = record {
           chain = table;
           number = ap (λ part. part.number) told.is;
@@ -112,6 +123,7 @@ module _
           mine = told.mine;
           legal = subst (λ part. IsLegal p part.seen) (sym told.is) told.legal;
           steps = ap (λ part. part.steps) told.is;
+          remembers = stepped-remembers;
         };
         word = told.word;
       })

@@ -1,5 +1,5 @@
 -- How contracts see a chain and its seats.
-use Rattle.std.specs.Prelude.{◌≡◌, ◌≢◌, ℕ, ◌+◌, ◌==◌, List, [], ◌++◌, drop, filter, map, All}
+use Rattle.std.specs.Prelude.{◌≡◌, ◌≢◌, ℕ, ◌+◌, ◌≤◌, ◌==◌, List, [], ◌++◌, drop, filter, map, All}
 use Rattle.std.specs.List.{range_with_len}
 use Rattle.atomic_table.specs.Seated.{TableId}
 use Rattle.nb_core.specs.Plans.{IsPlan, Plan}
@@ -12,19 +12,25 @@ pub record ChainOf : Type 0 where
   pub id : TableId
   pub shape : Plan
 
--- a chain's seat: which chain's, its number, what it has seen, the newest event first, and how many
--- steps it has made
+-- a chain's seat
 pub record SeenBy : Type 0 where
+  -- which chain's it is
   pub chain : TableId
   pub number : ℕ
+  -- what it has seen, the newest event first
   pub seen : List Event
+  -- how many steps it has made
   pub steps : ℕ
+  -- the top table that it remembers; the top may have risen since
+  pub top : ℕ
 
 -- The seat is one of this chain's, whose shape is a plan, and what it has seen is a legal history.
 pub record IsOwn (chain : ChainOf) (seat : SeenBy) : Type 0 where
   pub at : seat.chain ≡ chain.id
   pub plan : IsPlan chain.shape
   pub legal : IsLegal chain.shape seat.seen
+  -- the top table that it remembers is at most the top of what it has seen
+  pub known : seat.top ≤ (tables_at chain.shape seat.seen).top
 
 -- all these seats are this chain's
 abbrev pub AreOwn : ChainOf → List SeenBy → Type 0
@@ -40,11 +46,23 @@ seen_before p seat = tables_at p (drop 1 seat.seen)
 
 -- a chain's seat that has seen nothing
 abbrev pub new_seat : TableId → ℕ → SeenBy
-new_seat id number = record { chain = id; number = number; seen = []; steps = 0 }
+new_seat id number = record { chain = id; number = number; seen = []; steps = 0; top = 0 }
 
 -- so many of them, numbered by their places
 abbrev pub new_seats : TableId → ℕ → List SeenBy
 new_seats id count = map (new_seat id) (range_with_len 0 count)
+
+-- The seat remembers the top of all that it has seen, as after each step that finds the top word.
+abbrev pub KnowsTop : Plan → SeenBy → Type 0
+KnowsTop p seat = seat.top ≡ (seen_by p seat).top
+
+-- What a seat remembers over its steps.
+pub record Remembers (p : Plan) (before after : SeenBy) : Type 0 where
+  -- the top table that it remembers never falls
+  pub rises : before.top ≤ after.top
+  -- and where it was at most the top of what the seat had seen, it is so of what it has seen now
+  pub known :
+      IsPlan p → before.top ≤ (seen_by p before).top → after.top ≤ (seen_by p after).top
 
 -- After a step the seat has seen more: events of other seats, and then these of its own, in this
 -- order. All that it has seen is a legal history, and it made so many steps.
@@ -57,6 +75,7 @@ pub record Extended (p : Plan) (before after : SeenBy) (own : List Event) (count
   pub mine : All (λ e. seat_of_event e ≡ before.number) own
   pub legal : IsLegal p after.seen
   pub steps : after.steps ≡ before.steps + count
+  pub remembers : Remembers p before after
 
 -- a seat's events among these
 abbrev pub own_events : ℕ → List Event → List Event
@@ -72,3 +91,4 @@ pub record Grown (p : Plan) (before after : SeenBy) (own : List Event) (count : 
   pub own_are : own_events before.number later ≡ own
   pub legal : IsLegal p after.seen
   pub steps : after.steps ≡ before.steps + count
+  pub remembers : Remembers p before after

@@ -1,5 +1,5 @@
 -- What is in a chain and its seats, and how it is seen.
-use Rattle.std.specs.Prelude.{◌≡◌, List, [], ◌∷◌}
+use Rattle.std.specs.Prelude.{◌≡◌, ℕ, List, [], ◌∷◌}
 use Rattle.atomic_table.specs.Seated.{TableId}
 use Rattle.nb_core.specs.Plans.{IsPlan, word_count}
 use Rattle.nb_table.specs.Chains.{ChainOf, SeenBy}
@@ -24,18 +24,27 @@ abbrev pub part_of : List Part → Part
 part_of [] = new_part 0
 part_of (part ∷ parts) = part
 
--- a chain's seat of which this part is known
-abbrev pub seat_with : TableId → Part → SeenBy
-seat_with chain part = record {
+-- a chain's seat that remembers this top table, and of which this part is known
+abbrev pub seat_with : TableId → ℕ → Part → SeenBy
+seat_with chain top part = record {
   chain = chain;
   number = part.number;
   seen = part.seen;
   steps = part.steps;
+  top = top;
 }
+
+-- the same seat, where it remembers this top table
+abbrev pub remembering : ℕ → SeenBy → SeenBy
+remembering top seat = record seat { top = top }
+
+-- or where it remembers nothing, as a new seat
+abbrev pub forgotten : SeenBy → SeenBy
+forgotten = remembering 0
 
 -- the seat, as contracts see it
 abbrev pub seat_of : seat.Inside → SeenBy
-seat_of c = seat_with c.seat.table_id (part_of c.seat.me.0.parts)
+seat_of c = seat_with c.seat.table_id c.top (part_of c.seat.me.0.parts)
 
 -- the token knows one seat
 pub record IsSeat (c : seat.Inside) : Type 0 where

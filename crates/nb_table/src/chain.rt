@@ -21,9 +21,9 @@ ghost use Rattle.std.specs.Prelude.{
   is_ok,
 };
 ghost use Rattle.nb_core.specs.Plans.{word_count};
-ghost use Rattle.nb_table.specs.Chains.{AreOwn, Extended, IsOwn, new_seats};
+ghost use Rattle.nb_table.specs.Chains.{AreOwn, Extended, IsOwn, KnowsTop, new_seats};
 ghost use Rattle.nb_table.specs.Gathered.{ClosedWith};
-ghost use Rattle.nb_table.specs.Inside.{part_of, seat_with};
+ghost use Rattle.nb_table.specs.Inside.{forgotten, part_of, seat_with};
 ghost use Rattle.nb_table.specs.Steps.{Can, Stepped};
 ghost use Rattle.nb_core.specs.Log.{IsBeginning};
 ghost use Rattle.nb_table.specs.Views.{Moves};
@@ -56,10 +56,13 @@ impl Model for Chain {
 }
 
 /// The right of one holder to make steps. Contracts see which chain's it is, its number, the
-/// history that it has seen, the newest event first, and how many steps it has made.
+/// history that it has seen, the newest event first, how many steps it has made, and the top table
+/// that it remembers.
 #[derive(Drop)]
 pub struct ChainSeat {
     seat: Seat<(), View>,
+    /// The top word as the seat knew it last.
+    pub(crate) top: u32,
 }
 
 impl Model for ChainSeat {
@@ -72,6 +75,17 @@ impl Model for ChainSeat {
     ghost view = { seat_of };
 
     ghost invariant = { IsSeat };
+}
+
+impl ChainSeat {
+    /// The top table that the seat remembers: what the top word was when a step of this seat found
+    /// it last. It may have risen since. This makes no step.
+    #[inline]
+    pub fn known_top(&self) -> u32
+        ensures { result ≡ self.now.top }
+    {
+        self.top
+    }
 }
 
 /// What a step is about: the table, the slot, and the key, the number and the call, where it has
@@ -109,7 +123,7 @@ impl Chain {
         let chain = Chain { table, shape };
         for _number in 0..shape.seats() {
             let seat = chain.table.shared.split_seat::<Deal>(&mut rest);
-            dealt.push_reserved(ChainSeat { seat });
+            dealt.push_reserved(ChainSeat { seat, top: 0 });
         }
         Ok((chain, dealt))
     }
@@ -220,25 +234,29 @@ impl Chain {
     }
 
     /// Each of two seats sees what the other has seen. This makes six loads of the top word, three
-    /// by each seat, of which the last counts as its step. By the others `atomic_table` passes on
-    /// what is known: what they find is ignored.
+    /// by each seat, of which the last counts as its step: what it finds the seat remembers. By the
+    /// others `atomic_table` passes on what is known: what they find is ignored.
     pub fn meet(&self, a: &mut ChainSeat, b: &mut ChainSeat)
         requires a_own { IsOwn self.now a.old }
         requires b_own { IsOwn self.now b.old }
         ensures a { Extended self.now.shape a.old a.new [] 1 × IsBeginning b.old.seen a.new.seen }
         ensures b { Extended self.now.shape b.old b.new [] 1 × IsBeginning a.old.seen b.new.seen }
+        ensures a_known { KnowsTop self.now.shape a.new }
+        ensures b_known { KnowsTop self.now.shape b.new }
     {
         let words = &self.table.shared;
         let of_a = words.split_seat::<Note>(&mut a.seat);
         let of_b = words.split_seat::<Note>(&mut b.seat);
         words.join_seat::<Learn>(&mut a.seat, of_b);
         words.join_seat::<Learn>(&mut b.seat, of_a);
-        self.hears::<Brand>(&mut a.seat);
-        self.hears::<Brand>(&mut b.seat);
+        let a_top = self.hears::<Brand>(&mut a.seat);
+        let b_top = self.hears::<Brand>(&mut b.seat);
+        a.top = a_top;
+        b.top = b_top;
     }
 
     /// One load of the top word, by a token that was told of something.
-    fn hears<B: Told>(&self, seat: &mut Seat<(), View>) -> u64
+    fn hears<B: Told>(&self, seat: &mut Seat<(), View>) -> u32
         requires own { seat.old.table_id ≡ self.now.id }
         requires shape { B.shape ≡ self.now.shape }
         requires one { seat.old.me.0.parts ≡ part_of seat.old.me.0.parts ∷ [] }
@@ -246,7 +264,7 @@ impl Chain {
         ensures own { seat.new.table_id ≡ seat.old.table_id }
         ensures heard { Moves B.shape B.events TOP_INDEX seat.old.me result seat.new.me }
     {
-        self.table.shared.load::<Move<B>>(seat, TOP_INDEX)
+        self.table.shared.load::<Move<B>>(seat, TOP_INDEX) as u32
     }
 
     /// With all seats: what is left of the chain. With another number of seats everything comes
@@ -273,19 +291,23 @@ impl Chain {
         })
     }
 
-    /// One token that knows what all these seats know.
+    /// One token that knows what all these seats know, but for the top tables that they remember.
     fn gather(&self, seats: Vec<ChainSeat>) -> Seat<(), View>
         requires own { AreOwn self.now seats.items }
         requires some { 0 < length seats.items }
         ensures own { result.table_id ≡ self.now.id }
         ensures free { result.me.1 ≡ [] }
-        ensures all { IsPermutation (map (seat_with self.now.id) result.me.0.parts) seats.items }
+        ensures all { IsPermutation (map (seat_with self.now.id 0) result.me.0.parts)
+            (map forgotten seats.items) }
     {
         let mut seats = seats;
         let last = seats.pop().unwrap();
-        let ChainSeat { mut seat } = last;
+        let ChainSeat { mut seat, top: _ } = last;
         while let Some(other) = seats.pop() {
-            let ChainSeat { seat: other } = other;
+            let ChainSeat {
+                seat: other,
+                top: _,
+            } = other;
             self.table.shared.join_seat::<Learn>(&mut seat, other);
         }
         seat

@@ -4,7 +4,7 @@ ghost use Rattle.nb_core.specs.Plans.{generations_of, limit_of};
 ghost use Rattle.nb_core.specs.Tables.{AreOthers, IsInstalled, IsReady};
 ghost use Rattle.nb_core.specs.History.{counted_by, turned_by};
 ghost use Rattle.nb_core.specs.declared.events.Event.TheVariants as event;
-ghost use Rattle.nb_table.specs.Chains.{Extended, IsOwn, seen_before, seen_by};
+ghost use Rattle.nb_table.specs.Chains.{Extended, IsOwn, KnowsTop, seen_before, seen_by};
 ghost use Rattle.nb_table.specs.Conditions.{IsKnownComplete};
 
 use crate::chain::{Chain, ChainSeat, ForProof, NOTHING};
@@ -46,7 +46,8 @@ impl Chain {
     }
 
     /// Raises the top word past table `g`, by one fetch-max, and answers what it was. The seat has
-    /// seen that the table is complete, be it by its slots or by its count.
+    /// seen that the table is complete, be it by its slots or by its count. The seat remembers what
+    /// the top word is then.
     pub fn promote(&self, seat: &mut ChainSeat, g: u32) -> u32
         requires own { IsOwn self.now seat.old }
         requires table { g < generations_of self.now.shape }
@@ -57,9 +58,13 @@ impl Chain {
             × ((seen_by self.now.shape seat.new).top ≡ suc g) }
         ensures was_higher { g < result → Extended self.now.shape seat.old seat.new [] 1
             × ((seen_by self.now.shape seat.new).top ≡ result) }
+        ensures known { KnowsTop self.now.shape seat.new }
     {
         let for_proof = ForProof { g, ..NOTHING };
-        self.raises::<Brand>(seat, TOP_INDEX, u64::from(g) + 1, for_proof) as u32
+        let found = self.raises::<Brand>(seat, TOP_INDEX, u64::from(g) + 1, for_proof) as u32;
+        let top = found.max(g + 1);
+        seat.top = top;
+        found
     }
 
     /// Installs the table above `g`, for a key whose path in `g` is crowded, by one

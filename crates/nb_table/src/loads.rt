@@ -5,7 +5,7 @@ ghost use Rattle.nb_core.specs.Plans.{generations_of, size_of};
 ghost use Rattle.nb_core.specs.Tables.{AreOthers, IsInstalled, IsOnPath, IsSlot};
 ghost use Rattle.nb_core.specs.States.{shown_by_value};
 ghost use Rattle.nb_core.specs.declared.states.KeyState.TheVariants as key_is;
-ghost use Rattle.nb_table.specs.Chains.{Extended, IsOwn, seen_by};
+ghost use Rattle.nb_table.specs.Chains.{Extended, IsOwn, KnowsTop, seen_by};
 ghost use Rattle.nb_table.specs.Conditions.{IsReached};
 ghost use Rattle.nb_table.specs.Events.{reads, shown_by_key, shown_by_next};
 
@@ -151,12 +151,15 @@ impl Chain {
     }
 
     /// The number of tables, from the first on, that are known to be complete, by one load of the
-    /// top word.
+    /// top word. The seat remembers it.
     pub fn load_top(&self, seat: &mut ChainSeat) -> u32
         requires own { IsOwn self.now seat.old }
         ensures grows { Extended self.now.shape seat.old seat.new [] 1 }
         ensures found { (seen_by self.now.shape seat.new).top ≡ result }
+        ensures known { KnowsTop self.now.shape seat.new }
     {
-        self.loads::<Brand>(seat, TOP_INDEX, NOTHING) as u32
+        let top = self.loads::<Brand>(seat, TOP_INDEX, NOTHING) as u32;
+        seat.top = top;
+        top
     }
 }

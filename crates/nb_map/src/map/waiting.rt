@@ -24,8 +24,9 @@ impl Map {
     /// key since this seat's last step, it takes at most 8 (T + w + 1 + G) (N + 8) steps on the
     /// chain, whose G tables have T slots and the last of them N. So only the success of others
     /// costs it anything, and no seat that stops, wherever that is, can hold it up. Where others
-    /// have won none and the key is at home in the top table, these are at most four steps, or six
-    /// where the seat didn't know the key's slot before, as of a new key (`IsShortAtHome`).
+    /// have won none and the key is at home in the table that the seat remembers, these are at most
+    /// three steps, or five where the seat didn't know the key's slot before, as of a new key
+    /// (`IsShortAtHome`).
     pub fn put<R: Wait>(
         &self,
         rt: &R,

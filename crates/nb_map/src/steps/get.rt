@@ -7,7 +7,7 @@ ghost use Rattle.nb_table.specs.Chains.{IsOwn, seen_by};
 ghost use Rattle.nb_table.specs.Conditions.{IsReached};
 ghost use Rattle.nb_map.specs.Logs.{as_replied};
 ghost use Rattle.nb_map.specs.Calling.{HasMade};
-ghost use Rattle.nb_map.specs.Progress.{IsSeenAtHome};
+ghost use Rattle.nb_map.specs.Progress.{IsAtHome, IsSeenAtHome, IsShortRead};
 ghost use Rattle.nb_map.specs.Steps.{climb_steps, get_steps};
 ghost use Rattle.nb_map.specs.declared.steps.get.Glance.TheVariants as glance_is;
 ghost use Rattle.nb_map.specs.inside.Climbing.{IsAt, IsAtSlot, rung_for_read};
@@ -30,18 +30,38 @@ pub(crate) enum Glance {
 }
 
 /// What the map has at a key, as a `Get` of this seat. In the common case, where the key has its
-/// home slot in the top table, these are three loads: of the top word, of the slot's key and of its
-/// value. A number that is being copied is copied first.
+/// home slot in the table that the seat remembers, these are two loads: of the slot's key and of
+/// its value. A number that is being copied is copied first.
 #[inline]
 pub fn get_in(chain: &Chain, seat: &mut ChainSeat, key: Key) -> Option<Num>
     requires own { IsOwn chain.now seat.old }
     ensures made { HasMade chain.now.shape (call.Get key) seat.old seat.new
         (as_replied (call.Get key) result)
         (get_steps chain.now.shape) }
+    ensures short { IsShortRead chain.now.shape key seat.old seat.new }
+{
+    let known = seat.known_top();
+    match glance_in(chain, seat, known, key) {
+        Glance::Shows(number) => number,
+        Glance::From(from) => get_on(chain, seat, key, known, from),
+    }
+}
+
+/// The same, where a glance at the table that the seat remembered showed nothing. The seat loads
+/// the top word, and remembers it. If the top has risen, it begins anew there, with a glance.
+#[inline(never)]
+fn get_on(chain: &Chain, seat: &mut ChainSeat, key: Key, known: u32, from: usize) -> Option<Num>
+    requires at { IsAt chain.now (call.Get key) seat.old (rung_for_read known from) }
+    requires away { IsAtHome chain.now.shape (seen_by chain.now.shape seat.old) known key → ⊥ }
+    ensures made { HasMade chain.now.shape (call.Get key) seat.old seat.new
+        (as_replied (call.Get key) result) (3 + climb_steps chain.now.shape) }
     ensures three_steps { IsSeenAtHome chain.now.shape seat.old seat.new key
         → seat.new.steps ≤ seat.old.steps + 3 }
 {
     let top = chain.load_top(seat);
+    if top == known {
+        return get_from(chain, seat, key, known, from);
+    }
     match glance_in(chain, seat, top, key) {
         Glance::Shows(number) => number,
         Glance::From(from) => get_from(chain, seat, key, top, from),

@@ -1,4 +1,4 @@
-//! Where a write begins: at its key's home slot in the top table.
+//! Where a write begins: at its key's home slot in the table that the seat remembers.
 ghost use Rattle.std.specs.Prelude.{IfErr, IsTrue, [], false, min, ◌+◌, ◌-◌, ◌<◌, ◌≡◌, ◌≤◌};
 ghost use Rattle.nb_core.specs.Calls.{Fills};
 ghost use Rattle.nb_core.specs.History.{key_of_call};
@@ -51,11 +51,14 @@ pub fn put_if_match_in<P: Pause>(
     ensures serves { P.serves pause.new chain.now }
 {
     let call = Call::Write { key, want, change };
-    let top = chain.load_top(seat);
+    let known = seat.known_top();
     let mut left = tries;
-    match write_home(chain, seat, &call, top, &mut left, pause) {
+    match write_home(chain, seat, &call, known, &mut left, pause) {
         Some(told) => told,
-        None => climb(chain, seat, &call, Rung::at(top), &mut left, pause),
+        None => {
+            let top = chain.load_top(seat);
+            climb(chain, seat, &call, Rung::at(top), &mut left, pause)
+        }
     }
 }
 
@@ -80,15 +83,16 @@ pub(crate) fn write_through<R: Wait>(
     ensures short { IsShortAtHome chain.now.shape (call.Write key want change) seat.old seat.new }
 {
     let call = Call::Write { key, want, change };
-    let top = chain.load_top(seat);
+    let known = seat.known_top();
     let mut left = u32::MAX;
-    match write_home(chain, seat, &call, top, &mut left, &mut NoPause) {
+    match write_home(chain, seat, &call, known, &mut left, &mut NoPause) {
         Some(Ok(reply)) => return Ok(reply),
         Some(Err(PutFault::Full)) => return Err(AddFault::Full),
         Some(Err(PutFault::ValueRange)) => return Err(AddFault::ValueRange),
         Some(Err(PutFault::Contended)) => {}
         None => {}
     }
+    let top = chain.load_top(seat);
     write_rounds(rt, chain, seat, call, top)
 }
 
@@ -118,10 +122,11 @@ fn write_rounds<R: Wait>(
     unreachable!()
 }
 
-/// The straight way of a write, at its key's home slot in the top table. The write is made there if
-/// the slot is its key's; if it is empty and the write leaves an absent key alone; or if it is empty
-/// and can be claimed for the key. `None` says that the write has to look further. No loop over
-/// slots or tables is on this way, so that it can stand in the code of the call.
+/// The straight way of a write, at its key's home slot in the table that its seat remembers as the
+/// top one. The write is made there if the slot is its key's; if it is empty and the write leaves
+/// an absent key alone; or if it is empty and can be claimed for the key. `None` says that the
+/// write has to look further. No loop over slots or tables is on this way, so that it can stand in
+/// the code of the call.
 #[inline(always)]
 #[tactic(auto, using(nb_core::proofs::Theorems::linked))]
 fn write_home<P: Pause>(
@@ -141,6 +146,7 @@ fn write_home<P: Pause>(
     ensures told { IsToldAtHome chain.now.shape call.now seat.old seat.new tries.old tries.new
         result }
     ensures spent { IsSpent call.now seat.old seat.new tries.old tries.new }
+    ensures looked { seat.old.steps < seat.new.steps }
     ensures short { IsShortThere chain.now.shape top call.now seat.old seat.new result }
     ensures serves { P.serves pause.new chain.now }
 {
@@ -179,10 +185,7 @@ fn has_home(chain: &Chain, seat: &mut ChainSeat, call: &Call, home: Slot, word: 
         → IsAtHome chain.now.shape (seen_by chain.now.shape seat.new) home.g
         (key_of_call call.now) → ⊥ }
 {
-    if !word.is_empty() {
-        return word.is(call.key());
-    }
-    claim_home(chain, seat, call, home)
+    word.is(call.key()) || (word.is_empty() && claim_home(chain, seat, call, home))
 }
 
 /// Claims the key's home slot, which was seen empty, for a call that puts a number at an absent

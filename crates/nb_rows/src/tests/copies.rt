@@ -81,6 +81,7 @@ fn copies_table<R: Abort>(rt: &R, chain: &Chain, b: &mut ChainSeat)
 {
     assert_eq!(rt; chain.load_top(b), 0);
     completes(rt, chain, b);
+    assert_eq!(rt; b.known_top(), 1);
     assert_eq!(rt; chain.load_top(b), 1);
     has_finished(rt, chain, b, 0, &THREE);
     has_no_keys(rt, chain, b, 0, &[3], KeyState::Dead);
@@ -273,9 +274,9 @@ fn three_helpers(rt: HostRuntime) -> Result<(), Fail> {
     let mut b = taken(&rt, &chain, &mut seats);
     let mut a = taken(&rt, &chain, &mut seats);
     three_help(&rt, &chain, &mut a, &mut b, &mut c);
-    seats.push(c)?;
-    seats.push(a)?;
-    seats.push(b)?;
+    gives_back(&chain, &mut seats, c)?;
+    gives_back(&chain, &mut seats, a)?;
+    gives_back(&chain, &mut seats, b)?;
     leaves(&rt, rt.alloc(), chain, seats, &SIX)?;
     Ok(())
 }
@@ -295,6 +296,7 @@ fn one_finishes_for_another<R: Abort>(rt: &R, chain: &Chain, a: &mut ChainSeat, 
     assert_eq!(rt; chain.load_top(b), 0);
     completes(rt, chain, b);
     assert_eq!(rt; chain.load_top(b), 1);
+    assert_eq!(rt; a.known_top(), 0);
     for i in 0..8 {
         assert!(rt; !copies(rt, chain, a, i));
     }

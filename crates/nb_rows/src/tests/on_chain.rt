@@ -38,6 +38,21 @@ pub(super) fn taken<R: Abort>(rt: &R, chain: &Chain, seats: &mut Vec<ChainSeat>)
     seat
 }
 
+/// The seat goes back to the others. `chain` is for proofs alone: it says whose seats they are.
+pub(super) fn gives_back(
+    chain: &Chain,
+    seats: &mut Vec<ChainSeat>,
+    seat: ChainSeat,
+) -> Result<(), OutOfMemory>
+    requires seat { IsOwn chain.now seat }
+    requires others { All (IsOwn chain.now) seats.old.items }
+    ensures { All (IsOwn chain.now) seats.new.items }
+{
+    let _ = chain;
+    seats.push(seat)?;
+    Ok(())
+}
+
 /// A chain of this shape, which has one seat.
 pub(super) fn with_one<R: Abort>(
     rt: &R,

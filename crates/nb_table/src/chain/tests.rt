@@ -68,7 +68,10 @@ fn meeting<R: Threads + Sync + Abort>(rt: &R, chain: Chain, seats: Vec<ChainSeat
     requires { All (λ seat. IsOwn chain seat) seats.items }
 {
     let mut seats = seats;
-    let (Some(a), Some(b)) = (seats.pop(), seats.pop()) else {
+    let Some(a) = seats.pop() else {
+        panic!(rt; "there are two seats")
+    };
+    let Some(b) = seats.pop() else {
         panic!(rt; "there are two seats")
     };
     let (top_of_a, top_of_b, _, _) = look_and_meet(rt, &chain, a, b);

@@ -14,6 +14,6 @@ returns c =
     (record {
       replied = logged {after = after} mine c.get_in.ensures.made;
       worked = worked-uncounted {after = after} c.get_in.ensures.made refl;
-      short = c.get_in.ensures.three_steps;
+      short = c.get_in.ensures.short;
       own = uncounted-mine {after = after} mine c.get_in.ensures.made refl refl;
     })

@@ -1,4 +1,4 @@
-use Rattle.std.proofs.Common.{◌≡◌, ◌∙◌, ◌+◌, ◌≤◌, ℕ, IsTrue, cond, List, [], ◌∷◌, None, Some, Result, ap, refl, subst, sym, arith, rules}
+use Rattle.std.proofs.Common.{◌≡◌, ◌∙◌, ◌+◌, ◌<◌, ◌≤◌, ℕ, IsTrue, cond, List, [], ◌∷◌, None, Some, Result, ap, refl, subst, sym, arith, rules}
 use Rattle.nb_core.specs.Calls.{Fills}
 use Rattle.nb_core.specs.History.{key_of_call}
 use Rattle.nb_core.specs.Tables.{path_slot}
@@ -46,6 +46,7 @@ returns-in-Leave g c =
           c.load_key_word-word.ensures.grows)));
       told = tt;
       spent = spent-none call old c.load_key_word-word.new.seat c.args.tries.now;
+      looked = omega (arith, load);
       short = record {
         known = λ alone known. (refl, omega (arith, load));
         claimed = λ alone last. (refl, omega (arith, load));
@@ -93,6 +94,19 @@ looked g c =
     made-look c.args.chain.now (rung_at c.args.top) c.path_slot-i.result c.load_key_word-word.result
     c.requires.at (home-is g c) c.load_key_word-word.ensures.grows
     c.load_key_word-word.ensures.found (fills g c) c.has_home.ensures.made
+
+-- and one step was made at least
+looked-on :
+    (g : Over) (c : After-has_home g) {after : SeenBy} {calls : List (Call × Reply)} {most : ℕ}
+    → HasMade c.args.chain.now.shape c.args.call.now c.has_home.new.seat after calls most
+    → c.args.seat.now.steps < after.steps
+looked-on g c made =
+    omega (
+      arith,
+      (steps_add_up.one c.load_key_word-word.ensures.grows).steps,
+      c.has_home.ensures.made.grown.steps,
+      made.grown.steps,
+    )
 
 -- and who is alone with the key at home, which it knew as the key's, made one step
 one-step :
@@ -158,6 +172,11 @@ pub returns-then-not-has_home-clause-spent : goal.returns-then-not-has_home-clau
 returns-then-not-has_home-clause-spent g c =
     spent-none c.args.call.now c.args.seat.now c.has_home.new.seat c.args.tries.now
 
+pub returns-then-not-has_home-clause-looked : goal.returns-then-not-has_home-clause-looked
+returns-then-not-has_home-clause-looked g c =
+    let load = (steps_add_up.one c.load_key_word-word.ensures.grows).steps in
+    omega (arith, load, c.has_home.ensures.made.grown.steps)
+
 pub returns-then-not-has_home-clause-short : goal.returns-then-not-has_home-clause-short
 returns-then-not-has_home-clause-short g c =
     let there = (goal.at.returns-then-not-has_home-clause-short g c).After-has_home in
@@ -191,6 +210,7 @@ returns-in-Told g c =
       made = made-within _ _ (omega arith) (made-then c.requires.at.own look visit.made);
       told = tt;
       spent = spent-sooner look.grown visit.made.grown visit.spent;
+      looked = looked-on g there visit.made;
       short = slot-short g there _ visit.made (λ alone.
           omega (
             arith,
@@ -213,6 +233,7 @@ returns-in-Refused g c =
           (spent-none call c.args.seat.now c.has_home.new.seat c.args.tries.now)
           c.in-Refused.fault visit.visit).0;
       spent = spent-sooner look.grown visit.made.grown visit.spent;
+      looked = looked-on g there visit.made;
       short = slot-short g there _ visit.made (λ alone.
           omega (
             arith,
@@ -236,6 +257,7 @@ returns-in-Above g c =
       made = made-within _ _ (omega arith) (made-then c.requires.at.own look visit.made);
       told = visit.visit.1;
       spent = spent-sooner look.grown visit.made.grown visit.spent;
+      looked = looked-on g there visit.made;
       short = record {
         known = λ alone known. absurd (away alone.home);
         claimed = λ alone last. absurd (away alone.home);

@@ -5,8 +5,8 @@ use Rattle.std.proofs.lemmas.List.{append-nil}
 use Rattle.std.proofs.lemmas.List.Elements.{All-pop}
 use Rattle.nb_core.proofs.Seating.{gathered-first, gathered-more, none-left}
 use Rattle.nb_table.specs.Chains.{IsOwn}
-use Rattle.nb_table.specs.Inside.{seat_with}
-use Rattle.nb_table.proofs.Gathered.{one-seat}
+use Rattle.nb_table.specs.Inside.{forgotten, seat_with}
+use Rattle.nb_table.proofs.Gathered.{forgotten-pop, one-seat}
 use Rattle.nb_table.proofs.Meeting.{joins}
 use Rattle.nb_table.proofs.Opening.{some-words}
 use Rattle.nb_table.proofs.chain.Chain.gather.Goals as goal
@@ -20,7 +20,7 @@ loop-other-init c =
     let one = one-seat id c.last.inside _ c.last.invariant c.last.view_is own.1.at in (
       ap (λ v. v.chain) c.last.view_is ∙ own.1.at,
       c.last.invariant.free,
-      gathered-first (seat_with id) _ _ _ _ one items,
+      gathered-first (seat_with id 0) _ _ _ _ one (forgotten-pop _ _ _ items),
       own.0,
     )
 
@@ -45,15 +45,16 @@ loop-other-preserved c =
     let joined = c.join_seat.ensures.2 in (
       c.join_seat.ensures.0 ∙ c.loop-other.invariant.0,
       ap (λ m. m.1) joined ∙ c.loop-other.invariant.1,
-      gathered-more (seat_with id) _ _ _ _ _ _ _ c.loop-other.invariant.2 one items
+      gathered-more (seat_with id 0) _ _ _ _ _ _ _ c.loop-other.invariant.2 one
+          (forgotten-pop _ _ _ items)
           (ap (λ m. m.0.parts) joined),
       own.0,
     )
 
 pub returns-clause-all : goal.returns-clause-all
 returns-clause-all c =
-    let known = map (seat_with c.args.self.now.id) c.loop-other.seat.me.0.parts in
+    let known = map (seat_with c.args.self.now.id 0) c.loop-other.seat.me.0.parts in
     let left = none-left c.loop-other.seats.items
     (λ some. c.in_default.ensures.variant.1 (omega (arith, c.loop-other.seats.ok))) in
-    subst (λ seats. IsPermutation seats c.args.seats.items)
-    (ap (λ seats. known ++ seats) left ∙ append-nil known) c.loop-other.invariant.2
+    subst (λ seats. IsPermutation seats (map forgotten c.args.seats.items))
+    (ap (λ seats. known ++ map forgotten seats) left ∙ append-nil known) c.loop-other.invariant.2

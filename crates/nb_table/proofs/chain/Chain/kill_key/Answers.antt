@@ -1,7 +1,8 @@
-use Rattle.std.proofs.Common.{◌∙◌, ap, cond, eqb, refl, subst, sym}
-use Rattle.nb_core.specs.Plans.{key_index}
+use Rattle.std.proofs.Common.{◌∙◌, ◌<◌, ap, cond, eqb, refl, subst, sym}
+use Rattle.nb_core.specs.Plans.{Key, key_index, word_count}
 use Rattle.nb_core.specs.States.{key_word}
 use Rattle.nb_core.specs.declared.events.Event.TheVariants.{Kill}
+use Rattle.nb_core.proofs.Theorems.{indices_are_distinct}
 use Rattle.nb_table.proofs.Events.{kill_events}
 use Rattle.nb_table.specs.Steps.{Can}
 use Rattle.nb_table.proofs.Keys.{can-kill, key-lost, key-won}
@@ -35,3 +36,11 @@ returns-clause-lost c =
     ∙ ap (λ v. key_index v.shape c.args.g c.args.i) c.self.view_is in
     key-lost p e c.args.g c.args.i _ _ _ _ at_index c.exchanges-found.ensures c.state.result
     (c.state.ensures ∙ c.new.ensures.state)
+
+pub exchanges-found-requires-clause-within : goal.exchanges-found-requires-clause-within
+exchanges-found-requires-clause-within c =
+    let p = c.args.self.now.shape in
+    let at_index = c.key_index-index.ensures
+    ∙ ap (λ v. key_index v.shape c.args.g c.args.i) c.self.view_is in
+    subst (λ index. index < word_count p) (sym at_index)
+    ((indices_are_distinct p c.requires.own.plan).below (Key c.args.g c.args.i) c.requires.slot)

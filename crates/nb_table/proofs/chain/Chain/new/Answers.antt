@@ -1,7 +1,6 @@
 use Rattle.std.proofs.Common.{◌∙◌, ◌<◌, ap, arith, replicate}
 use Rattle.nb_core.proofs.Seating.{dealing-count, dealing-done, dealing-first, dealing-more, dealing-next}
 use Rattle.nb_table.specs.Chains.{ChainOf, new_seat}
-use Rattle.nb_table.specs.declared.chain.ChainSeat.TheInside.{Inside}
 use Rattle.nb_table.proofs.Opening.{count-words, deals, opens, some-words}
 use Rattle.nb_table.proofs.Dealt.{dealt-is_seat, dealt-own, dealt-seat_of}
 use Rattle.nb_table.proofs.chain.Chain.new.Goals as goal
@@ -48,7 +47,7 @@ pub invariant_of-push_reserved : goal.invariant_of-push_reserved
 invariant_of-push_reserved c =
     let below : c.loop-number._number < c.args.shape.seats
     = omega (arith, c.loop-number-test.true, c.seats-number-end.ensures.number) in
-    dealt-is_seat (record { seat = c.split_seat-seat.result }) c.loop-number.rest.me.0
+    dealt-is_seat c.split_seat-seat.result c.loop-number.rest.me.0
     c.loop-number._number c.split_seat-seat.ensures.4 (dealing-next c.loop-number.invariant.1 below)
 
 pub push_reserved-requires : goal.push_reserved-requires
@@ -67,9 +66,8 @@ loop-number-preserved c =
     let dealing = c.loop-number.invariant.1 in
     let below : number < c.args.shape.seats
     = omega (arith, c.loop-number-test.true, c.seats-number-end.ensures.number) in
-    let s : Inside = record { seat = c.split_seat-seat.result } in
-    let seat = dealt-seat_of s c.loop-number.rest.me.0 number c.split_seat-seat.ensures.4
-    (dealing-next dealing below)
+    let seat = dealt-seat_of c.split_seat-seat.result c.loop-number.rest.me.0 number
+    c.split_seat-seat.ensures.4 (dealing-next dealing below)
     ∙ ap (λ id. new_seat id number) (c.split_seat-seat.ensures.3 ∙ c.loop-number.invariant.0) in (
       c.split_seat-seat.ensures.0 ∙ c.loop-number.invariant.0,
       dealing-more dealing below (ap (λ m. m.0.parts) c.split_seat-seat.ensures.2)

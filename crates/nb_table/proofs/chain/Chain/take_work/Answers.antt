@@ -1,7 +1,7 @@
-use Rattle.std.proofs.Common.{◌∙◌, ap}
+use Rattle.std.proofs.Common.{◌∙◌, ap, arith}
 use Rattle.nb_core.specs.Plans.{header_index}
 use Rattle.nb_core.specs.Tables.{chunk_of}
-use Rattle.nb_table.proofs.Counts.{can-take, taken}
+use Rattle.nb_table.proofs.Counts.{can-take, header-within, taken}
 use Rattle.nb_table.proofs.chain.Chain.take_work.Goals as goal
 
 pub adds-requires-clause-can : goal.adds-requires-clause-can
@@ -19,3 +19,9 @@ returns-clause-found c =
     taken c.args.self.now.shape c.args.g _ _ c.args.seat.now c.adds.new.seat
     (c.header_index-index.ensures ∙ ap (λ p. header_index p c.args.g 1)
     (ap (λ v. v.shape) c.self.view_is)) c.adds.ensures
+
+pub adds-requires-clause-within : goal.adds-requires-clause-within
+adds-requires-clause-within c =
+    let shape = ap (λ v. v.shape) c.self.view_is in
+    header-within c.args.self.now.shape c.requires.own.plan c.args.g 1 _ c.requires.table
+    (omega arith) (c.header_index-index.ensures ∙ ap (λ p. header_index p c.args.g 1) shape)
