@@ -15,6 +15,7 @@ pub mod laws;
 mod mixing;
 mod numbers;
 mod plain;
+mod seat_room;
 mod seats;
 mod shapes;
 mod slot_words;
@@ -26,6 +27,7 @@ pub use events::Event;
 pub use mixing::{mix, unmix};
 pub use numbers::{KEY_MAX, Key, Num, RangeFault, VALUE_MAX};
 pub use plain::{PlainFault, PlainMap};
+pub use seat_room::SeatRoom;
 pub use seats::NotAll;
 pub use shapes::{
     FEW_SEATS, FEW_STRIPES, HeaderWord, INSTALLED, MANY_KEYS, MAX_EXPONENT, MAX_GENERATIONS,
