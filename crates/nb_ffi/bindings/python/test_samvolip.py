@@ -2,7 +2,7 @@
 
 import threading
 
-from samvolip import Code, Refused, Seat, exponents_for_keys
+from samvolip import Code, Refused, Seat, exponents_for_keys, exponents_for_many_keys
 
 
 def refused(call, *words, **named):
@@ -48,13 +48,43 @@ def calls():
     assert refused(seat.get, 2**64 - 1) == Code.E_KEY_RANGE
     assert refused(seat.put, 1, 2**60) == Code.E_VALUE_RANGE
     assert refused(Seat.open, [5, 4]) == Code.E_FALLING
+    assert refused(Seat.open, [2, 28, 28, 28, 28]) == Code.E_SLOTS
+    assert refused(Seat.open, [4], seats=257) == Code.E_SEATS
     assert refused(exponents_for_keys, 2**20) == Code.E_TABLES
+    assert refused(exponents_for_many_keys, 2**28) == Code.E_TABLES
     seat.free()
     try:
         seat.get(1)
     except ValueError:
         return
     raise AssertionError("a call with an empty seat")
+
+
+def shapes():
+    for most, exponents in [(0, [2, 5]), (21, [2, 5]), (22, [3, 6]), (349525, [16, 19])]:
+        assert exponents_for_keys(most) == exponents
+    for most, exponents in [
+        (21, [5]),
+        (22, [6]),
+        (341, [9]),
+        (342, [4, 10]),
+        (1000000, [9, 15, 21]),
+        (44739243, [8, 14, 20, 26]),
+        (44739244, [9, 15, 21, 27]),
+        (178956970, [4, 10, 16, 22, 28]),
+    ]:
+        assert exponents_for_many_keys(most) == exponents
+
+
+def many_seats():
+    first = Seat.open_for_many_keys(5000, seats=256)
+    seats = [first.split() for _ in range(255)]
+    for number, seat in enumerate(seats):
+        seat.put(number, number)
+    for seat in seats:
+        first.join(seat)
+    assert first.size_estimate() == 255
+    assert len(first.close()) == 255
 
 
 def walks():
@@ -69,5 +99,7 @@ def walks():
 
 threads()
 calls()
+shapes()
+many_seats()
 walks()
 print("python: well")
