@@ -52,8 +52,8 @@ pub(crate) fn opened(alloc: Global, shape: Shape) -> Result<Box<Session, Global>
 }
 
 impl Session {
-    /// A handle for the last seat in reserve. It has room for all seats of the map, so that it takes
-    /// no memory to join others to it.
+    /// A handle for the last seat in reserve. It has room for all seats of its map, so that it
+    /// takes no memory to join others to it.
     pub(crate) fn split(&mut self, alloc: Global) -> Result<Box<Session, Global>, SplitFault>
         ensures split { IfOk result (λ other. IsPartOf self.old self.new other.value) }
         ensures refused { IfErr result (λ fault. self.new ≡ self.old) }
