@@ -64,7 +64,7 @@ module _ (p : Plan) (g start : ℕ) {end : ℕ} (ends : end ≡ min (size_of p g
 -- a table has four slots at least, and so has a chunk
 pub four-handed : (p : Plan) → IsPlan p → (g : ℕ) → g < generations_of p → 4 ≤ chunk_of p g
 four-handed p plan g table =
-    let exponent = All-get_or (λ e. (2 ≤ e) × (e ≤ 19)) p.exponents g 0 table plan.sizes in
+    let exponent = All-get_or (λ e. (2 ≤ e) × (e ≤ 28)) p.exponents g 0 table plan.sizes in
     le-min (pow_mono exponent.0) (omega (arith, pow_mono plan.chunk.1, plan.chunk.3))
 
 -- what it costs to take and to count the chunks of a table is less than a step for each slot

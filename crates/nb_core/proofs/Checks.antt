@@ -1,5 +1,5 @@
 -- The tests that numbers pass before they make a shape.
-use Rattle.std.proofs.Common.{◌≡◌, ℕ, ◌+◌, ◌<◌, ◌≤◌, Bool, true, false, MatchBool, List, [], ◌∷◌, length, get_or, leb, suc, zero, refl, subst, arith, add-one, Ok, Err}
+use Rattle.std.proofs.Common.{◌≡◌, ℕ, ◌+◌, ◌^◌, ◌<◌, ◌≤◌, Bool, true, false, MatchBool, List, [], ◌∷◌, length, get_or, leb, suc, zero, refl, subst, arith, add-one, Ok, Err}
 use Rattle.std.specs.List.{All, list_all}
 use Rattle.std.specs.List.Sorted.{IsNonDecreasing}
 use Rattle.std.proofs.lemmas.Bool.{and_from, and_left, and_right, le-leb, lt-leb}
@@ -7,17 +7,18 @@ use Rattle.std.proofs.lemmas.Bool.Decides.{nat_tests}
 use Rattle.std.proofs.lemmas.List.Sorted.{IsNonDecreasingBy-drop}
 use Rattle.std.proofs.lemmas.List.Sums.{list_all-from_AllPass}
 use Rattle.nb_core.specs.declared.shapes.ShapeFault.TheVariants as fault
-use Rattle.nb_core.specs.Plans.{IsPlan, checked_plan, is_within, never_falls, plan, seated}
+use Rattle.nb_core.specs.Plans.{checked_large, checked_plan, is_within, never_falls, plan, seated, slots_in}
 
-is_within-true : (low high n : ℕ) → (low ≤ n) × (n ≤ high) → is_within low high n ≡ true
+pub is_within-true : (low high n : ℕ) → (low ≤ n) × (n ≤ high) → is_within low high n ≡ true
 is_within-true low high n h = grind (arith, nat_tests)
 
 -- seats and stripes of a plan are not refused
 pub seated-plan :
-    (exponents : List ℕ) (seats stripes : ℕ) → IsPlan (plan exponents seats stripes)
+    (exponents : List ℕ) (seats stripes : ℕ) → (1 ≤ seats) × (seats ≤ 8)
+    → (1 ≤ stripes) × (stripes ≤ 8)
     → seated exponents seats stripes ≡ Ok (plan exponents seats stripes)
-seated-plan exponents seats stripes is =
-    rw (is_within-true 1 8 seats is.seats, is_within-true 1 8 stripes is.stripes)
+seated-plan exponents seats stripes some striped =
+    rw (is_within-true 1 8 seats some, is_within-true 1 8 stripes striped)
 
 never_falls-true : (es : List ℕ) → IsNonDecreasing es → never_falls es ≡ true
 never_falls-true [] h = refl
@@ -47,10 +48,11 @@ never_falls-is es false h =
     (subst (λ n. get_or es n 0 < get_or es h.0 0) (add-one h.0) (h.2 0))
 
 list_all-is_within :
-    (es : List ℕ) → All (λ e. (2 ≤ e) × (e ≤ 19)) es → list_all (is_within 2 19) es ≡ true
-list_all-is_within es sizes =
-    list_all-from_AllPass (is_within 2 19) es
-    (λ k d within. is_within-true 2 19 (get_or es k d) (sizes k d within))
+    (most : ℕ) (es : List ℕ) → All (λ e. (2 ≤ e) × (e ≤ most)) es
+    → list_all (is_within 2 most) es ≡ true
+list_all-is_within most es sizes =
+    list_all-from_AllPass (is_within 2 most) es
+    (λ k d within. is_within-true 2 most (get_or es k d) (sizes k d within))
 
 -- with so many exponents of these sizes, only a fall is left to refuse
 pub checked_plan-rises :
@@ -58,11 +60,38 @@ pub checked_plan-rises :
     → All (λ e. (2 ≤ e) × (e ≤ 19)) es → never_falls es ≡ true
     → checked_plan es seats stripes ≡ seated es seats stripes
 checked_plan-rises es seats stripes few sizes rises =
-    rw (is_within-true 1 16 (length es) few, list_all-is_within es sizes, rises)
+    rw (is_within-true 1 16 (length es) few, list_all-is_within 19 es sizes, rises)
 
 pub checked_plan-falls :
     (es : List ℕ) (seats stripes : ℕ) → (1 ≤ length es) × (length es ≤ 16)
     → All (λ e. (2 ≤ e) × (e ≤ 19)) es → never_falls es ≡ false
     → checked_plan es seats stripes ≡ Err fault.Plan
 checked_plan-falls es seats stripes few sizes falls =
-    rw (is_within-true 1 16 (length es) few, list_all-is_within es sizes, falls)
+    rw (is_within-true 1 16 (length es) few, list_all-is_within 19 es sizes, falls)
+
+-- with so many exponents of larger tables, a fall or too many slots are left to refuse
+module _ (es : List ℕ) (few : (1 ≤ length es) × (length es ≤ 16))
+    (sizes : All (λ e. (2 ≤ e) × (e ≤ 28)) es) where
+  pub checked_large-falls : never_falls es ≡ false → checked_large es ≡ Err fault.Plan
+  checked_large-falls falls =
+      rw (is_within-true 1 16 (length es) few, list_all-is_within 28 es sizes, falls)
+
+  pub checked_large-many :
+      never_falls es ≡ true → 2 ^ 30 < slots_in es → checked_large es ≡ Err fault.Slots
+  checked_large-many rises many =
+      rw (
+        is_within-true 1 16 (length es) few,
+        list_all-is_within 28 es sizes,
+        rises,
+        lt-leb (slots_in es) (2 ^ 30) many,
+      )
+
+  pub checked_large-rises :
+      never_falls es ≡ true → slots_in es ≤ 2 ^ 30 → checked_large es ≡ Ok (plan es 1 1)
+  checked_large-rises rises fits =
+      rw (
+        is_within-true 1 16 (length es) few,
+        list_all-is_within 28 es sizes,
+        rises,
+        le-leb (slots_in es) (2 ^ 30) fits,
+      )

@@ -422,7 +422,7 @@ counted_by-fits p h plan legal g within =
     )
 
 -- a table has fewer slots than a word can count
-size-fits : (e n : ℕ) → e ≤ 19 → n ≤ 2 ^ e → n < 2 ^ 64
+size-fits : (e n : ℕ) → e ≤ 28 → n ≤ 2 ^ e → n < 2 ^ 64
 size-fits e n small fits = let less : 2 ^ e < 2 ^ 64 = pow-lt {i = e} {j = 64} (omega arith) in
     omega arith
 

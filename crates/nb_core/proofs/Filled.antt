@@ -1,14 +1,13 @@
 -- The arrays of a shape while its tables are laid out.
-use Rattle.std.proofs.Common.{◌≡◌, ◌∙◌, ℕ, ◌+◌, ◌-◌, ◌*◌, ◌^◌, ◌<◌, ◌≤◌, List, length, take, set, slice_index, get_or, cond, ltb, ap, refl, sym, arith, inl, inr, subst}
+use Rattle.std.proofs.Common.{◌≡◌, ◌∙◌, ℕ, ◌+◌, ◌-◌, ◌*◌, ◌^◌, ◌<◌, ◌≤◌, List, [], ◌∷◌, length, take, set, slice_index, get_or, cond, ltb, ap, refl, sym, arith, inl, inr, subst}
 use Rattle.std.specs.List.{sum_by, All}
 use Rattle.std.proofs.Math.Pow.{pow_mono}
 use Rattle.std.proofs.lemmas.Bool.{cases_lt, cases_eq, lt-ltb, le-ltb}
 use Rattle.std.proofs.lemmas.List.{get_or-set_same, get_or-set_other, get_or_past, get_or-take, length-set, length-take-le, ext_get_or}
-use Rattle.std.proofs.lemmas.List.Elements.{All-take}
 use Rattle.std.proofs.lemmas.List.FromFn.{fill_by_all}
-use Rattle.std.proofs.lemmas.List.Sums.{sum_by_more, sum_by-le}
+use Rattle.std.proofs.lemmas.List.Sums.{sum_by_more, sum_by-cons, sum_by-le, sum_by-take-le}
 use Rattle.nb_core.specs.declared.shapes.Shape.TheInside.{Inside}
-use Rattle.nb_core.specs.Plans.{Plan, IsPlan, base_of, generations_of, size_of, table_words, word_count}
+use Rattle.nb_core.specs.Plans.{Plan, IsPlan, base_of, generations_of, size_of, slots_in, table_words, word_count}
 use Rattle.nb_core.specs.Layout.{IsInside, plan_of, inside_of, kept_bases, kept_exponents, kept_lasts}
 
 -- an array of 16 with f at each place below n, and 0 from there on
@@ -17,7 +16,7 @@ pub record IsFilled (f : ℕ → ℕ) (xs : List ℕ) (n : ℕ) : Type 0 where
   pub filled : (k : ℕ) → k < n → get_or xs k 0 ≡ f k
   pub empty : (k : ℕ) → n ≤ k → k < 16 → get_or xs k 0 ≡ 0
 
-IsFilled-more :
+pub IsFilled-more :
     (f : ℕ → ℕ) (xs : List ℕ) (n v : ℕ) → IsFilled f xs n → n < 16 → v ≡ f n
     → IsFilled f (set xs n v) (n + 1)
 IsFilled-more f xs n v h within e = record {
@@ -60,24 +59,51 @@ AreLaid-more exponents xs zs ys end n last words h within few top e = record {
   words = omega (arith, h.words, sum_by_more table_words exponents n 0 within);
 }
 
--- a table is small, and so are the first n
+-- a table is small
 pub table-fits :
-    (exponents : List ℕ) (n : ℕ) → All (λ e. (2 ≤ e) × (e ≤ 19)) exponents → n < length exponents
-    → 2 ^ slice_index exponents n ≤ 2 ^ 19
+    (exponents : List ℕ) (n : ℕ) → All (λ e. (2 ≤ e) × (e ≤ 28)) exponents → n < length exponents
+    → 2 ^ slice_index exponents n ≤ 2 ^ 28
 table-fits exponents n sizes within = let bounds = sizes n 0 within in pow_mono bounds.1
 
-pub end_of-le :
-    (exponents : List ℕ) (n : ℕ) → All (λ e. (2 ≤ e) × (e ≤ 19)) exponents → n ≤ length exponents
-    → end_of exponents n ≤ 1 + n * 1048579
-end_of-le exponents n sizes within =
-    let bound : All (λ e. table_words e ≤ 1048579) (take n exponents) =
-    All-take (λ e. table_words e ≤ 1048579) n exponents (λ k d below.
-    let b = sizes k d below in
-    let most : 2 ^ get_or exponents k d ≤ 2 ^ 19 = pow_mono b.1 in omega arith) in
+-- the first tables have few slots, however large each is
+pub first-few :
+    (exponents : List ℕ) (n : ℕ) → All (λ e. (2 ≤ e) × (e ≤ 28)) exponents → length exponents ≤ 16
+    → slots_in (take n exponents) ≤ 2 ^ 32
+first-few exponents n sizes few =
+    let each : All (λ e. 2 ^ e ≤ 268435456) exponents = (λ k d within.
+    let most : 2 ^ get_or exponents k d ≤ 2 ^ 28 = pow_mono (sizes k d within).1 in
+    omega arith) in
     omega (
       arith,
-      sum_by-le table_words 1048579 (take n exponents) bound,
-      ap (λ m. m * 1048579) (length-take-le n exponents within),
+      sum_by-le (λ e. 2 ^ e) 268435456 exponents each,
+      sum_by-take-le (λ e. 2 ^ e) exponents n,
+    )
+
+-- the words of tables are three for each table and two for each slot
+words-in :
+    (exponents : List ℕ) → sum_by table_words exponents
+    ≡ 3 * length exponents + 2 * slots_in exponents
+words-in [] = refl
+words-in (e ∷ es) =
+    omega (
+      arith,
+      sum_by-cons table_words e es,
+      sum_by-cons (λ k. 2 ^ k) e es,
+      words-in es,
+    )
+
+-- the words of the first tables and of one more have places of 32 bits
+pub end_of-fits :
+    (exponents : List ℕ) (n : ℕ) → length exponents ≤ 16 → slots_in exponents ≤ 2 ^ 30
+    → n < length exponents
+    → end_of exponents n + (3 + 2 * 2 ^ slice_index exponents n) < 2 ^ 32
+end_of-fits exponents n few slots within =
+    omega (
+      arith,
+      sum_by_more table_words exponents n 0 within,
+      words-in (take (n + 1) exponents),
+      length-take-le (n + 1) exponents (omega (arith, within)),
+      sum_by-take-le (λ k. 2 ^ k) exponents (n + 1),
     )
 
 kept_exponents-filled :
@@ -143,7 +169,7 @@ pub plan_of-laid :
 plan_of-laid p xs zs ys end n plan all h =
     ap (λ (es : List ℕ). record p { exponents = es })
     (take-filled p.exponents xs (subst (IsFilled (slice_index p.exponents) xs) all h.kept)
-    plan.few_tables)
+    plan.tables.1)
 
 pub IsInside-laid :
     (p : Plan) (xs zs ys : List ℕ) (end n : ℕ) → IsPlan p → n ≡ generations_of p

@@ -5,6 +5,7 @@ use Rattle.std.proofs.lemmas.List.{get_or-take, length-take}
 use Rattle.std.proofs.lemmas.List.Elements.{All-get_or}
 use Rattle.std.proofs.lemmas.List.FromFn.{get_or-map-range_with_len}
 use Rattle.nb_core.specs.declared.shapes.Shape.TheInside.{Inside}
+use Rattle.nb_core.specs.declared.shapes.TheConstants.{MAX_SEATS, MAX_STRIPES}
 use Rattle.nb_core.specs.Plans.{Plan, IsChunk, IsPlan, base_of, generations_of, size_of}
 use Rattle.nb_core.specs.Layout.{IsInside, inside_of, kept_bases, kept_exponents, kept_lasts, plan_of}
 
@@ -19,16 +20,36 @@ pub inside-tuned :
 unfolding kept_exponents kept_lasts kept_bases
 inside-tuned a reprobes chunk h some is = record {
   plan = record {
-    some_tables = h.plan.some_tables;
-    few_tables = h.plan.few_tables;
+    tables = h.plan.tables;
     sizes = h.plan.sizes;
     never_fall = h.plan.never_fall;
+    slots = h.plan.slots;
     seats = h.plan.seats;
     stripes = h.plan.stripes;
     reprobes = some;
     chunk = is;
   };
   fields = ap (λ (b : Inside). record b { reprobes = reprobes; chunk = chunk }) h.fields;
+}
+
+-- and so are those of one with other numbers of seats and stripes
+pub inside-seated :
+    (a : Inside) (seats stripes : ℕ) → IsInside a → (1 ≤ seats) × (seats ≤ MAX_SEATS)
+    → (1 ≤ stripes) × (stripes ≤ MAX_STRIPES)
+    → IsInside (record a { seats = seats; stripes = stripes })
+unfolding kept_exponents kept_lasts kept_bases
+inside-seated a seats stripes h some striped = record {
+  plan = record {
+    tables = h.plan.tables;
+    sizes = h.plan.sizes;
+    never_fall = h.plan.never_fall;
+    slots = h.plan.slots;
+    seats = some;
+    stripes = striped;
+    reprobes = h.plan.reprobes;
+    chunk = h.plan.chunk;
+  };
+  fields = ap (λ (b : Inside). record b { seats = seats; stripes = stripes }) h.fields;
 }
 
 -- a table's exponent stands where the plan has it
@@ -43,11 +64,11 @@ exponents-at a p g e within =
 -- and is a small one
 pub exponents-few :
     (a : Inside) (p : Plan) (g : ℕ) → IsInside a → plan_of a ≡ p → g < generations_of p
-    → slice_index a.exponents g ≤ 19
+    → slice_index a.exponents g ≤ 28
 exponents-few a p g h e within =
     let all = (plan-kept a p h e).sizes in
-    subst (λ n. n ≤ 19) (exponents-at a p g e within)
-    (All-get_or (λ n. (2 ≤ n) × (n ≤ 19)) p.exponents g 0 within all).1
+    subst (λ n. n ≤ 28) (exponents-at a p g e within)
+    (All-get_or (λ n. (2 ≤ n) × (n ≤ 28)) p.exponents g 0 within all).1
 
 kept_lasts-at :
     (p : Plan) (g : ℕ) → IsPlan p → g < generations_of p
@@ -55,7 +76,7 @@ kept_lasts-at :
 unfolding kept_lasts
 kept_lasts-at p g plan within =
     get_or-map-range_with_len (λ k. cond (ltb k (generations_of p)) (size_of p k - 1) 0) 0 16 g g 0
-    (omega (arith, plan.few_tables)) (omega arith)
+    (omega (arith, plan.tables.1)) (omega arith)
     ∙ ap (λ b. cond b (size_of p g - 1) 0) (lt-ltb g (generations_of p) within)
 
 -- a table's last slot stands where the shape keeps it
@@ -72,7 +93,7 @@ kept_bases-at :
 unfolding kept_bases
 kept_bases-at p g plan within =
     get_or-map-range_with_len (λ k. cond (ltb k (generations_of p)) (base_of p k) 0) 0 16 g g 0
-    (omega (arith, plan.few_tables)) (omega arith)
+    (omega (arith, plan.tables.1)) (omega arith)
     ∙ ap (λ b. cond b (base_of p g) 0) (lt-ltb g (generations_of p) within)
 
 -- a table begins where the shape keeps that it does

@@ -1,5 +1,5 @@
 -- The plan for a number of keys: its exponents, and which numbers are refused.
-use Rattle.std.proofs.Common.{◌≡◌, ◌∙◌, ℕ, zero, suc, ◌+◌, ◌*◌, ◌-◌, ◌^◌, ◌<◌, ◌≤◌, max, Bool, true, false, not, cond, leb, List, [], ◌∷◌, inl, inr, refl, Ok, Err, add-one, ap, arith}
+use Rattle.std.proofs.Common.{◌≡◌, ◌∙◌, ℕ, zero, suc, ◌+◌, ◌*◌, ◌-◌, ◌^◌, ◌<◌, ◌≤◌, max, min, Bool, true, false, not, cond, leb, List, [], ◌∷◌, inl, inr, refl, Ok, Err, add-one, ap, arith, subst, sym}
 use lib.Count.{ones}
 use Rattle.std.specs.List.{All}
 use Rattle.std.proofs.Math.Nat.{le-max_left, le-max_right, pow-suc, sub-add-eq-max}
@@ -7,9 +7,11 @@ use Rattle.std.proofs.Math.Pow.{pow_mono}
 use Rattle.std.proofs.lemmas.Bool.{cases_lt, le-leb, lt-leb}
 use Rattle.nb_core.specs.declared.shapes.ShapeFault.{ShapeFault}
 use Rattle.nb_core.specs.declared.shapes.ShapeFault.TheVariants as fault
-use Rattle.nb_core.specs.declared.shapes.TheConstants.{MOST_KEYS}
-use Rattle.nb_core.specs.Plans.{Plan, checked_chunk, checked_for_keys, checked_plan, checked_reprobes, exponent_for, first_exponent, is_within, never_falls, plan, plan_for_keys, seated, slots_for}
-use Rattle.nb_core.proofs.Checks.{checked_plan-rises}
+use Rattle.nb_core.specs.declared.shapes.TheConstants.{MANY_KEYS, MAX_SEATS, MOST_KEYS}
+use Rattle.nb_core.specs.declared.shapes.wide.TheConstants.{MANY_CHUNK, MANY_REPROBES, SHARED_STRIPES}
+use Rattle.nb_core.specs.Plans.{HasRoomFor, Plan, checked_chunk, checked_for_keys, checked_for_many_keys, checked_plan, checked_reprobes, exponent_for, first_exponent, is_within, never_falls, plan, plan_for_keys, plan_for_many_keys, seated, slots_for, steps_down, tables_for}
+use Rattle.nb_core.proofs.Checks.{checked_plan-rises, is_within-true}
+use Rattle.nb_core.proofs.Stepped.{steps_down-last}
 
 -- the first exponent with room is the one that has room where none before it has
 pub first_exponent-is :
@@ -34,18 +36,22 @@ first_exponent-is (suc tries) e slots last from to room none =
 -- what the logarithm of a number of slots says of the exponent
 pub record IsExponent (most low : ℕ) : Type 0 where
   pub first : exponent_for most ≡ low + 1
+  pub room : slots_for most ≤ 2 ^ (low + 1)
   pub least : 4 ≤ low
-  pub greatest : low ≤ 18
+  pub greatest : low ≤ 27
+  pub small : most ≤ MOST_KEYS → low ≤ 18
 
 pub exponent-found :
-    (most slots low : ℕ) → most ≤ MOST_KEYS → slots ≡ max (slots_for most) 32
+    (most slots low : ℕ) → most ≤ MANY_KEYS → slots ≡ max (slots_for most) 32
     → 2 ^ low ≤ slots - 1 → slots - 1 < 2 * 2 ^ low → IsExponent most low
 exponent-found most slots low few is under over = record {
-  first = first_exponent-is 14 5 (slots_for most) (low + 1) (omega (arith, least))
+  first = first_exponent-is 23 5 (slots_for most) (low + 1) (omega (arith, least))
       (omega (arith, greatest)) room
       (λ k after below. larger k after (omega arith));
+  room = room;
   least = least;
   greatest = greatest;
+  small = small;
 } where
   wanted : slots_for most ≤ slots
   wanted = omega (arith, is, le-max_left (slots_for most) 32)
@@ -67,11 +73,19 @@ exponent-found most slots low few is under over = record {
     | inr more ↦ more
   ]
 
-  greatest : low ≤ 18
-  greatest = elim (cases_lt 18 low) [
+  greatest : low ≤ 27
+  greatest = elim (cases_lt 27 low) [
+    | inl more ↦
+        let many : 2 ^ 28 ≤ 2 ^ low = pow_mono more in
+        absurd (omega (arith, many, under, few, is))
+    | inr less ↦ less
+  ]
+
+  small : most ≤ MOST_KEYS → low ≤ 18
+  small fewer = elim (cases_lt 18 low) [
     | inl more ↦
         let many : 2 ^ 19 ≤ 2 ^ low = pow_mono more in
-        absurd (omega (arith, many, under, few, is))
+        absurd (omega (arith, many, under, fewer, is))
     | inr less ↦ less
   ]
 
@@ -140,3 +154,31 @@ tuned-plan most low seats made limited at is limits =
     let untuned = plan ((low + 1 - 3) ∷ (low + 1) ∷ []) seats seats in
     let whole : limited ≡ record untuned { reprobes = 18 } = cc in
     rw (whole, at) refl
+
+-- seats that are accepted make the plan for many keys
+pub for_many_keys-accepted :
+    (most seats : ℕ) → most ≤ MANY_KEYS → (1 ≤ seats) × (seats ≤ MAX_SEATS)
+    → checked_for_many_keys most seats ≡ Ok (plan_for_many_keys most seats)
+for_many_keys-accepted most seats few some =
+    rw (le-leb most MANY_KEYS few, is_within-true 1 MAX_SEATS seats some)
+
+-- tuned, tables in steps are the plan for many keys
+pub tuned-steps :
+    (most last seats stripes : ℕ) (made limited : Plan) → exponent_for most ≡ last
+    → stripes ≡ min seats SHARED_STRIPES
+    → made ≡ plan (steps_down (tables_for last) last) seats stripes
+    → checked_reprobes made MANY_REPROBES ≡ Ok limited
+    → checked_chunk limited MANY_CHUNK ≡ Ok (plan_for_many_keys most seats)
+unfolding ones
+tuned-steps most last seats stripes made limited at shared is limits =
+    let untuned = plan (steps_down (tables_for last) last) seats stripes in
+    let whole : limited ≡ record untuned { reprobes = MANY_REPROBES } = cc in
+    rw (whole, at, shared) refl
+
+-- its last table has room for so many keys
+pub many-room :
+    (most seats : ℕ) → slots_for most ≤ 2 ^ exponent_for most
+    → HasRoomFor (plan_for_many_keys most seats) most
+many-room most seats room =
+    subst (λ e. slots_for most ≤ 2 ^ e)
+    (sym (steps_down-last (tables_for (exponent_for most)) (exponent_for most) (omega arith))) room

@@ -52,7 +52,7 @@ taken-kept p _ h legal g none = refl
 
 -- there is a last table
 last-within : (p : Plan) → IsPlan p → generations_of p - 1 < generations_of p
-last-within p plan = omega (arith, plan.some_tables)
+last-within p plan = omega (arith, plan.tables.0)
 
 -- no chunk of the last table is handed out
 last-taken :

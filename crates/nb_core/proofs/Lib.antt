@@ -30,7 +30,9 @@ mod Searches
 pub mod Seating
 mod Shown
 mod Slots
+mod Small
 mod Sound
+mod Stepped
 mod Steps
 mod Tables
 pub mod Theorems

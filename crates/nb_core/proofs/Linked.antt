@@ -11,7 +11,7 @@ use Rattle.nb_core.proofs.Sound.{IsSound, complete-growing, finished-growing, in
 module _ (p : Plan) (t : Tables) (plan : IsPlan p) (s : IsSound p t) where
   -- no more tables are there than the plan has
   installed-within : (g : ℕ) → IsInstalled t g → g < generations_of p
-  installed-within zero installed = omega (arith, plan.some_tables)
+  installed-within zero installed = omega (arith, plan.tables.0)
   installed-within (suc g) installed = next-within p t s g installed
 
   -- above complete tables there is a next one

@@ -9,7 +9,7 @@ use Rattle.nb_core.specs.Plans.{Plan, size_of}
 
 -- a word's low bits are its rest by the size of a table
 pub masked :
-    (p : Plan) (g n : ℕ) → size_of p g ≤ 2 ^ 19
+    (p : Plan) (g n : ℕ) → size_of p g ≤ 2 ^ 28
     → bit_and (n % 2 ^ 64) (size_of p g - 1) ≡ n % size_of p g
 masked p g n few =
     let e = slice_index p.exponents g in

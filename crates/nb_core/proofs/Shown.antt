@@ -389,6 +389,6 @@ crowded_absent p plan h legal k crowded =
     let last = generations_of p - 1 in
     number_at_map h k
     ∙ number-crowded p (tables_at p h) plan (sound p h plan legal) k _ (newest p h plan legal k)
-    last (omega (arith, plan.some_tables))
+    last (omega (arith, plan.tables.0))
     (λ d less. crowded (path_slot p last k d)
-    (path_slot-is_slot p plan last k d (omega (arith, plan.some_tables))).1)
+    (path_slot-is_slot p plan last k d (omega (arith, plan.tables.0))).1)

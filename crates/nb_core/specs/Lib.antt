@@ -7,5 +7,6 @@ pub mod Meaning
 pub mod Mixing
 pub mod Layout
 pub mod Plans
+pub mod Rooms
 pub mod States
 pub mod Tables

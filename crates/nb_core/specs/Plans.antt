@@ -1,14 +1,15 @@
 -- The shape of a chain of tables: how many tables, how large each is, and where each word of it
 -- lies.
-use Rattle.std.specs.Prelude.{◌≡◌, ℕ, ◌+◌, ◌*◌, ◌/◌, ◌-◌, ◌^◌, ◌<◌, ◌≤◌, min, suc, zero, ◌==◌, ◌&&◌, Bool, true, not, nat_le, if◌then◌else◌, List, [], ◌∷◌, length, take, sum_by, slice_index, Result, Ok, Err, All}
+use Rattle.std.specs.Prelude.{◌≡◌, ℕ, ◌+◌, ◌*◌, ◌/◌, ◌-◌, ◌^◌, ◌<◌, ◌≤◌, min, suc, zero, ◌==◌, ◌&&◌, Bool, true, not, nat_le, if◌then◌else◌, List, [], ◌∷◌, ◌++◌, length, take, sum_by, slice_index, Result, Ok, Err, All}
 use Rattle.std.specs.Int.{is_power_of_two}
 use Rattle.std.specs.List.{list_all}
 use Rattle.std.specs.List.Sorted.{IsNonDecreasing}
-use Rattle.nb_core.specs.declared.shapes.TheConstants.{MAX_GENERATIONS, MAX_SEATS, MAX_STRIPES, MOST_KEYS}
+use Rattle.nb_core.specs.declared.shapes.TheConstants.{FEW_SEATS, FEW_STRIPES, MANY_KEYS, MAX_EXPONENT, MAX_GENERATIONS, MAX_SEATS, MAX_SLOTS, MAX_STRIPES, MOST_KEYS, SMALL_EXPONENT}
 use Rattle.nb_core.specs.declared.shapes.HeaderWord.{HeaderWord}
 use Rattle.nb_core.specs.declared.shapes.HeaderWord.TheVariants as header
 use Rattle.nb_core.specs.declared.shapes.ShapeFault.{ShapeFault}
 use Rattle.nb_core.specs.declared.shapes.ShapeFault.TheVariants as fault
+use Rattle.nb_core.specs.declared.shapes.wide.TheConstants.{FIRST_EXPONENT, MANY_CHUNK, MANY_REPROBES, SHARED_STRIPES, STEP}
 
 -- Table g has 2 to the power exponents[g] slots. There are seats for so many callers, and a size is
 -- counted over so many stripes. No table but the last takes a new key past so many slots of the
@@ -24,12 +25,16 @@ pub record Plan : Type 0 where
 abbrev pub IsChunk : ℕ → Type 0
 IsChunk n = (e : ℕ) × (2 ≤ e) × (e ≤ 10) × (n ≡ 2 ^ e)
 
+-- how many slots tables of these exponents have, all together
+abbrev pub slots_in : List ℕ → ℕ
+slots_in exponents = sum_by (λ e. 2 ^ e) exponents
+
 -- what a shape may be
 pub record IsPlan (p : Plan) : Type 0 where
-  pub some_tables : 1 ≤ length p.exponents
-  pub few_tables : length p.exponents ≤ MAX_GENERATIONS
-  pub sizes : All (λ e. (2 ≤ e) × (e ≤ 19)) p.exponents
+  pub tables : (1 ≤ length p.exponents) × (length p.exponents ≤ MAX_GENERATIONS)
+  pub sizes : All (λ e. (2 ≤ e) × (e ≤ MAX_EXPONENT)) p.exponents
   pub never_fall : IsNonDecreasing p.exponents
+  pub slots : slots_in p.exponents ≤ MAX_SLOTS
   pub seats : (1 ≤ p.seats) × (p.seats ≤ MAX_SEATS)
   pub stripes : (1 ≤ p.stripes) × (p.stripes ≤ MAX_STRIPES)
   pub reprobes : (1 ≤ p.reprobes) × (p.reprobes < 2 ^ 32)
@@ -145,17 +150,27 @@ plan exponents seats stripes =
 -- the plan, or the first thing that is wrong with its seats and stripes
 abbrev pub seated : List ℕ → ℕ → ℕ → Result Plan ShapeFault
 seated exponents seats stripes =
-    if not (is_within 1 MAX_SEATS seats) then Err fault.Seats
-    else if not (is_within 1 MAX_STRIPES stripes) then Err fault.Stripes
+    if not (is_within 1 FEW_SEATS seats) then Err fault.Seats
+    else if not (is_within 1 FEW_STRIPES stripes) then Err fault.Stripes
     else Ok (plan exponents seats stripes)
 
 -- the plan of these exponents, or the first thing that is wrong with it
 abbrev pub checked_plan : List ℕ → ℕ → ℕ → Result Plan ShapeFault
 checked_plan exponents seats stripes =
     if not (is_within 1 MAX_GENERATIONS (length exponents)) then Err fault.Generations
-    else if not (list_all (is_within 2 19) exponents) then Err fault.Bits
+    else if not (list_all (is_within 2 SMALL_EXPONENT) exponents) then Err fault.Bits
     else if not (never_falls exponents) then Err fault.Plan
     else seated exponents seats stripes
+
+-- the plan of these exponents, larger ones too, with one seat and one stripe, or the first thing
+-- that is wrong with it
+abbrev pub checked_large : List ℕ → Result Plan ShapeFault
+checked_large exponents =
+    if not (is_within 1 MAX_GENERATIONS (length exponents)) then Err fault.Generations
+    else if not (list_all (is_within 2 MAX_EXPONENT) exponents) then Err fault.Bits
+    else if not (never_falls exponents) then Err fault.Plan
+    else if not (nat_le (slots_in exponents) MAX_SLOTS) then Err fault.Slots
+    else Ok (plan exponents 1 1)
 
 -- so many numbers, from first on
 abbrev pub rising : ℕ → ℕ → List ℕ
@@ -180,6 +195,17 @@ checked_chunk p slots =
     if is_within 4 1024 slots && is_power_of_two slots then Ok (record p { chunk = slots })
     else Err fault.Chunk
 
+-- the plan with so many seats
+abbrev pub checked_seats : Plan → ℕ → Result Plan ShapeFault
+checked_seats p seats =
+    if is_within 1 MAX_SEATS seats then Ok (record p { seats = seats }) else Err fault.Seats
+
+-- the plan with so many stripes
+abbrev pub checked_stripes : Plan → ℕ → Result Plan ShapeFault
+checked_stripes p stripes =
+    if is_within 1 MAX_STRIPES stripes then Ok (record p { stripes = stripes })
+    else Err fault.Stripes
+
 -- how many slots so many keys are given: half as many again
 abbrev pub slots_for : ℕ → ℕ
 slots_for most = most + most / 2
@@ -192,7 +218,7 @@ first_exponent (suc tries) e slots =
 
 -- the exponent of the smallest table that has room for so many keys, of 32 slots at least
 abbrev pub exponent_for : ℕ → ℕ
-exponent_for most = first_exponent 14 5 (slots_for most)
+exponent_for most = first_exponent 23 5 (slots_for most)
 
 -- the plan for so many keys: the last table has room for them, the first is an eighth of it, there
 -- is a stripe for each seat, paths are short and chunks large
@@ -210,8 +236,37 @@ plan_for_keys most seats =
 abbrev pub checked_for_keys : ℕ → ℕ → Result Plan ShapeFault
 checked_for_keys most seats =
     if not (nat_le most MOST_KEYS) then Err fault.Keys
-    else if not (is_within 1 MAX_SEATS seats) then Err fault.Seats
+    else if not (is_within 1 FEW_SEATS seats) then Err fault.Seats
     else Ok (plan_for_keys most seats)
+
+-- so many exponents, the last of which is this one, each STEP below the next
+unfoldable pub steps_down : (tables last : ℕ) → List ℕ
+steps_down zero last = []
+steps_down (suc tables) last = steps_down tables (last - STEP) ++ last ∷ []
+
+-- how many such exponents there are from the last one down to FIRST_EXPONENT
+abbrev pub tables_for : ℕ → ℕ
+tables_for last = (last - FIRST_EXPONENT) / STEP + 1
+
+-- the plan for so many keys, of more tables: the last has room for them, and each table below is
+-- smaller by a fixed factor, so that a map with few keys stays small; each seat has a stripe, up to
+-- so many
+abbrev pub plan_for_many_keys : ℕ → ℕ → Plan
+plan_for_many_keys most seats =
+    record {
+      exponents = steps_down (tables_for (exponent_for most)) (exponent_for most);
+      seats = seats;
+      stripes = min seats SHARED_STRIPES;
+      reprobes = MANY_REPROBES;
+      chunk = MANY_CHUNK;
+    }
+
+-- the plan for so many keys and seats, or the first thing that is wrong with these
+abbrev pub checked_for_many_keys : ℕ → ℕ → Result Plan ShapeFault
+checked_for_many_keys most seats =
+    if not (nat_le most MANY_KEYS) then Err fault.Keys
+    else if not (is_within 1 MAX_SEATS seats) then Err fault.Seats
+    else Ok (plan_for_many_keys most seats)
 
 -- the last table has room for so many keys and for half as many again
 abbrev pub HasRoomFor : Plan → ℕ → Type 0

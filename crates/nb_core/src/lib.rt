@@ -15,6 +15,7 @@ pub mod laws;
 mod mixing;
 mod numbers;
 mod plain;
+mod seat_room;
 mod seats;
 mod shapes;
 mod slot_words;
@@ -26,10 +27,12 @@ pub use events::Event;
 pub use mixing::{mix, unmix};
 pub use numbers::{KEY_MAX, Key, Num, RangeFault, VALUE_MAX};
 pub use plain::{PlainFault, PlainMap};
+pub use seat_room::SeatRoom;
 pub use seats::NotAll;
 pub use shapes::{
-    HeaderWord, INSTALLED, MAX_GENERATIONS, MAX_SEATS, MAX_STRIPES, MOST_KEYS, NOT_INSTALLED,
-    Shape, ShapeFault, TOP_INDEX,
+    FEW_SEATS, FEW_STRIPES, HeaderWord, INSTALLED, MANY_KEYS, MAX_EXPONENT, MAX_GENERATIONS,
+    MAX_SEATS, MAX_SLOTS, MAX_STRIPES, MOST_KEYS, NOT_INSTALLED, SMALL_EXPONENT, Shape, ShapeFault,
+    TOP_INDEX,
 };
 pub use slot_words::{
     DEAD_KEY, EMPTY_KEY, FINISHED_BIT, KeyWord, NULL_VALUE, PRIMED_BIT, ValueWord, decode_key,

@@ -16,12 +16,16 @@ ghost use Rattle.nb_core.specs.Plans.{
   header_number,
   key_index,
   limit_of,
+  plan,
   seated,
   size_of,
+  slots_in,
   value_index,
   word_count,
 };
 ghost use Rattle.nb_core.specs.Tables.{chunk_of, path_slot};
+
+mod wide;
 
 use crate::numbers::Key;
 use std::marker::Model;
@@ -46,20 +50,40 @@ pub enum ShapeFault {
     Chunk,
     #[error("number of keys out of range")]
     Keys,
+    #[error("too many slots")]
+    Slots,
 }
 
 /// The most tables of a chain.
 pub const MAX_GENERATIONS: usize = 16;
 
+/// The greatest exponent: a table has `2^28` slots at most.
+pub const MAX_EXPONENT: u32 = 28;
+
+/// The most slots of all tables of a chain together. They take 16 GiB.
+pub const MAX_SLOTS: usize = 1 << 30;
+
 /// The most seats of a chain.
-pub const MAX_SEATS: usize = 8;
+pub const MAX_SEATS: usize = 256;
 
 /// The most stripes of a counter.
-pub const MAX_STRIPES: usize = 8;
+pub const MAX_STRIPES: usize = 256;
+
+/// The greatest exponent that [`Shape::with_plan`] takes.
+pub const SMALL_EXPONENT: u32 = 19;
+
+/// The most seats that [`Shape::new`], [`Shape::with_plan`] and [`Shape::for_keys`] take.
+pub const FEW_SEATS: usize = 8;
+
+/// The most stripes that [`Shape::new`] and [`Shape::with_plan`] take.
+pub const FEW_STRIPES: usize = 8;
 
 /// The most keys that [`Shape::for_keys`] makes room for: the largest table has half as many slots
 /// again.
 pub const MOST_KEYS: usize = (1 << 20) / 3;
+
+/// The most keys that [`Shape::for_many_keys`] makes room for, by the same rule: 178,956,970.
+pub const MANY_KEYS: usize = (1 << 29) / 3;
 
 /// The most slots that are handed out for copying at once, where a shape asks for nothing else.
 const CHUNK: u16 = 8;
@@ -110,8 +134,8 @@ pub struct Shape {
     reprobes: u32,
     chunk: u16,
     generations: u8,
-    seats: u8,
-    stripes: u8,
+    seats: u16,
+    stripes: u16,
 }
 
 impl Model for Shape {
@@ -157,18 +181,31 @@ impl Shape {
 
     /// The shape of these tables, unless its seats or its stripes are wrong.
     fn seated(exponents: &[u32], seats: usize, stripes: usize) -> Result<Shape, ShapeFault>
-        requires some_tables { 1 ≤ length exponents.now }
-        requires few_tables { length exponents.now ≤ MAX_GENERATIONS }
-        requires sizes { All (λ e. (2 ≤ e) × (e ≤ 19)) exponents.now }
+        requires tables { (1 ≤ length exponents.now) × (length exponents.now ≤ MAX_GENERATIONS) }
+        requires sizes { All (λ e. (2 ≤ e) × (e ≤ MAX_EXPONENT)) exponents.now }
         requires never_fall { IsNonDecreasing exponents.now }
+        requires slots { slots_in exponents.now ≤ MAX_SLOTS }
         ensures { result ≡ seated exponents.now seats stripes }
     {
-        if !(1..=MAX_SEATS).contains(&seats) {
+        if !(1..=FEW_SEATS).contains(&seats) {
             return Err(ShapeFault::Seats);
         }
-        if !(1..=MAX_STRIPES).contains(&stripes) {
+        if !(1..=FEW_STRIPES).contains(&stripes) {
             return Err(ShapeFault::Stripes);
         }
+        Ok(Self::laid_out(exponents, seats as u16, stripes as u16))
+    }
+
+    /// The shape of these tables, seats and stripes.
+    fn laid_out(exponents: &[u32], seats: u16, stripes: u16) -> Shape
+        requires tables { (1 ≤ length exponents.now) × (length exponents.now ≤ MAX_GENERATIONS) }
+        requires sizes { All (λ e. (2 ≤ e) × (e ≤ MAX_EXPONENT)) exponents.now }
+        requires never_fall { IsNonDecreasing exponents.now }
+        requires slots { slots_in exponents.now ≤ MAX_SLOTS }
+        requires seats { (1 ≤ seats) × (seats ≤ MAX_SEATS) }
+        requires stripes { (1 ≤ stripes) × (stripes ≤ MAX_STRIPES) }
+        ensures { result ≡ plan exponents.now seats stripes }
+    {
         let mut kept = [0; MAX_GENERATIONS];
         let mut lasts = [0; MAX_GENERATIONS];
         let mut bases = [0; MAX_GENERATIONS];
@@ -179,7 +216,7 @@ impl Shape {
             bases[g] = words;
             words += 3 + (2 << *exponent);
         }
-        Ok(Shape {
+        Shape {
             exponents: kept,
             lasts,
             bases,
@@ -187,20 +224,21 @@ impl Shape {
             reprobes: u32::MAX,
             chunk: CHUNK,
             generations: exponents.len() as u8,
-            seats: seats as u8,
-            stripes: stripes as u8,
-        })
+            seats,
+            stripes,
+        }
     }
 
     /// A table of `2^e` slots for each exponent: 1 to 16 exponents from 2 to 19, none below the one
-    /// before it. There are 1 to 8 seats and stripes.
+    /// before it. There are 1 to 8 seats and stripes. [`Shape::large`] takes larger tables, and
+    /// [`Shape::with_seats`] and [`Shape::with_stripes`] take more seats and stripes.
     pub fn with_plan(exponents: &[u32], seats: usize, stripes: usize) -> Result<Shape, ShapeFault>
         ensures { result ≡ checked_plan exponents.now seats stripes }
     {
         if !(1..=MAX_GENERATIONS).contains(&exponents.len()) {
             return Err(ShapeFault::Generations);
         }
-        if !exponents.iter().all(|e| (2..=19).contains(e)) {
+        if !exponents.iter().all(|e| (2..=SMALL_EXPONENT).contains(e)) {
             return Err(ShapeFault::Bits);
         }
         if !exponents.is_sorted() {
@@ -282,7 +320,7 @@ impl Shape {
     pub fn size_of(&self, g: u32) -> usize
         requires { g < generations_of self.now }
         ensures size { result ≡ size_of self.now g }
-        ensures few { result ≤ 2 ^ 19 }
+        ensures few { result ≤ 2 ^ MAX_EXPONENT }
     {
         1 << self.exponents[g as usize]
     }
@@ -291,7 +329,7 @@ impl Shape {
     fn last_of(&self, g: u32) -> usize
         requires { g < generations_of self.now }
         ensures last { result ≡ size_of self.now g - 1 }
-        ensures few { size_of self.now g ≤ 2 ^ 19 }
+        ensures few { size_of self.now g ≤ 2 ^ MAX_EXPONENT }
     {
         self.lasts[g as usize] as usize
     }

@@ -1,5 +1,6 @@
 -- The seats of a counter are dealt one after another.
-use Rattle.std.proofs.Common.{◌≡◌, ◌∙◌, ℕ, zero, suc, ◌*◌, ◌/◌, ◌≤◌, ap, sym, refl, List, [], ◌∷◌, replicate, take, length, length-take-le, slice_index, arith}
+use Rattle.std.proofs.Common.{◌≡◌, ◌∙◌, ℕ, zero, suc, ◌*◌, ◌/◌, ap, sym, refl, List, [], ◌∷◌, replicate, length, slice_index, arith}
+use Rattle.std.proofs.lemmas.List.{length-replicate}
 use Rattle.std.proofs.lemmas.List.Elements.{All-same}
 use Rattle.atomic_table.specs.Table.{opening}
 use Rattle.nb_core.proofs.Seating.{All-numbered}
@@ -36,18 +37,16 @@ dealt-own counter dealt count are =
 
 -- ---- the first words
 
-pub count-words :
-    (z : Size) → z.stripes ≤ 8 → length {A = ℕ} (take (SPREAD * z.stripes) (replicate 64 0))
-    ≡ SPREAD * z.stripes
-count-words z few = length-take-le (SPREAD * z.stripes) (replicate 64 0) (omega arith)
+zeros-at : (n i : ℕ) → slice_index (replicate n 0) i ≡ 0
+zeros-at zero i = refl
+zeros-at (suc n) zero = refl
+zeros-at (suc n) (suc i) = zeros-at n i
 
-zeros-at : (n k i : ℕ) → slice_index (take n (replicate k 0)) i ≡ 0
-zeros-at zero k i = refl
-zeros-at (suc n) zero i = refl
-zeros-at (suc n) (suc k) zero = refl
-zeros-at (suc n) (suc k) (suc i) = zeros-at n k i
+-- so many zeros open a counter
+module _ (z : Size) (words : List ℕ) (zeros : words ≡ replicate (SPREAD * z.stripes) 0) where
+  pub count-words : length words ≡ SPREAD * z.stripes
+  count-words = ap length zeros ∙ length-replicate (SPREAD * z.stripes) 0
 
-pub opens-zeros : (z : Size) → z.stripes ≤ 8
-    → AreSums z (opening (take (SPREAD * z.stripes) (replicate 64 0)) [] (new_tallies z.seats))
-opens-zeros z few = opens z (take (SPREAD * z.stripes) (replicate 64 0)) (count-words z few)
-    (zeros-at (SPREAD * z.stripes) 64)
+  pub opens-zeros : AreSums z (opening words [] (new_tallies z.seats))
+  opens-zeros = opens z words count-words
+      (λ i. ap (λ ws. slice_index ws i) zeros ∙ zeros-at (SPREAD * z.stripes) i)

@@ -16,6 +16,7 @@ ghost use Rattle.std.specs.Prelude.{
   true,
   is_ok,
 };
+ghost use Rattle.nb_core.specs.declared.shapes.TheConstants.{MAX_SEATS, MAX_STRIPES};
 ghost use Rattle.nb_count.specs.Counts.{AreOwn, IsOwn, new_seats, total_of, with_added, with_looks};
 ghost use Rattle.nb_count.specs.Inside.{seat_with};
 ghost use Rattle.nb_count.specs.Tallies.{sum_of_stripes, wrapped};
@@ -23,7 +24,7 @@ ghost use Rattle.std.specs.Mem.Slots.{IsFull, slots_items, slots_len};
 
 use crate::tally::{Adds, Deal, Gather, Looks, SPREAD, Size, Stripes, Tallies};
 use atomic_table::{Closed, Seat, Table};
-use nb_core::{MAX_SEATS, MAX_STRIPES, NotAll, OutOfMemory};
+use nb_core::{NotAll, OutOfMemory};
 use std::alloc::Global;
 use std::marker::Model;
 
@@ -69,8 +70,8 @@ impl Model for CountSeat {
 }
 
 impl Counter {
-    /// A counter at 0 with so many stripes, and its seats. It takes memory for the stripes and for
-    /// the vector of seats.
+    /// A counter at 0 with so many stripes, and its seats. It takes memory for the stripes, 64 bytes
+    /// each, and for the vector of seats; for a moment it takes twice as much for the stripes.
     pub fn new(
         alloc: Global,
         stripes: usize,
@@ -85,8 +86,8 @@ impl Counter {
     {
         let size = Size { stripes, seats };
         let mut dealt = Vec::with_capacity(alloc, seats)?;
-        let words = [0; MAX_STRIPES * SPREAD];
-        let (table, mut rest) = Table::of_words(alloc, &words[..SPREAD * stripes], &size)?;
+        let words = vec![in alloc; 0; SPREAD * stripes]?;
+        let (table, mut rest) = Table::of_words(alloc, words.as_slice(), &size)?;
         let counter = Counter { table, size };
         for number in 0..seats {
             let seat = counter.table.shared.split_seat::<Deal>(&mut rest);

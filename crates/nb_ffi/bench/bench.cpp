@@ -5,12 +5,16 @@
 #include "samvolip.h"
 
 #include <mutex>
+#include <vector>
 
 namespace {
 
+// How many seats a map has: one for each thread and one for the thread that begins them, 8 at least.
+unsigned seats_of_a_map = 8;
+
 // A map whose threads take a seat each at their first call; all were split when it was made.
 class Map {
-    samvolip_seat seats[SAMVOLIP_MAX_SEATS];
+    std::vector<samvolip_seat> seats;
     uint64_t number;
     unsigned taken = 0;
     std::mutex taking;
@@ -21,7 +25,7 @@ class Map {
         thread_local samvolip_seat *mine = nullptr;
         if (mine_of != number) {
             std::lock_guard<std::mutex> lock(taking);
-            if (taken == SAMVOLIP_MAX_SEATS) abort();
+            if (taken == seats.size()) abort();
             mine = &seats[taken++];
             mine_of = number;
         }
@@ -29,11 +33,10 @@ class Map {
     }
 
 public:
-    explicit Map(uint64_t slots) : number(maps++) {
-        samvolip_shape shape = samvolip_shape_for_keys(slots / 2, SAMVOLIP_MAX_SEATS);
-        for (auto &one : seats) one = SAMVOLIP_SEAT_INIT;
+    explicit Map(uint64_t slots) : seats(seats_of_a_map, SAMVOLIP_SEAT_INIT), number(maps++) {
+        samvolip_shape shape = samvolip_shape_for_keys(slots / 2, seats_of_a_map);
         if (samvolip_open(&shape, &seats[0])) abort();
-        for (unsigned i = 1; i < SAMVOLIP_MAX_SEATS; i++)
+        for (size_t i = 1; i < seats.size(); i++)
             if (samvolip_split(&seats[0], &seats[i])) abort();
     }
     ~Map() { for (auto &one : seats) samvolip_free(&one); }
@@ -51,4 +54,7 @@ public:
 
 } // namespace
 
-int main(int argc, char **argv) { return load::run<Map>("c", argc, argv, 65536); }
+int main(int argc, char **argv) {
+    if (argc > 2) seats_of_a_map = std::max(seats_of_a_map, unsigned(atoi(argv[2])) + 1);
+    return load::run<Map>("c", argc, argv, 65536);
+}

@@ -15,16 +15,29 @@ static void refuses_shapes(void)
         {SAMVOLIP_E_TABLES, {{4}, 0, 1, 1, 1, 8}},
         {SAMVOLIP_E_TABLES, {{4}, 17, 1, 1, 1, 8}},
         {SAMVOLIP_E_EXPONENTS, {{1}, 1, 1, 1, 1, 8}},
-        {SAMVOLIP_E_EXPONENTS, {{20}, 1, 1, 1, 1, 8}},
+        {SAMVOLIP_E_EXPONENTS, {{29}, 1, 1, 1, 1, 8}},
         {SAMVOLIP_E_FALLING, {{5, 4}, 2, 1, 1, 1, 8}},
+        {SAMVOLIP_E_SLOTS, {{2, 28, 28, 28, 28}, 5, 1, 1, 1, 8}},
         {SAMVOLIP_E_SEATS, {{4}, 1, 0, 1, 1, 8}},
-        {SAMVOLIP_E_SEATS, {{4}, 1, 9, 1, 1, 8}},
+        {SAMVOLIP_E_SEATS, {{4}, 1, 257, 1, 1, 8}},
+        {SAMVOLIP_E_SEATS, {{4}, 1, 65537, 1, 1, 8}},
         {SAMVOLIP_E_STRIPES, {{4}, 1, 1, 0, 1, 8}},
-        {SAMVOLIP_E_STRIPES, {{4}, 1, 1, 9, 1, 8}},
+        {SAMVOLIP_E_STRIPES, {{4}, 1, 1, 257, 1, 8}},
+        {SAMVOLIP_E_STRIPES, {{4}, 1, 1, 65537, 1, 8}},
         {SAMVOLIP_E_REPROBES, {{4}, 1, 1, 1, 0, 8}},
         {SAMVOLIP_E_CHUNK, {{4}, 1, 1, 1, 1, 2}},
         {SAMVOLIP_E_CHUNK, {{4}, 1, 1, 1, 1, 24}},
         {SAMVOLIP_E_CHUNK, {{4}, 1, 1, 1, 1, 2048}},
+
+        /* all is wrong, then all but the first, and so on: the first is told */
+        {SAMVOLIP_E_TABLES, {{28, 28, 28, 28, 28, 1}, 17, 0, 0, 0, 0}},
+        {SAMVOLIP_E_EXPONENTS, {{28, 28, 28, 28, 28, 1}, 6, 0, 0, 0, 0}},
+        {SAMVOLIP_E_FALLING, {{28, 28, 28, 28, 28, 2}, 6, 0, 0, 0, 0}},
+        {SAMVOLIP_E_SLOTS, {{28, 28, 28, 28, 28}, 5, 0, 0, 0, 0}},
+        {SAMVOLIP_E_SEATS, {{28, 28, 28, 28}, 4, 0, 0, 0, 0}},
+        {SAMVOLIP_E_STRIPES, {{28, 28, 28, 28}, 4, 256, 0, 0, 0}},
+        {SAMVOLIP_E_REPROBES, {{28, 28, 28, 28}, 4, 256, 256, 0, 0}},
+        {SAMVOLIP_E_CHUNK, {{28, 28, 28, 28}, 4, 256, 256, 1, 0}},
     };
     for (size_t i = 0; i < sizeof wrong / sizeof *wrong; i++) {
         samvolip_seat seat = SAMVOLIP_SEAT_INIT;
@@ -36,6 +49,39 @@ static void refuses_shapes(void)
     EXPECT(samvolip_open(&most, &seat) == SAMVOLIP_E_TABLES);
     most = samvolip_shape_for_keys(SAMVOLIP_MOST_KEYS, 1);
     EXPECT(most.tables == 2 && most.exponents[0] == 16 && most.exponents[1] == 19);
+    most = samvolip_shape_for_many_keys(SAMVOLIP_MANY_KEYS + 1, 1);
+    EXPECT(samvolip_open(&most, &seat) == SAMVOLIP_E_TABLES);
+    most = samvolip_shape_for_many_keys(UINT64_MAX, 1);
+    EXPECT(samvolip_open(&most, &seat) == SAMVOLIP_E_TABLES);
+    most = samvolip_shape_for_many_keys(100, 0);
+    EXPECT(samvolip_open(&most, &seat) == SAMVOLIP_E_SEATS);
+    most = samvolip_shape_for_many_keys(100, 257);
+    EXPECT(samvolip_open(&most, &seat) == SAMVOLIP_E_SEATS);
+    EXPECT(seat.handle == NULL);
+}
+
+/* The plans that `Shape::for_many_keys` of nb_core makes by its test. */
+static void makes_shapes_for_many_keys(void)
+{
+    static const struct {
+        uint64_t most;
+        unsigned seats;
+        samvolip_shape shape;
+    } made[] = {
+        {0, 1, {{5}, 1, 1, 1, 18, 256}},
+        {21, 8, {{5}, 1, 8, 8, 18, 256}},
+        {22, 16, {{6}, 1, 16, 16, 18, 256}},
+        {341, 17, {{9}, 1, 17, 16, 18, 256}},
+        {342, 64, {{4, 10}, 2, 64, 16, 18, 256}},
+        {1000000, 64, {{9, 15, 21}, 3, 64, 16, 18, 256}},
+        {44739243, 128, {{8, 14, 20, 26}, 4, 128, 16, 18, 256}},
+        {44739244, 128, {{9, 15, 21, 27}, 4, 128, 16, 18, 256}},
+        {SAMVOLIP_MANY_KEYS, 256, {{4, 10, 16, 22, 28}, 5, 256, 16, 18, 256}},
+    };
+    for (size_t i = 0; i < sizeof made / sizeof *made; i++) {
+        samvolip_shape shape = samvolip_shape_for_many_keys(made[i].most, made[i].seats);
+        EXPECT(memcmp(&shape, &made[i].shape, sizeof shape) == 0);
+    }
 }
 
 static void refuses_headers(void)
@@ -62,15 +108,20 @@ static void refuses_headers(void)
     samvolip_free(&seat);
 }
 
+static void has_room_for(uint64_t most, samvolip_shape shape)
+{
+    samvolip_seat seat = SAMVOLIP_SEAT_INIT;
+    EXPECT(samvolip_open(&shape, &seat) == SAMVOLIP_OK);
+    for (uint64_t key = 0; key < most; key++)
+        EXPECT(samvolip_put(&seat, key * 977, key, NULL) == SAMVOLIP_ABSENT);
+    samvolip_free(&seat);
+}
+
 static void has_room_for_keys(void)
 {
     for (uint64_t most = 0; most < 3000; most += 7) {
-        samvolip_shape shape = samvolip_shape_for_keys(most, 1);
-        samvolip_seat seat = SAMVOLIP_SEAT_INIT;
-        EXPECT(samvolip_open(&shape, &seat) == SAMVOLIP_OK);
-        for (uint64_t key = 0; key < most; key++)
-            EXPECT(samvolip_put(&seat, key * 977, key, NULL) == SAMVOLIP_ABSENT);
-        samvolip_free(&seat);
+        has_room_for(most, samvolip_shape_for_keys(most, 1));
+        has_room_for(most, samvolip_shape_for_many_keys(most, 1));
     }
 }
 
@@ -219,6 +270,7 @@ static void tells_codes(void)
         {SAMVOLIP_E_TABLES, "number of tables out of range"},
         {SAMVOLIP_E_EXPONENTS, "exponent out of range"},
         {SAMVOLIP_E_FALLING, "a table smaller than the one before it"},
+        {SAMVOLIP_E_SLOTS, "too many slots"},
         {SAMVOLIP_E_SEATS, "number of seats out of range"},
         {SAMVOLIP_E_STRIPES, "number of stripes out of range"},
         {SAMVOLIP_E_REPROBES, "reprobe limit out of range"},
@@ -237,7 +289,7 @@ static void tells_codes(void)
         {SAMVOLIP_E_LOST, "the map was given up"},
         {SAMVOLIP_E_VERSION, "the header isn't the library's"},
         {SAMVOLIP_PRESENT + 1, "no such code"},
-        {SAMVOLIP_E_VERSION - 1, "no such code"},
+        {SAMVOLIP_E_SLOTS - 1, "no such code"},
     };
     for (size_t i = 0; i < sizeof told / sizeof *told; i++)
         EXPECT(strcmp(samvolip_strerror(told[i].code), told[i].text) == 0);
@@ -248,6 +300,7 @@ int main(void)
     EXPECT(samvolip_version() == SAMVOLIP_VERSION);
     refuses_headers();
     refuses_shapes();
+    makes_shapes_for_many_keys();
     has_room_for_keys();
     samvolip_shape shape = samvolip_shape_for_keys(1000, 1);
     samvolip_seat seat = SAMVOLIP_SEAT_INIT;

@@ -23,9 +23,9 @@
  * Rules
  *
  * Seats. A seat is the right of one thread at a time to call. Each thread calls with a seat of its
- * own. A map has as many seats as its shape says, 8 at most. samvolip_open gives all of them to one
- * handle, and samvolip_split gives one of them to another handle. There is no other way to a map:
- * no seat, no call.
+ * own. A map has as many seats as its shape says, 256 at most. samvolip_open gives all of them to
+ * one handle, and samvolip_split gives one of them to another handle. There is no other way to a
+ * map: no seat, no call.
  *
  * One call at a time. A seat is in one call at a time. It may go from one thread to another, if a
  * lock, the start or the join of a thread, or a sequentially consistent atomic comes between. An
@@ -79,20 +79,33 @@
 extern "C" {
 #endif
 
-/* Version 0.3.0, as one number. samvolip_version returns that of the library. */
-#define SAMVOLIP_VERSION 0x000300u
+/* Version 0.4.0, as one number. samvolip_version returns that of the library. */
+#define SAMVOLIP_VERSION 0x000400u
 
 /* The greatest key and the greatest number. */
 #define SAMVOLIP_KEY_MAX (UINT64_MAX - 2)
 #define SAMVOLIP_VALUE_MAX ((UINT64_C(1) << 60) - 1)
 
-/* The most keys that samvolip_shape_for_keys makes room for. */
+/* The most keys that samvolip_shape_for_keys and samvolip_shape_for_many_keys make room for. */
 #define SAMVOLIP_MOST_KEYS 349525
+#define SAMVOLIP_MANY_KEYS 178956970
 
-/* The most tables, seats and stripes of a map. */
+/* The most tables, seats and stripes of a map; the greatest exponent of a table; and the most slots
+   of all tables together. */
 #define SAMVOLIP_MAX_TABLES 16
-#define SAMVOLIP_MAX_SEATS 8
-#define SAMVOLIP_MAX_STRIPES 8
+#define SAMVOLIP_MAX_SEATS 256
+#define SAMVOLIP_MAX_STRIPES 256
+#define SAMVOLIP_MAX_EXPONENT 28
+#define SAMVOLIP_MAX_SLOTS (1 << 30)
+
+/* What samvolip_shape_for_many_keys makes: no table has an exponent below the first of these, and
+   each table's exponent is one step above that of the table before it. It has no more stripes than
+   this. The last two are the reprobe limit and the chunk. */
+#define SAMVOLIP_MANY_FIRST_EXPONENT 4
+#define SAMVOLIP_MANY_STEP 6
+#define SAMVOLIP_MANY_STRIPES 16
+#define SAMVOLIP_MANY_REPROBES 18
+#define SAMVOLIP_MANY_CHUNK 256
 
 /* The result of a call. */
 enum samvolip_code {
@@ -102,10 +115,11 @@ enum samvolip_code {
 
     /* what is wrong with a shape: the first of these that applies, in this order */
     SAMVOLIP_E_TABLES = -1,    /* not 1 to 16 tables */
-    SAMVOLIP_E_EXPONENTS = -2, /* an exponent that isn't from 2 to 19 */
+    SAMVOLIP_E_EXPONENTS = -2, /* an exponent that isn't from 2 to 28 */
     SAMVOLIP_E_FALLING = -3,   /* a table smaller than the one before it */
-    SAMVOLIP_E_SEATS = -4,     /* not 1 to 8 seats */
-    SAMVOLIP_E_STRIPES = -5,   /* not 1 to 8 stripes */
+    SAMVOLIP_E_SLOTS = -21,    /* more than 2^30 slots in all tables */
+    SAMVOLIP_E_SEATS = -4,     /* not 1 to 256 seats */
+    SAMVOLIP_E_STRIPES = -5,   /* not 1 to 256 stripes */
     SAMVOLIP_E_REPROBES = -6,  /* a reprobe limit of 0 */
     SAMVOLIP_E_CHUNK = -7,     /* a chunk that isn't a power of two from 4 to 1024 */
 
@@ -151,16 +165,18 @@ enum samvolip_change {
 };
 
 /*
- * The shape of a map. It has `tables` tables. The first has 2 to the power exponents[0] slots, and
- * so on; no table is smaller than the one before it. A map grows from one table to the next when
- * the table gets crowded, and it never shrinks. The last table is the end: if other keys have all
- * its slots, a new key is refused as full. A removed key keeps its slot until its table is left.
+ * The shape of a map. It has `tables` tables, 1 to 16. The first has 2 to the power exponents[0]
+ * slots, and so on. An exponent is from 2 to 28, no table is smaller than the one before it, and
+ * all tables together have 2^30 slots at most. A map grows from one table to the next when the
+ * table gets crowded, and it never shrinks. The last table is the end: if other keys have all its
+ * slots, a new key is refused as full. A removed key keeps its slot until its table is left.
  *
- * The number of keys is counted over `stripes` words. As many as there are writers is best. A key's
- * path is its probe sequence in a table. A table that isn't the last takes a new key only in the
- * first `reprobes` slots of the key's path, and only in the first n / 4 + 2 slots of it, where n is
- * how many slots the table has. A thread that brings a new key to a table that grows helps to copy
- * all of it, `chunk` slots at a time. Large chunks take fewer steps, and small ones share the work
+ * There are 1 to 256 `seats`. The number of keys is counted over `stripes` words, 1 to 256. As many
+ * as there are writers is best for the writers; a look at the size loads each of them. A key's path
+ * is its probe sequence in a table. A table that isn't the last takes a new key only in the first
+ * `reprobes` slots of the key's path, and only in the first n / 4 + 2 slots of it, where n is how
+ * many slots the table has. A thread that brings a new key to a table that grows helps to copy all
+ * of it, `chunk` slots at a time. Large chunks take fewer steps, and small ones share the work
  * among more threads.
  */
 typedef struct samvolip_shape {
@@ -223,7 +239,7 @@ typedef struct samvolip_header {
  * half as many slots again as there are keys, or more. There is one table before it, of an eighth
  * of that size. A put is refused as full only if other keys have all slots of the last table. The
  * map takes 16 bytes for each slot of both tables. For more than SAMVOLIP_MOST_KEYS there is no
- * shape: samvolip_open refuses what this returns, with SAMVOLIP_E_TABLES.
+ * such shape: samvolip_open refuses what this returns, with SAMVOLIP_E_TABLES.
  */
 static inline samvolip_shape samvolip_shape_for_keys(uint64_t most, unsigned seats)
 {
@@ -240,6 +256,32 @@ static inline samvolip_shape samvolip_shape_for_keys(uint64_t most, unsigned sea
     shape.stripes = seats;
     shape.reprobes = 18;
     shape.chunk = 64;
+    return shape;
+}
+
+/*
+ * The same for many keys. The last table is as large as that of samvolip_shape_for_keys. Each table
+ * before it has a 64th of the slots of the next one, as long as that is 16 slots at least. So a map
+ * that has few keys stays in small tables. There is a stripe for each seat, up to 16. A put is
+ * refused as full only if other keys have all slots of the last table. The map takes 16 bytes for
+ * each slot of all tables. For more than SAMVOLIP_MANY_KEYS there is no such shape: samvolip_open
+ * refuses what this returns, with SAMVOLIP_E_TABLES.
+ */
+static inline samvolip_shape samvolip_shape_for_many_keys(uint64_t most, unsigned seats)
+{
+    samvolip_shape shape = {{0}, 0, 0, 0, 0, 0};
+    uint32_t last = 5;
+    if (most > SAMVOLIP_MANY_KEYS)
+        return shape;
+    while ((UINT64_C(1) << last) < most + most / 2)
+        last++;
+    shape.tables = (last - SAMVOLIP_MANY_FIRST_EXPONENT) / SAMVOLIP_MANY_STEP + 1;
+    for (uint32_t g = 0; g < shape.tables; g++)
+        shape.exponents[g] = last - SAMVOLIP_MANY_STEP * (shape.tables - 1 - g);
+    shape.seats = seats;
+    shape.stripes = seats < SAMVOLIP_MANY_STRIPES ? seats : SAMVOLIP_MANY_STRIPES;
+    shape.reprobes = SAMVOLIP_MANY_REPROBES;
+    shape.chunk = SAMVOLIP_MANY_CHUNK;
     return shape;
 }
 
@@ -268,7 +310,7 @@ static inline int samvolip_open(const samvolip_shape *shape, samvolip_seat *seat
  * Gives `other`, which is empty before, a seat that `seat` has in reserve. Any handle with seats in
  * reserve may be split.
  *
- * Cost: two calls of malloc.
+ * Cost: two calls of malloc, one of them for as many seats as the map has.
  * Refused: SAMVOLIP_E_NO_SEAT, SAMVOLIP_E_OUT_OF_MEMORY.
  */
 int samvolip_split(samvolip_seat *seat, samvolip_seat *other);
@@ -280,7 +322,7 @@ int samvolip_split(samvolip_seat *seat, samvolip_seat *other);
  *
  * Cost: a few steps, and a free or two.
  * Refused: SAMVOLIP_E_OUT_OF_MEMORY, by its contract. In fact it takes no memory, since each handle
- * has room for all seats.
+ * has room for all seats of its map.
  */
 int samvolip_join(samvolip_seat *seat, samvolip_seat *other);
 
@@ -425,6 +467,7 @@ static inline const char *samvolip_strerror(int code)
     case SAMVOLIP_E_TABLES: return "number of tables out of range";
     case SAMVOLIP_E_EXPONENTS: return "exponent out of range";
     case SAMVOLIP_E_FALLING: return "a table smaller than the one before it";
+    case SAMVOLIP_E_SLOTS: return "too many slots";
     case SAMVOLIP_E_SEATS: return "number of seats out of range";
     case SAMVOLIP_E_STRIPES: return "number of stripes out of range";
     case SAMVOLIP_E_REPROBES: return "reprobe limit out of range";

@@ -1,6 +1,7 @@
 -- Seats that are gathered are still their map's.
-use Rattle.std.proofs.Common.{◌≡◌, ℕ, List, [], ◌∷◌, ◌++◌, All, refl, sym, subst}
+use Rattle.std.proofs.Common.{◌≡◌, ◌∙◌, ℕ, List, [], ◌∷◌, ◌++◌, All, ap, length, refl, sym, subst}
 use Rattle.std.specs.List.{range_with_len}
+use Rattle.std.proofs.lemmas.List.FromFn.{length-map-range_with_len}
 use Rattle.std.proofs.lemmas.List.Elements.{All-append, All-cons, All-map, All-nil, All-same}
 use Rattle.nb_map.specs.Logs.{log}
 use Rattle.nb_map.specs.Maps.{AreMine, IsMine, MapOf, SeatOf, new_seat, new_seats}
@@ -24,6 +25,13 @@ pub mine-both :
 mine-both m n seats others both is are mine theirs =
     All-same (IsMine m) both (seats ++ others) are
     (All-append (IsMine m) seats others mine (subst (λ k. AreMine k others) is theirs))
+
+-- new seats are as many as were asked for
+pub new-count :
+    (m : MapOf) (count : ℕ) (seats : List SeatOf) → seats ≡ new_seats m count
+    → length seats ≡ count
+new-count m count seats are =
+    ap length are ∙ length-map-range_with_len (new_seat m) 0 count
 
 -- new seats know of no call
 pub none-logged :

@@ -15,7 +15,7 @@ use Rattle.nb_map.specs.declared.faults.PutFault.TheVariants as fault
 use Rattle.nb_ffi.specs.Checking.{and_then, map_ok}
 use Rattle.nb_ffi.specs.declared.codes.WriteAsked.{WriteAsked}
 use Rattle.nb_ffi.specs.declared.codes.WriteReply.{WriteReply}
-use Rattle.nb_ffi.specs.declared.codes.TheConstants.{ADD, ANY, EQUAL, PUT, REMOVE, WANT_ABSENT, WANT_PRESENT, E_CHANGE, E_CHUNK, E_CONTENDED, E_EXPONENTS, E_FALLING, E_FULL, E_KEY_RANGE, E_REPROBES, E_SEATS, E_STRIPES, E_SUM_RANGE, E_TABLES, E_VALUE_RANGE, E_WANT}
+use Rattle.nb_ffi.specs.declared.codes.TheConstants.{ADD, ANY, EQUAL, PUT, REMOVE, WANT_ABSENT, WANT_PRESENT, E_CHANGE, E_CHUNK, E_CONTENDED, E_EXPONENTS, E_FALLING, E_FULL, E_KEY_RANGE, E_REPROBES, E_SEATS, E_SLOTS, E_STRIPES, E_SUM_RANGE, E_TABLES, E_VALUE_RANGE, E_WANT}
 
 -- the code of a shape's fault
 abbrev pub shape_code : ShapeFault → ℤ
@@ -27,6 +27,7 @@ shape_code shape.Plan = E_FALLING
 shape_code shape.Reprobes = E_REPROBES
 shape_code shape.Chunk = E_CHUNK
 shape_code shape.Keys = E_TABLES
+shape_code shape.Slots = E_SLOTS
 
 -- the code of a write's refusal
 abbrev pub fault_code : PutFault → ℤ

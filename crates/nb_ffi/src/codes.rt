@@ -25,13 +25,13 @@ pub const ABSENT: i32 = 0;
 
 /// The number of tables isn't from 1 to 16.
 pub const E_TABLES: i32 = -1;
-/// An exponent isn't from 2 to 19.
+/// An exponent isn't from 2 to 28.
 pub const E_EXPONENTS: i32 = -2;
 /// A table is smaller than the one before it.
 pub const E_FALLING: i32 = -3;
-/// The number of seats isn't from 1 to 8.
+/// The number of seats isn't from 1 to 256.
 pub const E_SEATS: i32 = -4;
-/// The number of stripes isn't from 1 to 8.
+/// The number of stripes isn't from 1 to 256.
 pub const E_STRIPES: i32 = -5;
 /// The reprobe limit is 0.
 pub const E_REPROBES: i32 = -6;
@@ -63,6 +63,8 @@ pub const E_ROOM: i32 = -18;
 pub const E_LOST: i32 = -19;
 /// The program was compiled with another header than the library's.
 pub const E_VERSION: i32 = -20;
+/// All tables together have more than `2^30` slots.
+pub const E_SLOTS: i32 = -21;
 
 /// A condition that asks nothing.
 pub const ANY: u32 = 0;
@@ -103,6 +105,7 @@ pub(crate) fn shape_code(fault: ShapeFault) -> i32
         ShapeFault::Chunk => E_CHUNK,
         // no call of C asks by a number of keys
         ShapeFault::Keys => E_TABLES,
+        ShapeFault::Slots => E_SLOTS,
     }
 }
 

@@ -6,7 +6,7 @@ ghost use Rattle.nb_ffi.specs.declared.life.SplitFault.TheVariants.{NoSeat};
 
 use crate::ended_map::EndedMap;
 use crate::session::Session;
-use nb_core::{MAX_SEATS, OutOfMemory, Shape};
+use nb_core::{OutOfMemory, Shape};
 use nb_map::{Ended, Map};
 use std::alloc::Global;
 use std::sync::Arc;
@@ -33,7 +33,6 @@ pub(crate) fn opened(alloc: Global, shape: Shape) -> Result<Box<Session, Global>
 {
     let (map, seats) = Map::new(alloc, shape)?;
     let mut spare = seats;
-    spare.reserve(MAX_SEATS)?;
     let Some(seat) = spare.pop() else {
         return Err(OutOfMemory);
     };
@@ -53,8 +52,8 @@ pub(crate) fn opened(alloc: Global, shape: Shape) -> Result<Box<Session, Global>
 }
 
 impl Session {
-    /// A handle for the last seat in reserve. It has room for all seats, so that it takes no memory
-    /// to join others to it.
+    /// A handle for the last seat in reserve. It has room for all seats of its map, so that it
+    /// takes no memory to join others to it.
     pub(crate) fn split(&mut self, alloc: Global) -> Result<Box<Session, Global>, SplitFault>
         ensures split { IfOk result (λ other. IsPartOf self.old self.new other.value) }
         ensures refused { IfErr result (λ fault. self.new ≡ self.old) }
@@ -66,7 +65,7 @@ impl Session {
         let Ok(map) = Arc::try_clone(&self.map) else {
             return Err(SplitFault::OutOfMemory);
         };
-        let Ok(spare) = Vec::with_capacity(alloc, MAX_SEATS) else {
+        let Ok(spare) = Vec::with_capacity(alloc, self.map.shape().seats()) else {
             return Err(SplitFault::OutOfMemory);
         };
         let Some(seat) = self.spare.pop() else {

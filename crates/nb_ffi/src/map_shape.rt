@@ -36,7 +36,9 @@ impl MapShape {
     fn tuned(&self, exponents: &[u32]) -> Result<Shape, ShapeFault>
         ensures { result ≡ checked_tuned exponents.now self.now }
     {
-        Shape::with_plan(exponents, self.seats as usize, self.stripes as usize)?
+        Shape::large(exponents)?
+            .with_seats(self.seats as usize)?
+            .with_stripes(self.stripes as usize)?
             .with_reprobe_limit(self.reprobes)?
             .with_chunk(self.chunk)
     }

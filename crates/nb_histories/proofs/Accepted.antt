@@ -1,11 +1,12 @@
 -- Exponents, seats and stripes that pass the checks make a plan that a shape may be.
-use Rattle.std.proofs.Common.{◌≡◌, ℕ, ◌≤◌, Bool, true, false, not, cond, leb, List, [], ◌∷◌, length, get_or, zero, suc, refl, Result, Ok, Err, arith}
-use Rattle.std.specs.List.{list_all}
+use Rattle.std.proofs.Common.{◌≡◌, ℕ, ◌*◌, ◌^◌, ◌≤◌, Bool, true, false, not, cond, leb, List, [], ◌∷◌, length, get_or, zero, suc, refl, Result, Ok, Err, arith}
+use Rattle.std.specs.List.{All, list_all}
 use Rattle.std.specs.List.Sorted.{IsNonDecreasing}
 use Rattle.std.proofs.lemmas.Bool.{and_parts, leb-true}
-use Rattle.std.proofs.lemmas.List.Sums.{AllPass-from_list_all}
+use Rattle.std.proofs.lemmas.List.Sums.{AllPass-from_list_all, sum_by-le}
+use Rattle.std.proofs.Math.Pow.{pow_mono}
 use Rattle.nb_core.specs.declared.shapes.ShapeFault.{ShapeFault}
-use Rattle.nb_core.specs.Plans.{Plan, IsPlan, checked_plan, is_within, never_falls, plan}
+use Rattle.nb_core.specs.Plans.{Plan, IsPlan, checked_plan, is_within, never_falls, plan, slots_in}
 
 -- what isn't refused passed the test, and goes on
 not_refused :
@@ -41,6 +42,16 @@ never_falls-true (e ∷ f ∷ es) holds (suc i) (suc j) d order within =
     never_falls-true (f ∷ es) (and_parts (leb e f) (never_falls (f ∷ es)) holds).1 i j d (omega arith)
     (omega arith)
 
+-- so few exponents, each so small, have few slots
+few-slots :
+    (exponents : List ℕ) → All (λ e. (2 ≤ e) × (e ≤ 19)) exponents → length exponents ≤ 16
+    → slots_in exponents ≤ 2 ^ 30
+few-slots exponents small few =
+    let each : All (λ e. 2 ^ e ≤ 524288) exponents = (λ k d within.
+    let most : 2 ^ get_or exponents k d ≤ 2 ^ 19 = pow_mono (small k d within).1 in
+    omega arith) in
+    omega (arith, sum_by-le (λ e. 2 ^ e) 524288 exponents each)
+
 -- exponents, seats and stripes that pass the checks make a plan that a shape may be
 pub accepted-plan :
     (exponents : List ℕ) (seats stripes : ℕ)
@@ -54,15 +65,18 @@ accepted-plan exponents seats stripes accepted =
     let seated = not_refused (is_within 1 8 seats) _ _ p rising.1 in
     let striped = not_refused (is_within 1 8 stripes) _ _ p seated.1 in
     let few = is_within-true 1 16 (length exponents) tables.0 in
+    let small : All (λ e. (2 ≤ e) × (e ≤ 19)) exponents = (λ k d within.
+    is_within-true 2 19 (get_or exponents k d)
+    (AllPass-from_list_all (is_within 2 19) exponents sizes.0 k d within)) in
+    let few_seats = is_within-true 1 8 seats seated.0 in
+    let few_stripes = is_within-true 1 8 stripes striped.0 in
     record {
-      some_tables = few.0;
-      few_tables = few.1;
-      sizes = λ k d within.
-          is_within-true 2 19 (get_or exponents k d)
-          (AllPass-from_list_all (is_within 2 19) exponents sizes.0 k d within);
+      tables = few;
+      sizes = λ k d within. let of = small k d within in (of.0, omega (arith, of.1));
       never_fall = never_falls-true exponents rising.0;
-      seats = is_within-true 1 8 seats seated.0;
-      stripes = is_within-true 1 8 stripes striped.0;
+      slots = few-slots exponents small few.1;
+      seats = (few_seats.0, omega (arith, few_seats.1));
+      stripes = (few_stripes.0, omega (arith, few_stripes.1));
       reprobes = (omega arith, omega arith);
       chunk = (3, omega arith, omega arith, refl);
     }

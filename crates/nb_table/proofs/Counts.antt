@@ -122,13 +122,13 @@ own-counted : (number g c : ℕ) (h : List Event) → c ≤ counted_by (Count nu
 own-counted number g c h = rw (eq-eqb number number refl) (rw (eq-eqb g g refl) (omega arith))
 
 -- the most slots that a table has
-size-fits : (p : Plan) → IsPlan p → (g : ℕ) → g < generations_of p → size_of p g ≤ 2 ^ 19
+size-fits : (p : Plan) → IsPlan p → (g : ℕ) → g < generations_of p → size_of p g ≤ 2 ^ 28
 size-fits p plan g table =
-    pow_mono (All-get_or (λ e. (2 ≤ e) × (e ≤ 19)) p.exponents g 0 table plan.sizes).1
+    pow_mono (All-get_or (λ e. (2 ≤ e) × (e ≤ 28)) p.exponents g 0 table plan.sizes).1
 
 -- two counts of slots of a table add up to one
 one-sum :
-    (found c size : ℕ) → found ≤ size → c ≤ size → size ≤ 2 ^ 19 → (found + c) % 2 ^ 64 ≡ found + c
+    (found c size : ℕ) → found ≤ size → c ≤ size → size ≤ 2 ^ 28 → (found + c) % 2 ^ 64 ≡ found + c
 one-sum found c size a b most = mod-eq_of_lt (omega arith)
 
 -- ---- what a step told

@@ -12,7 +12,7 @@ use Rattle.nb_table.specs.Inside.{remembering}
 pub top-few : (p : Plan) → IsPlan p → (h : List Event) → IsLegal p h → (tables_at p h).top ≤ 16
 top-few p plan h legal =
     let links = linked p plan h legal in
-    omega (arith, links.within (tables_at p h).top links.top, plan.few_tables)
+    omega (arith, links.within (tables_at p h).top links.top, plan.tables.1)
 
 -- and never falls
 top-rises :

@@ -156,6 +156,7 @@ fn fault_texts(rt: HostRuntime) -> Result<(), Fail> {
         (ShapeFault::Reprobes, "reprobe limit out of range"),
         (ShapeFault::Chunk, "chunk out of range"),
         (ShapeFault::Keys, "number of keys out of range"),
+        (ShapeFault::Slots, "too many slots"),
     ] {
         assert_eq!(rt; fault.to_string(rt.alloc())?.as_str(), text);
     }

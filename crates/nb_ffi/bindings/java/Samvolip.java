@@ -35,10 +35,19 @@ public final class Samvolip {
 
     public static final int E_TABLES = -1, E_EXPONENTS = -2, E_FALLING = -3, E_SEATS = -4, E_STRIPES = -5, E_REPROBES = -6, E_CHUNK = -7,
         E_OUT_OF_MEMORY = -8, E_KEY_RANGE = -9, E_VALUE_RANGE = -10, E_WANT = -11, E_CHANGE = -12, E_FULL = -13, E_CONTENDED = -14,
-        E_SUM_RANGE = -15, E_NO_SEAT = -16, E_NOT_ALL_SEATS = -17, E_ROOM = -18, E_LOST = -19, E_VERSION = -20;
+        E_SUM_RANGE = -15, E_NO_SEAT = -16, E_NOT_ALL_SEATS = -17, E_ROOM = -18, E_LOST = -19, E_VERSION = -20, E_SLOTS = -21;
+
+    /** The most keys that Seat.openForKeys and Seat.openForManyKeys make room for. */
+    public static final int MOST_KEYS = 349525, MANY_KEYS = 178956970;
+
+    /**
+     * What openForManyKeys makes: the least exponent, by how much each is above the one before it, the most stripes, the reprobe
+     * limit and the chunk.
+     */
+    private static final int MANY_FIRST_EXPONENT = 4, MANY_STEP = 6, MANY_STRIPES = 16, MANY_REPROBES = 18, MANY_CHUNK = 256;
 
     /** That of the samvolip.h that this class tells of, and the sizes of its structs. */
-    private static final int VERSION = 0x000300, SHAPE_SIZE = 84, HANDLE_SIZE = 8, REPLY_SIZE = 16, ENTRY_SIZE = 16;
+    private static final int VERSION = 0x000400, SHAPE_SIZE = 84, HANDLE_SIZE = 8, REPLY_SIZE = 16, ENTRY_SIZE = 16;
     private static final int[] HEADER = {VERSION, SHAPE_SIZE, HANDLE_SIZE, HANDLE_SIZE, REPLY_SIZE, ENTRY_SIZE};
 
     static {
@@ -102,8 +111,40 @@ public final class Samvolip {
             this.map = map;
         }
 
-        /** A new map of tables with 2^e slots, as the seat that has all others in reserve. */
+        /** A new map of 1 to 16 tables with 2^e slots, as the seat that has all others in reserve, 256 in all. */
         public static Seat open(int[] exponents, int seats, int stripes) {
+            return open(exponents, seats, stripes, 18, 64);
+        }
+
+        /** A new map of two tables with room to spare for so many keys, 0 to MOST_KEYS. */
+        public static Seat openForKeys(long most, int seats) {
+            if (most < 0 || most > MOST_KEYS) throw new Refused(E_TABLES);
+            int last = lastExponent(most);
+            return open(new int[] {last - 3, last}, seats, seats);
+        }
+
+        /** A new map with room to spare for so many keys, 0 to MANY_KEYS. Each table has a 64th of the slots of the next one. */
+        public static Seat openForManyKeys(long most, int seats) {
+            return open(exponentsForManyKeys(most), seats, Math.min(seats, MANY_STRIPES), MANY_REPROBES, MANY_CHUNK);
+        }
+
+        /** The exponents of the tables that openForManyKeys makes. */
+        public static int[] exponentsForManyKeys(long most) {
+            if (most < 0 || most > MANY_KEYS) throw new Refused(E_TABLES);
+            int last = lastExponent(most);
+            int[] exponents = new int[(last - MANY_FIRST_EXPONENT) / MANY_STEP + 1];
+            for (int g = 0; g < exponents.length; g++) exponents[g] = last - MANY_STEP * (exponents.length - 1 - g);
+            return exponents;
+        }
+
+        /** The exponent of the smallest table that has half as many slots again as there are keys, of 32 slots at least. */
+        private static int lastExponent(long most) {
+            int last = 5;
+            while (1L << last < most + most / 2) last++;
+            return last;
+        }
+
+        private static Seat open(int[] exponents, int seats, int stripes, int reprobes, int chunk) {
             if (exponents.length > 16) throw new Refused(E_TABLES);
             Seat seat = new Seat(new Object());
             try (ResourceScope own = ResourceScope.newConfinedScope()) {
@@ -111,7 +152,7 @@ public final class Samvolip {
                 for (int i = 0; i < HEADER.length; i++) MemoryAccess.setIntAtIndex(header, i, HEADER[i]);
                 MemorySegment shape = MemorySegment.allocateNative(SHAPE_SIZE, 8, own);
                 for (int g = 0; g < exponents.length; g++) MemoryAccess.setIntAtIndex(shape, g, exponents[g]);
-                int[] rest = {exponents.length, seats, stripes, 18, 64};
+                int[] rest = {exponents.length, seats, stripes, reprobes, chunk};
                 for (int i = 0; i < rest.length; i++) MemoryAccess.setIntAtIndex(shape, 16 + i, rest[i]);
                 made((int) OPEN.invokeExact(header.address(), shape.address(), seat.handle.address()));
                 return seat;

@@ -83,14 +83,44 @@ public final class SamvolipTest {
         expect(refused(() -> seat.get(-1)) == Samvolip.E_KEY_RANGE);
         expect(refused(() -> seat.put(1, -1)) == Samvolip.E_VALUE_RANGE);
         expect(refused(() -> Samvolip.Seat.open(new int[] {5, 4}, 1, 1)) == Samvolip.E_FALLING);
+        expect(refused(() -> Samvolip.Seat.open(new int[] {2, 28, 28, 28, 28}, 1, 1)) == Samvolip.E_SLOTS);
+        expect(refused(() -> Samvolip.Seat.open(new int[] {4}, 257, 1)) == Samvolip.E_SEATS);
+        expect(refused(() -> Samvolip.Seat.openForKeys(1 << 20, 1)) == Samvolip.E_TABLES);
+        expect(refused(() -> Samvolip.Seat.openForManyKeys(1 << 28, 1)) == Samvolip.E_TABLES);
+        Samvolip.Seat.openForKeys(10, 1).close();
         seat.close();
         seat.close();
+    }
+
+    private static void expectTables(long most, int... exponents) {
+        expect(Arrays.equals(Samvolip.Seat.exponentsForManyKeys(most), exponents));
+    }
+
+    private static void manySeats() {
+        expectTables(21, 5);
+        expectTables(22, 6);
+        expectTables(341, 9);
+        expectTables(342, 4, 10);
+        expectTables(1000000, 9, 15, 21);
+        expectTables(44739243, 8, 14, 20, 26);
+        expectTables(44739244, 9, 15, 21, 27);
+        expectTables(178956970, 4, 10, 16, 22, 28);
+        Samvolip.Seat[] seats = new Samvolip.Seat[256];
+        seats[0] = Samvolip.Seat.openForManyKeys(5000, 256);
+        for (int i = 1; i < 256; i++) seats[i] = seats[0].split();
+        for (int i = 0; i < 256; i++) expect(seats[i].put(i, i).isEmpty());
+        for (int i = 1; i < 256; i++) seats[0].join(seats[i]);
+        expect(seats[0].sizeEstimate() == 256);
+        try (Samvolip.Ended ended = seats[0].end()) {
+            expect(ended.size() == 256);
+        }
     }
 
     public static void main(String[] words) throws InterruptedException {
         threads();
         oneSeat();
         calls();
+        manySeats();
         System.out.println("java: well");
     }
 }

@@ -11,9 +11,19 @@ import os
 import threading
 from ctypes import POINTER, Structure, byref, c_int, c_size_t, c_uint32, c_uint64, c_void_p, sizeof
 
-VERSION = 0x000300  # that of the samvolip.h that this module tells of
+VERSION = 0x000400  # that of the samvolip.h that this module tells of
 KEY_MAX = 2**64 - 3
 VALUE_MAX = 2**60 - 1
+MOST_KEYS = 349525  # that exponents_for_keys makes room for
+MANY_KEYS = 178956970  # that Seat.open_for_many_keys makes room for
+
+# what Seat.open_for_many_keys makes: the least exponent, by how much each is above the one before it, the most stripes, the
+# reprobe limit and the chunk
+MANY_FIRST_EXPONENT = 4
+MANY_STEP = 6
+MANY_STRIPES = 16
+MANY_REPROBES = 18
+MANY_CHUNK = 256
 
 
 class Code(enum.IntEnum):
@@ -37,6 +47,7 @@ class Code(enum.IntEnum):
     E_ROOM = -18
     E_LOST = -19
     E_VERSION = -20
+    E_SLOTS = -21
 
 
 class Want(enum.IntEnum):
@@ -115,12 +126,25 @@ def _number(number):
     return number
 
 
+def _last_exponent(most):
+    """The exponent of the smallest table that has half as many slots again as there are keys, of 32 slots at least."""
+    return next(e for e in range(5, 29) if 2**e >= most + most // 2)
+
+
 def exponents_for_keys(most):
-    """Two tables with room to spare for so many keys, 349,525 at most."""
-    if most > 349525:
+    """Two tables with room to spare for so many keys, MOST_KEYS at most."""
+    if most > MOST_KEYS:
         raise Refused(Code.E_TABLES)
-    last = next(e for e in range(5, 20) if 2**e >= most + most // 2)
+    last = _last_exponent(most)
     return [last - 3, last]
+
+
+def exponents_for_many_keys(most):
+    """Tables with room to spare for so many keys, MANY_KEYS at most, each with a 64th of the slots of the next one."""
+    if most > MANY_KEYS:
+        raise Refused(Code.E_TABLES)
+    last = _last_exponent(most)
+    return list(range(last, MANY_FIRST_EXPONENT - 1, -MANY_STEP))[::-1]
 
 
 class Seat:
@@ -134,13 +158,19 @@ class Seat:
 
     @staticmethod
     def open(exponents, seats=1, stripes=None, reprobes=18, chunk=64):
-        """A new map, as the seat that has all others in reserve."""
+        """A new map of tables with 2**e slots, 1 to 16 of them, as the seat that has all others in reserve, 256 in all."""
         if len(exponents) > 16:
             raise Refused(Code.E_TABLES)
         shape = _Shape((c_uint32 * 16)(*exponents), len(exponents), seats, stripes or seats, reprobes, chunk)
         handle = c_void_p()
         _made(_lib.samvolip_open_with(byref(_HEADER), byref(shape), byref(handle)))
         return Seat(handle, next(_maps))
+
+    @staticmethod
+    def open_for_many_keys(most, seats=1):
+        """A new map with room to spare for so many keys, MANY_KEYS at most."""
+        stripes = min(seats, MANY_STRIPES)
+        return Seat.open(exponents_for_many_keys(most), seats, stripes, MANY_REPROBES, MANY_CHUNK)
 
     def _locked_call(self, name, *words):
         if not self._handle:

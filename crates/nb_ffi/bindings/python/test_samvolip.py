@@ -8,7 +8,7 @@ import threading
 import time
 
 import samvolip
-from samvolip import KEY_MAX, VALUE_MAX, Change, Code, Refused, Seat, Want, exponents_for_keys
+from samvolip import KEY_MAX, VALUE_MAX, Change, Code, Refused, Seat, Want, exponents_for_keys, exponents_for_many_keys
 
 
 def refused(call, *words, **named):
@@ -114,15 +114,17 @@ def calls():
     assert told(seat.get, 1) == "the seat is empty"
 
 
-def shapes():
+def broken_shapes():
     assert refused(exponents_for_keys, 2**20) == Code.E_TABLES
+    assert refused(exponents_for_many_keys, 2**28) == Code.E_TABLES
     for code, exponents, named in [
         (Code.E_TABLES, [], {}),
         (Code.E_TABLES, [4] * 17, {}),
         (Code.E_EXPONENTS, [1], {}),
         (Code.E_FALLING, [5, 4], {}),
-        (Code.E_SEATS, [4], {"seats": 9}),
-        (Code.E_STRIPES, [4], {"stripes": 9}),
+        (Code.E_SLOTS, [2, 28, 28, 28, 28], {}),
+        (Code.E_SEATS, [4], {"seats": 257}),
+        (Code.E_STRIPES, [4], {"stripes": 257}),
         (Code.E_REPROBES, [4], {"reprobes": 0}),
         (Code.E_CHUNK, [4], {"chunk": 2}),
     ]:
@@ -159,6 +161,33 @@ def joins():
     assert elsewhere == ["an ended map stays on its thread"]
 
 
+def shapes():
+    for most, exponents in [(0, [2, 5]), (21, [2, 5]), (22, [3, 6]), (349525, [16, 19])]:
+        assert exponents_for_keys(most) == exponents
+    for most, exponents in [
+        (21, [5]),
+        (22, [6]),
+        (341, [9]),
+        (342, [4, 10]),
+        (1000000, [9, 15, 21]),
+        (44739243, [8, 14, 20, 26]),
+        (44739244, [9, 15, 21, 27]),
+        (178956970, [4, 10, 16, 22, 28]),
+    ]:
+        assert exponents_for_many_keys(most) == exponents
+
+
+def many_seats():
+    first = Seat.open_for_many_keys(5000, seats=256)
+    seats = [first.split() for _ in range(255)]
+    for number, seat in enumerate(seats):
+        seat.put(number, number)
+    for seat in seats:
+        first.join(seat)
+    assert first.size_estimate() == 255
+    assert len(first.close()) == 255
+
+
 def walks():
     seat = Seat.open(exponents_for_keys(10))
     for key in range(3):
@@ -173,7 +202,9 @@ threads()
 one_seat()
 calls()
 shapes()
+broken_shapes()
 grows()
 joins()
+many_seats()
 walks()
 print("python: well")

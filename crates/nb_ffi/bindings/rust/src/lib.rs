@@ -16,6 +16,7 @@ pub enum Fault {
     Tables,
     Exponents,
     Falling,
+    Slots,
     Seats,
     Stripes,
     Reprobes,
@@ -41,6 +42,7 @@ impl Fault {
             sys::E_TABLES => Fault::Tables,
             sys::E_EXPONENTS => Fault::Exponents,
             sys::E_FALLING => Fault::Falling,
+            sys::E_SLOTS => Fault::Slots,
             sys::E_SEATS => Fault::Seats,
             sys::E_STRIPES => Fault::Stripes,
             sys::E_REPROBES => Fault::Reprobes,
@@ -70,10 +72,10 @@ impl fmt::Display for Fault {
 
 impl std::error::Error for Fault {}
 
-/// The most keys that [`Shape::for_keys`] makes room for.
-pub const MOST_KEYS: u64 = 349_525;
+pub use sys::{MANY_KEYS, MOST_KEYS};
 
-/// The tables of a map, by the exponents of their sizes, its seats, and what tunes it.
+/// The tables of a map, by the exponents of their sizes, its seats, and what tunes it. There are 1 to
+/// 16 exponents from 2 to 28, and 1 to 256 seats and stripes.
 #[derive(Clone, Debug)]
 pub struct Shape {
     pub exponents: Vec<u32>,
@@ -89,13 +91,30 @@ impl Shape {
         if most > MOST_KEYS {
             return None;
         }
-        let last = (5..19).find(|e| 1 << e >= most + most / 2).unwrap_or(19);
+        let last = last_exponent(most);
         Some(Shape {
             exponents: vec![last - 3, last],
             seats,
             stripes: seats,
             reprobes: 18,
             chunk: 64,
+        })
+    }
+
+    /// Tables with room to spare for so many keys, each with a 64th of the slots of the next one, and
+    /// no more than 16 stripes. `None` for more than [`MANY_KEYS`].
+    pub fn for_many_keys(most: u64, seats: u32) -> Option<Shape> {
+        if most > MANY_KEYS {
+            return None;
+        }
+        let last = last_exponent(most);
+        let below = (last - sys::MANY_FIRST_EXPONENT) / sys::MANY_STEP;
+        Some(Shape {
+            exponents: (0..=below).rev().map(|g| last - sys::MANY_STEP * g).collect(),
+            seats,
+            stripes: seats.min(sys::MANY_STRIPES),
+            reprobes: sys::MANY_REPROBES,
+            chunk: sys::MANY_CHUNK,
         })
     }
 
@@ -114,6 +133,12 @@ impl Shape {
             chunk: self.chunk,
         })
     }
+}
+
+/// The exponent of the smallest table that has half as many slots again as there are keys, of 32 slots
+/// at least.
+fn last_exponent(most: u64) -> u32 {
+    (most + most / 2).max(32).next_power_of_two().ilog2()
 }
 
 /// What a write asks of its key.

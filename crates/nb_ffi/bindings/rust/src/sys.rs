@@ -4,7 +4,20 @@ use std::mem::size_of;
 use std::ptr::NonNull;
 
 /// The version of `samvolip.h` that this file tells of.
-pub const VERSION: u32 = 0x000300;
+pub const VERSION: u32 = 0x000400;
+
+/// The most keys that [`Shape::for_keys`](crate::Shape::for_keys) makes room for.
+pub const MOST_KEYS: u64 = 349_525;
+/// The most keys that [`Shape::for_many_keys`](crate::Shape::for_many_keys) makes room for.
+pub const MANY_KEYS: u64 = 178_956_970;
+
+/// What [`Shape::for_many_keys`](crate::Shape::for_many_keys) makes: the least exponent, by how much
+/// each one is above the one before it, the most stripes, the reprobe limit and the chunk.
+pub const MANY_FIRST_EXPONENT: u32 = 4;
+pub const MANY_STEP: u32 = 6;
+pub const MANY_STRIPES: u32 = 16;
+pub const MANY_REPROBES: u32 = 18;
+pub const MANY_CHUNK: u32 = 256;
 
 pub const MAX_TABLES: usize = 16;
 pub const PRESENT: i32 = 1;
@@ -29,6 +42,7 @@ pub const E_NOT_ALL_SEATS: i32 = -17;
 pub const E_ROOM: i32 = -18;
 pub const E_LOST: i32 = -19;
 pub const E_VERSION: i32 = -20;
+pub const E_SLOTS: i32 = -21;
 
 pub const ANY: u32 = 0;
 pub const WANT_ABSENT: u32 = 1;

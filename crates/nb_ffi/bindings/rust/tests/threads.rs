@@ -59,8 +59,55 @@ fn calls_and_refusals() {
     let other = Seat::open(&Shape::for_keys(10, 1).unwrap()).unwrap();
     assert_eq!(seat.join(other).err().map(|(fault, _)| fault), Some(Fault::OtherMap));
     assert!(Shape::for_keys(1 << 20, 1).is_none());
+    assert!(Shape::for_many_keys(1 << 28, 1).is_none());
     let falling = Shape { exponents: vec![5, 4], ..Shape::for_keys(10, 1).unwrap() };
     assert_eq!(Seat::open(&falling).err(), Some(Fault::Falling));
+    let too_large = Shape { exponents: vec![2, 28, 28, 28, 28], ..falling };
+    assert_eq!(Seat::open(&too_large).err(), Some(Fault::Slots));
+}
+
+#[test]
+fn shapes_for_keys() {
+    for (most, exponents) in [
+        (0, vec![2, 5]),
+        (21, vec![2, 5]),
+        (22, vec![3, 6]),
+        (349_525, vec![16, 19]),
+    ] {
+        assert_eq!(Shape::for_keys(most, 3).unwrap().exponents, exponents, "for {most} keys");
+    }
+    for (most, exponents) in [
+        (21, vec![5]),
+        (22, vec![6]),
+        (341, vec![9]),
+        (342, vec![4, 10]),
+        (1_000_000, vec![9, 15, 21]),
+        (44_739_243, vec![8, 14, 20, 26]),
+        (44_739_244, vec![9, 15, 21, 27]),
+        (178_956_970, vec![4, 10, 16, 22, 28]),
+    ] {
+        let shape = Shape::for_many_keys(most, 17).unwrap();
+        assert_eq!(shape.exponents, exponents, "for {most} keys");
+        assert_eq!((shape.seats, shape.stripes), (17, 16));
+        assert_eq!((shape.reprobes, shape.chunk), (18, 256));
+    }
+}
+
+#[test]
+fn many_seats() {
+    let mut first = Seat::open(&Shape::for_many_keys(5000, 256).unwrap()).unwrap();
+    let mut seats: Vec<Seat> = (0..255).map(|_| first.split().unwrap()).collect();
+    assert_eq!(first.split().err(), Some(Fault::NoSeat));
+    for (number, seat) in seats.iter_mut().enumerate() {
+        for key in 0..20 {
+            assert_eq!(seat.put(20 * number as u64 + key, key), Ok(None));
+        }
+    }
+    for seat in seats {
+        assert!(first.join(seat).is_ok());
+    }
+    assert_eq!(first.size_estimate(), 5100);
+    assert_eq!(first.close().ok().unwrap().size(), 5100);
 }
 
 #[test]

@@ -9,7 +9,7 @@ returns-clause-last c = lasts-at _ _ c.args.g c.self.invariant c.self.view_is c.
 pub returns-clause-few : goal.returns-clause-few
 returns-clause-few c =
     let e = slice_index c.self.inside.exponents c.args.g in
-    let few : 2 ^ e ≤ 2 ^ 19 =
+    let few : 2 ^ e ≤ 2 ^ 28 =
     pow_mono (exponents-few _ _ c.args.g c.self.invariant c.self.view_is c.requires) in
-    subst (λ k. 2 ^ k ≤ 2 ^ 19)
+    subst (λ k. 2 ^ k ≤ 2 ^ 28)
     (sym (exponents-at c.self.inside _ c.args.g c.self.view_is c.requires)) few

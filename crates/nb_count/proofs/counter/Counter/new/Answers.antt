@@ -8,8 +8,8 @@ use Rattle.nb_count.proofs.Keeping.{splits}
 use Rattle.nb_count.proofs.counter.Counter.new.Goals as goal
 
 pub of_words-requires : goal.of_words-requires
-of_words-requires c = opens-zeros (record { stripes = c.args.stripes; seats = c.args.seats })
-    c.requires.stripes.1
+of_words-requires c = opens-zeros (record { stripes = c.args.stripes; seats = c.args.seats }) _
+    (c.as_slice.ensures.value ∙ c.in_ok-words.ensures.items_if_clones_equal (λ y e. e))
 
 pub loop-number-init : goal.loop-number-init
 loop-number-init c = (
@@ -20,8 +20,8 @@ loop-number-init c = (
 
 pub split_seat-seat-requires : goal.split_seat-seat-requires
 split_seat-seat-requires c =
-    let count = count-words (record { stripes = c.args.stripes; seats = c.args.seats })
-    c.requires.stripes.1 in
+    let count = count-words (record { stripes = c.args.stripes; seats = c.args.seats }) _
+    (c.as_slice.ensures.value ∙ c.in_ok-words.ensures.items_if_clones_equal (λ y e. e)) in
     let words = c.in_ok-table.ensures.0 in
     (c.loop-number.invariant.0, omega (arith, words, count, c.requires.stripes.0), splits _ _ _)
 
@@ -33,8 +33,8 @@ invariant_of-push_reserved c =
           c.split_seat-seat.result;
     } in
     let next = dealing-next c.loop-number.invariant.1 c.loop-number-test.true in
-    let count = count-words (record { stripes = c.args.stripes; seats = c.args.seats })
-    c.requires.stripes.1 in
+    let count = count-words (record { stripes = c.args.stripes; seats = c.args.seats }) _
+    (c.as_slice.ensures.value ∙ c.in_ok-words.ensures.items_if_clones_equal (λ y e. e)) in
     let table = c.split_seat-seat.ensures.3 ∙ c.loop-number.invariant.0 in
     dealt-is_seat s c.loop-number.number (c.split_seat-seat.ensures.4 ∙ ap (λ ts. (ts, [])) next)
     c.args.stripes refl

@@ -12,7 +12,7 @@ overflow_cast-result c =
     let links = law-left closed is AreLinked linked in
     let word = word-at _ 0 c.word.result c.word.ensures
     ∙ ap (λ v. slice_index v.words 0) c.self.view_is in
-    omega (arith, links.within (tables_left closed).top links.top, is.plan.few_tables, word)
+    omega (arith, links.within (tables_left closed).top links.top, is.plan.tables.1, word)
 
 pub returns : goal.returns
 returns c = word-at _ 0 c.word.result c.word.ensures

@@ -1,0 +1,148 @@
+/* More seats and larger tables: 64 threads add to one map while it grows through all its tables, and each key's number is right;
+   four threads fill a map whose last table has 2^22 slots, and all is read back.
+       wide [ADDS [KEYS]]      how often each of the 64 threads adds, and how many keys fill the other map */
+#include "samvolip.h"
+
+#include "expect.h"
+
+#include <pthread.h>
+
+enum { ADDERS = 64, ADDED_KEYS = 8000, FILLERS = 4 };
+
+static unsigned adds = 3000;
+static uint64_t keys = 2700000;
+static pthread_barrier_t begun;
+
+/* ---- many seats */
+
+struct adder {
+    samvolip_seat seat;
+    unsigned number;
+    uint32_t added[ADDED_KEYS]; /* how much it has added at each key */
+};
+
+static void *add(void *given)
+{
+    struct adder *adder = given;
+    uint64_t state = UINT64_C(88172645463325252) + adder->number;
+    pthread_barrier_wait(&begun);
+    for (unsigned i = 0; i < adds; i++) {
+        state ^= state << 13;
+        state ^= state >> 7;
+        state ^= state << 17;
+        uint64_t key = state % ADDED_KEYS;
+        EXPECT(samvolip_add(&adder->seat, key, 1 + i % 3, NULL) >= 0);
+        adder->added[key] += 1 + i % 3;
+    }
+    return NULL;
+}
+
+static void many_seats(void)
+{
+    const samvolip_shape shape = {{4, 6, 8, 10, 12, 14}, 6, ADDERS, 16, 18, 64};
+    struct adder *adders = calloc(ADDERS, sizeof *adders);
+    samvolip_entry *entries = calloc(ADDED_KEYS, sizeof *entries);
+    pthread_t threads[ADDERS];
+    EXPECT(adders != NULL && entries != NULL);
+    EXPECT(pthread_barrier_init(&begun, NULL, ADDERS) == 0);
+    EXPECT(samvolip_open(&shape, &adders[0].seat) == SAMVOLIP_OK);
+    for (unsigned i = 1; i < ADDERS; i++)
+        EXPECT(samvolip_split(&adders[0].seat, &adders[i].seat) == SAMVOLIP_OK);
+    for (unsigned i = 0; i < ADDERS; i++) {
+        adders[i].number = i;
+        EXPECT(pthread_create(&threads[i], NULL, add, &adders[i]) == 0);
+    }
+    for (unsigned i = 0; i < ADDERS; i++)
+        EXPECT(pthread_join(threads[i], NULL) == 0);
+
+    /* they come together two by two, and two of those by two: each handle has room for all */
+    for (unsigned step = 1; step < ADDERS; step *= 2)
+        for (unsigned i = 0; i < ADDERS; i += 2 * step)
+            EXPECT(samvolip_join(&adders[i].seat, &adders[i + step].seat) == SAMVOLIP_OK);
+    uint64_t estimate = samvolip_size_estimate(&adders[0].seat);
+    uint32_t generation = samvolip_generation(&adders[0].seat);
+    samvolip_ended ended = SAMVOLIP_ENDED_INIT;
+    EXPECT(samvolip_close(&adders[0].seat, &ended) == SAMVOLIP_OK);
+    uint64_t size = samvolip_ended_size(&ended), shown = 0;
+    EXPECT(size == estimate && size <= ADDED_KEYS);
+    EXPECT(generation == 5 || size <= 1 << 12);
+    EXPECT(samvolip_ended_entries(&ended, entries, ADDED_KEYS) == SAMVOLIP_OK);
+    for (uint64_t key = 0; key < ADDED_KEYS; key++) {
+        uint64_t sum = 0;
+        for (unsigned i = 0; i < ADDERS; i++)
+            sum += adders[i].added[key];
+        if (sum == 0)
+            continue;
+        EXPECT(shown < size && entries[shown].key == key && entries[shown].number == sum);
+        shown++;
+    }
+    EXPECT(shown == size);
+    samvolip_ended_free(&ended);
+    pthread_barrier_destroy(&begun);
+    free(entries);
+    free(adders);
+}
+
+/* ---- many keys */
+
+struct filler {
+    samvolip_seat seat;
+    unsigned number;
+};
+
+/* Different keys, scattered over a table. */
+static uint64_t scattered(uint64_t i)
+{
+    return (i * UINT64_C(0x9e3779b97f4a7c15)) >> 20;
+}
+
+static void *fill(void *given)
+{
+    struct filler *filler = given;
+    for (uint64_t i = filler->number; i < keys; i += FILLERS)
+        EXPECT(samvolip_put(&filler->seat, scattered(i), i, NULL) == SAMVOLIP_ABSENT);
+    return NULL;
+}
+
+static void many_keys(void)
+{
+    const samvolip_shape shape = samvolip_shape_for_many_keys(keys, FILLERS);
+    struct filler fillers[FILLERS] = {{SAMVOLIP_SEAT_INIT, 0}};
+    pthread_t threads[FILLERS];
+    EXPECT(samvolip_open(&shape, &fillers[0].seat) == SAMVOLIP_OK);
+    for (unsigned i = 1; i < FILLERS; i++)
+        EXPECT(samvolip_split(&fillers[0].seat, &fillers[i].seat) == SAMVOLIP_OK);
+    for (unsigned i = 0; i < FILLERS; i++) {
+        fillers[i].number = i;
+        EXPECT(pthread_create(&threads[i], NULL, fill, &fillers[i]) == 0);
+    }
+    for (unsigned i = 0; i < FILLERS; i++)
+        EXPECT(pthread_join(threads[i], NULL) == 0);
+    samvolip_seat *seat = &fillers[0].seat;
+    EXPECT(samvolip_size_estimate(seat) == keys);
+    EXPECT(samvolip_generation(seat) == shape.tables - 1);
+    uint64_t number = 0;
+    for (uint64_t i = 0; i < keys; i++)
+        EXPECT(samvolip_get(seat, scattered(i), &number) == SAMVOLIP_PRESENT && number == i);
+    EXPECT(samvolip_get(seat, scattered(keys), &number) == SAMVOLIP_ABSENT);
+    for (unsigned i = 1; i < FILLERS; i++)
+        EXPECT(samvolip_join(seat, &fillers[i].seat) == SAMVOLIP_OK);
+    samvolip_ended ended = SAMVOLIP_ENDED_INIT;
+    EXPECT(samvolip_close(seat, &ended) == SAMVOLIP_OK);
+    EXPECT(samvolip_ended_size(&ended) == keys);
+    EXPECT(samvolip_ended_get(&ended, scattered(keys - 1), &number) == SAMVOLIP_PRESENT);
+    EXPECT(number == keys - 1);
+    samvolip_ended_free(&ended);
+}
+
+int main(int count, char **words)
+{
+    if (count > 1)
+        adds = (unsigned)strtoul(words[1], NULL, 10);
+    if (count > 2)
+        keys = strtoull(words[2], NULL, 10);
+    many_seats();
+    many_keys();
+    puts("wide: well");
+    return 0;
+}
