@@ -37,7 +37,9 @@ pub(crate) struct Options {
 impl Options {
     /// The shape of the map.
     pub(crate) fn shape(&self) -> Result<Shape, Fault> {
-        Shape::with_plan(self.exponents.as_slice(), self.threads, self.stripes)
+        Shape::large(self.exponents.as_slice())
+            .and_then(|shape| shape.with_seats(self.threads))
+            .and_then(|shape| shape.with_stripes(self.stripes))
             .and_then(|shape| shape.with_reprobe_limit(self.reprobes))
             .and_then(|shape| shape.with_chunk(self.chunk))
             .map_err(|_| Fault::Usage)
@@ -64,9 +66,9 @@ fn with_words<'a>(alloc: Global, command: Command<'a>) -> Result<Command<'a>, Al
         .help(WORKLOADS);
     let threads = Arg::new(alloc, "THREADS")
         .action(ArgAction::Set)
-        .value_parser(value_parser!(u32).range(1..=8))
+        .value_parser(value_parser!(u32).range(1..=256))
         .default_value("1")
-        .help("How many threads run at once, each with its own seat");
+        .help("How many threads run at once, each with its own seat; 1 to 256");
     let seconds = Arg::new(alloc, "SECONDS")
         .action(ArgAction::Set)
         .default_value("1")
@@ -88,7 +90,7 @@ fn command<'a>(alloc: Global) -> Result<Command<'a>, AllocError> {
         "P",
         "How many words the count of keys is spread over",
     )
-    .value_parser(value_parser!(u32).range(1..=8));
+    .value_parser(value_parser!(u32).range(1..=256));
     let reprobes = option(
         alloc,
         "reprobes",

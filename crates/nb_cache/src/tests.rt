@@ -67,10 +67,12 @@ fn broken_lines_are_refused(rt: HostRuntime) {
 
 #[test]
 fn words_give_options(rt: HostRuntime) {
-    let refused: [&[&str]; 4] = [
+    let refused: [&[&str]; 6] = [
         &["x"],
         &["--workers", "0"],
         &["--workers", "9"],
+        &["--keys", "0"],
+        &["--keys", "178956971"],
         &["--replies", "1"],
     ];
     for words in refused {
@@ -82,7 +84,7 @@ fn words_give_options(rt: HostRuntime) {
     let Err(Fault::Help(text)) = options(rt.alloc(), &["--help"]) else {
         panic!(rt; "--help asks for help")
     };
-    for word in ["--workers", "--replies", "Exit status", "Example"] {
+    for word in ["--workers", "--replies", "--keys", "Exit status", "Example"] {
         assert!(rt; text.as_str().contains(word), "{word}");
     }
 }

@@ -84,7 +84,7 @@ fn words_give_options(rt: HostRuntime) {
         &["--workers", "0"],
         &["--workers", "9"],
         &["--keys", "0"],
-        &["--keys", "524289"],
+        &["--keys", "268435457"],
         &["--top", "-1"],
     ];
     for words in refused {
