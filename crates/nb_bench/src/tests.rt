@@ -2,6 +2,7 @@
 
 use crate::checks::{are_summed, are_told_once, do_adds, do_puts};
 use crate::faults::{Fault, Wrong};
+use crate::fill;
 use crate::keys::{KEY_COUNT, Spacing, shuffled};
 use crate::kinds;
 use crate::options::{Options, read_options};
@@ -42,6 +43,18 @@ fn each_workload_runs(rt: HostRuntime) -> Result<(), Fail> {
             let measured = run_short(&rt, rt.alloc(), name, threads)?;
             assert!(rt; measured.calls >= 32_768, "{name}");
             assert!(rt; measured.nanoseconds > 0, "{name}");
+        }
+    }
+    Ok(())
+}
+
+#[test]
+fn many_keys_are_filled_and_read(rt: HostRuntime) -> Result<(), Fail> {
+    for threads in ["1", "3"] {
+        let options = options(rt.alloc(), &["F", threads, "0", "--live", "20000"])?;
+        let times = fill::measure(&rt, rt.alloc(), &options)?;
+        for (name, _, time) in times.lines(20_000) {
+            assert!(rt; time > 0 && time < u64::MAX, "{name}");
         }
     }
     Ok(())
@@ -161,9 +174,9 @@ fn words_give_options(rt: HostRuntime) -> Result<(), Fail> {
 fn refuses_other_words(rt: HostRuntime) {
     let refused: [&[&str]; 12] = [
         &[],
-        &["F"],
+        &["G"],
         &["A", "0"],
-        &["A", "9"],
+        &["A", "257"],
         &["A", "1", "soon"],
         &["A", "1", "-1"],
         &["A", "1", "1", "1"],
