@@ -105,8 +105,30 @@ public class Bench {
         System.out.println(name + " " + workload + " " + threads + " " + calls + " " + longest);
     }
 
+    enum Pass { PUTS, GETS, LONGEST_PUT }
+
+    /** What a thread measures of its part: how long its calls take, or the longest of its puts. */
+    static long passOn(Peer map, Pass pass, long[] places, int first, int end) {
+        long start = System.nanoTime(), longest = 0, sum = 0;
+        switch (pass) {
+            case PUTS: for (int i = first; i < end; i++) map.put(places[i], places[i]); break;
+            case GETS: for (int i = first; i < end; i++) sum += map.get(places[i]); kept = sum; break;
+            default:
+                for (int i = first; i < end; i++) {
+                    long before = System.nanoTime();
+                    map.put(places[i], places[i]);
+                    longest = Math.max(longest, System.nanoTime() - before);
+                }
+                return longest;
+        }
+        return System.nanoTime() - start;
+    }
+
     static long putOnce(String name, int threads, long[] places) throws Exception {
-        Peer map = made(name, 4);
+        return allPass(made(name, 4), Pass.PUTS, threads, places);
+    }
+
+    static long allPass(Peer map, Pass pass, int threads, long[] places) throws Exception {
         AtomicInteger arrived = new AtomicInteger();
         long[] times = new long[threads];
         Thread[] all = new Thread[threads];
@@ -116,15 +138,33 @@ public class Bench {
             all[t] = new Thread(() -> {
                 arrived.incrementAndGet();
                 while (arrived.get() < threads) Thread.onSpinWait();
-                long start = System.nanoTime();
-                for (int i = number * size; i < Math.min(places.length, (number + 1) * size); i++) map.put(places[i], places[i]);
-                times[number] = System.nanoTime() - start;
+                times[number] = passOn(map, pass, places, number * size, Math.min(places.length, (number + 1) * size));
             });
             all[t].start();
         }
         long longest = 0;
         for (int t = 0; t < threads; t++) { all[t].join(); longest = Math.max(longest, times[t]); }
         return longest;
+    }
+
+    /** The shortest times of maps of so many keys; the first round is the compiler's. */
+    static void fill(String name, int threads, long time, int keys) throws Exception {
+        long[] places = shuffled(keys), warm = shuffled(Math.min(keys, 1_000_000));
+        for (Pass pass : Pass.values()) allPass(made(name, 4), pass, threads, warm);
+        long[] least = {Long.MAX_VALUE, Long.MAX_VALUE, Long.MAX_VALUE, Long.MAX_VALUE};
+        long begin = System.nanoTime();
+        do {
+            long before = System.nanoTime();
+            Peer map = made(name, 4);
+            least[0] = Math.min(least[0], System.nanoTime() - before);
+            least[1] = Math.min(least[1], allPass(map, Pass.PUTS, threads, places));
+            least[2] = Math.min(least[2], allPass(map, Pass.GETS, threads, places));
+            map = null;
+            least[3] = Math.min(least[3], allPass(made(name, 4), Pass.LONGEST_PUT, threads, places));
+        } while (System.nanoTime() - begin < time);
+        String[] names = {"make", "fill", "read", "longest"};
+        int[] calls = {1, keys, keys, 1};
+        for (int i = 0; i < 4; i++) System.out.println(name + " " + names[i] + " " + threads + " " + calls[i] + " " + least[i]);
     }
 
     static void growth(String name, int threads, long time) throws Exception {
@@ -142,6 +182,9 @@ public class Bench {
         char workload = words[1].charAt(0);
         int threads = Integer.parseInt(words[2]);
         long time = (long) (Double.parseDouble(words[3]) * 1e9);
-        if (workload == 'D') growth(words[0], threads, time); else timed(words[0], workload, threads, time);
+        int keys = words.length > 4 && words[4].startsWith("live=") ? Integer.parseInt(words[4].substring(5)) : 1_000_000;
+        if (workload == 'D') growth(words[0], threads, time);
+        else if (workload == 'F') fill(words[0], threads, time, keys);
+        else timed(words[0], workload, threads, time);
     }
 }

@@ -1,9 +1,11 @@
 // The workloads of nb_bench for peers in C++: the same keys, the same random numbers, the same line of output.
-//   PROG WORKLOAD THREADS SECONDS [spread]      prints   NAME WORKLOAD THREADS OPS NANOSECONDS
+//   PROG WORKLOAD THREADS SECONDS [spread] [live=N]      prints   NAME WORKLOAD THREADS OPS NANOSECONDS
+// In F, which fills and reads maps of N keys, it prints such a line for each of make, fill, read and longest.
 // A peer is a class with  get(key, sum), put(key, number), remove(key), and a constructor of one size.
 #pragma once
 #include <atomic>
 #include <algorithm>
+#include <bit>
 #include <chrono>
 #include <cstdint>
 #include <cstdio>
@@ -103,8 +105,32 @@ void timed(const char *name, char workload, unsigned threads, uint64_t time, uin
     printf("%s %c %u %lu %lu\n", name, workload, threads, sum.calls, sum.nanoseconds);
 }
 
-template <class Map> uint64_t put_once(unsigned threads, const std::vector<uint64_t> &places, uint64_t slots) {
-    auto map = std::make_unique<Map>(slots);
+enum class Pass { puts, gets, longest_put };
+
+// What a thread measures of its part of the places: how long its calls take, or the longest of its puts.
+template <class Map> uint64_t pass_on(Map &map, Pass pass, const uint64_t *place, const uint64_t *end, uint64_t &sum) {
+    auto start = Clock::now();
+    uint64_t longest = 0;
+    switch (pass) {
+    case Pass::puts:
+        for (; place < end; place++) map.put(key_of(*place), *place);
+        break;
+    case Pass::gets:
+        for (; place < end; place++) sum += map.get(key_of(*place));
+        break;
+    case Pass::longest_put:
+        for (; place < end; place++) {
+            auto before = Clock::now();
+            map.put(key_of(*place), *place);
+            longest = std::max(longest, since(before));
+        }
+        return longest;
+    }
+    return since(start);
+}
+
+// What the slowest thread measures, where all begin at the same time.
+template <class Map> uint64_t all_pass(Map &map, Pass pass, unsigned threads, const std::vector<uint64_t> &places) {
     std::atomic<unsigned> arrived{0};
     std::vector<Tally> tallies(threads);
     std::vector<std::thread> all;
@@ -113,14 +139,38 @@ template <class Map> uint64_t put_once(unsigned threads, const std::vector<uint6
         all.emplace_back([&, t] {
             arrived++;
             for (int look = 0; arrived < threads; look++) if (look > 2000) std::this_thread::yield();
-            auto start = Clock::now();
-            for (size_t i = t * size; i < std::min(places.size(), (t + 1) * size); i++) map->put(key_of(places[i]), places[i]);
-            tallies[t].nanoseconds = since(start);
+            const uint64_t *first = places.data();
+            auto end = std::min(places.size(), (t + 1) * size);
+            tallies[t].nanoseconds = pass_on(map, pass, first + std::min(t * size, end), first + end, tallies[t].sum);
         });
     for (auto &thread : all) thread.join();
-    uint64_t longest = 0;
-    for (auto &t : tallies) longest = std::max(longest, t.nanoseconds);
+    uint64_t longest = 0, sum = 0;
+    for (auto &t : tallies) longest = std::max(longest, t.nanoseconds), sum += t.sum;
+    if (sum == 1) fprintf(stderr, "odd\n");
     return longest;
+}
+
+template <class Map> uint64_t put_once(unsigned threads, const std::vector<uint64_t> &places, uint64_t slots) {
+    auto map = std::make_unique<Map>(slots);
+    return all_pass(*map, Pass::puts, threads, places);
+}
+
+// The shortest times of maps of `keys` keys, each made with `slots` slots.
+template <class Map> void fill(const char *name, unsigned threads, uint64_t time, uint64_t keys, uint64_t slots) {
+    auto places = shuffled(keys);
+    uint64_t make = UINT64_MAX, filled = UINT64_MAX, read = UINT64_MAX, longest = UINT64_MAX;
+    auto start = Clock::now();
+    do {
+        auto before = Clock::now();
+        auto map = std::make_unique<Map>(slots);
+        make = std::min(make, since(before));
+        filled = std::min(filled, all_pass(*map, Pass::puts, threads, places));
+        read = std::min(read, all_pass(*map, Pass::gets, threads, places));
+        map = std::make_unique<Map>(slots);
+        longest = std::min(longest, all_pass(*map, Pass::longest_put, threads, places));
+    } while (since(start) < time);
+    printf("%s make %u 1 %lu\n%s fill %u %lu %lu\n", name, threads, make, name, threads, keys, filled);
+    printf("%s read %u %lu %lu\n%s longest %u 1 %lu\n", name, threads, keys, read, name, threads, longest);
 }
 
 // The middle time of many rounds, each on a map made anew.
@@ -133,17 +183,20 @@ template <class Map> void growth(const char *name, unsigned threads, uint64_t ti
     printf("%s D %u %lu %lu\n", name, threads, PUTS, times[times.size() / 2]);
 }
 
-// `slots` is the size that a map of workload D is made with.
+// `slots` is the size that a map of workload D is made with. One that doesn't begin with four slots is made with twice as many as
+// there are keys in F.
 template <class Map> int run(const char *name, int argc, char **argv, uint64_t slots) {
     if (argc < 4) return 3;
     char workload = argv[1][0];
     unsigned threads = atoi(argv[2]);
-    uint64_t time = atof(argv[3]) * 1e9, calls = UINT64_MAX - BATCH;
+    uint64_t time = atof(argv[3]) * 1e9, calls = UINT64_MAX - BATCH, keys = 1000000;
     for (int i = 4; i < argc; i++) {
         if (!strcmp(argv[i], "spread")) spread = true;
+        else if (!strncmp(argv[i], "live=", 5)) keys = strtoull(argv[i] + 5, nullptr, 10);
         else calls = strtoull(argv[i], nullptr, 10);
     }
     if (workload == 'D') growth<Map>(name, threads, time, slots);
+    else if (workload == 'F') fill<Map>(name, threads, time, keys, slots <= 4 ? slots : std::bit_ceil(keys * 2));
     else timed<Map>(name, workload, threads, time, calls);
     return 0;
 }

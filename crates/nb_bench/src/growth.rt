@@ -1,13 +1,15 @@
-//! Puts of distinct keys, while the map grows from its smallest table.
+//! Calls of distinct keys by several threads, above all puts while the map grows from its smallest
+//! table.
 ghost use Rattle.nb_map.specs.Maps.{IsMine};
 
 use crate::crew::{Job, Worker, do_job, put_all};
 use crate::draws::nanoseconds_of;
 use crate::faults::{Fault, WorkFault, Wrong};
-use crate::keys::{Spacing, shuffled};
+use crate::keys::{Spacing, number, shuffled};
+use crate::kinds::get_all;
 use crate::options::Options;
 use crate::runs::Measured;
-use nb_map::Map;
+use nb_map::{Map, Seat};
 use std::alloc::Global;
 use std::rt::Clock;
 use std::sync::Wait;
@@ -25,9 +27,21 @@ const MAX_LOOKS: u64 = 1_000_000;
 /// threads.
 const BUSY_LOOKS: u64 = 2000;
 
-/// The job to put at the keys with these places, each worker at a part of them.
+/// What each worker does at its keys, and what is measured of it.
+#[derive(Clone, Copy, Debug, PartialEq, Eq)]
+pub(crate) enum Pass {
+    /// Puts: how long they take together.
+    Puts,
+    /// Gets: how long they take together.
+    Gets,
+    /// Puts: how long the longest of them takes.
+    LongestPut,
+}
+
+/// The job of a pass at the keys with these places, each worker at a part of them.
 #[derive(Drop)]
-struct Growth<'a> {
+pub(crate) struct Growth<'a> {
+    pass: Pass,
     places: &'a [u32],
     spacing: Spacing,
     threads: usize,
@@ -36,6 +50,16 @@ struct Growth<'a> {
 }
 
 impl<'a> Growth<'a> {
+    pub(crate) fn new(pass: Pass, options: &Options, places: &'a [u32]) -> Growth<'a> {
+        Growth {
+            pass,
+            places,
+            spacing: options.spacing,
+            threads: options.threads,
+            arrived: AtomicU64::new(0),
+        }
+    }
+
     /// The part of the worker with this number.
     fn part(&self, number: usize) -> &'a [u32] {
         let size = self.places.len().div_ceil(self.threads.max(1)).max(1);
@@ -74,11 +98,42 @@ impl Job for Growth<'_> {
         let part = self.part(number);
         self.meet();
         let start = Instant::now(rt)?;
-        put_all(rt, map, &mut worker.seat, self.spacing, part)?;
+        let mut longest = None;
+        match self.pass {
+            Pass::Puts => put_all(rt, map, &mut worker.seat, self.spacing, part)?,
+            Pass::Gets => worker.tally.sum = get_all(map, &mut worker.seat, self.spacing, part),
+            Pass::LongestPut => {
+                longest = Some(longest_put(rt, map, &mut worker.seat, self.spacing, part)?);
+            }
+        }
         worker.tally.calls = part.len() as u64;
-        worker.tally.nanoseconds = nanoseconds_of(start.elapsed(rt)?);
+        let spent = nanoseconds_of(start.elapsed(rt)?);
+        worker.tally.nanoseconds = longest.unwrap_or(spent);
         Ok(())
     }
+}
+
+/// Puts numbers at the keys with these places, and answers how long the longest put took.
+fn longest_put<R: Wait + Clock>(
+    rt: &R,
+    map: &Map,
+    seat: &mut Seat,
+    spacing: Spacing,
+    places: &[u32],
+) -> Result<u64, WorkFault>
+    requires own { IsMine map.now seat.old }
+    ensures own { IsMine map.now seat.new }
+{
+    let mut longest = 0;
+    for place in places {
+        let start = Instant::now(rt)?;
+        let before = map.put(rt, seat, spacing.key(*place), number(*place));
+        if before.is_err() {
+            return Err(WorkFault::Full);
+        }
+        longest = nanoseconds_of(start.elapsed(rt)?).max(longest);
+    }
+    Ok(longest)
 }
 
 /// Puts all keys in a new map, and answers how long that took.
@@ -88,12 +143,7 @@ fn put_once<R: Threads + Sync + Wait + Clock>(
     options: &Options,
     places: &[u32],
 ) -> Result<u64, Fault> {
-    let job = Growth {
-        places,
-        spacing: options.spacing,
-        threads: options.threads,
-        arrived: AtomicU64::new(0),
-    };
+    let job = Growth::new(Pass::Puts, options, places);
     let done = do_job(rt, alloc, options.shape()?, options.spacing, &[], &job)?;
     if done.ended.size() != places.len() as u64 {
         return Err(Fault::Wrong(Wrong::Size));

@@ -82,7 +82,7 @@ fn put_other<R: Wait>(
 
 /// Gets each of the keys, and answers the sum of what they have.
 #[inline(never)]
-fn get_all(map: &Map, seat: &mut Seat, spacing: Spacing, places: &[u32]) -> u64
+pub(crate) fn get_all(map: &Map, seat: &mut Seat, spacing: Spacing, places: &[u32]) -> u64
     requires own { IsMine map.now seat.old }
     ensures own { IsMine map.now seat.new }
 {

@@ -7,6 +7,7 @@ pub(crate) mod checks;
 pub(crate) mod crew;
 pub(crate) mod draws;
 pub(crate) mod faults;
+pub(crate) mod fill;
 pub(crate) mod growth;
 pub(crate) mod keys;
 pub(crate) mod kinds;

@@ -17,8 +17,10 @@ pub(crate) struct Options {
     pub(crate) threads: usize,
     /// How long it is measured.
     pub(crate) time: Duration,
-    /// The exponents of the tables' sizes.
+    /// The exponents of the tables' sizes; none, where the number of keys decides.
     pub(crate) exponents: Vec<u32>,
+    /// How many keys are put in `F`.
+    pub(crate) keys: u32,
     /// Over how many words the size is counted.
     pub(crate) stripes: usize,
     /// Past how many slots of its path no new key is put in a table that isn't the last.
@@ -37,7 +39,13 @@ pub(crate) struct Options {
 impl Options {
     /// The shape of the map.
     pub(crate) fn shape(&self) -> Result<Shape, Fault> {
-        Shape::with_plan(self.exponents.as_slice(), self.threads, self.stripes)
+        if self.exponents.is_empty() {
+            return Shape::for_many_keys(self.keys as usize, self.threads)
+                .map_err(|_| Fault::Usage);
+        }
+        Shape::large(self.exponents.as_slice())
+            .and_then(|shape| shape.with_seats(self.threads))
+            .and_then(|shape| shape.with_stripes(self.stripes))
             .and_then(|shape| shape.with_reprobe_limit(self.reprobes))
             .and_then(|shape| shape.with_chunk(self.chunk))
             .map_err(|_| Fault::Usage)
@@ -54,7 +62,8 @@ fn option<'a>(alloc: Global, name: &'a str, value: &'a str, help: &'a str) -> Ar
 }
 
 const WORKLOADS: &str = "A: gets; B: 90% gets; C: 50% gets; D: puts that make the map grow; \
-    E: puts at one key; kinds: one kind of call after another; check: a test under load";
+    E: puts at one key; F: many keys are put, and read; kinds: one kind of call after another; \
+    check: a test under load";
 
 /// The words that each run is given.
 fn with_words<'a>(alloc: Global, command: Command<'a>) -> Result<Command<'a>, AllocError> {
@@ -64,9 +73,9 @@ fn with_words<'a>(alloc: Global, command: Command<'a>) -> Result<Command<'a>, Al
         .help(WORKLOADS);
     let threads = Arg::new(alloc, "THREADS")
         .action(ArgAction::Set)
-        .value_parser(value_parser!(u32).range(1..=8))
+        .value_parser(value_parser!(u32).range(1..=256))
         .default_value("1")
-        .help("How many threads run at once, each with its own seat");
+        .help("How many threads run at once, each with its own seat; 1 to 256");
     let seconds = Arg::new(alloc, "SECONDS")
         .action(ArgAction::Set)
         .default_value("1")
@@ -88,7 +97,7 @@ fn command<'a>(alloc: Global) -> Result<Command<'a>, AllocError> {
         "P",
         "How many words the count of keys is spread over",
     )
-    .value_parser(value_parser!(u32).range(1..=8));
+    .value_parser(value_parser!(u32).range(1..=256));
     let reprobes = option(
         alloc,
         "reprobes",
@@ -134,6 +143,9 @@ fn command<'a>(alloc: Global) -> Result<Command<'a>, AllocError> {
     )
     .value_parser(value_parser!(u32))
     .default_value("10000000");
+    let live = option(alloc, "live", "N", "In F: how many keys there are")
+        .value_parser(value_parser!(u32).range(1..=178_956_970))
+        .default_value("1000000");
     let command = Command::new(alloc, "nb_bench").about(
         "Measures a map of whole numbers and prints 'nb WORKLOAD THREADS OPS NANOSECONDS'",
     );
@@ -145,7 +157,8 @@ fn command<'a>(alloc: Global) -> Result<Command<'a>, AllocError> {
         .arg(keys)?
         .arg(calls)?
         .arg(puts)?
-        .arg(adds)
+        .arg(adds)?
+        .arg(live)
 }
 
 /// What clap's error comes to.
@@ -211,6 +224,7 @@ fn options_of(alloc: Global, matches: &ArgMatches<'_>) -> Result<Options, Fault>
         threads,
         time: read_time(matches.get_str("SECONDS").unwrap_or("1"))?,
         exponents: plan_of(alloc, workload, matches)?,
+        keys: matches.get_one::<u32>("live").unwrap_or(1),
         stripes: matches
             .get_one::<u32>("stripes")
             .map_or(threads, |stripes| stripes as usize),

@@ -2,6 +2,7 @@
 
 use crate::checks::{are_summed, are_told_once, do_adds, do_puts};
 use crate::faults::Fault;
+use crate::fill;
 use crate::keys::KEY_COUNT;
 use crate::kinds;
 use crate::kinds::Kind;
@@ -50,6 +51,20 @@ fn run_kinds<R: Wait + Clock + Print>(
     Ok(())
 }
 
+/// Fills and reads maps of many keys, and prints a line for each time.
+fn run_fill<R: Threads + Sync + Wait + Clock + Print>(
+    rt: &R,
+    alloc: Global,
+    options: &Options,
+) -> Result<(), Fault> {
+    let threads = options.threads;
+    let times = fill::measure(rt, alloc, options)?;
+    for (name, calls, nanoseconds) in times.lines(options.keys) {
+        println!(rt; "nb {name} {threads} {calls} {nanoseconds}").map_err(|_| Fault::Write)?;
+    }
+    Ok(())
+}
+
 /// Runs a workload for its time, and prints its line.
 fn run_timed<R: Threads + Sync + Wait + Clock + Print>(
     rt: &R,
@@ -71,6 +86,7 @@ fn run<R: Threads + Sync + Wait + Clock + Print>(
     match options.workload {
         Workload::Check => run_checks(rt, alloc, options),
         Workload::Kinds => run_kinds(rt, alloc, options),
+        Workload::Fill => run_fill(rt, alloc, options),
         _ => run_timed(rt, alloc, options),
     }
 }

@@ -2,6 +2,7 @@
 
 use crate::checks::{are_summed, are_told_once, do_adds, do_puts};
 use crate::faults::{Fault, WorkFault, Wrong};
+use crate::fill;
 use crate::keys::{KEY_COUNT, Spacing, shuffled};
 use crate::kinds;
 use crate::options::{Options, read_options};
@@ -44,6 +45,18 @@ fn each_workload_runs(rt: HostRuntime) -> Result<(), Fail> {
             let measured = run_short(&rt, rt.alloc(), name, threads)?;
             assert!(rt; measured.calls >= 32_768, "{name}");
             assert!(rt; measured.nanoseconds > 0, "{name}");
+        }
+    }
+    Ok(())
+}
+
+#[test]
+fn many_keys_are_filled_and_read(rt: HostRuntime) -> Result<(), Fail> {
+    for threads in ["1", "3"] {
+        let options = options(rt.alloc(), &["F", threads, "0", "--live", "20000"])?;
+        let times = fill::measure(&rt, rt.alloc(), &options)?;
+        for (name, _, time) in times.lines(20_000) {
+            assert!(rt; time > 0 && time < u64::MAX, "{name}");
         }
     }
     Ok(())
@@ -163,9 +176,9 @@ fn words_give_options(rt: HostRuntime) -> Result<(), Fail> {
 fn refuses_other_words(rt: HostRuntime) {
     let refused: [&[&str]; 12] = [
         &[],
-        &["F"],
+        &["G"],
         &["A", "0"],
-        &["A", "9"],
+        &["A", "257"],
         &["A", "1", "soon"],
         &["A", "1", "-1"],
         &["A", "1", "1", "1"],
@@ -228,8 +241,9 @@ Usage: nb_bench [OPTIONS] <WORKLOAD> [THREADS] [SECONDS]
 
 Arguments:
   <WORKLOAD>  A: gets; B: 90% gets; C: 50% gets; D: puts that make the map grow; \
-E: puts at one key; kinds: one kind of call after another; check: a test under load
-  [THREADS]   How many threads run at once, each with its own seat [default: 1]
+E: puts at one key; F: many keys are put, and read; kinds: one kind of call after another; \
+check: a test under load
+  [THREADS]   How many threads run at once, each with its own seat; 1 to 256 [default: 1]
   [SECONDS]   How many seconds to measure, such as 0.5 [default: 1]
 
 Options:
@@ -241,6 +255,7 @@ Options:
       --calls <N>      How many calls each thread makes at most
       --puts <N>       In check: how many puts each thread makes [default: 150000]
       --adds <N>       In check: how many adds all threads make together [default: 10000000]
+      --live <N>       In F: how many keys there are [default: 1000000]
   -h, --help           Print help
 ";
 

@@ -13,6 +13,8 @@ pub(crate) enum Workload {
     Growth,
     /// `E`: puts at one key.
     OneKey,
+    /// `F`: a map with room for many keys is made, filled and read.
+    Fill,
     /// `kinds`: calls of one kind after another, by one thread.
     Kinds,
     /// `check`: what is told under load is compared with what there is in the end.
@@ -28,6 +30,7 @@ impl Workload {
             "C" => Some(Workload::Changes),
             "D" => Some(Workload::Growth),
             "E" => Some(Workload::OneKey),
+            "F" => Some(Workload::Fill),
             "kinds" => Some(Workload::Kinds),
             "check" => Some(Workload::Check),
             _ => None,
@@ -42,6 +45,7 @@ impl Workload {
             Workload::Changes => "C",
             Workload::Growth => "D",
             Workload::OneKey => "E",
+            Workload::Fill => "F",
             Workload::Kinds => "kinds",
             Workload::Check => "check",
         }
@@ -49,10 +53,11 @@ impl Workload {
 
     /// The exponents of the tables that it runs on, where the options name none: from the smallest
     /// table up where the map is to grow, and else one table of twice as many slots as there are
-    /// keys.
+    /// keys. Where the number of keys is an option, it decides: there are none here.
     pub(crate) fn plan(self) -> &'static [u32] {
         match self {
             Workload::Growth | Workload::Check => &DOUBLED,
+            Workload::Fill => &[],
             _ => &ONE_TABLE,
         }
     }

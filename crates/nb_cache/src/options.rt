@@ -2,7 +2,7 @@
 
 use clap::{Arg, ArgAction, ArgMatches, Command, value_parser};
 use nb_core::Shape;
-use nb_lines::{Fault, fault_of_words, option};
+use nb_lines::{Fault, fault_of_words, keys_option, option};
 use std::alloc::{AllocError, Global};
 
 /// How a trace is to be replayed.
@@ -12,25 +12,24 @@ pub(crate) struct Options {
     pub(crate) workers: usize,
     /// Whether it is printed what each get found.
     pub(crate) tells_replies: bool,
+    /// For how many different keys there has to be room.
+    keys: usize,
 }
 
 impl Options {
     /// A map that begins small, and grows where a key isn't within a few slots of its home, up to
-    /// the most keys that any map has room for.
+    /// a table with room for so many keys and more.
     pub(crate) fn shape(&self) -> Result<Shape, Fault> {
-        Shape::with_plan(&[10, 13, 16, 19], self.workers, self.workers)
-            .and_then(|shape| shape.with_reprobe_limit(16))
-            .map_err(|_| Fault::Usage)
+        Shape::for_many_keys(self.keys, self.workers).map_err(|_| Fault::Usage)
     }
 }
 
 /// What `--help` tells behind the options.
 const MORE: &str = "\
 Each line of the trace is 'get KEY' or 'put KEY TEXT', with one space between the
-words. TEXT is the rest of the line. Keys go from 0 to 18446744073709551613, and
-there can be at most 524288 different keys. One worker replays all lines of a key,
-in their order. Each text that was put stays in memory to the end. 'stale' is the
-number of texts that no get finds any more.
+words. TEXT is the rest of the line. Keys go from 0 to 18446744073709551613. One
+worker replays all lines of a key, in their order. Each text that was put stays
+in memory to the end. 'stale' is the number of texts that no get finds any more.
 
 Exit status: 0 done; 1 a read or a write failed; 2 a line is not of this form;
 3 bad usage; 4 out of memory; 5 more different keys than there is room for;
@@ -60,11 +59,13 @@ fn command<'a>(alloc: Global) -> Result<Command<'a>, AllocError> {
         .long("replies")
         .action(ArgAction::SetTrue)
         .help("Also print what each get found, worker by worker");
+    let keys = keys_option(alloc, "Make room for at least N different keys; 1 to 178956970");
     Command::new(alloc, "nb_cache")
         .about("Replays a trace of gets and puts on a cache of texts")
         .after_help(MORE)
         .arg(workers)?
-        .arg(replies)
+        .arg(replies)?
+        .arg(keys)
 }
 
 /// The options of clap's matches.
@@ -72,6 +73,7 @@ fn options_of(matches: &ArgMatches<'_>) -> Option<Options> {
     Some(Options {
         workers: matches.get_one::<u32>("workers")? as usize,
         tells_replies: matches.get_flag("replies"),
+        keys: matches.get_one::<u32>("keys")? as usize,
     })
 }
 

@@ -74,13 +74,13 @@ Usage: nb_cache [OPTIONS]
 Options:
       --workers <N>  How many threads replay the trace; 1 to 8 [default: 4]
       --replies      Also print what each get found, worker by worker
+      --keys <N>     Make room for at least N different keys; 1 to 178956970 [default: 349525]
   -h, --help         Print help
 
 Each line of the trace is 'get KEY' or 'put KEY TEXT', with one space between the
-words. TEXT is the rest of the line. Keys go from 0 to 18446744073709551613, and
-there can be at most 524288 different keys. One worker replays all lines of a key,
-in their order. Each text that was put stays in memory to the end. 'stale' is the
-number of texts that no get finds any more.
+words. TEXT is the rest of the line. Keys go from 0 to 18446744073709551613. One
+worker replays all lines of a key, in their order. Each text that was put stays
+in memory to the end. 'stale' is the number of texts that no get finds any more.
 
 Exit status: 0 done; 1 a read or a write failed; 2 a line is not of this form;
 3 bad usage; 4 out of memory; 5 more different keys than there is room for;
@@ -99,10 +99,12 @@ stale 0
 
 #[test]
 fn words_give_options(rt: HostRuntime) {
-    let refused: [&[&str]; 4] = [
+    let refused: [&[&str]; 6] = [
         &["x"],
         &["--workers", "0"],
         &["--workers", "9"],
+        &["--keys", "0"],
+        &["--keys", "178956971"],
         &["--replies", "1"],
     ];
     for words in refused {

@@ -90,12 +90,13 @@ Usage: nb_dedup [OPTIONS]
 Options:
       --workers <N>  How many threads take numbers; 1 to 8 [default: 4]
       --who          Also print which worker took each number; workers are numbered from 1
+      --keys <N>     Make room for at least N different numbers; 1 to 178956970 [default: 349525]
   -h, --help         Print help
 
-Each line is one number from 0 to 18446744073709551613, in digits only. There can
-be at most 524288 different numbers. They are printed in ascending order, so the
-output is the same in every run. Only the workers that --who prints can differ
-from run to run. With one worker, they are the same too.
+Each line is one number from 0 to 18446744073709551613, in digits only. They are
+printed in ascending order, so the output is the same in every run. Only the
+workers that --who prints can differ from run to run. With one worker, they are
+the same too.
 
 Exit status: 0 done; 1 a read or a write failed; 2 a line is not such a number;
 3 bad usage; 4 out of memory; 5 more different numbers than there is room for.
@@ -107,10 +108,12 @@ Example: printf '7\\n3\\n7\\n' | nb_dedup
 
 #[test]
 fn words_give_options(rt: HostRuntime) {
-    let refused: [&[&str]; 4] = [
+    let refused: [&[&str]; 6] = [
         &["x"],
         &["--workers", "0"],
         &["--workers", "9"],
+        &["--keys", "0"],
+        &["--keys", "178956971"],
         &["--who", "1"],
     ];
     for words in refused {

@@ -2,7 +2,7 @@
 
 use crate::faults::Fault;
 use clap::error::ErrorKind;
-use clap::{Arg, ArgAction};
+use clap::{Arg, ArgAction, value_parser};
 use std::alloc::Global;
 use std::env;
 use std::rt::Env;
@@ -24,6 +24,14 @@ pub fn option<'a>(alloc: Global, name: &'a str, value: &'a str, help: &'a str) -
         .action(ArgAction::Set)
         .value_name(value)
         .help(help)
+}
+
+/// `--keys N`: for how many different keys a map that grows has room at least, as many as
+/// `Shape::for_many_keys` takes. Unless it is given, the last table has 2^19 slots.
+pub fn keys_option<'a>(alloc: Global, help: &'a str) -> Arg<'a> {
+    option(alloc, "keys", "N", help)
+        .value_parser(value_parser!(u32).range(1..=178_956_970))
+        .default_value("349525")
 }
 
 /// What clap's error comes to.

@@ -9,7 +9,7 @@ mod keys;
 mod lines;
 
 pub use blocks::{BLOCK, Block, Input, Place};
-pub use command_line::{end_of, fault_of_words, option, words};
+pub use command_line::{end_of, fault_of_words, keys_option, option, words};
 pub use faults::{Cause, Fault, Stop};
 pub use keys::{key_of, number_of, read_key};
 pub use lines::Lines;

@@ -1,12 +1,12 @@
 //! The words of the command line.
 
 use clap::{ArgMatches, Command, value_parser};
-use nb_core::Shape;
+use nb_core::{MAX_EXPONENT, Shape};
 use nb_lines::{Fault, fault_of_words, option};
 use std::alloc::{AllocError, Global};
 
-/// The most different numbers that any map has room for.
-const KEYS_MAX: u32 = 1 << 19;
+/// The most slots of a table, and so the most different numbers that any map has room for.
+const SLOTS_MAX: u32 = 1 << MAX_EXPONENT;
 
 /// What is to be counted, and how.
 #[derive(Clone, Copy, Debug, PartialEq, Eq)]
@@ -23,9 +23,12 @@ impl Options {
     /// One table, since it is known from the start how large it has to be: with twice as many
     /// slots as keys, where the map may have that many. So most keys stand at home.
     pub(crate) fn shape(&self) -> Result<Shape, Fault> {
-        let slots = self.keys.saturating_mul(2).clamp(4, KEYS_MAX);
+        let slots = self.keys.saturating_mul(2).clamp(4, SLOTS_MAX);
         let exponent = slots.next_power_of_two().trailing_zeros();
-        Shape::with_plan(&[exponent], self.workers, self.workers).map_err(|_| Fault::Usage)
+        Shape::large(&[exponent])
+            .and_then(|shape| shape.with_seats(self.workers))
+            .and_then(|shape| shape.with_stripes(self.workers))
+            .map_err(|_| Fault::Usage)
     }
 }
 
@@ -55,9 +58,9 @@ fn command<'a>(alloc: Global) -> Result<Command<'a>, AllocError> {
         alloc,
         "keys",
         "N",
-        "Make room for at least N different numbers; 1 to 524288",
+        "Make room for at least N different numbers; 1 to 268435456",
     )
-    .value_parser(value_parser!(u32).range(1..=524_288))
+    .value_parser(value_parser!(u32).range(1..=268_435_456))
     .default_value("524288");
     Command::new(alloc, "nb_tally")
         .about("Counts how often each number occurs in standard input, like sort -n | uniq -c")

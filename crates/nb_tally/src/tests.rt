@@ -86,7 +86,7 @@ Usage: nb_tally [OPTIONS]
 Options:
       --workers <N>  How many threads count; 1 to 8 [default: 4]
       --top <K>      Print only the K most frequent numbers, the most frequent first
-      --keys <N>     Make room for at least N different numbers; 1 to 524288 [default: 524288]
+      --keys <N>     Make room for at least N different numbers; 1 to 268435456 [default: 524288]
   -h, --help         Print help
 
 Each line is one number from 0 to 18446744073709551613, in digits only.
@@ -105,7 +105,7 @@ fn words_give_options(rt: HostRuntime) {
         &["--workers", "0"],
         &["--workers", "9"],
         &["--keys", "0"],
-        &["--keys", "524289"],
+        &["--keys", "268435457"],
         &["--top", "-1"],
     ];
     for words in refused {

@@ -1,5 +1,5 @@
 // dashmap with the fx hash, under the workloads of nb_bench: the same keys, the same random numbers, the same line of output.
-//   dash WORKLOAD THREADS SECONDS
+//   dash WORKLOAD THREADS SECONDS [live=N]
 use dashmap::DashMap;
 use fxhash::FxBuildHasher;
 use std::sync::atomic::{AtomicUsize, Ordering};
@@ -116,9 +116,49 @@ fn timed(workload: &str, threads: u64, time: Duration) {
     println!("dash {workload} {threads} {calls} {longest}");
 }
 
+#[derive(Clone, Copy)]
+enum Pass {
+    Puts,
+    Gets,
+    LongestPut,
+}
+
+/// What a thread measures of its part: how long its calls take, or the longest of its puts.
+fn pass_on(map: &Map, pass: Pass, part: &[u64]) -> u128 {
+    let start = Instant::now();
+    match pass {
+        Pass::Puts => {
+            for &place in part {
+                map.insert(place, place);
+            }
+        }
+        Pass::Gets => {
+            let mut sum = 0u64;
+            for place in part {
+                sum = sum.wrapping_add(map.get(place).map_or(0, |found| *found));
+            }
+            hint::black_box(sum);
+        }
+        Pass::LongestPut => {
+            let mut longest = 0;
+            for &place in part {
+                let before = Instant::now();
+                map.insert(place, place);
+                longest = before.elapsed().as_nanos().max(longest);
+            }
+            return longest;
+        }
+    }
+    start.elapsed().as_nanos()
+}
+
 /// How long the slowest of the threads takes for its part of the puts, in a new map.
 fn put_once(threads: usize, places: &[u64]) -> u128 {
-    let map = Map::default();
+    all_pass(&Map::default(), Pass::Puts, threads, places)
+}
+
+/// What the slowest of the threads measures, where all begin at the same time.
+fn all_pass(map: &Map, pass: Pass, threads: usize, places: &[u64]) -> u128 {
     let arrived = AtomicUsize::new(0);
     let size = places.len().div_ceil(threads);
     let work = |part: &[u64]| {
@@ -126,17 +166,35 @@ fn put_once(threads: usize, places: &[u64]) -> u128 {
         while arrived.load(Ordering::SeqCst) < threads {
             thread::yield_now();
         }
-        let start = Instant::now();
-        for &place in part {
-            map.insert(place, place);
-        }
-        start.elapsed().as_nanos()
+        pass_on(map, pass, part)
     };
     let work = &work;
     thread::scope(|scope| {
         let all: Vec<_> = places.chunks(size).map(|part| scope.spawn(move || work(part))).collect();
         all.into_iter().map(|one| one.join().unwrap()).max().unwrap()
     })
+}
+
+/// The shortest times of maps of so many keys.
+fn fill(threads: usize, time: Duration, keys: u64) {
+    let places = shuffled(keys);
+    let mut least = [u128::MAX; 4];
+    let begin = Instant::now();
+    while least[0] == u128::MAX || begin.elapsed() < time {
+        let before = Instant::now();
+        let map = Map::default();
+        let made = before.elapsed().as_nanos();
+        let filled = all_pass(&map, Pass::Puts, threads, &places);
+        let read = all_pass(&map, Pass::Gets, threads, &places);
+        drop(map);
+        let longest = all_pass(&Map::default(), Pass::LongestPut, threads, &places);
+        for (one, now) in least.iter_mut().zip([made, filled, read, longest]) {
+            *one = now.min(*one);
+        }
+    }
+    for ((name, calls), time) in [("make", 1), ("fill", keys), ("read", keys), ("longest", 1)].into_iter().zip(least) {
+        println!("dash {name} {threads} {calls} {time}");
+    }
 }
 
 fn growth(threads: usize, time: Duration) {
@@ -156,6 +214,10 @@ fn main() {
     let time = Duration::from_secs_f64(words[3].parse().unwrap());
     match words[1].as_str() {
         "D" => growth(threads as usize, time),
+        "F" => {
+            let live = words.iter().find_map(|word| word.strip_prefix("live="));
+            fill(threads as usize, time, live.map_or(1_000_000, |keys| keys.parse().unwrap()));
+        }
         workload => timed(workload, threads, time),
     }
 }

@@ -1,0 +1,120 @@
+//! Many keys: maps with room for so many are made, filled and read.
+
+use crate::crew::do_job;
+use crate::draws::nanoseconds_of;
+use crate::faults::{Fault, WorkFault, Wrong};
+use crate::growth::{Growth, Pass};
+use crate::keys::shuffled;
+use crate::options::Options;
+use nb_map::Map;
+use std::alloc::Global;
+use std::rt::Clock;
+use std::sync::Wait;
+use std::thread::Threads;
+use std::time::Instant;
+
+/// What is measured, in nanoseconds.
+#[derive(Clone, Copy, Debug, PartialEq, Eq)]
+pub(crate) struct Times {
+    /// How long it takes to make the map.
+    pub(crate) make: u64,
+    /// How long the puts of all keys take.
+    pub(crate) fill: u64,
+    /// How long the gets of all keys take.
+    pub(crate) read: u64,
+    /// How long the longest put takes.
+    pub(crate) longest: u64,
+}
+
+impl Times {
+    /// No time was measured.
+    const NONE: Times = Times {
+        make: u64::MAX,
+        fill: u64::MAX,
+        read: u64::MAX,
+        longest: u64::MAX,
+    };
+
+    /// The shorter of each two times.
+    fn min(self, other: Times) -> Times {
+        Times {
+            make: self.make.min(other.make),
+            fill: self.fill.min(other.fill),
+            read: self.read.min(other.read),
+            longest: self.longest.min(other.longest),
+        }
+    }
+
+    /// The times by name, each with the calls that it is of.
+    pub(crate) fn lines(self, keys: u32) -> [(&'static str, u32, u64); 4] {
+        [
+            ("make", 1, self.make),
+            ("fill", keys, self.fill),
+            ("read", keys, self.read),
+            ("longest", 1, self.longest),
+        ]
+    }
+}
+
+/// How long it takes to make a map.
+fn time_make<R: Clock>(rt: &R, alloc: Global, options: &Options) -> Result<u64, Fault> {
+    let start = Instant::now(rt).map_err(WorkFault::from)?;
+    let (_map, _seats) = Map::new(alloc, options.shape()?)?;
+    Ok(nanoseconds_of(start.elapsed(rt).map_err(WorkFault::from)?))
+}
+
+/// Makes a pass on a new map that has numbers at the keys with these places from the start, and
+/// answers its time.
+fn time_pass<R: Threads + Sync + Wait + Clock>(
+    rt: &R,
+    alloc: Global,
+    options: &Options,
+    pass: Pass,
+    places: &[u32],
+) -> Result<u64, Fault> {
+    let job = Growth::new(pass, options, places);
+    let before = match pass {
+        Pass::Gets => places,
+        Pass::Puts | Pass::LongestPut => &[],
+    };
+    let done = do_job(rt, alloc, options.shape()?, options.spacing, before, &job)?;
+    if done.ended.size() != places.len() as u64 {
+        return Err(Fault::Wrong(Wrong::Size));
+    }
+    Ok(done.tally.nanoseconds)
+}
+
+/// Measures each once.
+fn time_once<R: Threads + Sync + Wait + Clock>(
+    rt: &R,
+    alloc: Global,
+    options: &Options,
+    places: &[u32],
+) -> Result<Times, Fault> {
+    Ok(Times {
+        make: time_make(rt, alloc, options)?,
+        fill: time_pass(rt, alloc, options, Pass::Puts, places)?,
+        read: time_pass(rt, alloc, options, Pass::Gets, places)?,
+        longest: time_pass(rt, alloc, options, Pass::LongestPut, places)?,
+    })
+}
+
+/// Measures each on maps made anew, again and again until the time is up, and answers the shortest
+/// of its times.
+pub(crate) fn measure<R: Threads + Sync + Wait + Clock>(
+    rt: &R,
+    alloc: Global,
+    options: &Options,
+) -> Result<Times, Fault> {
+    let places = shuffled(alloc, options.keys)?;
+    let start = Instant::now(rt).map_err(WorkFault::from)?;
+    let mut times = Times::NONE;
+    for _round in 0..u64::MAX {
+        times = times.min(time_once(rt, alloc, options, places.as_slice())?);
+        let spent = start.elapsed(rt).map_err(WorkFault::from)?;
+        if spent >= options.time {
+            break;
+        }
+    }
+    Ok(times)
+}
