@@ -27,6 +27,7 @@ shape_code shape.Plan = E_FALLING
 shape_code shape.Reprobes = E_REPROBES
 shape_code shape.Chunk = E_CHUNK
 shape_code shape.Keys = E_TABLES
+shape_code shape.Slots = E_EXPONENTS
 
 -- the code of a write's refusal
 abbrev pub fault_code : PutFault → ℤ

@@ -103,6 +103,8 @@ pub(crate) fn shape_code(fault: ShapeFault) -> i32
         ShapeFault::Chunk => E_CHUNK,
         // no call of C asks by a number of keys
         ShapeFault::Keys => E_TABLES,
+        // nor by tables that are so large: no code of its own yet
+        ShapeFault::Slots => E_EXPONENTS,
     }
 }
 
