@@ -112,7 +112,7 @@ climb-bound p plan g table =
     let tables = generations_of p in
     fits (climb_steps p) (steps_below p tables) (slots_below p tables) (completed_below p tables)
     tables (size_of p (tables - 1)) (size_of p (suc g)) (rungs-few p plan tables (le_refl tables))
-    (completed-few p plan tables (le_refl tables)) (next-size p plan g table) plan.some_tables
+    (completed-few p plan tables (le_refl tables)) (next-size p plan g table) plan.tables.0
   where
     fits : (climbed under t done tables n above : ℕ)
         → climbed + under ≤ 3 * t + 2 * done + tables * (2 * n + 15)

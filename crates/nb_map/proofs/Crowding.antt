@@ -158,7 +158,7 @@ crowd-count p plan h legal k cs put crowded =
     g = generations_of p - 1
 
     within : g < generations_of p
-    within = omega (arith, plan.some_tables)
+    within = omega (arith, plan.tables.0)
 
     f : ℕ → ℕ
     f i = key_in ((tables_at p h).key g i)
@@ -397,7 +397,7 @@ crowded_by_calls p plan cs history legal asked h begun k crowded =
     g = generations_of p - 1
 
     within : g < generations_of p
-    within = omega (arith, plan.some_tables)
+    within = omega (arith, plan.tables.0)
 
     all : All (IsClaimOf p (tables_at p history) cs) history
     all = each-own (IsClaimOf p (tables_at p history) cs) p.seats history

@@ -1,11 +1,11 @@
 -- What the rounds of a write add up to that tries again where it was contended.
-use Rattle.std.proofs.Common.{ℕ, zero, suc, ◌+◌, ◌-◌, ◌*◌, ◌^◌, ◌≤◌, List, [], arith}
+use Rattle.std.proofs.Common.{◌≡◌, ℕ, zero, suc, ◌+◌, ◌-◌, ◌*◌, ◌^◌, ◌≤◌, List, [], add-one, ap, arith, refl, take}
 use Rattle.std.proofs.Math.Nat.{mul-le-mul_right}
-use Rattle.std.proofs.Math.Pow.{pow_mono}
-use Rattle.std.proofs.lemmas.List.Elements.{All-get_or}
-use Rattle.nb_core.specs.Plans.{IsPlan, Plan, generations_of, size_of}
+use Rattle.std.proofs.lemmas.List.Sums.{sum_by_more, sum_by-take-le}
+use Rattle.nb_core.specs.Plans.{IsPlan, Plan, generations_of, size_of, slots_in}
 use Rattle.nb_core.specs.declared.calls.Call.{Call}
 use Rattle.nb_core.specs.declared.calls.Reply.{Reply}
+use Rattle.nb_core.specs.declared.shapes.TheConstants.{MAX_SLOTS}
 use Rattle.nb_table.specs.Chains.{ChainOf, IsOwn, SeenBy}
 use Rattle.nb_map.proofs.Bounds.{climb-bound}
 use Rattle.nb_map.proofs.Made.{made-within}
@@ -16,18 +16,26 @@ use Rattle.nb_map.specs.Progress.{passed_since}
 use Rattle.nb_map.specs.Steps.{climb_steps, get_steps, put_steps, slots_below}
 use Rattle.nb_map.specs.inside.Climbing.{IsSpent}
 
+-- the slots below a table are those of the tables before it
+slots-before :
+    (p : Plan) (g : ℕ) → g ≤ generations_of p → slots_below p g ≡ slots_in (take g p.exponents)
+slots-before p zero below = refl
+slots-before p (suc g) below =
+    omega (
+      arith,
+      ap (λ n. slots_in (take n p.exponents)) (add-one g),
+      sum_by_more (λ e. 2 ^ e) p.exponents g 0 below,
+      slots-before p g (omega (arith, below)),
+    )
+
 -- a chain has few slots
-slots-few : (p : Plan) → IsPlan p → (g : ℕ) → g ≤ generations_of p → slots_below p g ≤ g * 2 ^ 19
-slots-few p plan zero below = omega arith
-slots-few p plan (suc g) below =
-    let rest = slots-few p plan g (omega (arith, below)) in
-    let here : size_of p g ≤ 2 ^ 19 = pow_mono
-    (All-get_or (λ e. (2 ≤ e) × (e ≤ 19)) p.exponents g 0 below plan.sizes).1 in
-    omega (arith, rest, here)
+slots-few : (p : Plan) → IsPlan p → (g : ℕ) → g ≤ generations_of p → slots_below p g ≤ MAX_SLOTS
+slots-few p plan g below =
+    omega (arith, slots-before p g below, sum_by-take-le (λ e. 2 ^ e) p.exponents g, plan.slots)
 
 -- and so a call comes to its end in few steps, besides the exchanges that it loses
 climbed-few : (p : Plan) → IsPlan p → climb_steps p ≤ get_steps p
-climbed-few p plan = omega (arith, climb-bound p plan 0 plan.some_tables)
+climbed-few p plan = omega (arith, climb-bound p plan 0 plan.tables.0)
 
 -- the most steps of rounds in which others won so many exchanges, all contended
 abbrev pub round_steps : Plan → ℕ → ℕ
@@ -43,7 +51,7 @@ round-bound p plan passed passed' all lost contended both fewer =
     let few = slots-few p plan (generations_of p) (omega arith) in
     let t = slots_below p (generations_of p) in
     let less : 2 * (t + generations_of p) ≤ passed' =
-    omega (arith, few, contended, plan.few_tables) in
+    omega (arith, few, contended, plan.tables.1) in
     fits t (generations_of p) n passed passed' all (climb_steps p) lost (climbed-few p plan)
     (mul-le-mul_right (n + 8) less) (mul-le-mul_right (n + 8) both) fewer
   where

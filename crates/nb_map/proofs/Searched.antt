@@ -282,7 +282,7 @@ module _ (chain : ChainOf) (g : ℕ) (table : g < generations_of chain.shape) wh
 pub two-slots : (p : Plan) → IsPlan p → (g : ℕ) → g < generations_of p → 1 < size_of p g
 two-slots p plan g table =
     let most : 2 ^ 2 ≤ size_of p g = pow_mono
-    (All-get_or (λ e. (2 ≤ e) × (e ≤ 19)) p.exponents g 0 table plan.sizes).0 in
+    (All-get_or (λ e. (2 ≤ e) × (e ≤ 28)) p.exponents g 0 table plan.sizes).0 in
     omega (arith, most)
 
 -- the slot lies on the key's path, behind slots of other keys

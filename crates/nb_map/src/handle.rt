@@ -11,7 +11,7 @@ mod waiting;
 mod walks;
 
 use crate::map::{Map, Seat};
-use nb_core::{Key, MAX_SEATS, Num, OutOfMemory, Shape};
+use nb_core::{Key, Num, OutOfMemory, Shape};
 use std::alloc::Global;
 use std::marker::Model;
 use std::sync::Arc;
@@ -57,7 +57,7 @@ impl Handle {
             handles.push_reserved(Handle {
                 map: Arc::try_clone(&map)?,
                 seat,
-                room: Vec::with_capacity(alloc, MAX_SEATS)?,
+                room: Vec::with_capacity(alloc, shape.seats())?,
             });
         }
         Ok(handles)

@@ -9,24 +9,21 @@ ghost use Rattle.nb_map.specs.Maps.{AreMine, IsMine, accounted, new_seats};
 ghost use Rattle.nb_map.specs.Promises.{HasEstimated, HasGot, HasMet, HasSeenTop, HasTriedToWrite, replied_or_refused};
 
 mod ended;
-mod room;
 mod trying;
 mod updating;
 mod waiting;
 mod walks;
 
 use crate::faults::PutFault;
-use crate::map::room::Room;
 use crate::steps::get::get_in;
 use crate::steps::pause::NoPause;
 use crate::steps::write::put_if_match_in;
 pub use ended::Ended;
-use nb_core::{Change, Key, Num, OutOfMemory, Reply, Shape, Want};
+use nb_core::{Change, Key, Num, OutOfMemory, Reply, SeatRoom, Shape, Want};
 use nb_count::{CountSeat, Counter};
 use nb_table::{Chain, ChainSeat};
 use std::alloc::Global;
 use std::marker::Model;
-use std::sync::Mutex;
 pub use walks::Walk;
 
 /// A map from whole numbers to whole numbers, which many threads share. Contracts see its chain of
@@ -35,9 +32,9 @@ pub use walks::Walk;
 pub struct Map {
     pub(crate) chain: Chain,
     counter: Counter,
-    /// Room in which `finish` gathers the seats, so that it takes no memory. A vector for seats
-    /// can't be shared by threads, and a lock that holds one can. No call takes this lock.
-    room: Mutex<Room>,
+    /// Room in which `finish` gathers the seats, so that it takes no memory.
+    chain_room: SeatRoom<ChainSeat>,
+    count_room: SeatRoom<CountSeat>,
 }
 
 impl Model for Map {
@@ -92,11 +89,13 @@ impl Map {
             }
         }
         seats.reverse();
-        let room = Mutex::new(Room::new(alloc)?);
+        let chain_room = SeatRoom::new(alloc, shape.seats())?;
+        let count_room = SeatRoom::new(alloc, shape.seats())?;
         let map = Map {
             chain,
             counter,
-            room,
+            chain_room,
+            count_room,
         };
         Ok((map, seats))
     }

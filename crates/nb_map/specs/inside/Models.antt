@@ -4,7 +4,6 @@ use Rattle.std.specs.Arc.{arc_value}
 use Rattle.std.specs.FinMap as numbers
 use Rattle.std.specs.Prelude.{◌≡◌, ◌≤◌, [], vec_capacity, length, List, map}
 use Rattle.nb_core.specs.Plans.{IsPlan}
-use Rattle.nb_core.specs.declared.shapes.TheConstants.{MAX_SEATS}
 use Rattle.nb_count.specs.Counts.{CountSeatOf}
 use Rattle.nb_table.specs.Chains.{SeenBy}
 use Rattle.nb_table.specs.Left.{IsLeft}
@@ -23,10 +22,12 @@ use Rattle.nb_map.specs.declared.map.walks.Walk.TheInside as walk
 abbrev pub map_within : map.Inside → MapOf
 map_within c = record { chain = c.chain; counter = c.counter }
 
--- the shape is a plan, and the counter has as many seats as the chain
+-- the shape is a plan, the counter has as many seats as the chain, and there is room for them
 pub record IsMap (c : map.Inside) : Type 0 where
   pub plan : IsPlan c.chain.shape
   pub seats : c.counter.seats ≡ c.chain.shape.seats
+  pub chain_room : c.chain.shape.seats ≤ c.chain_room
+  pub count_room : c.chain.shape.seats ≤ c.count_room
 
 -- the seat, as contracts see it
 abbrev pub seat_of : seat.Inside → SeatOf
@@ -44,7 +45,7 @@ handle_of c = record { map = arc_value c.map; seat = c.seat }
 pub record IsHandle (c : handle.Inside) : Type 0 where
   pub own : IsMine (arc_value c.map) c.seat
   pub empty : c.room.items ≡ []
-  pub room : MAX_SEATS ≤ vec_capacity c.room
+  pub room : (arc_value c.map).chain.shape.seats ≤ vec_capacity c.room
 
 -- the walk by a handle, as contracts see it
 abbrev pub handle_walk_of : handle_walk.Inside → HandleWalkOf
@@ -55,7 +56,7 @@ pub record IsHandleWalk (c : handle_walk.Inside) : Type 0 where
   pub own : IsMine (arc_value c.map) c.seat
   pub walk : IsWalkOf (arc_value c.map) c.seat c.walk
   pub empty : c.room.items ≡ []
-  pub room : MAX_SEATS ≤ vec_capacity c.room
+  pub room : (arc_value c.map).chain.shape.seats ≤ vec_capacity c.room
 
 -- the ended map, as contracts see it
 abbrev pub ended_of : ended.Inside → EndedOf

@@ -7,7 +7,6 @@ ghost use Rattle.nb_map.specs.Ending.{EndedWith, HasTablesLeft, log_left, map_le
 ghost use Rattle.nb_map.specs.Maps.{AreMine};
 ghost use Rattle.nb_map.specs.inside.Models.{IsParted};
 
-use crate::map::room::Room;
 use crate::map::{Map, Seat};
 use nb_core::{Key, NotAll, Num, OutOfMemory};
 use nb_count::CountSeat;
@@ -100,13 +99,14 @@ impl Map {
         let Map {
             chain,
             counter,
-            room,
+            chain_room,
+            count_room,
         } = self;
-        let Room {
-            chain_seats,
-            count_seats,
-        } = room.into_inner();
-        let (chain_seats, count_seats) = parted(seats, chain_seats, count_seats);
+        let (chain_seats, count_seats) = parted(
+            seats,
+            chain_room.into_vec(),
+            count_room.into_vec(),
+        );
         match (chain.close(chain_seats), counter.close(count_seats)) {
             (Ok(closed), Ok(size)) => Ok(Ended { closed, size }),
             _ => unreachable!(),

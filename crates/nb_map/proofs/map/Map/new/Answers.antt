@@ -53,11 +53,14 @@ loop-chain-preserved c =
     absurd (omega (arith, many, c.in-Some.ensures.len, c.in_default-pop.ensures))
 
 pub invariant_of-map : goal.invariant_of-map
-invariant_of-map c = record {
-  plan = subst IsPlan (sym c.in_ok-chain.ensures.chain) c.seats.ensures.plan;
-  seats = c.in_ok-counter.ensures.counter.1 ∙ c.seats-2.ensures.number
-      ∙ ap (λ q. q.seats) (sym c.in_ok-chain.ensures.chain);
-}
+invariant_of-map c =
+    let shape = ap (λ q. q.seats) c.in_ok-chain.ensures.chain in
+    record {
+      plan = subst IsPlan (sym c.in_ok-chain.ensures.chain) c.seats.ensures.plan;
+      seats = c.in_ok-counter.ensures.counter.1 ∙ c.seats-2.ensures.number ∙ sym shape;
+      chain_room = omega (arith, shape, c.seats-3.ensures.number, c.in_ok-chain_room.ensures);
+      count_room = omega (arith, shape, c.seats-4.ensures.number, c.in_ok-count_room.ensures);
+    }
 
 pub returns-clause-seats : goal.returns-clause-seats
 returns-clause-seats c =
