@@ -40,8 +40,7 @@ impl Options {
     /// The shape of the map.
     pub(crate) fn shape(&self) -> Result<Shape, Fault> {
         if self.exponents.is_empty() {
-            return Shape::for_many_keys(self.keys as usize, self.threads)
-                .map_err(|_| Fault::Usage);
+            return Shape::for_many_keys(self.keys as usize, self.threads).map_err(|_| Fault::Usage);
         }
         Shape::large(self.exponents.as_slice())
             .and_then(|shape| shape.with_seats(self.threads))

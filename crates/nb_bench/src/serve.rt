@@ -2,13 +2,12 @@
 
 use crate::checks::{are_summed, are_told_once, do_adds, do_puts};
 use crate::faults::Fault;
-use crate::fill;
 use crate::keys::KEY_COUNT;
-use crate::kinds;
 use crate::kinds::Kind;
 use crate::options::{Options, read_options};
 use crate::runs::{Measured, measure};
 use crate::workloads::Workload;
+use crate::{fill, kinds};
 use std::alloc::Global;
 use std::env;
 use std::rt::{Clock, Env};

@@ -2,12 +2,11 @@
 
 use crate::checks::{are_summed, are_told_once, do_adds, do_puts};
 use crate::faults::{Fault, WorkFault, Wrong};
-use crate::fill;
 use crate::keys::{KEY_COUNT, Spacing, shuffled};
-use crate::kinds;
 use crate::options::{Options, read_options};
 use crate::runs::{Measured, measure};
 use crate::workloads::Workload;
+use crate::{fill, kinds};
 use std::alloc::Global;
 use std::fmt::Display;
 use std::process::Abort;

@@ -59,7 +59,10 @@ fn command<'a>(alloc: Global) -> Result<Command<'a>, AllocError> {
         .long("replies")
         .action(ArgAction::SetTrue)
         .help("Also print what each get found, worker by worker");
-    let keys = keys_option(alloc, "Make room for at least N different keys; 1 to 178956970");
+    let keys = keys_option(
+        alloc,
+        "Make room for at least N different keys; 1 to 178956970",
+    );
     Command::new(alloc, "nb_cache")
         .about("Replays a trace of gets and puts on a cache of texts")
         .after_help(MORE)

@@ -52,7 +52,10 @@ fn command<'a>(alloc: Global) -> Result<Command<'a>, AllocError> {
         .long("who")
         .action(ArgAction::SetTrue)
         .help("Also print which worker took each number; workers are numbered from 1");
-    let keys = keys_option(alloc, "Make room for at least N different numbers; 1 to 178956970");
+    let keys = keys_option(
+        alloc,
+        "Make room for at least N different numbers; 1 to 178956970",
+    );
     Command::new(alloc, "nb_dedup")
         .about("Prints each number of standard input once, like sort -nu")
         .after_help(MORE)
