@@ -1,4 +1,5 @@
 use super::{DigitsFault, read_number};
+use std::test::Fail;
 
 #[test]
 fn numbers_of_64_bits(rt: HostRuntime) {
@@ -31,4 +32,15 @@ fn texts_that_are_no_numbers(rt: HostRuntime) {
     }
     let long = read_number(b"99999999999999999999999x");
     assert_eq!(rt; long, Err(DigitsFault::NotANumber));
+}
+
+#[test]
+fn fault_texts(rt: HostRuntime) -> Result<(), Fail> {
+    for (fault, text) in [
+        (DigitsFault::NotANumber, "not a number"),
+        (DigitsFault::TooLarge, "number too large"),
+    ] {
+        assert_eq!(rt; fault.to_string(rt.alloc())?.as_str(), text);
+    }
+    Ok(())
 }
