@@ -106,6 +106,8 @@ pub record HasGot (map : MapOf) (key : ℕ) (before after : SeatOf) (found : Opt
 pub record HasSeenTop (map : MapOf) (before after : SeatOf) (top : ℕ) : Type 0 where
   -- the answer is the top word that the seat has now seen
   pub found : (seen_by map.chain.shape after.chain).top ≡ top
+  -- and the seat remembers it, so that its calls begin there
+  pub remembered : after.chain.top ≡ top
   -- and the tables below that one are complete
   pub complete :
       (g : ℕ) → g < top → IsComplete map.chain.shape (seen_by map.chain.shape after.chain) g

@@ -1,4 +1,4 @@
-use Rattle.std.proofs.Common.{refl, subst₂, sym}
+use Rattle.std.proofs.Common.{◌∙◌, refl, subst₂, sym}
 use Rattle.nb_table.proofs.Theorems.{steps_add_up}
 use Rattle.nb_map.proofs.Counted.{quiet-mine}
 use Rattle.nb_map.proofs.Logged.{logged-quiet}
@@ -16,6 +16,7 @@ returns c =
     c.seat.view_is
     (record {
       found = c.load_top.ensures.found;
+      remembered = c.load_top.ensures.known ∙ c.load_top.ensures.found;
       complete = complete-below c.self.inside.chain c.load_top.new.seat
           (steps_add_up.own mine.chain (steps_add_up.one grows)) c.load_top.result
           c.load_top.ensures.found;
