@@ -3,7 +3,8 @@ use Rattle.std.proofs.Common.{◌≡◌, ◌∙◌, ℕ, Bool, true, false, [], 
 use Rattle.std.proofs.lemmas.Bool.Decides.{nat_tests}
 use Rattle.std.proofs.lemmas.List.Elements.{All-append, All-cons, All-nil}
 use Rattle.boxcar.specs.Table.{Shows, Where}
-use Rattle.nb_core.specs.Log.{holds_of, reply_at}
+use Rattle.nb_core.specs.Calls.{overflows}
+use Rattle.nb_core.specs.Log.{Numbers, holds_of, log_of, map_of_log, reply_at}
 use Rattle.nb_core.specs.declared.calls.Call.{Call}
 use Rattle.nb_core.specs.declared.calls.Call.TheVariants as call
 use Rattle.nb_core.specs.declared.calls.Change.{Change}
@@ -11,14 +12,37 @@ use Rattle.nb_core.specs.declared.calls.Reply.{Reply}
 use Rattle.nb_core.specs.declared.calls.Want.TheVariants as want
 use Rattle.nb_map.proofs.Theorems.{logs_add_up, replies_fit}
 use Rattle.nb_map.specs.Logs.{HasReplied}
-use Rattle.nb_map.specs.Maps.{IsMine, SeatOf}
-use Rattle.nb_map.specs.Promises.{Refused, Replied}
+use Rattle.nb_map.specs.Maps.{IsMine, MapOf, SeatOf}
+use Rattle.nb_map.specs.Promises.{HasTriedToWrite, Refused, Replied}
 use Rattle.nb_map.specs.declared.faults.PutFault.TheVariants as put_fault
 use Rattle.nb_long.proofs.Rounds.{HasRound, free-then, gives-up, idles, round-free}
 use Rattle.nb_long.specs.Promises.{HasAnsweredIf, HasChangedIf, HasMadeRound}
 use Rattle.nb_long.specs.Typed.{HasCompared, HasIdled, HasMadeLast, IsIdle, IsLockFreeIf, LongMapOf, last_call, read_of}
 use Rattle.nb_long.specs.declared.map.Compared.{Compared}
 use Rattle.nb_long.specs.declared.map.Unshown.{Unshown}
+
+-- ---- refusals
+
+-- a write that asks for a number puts none at an absent key, so it is never refused as full
+pub never-full :
+    {m : MapOf} {key n : ℕ} {change : Change} {before after : SeatOf} {tries : ℕ}
+    → HasTriedToWrite m (call.Write key (want.Equal n) change) before after tries
+    (Refused put_fault.Full)
+    → ⊥
+never-full tried = let fills : true ≡ false = tried.answered.just.0 in cc
+
+-- and past the range only where it overflows
+pub never-past :
+    {m : MapOf} {key n : ℕ} {change : Change} {before after : SeatOf} {tries : ℕ}
+    → ((k : ℕ) (numbers : Numbers)
+    → overflows (call.Write key (want.Equal k) change) numbers ≡ false)
+    → HasTriedToWrite m (call.Write key (want.Equal n) change) before after tries
+    (Refused put_fault.ValueRange)
+    → ⊥
+never-past {n} {after} fits tried =
+    let past = tried.answered.just in
+    let under = fits n (map_of_log (log_of after.chain.seen)) in
+    cc
 
 -- ---- one round
 

@@ -1,6 +1,5 @@
 -- How contracts see a handle of a typed map, and what is in it.
 use Rattle.std.specs.Prelude.{◌≡◌, ◌≤◌, ℕ, List, [], map, All}
-use Rattle.nb_core.specs.declared.shapes.TheConstants.{MAX_SEATS}
 use Rattle.nb_map.specs.Maps.{IsMine, SeatOf, new_seats}
 use Rattle.nb_long.specs.Typed.{LongMapOf}
 
@@ -34,4 +33,4 @@ pub record IsHeld (m : LongMapOf) (seat : SeatOf) (room : List SeatOf) (capacity
     Type 0 where
   pub own : IsMine m.map seat
   pub empty : room ≡ []
-  pub room_for_all : MAX_SEATS ≤ capacity
+  pub room_for_all : m.map.chain.shape.seats ≤ capacity

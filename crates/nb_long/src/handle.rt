@@ -15,7 +15,7 @@ ghost use Rattle.nb_long.specs.Typed.{LongMapOf};
 
 use crate::map::{Compared, LongFault, LongMap, Stored, Unshown};
 use crate::store::{Shown, Store};
-use nb_core::{Key, MAX_SEATS, Num, OutOfMemory, Shape};
+use nb_core::{Key, Num, OutOfMemory, Shape};
 use nb_map::{Ended, Seat};
 use std::alloc::Global;
 use std::marker::Model;
@@ -61,7 +61,7 @@ impl<V: Drop> Handle<V> {
             handles.push_reserved(Handle {
                 map: Arc::try_clone(&map)?,
                 seat,
-                room: Vec::with_capacity(alloc, MAX_SEATS)?,
+                room: Vec::with_capacity(alloc, shape.seats())?,
             });
         }
         Ok(handles)

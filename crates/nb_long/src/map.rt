@@ -370,7 +370,8 @@ impl<V> LongMap<V> {
             Ok(reply) if reply.matched => Ok(Some(Compared { found, done: true })),
             Ok(_) => Ok(None),
             Err(PutFault::Contended) => Ok(None),
-            Err(_) => unreachable!(),
+            Err(PutFault::Full) => unreachable!(),
+            Err(PutFault::ValueRange) => unreachable!(),
         }
     }
 

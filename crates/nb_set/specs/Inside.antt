@@ -1,5 +1,6 @@
 -- What is in a set, its seats, walks and handles, and in what is left of it, and how contracts see
 -- it.
+use Rattle.std.specs.Prelude.{◌≡◌, ◌≤◌, [], vec_capacity}
 use Rattle.nb_set.specs.Ending.{EndedOf}
 use Rattle.nb_set.specs.Handles.{HandleOf, HandleWalkOf}
 use Rattle.nb_set.specs.Sets.{SeatOf, SetOf}
@@ -15,6 +16,10 @@ use Rattle.nb_set.specs.declared.set.Walk.TheInside as walk
 abbrev pub set_of : set.Inside → SetOf
 set_of c = record { map = c.map }
 
+-- there is room for all seats
+pub record IsSet (c : set.Inside) : Type 0 where
+  pub room : c.map.chain.shape.seats ≤ c.room
+
 -- the seat, as contracts see it
 abbrev pub seat_of : seat.Inside → SeatOf
 seat_of c = record { map = c.map }
@@ -27,6 +32,11 @@ walk_of c = record { map = c.map }
 abbrev pub handle_of : handle.Inside → HandleOf
 handle_of c = record { set = record { map = c.map.map }; seat = record { map = c.map.seat } }
 
+-- there is room for all of the map's handles
+pub record IsHandle (c : handle.Inside) : Type 0 where
+  pub empty : c.room.items ≡ []
+  pub room : c.map.map.chain.shape.seats ≤ vec_capacity c.room
+
 -- the walk by a handle, as contracts see it
 abbrev pub handle_walk_of : handle_walk.Inside → HandleWalkOf
 handle_walk_of c = record {
@@ -34,6 +44,11 @@ handle_walk_of c = record {
   seat = record { map = c.map.seat };
   walk = record { map = c.map.walk };
 }
+
+-- there is room for all of the map's handles
+pub record IsHandleWalk (c : handle_walk.Inside) : Type 0 where
+  pub empty : c.room.items ≡ []
+  pub room : c.map.map.chain.shape.seats ≤ vec_capacity c.room
 
 -- the ended set, as contracts see it
 abbrev pub ended_of : ended.Inside → EndedOf

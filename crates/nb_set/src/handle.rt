@@ -7,7 +7,6 @@ ghost use Rattle.nb_set.specs.Promises.{HasEstimated, HasLookedUp, HasMet, HasSe
 ghost use Rattle.nb_set.specs.Sets.{IsMadeFor, IsMine, SetOf, log, shape_of};
 
 use crate::ended::SetEnded;
-use crate::room::Room;
 use crate::set::present;
 use nb_core::{Key, OutOfMemory, Shape};
 use nb_map::Full;
@@ -20,7 +19,7 @@ use std::sync::Wait;
 pub struct Handle {
     pub(crate) map: nb_map::Handle,
     /// Room in which `close` gathers the map's handles, so that it takes no memory.
-    pub(crate) room: Room<nb_map::Handle>,
+    pub(crate) room: Vec<nb_map::Handle>,
 }
 
 impl Model for Handle {
@@ -28,9 +27,11 @@ impl Model for Handle {
 
     ghost Value = { HandleOf };
 
-    ghost use Rattle.nb_set.specs.Inside.{handle_of};
+    ghost use Rattle.nb_set.specs.Inside.{IsHandle, handle_of};
 
     ghost view = { handle_of };
+
+    ghost invariant = { IsHandle };
 }
 
 impl Handle {
@@ -46,7 +47,7 @@ impl Handle {
     {
         let mut handles = Vec::with_capacity(alloc, shape.seats())?;
         for map in nb_map::Handle::open(alloc, shape)? {
-            let room = Room::new(alloc)?;
+            let room = Vec::with_capacity(alloc, shape.seats())?;
             handles.push_reserved(Handle { map, room });
         }
         Ok(handles)
@@ -143,7 +144,6 @@ impl Handle {
             return Err(handles);
         }
         let Handle { map, room } = last;
-        let Room { gathered: room } = room;
         let Ok(map) = nb_map::Handle::close(rt, gathered(handles, map, room)) else {
             unreachable!();
         };

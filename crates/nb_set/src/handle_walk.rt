@@ -7,7 +7,6 @@ ghost use Rattle.nb_set.specs.Sets.{IsMine};
 ghost use Rattle.nb_set.specs.Walks.{IsWalkOf};
 
 use crate::handle::Handle;
-use crate::room::Room;
 use nb_core::Key;
 use std::marker::Model;
 
@@ -16,7 +15,7 @@ use std::marker::Model;
 #[derive(Drop)]
 pub struct HandleWalk {
     map: nb_map::HandleWalk,
-    room: Room<nb_map::Handle>,
+    room: Vec<nb_map::Handle>,
 }
 
 impl Model for HandleWalk {
@@ -24,9 +23,11 @@ impl Model for HandleWalk {
 
     ghost Value = { HandleWalkOf };
 
-    ghost use Rattle.nb_set.specs.Inside.{handle_walk_of};
+    ghost use Rattle.nb_set.specs.Inside.{IsHandleWalk, handle_walk_of};
 
     ghost view = { handle_walk_of };
+
+    ghost invariant = { IsHandleWalk };
 }
 
 impl Handle {

@@ -11,7 +11,6 @@ mod ended;
 mod handle;
 mod handle_walk;
 pub mod laws;
-mod room;
 mod set;
 
 pub use ended::SetEnded;

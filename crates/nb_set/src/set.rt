@@ -7,20 +7,18 @@ ghost use Rattle.nb_set.specs.Sets.{AreMine, IsMadeFor, IsMine, log, new_seats, 
 ghost use Rattle.nb_set.specs.Walks.{IsWalkOf};
 
 use crate::ended::SetEnded;
-use crate::room::Room;
-use nb_core::{Key, NotAll, Num, OutOfMemory, Shape};
+use nb_core::{Key, NotAll, Num, OutOfMemory, SeatRoom, Shape};
 use nb_map::{Full, Map};
 use std::alloc::Global;
 use std::marker::Model;
-use std::sync::{Mutex, Wait};
+use std::sync::Wait;
 
 /// A set of keys, which many threads share.
 #[derive(Drop)]
 pub struct LongSet {
     map: Map,
-    /// Room for the map's seats, so that `finish` takes no memory. A vector for seats can't be
-    /// shared by threads, and a lock that holds one can. No call takes this lock.
-    room: Mutex<Room<nb_map::Seat>>,
+    /// Room for the map's seats, so that `finish` takes no memory.
+    room: SeatRoom<nb_map::Seat>,
 }
 
 impl Model for LongSet {
@@ -28,9 +26,11 @@ impl Model for LongSet {
 
     ghost Value = { SetOf };
 
-    ghost use Rattle.nb_set.specs.Inside.{set_of};
+    ghost use Rattle.nb_set.specs.Inside.{IsSet, set_of};
 
     ghost view = { set_of };
+
+    ghost invariant = { IsSet };
 }
 
 /// The right of one holder to make calls of a set. Contracts see what it has seen of the calls of
@@ -79,7 +79,7 @@ impl LongSet {
         ensures own { IfOk result (λ made. AreMine made.0 made.1.items) }
     {
         let mut seats = Vec::with_capacity(alloc, shape.seats())?;
-        let room = Mutex::new(Room::new(alloc)?);
+        let room = SeatRoom::new(alloc, shape.seats())?;
         let (map, map_seats) = Map::new(alloc, shape)?;
         for seat in map_seats {
             seats.push_reserved(Seat { map: seat });
@@ -195,8 +195,7 @@ impl LongSet {
             return Err(NotAll { whole: self, seats });
         }
         let LongSet { map, room } = self;
-        let Room { gathered } = room.into_inner();
-        match map.finish(of_map(seats, gathered)) {
+        match map.finish(of_map(seats, room.into_vec())) {
             Ok(map) => Ok(SetEnded { map }),
             Err(_) => unreachable!(),
         }

@@ -1,5 +1,5 @@
 use Rattle.std.proofs.Common.{◌∙◌, Ok, Some, ap, subst, sym, true}
-use Rattle.nb_long.proofs.Comparing.{comes-late, matches, misses}
+use Rattle.nb_long.proofs.Comparing.{comes-late, matches, misses, never-full, never-past}
 use Rattle.nb_long.proofs.Rounds.{round-of}
 use Rattle.nb_long.specs.Promises.{HasMadeRound}
 use Rattle.nb_long.proofs.map.LongMap.change_once.Goals as goal
@@ -27,3 +27,12 @@ pub returns-in-Err-Contended : goal.returns-in-Err-Contended
 returns-in-Err-Contended g c =
     comes-late (round-of c.self.view_is c.requires.own (rw c.in-Some.is at c.in_ok-found.ensures)
     c.number-number.ensures (rw c.in-Err-Contended.field-0-is at c.in-Err-Contended.ensures))
+
+pub unreachable-requires : goal.unreachable-requires
+unreachable-requires g c =
+    never-full (rw c.in-Err-Full.field-0-is at c.in-Err-Full.ensures)
+
+pub unreachable-requires-2 : goal.unreachable-requires-2
+unreachable-requires-2 g c =
+    never-past c.requires.in_range
+    (rw c.in-Err-ValueRange.field-0-is at c.in-Err-ValueRange.ensures)

@@ -1,8 +1,10 @@
-use Rattle.std.proofs.Common.{◌≡◌, ◌∙◌, ap, arith, length, map, refl}
+use Rattle.std.proofs.Common.{◌≡◌, ◌∙◌, All, ap, arith, length, map, refl, subst}
 use Rattle.std.proofs.lemmas.List.{length-map}
-use Rattle.std.proofs.lemmas.List.Elements.{All-map, All-same}
+use Rattle.std.proofs.lemmas.List.Elements.{All-head, All-map, All-same, All-tail}
 use Rattle.std.specs.Vec.Iter.{into_iter_items}
 use Rattle.nb_core.proofs.Seating.{all-moved, moved-count, moved-more, none-moved}
+use Rattle.nb_map.specs.Handles as handles
+use Rattle.nb_map.specs.Maps as maps
 use Rattle.nb_set.specs.Sets.{IsMadeFor, SetOf}
 use Rattle.nb_set.proofs.Handles.{as_handle, handles-dealt, handles-many, logs-empty, of-one}
 use Rattle.nb_set.proofs.handle.Handle.open.Goals as goal
@@ -28,7 +30,24 @@ loop-map-init c =
         c.in_ok-handles.ensures.capacity,
         c.seats.ensures.number,
       ),
+      All-same (λ (handle : handles.HandleOf). maps.IsMadeFor handle.map c.args.shape) _ _
+          c.into_iter-map-iterator.ensures.into_iter_gives.0 c.in_ok-map-items.ensures.made,
     )
+
+pub invariant_of-push_reserved : goal.invariant_of-push_reserved
+invariant_of-push_reserved c =
+    let here = subst (All (λ (handle : handles.HandleOf). maps.IsMadeFor handle.map c.args.shape)) c.in-Some.ensures.steps.0
+    c.loop-map.invariant.4 in
+    let made = All-head (λ (handle : handles.HandleOf). maps.IsMadeFor handle.map c.args.shape) _ _ here in
+    record {
+      empty = c.in_ok-room.ensures.items;
+      room = omega (
+        arith,
+        ap (λ p. p.seats) made.shape,
+        c.in_ok-room.ensures.capacity,
+        c.seats-2.ensures.number,
+      );
+    }
 
 pub loop-map-preserved : goal.loop-map-preserved
 loop-map-preserved c = (
@@ -36,6 +55,9 @@ loop-map-preserved c = (
   tt,
   moved-more c.loop-map.invariant.2 c.in-Some.ensures.steps.0 refl c.push_reserved.ensures.items,
   omega (arith, c.loop-map.invariant.3, c.push_reserved.ensures.capacity),
+  All-tail (λ (handle : handles.HandleOf). maps.IsMadeFor handle.map c.args.shape) _ _
+      (subst (All (λ (handle : handles.HandleOf). maps.IsMadeFor handle.map c.args.shape)) c.in-Some.ensures.steps.0
+      c.loop-map.invariant.4),
 )
 
 -- the set's handles are those of its map
