@@ -3,8 +3,7 @@ use Rattle.std.proofs.Common.{◌≡◌, ◌∙◌, ℕ, Bool, true, false, [], 
 use Rattle.std.proofs.lemmas.Bool.Decides.{nat_tests}
 use Rattle.std.proofs.lemmas.List.Elements.{All-append, All-cons, All-nil}
 use Rattle.boxcar.specs.Table.{Shows, Where}
-use Rattle.nb_core.specs.Calls.{overflows}
-use Rattle.nb_core.specs.Log.{Numbers, holds_of, log_of, map_of_log, reply_at}
+use Rattle.nb_core.specs.Log.{holds_of, reply_at}
 use Rattle.nb_core.specs.declared.calls.Call.{Call}
 use Rattle.nb_core.specs.declared.calls.Call.TheVariants as call
 use Rattle.nb_core.specs.declared.calls.Change.{Change}
@@ -30,19 +29,6 @@ pub never-full :
     (Refused put_fault.Full)
     → ⊥
 never-full tried = let fills : true ≡ false = tried.answered.just.0 in cc
-
--- and past the range only where it overflows
-pub never-past :
-    {m : MapOf} {key n : ℕ} {change : Change} {before after : SeatOf} {tries : ℕ}
-    → ((k : ℕ) (numbers : Numbers)
-    → overflows (call.Write key (want.Equal k) change) numbers ≡ false)
-    → HasTriedToWrite m (call.Write key (want.Equal n) change) before after tries
-    (Refused put_fault.ValueRange)
-    → ⊥
-never-past {n} {after} fits tried =
-    let past = tried.answered.just in
-    let under = fits n (map_of_log (log_of after.chain.seen)) in
-    cc
 
 -- ---- one round
 

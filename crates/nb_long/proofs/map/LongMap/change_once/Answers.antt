@@ -1,5 +1,5 @@
 use Rattle.std.proofs.Common.{◌∙◌, Ok, Some, ap, subst, sym, true}
-use Rattle.nb_long.proofs.Comparing.{comes-late, matches, misses, never-full, never-past}
+use Rattle.nb_long.proofs.Comparing.{comes-late, matches, misses, never-full}
 use Rattle.nb_long.proofs.Rounds.{round-of}
 use Rattle.nb_long.specs.Promises.{HasMadeRound}
 use Rattle.nb_long.proofs.map.LongMap.change_once.Goals as goal
@@ -31,8 +31,3 @@ returns-in-Err-Contended g c =
 pub unreachable-requires : goal.unreachable-requires
 unreachable-requires g c =
     never-full (rw c.in-Err-Full.field-0-is at c.in-Err-Full.ensures)
-
-pub unreachable-requires-2 : goal.unreachable-requires-2
-unreachable-requires-2 g c =
-    never-past c.requires.in_range
-    (rw c.in-Err-ValueRange.field-0-is at c.in-Err-ValueRange.ensures)

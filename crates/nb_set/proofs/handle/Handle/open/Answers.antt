@@ -45,7 +45,7 @@ invariant_of-push_reserved c =
         arith,
         ap (λ p. p.seats) made.shape,
         c.in_ok-room.ensures.capacity,
-        c.seats-2.ensures.number,
+        c.seats-in-loop-map.ensures.number,
       );
     }
 
