@@ -119,10 +119,10 @@ def _made(code):
     return code
 
 
-def _number(number):
-    """A number that fits a word of C: ctypes would cut it down without a word."""
-    if not 0 <= number < 2**64:
-        raise OverflowError(f"{number} isn't from 0 to 2^64 - 1")
+def _number(number, bits=64):
+    """A number that fits a word of C of so many bits: ctypes would cut it down without a word."""
+    if not 0 <= number < 2**bits:
+        raise OverflowError(f"{number} isn't from 0 to 2^{bits} - 1")
     return number
 
 
@@ -161,7 +161,9 @@ class Seat:
         """A new map of tables with 2**e slots, 1 to 16 of them, as the seat that has all others in reserve, 256 in all."""
         if len(exponents) > 16:
             raise Refused(Code.E_TABLES)
-        shape = _Shape((c_uint32 * 16)(*exponents), len(exponents), seats, stripes or seats, reprobes, chunk)
+        exponents = (c_uint32 * 16)(*(_number(exponent, 32) for exponent in exponents)), len(exponents)
+        others = seats, seats if stripes is None else stripes, reprobes, chunk
+        shape = _Shape(*exponents, *(_number(number, 32) for number in others))
         handle = c_void_p()
         _made(_lib.samvolip_open_with(byref(_HEADER), byref(shape), byref(handle)))
         return Seat(handle, next(_maps))
@@ -211,7 +213,9 @@ class Seat:
     def put_if_match(self, key, want, change, old=0, number=0, tries=2**32 - 1):
         """The write behind all others: what was at the key, or None, and whether its condition held."""
         reply = _Reply()
-        _made(self._call("put_if_match", _number(key), want, _number(old), change, _number(number), tries, byref(reply)))
+        condition = _number(want, 32), _number(old)
+        to = _number(change, 32), _number(number)
+        _made(self._call("put_if_match", _number(key), *condition, *to, _number(tries, 32), byref(reply)))
         return (reply.before if reply.had else None), bool(reply.matched)
 
     def _write(self, *words, **named):

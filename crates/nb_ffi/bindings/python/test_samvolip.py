@@ -109,6 +109,8 @@ def calls():
     assert refused(seat.add, 1, 1) == Code.E_SUM_RANGE
     assert told(seat.get, -1) == "-1 isn't from 0 to 2^64 - 1"
     assert told(seat.put, 1, 2**64) == "18446744073709551616 isn't from 0 to 2^64 - 1"
+    assert told(seat.put_if_match, 1, Want.ANY, Change.PUT, 0, 0, -1) == "-1 isn't from 0 to 2^32 - 1"
+    assert told(Seat.open, [2**32 + 4]) == told(Seat.open, [4], 2**32 + 4) == "4294967300 isn't from 0 to 2^32 - 1"
     seat.free()
     seat.free()
     assert told(seat.get, 1) == "the seat is empty"
