@@ -1,5 +1,5 @@
-//! The texts of faults. The test is here since only the store can make a `Placed`: no test stores
-//! so many values.
+//! The texts of faults. The test is here since only the store can make a `Placed`: no test stores so
+//! many values.
 use super::{Placed, Receipt, Store, StoreFault};
 use crate::map::{LongFault, Unshown};
 use std::fmt::Display;

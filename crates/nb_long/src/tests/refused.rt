@@ -90,8 +90,8 @@ fn replaces_if<R: Wait + Abort>(rt: &R, map: &LongMap<u64>, seat: &mut Seat)
     assert!(rt; !done);
 }
 
-/// A refused map of handles is asked for again. Then each seat has its handle, and all of them
-/// close the map.
+/// A refused map of handles is asked for again. Then each seat has its handle, and all of them close
+/// the map.
 fn opens<R: Wait + Abort>(rt: &R, alloc: Global, shape: Shape) -> Result<(), OutOfMemory> {
     let handles: Vec<Handle<u64>> = match Handle::open(alloc, shape) {
         Ok(handles) => handles,

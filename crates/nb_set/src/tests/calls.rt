@@ -23,8 +23,8 @@ fn set_of_keys(rt: HostRuntime) -> Result<(), Fail> {
     Ok(())
 }
 
-/// A refused set of handles is asked for again. Then each seat has its handle, and all of them
-/// close the set.
+/// A refused set of handles is asked for again. Then each seat has its handle, and all of them close
+/// the set.
 fn opens<R: Wait + Abort>(rt: &R, alloc: Global, shape: Shape) -> Result<(), OutOfMemory> {
     let handles = match Handle::open(alloc, shape) {
         Ok(handles) => handles,
