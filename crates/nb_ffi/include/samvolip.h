@@ -98,9 +98,8 @@ extern "C" {
 #define SAMVOLIP_MAX_EXPONENT 28
 #define SAMVOLIP_MAX_SLOTS (1 << 30)
 
-/* What samvolip_shape_for_many_keys makes: no table has an exponent below the first of these, and
-   each table's exponent is one step above that of the table before it. It has no more stripes than
-   this. The last two are the reprobe limit and the chunk. */
+/* What samvolip_shape_for_many_keys goes by: the least exponent, by how much each exponent is above
+   the one before it, the most stripes, the reprobe limit and the chunk. */
 #define SAMVOLIP_MANY_FIRST_EXPONENT 4
 #define SAMVOLIP_MANY_STEP 6
 #define SAMVOLIP_MANY_STRIPES 16

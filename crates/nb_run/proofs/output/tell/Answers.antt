@@ -26,12 +26,12 @@ loop-phase-init g c =
       subst₂ (λ waiting rest. SaysOn g.W.Sink.contents g.W.Sink.failed c.args.writer.now
           c.args.writer.now [] waiting (all_lines phases rest ++ ending) whole)
           (sym c.new-waiting.ensures)
-          (sym (left-all (replicate 8 0) 0 lists (none-done 8)))
+          (sym (left-all (replicate 256 0) 0 lists (none-done 256)))
           (none-said c.args.writer.now [] whole c.requires.unfailed),
       λ w mine at.
           omega (
             arith,
-            none-done 8 w,
+            none-done 256 w,
             answers-at phases 0 lists c.requires.enough w mine at w (omega arith),
           ),
     )
