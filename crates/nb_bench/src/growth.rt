@@ -126,14 +126,28 @@ fn longest_put<R: Wait + Clock>(
 {
     let mut longest = 0;
     for place in places {
-        let start = Instant::now(rt)?;
-        let before = map.put(rt, seat, spacing.key(*place), number(*place));
-        if before.is_err() {
-            return Err(WorkFault::Full);
-        }
-        longest = nanoseconds_of(start.elapsed(rt)?).max(longest);
+        longest = timed_put(rt, map, seat, spacing, *place)?.max(longest);
     }
     Ok(longest)
+}
+
+/// Puts a number at the key with this place, and answers how long that took.
+fn timed_put<R: Wait + Clock>(
+    rt: &R,
+    map: &Map,
+    seat: &mut Seat,
+    spacing: Spacing,
+    place: u32,
+) -> Result<u64, WorkFault>
+    requires own { IsMine map.now seat.old }
+    ensures own { IsMine map.now seat.new }
+{
+    let start = Instant::now(rt)?;
+    let before = map.put(rt, seat, spacing.key(place), number(place));
+    if before.is_err() {
+        return Err(WorkFault::Full);
+    }
+    Ok(nanoseconds_of(start.elapsed(rt)?))
 }
 
 /// Puts all keys in a new map, and answers how long that took.

@@ -1,6 +1,6 @@
 //! Calls of one kind, one after another, each at its key's home slot: what a call of each kind
 //! takes.
-ghost use Rattle.nb_map.specs.Maps.{IsMine};
+ghost use Rattle.nb_map.specs.Maps.{AreMine, IsMine};
 
 use crate::crew::put_all;
 use crate::draws::nanoseconds_of;
@@ -184,11 +184,26 @@ fn time_once<R: Wait + Clock>(
     places: &[u32],
     times: &mut [u64; 6],
 ) -> Result<(), Fault> {
-    let (map, mut seats) = Map::new(alloc, options.shape()?)?;
-    let Some(mut seat) = seats.pop() else {
-        unreachable!();
-    };
-    time_kinds(rt, &map, &mut seat, options.spacing, places, times)
+    let (map, seats) = Map::new(alloc, options.shape()?)?;
+    time_by_one(rt, &map, seats, options.spacing, places, times)
+}
+
+/// Makes calls of all kinds by the last of the seats, if there is one.
+fn time_by_one<R: Wait + Clock>(
+    rt: &R,
+    map: &Map,
+    seats: Vec<Seat>,
+    spacing: Spacing,
+    places: &[u32],
+    times: &mut [u64; 6],
+) -> Result<(), Fault>
+    requires own { AreMine map.now seats.items }
+{
+    let mut seats = seats;
+    match seats.pop() {
+        Some(mut seat) => time_kinds(rt, map, &mut seat, spacing, places, times),
+        None => Ok(()),
+    }
 }
 
 /// Makes calls of all kinds at all keys in new maps, again and again until the time is up. It

@@ -8,4 +8,3 @@ mod trying;
 mod updating;
 mod visits;
 mod walks;
-mod wide;
