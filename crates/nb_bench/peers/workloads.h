@@ -5,7 +5,6 @@
 #pragma once
 #include <atomic>
 #include <algorithm>
-#include <bit>
 #include <chrono>
 #include <cstdint>
 #include <cstdio>
@@ -183,6 +182,13 @@ template <class Map> void growth(const char *name, unsigned threads, uint64_t ti
     printf("%s D %u %lu %lu\n", name, threads, PUTS, times[times.size() / 2]);
 }
 
+// The slots of a table that has two for each key, and more by the next power of two.
+inline uint64_t room_for(uint64_t keys) {
+    uint64_t slots = 1;
+    while (slots < 2 * keys) slots *= 2;
+    return slots;
+}
+
 // `slots` is the size that a map of workload D is made with. One that doesn't begin with four slots is made with twice as many as
 // there are keys in F.
 template <class Map> int run(const char *name, int argc, char **argv, uint64_t slots) {
@@ -196,7 +202,7 @@ template <class Map> int run(const char *name, int argc, char **argv, uint64_t s
         else calls = strtoull(argv[i], nullptr, 10);
     }
     if (workload == 'D') growth<Map>(name, threads, time, slots);
-    else if (workload == 'F') fill<Map>(name, threads, time, keys, slots <= 4 ? slots : std::bit_ceil(keys * 2));
+    else if (workload == 'F') fill<Map>(name, threads, time, keys, slots <= 4 ? slots : room_for(keys));
     else timed<Map>(name, workload, threads, time, calls);
     return 0;
 }
