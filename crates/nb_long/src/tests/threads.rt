@@ -4,9 +4,9 @@ ghost use Rattle.boxcar.specs.Table.{Shows};
 ghost use Rattle.nb_map.specs.Maps.{AreMine, IsMine};
 
 use super::on_map::*;
-use crate::{LongFault, LongMap, Stored};
+use crate::{LongFault, LongMap, Store, Stored};
 use nb_core::{NotAll, OutOfMemory};
-use nb_map::Seat;
+use nb_map::{Ended, Seat};
 use std::alloc::Global;
 use std::process::Abort;
 use std::sync::Wait;
@@ -101,6 +101,25 @@ fn two_receipts(rt: HostRuntime) -> Result<(), Fail> {
     Ok(())
 }
 
+/// What is left of a map that ends with these seats and one more.
+fn ends_with<R: Abort>(
+    rt: &R,
+    map: LongMap<u64>,
+    others: Vec<Seat>,
+    seat: Seat,
+) -> Result<(Ended, Store<u64>), OutOfMemory>
+    requires others { AreMine map.map others.items }
+    requires own { IsMine map.map seat }
+    ensures store { IfOk result (λ left. left.1 ≡ map.store) }
+{
+    let mut seats = others;
+    seats.push(seat)?;
+    let Ok(left) = map.finish(seats) else {
+        panic!(rt; "all seats are there")
+    };
+    Ok(left)
+}
+
 /// With one of the two seats the map comes back with it. With both it ends, and its store still has
 /// both values.
 #[test]
@@ -112,11 +131,7 @@ fn typed_finish(rt: HostRuntime) -> Result<(), Fail> {
     let Err(NotAll { whole: map, seats }) = map.finish(seats) else {
         panic!(rt; "a seat is missing")
     };
-    let mut seats = seats;
-    seats.push(b)?;
-    let Ok((ended, store)) = map.finish(seats) else {
-        panic!(rt; "all seats are there")
-    };
+    let (ended, store) = ends_with(&rt, map, seats, b)?;
     assert_eq!(rt; ended.size(), 1);
     assert_eq!(rt; *store.value(&told.receipt), 10);
     assert_eq!(rt; *store.value(&told_too.receipt), 20);
