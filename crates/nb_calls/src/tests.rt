@@ -8,3 +8,4 @@ mod trying;
 mod updating;
 mod visits;
 mod walks;
+mod wide;
