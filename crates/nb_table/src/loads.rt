@@ -159,7 +159,10 @@ impl Chain {
         ensures known { KnowsTop self.now.shape seat.new }
     {
         let top = self.loads::<Brand>(seat, TOP_INDEX, NOTHING) as u32;
-        seat.top = top;
+        // Seats of several threads may be in one cache line, so nothing is stored in vain.
+        if top != seat.top {
+            seat.top = top;
+        }
         top
     }
 }

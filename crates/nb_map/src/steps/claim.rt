@@ -22,6 +22,7 @@ use nb_table::{Chain, ChainSeat};
 /// claimed for it. If its path is closed, the call goes on in the next table. If the table has a
 /// next one, or other keys have the path up to the limit, the table is completed first, and the next
 /// one installed where it isn't there. If other keys have the whole last table, the call is refused.
+#[inline(always)]
 pub(crate) fn find_or_claim(
     chain: &Chain,
     seat: &mut ChainSeat,
