@@ -101,7 +101,7 @@ extern "C" {
 /* What samvolip_shape_for_many_keys goes by: the least exponent, by how much each exponent is above
    the one before it, the most stripes, the reprobe limit and the chunk. */
 #define SAMVOLIP_MANY_FIRST_EXPONENT 4
-#define SAMVOLIP_MANY_STEP 6
+#define SAMVOLIP_MANY_STEP 8
 #define SAMVOLIP_MANY_STRIPES 16
 #define SAMVOLIP_MANY_REPROBES 18
 #define SAMVOLIP_MANY_CHUNK 256
@@ -260,7 +260,7 @@ static inline samvolip_shape samvolip_shape_for_keys(uint64_t most, unsigned sea
 
 /*
  * The same for many keys. The last table is as large as that of samvolip_shape_for_keys. Each table
- * before it has a 64th of the slots of the next one, as long as that is 16 slots at least. So a map
+ * before it has a 256th of the slots of the next one, as long as that is 16 slots at least. So a map
  * that has few keys stays in small tables. There is a stripe for each seat, up to 16. A put is
  * refused as full only if other keys have all slots of the last table. The map takes 16 bytes for
  * each slot of all tables. For more than SAMVOLIP_MANY_KEYS there is no such shape: samvolip_open

@@ -27,7 +27,7 @@ use super::{
 const FIRST_EXPONENT: u32 = 4;
 
 /// By how much each exponent of a shape for many keys is above the one before it.
-const STEP: u32 = 6;
+const STEP: u32 = 8;
 
 /// The most stripes of a shape for many keys. A size is the sum of all stripes, so more of them
 /// make it slower to tell.
@@ -94,7 +94,7 @@ impl Shape {
     /// The shape for so many different keys, up to [`MANY_KEYS`], and 1 to [`MAX_SEATS`] seats;
     /// other numbers are [`ShapeFault::Keys`], and then [`ShapeFault::Seats`]. Its last table has
     /// half as many slots again as there are keys, and more by the next power of two. Each table
-    /// below has a 64th of the slots of the next one, down to 16 at least, so that a map with few
+    /// below has a 256th of the slots of the next one, down to 16 at least, so that a map with few
     /// keys stays small in the cache. There is a stripe for each seat, but no more than 16.
     pub fn for_many_keys(most: usize, seats: usize) -> Result<Shape, ShapeFault>
         ensures shape { result ≡ checked_for_many_keys most seats }

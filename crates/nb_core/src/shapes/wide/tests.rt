@@ -90,11 +90,13 @@ fn shapes_for_many_keys(rt: HostRuntime) -> Result<(), Fail> {
     assert_many(&rt, 21, 8, &[5])?;
     assert_many(&rt, 22, 16, &[6])?;
     assert_many(&rt, 341, 17, &[9])?;
-    assert_many(&rt, 342, 64, &[4, 10])?;
-    assert_many(&rt, 1_000_000, 64, &[9, 15, 21])?;
-    assert_many(&rt, 44_739_243, 128, &[8, 14, 20, 26])?;
-    assert_many(&rt, 44_739_244, 128, &[9, 15, 21, 27])?;
-    assert_many(&rt, MANY_KEYS, 256, &[4, 10, 16, 22, 28])?;
+    assert_many(&rt, 342, 64, &[10])?;
+    assert_many(&rt, 1365, 64, &[11])?;
+    assert_many(&rt, 1366, 64, &[4, 12])?;
+    assert_many(&rt, 1_000_000, 64, &[5, 13, 21])?;
+    assert_many(&rt, 44_739_243, 128, &[10, 18, 26])?;
+    assert_many(&rt, 44_739_244, 128, &[11, 19, 27])?;
+    assert_many(&rt, MANY_KEYS, 256, &[4, 12, 20, 28])?;
     assert_eq!(rt; MANY_KEYS, 178_956_970);
     Ok(())
 }
