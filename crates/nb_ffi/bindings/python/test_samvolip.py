@@ -486,6 +486,5 @@ seats_run_out()
 many_short_threads()
 walks_stay()
 ends()
-if os.path.exists(PAGE):
-    page()
+page()
 print("python: well")
