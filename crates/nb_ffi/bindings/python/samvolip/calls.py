@@ -7,10 +7,15 @@ from ctypes import c_uint64
 from typing import Any, SupportsIndex
 
 from . import library
-from .codes import Change, Code, Refused, Want, made
+from .codes import Change, Code, Want, made
 from .numbers import key_of, number_of, word
 
 TRIES = 2**32 - 1
+
+# as plain numbers, which ctypes takes faster
+_ANY, _ABSENT, _PRESENT, _EQUAL = (int(want) for want in Want)
+_PUT, _REMOVE, _ADD = (int(change) for change in Change)
+_CONTENDED = int(Code.E_CONTENDED)
 
 
 class Calls:
@@ -101,41 +106,48 @@ class Calls:
         made(self._reach(library.put_if_match, self._key(key), *condition, *to, word(tries, 32), reply))
         return (reply.before if reply.had else None), bool(reply.matched)
 
-    def _write(self, key: SupportsIndex, want: Want, change: Change, **numbers: SupportsIndex) -> tuple[int | None, bool]:
+    def _write(self, key: SupportsIndex, want: int, change: int, number: SupportsIndex = 0, old: SupportsIndex = 0) -> library.Reply:
+        """A write that is made again as long as it is contended."""
+        reply = library.Reply()
+        key, number, old = self._key(key), word(number), word(old)
         while True:
-            try:
-                return self.put_if_match(key, want, change, **numbers)
-            except Refused as refused:
-                if refused.code != Code.E_CONTENDED:
-                    raise
+            code = self._reach(library.put_if_match, key, want, old, change, number, TRIES, reply)
+            if code != _CONTENDED:
+                made(code)
+                return reply
+
+    def _found(self, key: SupportsIndex, want: int, change: int, number: SupportsIndex = 0) -> int | None:
+        """What such a write found."""
+        reply = self._write(key, want, change, number)
+        return reply.before if reply.had else None
 
     def put(self, key: SupportsIndex, number: SupportsIndex) -> int | None:
         """Puts a number at a key. What was there, or None."""
-        return self._write(key, Want.ANY, Change.PUT, number=number)[0]
+        return self._found(key, _ANY, _PUT, number)
 
     def put_if_absent(self, key: SupportsIndex, number: SupportsIndex) -> int | None:
         """Puts a number at a key that has none. What was there: None if it did."""
-        return self._write(key, Want.ABSENT, Change.PUT, number=number)[0]
+        return self._found(key, _ABSENT, _PUT, number)
 
     def replace(self, key: SupportsIndex, number: SupportsIndex) -> int | None:
         """Puts a number at a key that has one. What was there, or None."""
-        return self._write(key, Want.PRESENT, Change.PUT, number=number)[0]
+        return self._found(key, _PRESENT, _PUT, number)
 
     def replace_if(self, key: SupportsIndex, old: SupportsIndex, number: SupportsIndex) -> bool:
         """Puts a number in place of another. Whether it did."""
-        return self._write(key, Want.EQUAL, Change.PUT, old=old, number=number)[1]
+        return bool(self._write(key, _EQUAL, _PUT, number, old).matched)
 
     def remove(self, key: SupportsIndex) -> int | None:
         """Takes a key out. What was there, or None."""
-        return self._write(key, Want.ANY, Change.REMOVE)[0]
+        return self._found(key, _ANY, _REMOVE)
 
     def remove_if(self, key: SupportsIndex, number: SupportsIndex) -> bool:
         """Takes a key out that has this number. Whether it did."""
-        return self._write(key, Want.EQUAL, Change.REMOVE, old=number)[1]
+        return bool(self._write(key, _EQUAL, _REMOVE, 0, number).matched)
 
     def add(self, key: SupportsIndex, number: SupportsIndex) -> int | None:
         """Adds a number to what is at a key, or to 0 if there is none. What was there, or None."""
-        return self._write(key, Want.ANY, Change.ADD, number=number)[0]
+        return self._found(key, _ANY, _ADD, number)
 
     def compute(self, key: SupportsIndex, function: Callable[[int | None], int | None]) -> int | None:
         """Puts at a key what the function makes of the number there. None is no number, before and after. What it made.
