@@ -1,6 +1,7 @@
-"""Prints what calls cost, in microseconds, as docs/python.md tells: each number is the best of five rounds. cost.py [CALLS]
+"""Prints what calls cost, in microseconds, as docs/python.md tells: cost.py [CALLS]
 
-With several threads it is the time of all of them, divided by the calls of all of them.
+A number is the processor's time of a round, with that of its loop, divided by the calls of all threads; the best of nine rounds. The
+last column is the elapsed time of a get by four threads, divided likewise.
 """
 
 import sys
@@ -10,7 +11,7 @@ from ctypes import c_int, c_uint64
 
 from samvolip import Map, Seat, library, mix
 
-CALLS = int(sys.argv[1]) if len(sys.argv) > 1 else 100_000
+CALLS = int(sys.argv[1]) if len(sys.argv) > 1 else 20_000
 KEYS = 10_000
 
 
@@ -54,25 +55,30 @@ def walks(one, keys):
             pass
 
 
-def nothing(one, keys):
-    for key in keys:
-        pass
-
-
 def round_of(work, ones):
-    """The time of a call in one round, with a thread for each."""
+    """The processor's time and the elapsed time of a call in one round, with a thread for each."""
     keys = [i % KEYS for i in range(CALLS)]
     threads = [threading.Thread(target=work, args=(one, keys)) for one in ones]
-    begun = time.perf_counter()
+    begun = time.process_time(), time.perf_counter()
     for thread in threads:
         thread.start()
     for thread in threads:
         thread.join()
-    return (time.perf_counter() - begun) / (CALLS * len(ones)) * 1e6
+    ended = time.process_time(), time.perf_counter()
+    return [(end - begin) / (CALLS * len(ones)) * 1e6 for begin, end in zip(begun, ended)]
 
 
-def cost(work, ones):
-    return min(round_of(work, ones) for _ in range(5))
+def costs(work, ones):
+    """The best of nine rounds, of each kind of time."""
+    rounds = [round_of(work, ones) for _ in range(9)]
+    return [min(times) for times in zip(*rounds)]
+
+
+def row(name, ones, walked):
+    """The line of a kind of map, of which each thread has one."""
+    of_one = [costs(work, ones[:1])[0] for work in (gets, puts, adds)]
+    of_one.append(costs(walks, ones[:1])[0] if walked else 0)
+    line(name, *of_one, *costs(gets, ones))
 
 
 def line(name, *numbers):
@@ -86,74 +92,87 @@ def filled(one):
 
 
 def of_map(name, **named):
-    one = filled(Map.for_keys(KEYS, seats=8, **named))
-    line(name, *(cost(work, [one] * threads) for threads in (1, 4) for work in (gets, puts, adds)), cost(walks, [one]))
+    row(name, [filled(Map.for_keys(KEYS, seats=8, **named))] * 4, True)
 
 
 def of_seats(name, **named):
     first = filled(Seat.for_keys(KEYS, seats=4, **named))
-    seats = [first] + [first.split() for _ in range(3)]
-    line(name, *(cost(work, seats[:threads]) for threads in (1, 4) for work in (gets, puts, adds)), cost(walks, seats[:1]))
+    row(name, [first] + [first.split() for _ in range(3)], True)
+
+
+def once(calls, function):
+    """The processor's time of a call of this function, without the loop; the best of nine rounds."""
+    best = []
+    for measured in (function, lambda: None):
+        rounds = []
+        for _ in range(9):
+            begun = time.thread_time()
+            for _ in range(calls):
+                measured()
+            rounds.append(time.thread_time() - begun)
+        best.append(min(rounds))
+    return (best[0] - best[1]) / calls * 1e6
+
+
+def letting_go():
+    """A map whose calls let go of the interpreter's lock."""
+    names = {"get": "get", "put_if_match": "put_if_match", "next_pair": "next"}
+    keeping = {name: getattr(library, name) for name in names}
+    for name, exported in names.items():
+        setattr(library, name, library._function(library._lets_go, exported, c_int, *keeping[name].argtypes))
+    of_map("Map, not mixed, letting go of the lock", mixed=False)
+    for name, kept in keeping.items():
+        setattr(library, name, kept)
+
+
+def parts():
+    """What a call is made of."""
+    one = filled(Map.for_keys(KEYS, seats=8, mixed=False))
+    one.get(1)
+    local, lease, number, lock = one._local, one._local.lease, c_uint64(), threading.RLock()
+
+    def locked():
+        with lock:
+            pass
+
+    line("the lookup of a thread's seat", once(CALLS, lambda: local.lease) - once(CALLS, lambda: lease.handle))
+    line("the lock of an explicit seat", once(CALLS, locked))
+    line("mix", once(CALLS, lambda: mix(12345)))
+    line("the call of the library alone, a get", once(CALLS, lambda: library.get(lease.handle, 5, number)))
+
+    def taken():
+        one.get(1)
+        one.release()
+
+    line("a seat taken, a get, and the seat back", once(1000, taken))
+
+
+def longest():
+    """The longest put of a map that grows, and a long way of a walk: they hold the interpreter as long."""
+    most = 1_000_000
+    one, worst = Map.for_many_keys(most, seats=2), 0.0
+    for key in range(most):
+        begun = time.thread_time()
+        one.put(key, 1)
+        worst = max(worst, time.thread_time() - begun)
+    line(f"the longest of {most} puts, ms", worst * 1000)
+    sparse = Map([26], seats=2)
+    sparse.put(1, 1)
+    begun = time.thread_time()
+    assert list(sparse) == [1]
+    line("a walk over 2^26 slots with one key, ms", (time.thread_time() - begun) * 1000)
 
 
 def main():
-    print(f"{'':42}" + "".join(f"{head:>9}" for head in ("get", "put", "add", "get x4", "put x4", "add x4", "walk")))
+    print(f"{'':42}" + "".join(f"{head:>9}" for head in ("get", "put", "add", "walk", "get x4", "elapsed")))
     of_map("Map")
     of_map("Map, not mixed", mixed=False)
     of_seats("Seat")
     of_seats("Seat, not mixed", mixed=False)
-    locked = filled(Locked())
-    line("a dict behind a lock", *(cost(work, [locked] * threads) for threads in (1, 4) for work in (gets, puts, adds)))
-    keeping = library.get, library.put_if_match, library.next_pair
-    library.get, library.put_if_match, library.next_pair = (
-        library._function(library._lets_go, name, c_int, *kept.argtypes) for name, kept in zip(("get", "put_if_match", "next"), keeping)
-    )
-    of_map("Map, not mixed, letting go of the lock", mixed=False)
-    library.get, library.put_if_match, library.next_pair = keeping
-
-    one = filled(Map.for_keys(KEYS, seats=8, mixed=False))
-    lease = one._local.lease
-    local = one._local
-    begun = time.perf_counter()
-    for _ in range(CALLS):
-        local.lease
-    looked = time.perf_counter() - begun
-    begun = time.perf_counter()
-    for _ in range(CALLS):
-        lease.handle
-    line("the lookup of a thread's seat", (looked - (time.perf_counter() - begun)) / CALLS * 1e6)
-    begun = time.perf_counter()
-    for key in range(CALLS):
-        mix(key)
-    line("mix", (time.perf_counter() - begun) / CALLS * 1e6)
-    handle, number = lease.handle, c_uint64()
-    begun = time.perf_counter()
-    for key in range(CALLS):
-        library.get(handle, 5, number)
-    line("the call of the library alone, a get", (time.perf_counter() - begun) / CALLS * 1e6)
-    begun = time.perf_counter()
-    for _ in range(1000):
-        one.get(1)
-        one.release()
-    line("a seat taken, a get, and the seat back", (time.perf_counter() - begun) / 1000 * 1e6)
+    letting_go()
+    row("a dict behind a lock", [filled(Locked())] * 4, False)
+    parts()
     longest()
-
-
-def longest():
-    """The longest put of a map that grows: it holds the interpreter as long."""
-    for most in (1_000_000,):
-        one = Map.for_many_keys(most, seats=2)
-        worst = 0.0
-        for key in range(most):
-            begun = time.perf_counter()
-            one.put(key, 1)
-            worst = max(worst, time.perf_counter() - begun)
-        line(f"the longest of {most} puts, ms", worst * 1000)
-        sparse = Map([26], seats=2)
-        sparse.put(1, 1)
-        begun = time.perf_counter()
-        assert list(sparse) == [1]
-        line("a walk over 2^26 slots with one key, ms", (time.perf_counter() - begun) * 1000)
 
 
 main()

@@ -106,36 +106,36 @@ class Calls:
         made(self._reach(library.put_if_match, self._key(key), *condition, *to, word(tries, 32), reply))
         return (reply.before if reply.had else None), bool(reply.matched)
 
-    def _write(self, key: SupportsIndex, want: int, change: int, number: SupportsIndex = 0, old: SupportsIndex = 0) -> library.Reply:
-        """A write that is made again as long as it is contended."""
+    def _write(self, key: SupportsIndex, want: int, change: int, number: int = 0, old: int = 0) -> library.Reply:
+        """A write that is made again as long as it is contended. Its numbers are words of C."""
         reply = library.Reply()
-        key, number, old = self._key(key), word(number), word(old)
+        key = self._key(key)
         while True:
             code = self._reach(library.put_if_match, key, want, old, change, number, TRIES, reply)
             if code != _CONTENDED:
                 made(code)
                 return reply
 
-    def _found(self, key: SupportsIndex, want: int, change: int, number: SupportsIndex = 0) -> int | None:
+    def _found(self, key: SupportsIndex, want: int, change: int, number: int = 0) -> int | None:
         """What such a write found."""
         reply = self._write(key, want, change, number)
         return reply.before if reply.had else None
 
     def put(self, key: SupportsIndex, number: SupportsIndex) -> int | None:
         """Puts a number at a key. What was there, or None."""
-        return self._found(key, _ANY, _PUT, number)
+        return self._found(key, _ANY, _PUT, word(number))
 
     def put_if_absent(self, key: SupportsIndex, number: SupportsIndex) -> int | None:
         """Puts a number at a key that has none. What was there: None if it did."""
-        return self._found(key, _ABSENT, _PUT, number)
+        return self._found(key, _ABSENT, _PUT, word(number))
 
     def replace(self, key: SupportsIndex, number: SupportsIndex) -> int | None:
         """Puts a number at a key that has one. What was there, or None."""
-        return self._found(key, _PRESENT, _PUT, number)
+        return self._found(key, _PRESENT, _PUT, word(number))
 
     def replace_if(self, key: SupportsIndex, old: SupportsIndex, number: SupportsIndex) -> bool:
         """Puts a number in place of another. Whether it did."""
-        return bool(self._write(key, _EQUAL, _PUT, number, old).matched)
+        return bool(self._write(key, _EQUAL, _PUT, word(number), word(old)).matched)
 
     def remove(self, key: SupportsIndex) -> int | None:
         """Takes a key out. What was there, or None."""
@@ -143,11 +143,11 @@ class Calls:
 
     def remove_if(self, key: SupportsIndex, number: SupportsIndex) -> bool:
         """Takes a key out that has this number. Whether it did."""
-        return bool(self._write(key, _EQUAL, _REMOVE, 0, number).matched)
+        return bool(self._write(key, _EQUAL, _REMOVE, 0, word(number)).matched)
 
     def add(self, key: SupportsIndex, number: SupportsIndex) -> int | None:
         """Adds a number to what is at a key, or to 0 if there is none. What was there, or None."""
-        return self._found(key, _ANY, _ADD, number)
+        return self._found(key, _ANY, _ADD, word(number))
 
     def compute(self, key: SupportsIndex, function: Callable[[int | None], int | None]) -> int | None:
         """Puts at a key what the function makes of the number there. None is no number, before and after. What it made.
