@@ -4,11 +4,13 @@ from __future__ import annotations
 
 from collections.abc import Callable, Iterable, Iterator, Mapping
 from ctypes import c_uint64
-from typing import Any, SupportsIndex
+from typing import Any, SupportsIndex, TypeVar, overload
 
 from . import library
 from .codes import Change, Code, Want, made
 from .numbers import key_of, number_of, word
+
+T = TypeVar("T")
 
 TRIES = 2**32 - 1
 
@@ -45,6 +47,12 @@ class Calls:
         return number_of(key) if self.mixed else key
 
     # reads
+
+    @overload
+    def get(self, key: SupportsIndex) -> int | None: ...
+
+    @overload
+    def get(self, key: SupportsIndex, default: T) -> int | T: ...
 
     def get(self, key: SupportsIndex, default: Any = None) -> Any:
         """What is at a key, or the default. It never waits."""

@@ -6,10 +6,10 @@ import itertools
 import threading
 from collections.abc import Iterable, Iterator
 from ctypes import byref, c_uint64, c_void_p
-from typing import Any, SupportsIndex
+from typing import Any, SupportsIndex, overload
 
 from . import library
-from .calls import Calls
+from .calls import Calls, T
 from .codes import WalkCutOff, made
 from .numbers import key_of, number_of, word
 from .shapes import plan_for_keys, plan_for_many_keys, shape_of
@@ -164,6 +164,12 @@ class Ended:
     def __len__(self) -> int:
         """How many keys there are, exactly."""
         return self._reach(library.ended_size)
+
+    @overload
+    def get(self, key: SupportsIndex) -> int | None: ...
+
+    @overload
+    def get(self, key: SupportsIndex, default: T) -> int | T: ...
 
     def get(self, key: SupportsIndex, default: Any = None) -> Any:
         """What is at a key, or the default."""
