@@ -142,7 +142,7 @@ def parts():
 
     def taken():
         one.get(1)
-        one.release()
+        one.give_back()
 
     line("a seat taken, a get, and the seat back", once(1000, taken))
 

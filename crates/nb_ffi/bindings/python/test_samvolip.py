@@ -359,6 +359,7 @@ class Holder(threading.Thread):
 
 def seats_run_out():
     counts = Map.for_keys(10, seats=3)
+    assert counts.seats == 3
     holders = [Holder(counts) for _ in range(3)]
     assert [holder.came for holder in holders] == [None] * 3
     late = Holder(counts)
@@ -369,7 +370,7 @@ def seats_run_out():
     assert refused(counts.close) == Code.E_NOT_ALL_SEATS
     holders.pop().end()
     assert counts[1] == 3
-    counts.release()
+    counts.give_back()
     explicit = counts.seat()
     try:
         counts.close()
@@ -410,7 +411,7 @@ def walks_stay():
     assert came == ["a walk stays on its thread, and ends where the thread gives its seat back"]
     walk = counts.walk()
     next(walk)
-    counts.release()
+    counts.give_back()
     assert told(next, walk) == came[0]
     kept = []
     thread = threading.Thread(target=lambda: kept.append(counts.walk()))

@@ -11,7 +11,6 @@ from typing import Any, SupportsIndex
 from . import library
 from .calls import Calls
 from .codes import Code, NoSeat, NotAllSeats, Refused, WalkCutOff
-from .numbers import word
 from .seats import Ended, Seat
 from .shapes import plan_for_keys, plan_for_many_keys
 
@@ -25,8 +24,8 @@ class _Pool:
     queue, since a finalizer may run at any moment.
     """
 
-    def __init__(self, seat: Seat, seats: int) -> None:
-        self.seats = seats
+    def __init__(self, seat: Seat) -> None:
+        self.seats = seat.count
         self.closed = False
         self._lock = threading.RLock()
         self._idle: Seat | None = seat
@@ -135,7 +134,7 @@ class Map(Calls):
         """A new map of tables with 2**e slots, 1 to 16 of them. Map.for_keys and Map.for_many_keys choose them."""
         self.mixed = bool(mixed)
         self._local = _Local()
-        self._pool = _Pool(Seat.open(exponents, seats, stripes, reprobes, chunk, mixed), word(seats))
+        self._pool = _Pool(Seat.open(exponents, seats, stripes, reprobes, chunk, mixed))
 
     @classmethod
     def for_keys(cls, most: SupportsIndex, seats: SupportsIndex = SEATS, mixed: bool = True) -> Map:
@@ -155,11 +154,16 @@ class Map(Calls):
     def _reach(self, function: Any, *words: Any) -> int:
         return function((self._local.lease or self._begin()).handle, *words)
 
+    @property
+    def seats(self) -> int:
+        """How many seats the map has: as many threads may call at once."""
+        return self._pool.seats
+
     def seat(self) -> Seat:
         """An explicit seat, which any thread may be given. It goes back to the map when it is freed, or by `with`."""
         return self._pool.take()
 
-    def release(self) -> None:
+    def give_back(self) -> None:
         """Gives this thread's seat back before the thread ends. Its next call gets one again."""
         lease, self._local.lease = self._local.lease, None
         if lease is not None:
@@ -167,12 +171,12 @@ class Map(Calls):
 
     def close(self) -> Ended:
         """Ends the map: what is left of it. Refused by NotAllSeats while other threads have seats; it waits for none."""
-        self.release()
+        self.give_back()
         return self._pool.close()
 
     def free(self) -> None:
         """Gives the map up. Threads that have seats may go on; the memory goes when the last seat comes back."""
-        self.release()
+        self.give_back()
         self._pool.free()
 
     def __enter__(self) -> Map:
