@@ -8,7 +8,7 @@ from typing import Any, SupportsIndex, TypeVar, overload
 
 from . import library
 from .codes import Change, Code, Want, made
-from .numbers import key_of, number_of, word
+from .numbers import key_of, number_of, same, word
 
 T = TypeVar("T")
 
@@ -26,7 +26,11 @@ class Calls:
     A refused call raises Refused, and has changed nothing. A number that no word of 64 bits holds raises OverflowError.
     """
 
-    mixed: bool
+    def __init__(self, mixed: bool) -> None:
+        """With keys that are mixed, or with keys as they are."""
+        self.mixed = bool(mixed)
+        self._key = key_of if mixed else word
+        self._number = number_of if mixed else same
 
     def _reach(self, function: Any, *words: Any) -> int:
         """Makes a call of the library with the handle."""
@@ -39,12 +43,6 @@ class Calls:
         raises WalkCutOff when it is asked for more.
         """
         raise NotImplementedError
-
-    def _key(self, key: SupportsIndex) -> int:
-        return key_of(key) if self.mixed else word(key)
-
-    def _number(self, key: int) -> int:
-        return number_of(key) if self.mixed else key
 
     # reads
 

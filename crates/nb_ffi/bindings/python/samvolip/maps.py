@@ -132,7 +132,7 @@ class Map(Calls):
         mixed: bool = True,
     ) -> None:
         """A new map of tables with 2**e slots, 1 to 16 of them. Map.for_keys and Map.for_many_keys choose them."""
-        self.mixed = bool(mixed)
+        super().__init__(mixed)
         self._local = _Local()
         self._pool = _Pool(Seat.open(exponents, seats, stripes, reprobes, chunk, mixed))
 

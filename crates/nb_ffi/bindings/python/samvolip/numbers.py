@@ -46,10 +46,13 @@ def _unmixed(number: int) -> int:
 
 def key_of(number: SupportsIndex) -> int:
     """The mixed key of a number up to KEY_MAX. Two numbers mix to words past KEY_MAX, which are mixed again."""
-    number = word(number)
-    if number > KEY_MAX:
+    number = operator.index(number)
+    if not 0 <= number <= KEY_MAX:
+        word(number)
         raise Refused(Code.E_KEY_RANGE)
-    key = _mixed(number)
+    # as _mixed, without the cost of a call
+    key = int.from_bytes((number * _FACTOR & _WORD).to_bytes(8, "little"), "big")
+    key = int.from_bytes((key * _FACTOR & _WORD).to_bytes(8, "little"), "big")
     return key if key <= KEY_MAX else _mixed(key)
 
 
@@ -57,3 +60,8 @@ def number_of(key: int) -> int:
     """The number whose mixed key this is."""
     number = _unmixed(key)
     return number if number <= KEY_MAX else _unmixed(number)
+
+
+def same(key: int) -> int:
+    """The number whose key, not mixed, this is."""
+    return key

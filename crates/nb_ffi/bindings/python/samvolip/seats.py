@@ -26,7 +26,7 @@ class Seat(Calls):
 
     def __init__(self, handle: c_void_p, number_of_map: int, mixed: bool, count: int, pool: Any = None) -> None:
         """For the package's own use: `open`, `for_keys`, `for_many_keys`, `split` and `Map.seat` make seats."""
-        self.mixed = mixed
+        super().__init__(mixed)
         self.count = count  # how many seats the handle has: its own, and those in reserve
         self._handle = handle
         self._map = number_of_map
@@ -51,7 +51,7 @@ class Seat(Calls):
         shape = shape_of(exponents, seats, stripes, reprobes, chunk)
         handle = c_void_p()
         made(library.open_with(byref(library.HEADER), byref(shape), byref(handle)))
-        return cls(handle, next(_maps), bool(mixed), shape.seats)
+        return cls(handle, next(_maps), mixed, shape.seats)
 
     @classmethod
     def for_keys(cls, most: SupportsIndex, seats: SupportsIndex = 1, mixed: bool = True) -> Seat:
