@@ -1,13 +1,27 @@
 #!/usr/bin/env bash
-# Makes a shared library of out/libnb_ffi.a, which `rt lib` builds: shared-library.sh [FOLDER] writes FOLDER/libsamvolip.so (out/ by
-# default). It shows the names of samvolip.h and no others. KIT is the kit's folder, CC the compiler.
+# Makes libraries that need no kit of out/libnb_ffi.a, which `rt lib` builds: shared-library.sh [FOLDER] writes to FOLDER (out/ by
+# default) libsamvolip.so, with the file that it stands for, and libsamvolip.a. Both show the names of samvolip.h and no others.
+# KIT is the kit's folder, CC the compiler.
 set -euo pipefail
 here="$(cd "$(dirname "${BASH_SOURCE[0]}")" && pwd)"
 to="${1:-$here/out}"
 kit="${KIT:-$(dirname "$(rt doc)")}"
+version="$(cat "$here/../../VERSION")"
+name="libsamvolip.so.${version%%.*}"
 [ -f "$here/out/libnb_ffi.a" ] || { echo "shared-library: first run rt lib in $here" >&2; exit 1; }
 mkdir -p "$to"
+parts=(-Wl,--whole-archive "$here/out/libnb_ffi.a" -Wl,--no-whole-archive "$kit/c/liblibc_c.a")
+
 printf '{ global: samvolip_*; local: *; };\n' > "$to/samvolip.map"
-"${CC:-cc}" -shared -o "$to/libsamvolip.so" -Wl,-soname,libsamvolip.so -Wl,--version-script="$to/samvolip.map" -Wl,-z,defs \
-    -Wl,--whole-archive "$here/out/libnb_ffi.a" -Wl,--no-whole-archive "$kit/c/liblibc_c.a" -lpthread
+rm -f "$to/libsamvolip.so" "$to/$name"
+"${CC:-cc}" -shared -o "$to/libsamvolip.so.$version" -Wl,-soname,"$name" -Wl,--version-script="$to/samvolip.map" -Wl,-z,defs "${parts[@]}" -lpthread
+ln -s "libsamvolip.so.$version" "$to/$name"
+ln -s "$name" "$to/libsamvolip.so"
 rm "$to/samvolip.map"
+
+# one object file, whose other names are its own, so that they meet none of a program's
+"${CC:-cc}" -r -nostdlib -o "$to/samvolip.o" "${parts[@]}"
+"${OBJCOPY:-objcopy}" --wildcard --keep-global-symbol='samvolip_*' "$to/samvolip.o"
+rm -f "$to/libsamvolip.a"
+"${AR:-ar}" rcsD "$to/libsamvolip.a" "$to/samvolip.o"
+rm "$to/samvolip.o"

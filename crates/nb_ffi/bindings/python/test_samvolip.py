@@ -1,14 +1,40 @@
-"""Threads add to one map, by seats of their own and by one seat; and each call once, and each refusal but four.
+"""Threads call one map without seats, by seats of their own and by one seat; and each call once, and each refusal but four.
 
 The four are want of memory, a contended write, an array that is too small, and a map that was given up while it was closed: no
-call of the module brings one of them about for sure.
+call of the package brings one of them about for sure. The programs of docs/python.md run, too.
 """
 
+import gc
+import os
+import re
+import signal
+import subprocess
+import sys
+import tempfile
 import threading
 import time
 
 import samvolip
-from samvolip import KEY_MAX, VALUE_MAX, Change, Code, Refused, Seat, Want, exponents_for_keys, exponents_for_many_keys
+from samvolip import (
+    KEY_MAX,
+    VALUE_MAX,
+    Change,
+    Code,
+    Full,
+    Map,
+    NoSeat,
+    NotAllSeats,
+    Refused,
+    Seat,
+    WalkCutOff,
+    Want,
+    exponents_for_keys,
+    exponents_for_many_keys,
+    mix,
+    unmix,
+)
+
+PAGE = os.path.join(os.path.dirname(os.path.abspath(__file__)), "../../../../docs/python.md")
 
 
 def refused(call, *words, **named):
@@ -24,7 +50,7 @@ def told(call, *words):
     """What the module itself says of a wrong call, if it is one."""
     try:
         call(*words)
-    except (ValueError, OverflowError) as wrong:
+    except (ValueError, OverflowError, TypeError, KeyError, WalkCutOff) as wrong:
         return str(wrong)
     return None
 
@@ -81,10 +107,10 @@ def one_seat():
     """Two threads call with one seat at once: each call has the seat to itself, and the sum is right."""
     seat = Seat.open(exponents_for_keys(10))
     found = [], []
-    library = samvolip._lib.samvolip_put_if_match
-    samvolip._lib.samvolip_put_if_match = alone(library)
+    library = samvolip.library.put_if_match
+    samvolip.library.put_if_match = alone(library)
     run_all([threading.Thread(target=adds, args=(seat, mine)) for mine in found])
-    samvolip._lib.samvolip_put_if_match = library
+    samvolip.library.put_if_match = library
     assert seat.get(7) == 10000
     assert sorted(found[0] + found[1]) == list(range(10000))
 
@@ -110,7 +136,8 @@ def calls():
     assert told(seat.get, -1) == "-1 isn't from 0 to 2^64 - 1"
     assert told(seat.put, 1, 2**64) == "18446744073709551616 isn't from 0 to 2^64 - 1"
     assert told(seat.put_if_match, 1, Want.ANY, Change.PUT, 0, 0, -1) == "-1 isn't from 0 to 2^32 - 1"
-    assert told(Seat.open, [2**32 + 4]) == told(Seat.open, [4], 2**32 + 4) == "4294967300 isn't from 0 to 2^32 - 1"
+    for call in (lambda: seat.get("a"), lambda: seat.put(1, 1.5), lambda: seat.put_if_match(1, None, 0), lambda: seat.add(None, 1)):
+        assert "integer" in told(call)
     seat.free()
     seat.free()
     assert told(seat.get, 1) == "the seat is empty"
@@ -131,9 +158,21 @@ def broken_shapes():
         (Code.E_CHUNK, [4], {"chunk": 2}),
     ]:
         assert refused(Seat.open, exponents, **named) == code
-    samvolip._HEADER.version += 1
+    samvolip.library.HEADER.version += 1
     assert refused(Seat.open, [4]) == Code.E_VERSION
-    samvolip._HEADER.version -= 1
+    samvolip.library.HEADER.version -= 1
+    for opened in (Seat.open, Map):
+        wrong = "4294967297 isn't from 0 to 2^32 - 1"
+        assert told(opened, [2**32 + 1]) == told(opened, [4], 2**32 + 1) == told(opened, [4], 1, 2**32 + 1) == wrong
+        assert told(opened, [4], 1, 1, 2**32 + 1) == told(opened, [4], 1, 1, 1, 2**32 + 1) == wrong
+    for kind in (Seat, Map):
+        for opened in (kind.for_keys, kind.for_many_keys):
+            assert told(opened, -1) == "-1 isn't from 0 to 2^64 - 1"
+            assert told(opened, 10, -1) == "-1 isn't from 0 to 2^32 - 1"
+            assert told(opened, 10, 2**32 + 1) == "4294967297 isn't from 0 to 2^32 - 1"
+            assert "integer" in told(opened, 10.0)
+            assert refused(opened, 2**30) == Code.E_TABLES
+            assert refused(opened, 10, 0) == Code.E_SEATS
 
 
 def grows():
@@ -180,7 +219,7 @@ def shapes():
 
 
 def many_seats():
-    first = Seat.open_for_many_keys(5000, seats=256)
+    first = Seat.for_many_keys(5000, seats=256)
     seats = [first.split() for _ in range(255)]
     for number, seat in enumerate(seats):
         seat.put(number, number)
@@ -191,13 +230,258 @@ def many_seats():
 
 
 def walks():
-    seat = Seat.open(exponents_for_keys(10))
-    for key in range(3):
-        seat.put(key, key)
-    older = seat.walk()
-    next(older)
-    assert sorted(seat.walk()) == [(0, 0), (1, 1), (2, 2)]
-    assert list(older) == []
+    for mixed in (True, False):
+        for opened in (Seat.open(exponents_for_keys(10), mixed=mixed), Map(exponents_for_keys(10), mixed=mixed)):
+            for key in range(3):
+                opened.put(key, key + 5)
+            older = opened.walk()
+            next(older)
+            assert sorted(opened.items()) == [(0, 5), (1, 6), (2, 7)]
+            assert sorted(opened) == sorted(opened.keys()) == [0, 1, 2] and sorted(opened.values()) == [5, 6, 7]
+            assert "a newer walk of th" in told(next, older)
+            nested = opened.walk()
+            next(nested)
+            assert list(opened) and told(next, nested)
+
+
+def like_a_dict():
+    for one in (Seat.for_keys(10), Map.for_keys(10)):
+        one[1] = 2
+        assert one[1] == 2 and 1 in one and 2 not in one and len(one) == 1
+        assert one.get(2) is None and one.get(2, 7) == 7 and one.get(1, 7) == 2
+        one.update({3: 4})
+        one.update([(5, 6)])
+        one.update(one)
+        assert sorted(one.items()) == [(1, 2), (3, 4), (5, 6)] == sorted(dict(one).items())
+        assert one.setdefault(1, 9) == 2 and one.setdefault(9, 10) == 10 and one[9] == 10
+        assert one.pop(9) == 10 and one.pop(9, None) is None and told(one.pop, 9) == told(one.__getitem__, 9) == "9"
+        del one[1]
+        assert 1 not in one and told(one.__delitem__, 1) == "1"
+        assert told(one.pop, 1, 2, 3) == "pop takes one default at most"
+        assert one.compute(3, lambda number: number + 1) == 5 and one.compute(3, lambda number: None) is None and 3 not in one
+        assert one.compute(3, lambda number: 1 if number is None else 0) == 1 and one.compute(4, lambda number: None) is None
+    with Seat.for_keys(10) as seat:
+        assert re.fullmatch(r"<samvolip.Seat of map \d+, about 0 keys, mixed>", repr(seat))
+    assert repr(seat) == "<samvolip.Seat, empty>" and told(seat.get, 1) == "the seat is empty"
+    ended = Seat.for_keys(10, mixed=False).close()
+    assert repr(ended) == "<samvolip.Ended, 0 keys>" and 1 not in ended and told(ended.__getitem__, 1) == "1"
+    with ended:
+        assert list(ended) == ended.items() == []
+    assert told(len, ended) == "the ended map was freed"
+
+
+def contended():
+    """Threads compute at one key: no change is lost."""
+    counts = Map.for_keys(10)
+
+    def work():
+        for _ in range(2000):
+            counts.compute(1, lambda number: (number or 0) + 1)
+
+    run_all([threading.Thread(target=work) for _ in range(4)])
+    assert counts[1] == 8000
+
+
+def mixing():
+    # what nb_core's test expects
+    for number, mixed in [
+        (0, 0),
+        (1, 17732798614194424744),
+        (2, 17013110623237245971),
+        (131072, 17231277123929834607),
+        (281474976710656, 3229997669068692271),
+        (2**64 - 1, 17684271367961033934),
+        (1504646209777642070, 2**64 - 1),
+        (5863696168926310861, 2**64 - 2),
+    ]:
+        assert mix(number) == mixed and unmix(mixed) == number
+    assert told(mix, 2**64) == told(unmix, 2**64) == "18446744073709551616 isn't from 0 to 2^64 - 1"
+    numbers = [0, 1, 2, 131072, 1504646209777642070, 5863696168926310861, KEY_MAX]
+    for mixed in (True, False):
+        for one in (Seat.for_keys(100, mixed=mixed), Map.for_keys(100, mixed=mixed)):
+            for number in numbers:
+                assert one.put(number, 5) is None and one.get(number) == 5
+            assert sorted(one) == numbers
+            assert refused(one.get, KEY_MAX + 1) == refused(one.put, KEY_MAX + 1, 0) == Code.E_KEY_RANGE
+            ended = one.close()
+            assert ended.entries() == [(number, 5) for number in numbers]
+            assert ended.get(131072) == ended[131072] == 5 and ended.get(131073) is None and list(ended) == numbers
+            assert refused(ended.get, KEY_MAX + 1) == Code.E_KEY_RANGE
+    # keys that share their low bits are at home in few slots, unless they are mixed
+    first = Map([14], seats=1)
+    begun = time.perf_counter()
+    for i in range(5000):
+        first[i << 16] = i
+    spread = time.perf_counter() - begun
+    same = Map([14], seats=1, mixed=False)
+    begun = time.perf_counter()
+    for i in range(5000):
+        same[i << 16] = i
+    print(f"python: 5000 keys of step 65536: {spread * 200:.2f} us a put mixed, {(time.perf_counter() - begun) * 200:.2f} not mixed")
+    assert sorted(first.items()) == sorted(same.items()) == [(i << 16, i) for i in range(5000)]
+
+
+def without_seats():
+    """Eight threads, and a map that grows: each number is exact, and the seats are there again at the end."""
+    counts = Map([4, 6, 8, 10, 12], seats=8, stripes=4)
+    run_all([threading.Thread(target=work, args=(counts, number)) for number in range(8)])
+    assert counts.generation() == 4 and len(counts) == 1000
+    assert sorted(counts) == list(range(1000)) and sum(counts.values()) == 40000
+    run_all([threading.Thread(target=work, args=(counts, number)) for number in range(8)][:7])
+    ended = counts.close()
+    assert len(ended) == 1000 and sum(number for _, number in ended.entries()) == 75000
+    assert repr(counts) == "<samvolip.Map, closed>"
+    assert told(counts.get, 1) == told(counts.close) == told(counts.seat) == "the map is closed"
+
+
+class Holder(threading.Thread):
+    """A thread that calls once, and goes on when it is told."""
+
+    def __init__(self, counts):
+        super().__init__()
+        self.counts = counts
+        self.came = None
+        self.called, self.may_end = threading.Event(), threading.Event()
+        self.start()
+        self.called.wait()
+
+    def run(self):
+        try:
+            self.counts.add(1, 1)
+        except Refused as refusal:
+            self.came = refusal
+        self.called.set()
+        self.may_end.wait()
+
+    def end(self):
+        self.may_end.set()
+        self.join()
+
+
+def seats_run_out():
+    counts = Map.for_keys(10, seats=3)
+    assert counts.seats == 3
+    holders = [Holder(counts) for _ in range(3)]
+    assert [holder.came for holder in holders] == [None] * 3
+    late = Holder(counts)
+    assert isinstance(late.came, NoSeat) and str(late.came) == "all 3 seats of the map are out (E_NO_SEAT)"
+    assert late.came.code == Code.E_NO_SEAT and refused(counts.seat) == refused(counts.get, 1) == Code.E_NO_SEAT
+    late.end()
+    assert repr(counts) == "<samvolip.Map, 3 of 3 seats out, mixed>"
+    assert refused(counts.close) == Code.E_NOT_ALL_SEATS
+    holders.pop().end()
+    assert counts[1] == 3
+    counts.give_back()
+    explicit = counts.seat()
+    try:
+        counts.close()
+    except NotAllSeats as refusal:
+        assert str(refusal) == "other threads or explicit seats have 3 of the 3 seats (E_NOT_ALL_SEATS)"
+    assert explicit.add(1, 1) == 3 and explicit.get(1) == 4
+    explicit.free()
+    assert told(explicit.get, 1) == "the seat is empty"
+    with counts.seat() as again:
+        assert again.get(1) == 4
+        assert refused(counts.seat) == Code.E_NO_SEAT
+    for holder in holders:
+        holder.end()
+    one, two = counts.seat(), counts.seat()
+    one.join(two)
+    three = one.split()
+    del one, two, three
+    gc.collect()
+    assert counts[1] == 4 and repr(counts) == "<samvolip.Map, 1 of 3 seats out, mixed>"
+    assert counts.close().entries() == [(1, 4)]
+
+
+def many_short_threads():
+    """Far more threads than seats, one after another and a few at a time."""
+    counts = Map.for_keys(10, seats=4)
+    for _ in range(100):
+        run_all([threading.Thread(target=counts.add, args=(1, 1)) for _ in range(4)])
+    assert counts.close()[1] == 400
+
+
+def walks_stay():
+    """A walk stays on its thread and with its seat."""
+    counts = Map.for_keys(10)
+    counts.update({1: 2, 3: 4})
+    walk, came = counts.walk(), []
+    thread = threading.Thread(target=lambda: came.append(told(next, walk)))
+    run_all([thread])
+    assert came == ["a walk stays on its thread, and ends where the thread gives its seat back"]
+    walk = counts.walk()
+    next(walk)
+    counts.give_back()
+    assert told(next, walk) == came[0]
+    kept = []
+    thread = threading.Thread(target=lambda: kept.append(counts.walk()))
+    run_all([thread])
+    assert told(next, kept[0]) == came[0]
+    assert counts.close().entries() == [(1, 2), (3, 4)]
+
+
+def ends():
+    """A map is closed by `with`, or given up where an exception is under way or others have seats."""
+    with Map.for_keys(10) as counts:
+        counts[1] = 2
+    assert told(counts.get, 1) == "the map is closed"
+    with Map.for_keys(10) as counts:
+        counts[1] = 2
+        ended = counts.close()
+    assert ended[1] == 2
+    counts = Map.for_keys(10)
+    holder = Holder(counts)
+    try:
+        with counts:
+            counts[1] = 2
+    except NotAllSeats as refusal:
+        assert str(refusal) == "other threads or explicit seats have 1 of the 64 seats (E_NOT_ALL_SEATS)"
+    assert counts[1] == 2
+    try:
+        with counts:
+            raise KeyError(5)
+    except KeyError:
+        pass
+    assert told(counts.get, 1) == "the map is closed"
+    holder.end()
+    counts = Map([2])
+    counts.update((key, 0) for key in range(4))
+    try:
+        counts[4] = 0
+    except Full as refusal:
+        assert str(refusal) == "the map is full (E_FULL)" and refusal.code == Code.E_FULL
+    assert sorted(counts) == [0, 1, 2, 3]
+
+
+def interrupted():
+    """A signal comes in the middle of calls, and its handler calls the same map and the same seat: each has its own answer."""
+    for one in (Map.for_keys(10), Seat.for_keys(10)):
+        came = []
+        signal.signal(signal.SIGALRM, lambda *_: came.append(one.add(2, 1) or 0))
+        signal.setitimer(signal.ITIMER_REAL, 0.0002, 0.0002)
+        for i in range(20000):
+            assert (one.add(1, 1) or 0) == i and one.get(1) == i + 1
+        signal.setitimer(signal.ITIMER_REAL, 0)
+        signal.signal(signal.SIGALRM, signal.SIG_DFL)
+        assert came == list(range(len(came))) and one.get(2, 0) == len(came) > 0
+
+
+def page():
+    """The programs of the page print what it says."""
+    with open(PAGE) as file:
+        blocks = re.findall(r"(?:^    .*\n|^\n(?=    ))+", file.read(), re.M)
+    blocks = [re.sub(r"^    ", "", block, flags=re.M).strip("\n") for block in blocks]
+    programs = [number for number, block in enumerate(blocks) if re.match(r"# \w+\.py: ", block)]
+    assert len(programs) == 2
+    with tempfile.TemporaryDirectory() as folder:
+        for number in programs:
+            path = f"{folder}/program.py"
+            with open(path, "w") as file:
+                file.write(blocks[number])
+            paths = {**os.environ, "PYTHONPATH": os.path.dirname(os.path.dirname(samvolip.__file__))}
+            ran = subprocess.run([sys.executable, path], capture_output=True, text=True, env=paths, check=True)
+            assert ran.stdout.strip("\n") == blocks[number + 1], ran.stdout
 
 
 threads()
@@ -209,4 +493,14 @@ grows()
 joins()
 many_seats()
 walks()
+like_a_dict()
+contended()
+mixing()
+without_seats()
+seats_run_out()
+many_short_threads()
+walks_stay()
+ends()
+interrupted()
+page()
 print("python: well")

@@ -1,0 +1,62 @@
+"""The sizes of a map's tables."""
+
+from __future__ import annotations
+
+from collections.abc import Iterable
+from typing import SupportsIndex
+
+from . import library
+from .codes import MANY_CHUNK, MANY_FIRST_EXPONENT, MANY_KEYS, MANY_REPROBES, MANY_STEP, MANY_STRIPES, MOST_KEYS, Code, Refused
+from .numbers import word
+
+
+def _last_exponent(most: int) -> int:
+    """The exponent of the smallest table that has half as many slots again as there are keys, of 32 slots at least."""
+    return next(e for e in range(5, 29) if 2**e >= most + most // 2)
+
+
+def exponents_for_keys(most: SupportsIndex) -> list[int]:
+    """Two tables with room to spare for so many keys, MOST_KEYS at most."""
+    most = word(most)
+    if most > MOST_KEYS:
+        raise Refused(Code.E_TABLES, f"no such shape for more than {MOST_KEYS} keys")
+    last = _last_exponent(most)
+    return [last - 3, last]
+
+
+def exponents_for_many_keys(most: SupportsIndex) -> list[int]:
+    """Tables with room to spare for so many keys, MANY_KEYS at most, each with a 64th of the slots of the next one."""
+    most = word(most)
+    if most > MANY_KEYS:
+        raise Refused(Code.E_TABLES, f"no such shape for more than {MANY_KEYS} keys")
+    last = _last_exponent(most)
+    return list(range(last, MANY_FIRST_EXPONENT - 1, -MANY_STEP))[::-1]
+
+
+def shape_of(
+    exponents: Iterable[SupportsIndex],
+    seats: SupportsIndex,
+    stripes: SupportsIndex | None,
+    reprobes: SupportsIndex,
+    chunk: SupportsIndex,
+) -> library.Shape:
+    """A shape of C. Without a number of stripes there is one for each seat. The library checks the ranges."""
+    exponents = [word(exponent, 32) for exponent in exponents]
+    if len(exponents) > 16:
+        raise Refused(Code.E_TABLES)
+    seats = word(seats, 32)
+    stripes = seats if stripes is None else word(stripes, 32)
+    shape = library.Shape(tables=len(exponents), seats=seats, stripes=stripes, reprobes=word(reprobes, 32), chunk=word(chunk, 32))
+    shape.exponents[: len(exponents)] = exponents
+    return shape
+
+
+def plan_for_keys(most: SupportsIndex) -> dict:
+    """What a map for so many keys, MOST_KEYS at most, is opened with."""
+    return {"exponents": exponents_for_keys(most), "reprobes": 18, "chunk": 64}
+
+
+def plan_for_many_keys(most: SupportsIndex, seats: SupportsIndex) -> dict:
+    """What a map for so many keys, MANY_KEYS at most, is opened with."""
+    stripes = min(word(seats, 32), MANY_STRIPES)
+    return {"exponents": exponents_for_many_keys(most), "stripes": stripes, "reprobes": MANY_REPROBES, "chunk": MANY_CHUNK}
