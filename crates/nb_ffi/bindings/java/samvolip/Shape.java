@@ -18,7 +18,7 @@ public record Shape(int[] exponents, int seats, int stripes, int reprobes, int c
     public static final int MOST_KEYS = 349525, MANY_KEYS = 178956970;
 
     /** What forManyKeys makes: the least exponent, by how much each is above the one before it, the most stripes, the reprobe limit and the chunk. */
-    private static final int MANY_FIRST_EXPONENT = 4, MANY_STEP = 6, MANY_STRIPES = 16, MANY_REPROBES = 18, MANY_CHUNK = 256;
+    private static final int MANY_FIRST_EXPONENT = 4, MANY_STEP = 8, MANY_STRIPES = 16, MANY_REPROBES = 18, MANY_CHUNK = 256;
 
     public Shape {
         exponents = exponents.clone();
@@ -32,7 +32,7 @@ public record Shape(int[] exponents, int seats, int stripes, int reprobes, int c
     }
 
     /**
-     * Tables with room to spare for so many different keys, 0 to MANY_KEYS, each with a 64th of the slots of the next one, and no more than
+     * Tables with room to spare for so many different keys, 0 to MANY_KEYS, each with a 256th of the slots of the next one, and no more than
      * 16 stripes. Refused as {@link Code#E_TABLES}.
      */
     public static Shape forManyKeys(long most, int seats) {

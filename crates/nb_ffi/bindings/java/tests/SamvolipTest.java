@@ -234,10 +234,10 @@ public final class SamvolipTest {
     }
 
     private static void shapes() {
-        int[][] many = {{5}, {6}, {9}, {4, 10}, {9, 15, 21}, {8, 14, 20, 26}, {9, 15, 21, 27}, {4, 10, 16, 22, 28}};
-        long[] most = {21, 22, 341, 342, 1000000, 44739243, 44739244, 178956970};
+        int[][] many = {{5}, {6}, {11}, {4, 12}, {5, 13, 21}, {10, 18, 26}, {11, 19, 27}, {4, 12, 20, 28}};
+        long[] most = {21, 22, 1365, 1366, 1000000, 44739243, 44739244, 178956970};
         for (int i = 0; i < most.length; i++) expect(Arrays.equals(Shape.forManyKeys(most[i], 17).exponents(), many[i]));
-        expect(Shape.forManyKeys(342, 17), new Shape(new int[] {4, 10}, 17, 16, 18, 256));
+        expect(Shape.forManyKeys(1366, 17), new Shape(new int[] {4, 12}, 17, 16, 18, 256));
         expect(Shape.forKeys(349525, 3), new Shape(new int[] {16, 19}, 3, 3, 18, 64));
         expect(refused(() -> Shape.forKeys(1 << 20, 1)), Code.E_TABLES);
         expect(refused(() -> Shape.forKeys(-1, 1)), Code.E_TABLES);

@@ -13,7 +13,7 @@ MANY_KEYS = 178956970  # that exponents_for_many_keys makes room for
 # what a shape for many keys has: the least exponent, by how much each is above the one before it, the most stripes, the reprobe
 # limit and the chunk
 MANY_FIRST_EXPONENT = 4
-MANY_STEP = 6
+MANY_STEP = 8
 MANY_STRIPES = 16
 MANY_REPROBES = 18
 MANY_CHUNK = 256

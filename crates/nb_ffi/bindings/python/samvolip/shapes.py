@@ -25,7 +25,7 @@ def exponents_for_keys(most: SupportsIndex) -> list[int]:
 
 
 def exponents_for_many_keys(most: SupportsIndex) -> list[int]:
-    """Tables with room to spare for so many keys, MANY_KEYS at most, each with a 64th of the slots of the next one."""
+    """Tables with room to spare for so many keys, MANY_KEYS at most, each with a 256th of the slots of the next one."""
     most = word(most)
     if most > MANY_KEYS:
         raise Refused(Code.E_TABLES, f"no such shape for more than {MANY_KEYS} keys")

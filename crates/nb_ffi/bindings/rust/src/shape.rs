@@ -45,7 +45,7 @@ impl Shape {
         })
     }
 
-    /// Tables with room to spare for so many different keys, each with a 64th of the slots of the next one, and no more
+    /// Tables with room to spare for so many different keys, each with a 256th of the slots of the next one, and no more
     /// than 16 stripes. `None` for more than [`MANY_KEYS`](crate::MANY_KEYS).
     pub fn for_many_keys(most: u64, seats: u32) -> Option<Shape> {
         if most > sys::MANY_KEYS {

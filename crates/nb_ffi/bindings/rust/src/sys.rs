@@ -22,7 +22,7 @@ pub const MANY_KEYS: u64 = 178_956_970;
 /// What [`Shape::for_many_keys`](crate::Shape::for_many_keys) makes: the least exponent, by how much
 /// each one is above the one before it, the most stripes, the reprobe limit and the chunk.
 pub const MANY_FIRST_EXPONENT: u32 = 4;
-pub const MANY_STEP: u32 = 6;
+pub const MANY_STEP: u32 = 8;
 pub const MANY_STRIPES: u32 = 16;
 pub const MANY_REPROBES: u32 = 18;
 pub const MANY_CHUNK: u32 = 256;

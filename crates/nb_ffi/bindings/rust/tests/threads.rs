@@ -87,12 +87,12 @@ fn shapes_for_keys() {
     for (most, exponents) in [
         (21, vec![5]),
         (22, vec![6]),
-        (341, vec![9]),
-        (342, vec![4, 10]),
-        (1_000_000, vec![9, 15, 21]),
-        (44_739_243, vec![8, 14, 20, 26]),
-        (44_739_244, vec![9, 15, 21, 27]),
-        (178_956_970, vec![4, 10, 16, 22, 28]),
+        (1365, vec![11]),
+        (1366, vec![4, 12]),
+        (1_000_000, vec![5, 13, 21]),
+        (44_739_243, vec![10, 18, 26]),
+        (44_739_244, vec![11, 19, 27]),
+        (178_956_970, vec![4, 12, 20, 28]),
     ] {
         let shape = Shape::for_many_keys(most, 17).unwrap();
         assert_eq!(shape.exponents, exponents, "for {most} keys");
