@@ -1,7 +1,8 @@
-//! What happens before an exchange.
+//! What happens before an exchange, and after one that was lost.
 ghost use Rattle.nb_table.specs.Chains.{ChainOf};
 
 use nb_table::Chain;
+use std::hint::spin_loop;
 
 /// Something that is done before each exchange of a write, so that a test may let other seats make
 /// steps just then.
@@ -11,6 +12,11 @@ pub trait Pause {
 
     /// Is called before each exchange.
     fn before_exchange(&mut self, chain: &Chain)
+        requires serves { serves self.old chain.now }
+        ensures serves { serves self.new chain.now };
+
+    /// Is called after each exchange that was lost to another write, if there are tries left.
+    fn after_loss(&mut self, chain: &Chain)
         requires serves { serves self.old chain.now }
         ensures serves { serves self.new chain.now };
 }
@@ -23,4 +29,48 @@ impl Pause for NoPause {
     ghost serves = { λ pause chain. Unit {0} };
 
     fn before_exchange(&mut self, _chain: &Chain) {}
+
+    fn after_loss(&mut self, _chain: &Chain) {}
+}
+
+/// The pause of the calls that try again without a limit. After the first loss, the third and so
+/// on they leave the key to others for a while, which then needn't fetch its cache line anew for
+/// each call. The exchange after a rest mostly finds that the value has changed meanwhile, and the
+/// next one follows at once.
+#[derive(Clone, Copy)]
+pub(crate) struct Rest {
+    /// Whether it has rested after the last loss.
+    rested: bool,
+}
+
+impl Rest {
+    /// The pause of a call that has lost nothing yet.
+    #[inline(always)]
+    pub(crate) fn new() -> Rest {
+        Rest { rested: false }
+    }
+}
+
+impl Pause for Rest {
+    ghost serves = { λ pause chain. Unit {0} };
+
+    fn before_exchange(&mut self, _chain: &Chain) {}
+
+    fn after_loss(&mut self, _chain: &Chain) {
+        self.rested = !self.rested;
+        if self.rested {
+            spin();
+        }
+    }
+}
+
+/// For how many turns a call rests: some microseconds.
+const TURNS: u32 = 200;
+
+/// Lets other threads go on for a while.
+#[inline(never)]
+fn spin() {
+    for _ in 0..TURNS {
+        spin_loop();
+    }
 }

@@ -57,6 +57,7 @@ pub(crate) fn call_at<P: Pause>(
                     if *tries == 0 {
                         return without_tries(call, &shown);
                     }
+                    pause.after_loss(chain);
                 }
                 from = found;
             }

@@ -17,7 +17,7 @@ use crate::faults::{AddFault, PutFault};
 use crate::steps::claim::has_next;
 use crate::steps::climb::climb;
 use crate::steps::decide::{Decision, decide};
-use crate::steps::pause::{NoPause, Pause};
+use crate::steps::pause::{Pause, Rest};
 use crate::steps::rung::{Rung, Slot, Visit};
 use crate::steps::slot::call_at;
 use nb_core::{Call, Change, Key, KeyState, KeyWord, Reply, Want};
@@ -85,7 +85,7 @@ pub(crate) fn write_through<R: Wait>(
     let call = Call::Write { key, want, change };
     let known = seat.known_top();
     let mut left = u32::MAX;
-    match write_home(chain, seat, &call, known, &mut left, &mut NoPause) {
+    match write_home(chain, seat, &call, known, &mut left, &mut Rest::new()) {
         Some(Ok(reply)) => return Ok(reply),
         Some(Err(PutFault::Full)) => return Err(AddFault::Full),
         Some(Err(PutFault::ValueRange)) => return Err(AddFault::ValueRange),
@@ -112,7 +112,7 @@ fn write_rounds<R: Wait>(
 {
     for _ in rt.forever() {
         let mut left = u32::MAX;
-        match climb(chain, seat, &call, Rung::at(top), &mut left, &mut NoPause) {
+        match climb(chain, seat, &call, Rung::at(top), &mut left, &mut Rest::new()) {
             Ok(reply) => return Ok(reply),
             Err(PutFault::Contended) => {}
             Err(PutFault::Full) => return Err(AddFault::Full),

@@ -124,8 +124,11 @@ loop-number-preserved-else-tries-eq0 g c =
       tried = tried-as (sym shows)
           (lost g (goal.at.loop-number-preserved-else-tries-eq0 g c).In-Some-shows);
       some = omega (arith, c.if-tries-eq0.false);
-      serves = c.before_exchange.ensures.serves;
+      serves = c.after_loss.ensures.serves;
     }
+
+pub after_loss-requires : goal.after_loss-requires
+after_loss-requires g c = record { serves = c.before_exchange.ensures.serves }
 
 -- ---- or to a copier
 
