@@ -58,7 +58,7 @@ public final class Samvolip {
     private static final MethodHandle OPEN = ints("open_with", 3), SPLIT = ints("split", 2), JOIN = ints("join", 2), CLOSE = ints("close", 2);
     private static final MethodHandle FREE = linked("free_open", MethodType.methodType(void.class, ADDRESS), FunctionDescriptor.ofVoid(C_POINTER));
     private static final MethodHandle WALK = linked("walk", MethodType.methodType(void.class, ADDRESS), FunctionDescriptor.ofVoid(C_POINTER));
-    private static final MethodHandle NEXT = ints("next", 3);
+    private static final MethodHandle NEXT = ints("next", 3), OCCUPANCY = ints("occupancy", 3);
     private static final MethodHandle GET = at("get"), ENDED_GET = at("ended_get");
     private static final MethodHandle PUT_IF_MATCH = linked("put_if_match",
         MethodType.methodType(int.class, ADDRESS, long.class, int.class, long.class, int.class, long.class, int.class, ADDRESS),
@@ -98,6 +98,17 @@ public final class Samvolip {
     /** A number that was written by C. */
     private static OptionalLong found(int code, MemorySegment number) {
         return code == 1 ? OptionalLong.of(MemoryAccess.getLong(number)) : OptionalLong.empty();
+    }
+
+    /**
+     * How full the top table of a map is: how many of its slots are taken, of so many that were looked at; and whether it is the
+     * map's last one. If not, the map grows in time. A slot stays taken, also if its key is removed.
+     */
+    public record Occupancy(boolean isLast, int looked, int taken) {
+        /** Whether it is time for a new map: more than two thirds of the last table are taken. */
+        public boolean shouldRenew() {
+            return isLast && 2 * looked < 3 * taken;
+        }
     }
 
     /** One thread's way to a map. */
@@ -274,6 +285,16 @@ public final class Samvolip {
         public synchronized long sizeEstimate() {
             try {
                 return (long) SIZE_ESTIMATE.invokeExact(full());
+            } catch (Throwable thrown) {
+                throw wrong(thrown);
+            }
+        }
+
+        /** How full the top table is, by a sample of its slots. */
+        public synchronized Occupancy occupancy() {
+            try {
+                int last = (int) OCCUPANCY.invokeExact(full(), words.address(), words.address().addOffset(4));
+                return new Occupancy(last == 1, MemoryAccess.getIntAtIndex(words, 1), MemoryAccess.getIntAtIndex(words, 0));
             } catch (Throwable thrown) {
                 throw wrong(thrown);
             }

@@ -78,6 +78,7 @@ public final class SamvolipTest {
         expect(seat.replace(1, 4).equals(OptionalLong.of(2)));
         expect(!seat.replace(1, 2, 5) && seat.replace(1, 4, 5));
         expect(seat.sizeEstimate() == 1);
+        expect(seat.occupancy().equals(new Samvolip.Occupancy(false, 16, 1)) && !seat.occupancy().shouldRenew());
         expect(!seat.remove(1, 4) && seat.remove(1).equals(OptionalLong.of(5)));
         expect(seat.sizeEstimate() == 0);
         expect(refused(() -> seat.get(-1)) == Samvolip.E_KEY_RANGE);

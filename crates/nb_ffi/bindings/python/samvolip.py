@@ -10,6 +10,7 @@ import itertools
 import os
 import threading
 from ctypes import POINTER, Structure, byref, c_int, c_size_t, c_uint32, c_uint64, c_void_p, sizeof
+from typing import NamedTuple
 
 VERSION = 0x000400  # that of the samvolip.h that this module tells of
 KEY_MAX = 2**64 - 3
@@ -63,6 +64,21 @@ class Change(enum.IntEnum):
     ADD = 2
 
 
+class Occupancy(NamedTuple):
+    """How full the top table is: how many of its slots are taken, of so many that were looked at.
+
+    A slot stays taken, also if its key is removed.
+    """
+
+    is_last: bool  # whether the table is the map's last one; if not, the map grows in time
+    looked: int
+    taken: int
+
+    def should_renew(self):
+        """Whether it is time for a new map: more than two thirds of the last table are taken."""
+        return self.is_last and 2 * self.looked < 3 * self.taken
+
+
 class Refused(Exception):
     """A call was refused, with this code."""
 
@@ -100,6 +116,7 @@ for _name, _result, _takes in [
     ("put_if_match", c_int, [_HANDLE, c_uint64, c_uint32, c_uint64, c_uint32, c_uint64, c_uint32, POINTER(_Reply)]),
     ("size_estimate", c_uint64, [_HANDLE]),
     ("generation", c_uint32, [_HANDLE]),
+    ("occupancy", c_int, [_HANDLE, POINTER(c_uint32), POINTER(c_uint32)]),
     ("walk", None, [_HANDLE]),
     ("next", c_int, [_HANDLE, POINTER(c_uint64), POINTER(c_uint64)]),
     ("ended_size", c_uint64, [_HANDLE]),
@@ -252,6 +269,12 @@ class Seat:
 
     def generation(self):
         return self._call("generation")
+
+    def occupancy(self):
+        """How full the top table is, by a sample of its slots."""
+        taken, looked = c_uint32(), c_uint32()
+        last = self._call("occupancy", byref(taken), byref(looked))
+        return Occupancy(bool(last), looked.value, taken.value)
 
     def walk(self):
         """The keys with their numbers, while others write the map. A new walk ends the one before."""

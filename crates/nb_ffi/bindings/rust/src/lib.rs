@@ -165,6 +165,23 @@ pub struct Reply {
     pub matched: bool,
 }
 
+/// How full the top table of a map is: how many of its slots are taken, of so many that were looked
+/// at. A slot stays taken, also if its key is removed.
+#[derive(Clone, Copy, Debug, PartialEq, Eq)]
+pub struct Occupancy {
+    /// Whether the table is the map's last one. If not, the map grows in time.
+    pub is_last: bool,
+    pub looked: u32,
+    pub taken: u32,
+}
+
+impl Occupancy {
+    /// Whether it is time for a new map: more than two thirds of the last table are taken.
+    pub fn should_renew(&self) -> bool {
+        self.is_last && 2 * u64::from(self.looked) < 3 * u64::from(self.taken)
+    }
+}
+
 /// One thread's way to a map.
 pub struct Seat {
     raw: sys::Handle,
@@ -331,6 +348,18 @@ impl Seat {
     pub fn generation(&mut self) -> u32 {
         // SAFETY: the handle is full.
         unsafe { sys::samvolip_generation(&mut self.raw) }
+    }
+
+    /// How full the top table is, by a sample of its slots.
+    pub fn occupancy(&mut self) -> Occupancy {
+        let (mut taken, mut looked) = (0, 0);
+        // SAFETY: the handle is full.
+        let last = unsafe { sys::samvolip_occupancy(&mut self.raw, &mut taken, &mut looked) };
+        Occupancy {
+            is_last: last == 1,
+            looked,
+            taken,
+        }
     }
 
     /// A walk over the map's keys and numbers, while others write it.
