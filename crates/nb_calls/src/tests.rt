@@ -1,5 +1,6 @@
 //! Calls of the map with their replies, one after another and by several threads.
 mod calls;
+mod fullness;
 mod rows;
 mod seats;
 mod stress;

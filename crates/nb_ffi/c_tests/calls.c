@@ -159,6 +159,26 @@ static void puts_and_gets(samvolip_seat *seat)
     EXPECT(samvolip_generation(seat) == 0);
 }
 
+static void tells_how_full(void)
+{
+    const samvolip_shape shape = {{2, 5}, 2, 1, 1, UINT32_MAX, 8};
+    samvolip_seat seat = SAMVOLIP_SEAT_INIT;
+    uint32_t taken = 99, looked = 98;
+    EXPECT(samvolip_open(&shape, &seat) == SAMVOLIP_OK);
+    EXPECT(samvolip_occupancy(&seat, &taken, &looked) == 0 && taken == 0 && looked == 4);
+    for (uint64_t key = 0; key < 21; key++) {
+        EXPECT(samvolip_put(&seat, key, key, NULL) == SAMVOLIP_ABSENT);
+        EXPECT(samvolip_remove(&seat, key, NULL) == SAMVOLIP_PRESENT);
+    }
+    EXPECT(samvolip_occupancy(&seat, &taken, &looked) == 1 && looked == 32);
+    EXPECT(samvolip_should_renew(&seat) == (taken > 21));
+    for (uint64_t key = 21; key < 32; key++)
+        EXPECT(samvolip_put(&seat, key, key, NULL) == SAMVOLIP_ABSENT);
+    EXPECT(samvolip_occupancy(&seat, &taken, &looked) == 1 && taken > 21);
+    EXPECT(samvolip_should_renew(&seat) == 1);
+    samvolip_free(&seat);
+}
+
 static void refuses_calls(samvolip_seat *seat)
 {
     uint64_t number = 99;
@@ -335,6 +355,7 @@ int main(void)
     samvolip_free(&seat);
     EXPECT(seat.handle == NULL);
     refuses_when_full();
+    tells_how_full();
     splits_and_joins();
     begins_with_zeros();
     tells_codes();

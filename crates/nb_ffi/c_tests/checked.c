@@ -22,6 +22,9 @@ static void writes_and_reads(samvolip_seat *mine, samvolip_seat *yours)
     samvolip_meet(mine, yours);
     EXPECT(samvolip_size_estimate(yours) == KEYS);
     EXPECT(samvolip_generation(mine) == 1 && samvolip_generation(yours) == 1);
+    uint32_t taken = 99, looked = 98;
+    EXPECT(samvolip_occupancy(mine, &taken, &looked) == 1 && taken == KEYS);
+    EXPECT(samvolip_should_renew(yours) == (3 * taken > 2 * looked));
     EXPECT(mine->in_use == 0 && yours->in_use == 0);
 }
 

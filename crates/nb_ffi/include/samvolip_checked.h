@@ -168,6 +168,18 @@ static inline uint32_t samvolip_checked_generation(samvolip_seat *seat)
     return generation;
 }
 
+static inline int samvolip_checked_occupancy(samvolip_seat *seat, uint32_t *taken,
+                                             uint32_t *looked)
+{
+    int last;
+    samvolip_check(taken != NULL && looked != NULL, "samvolip_occupancy",
+                   "the number of slots is NULL");
+    samvolip_enter(seat, "samvolip_occupancy");
+    last = samvolip_occupancy(seat, taken, looked);
+    samvolip_leave(seat);
+    return last;
+}
+
 static inline void samvolip_checked_meet(samvolip_seat *seat, samvolip_seat *other)
 {
     samvolip_enter_both(seat, other, "samvolip_meet");
@@ -229,6 +241,7 @@ static inline int samvolip_checked_ended_entries(const samvolip_ended *ended,
 #undef samvolip_size_estimate
 #define samvolip_size_estimate samvolip_checked_size_estimate
 #define samvolip_generation samvolip_checked_generation
+#define samvolip_occupancy samvolip_checked_occupancy
 #define samvolip_meet samvolip_checked_meet
 #define samvolip_walk samvolip_checked_walk
 #define samvolip_next samvolip_checked_next

@@ -8,5 +8,6 @@ mod HandleLend
 mod HandleMove
 mod Lending
 mod Promised
+mod Sampled
 mod SeatBox
 mod Writing

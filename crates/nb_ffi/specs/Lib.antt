@@ -10,3 +10,4 @@ pub mod Shapes
 pub mod Closing
 pub mod Entries
 pub mod Telling
+pub mod Fullness

@@ -3,6 +3,7 @@
 
 mod calls;
 mod ended;
+mod fullness;
 mod handles;
 mod library;
 mod walks;

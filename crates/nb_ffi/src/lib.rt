@@ -7,6 +7,7 @@ mod codes;
 mod ended_handle;
 mod ended_map;
 mod exports;
+mod fullness;
 mod header;
 mod lend;
 mod life;

@@ -13,6 +13,8 @@ ghost use Rattle.nb_long.specs.Handles.{AreOfOneMap, IsSameMap, new_handles, sea
 ghost use Rattle.nb_long.specs.Promises.{HasChangedIf, HasPutValue, HasReplacedIf, with_token};
 ghost use Rattle.nb_long.specs.Typed.{LongMapOf};
 
+mod fullness;
+
 use crate::map::{Compared, LongFault, LongMap, Stored, Unshown};
 use crate::store::{Shown, Store};
 use nb_core::{Key, Num, OutOfMemory, Shape};

@@ -14,6 +14,8 @@ ghost use Rattle.nb_map.specs.Promises.{Found, HasGot, HasMet, HasWritten};
 ghost use Rattle.nb_long.specs.Promises.{HasChangedIf, HasGotValue, HasMadeRound, HasPutValue, HasReplacedIf, with_token};
 ghost use Rattle.nb_long.specs.Typed.{number_of};
 
+mod fullness;
+
 use crate::store::{Placed, Receipt, Shown, Store, StoreFault};
 use nb_core::{Change, Key, NotAll, Num, OutOfMemory, Shape, Want};
 use nb_map::{Ended, Full, Map, PutFault, Seat};

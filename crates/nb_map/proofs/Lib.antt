@@ -10,14 +10,17 @@ mod Held
 mod Home
 mod HomeSlot
 mod Logged
+mod Look
 mod Made
 mod OneSeat
 mod Paired
 mod Passed
 mod Passing
 mod Replied
+mod Rested
 mod Rounds
 mod Rungs
+mod Sampled
 mod Searched
 mod Sizes
 mod Spent

@@ -1,5 +1,6 @@
 pub mod Maps
 pub mod Logs
+pub mod Fullness
 pub mod NamedCalls
 pub mod Promises
 pub mod Refusals

@@ -2,9 +2,16 @@
 //! carries a law as its contract, so that the gate guards it; nobody calls it. A crate above takes
 //! the laws as theorems, from `proofs/Theorems.antt`.
 ghost use Rattle.nb_map.specs.Crowding.{AsksAddUp, CrowdedByCalls};
+ghost use Rattle.nb_map.specs.Fullness.{SampleIsSpread};
 ghost use Rattle.nb_map.specs.Laws.{LogsAddUp, RepliesFit};
 ghost use Rattle.nb_map.specs.OneSeat.{OneSeat};
 ghost use Rattle.nb_map.specs.Walks.{WalkLasts, WholeWalk};
+
+/// The slots that a look at how full a map is looks at are slots of the table, each in a block of
+/// its own.
+pub fn sample_is_spread()
+    ensures { SampleIsSpread }
+{}
 
 /// Calls add up: what a seat's log was, and which calls it made.
 pub fn logs_add_up()

@@ -10,9 +10,11 @@ mod faults;
 mod handle;
 pub mod laws;
 mod map;
+mod occupancy;
 pub mod steps;
 
 pub use faults::{AddFault, Full, PutFault};
 pub use handle::{Handle, HandleWalk};
 pub use map::{Ended, Map, Seat, Walk};
 pub use nb_core::NotAll;
+pub use occupancy::{Occupancy, SAMPLE};

@@ -8,6 +8,7 @@ pub(crate) mod decide;
 pub(crate) mod get;
 pub(crate) mod pause;
 pub(crate) mod rung;
+pub(crate) mod sample;
 pub(crate) mod search;
 pub(crate) mod slot;
 pub(crate) mod walk;

@@ -5,5 +5,6 @@ mod Items
 mod Logged
 mod Promised
 mod Read
+mod Sampled
 mod Walked
 pub mod Theorems

@@ -7,3 +7,4 @@ pub mod Inside
 pub mod Laws
 pub mod Handles
 pub mod Promises
+pub mod Fullness

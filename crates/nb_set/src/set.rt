@@ -6,6 +6,8 @@ ghost use Rattle.nb_set.specs.Promises.{HasBegunWalk, HasEstimated, HasLookedUp,
 ghost use Rattle.nb_set.specs.Sets.{AreMine, IsMadeFor, IsMine, log, new_seats, shape_of};
 ghost use Rattle.nb_set.specs.Walks.{IsWalkOf};
 
+mod fullness;
+
 use crate::ended::SetEnded;
 use nb_core::{Key, NotAll, Num, OutOfMemory, SeatRoom, Shape};
 use nb_map::{Full, Map};

@@ -180,7 +180,10 @@ def grows():
     assert seat.generation() == 0
     for key in range(16):
         assert seat.put(key, 16 - key) is None
+        seen = seat.occupancy()
+        assert seen.should_renew() == (seen.is_last and seen.taken > 10)
     assert seat.generation() == 1
+    assert seat.occupancy() == (True, 16, 16)
     assert refused(seat.put, 16, 0) == Code.E_FULL
 
 

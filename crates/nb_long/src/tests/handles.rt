@@ -58,5 +58,6 @@ fn calls_by_name(rt: HostRuntime) -> Result<(), Fail> {
     assert_eq!(rt; value_at(&rt, &mut mine, key), Some(6));
     assert!(rt; mine.remove(&rt, key).is_some());
     assert!(rt; matches!(mine.replace(&rt, key, 8), Ok(stored) if !stored.done));
+    assert_eq!(rt; (mine.occupancy().taken, mine.occupancy().looked), (1, 16));
     Ok(())
 }

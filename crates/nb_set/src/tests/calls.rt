@@ -99,6 +99,8 @@ fn grows<R: Wait + Abort>(rt: &R, set: &LongSet, a: &mut Seat, b: &mut Seat)
     assert!(rt; has(rt, set, b, 12));
     assert!(rt; 0 < set.generation(b));
     assert_eq!(rt; set.size_estimate(a), 4);
+    let seen = set.occupancy(a);
+    assert!(rt; seen.table > 0 && seen.taken >= 4);
 }
 
 #[test]

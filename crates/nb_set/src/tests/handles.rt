@@ -57,6 +57,7 @@ fn calls_by_name(rt: HostRuntime) -> Result<(), Fail> {
     assert_eq!(rt; theirs.add(&rt, six)?, true);
     assert_eq!(rt; theirs.remove(&rt, six), true);
     assert_eq!(rt; (mine.size_estimate(), mine.generation()), (1, 0));
+    assert_eq!(rt; (mine.occupancy().taken, mine.occupancy().looked), (2, 16));
     assert_eq!(rt; mine.shape().seats(), 2);
     let mut walk = mine.walk();
     assert_eq!(rt; walk.next_key().map(Key::get), Some(5));

@@ -142,6 +142,7 @@ extern "C" {
     ) -> i32;
     pub fn samvolip_size_estimate(seat: *mut Handle) -> u64;
     pub fn samvolip_generation(seat: *mut Handle) -> u32;
+    pub fn samvolip_occupancy(seat: *mut Handle, taken: *mut u32, looked: *mut u32) -> i32;
     pub fn samvolip_walk(seat: *mut Handle);
     pub fn samvolip_next(seat: *mut Handle, key: *mut u64, number: *mut u64) -> i32;
     pub fn samvolip_ended_size(ended: *const Handle) -> u64;

@@ -130,6 +130,18 @@ fn a_map_grows() {
         assert_eq!(seat.put(key, key), Ok(None));
     }
     assert_eq!((seat.size_estimate(), seat.generation()), (10, 1));
+    let look = |seat: &mut Seat| {
+        let seen = seat.occupancy();
+        (seen.is_last, seen.looked, seen.taken, seen.should_renew())
+    };
+    assert_eq!(look(&mut seat), (true, 32, 10, false));
+    for key in 10..21 {
+        assert_eq!(seat.put(key, key), Ok(None));
+        assert_eq!(seat.remove(key), Ok(Some(key)));
+    }
+    assert_eq!(look(&mut seat), (true, 32, 21, false));
+    assert_eq!(seat.put(21, 1), Ok(None));
+    assert_eq!(look(&mut seat), (true, 32, 22, true));
 }
 
 #[test]
