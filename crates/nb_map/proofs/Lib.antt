@@ -2,9 +2,11 @@ mod AtHome
 mod Bounds
 mod Claimed
 mod Climbed
+mod Compound
 mod Counted
 mod Crowding
 mod Earlier
+mod Extended
 mod Glanced
 mod Held
 mod Home
@@ -25,6 +27,7 @@ mod Searched
 mod Sizes
 mod Spent
 mod Straight
+mod Swept
 pub mod Theorems
 mod Tried
 mod Turned

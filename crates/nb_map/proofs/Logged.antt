@@ -48,7 +48,7 @@ logged-same {map} {before} {after} mine same =
     (made-none map.chain (Get 0) before.chain mine.chain))
 
 -- some calls after others
-logged-then :
+pub logged-then :
     {before then after : SeatOf} {made made' : List (Call × Reply)} → HasLogged before then made
     → HasLogged then after made'
     → HasLogged before after (made' ++ made)

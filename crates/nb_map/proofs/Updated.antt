@@ -98,7 +98,7 @@ either-call a b same = one (leaves_alone b None) refl
 -- ---- one call
 
 -- the calls that steps made are those that the log tells
-made-logged :
+pub made-logged :
     {p : Plan} {call : Call} {before after : SeatOf} {made told : List (Call × Reply)} {most : ℕ}
     → HasMade p call before.chain after.chain made most → HasLogged before after told
     → HasMade p call before.chain after.chain told most
@@ -112,7 +112,7 @@ made-logged {p} {call} {before} {after} {most = most} steps logged =
         ∙ filter_map-append entry_of steps.grown.later before.chain.seen) ∙ logged.grown)
 
 -- steps whose calls did nothing to the number of keys counted nothing
-worked-same :
+pub worked-same :
     {m : MapOf} {call : Call} {before after : SeatOf} {made : List (Call × Reply)} {most : ℕ}
     → IsMine m before → IsMine m after
     → HasMade m.chain.shape call before.chain after.chain made most → net_of made ≡ pos 0

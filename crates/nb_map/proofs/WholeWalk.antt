@@ -385,7 +385,7 @@ misses-net (made ∷ misses) missed =
     omega (arith, ints, none, rest)
 
 -- nor does the one that found a number
-hit-net :
+pub hit-net :
     (shown : Option (ℕ × ℕ)) (misses : List (Call × Reply)) → All IsMiss misses
     → net_of (hit shown ++ misses) ≡ pos 0
 hit-net None misses missed = misses-net misses missed

@@ -8,7 +8,9 @@ pub mod Progress
 pub mod Steps
 pub mod Handles
 pub mod Updating
+pub mod Compound
 pub mod Walks
+pub mod Bulk
 pub mod Ending
 pub mod OneSeat
 pub mod Laws

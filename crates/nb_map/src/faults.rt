@@ -10,6 +10,15 @@ use thiserror::Error;
 #[error("the map is full")]
 pub struct Full;
 
+/// Other keys have all slots of the last table, so there is none for an entry's key. The entries
+/// before it were put.
+#[derive(Clone, Copy, Debug, PartialEq, Eq, Error)]
+#[error("the map is full after {put} of the entries")]
+pub struct FullAfter {
+    /// How many entries were put.
+    pub put: usize,
+}
+
 /// Why an add was refused. The map is unchanged.
 #[derive(Clone, Copy, Debug, PartialEq, Eq, Error)]
 pub enum AddFault {

@@ -5,7 +5,9 @@ ghost use Rattle.nb_map.specs.Logs.{HaveEmptyLogs};
 ghost use Rattle.nb_map.specs.Maps.{IsMadeFor, IsMine, MapOf};
 ghost use Rattle.nb_map.specs.Promises.{HasEstimated, HasGot, HasMet, HasSeenTop};
 
+mod bulk;
 mod closing;
+mod compound;
 mod fullness;
 mod trying;
 mod waiting;

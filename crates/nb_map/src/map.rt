@@ -8,6 +8,8 @@ ghost use Rattle.nb_map.specs.Logs.{HaveEmptyLogs};
 ghost use Rattle.nb_map.specs.Maps.{AreMine, IsMine, accounted, new_seats};
 ghost use Rattle.nb_map.specs.Promises.{HasEstimated, HasGot, HasMet, HasSeenTop, HasTriedToWrite, replied_or_refused};
 
+mod bulk;
+mod compound;
 mod ended;
 mod fullness;
 mod trying;
