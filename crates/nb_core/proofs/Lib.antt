@@ -36,4 +36,5 @@ mod Stepped
 mod Steps
 mod Tables
 pub mod Theorems
+mod Whole
 mod Words

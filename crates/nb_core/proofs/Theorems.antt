@@ -15,5 +15,6 @@ pub use Rattle.nb_core.proofs.Replying.{read_replies, win_replies}
 pub use Rattle.nb_core.proofs.Searches.{held_has_place, place_is}
 pub use Rattle.nb_core.proofs.Shown.{crowded_absent, decided, stands, win_number}
 pub use Rattle.nb_core.proofs.Tables.{limits_fit, indices_are_distinct, sizes_never_fall}
+pub use Rattle.nb_core.proofs.Whole.{nothing_is_missing}
 -- and of single events: the seat of one that is in range is one of the plan's
 pub use Rattle.nb_core.proofs.Counting.{seat-in_range}

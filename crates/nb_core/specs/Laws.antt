@@ -470,3 +470,10 @@ PlaceIs =
     (p : Plan) → IsPlan p → (h : List Event) → IsLegal p h → (g k f i : ℕ)
     → (place_of p h g k ≡ Some (f, i) → IsFirstPlace p (tables_at p h) g k f i)
     × (IsFirstPlace p (tables_at p h) g k f i → place_of p h g k ≡ Some (f, i))
+
+-- Each event is of one of the seats. So where a legal history goes on from another, and none of the
+-- events that came is of any seat, nothing came: nothing is missing from the other.
+abbrev pub NothingIsMissing : Type 0
+NothingIsMissing =
+    (p : Plan) (h later : List Event) → IsLegal p (later ++ h)
+    → ((seat : ℕ) → seat < p.seats → All (λ e. seat_of_event e ≢ seat) later) → later ≡ []

@@ -22,6 +22,7 @@ ghost use Rattle.nb_core.specs.Laws.{
   LostExchange,
   MapInRange,
   Moved,
+  NothingIsMissing,
   OnePlace,
   OwnLasts,
   PassedAbove,
@@ -144,6 +145,12 @@ pub fn log_is_replayed()
 /// The calls of a log that goes on from another are those that are new, and those of the other.
 pub fn calls_append()
     ensures { CallsAppend }
+{}
+
+/// Each event is of one of the seats, so nothing is missing from a history that has the events of
+/// all seats.
+pub fn nothing_is_missing()
+    ensures { NothingIsMissing }
 {}
 
 /// Each beginning of a legal history is legal.

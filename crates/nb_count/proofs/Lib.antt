@@ -1,6 +1,7 @@
 mod Dealt
 mod Gathered
 mod Keeping
+mod Settling
 mod Sums
 pub mod Theorems
 mod Views

@@ -89,6 +89,13 @@ abbrev pub HasLooked :
     Step (Unit {0}) → Me (Unit {0}) (List Tally) → ℕ → Me (Unit {0}) (List Tally) → Type 0
 HasLooked step me found me' = me' ≡ (map after_look me.0, me.1)
 
+-- one load by a token that has all tallies: the word is what the seats that it serves have added,
+-- and nothing else has changed
+abbrev pub HasSummed :
+    ℕ → Step (Unit {0}) → Me (Unit {0}) (List Tally) → ℕ → Me (Unit {0}) (List Tally) → Type 0
+HasSummed stripes step me found me' =
+    (me' ≡ me) × (found ≡ wrapped (total (served stripes step.word) me.0))
+
 -- A step leaves each word as it is where its seat takes it for a look, whatever step it is.
 abbrev pub LooksChangeNoWord : Type 0
 LooksChangeNoWord =

@@ -22,6 +22,8 @@ ghost use Rattle.nb_count.specs.Inside.{seat_with};
 ghost use Rattle.nb_count.specs.Tallies.{sum_of_stripes, wrapped};
 ghost use Rattle.std.specs.Mem.Slots.{IsFull, slots_items, slots_len};
 
+mod settling;
+
 use crate::tally::{Adds, Deal, Gather, Looks, SPREAD, Size, Stripes, Tallies};
 use atomic_table::{Closed, Seat, Table};
 use nb_core::{NotAll, OutOfMemory};

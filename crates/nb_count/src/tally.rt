@@ -1,8 +1,9 @@
 //! What the seats of a counter know, and the rule that the stripes keep.
-ghost use Rattle.std.specs.Prelude.{[], ◌++◌, take, drop};
+ghost use Rattle.std.specs.Prelude.{ℕ, [], ◌++◌, take, drop};
 
 use atomic_table::{Join, Play, Split, TableRule};
 use std::collections::LinkedList;
+use std::marker::{Brand, PhantomData};
 
 /// How far apart two stripes lie, in words: 64 bytes, so that no two of them share a line of a
 /// processor's cache.
@@ -55,6 +56,26 @@ impl Play<(), Tallies> for Looks {
     ghost use Rattle.nb_count.specs.Tallies.{HasLooked};
 
     ghost then = { HasLooked };
+}
+
+/// How many stripes the counter of a step has.
+pub(crate) trait Striped {
+    ghost stripes: { ℕ };
+}
+
+impl Striped for Brand {
+    ghost stripes = { 0 };
+}
+
+/// A load by a token that has all tallies.
+pub(crate) struct Sums<B> {
+    told: PhantomData<B>,
+}
+
+impl<B: Striped> Play<(), Tallies> for Sums<B> {
+    ghost use Rattle.nb_count.specs.Tallies.{HasSummed};
+
+    ghost then = { HasSummed B.stripes };
 }
 
 /// The first tally goes to a new token.

@@ -13,7 +13,9 @@ mod Meeting
 mod Moments
 mod Opening
 mod Parted
+mod Settling
 pub mod Theorems
+mod Together
 mod Tops
 mod Values
 mod Views

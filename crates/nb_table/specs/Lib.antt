@@ -8,5 +8,7 @@ pub mod Inside
 pub mod Laws
 pub mod Left
 pub mod Listing
+pub mod Settling
 pub mod Steps
+pub mod Together
 pub mod Views

@@ -28,6 +28,8 @@ ghost use Rattle.nb_table.specs.Steps.{Can, Stepped};
 ghost use Rattle.nb_core.specs.Log.{IsBeginning};
 ghost use Rattle.nb_table.specs.Views.{Moves};
 
+mod settling;
+
 use crate::closed::Closed;
 use crate::view::{Chained, Deal, Learn, Move, Note, Told, View};
 use atomic_table::{Seat, Table};

@@ -9,6 +9,12 @@ ghost use Rattle.nb_table.specs.Laws.{
   WordsChangeLawfully,
   WordsStand,
 };
+ghost use Rattle.nb_table.specs.Settling.{
+  SettledAsClosed,
+  SettledIsAll,
+  SettledIsLeft,
+  SettledTwice,
+};
 
 /// At each moment, whatever steps were made by whom, the words of a chain stand for the map of its
 /// history.
@@ -43,4 +49,25 @@ pub fn stepper_has_seen()
 /// has seen of a claimed key, a finished slot, a complete table and the like stays so.
 pub fn steps_add_up()
     ensures { StepsAddUp }
+{}
+
+/// At a moment at which all seats have seen the same, as after `settle`, this is the whole history,
+/// and the words are what it left.
+pub fn settled_is_all()
+    ensures { SettledIsAll }
+{}
+
+/// Where seats are settled twice and made no step between, the second time changes nothing.
+pub fn settled_twice()
+    ensures { SettledTwice }
+{}
+
+/// Settled seats know what they would know if they had closed the chain.
+pub fn settled_as_closed()
+    ensures { SettledAsClosed }
+{}
+
+/// What is left of a chain that is closed by settled seats is what they had all seen.
+pub fn settled_is_left()
+    ensures { SettledIsLeft }
 {}

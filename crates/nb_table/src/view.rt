@@ -57,6 +57,17 @@ impl<B: Told> Play<(), View> for Move<B> {
     ghost then = { λ step. Moves B.shape B.events step.word };
 }
 
+/// A load of the top word by a token that has the parts of all seats.
+pub(crate) struct Settle<B> {
+    told: PhantomData<B>,
+}
+
+impl<B: Told> Play<(), View> for Settle<B> {
+    ghost use Rattle.nb_table.specs.Together.{Settles};
+
+    ghost then = { λ step. Settles B.shape };
+}
+
 /// The first part goes to a new token.
 pub(crate) struct Deal;
 
