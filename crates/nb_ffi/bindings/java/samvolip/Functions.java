@@ -27,6 +27,7 @@ final class Functions {
     static final MethodHandle PUT_IF_MATCH = Native.function("samvolip_put_if_match", false, I, L, L, I, L, I, L, I, L);
     static final MethodHandle SIZE_ESTIMATE = Native.function("samvolip_size_estimate", true, L, L);
     static final MethodHandle GENERATION = Native.function("samvolip_generation", true, I, L);
+    static final MethodHandle OCCUPANCY = Native.function("samvolip_occupancy", true, I, L, L, L);
     static final MethodHandle WALK = Native.function("samvolip_walk", true, void.class, L);
     static final MethodHandle NEXT = Native.function("samvolip_next", false, I, L, L, L);
     static final MethodHandle ENDED_SIZE = Native.function("samvolip_ended_size", true, L, L);

@@ -157,6 +157,16 @@ final class Lane {
         }
     }
 
+    Occupancy occupancy() {
+        long at = full();
+        try {
+            boolean isLast = (int) Functions.OCCUPANCY.invokeExact(at, at + WORDS, at + WORDS + 4) == 1;
+            return new Occupancy(isLast, Native.getInt(at + WORDS + 4), Native.getInt(at + WORDS));
+        } catch (Throwable thrown) {
+            throw wrong(thrown);
+        }
+    }
+
     void walk() {
         try {
             Functions.WALK.invokeExact(full());

@@ -176,4 +176,7 @@ public abstract class LongMap {
 
     /** How many tables the map has left behind. */
     public abstract int generation();
+
+    /** How full the top table is, by a sample of its slots. */
+    public abstract Occupancy occupancy();
 }

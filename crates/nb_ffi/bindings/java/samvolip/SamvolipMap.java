@@ -153,6 +153,15 @@ public final class SamvolipMap extends LongMap implements AutoCloseable {
         }
     }
 
+    @Override
+    public Occupancy occupancy() {
+        try {
+            return lane().occupancy();
+        } finally {
+            Reference.reachabilityFence(this);
+        }
+    }
+
     /**
      * A seat for calls without a look at the thread's own. It is another one than the thread's, and {@link Seat#close} gives it back. It keeps
      * the keys as the map does.

@@ -133,6 +133,11 @@ public final class Seat extends LongMap implements AutoCloseable {
         return full().generation();
     }
 
+    @Override
+    public synchronized Occupancy occupancy() {
+        return full().occupancy();
+    }
+
     /** Frees the seat, or gives it back to its {@link SamvolipMap}. */
     @Override
     public synchronized void close() {

@@ -231,6 +231,8 @@ public final class SamvolipTest {
             for (long key = 10; key < 1000; key++) map.put(key, 0);
         }), Code.E_FULL);
         expect(map.generation(), 1);
+        Occupancy full = map.occupancy();
+        expect(full.isLast() && full.taken() == full.looked() && full.shouldRenew());
     }
 
     private static void shapes() {

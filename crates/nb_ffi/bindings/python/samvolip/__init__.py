@@ -27,6 +27,7 @@ from .codes import (
 )
 from .maps import SEATS, Map
 from .numbers import mix, unmix
+from .occupancy import Occupancy
 from .seats import Ended, Seat
 from .shapes import exponents_for_keys, exponents_for_many_keys
 
@@ -44,6 +45,7 @@ __all__ = [
     "Map",
     "NoSeat",
     "NotAllSeats",
+    "Occupancy",
     "Refused",
     "Seat",
     "WalkCutOff",

@@ -3,12 +3,13 @@
 from __future__ import annotations
 
 from collections.abc import Callable, Iterable, Iterator, Mapping
-from ctypes import c_uint64
+from ctypes import c_uint32, c_uint64
 from typing import Any, SupportsIndex, TypeVar, overload
 
 from . import library
 from .codes import Change, Code, Want, made
 from .numbers import key_of, number_of, same, word
+from .occupancy import Occupancy
 
 T = TypeVar("T")
 
@@ -76,6 +77,12 @@ class Calls:
     def generation(self) -> int:
         """How many tables the map has left behind."""
         return self._reach(library.generation)
+
+    def occupancy(self) -> Occupancy:
+        """How full the top table is, by a sample of its slots."""
+        taken, looked = c_uint32(), c_uint32()
+        last = self._reach(library.occupancy, taken, looked)
+        return Occupancy(bool(last), looked.value, taken.value)
 
     def items(self) -> Iterator[tuple[int, int]]:
         """A walk."""

@@ -86,6 +86,7 @@ put_if_match = _function(
 )
 size_estimate = _function(_keeps, "size_estimate", c_uint64, _HANDLE)
 generation = _function(_keeps, "generation", c_uint32, _HANDLE)
+occupancy = _function(_keeps, "occupancy", c_int, _HANDLE, POINTER(c_uint32), POINTER(c_uint32))
 walk = _function(_keeps, "walk", None, _HANDLE)
 next_pair = _function(_keeps, "next", c_int, _HANDLE, _NUMBER, _NUMBER)
 ended_size = _function(_keeps, "ended_size", c_uint64, _HANDLE)

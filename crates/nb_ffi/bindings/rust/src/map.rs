@@ -2,7 +2,7 @@
 
 use crate::pool::{Pool, Slot};
 use crate::seat::update_from;
-use crate::{Change, Ended, Fault, Keys, Reply, Seat, Shape, Unclosed, Want, MOST_KEYS};
+use crate::{Change, Ended, Fault, Keys, Occupancy, Reply, Seat, Shape, Unclosed, Want, MOST_KEYS};
 use std::fmt;
 use std::iter::FusedIterator;
 use std::marker::PhantomData;
@@ -223,6 +223,11 @@ impl Map {
     #[inline]
     pub fn generation(&self) -> Result<u32, Fault> {
         self.with(|seat| Ok(seat.generation()))
+    }
+
+    /// How full the top table is, by a sample of its slots.
+    pub fn occupancy(&self) -> Result<Occupancy, Fault> {
+        self.with(|seat| Ok(seat.occupancy()))
     }
 
     /// A walk over the map's keys and numbers, while all threads may write it, this one too. No key is shown twice, and each

@@ -1,6 +1,6 @@
 //! Seats that the program holds itself, their calls, and walks.
 
-use crate::{sys, Ended, Fault, Keys, Refused, Shape};
+use crate::{sys, Ended, Fault, Keys, Occupancy, Refused, Shape};
 use std::fmt;
 use std::iter::FusedIterator;
 use std::sync::atomic::{AtomicU64, Ordering};
@@ -317,6 +317,14 @@ impl Seat {
     pub fn generation(&mut self) -> u32 {
         // SAFETY: the handle is full.
         unsafe { sys::samvolip_generation(&mut self.raw) }
+    }
+
+    /// How full the top table is, by a sample of its slots.
+    pub fn occupancy(&mut self) -> Occupancy {
+        let (mut taken, mut looked) = (0, 0);
+        // SAFETY: the handle is full.
+        let last = unsafe { sys::samvolip_occupancy(&mut self.raw, &mut taken, &mut looked) };
+        Occupancy { is_last: last == 1, looked, taken }
     }
 
     /// A walk over the map's keys and numbers, while others write it. No key is shown twice, and each key that the map has
