@@ -139,4 +139,5 @@ HasExtended m entries before after (Ok done) = HasPutAll m before entries after
 HasExtended m entries before after (Err full) =
     (first rest : List (ℕ × ℕ)) × (next : ℕ × ℕ) × (then : SeatOf)
     × (entries ≡ first ++ (next ∷ rest)) × (length first ≡ full.put)
-    × HasPutAll m before first then × HasWritten m (put_entry next) then after (Refused add_fault.Full)
+    × HasPutAll m before first then
+    × HasWritten m (put_entry next) then after (Refused add_fault.Full)
