@@ -113,6 +113,27 @@ public final class SamvolipTest {
         }
     }
 
+    /** Sixteen threads at four seats: each takes one, calls and gives it back, again and again; the last one it only leaves behind. */
+    private static void moreThreadsThanSeats() throws InterruptedException {
+        try (SamvolipMap map = SamvolipMap.forKeys(100, 4)) {
+            threads(16, me -> {
+                for (int made = 0; made < 500; ) {
+                    try {
+                        map.add(7, 1);
+                        made++;
+                        if (made < 500) map.giveBack();
+                    } catch (Refused refused) {
+                        expect(refused.code(), Code.ALL_SEATS_TAKEN);
+                        Thread.yield();
+                    }
+                }
+            });
+            try (Ended ended = map.end()) {
+                expect(ended.get(7), of(8000));
+            }
+        }
+    }
+
     private static void seatsRunOut() throws InterruptedException {
         try (SamvolipMap map = SamvolipMap.forKeys(100, 2)) {
             CountDownLatch called = new CountDownLatch(2), end = new CountDownLatch(1);
@@ -380,6 +401,7 @@ public final class SamvolipTest {
     public static void main(String[] words) throws Exception {
         eightThreadsAndGrowth();
         threadsComeAndGo();
+        moreThreadsThanSeats();
         seatsRunOut();
         threadsOfAPool();
         try (SamvolipMap map = SamvolipMap.forKeys(100, 1)) {

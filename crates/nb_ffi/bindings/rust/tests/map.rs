@@ -90,6 +90,33 @@ fn all_seats_taken() {
     drop(second);
 }
 
+/// Sixteen threads at four seats: each takes one, calls and gives it back, again and again.
+#[test]
+fn more_threads_than_seats() {
+    let map = Map::for_keys(100, 4).unwrap();
+    let adds = || {
+        let mut made = 0;
+        while made < 500 {
+            match map.add(7, 1) {
+                Ok(_) => {
+                    map.give_back().unwrap();
+                    made += 1;
+                }
+                Err(fault) => {
+                    assert_eq!(fault, Fault::AllSeatsTaken { seats: 4 });
+                    thread::yield_now();
+                }
+            }
+        }
+    };
+    thread::scope(|scope| {
+        for _ in 0..16 {
+            scope.spawn(adds);
+        }
+    });
+    assert_eq!(map.try_close().unwrap().get(7), Ok(Some(8000)));
+}
+
 #[test]
 fn close_while_others_have_seats() {
     let map = Arc::new(Map::for_keys(100, 4).unwrap());
