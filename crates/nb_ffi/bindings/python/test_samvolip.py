@@ -7,6 +7,7 @@ call of the package brings one of them about for sure. The programs of docs/pyth
 import gc
 import os
 import re
+import signal
 import subprocess
 import sys
 import tempfile
@@ -453,6 +454,19 @@ def ends():
     assert sorted(counts) == [0, 1, 2, 3]
 
 
+def interrupted():
+    """A signal comes in the middle of calls, and its handler calls the same map and the same seat: each has its own answer."""
+    for one in (Map.for_keys(10), Seat.for_keys(10)):
+        came = []
+        signal.signal(signal.SIGALRM, lambda *_: came.append(one.add(2, 1) or 0))
+        signal.setitimer(signal.ITIMER_REAL, 0.0002, 0.0002)
+        for i in range(20000):
+            assert (one.add(1, 1) or 0) == i and one.get(1) == i + 1
+        signal.setitimer(signal.ITIMER_REAL, 0)
+        signal.signal(signal.SIGALRM, signal.SIG_DFL)
+        assert sorted(came) == list(range(len(came))) and one.get(2, 0) == len(came) > 0  # handlers may interrupt each other
+
+
 def page():
     """The programs of the page print what it says."""
     with open(PAGE) as file:
@@ -487,5 +501,6 @@ seats_run_out()
 many_short_threads()
 walks_stay()
 ends()
+interrupted()
 page()
 print("python: well")
