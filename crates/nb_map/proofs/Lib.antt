@@ -19,6 +19,7 @@ mod Replied
 mod Rounds
 mod Rungs
 mod Searched
+mod Settled
 mod Sizes
 mod Spent
 mod Straight

@@ -9,6 +9,7 @@ pub mod Handles
 pub mod Updating
 pub mod Walks
 pub mod Ending
+pub mod Settling
 pub mod OneSeat
 pub mod Laws
 pub mod Calling

@@ -6,6 +6,7 @@ ghost use Rattle.nb_map.specs.Maps.{IsMadeFor, IsMine, MapOf};
 ghost use Rattle.nb_map.specs.Promises.{HasEstimated, HasGot, HasMet, HasSeenTop};
 
 mod closing;
+mod settling;
 mod trying;
 mod waiting;
 mod walks;

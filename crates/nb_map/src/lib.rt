@@ -12,7 +12,7 @@ pub mod laws;
 mod map;
 pub mod steps;
 
-pub use faults::{AddFault, Full, PutFault};
+pub use faults::{AddFault, Full, PutFault, SettleFault};
 pub use handle::{Handle, HandleWalk};
 pub use map::{Ended, Map, Seat, Walk};
 pub use nb_core::NotAll;

@@ -9,6 +9,7 @@ ghost use Rattle.nb_map.specs.Maps.{AreMine, IsMine, accounted, new_seats};
 ghost use Rattle.nb_map.specs.Promises.{HasEstimated, HasGot, HasMet, HasSeenTop, HasTriedToWrite, replied_or_refused};
 
 mod ended;
+mod settling;
 mod trying;
 mod updating;
 mod waiting;
