@@ -24,6 +24,7 @@ mod Rounds
 mod Rungs
 mod Sampled
 mod Searched
+mod Settled
 mod Sizes
 mod Spent
 mod Straight

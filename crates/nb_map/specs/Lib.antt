@@ -12,6 +12,7 @@ pub mod Compound
 pub mod Walks
 pub mod Bulk
 pub mod Ending
+pub mod Settling
 pub mod OneSeat
 pub mod Laws
 pub mod Calling

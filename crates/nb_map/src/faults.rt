@@ -1,5 +1,5 @@
 //! Why writes are refused, and which refusals are part of others, so that `?` takes the one for the
-//! other.
+//! other; and why seats aren't settled.
 ghost use Rattle.std.specs.Prelude.{◌≡◌};
 
 use thiserror::Error;
@@ -43,6 +43,17 @@ pub enum PutFault {
     /// The sum of an add is past the greatest number.
     #[error("value too large")]
     ValueRange,
+}
+
+/// Why seats weren't settled. They are as they were, and so is the map.
+#[derive(Clone, Copy, Debug, PartialEq, Eq, Error)]
+pub enum SettleFault {
+    /// Some of the map's seats aren't there.
+    #[error("a seat is missing")]
+    NotAll,
+    /// Memory to put the seats together was refused.
+    #[error("out of memory")]
+    OutOfMemory,
 }
 
 impl From<Full> for AddFault {

@@ -9,6 +9,7 @@ mod bulk;
 mod closing;
 mod compound;
 mod fullness;
+mod settling;
 mod trying;
 mod waiting;
 mod walks;

@@ -12,6 +12,7 @@ mod bulk;
 mod compound;
 mod ended;
 mod fullness;
+mod settling;
 mod trying;
 mod updating;
 mod waiting;

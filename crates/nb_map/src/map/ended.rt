@@ -115,7 +115,7 @@ impl Map {
 }
 
 /// The seats of the chain and those of the counter, in vectors that have room for them.
-fn parted(
+pub(super) fn parted(
     seats: Vec<Seat>,
     chain_seats: Vec<ChainSeat>,
     count_seats: Vec<CountSeat>,

@@ -1,0 +1,264 @@
+-- The seats of a map are settled: what they know, and how they are put together again.
+use Rattle.std.proofs.Common.{◌≡◌, ◌≢◌, ◌∙◌, ℕ, ◌+◌, ◌<◌, ◌≤◌, ◌==◌, ap, sym, subst, subst₂, refl, List, [], ◌∷◌, ◌++◌, All, Some, None, drop, length, map, reverse, slice_get, arith}
+use Rattle.std.specs.List.{AllZip, count_by}
+use Rattle.std.proofs.lemmas.Bool.{ne_eqb}
+use Rattle.std.proofs.lemmas.List.{append-nil, length-map, length-reverse, nil_from_length, reverse-append}
+use Rattle.std.proofs.lemmas.List.Elements.{All-cons, All-head, All-nil, All-tail, All-weaker, filter_map-append}
+use Rattle.nb_core.proofs.Seating.{AreMoved, moved-back, moved-count}
+use Rattle.nb_core.proofs.Theorems.{calls_append, log_is_replayed, seen_lasts}
+use Rattle.nb_core.specs.Log.{Entry, calls_of, entry_of, log_of}
+use Rattle.nb_core.specs.Meaning.{net_of}
+use Rattle.nb_core.specs.Plans.{IsPlan}
+use Rattle.nb_core.specs.Tables.{tables_at}
+use Rattle.nb_core.specs.History.{IsLegal, seat_of_event}
+use Rattle.nb_core.specs.declared.events.Event.{Event}
+use Rattle.nb_count.specs.Counts.{CountSeatOf, total_of}
+use Rattle.nb_count.specs.Tallies.{wrapped}
+use Rattle.nb_table.specs.Chains.{Grown, SeenBy, own_events}
+use Rattle.nb_table.specs.Settling.{Settled, at_rest, caught_up}
+use Rattle.nb_table.specs.Views.{HasSeen}
+use Rattle.nb_table.proofs.Theorems.{own-none, settled_as_closed}
+use Rattle.nb_map.specs.Handles.{HandleOf, IsSameMap, seats_of}
+use Rattle.nb_map.specs.inside.Models.{IsParted}
+use Rattle.nb_map.specs.Logs.{HasLogged, log}
+use Rattle.nb_map.specs.Maps.{AreMine, HasCounted, IsMine, MapOf, SeatOf}
+use Rattle.nb_map.specs.Settling.{HasCaughtUp, HaveSettled, as_left}
+use Rattle.nb_map.proofs.Sizes.{AreGathered, ended-with, is-ended, seen}
+use Rattle.nb_map.proofs.Tried.{calls-others}
+
+-- ---- putting together
+
+-- With what is left of the chain's and of the counter's seats, those that are put together so far
+-- are all of them.
+pub record ArePairing (chains : List SeenBy) (counts : List CountSeatOf)
+    (chains' : List SeenBy) (counts' : List CountSeatOf) (seats : List SeatOf) : Type 0 where
+  pub in_chain : AreMoved (λ seat. seat.chain) chains chains' (reverse seats)
+  pub in_counter : AreMoved (λ seat. seat.count) counts counts' (reverse seats)
+
+pub pairing-first :
+    (chains : List SeenBy) (counts : List CountSeatOf) (seats : List SeatOf) → seats ≡ []
+    → ArePairing chains counts chains counts seats
+pairing-first chains counts seats none = record {
+  in_chain = record {
+    is = sym (append-nil chains)
+        ∙ ap (λ ss. chains ++ map (λ (seat : SeatOf). seat.chain) (reverse ss)) (sym none);
+  };
+  in_counter = record {
+    is = sym (append-nil counts)
+        ∙ ap (λ ss. counts ++ map (λ (seat : SeatOf). seat.count) (reverse ss)) (sym none);
+  };
+}
+
+module _
+    {chains : List SeenBy} {counts : List CountSeatOf} {chains' : List SeenBy}
+    {counts' : List CountSeatOf} {seats : List SeatOf}
+    (d : ArePairing chains counts chains' counts' seats) where
+  -- one seat more
+  pub pairing-more :
+      (chains'' : List SeenBy) (counts'' : List CountSeatOf) (seats' : List SeatOf)
+      (chain : SeenBy) (count : CountSeatOf)
+      → chains' ≡ chains'' ++ chain ∷ [] → counts' ≡ counts'' ++ count ∷ []
+      → seats' ≡ seats ++ record { chain = chain; count = count } ∷ []
+      → ArePairing chains counts chains'' counts'' seats'
+  pairing-more chains'' counts'' seats' chain count chains_are counts_are is =
+      let s : SeatOf = record { chain = chain; count = count } in
+      let more = sym (ap reverse is ∙ reverse-append seats (s ∷ [])) in
+      record {
+        in_chain = subst (AreMoved (λ seat. seat.chain) chains chains'') more
+            (moved-back d.in_chain chains_are);
+        in_counter = subst (AreMoved (λ seat. seat.count) counts counts'') more
+            (moved-back d.in_counter counts_are);
+      }
+
+  pub pairing-count : (length chains' + length seats ≡ length chains)
+      × (length counts' + length seats ≡ length counts)
+  pairing-count = (
+    omega (arith, moved-count d.in_chain, length-reverse seats),
+    omega (arith, moved-count d.in_counter, length-reverse seats),
+  )
+
+  -- where none is left, all are put together
+  pub pairing-done : chains' ≡ [] → length chains ≡ length counts
+      → IsParted (reverse seats) chains counts
+  pairing-done none same =
+      let none' = nil_from_length counts' (omega (arith, pairing-count, ap length none, same)) in
+      record {
+        of_chain = d.in_chain.is ∙ ap (λ cs. cs ++ map (λ seat. seat.chain) (reverse seats)) none;
+        of_counter = d.in_counter.is
+            ∙ ap (λ cs. cs ++ map (λ seat. seat.count) (reverse seats)) none';
+      }
+
+-- ---- what is known
+
+-- a seat that has seen all is the map's still
+one-caught_up :
+    (m : MapOf) (h : List Event) (s s' : SeatOf) → IsPlan m.chain.shape → IsLegal m.chain.shape h
+    → s'.chain ≡ caught_up m.chain.shape h s.chain → s'.count ≡ s.count
+    → HasSeen h s.chain.number s.chain.seen → IsMine m s → HasCaughtUp m (log_of h) s s'
+one-caught_up m h s s' plan legal chain count has mine =
+    subst₂ (λ (c : SeenBy) (k : CountSeatOf).
+    HasCaughtUp m (log_of h) s (record { chain = c; count = k }))
+    (sym chain) (sym count) (record {
+      knows = refl;
+      logged = record {
+        number = refl;
+        later = log_of has.later;
+        grown = grown;
+        replayed = (log_is_replayed m.chain.shape plan h legal).replayed;
+        own = none;
+      };
+      grows = record {
+        chain = refl;
+        number = refl;
+        later = has.later;
+        seen = has.is;
+        own_are = own-none s.chain.number has.later has.others;
+        legal = legal;
+        steps = omega arith;
+        remembers = record {
+          rises = omega (arith, mine.chain.known, rises);
+          known = λ _ _. omega arith;
+        };
+      };
+      count = refl;
+      own = record {
+        chain = record {
+          at = mine.chain.at;
+          plan = plan;
+          legal = legal;
+          known = omega arith;
+        };
+        counter = mine.counter;
+        counted = mine.counted ∙ ap net_of (sym same);
+      };
+    })
+  where
+    rises : (tables_at m.chain.shape s.chain.seen).top ≤ (tables_at m.chain.shape h).top
+    rises =
+        subst (λ x. (tables_at m.chain.shape s.chain.seen).top ≤ (tables_at m.chain.shape x).top)
+        (sym has.is)
+        ((seen_lasts m.chain.shape plan has.later s.chain.seen
+        (subst (IsLegal m.chain.shape) has.is legal)).top)
+
+    none : calls_of s.chain.number (log_of has.later) ≡ []
+    none = calls-others s.chain.number has.later has.others
+
+    grown : log_of h ≡ log_of has.later ++ log s
+    grown = ap log_of has.is ∙ filter_map-append entry_of has.later s.chain.seen
+
+    same : calls_of s.chain.number (log_of h) ≡ calls_of s.chain.number (log s)
+    same = ap (calls_of s.chain.number) grown
+        ∙ calls_append s.chain.number (log_of has.later) (log s)
+        ∙ ap (λ calls. calls ++ calls_of s.chain.number (log s)) none
+
+-- and so are all
+all-caught_up :
+    (m : MapOf) (h : List Event) (before after : List SeatOf) → IsPlan m.chain.shape
+    → IsLegal m.chain.shape h
+    → map (λ seat. seat.chain) after
+    ≡ map (caught_up m.chain.shape h) (map (λ seat. seat.chain) before)
+    → map (λ seat. seat.count) after ≡ map (λ seat. seat.count) before
+    → All (λ seat. HasSeen h seat.chain.number seat.chain.seen) before
+    → AreMine m before → AllZip (HasCaughtUp m (log_of h)) before after
+all-caught_up m h [] [] plan legal chains counts has mine = tt
+all-caught_up m h [] (s' ∷ after) plan legal chains counts has mine =
+    absurd (omega (arith, ap length chains))
+all-caught_up m h (s ∷ before) [] plan legal chains counts has mine =
+    absurd (omega (arith, ap length chains))
+all-caught_up m h (s ∷ before) (s' ∷ after) plan legal chains counts has mine =
+    let P : SeatOf → Type 0 = λ seat. HasSeen h seat.chain.number seat.chain.seen in
+    let chain : s'.chain ≡ caught_up m.chain.shape h s.chain = cc in
+    let count : s'.count ≡ s.count = cc in (
+      one-caught_up m h s s' plan legal chain count (All-head P s before has)
+          (All-head (IsMine m) s before mine),
+      all-caught_up m h before after plan legal (ap (drop 1) chains) (ap (drop 1) counts)
+          (All-tail P s before has) (All-tail (IsMine m) s before mine),
+    )
+
+-- so they are the map's still
+pub each-mine :
+    (m : MapOf) (whole : List Entry) (before after : List SeatOf)
+    → AllZip (HasCaughtUp m whole) before after → AreMine m after
+each-mine m whole [] [] each = All-nil (IsMine m)
+each-mine m whole [] (s' ∷ after) each = absurd each
+each-mine m whole (s ∷ before) [] each = absurd each
+each-mine m whole (s ∷ before) (s' ∷ after) each =
+    All-cons (IsMine m) s' after each.0.own (each-mine m whole before after each.1)
+
+-- the seats of the chain were settled, and put together again with those of the counter
+pub have-settled :
+    (m : MapOf) → IsPlan m.chain.shape → (before after : List SeatOf) (chains chains' : List SeenBy)
+    (counts : List CountSeatOf) (size : ℕ)
+    → IsParted before chains counts → IsParted after chains' counts
+    → Settled m.chain.shape chains chains' → length before ≡ m.chain.shape.seats
+    → AreMine m before → size ≡ wrapped (total_of counts) → HaveSettled m before after size
+have-settled m plan before after chains chains' counts size parted parted' s all mine sum =
+    let p = m.chain.shape in
+    let closed = settled_as_closed p plan chains chains' s in
+    let gathered : AreGathered p before chains counts (at_rest p s.history) = record {
+      parted = parted;
+      shape = refl;
+      closed_with = closed;
+      all = all;
+      counted = All-weaker (IsMine m) HasCounted (λ seat is. is.counted) before mine;
+    } in
+    let all_seen = seen p before chains counts (at_rest p s.history) gathered in
+    let are : map (λ (seat : SeatOf). seat.chain) after
+    ≡ map (caught_up p s.history) (map (λ (seat : SeatOf). seat.chain) before)
+    = sym parted'.of_chain ∙ s.is ∙ ap (map (caught_up p s.history)) parted.of_chain in
+    let same = sym parted'.of_counter ∙ parted.of_counter in
+    record {
+      tables = record {
+        history = s.history;
+        legal = s.legal;
+        seen = subst (All (λ seat. HasSeen s.history seat.number seat.seen)) parted.of_chain s.seen;
+        is = are;
+        once = λ n below. subst (λ (xs : List SeenBy). count_by (λ seat. seat.number == n) xs ≡ 1)
+            parted.of_chain (s.once n below);
+      };
+      ended = ended-with p before chains counts (at_rest p s.history) gathered size sum;
+      left = record { shape = refl; left = closed.left; seen = all_seen };
+      keys = is-ended p before chains counts (at_rest p s.history) gathered size sum;
+      each = all-caught_up m s.history before after plan s.legal are same all_seen mine;
+    }
+
+-- ---- handles
+
+-- each handle is of the map that it was of
+pub same-maps : (handles : List HandleOf) → AllZip IsSameMap handles handles
+same-maps [] = tt
+same-maps (handle ∷ handles) = (refl, same-maps handles)
+
+-- where no seat is out of its handle any more, the handles' seats are settled
+pub settled-handles :
+    (m : MapOf) (handles handles' : List HandleOf) (rest rest' : List SeatOf) (size : ℕ)
+    → rest ≡ [] → rest' ≡ [] → All (λ handle. handle.map ≡ m) handles
+    → HaveSettled m (seats_of handles ++ reverse rest) (seats_of handles' ++ reverse rest') size
+    → All (λ handle. HaveSettled handle.map (seats_of handles) (seats_of handles') size) handles
+settled-handles m handles handles' rest rest' size none none' one s =
+    let all = subst₂ (λ before after. HaveSettled m before after size)
+    (ap (λ xs. seats_of handles ++ reverse xs) none ∙ append-nil (seats_of handles))
+    (ap (λ xs. seats_of handles' ++ reverse xs) none' ∙ append-nil (seats_of handles')) s in
+    λ k d lt. subst (λ n. HaveSettled n (seats_of handles) (seats_of handles') size)
+    (sym (one k d lt)) all
+
+-- the first handle is of the map that all are of
+pub of-first :
+    (m : MapOf) (handles : List HandleOf) (first : HandleOf) → Some first ≡ slice_get handles 0
+    → All (λ handle. handle.map ≡ m) handles → first.map ≡ m
+of-first m [] first at one = absurd (let e : Some first ≡ None = at in cc)
+of-first m (handle ∷ handles) first at one =
+    let same : first ≡ handle = let e : Some first ≡ Some handle = at in cc in
+    ap (λ h. h.map) same ∙ All-head (λ h. h.map ≡ m) handle handles one
+
+-- and so they are after each was left with its map
+pub still-of-one :
+    (m : MapOf) (before after : List HandleOf) → AllZip IsSameMap before after
+    → All (λ handle. handle.map ≡ m) before → All (λ handle. handle.map ≡ m) after
+still-of-one m [] [] each one = All-nil (λ handle. handle.map ≡ m)
+still-of-one m [] (h' ∷ after) each one = absurd each
+still-of-one m (h ∷ before) [] each one = absurd each
+still-of-one m (h ∷ before) (h' ∷ after) each one =
+    All-cons (λ handle. handle.map ≡ m) h' after
+    (each.0 ∙ All-head (λ handle. handle.map ≡ m) h before one)
+    (still-of-one m before after each.1 (All-tail (λ handle. handle.map ≡ m) h before one))
