@@ -130,7 +130,7 @@ static void puts_and_gets(samvolip_seat *seat)
     uint64_t number = 99, before = 98;
     samvolip_reply reply = {1, 2, 3};
     EXPECT(samvolip_get(seat, 7, &number) == SAMVOLIP_ABSENT && number == 0);
-    EXPECT(samvolip_put(seat, 7, 5, &before) == SAMVOLIP_ABSENT && before == 98);
+    EXPECT(samvolip_put(seat, 7, 5, &before) == SAMVOLIP_ABSENT && before == 0);
     EXPECT(samvolip_put(seat, 7, 6, &before) == SAMVOLIP_PRESENT && before == 5);
     EXPECT(samvolip_get(seat, 7, &number) == SAMVOLIP_PRESENT && number == 6);
     EXPECT(samvolip_put_if_absent(seat, 7, 1, &before) == SAMVOLIP_PRESENT && before == 6);
@@ -144,7 +144,7 @@ static void puts_and_gets(samvolip_seat *seat)
     EXPECT(samvolip_add(seat, 8, 4, NULL) == SAMVOLIP_ABSENT);
     EXPECT(samvolip_add(seat, 8, 4, &before) == SAMVOLIP_PRESENT && before == 4);
     EXPECT(samvolip_remove(seat, 8, &before) == SAMVOLIP_PRESENT && before == 8);
-    EXPECT(samvolip_remove(seat, 8, &before) == SAMVOLIP_ABSENT && before == 8);
+    EXPECT(samvolip_remove(seat, 8, &before) == SAMVOLIP_ABSENT && before == 0);
     EXPECT(samvolip_put_if_match(seat, 7, SAMVOLIP_ANY, 0, SAMVOLIP_PUT, 1, 0, &reply) == 0);
     EXPECT(reply.had == 1 && reply.before == 6 && reply.matched == 1);
     const uint64_t one = 1, two = 2;
@@ -178,6 +178,7 @@ static void refuses_calls(samvolip_seat *seat)
     EXPECT(samvolip_put_if_match(seat, 0, 0, 0, SAMVOLIP_ADD, 1, 1, &reply)
            == SAMVOLIP_E_SUM_RANGE);
     EXPECT(memcmp(&reply, &as_before, sizeof reply) == 0);
+    EXPECT(samvolip_put(seat, 0, past, &number) == SAMVOLIP_E_VALUE_RANGE && number == 99);
     EXPECT(samvolip_get(seat, 0, &number) == SAMVOLIP_PRESENT && number == SAMVOLIP_VALUE_MAX);
     EXPECT(samvolip_put(seat, SAMVOLIP_KEY_MAX, 0, NULL) == SAMVOLIP_ABSENT);
     EXPECT(samvolip_get(seat, SAMVOLIP_KEY_MAX, &number) == SAMVOLIP_PRESENT && number == 0);
@@ -249,6 +250,7 @@ static void splits_and_joins(void)
     EXPECT(samvolip_ended_get(&ended, UINT64_MAX, &number) == SAMVOLIP_E_KEY_RANGE);
     samvolip_entry entries[5] = {{0, 0}};
     EXPECT(samvolip_ended_entries(&ended, entries, 3) == SAMVOLIP_E_ROOM);
+    EXPECT(samvolip_ended_entries(&ended, NULL, 0) == SAMVOLIP_E_ROOM);
     EXPECT(entries[1].key == 0);
     EXPECT(samvolip_ended_entries(&ended, entries, 5) == SAMVOLIP_OK);
     for (uint64_t i = 0; i < 4; i++)
@@ -256,6 +258,25 @@ static void splits_and_joins(void)
     samvolip_ended_free(&ended);
     samvolip_ended_free(&ended);
     EXPECT(ended.handle == NULL);
+}
+
+/* Handles of zeros are empty, and a map without keys has all of them in no room. */
+static void begins_with_zeros(void)
+{
+    const samvolip_shape shape = samvolip_shape_for_keys(10, 1);
+    samvolip_seat *seat = calloc(1, sizeof *seat);
+    samvolip_ended *ended = calloc(1, sizeof *ended);
+    EXPECT(seat != NULL && ended != NULL);
+    samvolip_free(seat);
+    samvolip_ended_free(ended);
+    EXPECT(samvolip_open(&shape, seat) == SAMVOLIP_OK);
+    EXPECT(samvolip_close(seat, ended) == SAMVOLIP_OK);
+    EXPECT(samvolip_ended_entries(ended, NULL, 0) == SAMVOLIP_OK);
+    EXPECT(samvolip_open(&shape, seat) == SAMVOLIP_OK);
+    samvolip_free(seat);
+    samvolip_ended_free(ended);
+    free(seat);
+    free(ended);
 }
 
 static void tells_codes(void)
@@ -313,6 +334,7 @@ int main(void)
     EXPECT(seat.handle == NULL);
     refuses_when_full();
     splits_and_joins();
+    begins_with_zeros();
     tells_codes();
     puts("calls: well");
     return 0;

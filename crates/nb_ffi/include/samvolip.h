@@ -28,18 +28,24 @@
  * map: no seat, no call.
  *
  * One call at a time. A seat is in one call at a time. It may go from one thread to another, if a
- * lock, the start or the join of a thread, or a sequentially consistent atomic comes between. An
- * ended map stays on the thread that closed it.
+ * lock, a barrier, the start or the join of a thread, or a sequentially consistent atomic comes
+ * between. An ended map stays on the thread that closed it.
  *
  * One map. samvolip_meet and samvolip_join take two seats of one map, and two different ones.
  *
  * Empty and full. A handle is a variable that the caller declares, a samvolip_seat or a
- * samvolip_ended. SAMVOLIP_SEAT_INIT or SAMVOLIP_ENDED_INIT makes it empty. samvolip_open,
- * samvolip_split and samvolip_close fill an empty handle. samvolip_join, samvolip_close,
- * samvolip_free and samvolip_ended_free empty a full one; the two frees take an empty one, too. All
- * other calls take a full one. So nothing is freed twice. A call after a free is a call with an
- * empty handle, which is an error of the program. Don't copy a handle: that would make two seats
- * of one.
+ * samvolip_ended. SAMVOLIP_SEAT_INIT or SAMVOLIP_ENDED_INIT makes it empty. So do zeros: a handle
+ * whose bytes are all 0, as calloc, memset or static storage make it, is an empty one.
+ * samvolip_open, samvolip_split and samvolip_close fill an empty handle. samvolip_join,
+ * samvolip_close, samvolip_free and samvolip_ended_free empty a full one; the two frees take an
+ * empty one, too. All other calls take a full one. So nothing is freed twice. A call after a free
+ * is a call with an empty handle, which is an error of the program. Don't copy a handle: that would
+ * make two seats of one.
+ *
+ * Keys. A key's home slot is its low bits; nothing is hashed. Keys that share their low bits, such
+ * as addresses or multiples of a power of two, are searched for one after another: 20,000 keys that
+ * are multiples of 65,536 take 35 microseconds a put. Mixed by samvolip_mix before they become
+ * keys, they take 0.1. samvolip_unmix turns the keys of a walk or of an ended map back.
  *
  * Pointers. No pointer is NULL, except where the call says so. What a call writes to (a number, a
  * reply, a handle, an array) overlaps nothing else that the call is given. The library keeps no
@@ -355,7 +361,10 @@ static inline void samvolip_free(samvolip_seat *seat)
  * What is at a key. It returns SAMVOLIP_PRESENT, and the number is written; or SAMVOLIP_ABSENT, and
  * 0 is written. If the call is refused, `number` stays as it was.
  *
- * Cost: wait-free. In the common case two loads.
+ * Cost: wait-free. In the common case two loads. For a key that isn't there the search ends at the
+ * first slot that no key has ever taken. In the last table, which keys may fill to the end, it gets
+ * long: at 2^19 slots it takes 0.14 microseconds if half of them are taken, 1.7 if 95 % are, and
+ * 3400 if all are. Removed keys count, too.
  * Refused: SAMVOLIP_E_KEY_RANGE.
  */
 int samvolip_get(samvolip_seat *seat, uint64_t key, uint64_t *number);
@@ -378,11 +387,21 @@ int samvolip_put_if_match(samvolip_seat *seat, uint64_t key, uint32_t want, uint
                           samvolip_reply *reply);
 
 /*
- * About how many keys the map has, modulo 2^64. While others write, it is no more than a guess.
+ * About how many keys the map has. While others write, it is no more than a guess: a sum below zero
+ * counts as 0.
  *
  * Cost: a load for each stripe.
  */
 uint64_t samvolip_size_estimate(samvolip_seat *seat);
+
+/* What samvolip_size_estimate stands for in a program: the library's own function of that name
+   answers the sum modulo 2^64. */
+static inline uint64_t samvolip_size_from_0(samvolip_seat *seat)
+{
+    uint64_t sum = samvolip_size_estimate(seat);
+    return sum <= UINT64_MAX / 2 ? sum : 0;
+}
+#define samvolip_size_estimate samvolip_size_from_0
 
 /*
  * How many tables the map has left behind: from 0 to one less than the shape has.
@@ -435,14 +454,27 @@ int samvolip_ended_get(const samvolip_ended *ended, uint64_t key, uint64_t *numb
 
 /*
  * Writes all keys in ascending order, with their numbers, into the caller's array. It has room for
- * `room` entries, and there are samvolip_ended_size of them. `entries` isn't NULL, even if `room`
- * is 0.
+ * `room` entries, and there are samvolip_ended_size of them. NULL stands for no room: it is refused
+ * unless the map has no keys.
  *
  * Cost: that of a search for each key and of putting them in order, and memory for them twice.
- * Refused: SAMVOLIP_E_ROOM, SAMVOLIP_E_OUT_OF_MEMORY. The first is found only after the list was
- * made, so ask samvolip_ended_size first.
+ * Refused: SAMVOLIP_E_ROOM, before anything else is done; SAMVOLIP_E_OUT_OF_MEMORY.
  */
 int samvolip_ended_entries(const samvolip_ended *ended, samvolip_entry *entries, size_t room);
+
+/* What samvolip_ended_entries stands for in a program: the library's own function of that name
+   takes no NULL, and makes the list before it looks at the room. */
+static inline int samvolip_ended_entries_in_room(const samvolip_ended *ended,
+                                                 samvolip_entry *entries, size_t room)
+{
+    samvolip_entry none = {0, 0};
+    if (!entries)
+        room = 0;
+    if (room < samvolip_ended_size(ended))
+        return SAMVOLIP_E_ROOM;
+    return samvolip_ended_entries(ended, entries ? entries : &none, room);
+}
+#define samvolip_ended_entries samvolip_ended_entries_in_room
 
 /* Frees a full handle. Use samvolip_ended_free, which takes an empty one, too. */
 void samvolip_ended_free_open(samvolip_ended *ended);
@@ -488,6 +520,34 @@ static inline const char *samvolip_strerror(int code)
     }
 }
 
+/* ---- mixing -------------------------------------------------------------------------------- */
+
+/* Two odd numbers whose product is 1 modulo 2^64. The first is near 2^64 over the golden ratio, as
+   Fibonacci hashing takes it. */
+#define SAMVOLIP_MIX_FACTOR UINT64_C(0x9e3779b97f4a7c15)
+#define SAMVOLIP_MIX_INVERSE UINT64_C(0xf1de83e19937733d)
+
+/*
+ * Mixes a number, for keys that share their low bits: each low bit of the result depends on all
+ * bits of the number. Different numbers have different results. Two of these are past
+ * SAMVOLIP_KEY_MAX, and so no keys: those of 1504646209777642070 and of 5863696168926310861. The
+ * factor is known, so somebody who chooses the numbers can choose them to collide.
+ *
+ * Cost: two multiplications and two changes of the order of the bytes.
+ */
+static inline uint64_t samvolip_mix(uint64_t number)
+{
+    number = __builtin_bswap64(number * SAMVOLIP_MIX_FACTOR);
+    return __builtin_bswap64(number * SAMVOLIP_MIX_FACTOR);
+}
+
+/* The number that samvolip_mix made this one of. */
+static inline uint64_t samvolip_unmix(uint64_t number)
+{
+    number = __builtin_bswap64(number) * SAMVOLIP_MIX_INVERSE;
+    return __builtin_bswap64(number) * SAMVOLIP_MIX_INVERSE;
+}
+
 #ifdef __cplusplus
 }
 #endif
@@ -504,9 +564,9 @@ static inline const char *samvolip_strerror(int code)
  * contended. They are lock-free: only the success of others costs them anything.
  *
  * Each returns SAMVOLIP_PRESENT if there was a number at the key, and writes that to `before`. Else
- * it returns SAMVOLIP_ABSENT, and `before` stays as it was. `before` may be NULL. replace_if and
- * remove_if return 1 if they did it, and else 0. The codes by which each may be refused are beside
- * it, without SAMVOLIP_.
+ * it returns SAMVOLIP_ABSENT, and writes 0. If it is refused, `before` stays as it was. `before`
+ * may be NULL. replace_if and remove_if return 1 if they did it, and else 0. The codes by which
+ * each may be refused are beside it, without SAMVOLIP_.
  */
 
 /* The write, again as long as it is contended, and its reply. */
@@ -520,19 +580,21 @@ static inline int samvolip_write(samvolip_seat *seat, uint64_t key, uint32_t wan
     return code;
 }
 
-/* The same, and what it found. */
+/* What a write found, by its reply. */
+static inline int samvolip_found(const samvolip_reply *reply, uint64_t *before)
+{
+    if (before)
+        *before = reply->before;
+    return reply->had ? SAMVOLIP_PRESENT : SAMVOLIP_ABSENT;
+}
+
+/* The same write, and what it found. */
 static inline int samvolip_write_found(samvolip_seat *seat, uint64_t key, uint32_t want,
                                        uint32_t change, uint64_t number, uint64_t *before)
 {
     samvolip_reply reply;
     int code = samvolip_write(seat, key, want, 0, change, number, &reply);
-    if (code < 0)
-        return code;
-    if (!reply.had)
-        return SAMVOLIP_ABSENT;
-    if (before)
-        *before = reply.before;
-    return SAMVOLIP_PRESENT;
+    return code < 0 ? code : samvolip_found(&reply, before);
 }
 
 /* The same, and whether its condition held. */
@@ -541,7 +603,9 @@ static inline int samvolip_write_matched(samvolip_seat *seat, uint64_t key, uint
 {
     samvolip_reply reply;
     int code = samvolip_write(seat, key, SAMVOLIP_EQUAL, old, change, number, &reply);
-    return code < 0 ? code : (int)reply.matched;
+    if (code < 0)
+        return code;
+    return reply.matched ? 1 : 0;
 }
 
 /* Puts a number at a key. Refused: E_KEY_RANGE, E_VALUE_RANGE, E_FULL. */
@@ -605,6 +669,106 @@ static inline int samvolip_compare_exchange(samvolip_seat *seat, uint64_t key,
     return samvolip_put_if_match(seat, key, expected ? SAMVOLIP_EQUAL : SAMVOLIP_WANT_ABSENT,
                                  expected ? *expected : 0, next ? SAMVOLIP_PUT : SAMVOLIP_REMOVE,
                                  next ? *next : 0, tries, reply);
+}
+
+/* ---- calls over calls ---------------------------------------------------------------------- */
+
+/* These are made of the calls above, and answer as the writes by name do, except where they say
+   otherwise. */
+
+/* Whether there is a number at a key: 1 or 0. Refused: E_KEY_RANGE. */
+static inline int samvolip_contains(samvolip_seat *seat, uint64_t key)
+{
+    uint64_t number;
+    return samvolip_get(seat, key, &number);
+}
+
+/*
+ * The number at a key, where `number` is put first if there is none. Either way, what is there then
+ * is written to `there`, which may be NULL. It returns SAMVOLIP_ABSENT if it put the number. It is
+ * one samvolip_put_if_absent, and refused as that.
+ */
+static inline int samvolip_get_or_insert(samvolip_seat *seat, uint64_t key, uint64_t number,
+                                         uint64_t *there)
+{
+    uint64_t before;
+    int code = samvolip_put_if_absent(seat, key, number, &before);
+    if (code >= 0 && there)
+        *there = code == SAMVOLIP_PRESENT ? before : number;
+    return code;
+}
+
+/*
+ * What samvolip_update makes of what it finds. `found` points to the number at the key, or is NULL
+ * if there is none. It returns 1, and writes to `next` which number is to be there; or it returns
+ * 0, and none is to be there; or it returns less than 0, which gives the update up. `context` is
+ * what samvolip_update was given.
+ */
+typedef int samvolip_updater(void *context, const uint64_t *found, uint64_t *next);
+
+/*
+ * Reads a key, and exchanges what it finds for what `updater` makes of that. If other writes of the
+ * key come first, it goes on from what they left, with `tries` exchanges in all; 0 counts as one.
+ * The updater is called once for each exchange. It may make other calls with the seat. Less than 0,
+ * if it returns that, is what samvolip_update returns.
+ *
+ * Cost: that of samvolip_get and of each exchange; and the updater's.
+ * Refused: E_KEY_RANGE, E_VALUE_RANGE, E_FULL; E_CONTENDED, if others came first at each try.
+ */
+static inline int samvolip_update(samvolip_seat *seat, uint64_t key, samvolip_updater *updater,
+                                  void *context, uint32_t tries, uint64_t *before)
+{
+    uint64_t found, next;
+    samvolip_reply reply;
+    int had = samvolip_get(seat, key, &found);
+    while (had >= 0) {
+        int stays = updater(context, had ? &found : NULL, &next), code;
+        if (stays < 0)
+            return stays;
+        code = samvolip_compare_exchange(seat, key, had ? &found : NULL, stays ? &next : NULL, 1,
+                                         &reply);
+        if (code == SAMVOLIP_OK && reply.matched)
+            return samvolip_found(&reply, before);
+        if (code < 0 && code != SAMVOLIP_E_CONTENDED)
+            return code;
+        if (tries <= 1)
+            return SAMVOLIP_E_CONTENDED;
+        tries--;
+        had = code < 0 ? samvolip_get(seat, key, &found) : samvolip_found(&reply, &found);
+    }
+    return had;
+}
+
+/* Puts a number at a key, unless there is one at least as great, or at least as small: by as many
+   writes as others' writes of the key make it take. */
+static inline int samvolip_put_bound(samvolip_seat *seat, uint64_t key, uint64_t number,
+                                     int is_greatest, uint64_t *before)
+{
+    samvolip_reply reply = {0, 0, 0};
+    do {
+        int code = samvolip_write(seat, key, reply.had ? SAMVOLIP_EQUAL : SAMVOLIP_WANT_ABSENT,
+                                  reply.before, SAMVOLIP_PUT, number, &reply);
+        if (code < 0)
+            return code;
+    } while (!reply.matched
+             && !(reply.had && (is_greatest ? reply.before >= number : reply.before <= number)));
+    return samvolip_found(&reply, before);
+}
+
+/* Puts a number at a key that has a smaller one or none. It is lock-free. Refused as
+   samvolip_put. */
+static inline int samvolip_fetch_max(samvolip_seat *seat, uint64_t key, uint64_t number,
+                                     uint64_t *before)
+{
+    return samvolip_put_bound(seat, key, number, 1, before);
+}
+
+/* Puts a number at a key that has a greater one or none. It is lock-free. Refused as
+   samvolip_put. */
+static inline int samvolip_fetch_min(samvolip_seat *seat, uint64_t key, uint64_t number,
+                                     uint64_t *before)
+{
+    return samvolip_put_bound(seat, key, number, 0, before);
 }
 
 #endif

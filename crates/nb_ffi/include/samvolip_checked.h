@@ -4,6 +4,7 @@
 
 #include <stdio.h>
 #include <stdlib.h>
+#include <string.h>
 
 #ifdef __cplusplus
 extern "C" {
@@ -62,7 +63,9 @@ static inline void samvolip_check_ended(const samvolip_ended *ended, const char 
 static inline uintptr_t samvolip_name_of_map(const samvolip_seat *seat)
 {
     static uintptr_t maps;
-    return (uintptr_t)seat->handle + __atomic_add_fetch(&maps, 1, __ATOMIC_SEQ_CST);
+    uintptr_t address;
+    memcpy(&address, &seat->handle, sizeof address);
+    return address + __atomic_add_fetch(&maps, 1, __ATOMIC_SEQ_CST);
 }
 
 static inline int samvolip_checked_open(const samvolip_shape *shape, samvolip_seat *seat)
@@ -207,7 +210,7 @@ static inline int samvolip_checked_ended_get(const samvolip_ended *ended, uint64
 static inline int samvolip_checked_ended_entries(const samvolip_ended *ended,
                                                  samvolip_entry *entries, size_t room)
 {
-    samvolip_check(entries != NULL, "samvolip_ended_entries", "the array is NULL");
+    samvolip_check(entries != NULL || room == 0, "samvolip_ended_entries", "the array is NULL");
     samvolip_check_ended(ended, "samvolip_ended_entries");
     return samvolip_ended_entries(ended, entries, room);
 }
@@ -223,6 +226,7 @@ static inline int samvolip_checked_ended_entries(const samvolip_ended *ended,
 #define samvolip_free samvolip_checked_free
 #define samvolip_get samvolip_checked_get
 #define samvolip_put_if_match samvolip_checked_put_if_match
+#undef samvolip_size_estimate
 #define samvolip_size_estimate samvolip_checked_size_estimate
 #define samvolip_generation samvolip_checked_generation
 #define samvolip_meet samvolip_checked_meet
@@ -230,6 +234,7 @@ static inline int samvolip_checked_ended_entries(const samvolip_ended *ended,
 #define samvolip_next samvolip_checked_next
 #define samvolip_ended_size samvolip_checked_ended_size
 #define samvolip_ended_get samvolip_checked_ended_get
+#undef samvolip_ended_entries
 #define samvolip_ended_entries samvolip_checked_ended_entries
 
 #endif

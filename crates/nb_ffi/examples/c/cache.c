@@ -111,8 +111,7 @@ static uint64_t looked_up(struct worker *worker, uint64_t line)
 static int meet(struct worker *worker)
 {
     struct cache *cache = worker->cache;
-    /* The seats go to thread 0 by an atomic, as samvolip.h asks: a barrier is none of its ways. */
-    atomic_fetch_add(&cache->at_work, 0);
+    /* the barriers hand the seats to thread 0, and back */
     pthread_barrier_wait(&cache->met);
     int goes_on = atomic_load(&cache->at_work) > 0;
     if (worker->number == 0 && atomic_load(&cache->is_full)) {

@@ -1,0 +1,268 @@
+// Each call of samvolip.hpp by one thread, with its answers and refusals: of a map and of a seat, with plain and with mixed keys.
+#include "samvolip.hpp"
+
+#include "../c_tests/expect.h"
+
+#include <set>
+
+using samvolip::fault;
+using samvolip::found;
+using samvolip::keys;
+
+static_assert(!std::is_copy_constructible_v<samvolip::map> && std::is_nothrow_move_constructible_v<samvolip::map>);
+static_assert(!std::is_copy_constructible_v<samvolip::seat> && std::is_nothrow_move_constructible_v<samvolip::seat>);
+static_assert(!std::is_copy_constructible_v<samvolip::ended> && std::is_nothrow_move_constructible_v<samvolip::ended>);
+
+namespace {
+
+// ---- calls, of a map and of a seat alike
+
+template <class Caller> void puts_and_gets(Caller &caller)
+{
+    EXPECT(caller.get(7).value() == std::nullopt && !caller.contains(7).value());
+    EXPECT(caller.put(7, 5).value() == std::nullopt);
+    EXPECT(caller.put(7, 6).value() == 5u);
+    EXPECT(caller.get(7).value() == 6u && caller.contains(7).value());
+    EXPECT(caller.put_if_absent(7, 1).value() == 6u);
+    EXPECT(caller.put_if_absent(8, 1).value() == std::nullopt);
+    EXPECT(caller.replace(9, 1).value() == std::nullopt);
+    EXPECT(caller.replace(8, 2).value() == 1u);
+    EXPECT(!caller.replace_if(8, 1, 3).value() && caller.replace_if(8, 2, 3).value());
+    EXPECT(!caller.remove_if(8, 2).value() && caller.remove_if(8, 3).value());
+    EXPECT(caller.add(8, 4).value() == std::nullopt && caller.add(8, 4).value() == 4u);
+    EXPECT(caller.remove(8).value() == 8u && caller.remove(8).value() == std::nullopt);
+    EXPECT(caller.get_or_insert(8, 3).value() == 3u && caller.get_or_insert(8, 4).value() == 3u);
+    EXPECT(caller.fetch_max(8, 2).value() == 3u && caller.fetch_max(8, 5).value() == 3u);
+    EXPECT(caller.fetch_min(8, 6).value() == 5u && caller.fetch_min(8, 1).value() == 5u);
+    EXPECT(caller.get(8).value() == 1u);
+    EXPECT(caller.fetch_max(9, 1).value() == std::nullopt && caller.remove(9).value() == 1u);
+    EXPECT(caller.size_estimate().value() == 2 && caller.generation().value() <= 2);
+}
+
+template <class Caller> void exchanges(Caller &caller)
+{
+    found expected = 2;
+    EXPECT(!caller.compare_exchange(8, expected, 7).value() && expected == 1u);
+    EXPECT(caller.compare_exchange(8, expected, 7).value() && expected == 1u);
+    expected = 7;
+    EXPECT(caller.compare_exchange(8, expected, std::nullopt).value());
+    EXPECT(!caller.compare_exchange(8, expected, 1).value() && expected == std::nullopt);
+    EXPECT(caller.compare_exchange(8, expected, 1).value() && caller.get(8).value() == 1u);
+}
+
+template <class Caller> void updates(Caller &caller)
+{
+    unsigned times = 0;
+    auto doubled = [&times](found number) -> found {
+        times++;
+        return number ? found(*number * 2) : found(1);
+    };
+    EXPECT(caller.update(9, doubled).value() == std::nullopt && caller.get(9).value() == 1u);
+    EXPECT(caller.update(9, doubled, 1).value() == 1u && caller.get(9).value() == 2u && times == 2);
+
+    // the function calls the same map, and so comes before its own exchange
+    unsigned calls = 0;
+    auto disturbed = [&](found number) -> found {
+        if (calls++ < 2)
+            EXPECT(caller.add(9, 10).value() == number);
+        return *number + 1;
+    };
+    EXPECT(caller.update(9, disturbed, 2).error().why() == fault::contended && calls == 2);
+    calls = 0;
+    EXPECT(caller.update(9, disturbed, 3).value() == 42u && calls == 3);
+    EXPECT(caller.get(9).value() == 43u);
+    EXPECT(caller.update(9, [](found) { return found(SAMVOLIP_VALUE_MAX + 1); }).error().why() == fault::value_range);
+    EXPECT(caller.update(9, [](found) { return found(); }).value() == 43u && !caller.contains(9).value());
+#ifdef __cpp_exceptions
+    bool thrown = false;
+    try {
+        (void)caller.update(9, [](found) -> found { throw 1; });
+    } catch (int) {
+        thrown = true;
+    }
+    EXPECT(thrown && !caller.contains(9).value());
+#endif
+}
+
+template <class Caller> void refuses(Caller &caller)
+{
+    const std::uint64_t past_key = SAMVOLIP_KEY_MAX + 1, past = SAMVOLIP_VALUE_MAX + 1;
+    for (std::uint64_t key : {past_key, past_key + 1}) {
+        EXPECT(caller.get(key).error().why() == fault::key_range);
+        EXPECT(caller.contains(key).error().why() == fault::key_range);
+        EXPECT(caller.put(key, 1).error().why() == fault::key_range);
+        EXPECT(caller.get_or_insert(key, 1).error().why() == fault::key_range);
+        EXPECT(caller.update(key, [](found) { return found(1); }).error().why() == fault::key_range);
+    }
+    EXPECT(caller.put(1, past).error().why() == fault::value_range);
+    EXPECT(caller.put(1, SAMVOLIP_VALUE_MAX).has_value());
+    auto refused = caller.add(1, 1);
+    EXPECT(!refused.has_value() && refused.error().why() == fault::sum_range);
+    EXPECT(refused.error().message() == "sum too large" && refused.error().seats() == 0);
+    EXPECT(refused.value_or(3) == 3u && caller.add(1, 0).value_or(3) == SAMVOLIP_VALUE_MAX);
+    EXPECT(caller.remove(1).has_value());
+#ifdef __cpp_exceptions
+    bool thrown = false;
+    try {
+        refused.value();
+    } catch (const samvolip::refused &what) {
+        thrown = what.error().why() == fault::sum_range && std::string(what.what()) == "samvolip: sum too large";
+    }
+    EXPECT(thrown);
+#endif
+}
+
+template <class Caller> void calls(Caller &caller)
+{
+    puts_and_gets(caller);
+    exchanges(caller);
+    updates(caller);
+    refuses(caller);
+    EXPECT(caller.remove(7).has_value() && caller.remove(8).has_value());
+    EXPECT(caller.size_estimate().value() == 0);
+}
+
+template <class Caller> void is_empty(Caller &caller)
+{
+    EXPECT(!caller);
+    EXPECT(caller.get(1).error().why() == fault::empty && caller.put(1, 1).error().why() == fault::empty);
+    EXPECT(caller.size_estimate().error().why() == fault::empty);
+    EXPECT(caller.generation().error().why() == fault::empty);
+}
+
+// ---- walks
+
+void walks(samvolip::map &map, samvolip::seat &seat)
+{
+    std::set<std::uint64_t> keys, shown;
+    for (std::uint64_t i = 0; i < 300; i++) {
+        keys.insert(i * 65536);
+        EXPECT(map.put(i * 65536, i).value() == std::nullopt);
+    }
+    EXPECT(map.generation().value() > 0);
+    for (auto [key, number] : map.walk().value()) {
+        EXPECT(number == key / 65536 && shown.insert(key).second);
+        EXPECT(map.get(key).value() == number);
+    }
+    EXPECT(shown == keys);
+    shown.clear();
+    for (auto [key, number] : seat.walk())
+        EXPECT(number == key / 65536 && shown.insert(key).second);
+    EXPECT(shown == keys);
+
+    // a walk goes on where it is; a new one of the same seat cuts it off, and one of another seat doesn't
+    samvolip::walk first = map.walk().value();
+    EXPECT(first.next().has_value() && std::distance(first.begin(), first.end()) == 299);
+    first = map.walk().value();
+    EXPECT(first.next().has_value() && !first.is_cut_off());
+    samvolip::walk other = seat.walk();
+    EXPECT(first.next().has_value() && other.next().has_value());
+    samvolip::walk second = map.walk().value();
+    EXPECT(first.is_cut_off() && !first.next().has_value());
+    EXPECT(!second.is_cut_off() && second.next().has_value() && other.next().has_value());
+
+    // a seat is moved during its walk
+    samvolip::seat moved = std::move(seat);
+    EXPECT(other.next().has_value() && moved.get(0).value() == 0u);
+    is_empty(seat);
+    EXPECT(!seat.walk().next().has_value() && seat.native_handle() == nullptr);
+    std::swap(seat, moved);
+    EXPECT(seat && !moved);
+}
+
+// ---- the end
+
+void ends(keys how)
+{
+    samvolip::map map = samvolip::map::open({{2, 6, 10}, 3, 2, 1, 18, 8}, how).value();
+    EXPECT(map && map.seats() == 2);
+    calls(map);
+    samvolip::seat seat = map.take_seat().value();
+    calls(seat);
+    walks(map, seat);
+
+    // refused while the other seat is out, and the map works on
+    auto refused = map.close();
+    EXPECT(refused.error().why() == fault::not_all_seats && refused.error().seats() == 1);
+    EXPECT(refused.error().message() == "1 other seats of the map are out");
+    EXPECT(map.get(65536).value() == 1u);
+    auto lacking = map.take_seat();
+    EXPECT(lacking.error().why() == fault::no_seat && lacking.error().seats() == 2);
+    EXPECT(lacking.error().message() == "all 2 seats of the map are out");
+    seat = samvolip::seat();
+    EXPECT(map.put(SAMVOLIP_KEY_MAX, 1).has_value());
+
+    samvolip::ended ended = map.close().value();
+    EXPECT(ended.size() == 301 && ended.get(65536).value() == 1u && ended.get(1).value() == std::nullopt);
+    EXPECT(ended.get(SAMVOLIP_KEY_MAX + 1).error().why() == fault::key_range);
+    const std::vector<samvolip::entry> entries = ended.entries().value();
+    EXPECT(entries.size() == 301 && entries[300].key == SAMVOLIP_KEY_MAX && entries[300].number == 1);
+    for (std::uint64_t i = 0; i < 300; i++)
+        EXPECT(entries[i].key == i * 65536 && entries[i].number == i);
+    EXPECT(map.get(1).error().why() == fault::empty && map.close().error().why() == fault::empty);
+    EXPECT(map.take_seat().error().why() == fault::empty && map.walk().error().why() == fault::empty);
+    EXPECT(refused.error().message() != map.get(1).error().message());
+
+    samvolip::ended moved = std::move(ended);
+    EXPECT(moved.size() == 301 && !ended && ended.size() == 0);
+    EXPECT(ended.get(1).error().why() == fault::empty && ended.entries().error().why() == fault::empty);
+}
+
+// The keys that mixing takes to no keys are keys all the same, as the greatest ones are.
+void mixes_every_key()
+{
+    const std::uint64_t known[] = {0, 1, 1504646209777642070, 5863696168926310861, SAMVOLIP_KEY_MAX - 1, SAMVOLIP_KEY_MAX};
+    samvolip::map map = samvolip::map::for_keys(100, 1, samvolip::mixed).value();
+    for (std::uint64_t key : known)
+        EXPECT(map.put(key, key % 1000).value() == std::nullopt);
+    for (auto [key, number] : map.walk().value())
+        EXPECT(number == key % 1000);
+    samvolip::ended ended = map.close().value();
+    const auto entries = ended.entries().value();
+    EXPECT(entries.size() == 6);
+    for (std::size_t i = 0; i < 6; i++)
+        EXPECT(entries[i].key == known[i] && ended.get(known[i]).value() == known[i] % 1000);
+}
+
+void opens_and_moves()
+{
+    EXPECT(samvolip::map::for_keys(SAMVOLIP_MOST_KEYS + 1, 1).error().why() == fault::tables);
+    EXPECT(samvolip::map::for_many_keys(1000, 0).error().why() == fault::seats);
+    EXPECT(samvolip::map::for_many_keys(1000, 257).error().message() == "number of seats out of range");
+    samvolip::map map, other;
+    is_empty(map);
+    EXPECT(map.seats() == 0 && map.close().error().why() == fault::empty);
+    EXPECT(map.take_seat().error().why() == fault::empty && map.walk().error().why() == fault::empty);
+    map.leave();
+    auto opened = samvolip::map::for_many_keys(1000, 256);
+    EXPECT(opened && opened->seats() == 256);
+    map = *std::move(opened);
+    EXPECT(map.put(1, 1).has_value());
+    other = std::move(map);
+    EXPECT(!map && other.get(1).value() == 1u);
+    other.leave();
+    EXPECT(other.get(1).value() == 1u && other.close().value().size() == 1);
+}
+
+void refuses_when_full()
+{
+    samvolip::map map = samvolip::map::open({{2}, 1, 1, 1, UINT32_MAX, 8}).value();
+    for (std::uint64_t key = 0; key < 4; key++)
+        EXPECT(map.put(key, key).has_value());
+    EXPECT(map.put(4, 4).error().why() == fault::full && map.add(4, 4).error().why() == fault::full);
+    EXPECT(map.get_or_insert(4, 4).error().why() == fault::full && map.get_or_insert(3, 4).value() == 3);
+    EXPECT(map.fetch_max(4, 4).error().why() == fault::full);
+}
+
+} // namespace
+
+int main()
+{
+    ends(keys::plain);
+    ends(samvolip::mixed);
+    mixes_every_key();
+    opens_and_moves();
+    refuses_when_full();
+    std::puts("map: well");
+    return 0;
+}

@@ -1,0 +1,84 @@
+// Counts the numbers of standard input on several threads.
+//
+//     count THREADS [TOP] < NUMBERS
+//
+// NUMBERS has a number on each line. The threads take the lines in turn. One map has how often each number was there, and another one
+// at which line it was there first. At the end it prints the TOP most frequent numbers (5 by default), each with both. The output is
+// the same for any number of threads.
+//
+// Both maps mix their keys, so it doesn't matter what the numbers have in common. A map takes as many different numbers as there are
+// lines; what else may be refused ends the program with a line on standard error.
+#include "samvolip.hpp"
+
+#include <iostream>
+#include <thread>
+
+namespace {
+
+struct maps {
+    samvolip::map counts, firsts;
+};
+
+// Counts the lines of one thread. Each map gives the thread a seat at its first call.
+void count(maps &all, const std::vector<std::uint64_t> &lines, std::size_t first, std::size_t step)
+{
+    for (std::size_t i = first; i < lines.size(); i += step) {
+        all.counts.add(lines[i], 1).value();
+        all.firsts.fetch_min(lines[i], i + 1).value();
+    }
+}
+
+// All lines of standard input. A line that isn't a key ends the program.
+std::vector<std::uint64_t> read_lines()
+{
+    std::vector<std::uint64_t> lines;
+    for (std::uint64_t number; std::cin >> number;) {
+        if (number > SAMVOLIP_KEY_MAX)
+            throw std::runtime_error("line " + std::to_string(lines.size() + 1) + " isn't a key");
+        lines.push_back(number);
+    }
+    if (!std::cin.eof())
+        throw std::runtime_error("line " + std::to_string(lines.size() + 1) + " isn't a number");
+    return lines;
+}
+
+void run(unsigned threads_count, std::size_t top)
+{
+    const std::vector<std::uint64_t> lines = read_lines();
+    // a seat for each thread that counts
+    const auto shape = samvolip_shape_for_many_keys(lines.size(), threads_count);
+    maps all{samvolip::map::open(shape, samvolip::mixed).value(), samvolip::map::open(shape, samvolip::mixed).value()};
+    std::vector<std::thread> threads;
+    for (unsigned i = 0; i < threads_count; i++)
+        threads.emplace_back([&, i] { count(all, lines, i, threads_count); });
+    for (std::thread &one : threads)
+        one.join();
+
+    // the threads have ended, and so given their seats back
+    const samvolip::ended counts = all.counts.close().value(), firsts = all.firsts.close().value();
+    std::vector<samvolip::entry> entries = counts.entries().value();
+    std::stable_sort(entries.begin(), entries.end(), [](const samvolip::entry &a, const samvolip::entry &b) { return a.number > b.number; });
+    std::cout << lines.size() << " lines, " << entries.size() << " numbers\n";
+    if (entries.size() > top)
+        entries.resize(top);
+    for (const auto &[number, times] : entries)
+        std::cout << number << ": " << times << " times, first at line " << *firsts.get(number).value() << "\n";
+}
+
+} // namespace
+
+int main(int count, char **words)
+{
+    const unsigned long threads_count = count > 1 ? std::strtoul(words[1], nullptr, 10) : 1;
+    if (threads_count < 1 || threads_count > SAMVOLIP_MAX_SEATS) {
+        std::cerr << "usage: count THREADS [TOP] < NUMBERS, with 1 to " << SAMVOLIP_MAX_SEATS << " threads\n";
+        return 2;
+    }
+    try {
+        run(unsigned(threads_count), count > 2 ? std::strtoul(words[2], nullptr, 10) : 5);
+    } catch (const std::exception &what) {
+        std::cerr << "count: " << what.what() << "\n";
+        return 1;
+    }
+    return 0;
+}
