@@ -1,8 +1,64 @@
-//! SAMVOLIP_LIB is the folder of libsamvolip.so.
+//! Finds libsamvolip.
+//!
+//! SAMVOLIP_LIB is its folder, or the file. If there is a `libsamvolip.a`, it is linked into the program; else
+//! `libsamvolip.so`, with the folder as rpath. Without SAMVOLIP_LIB, pkg-config tells where the installed library is
+//! (PKG_CONFIG is the command), and that is its rpath.
+//!
+//! An rpath reaches the programs of this package alone. The build script of a package over this one finds the folder of a
+//! shared library in DEP_SAMVOLIP_LIBDIR.
+
+use std::env;
+use std::path::{Path, PathBuf};
+use std::process::Command;
+
 fn main() {
-    println!("cargo:rerun-if-env-changed=SAMVOLIP_LIB");
-    if let Ok(folder) = std::env::var("SAMVOLIP_LIB") {
-        println!("cargo:rustc-link-search=native={folder}");
+    for name in ["SAMVOLIP_LIB", "PKG_CONFIG", "PKG_CONFIG_PATH"] {
+        println!("cargo:rerun-if-env-changed={name}");
     }
+    if let Some(place) = env::var_os("SAMVOLIP_LIB") {
+        link_from(Path::new(&place));
+    } else if let Some(folder) = installed() {
+        link_shared(&folder);
+    } else {
+        println!(
+            "cargo:warning=libsamvolip isn't found: SAMVOLIP_LIB isn't set, and pkg-config knows no samvolip. Set \
+             SAMVOLIP_LIB to the folder of libsamvolip.a or libsamvolip.so, or PKG_CONFIG_PATH to that of samvolip.pc"
+        );
+        println!("cargo:rustc-link-lib=dylib=samvolip");
+    }
+}
+
+/// Links the library of this folder, or this very file.
+fn link_from(place: &Path) {
+    let folder = if place.is_dir() { place } else { place.parent().unwrap_or(Path::new(".")) };
+    let archive = folder.join("libsamvolip.a");
+    let shared = folder.join("libsamvolip.so");
+    for file in [&archive, &shared] {
+        println!("cargo:rerun-if-changed={}", file.display());
+    }
+    let asks_for_shared = place.extension().is_some_and(|end| end == "so");
+    if archive.exists() && !asks_for_shared {
+        println!("cargo:rustc-link-search=native={}", folder.display());
+        println!("cargo:rustc-link-lib=static=samvolip");
+        println!("cargo:rustc-link-lib=dylib=pthread");
+    } else if shared.exists() {
+        link_shared(folder);
+    } else {
+        panic!("SAMVOLIP_LIB is {}, where there is no libsamvolip.a and no libsamvolip.so", place.display());
+    }
+}
+
+fn link_shared(folder: &Path) {
+    println!("cargo:rustc-link-search=native={}", folder.display());
     println!("cargo:rustc-link-lib=dylib=samvolip");
+    println!("cargo:rustc-link-arg=-Wl,-rpath,{}", folder.display());
+    println!("cargo:libdir={}", folder.display());
+}
+
+/// The folder of the installed library.
+fn installed() -> Option<PathBuf> {
+    let pkg_config = env::var_os("PKG_CONFIG").unwrap_or("pkg-config".into());
+    let told = Command::new(pkg_config).args(["--variable=libdir", "samvolip"]).output().ok()?;
+    let folder = String::from_utf8(told.stdout).ok()?;
+    (told.status.success() && !folder.trim().is_empty()).then(|| PathBuf::from(folder.trim()))
 }

@@ -1,10 +1,18 @@
 //! The functions of `samvolip.h`. To them a handle is its first word, which is all that they read.
 
+// some of the codes are never told to this crate
+#![allow(dead_code)]
+
 use std::mem::size_of;
 use std::ptr::NonNull;
 
 /// The version of `samvolip.h` that this file tells of.
 pub const VERSION: u32 = 0x000400;
+
+/// The greatest key.
+pub const KEY_MAX: u64 = u64::MAX - 2;
+/// The greatest number.
+pub const VALUE_MAX: u64 = (1 << 60) - 1;
 
 /// The most keys that [`Shape::for_keys`](crate::Shape::for_keys) makes room for.
 pub const MOST_KEYS: u64 = 349_525;

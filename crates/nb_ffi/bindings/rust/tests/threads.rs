@@ -1,4 +1,7 @@
-use samvolip::{Fault, Seat, Shape, Want, Change};
+//! Seats that the program holds itself: four threads, each call, and refusals.
+
+use samvolip::{Change, Fault, Keys, Reply, Seat, Shape, Want, KEY_MAX, VALUE_MAX};
+use std::error::Error;
 use std::thread;
 
 #[test]
@@ -28,12 +31,13 @@ fn four_threads_add() {
     let mut seats: Vec<Seat> = workers.into_iter().map(|worker| worker.join().unwrap()).collect();
     let mut first = seats.pop().unwrap();
     assert_eq!(first.walk().count(), 1000);
-    let (fault, mut first) = first.close().err().unwrap();
-    assert_eq!(fault, Fault::NotAllSeats);
+    let refused = first.close().unwrap_err();
+    assert_eq!(refused.fault, Fault::NotAllSeats);
+    let mut first = refused.seat;
     for seat in seats {
-        assert!(first.join(seat).is_ok());
+        first.join(seat).unwrap();
     }
-    let ended = first.close().ok().unwrap();
+    let ended = first.close().unwrap();
     assert_eq!(ended.size(), 1000);
     let entries = ended.entries().unwrap();
     assert_eq!(entries.iter().map(|entry| entry.1).sum::<u64>(), 200_000);
@@ -57,7 +61,11 @@ fn calls_and_refusals() {
     let added = seat.put_if_match(1, Want::Present, Change::Add(1), 1).unwrap();
     assert!(!added.matched && added.before.is_none());
     let other = Seat::open(&Shape::for_keys(10, 1).unwrap()).unwrap();
-    assert_eq!(seat.join(other).err().map(|(fault, _)| fault), Some(Fault::OtherMap));
+    let refused = seat.join(other).unwrap_err();
+    assert_eq!(refused.fault, Fault::OtherMap);
+    assert_eq!(refused.to_string(), "a seat of another map");
+    assert_eq!(refused.source().unwrap().to_string(), "a seat of another map");
+    assert_eq!(refused.seat.close().unwrap().size(), 0);
     assert!(Shape::for_keys(1 << 20, 1).is_none());
     assert!(Shape::for_many_keys(1 << 28, 1).is_none());
     let falling = Shape { exponents: vec![5, 4], ..Shape::for_keys(10, 1).unwrap() };
@@ -104,10 +112,10 @@ fn many_seats() {
         }
     }
     for seat in seats {
-        assert!(first.join(seat).is_ok());
+        first.join(seat).unwrap();
     }
     assert_eq!(first.size_estimate(), 5100);
-    assert_eq!(first.close().ok().unwrap().size(), 5100);
+    assert_eq!(first.close().unwrap().size(), 5100);
 }
 
 #[test]
@@ -122,4 +130,77 @@ fn a_map_grows() {
         assert_eq!(seat.put(key, key), Ok(None));
     }
     assert_eq!((seat.size_estimate(), seat.generation()), (10, 1));
+}
+
+#[test]
+fn calls_that_compute() {
+    let mut seat = Seat::open(&Shape::for_keys(100, 1).unwrap()).unwrap();
+    assert_eq!(seat.or_insert(1, 5), Ok(5));
+    assert_eq!(seat.or_insert(1, 6), Ok(5));
+    assert_eq!(seat.or_insert_with(2, || 7), Ok(7));
+    assert_eq!(seat.or_insert_with(2, || unreachable!()), Ok(7));
+    assert_eq!(seat.update(1, |found| found.map(|number| number + 1)), Ok(Some(5)));
+    assert_eq!(seat.update(2, |_| None), Ok(Some(7)));
+    assert_eq!(seat.contains_key(2), Ok(false));
+    assert_eq!(seat.update(2, |_| None), Ok(None));
+    assert_eq!(seat.update(2, |_| Some(VALUE_MAX + 1)), Err(Fault::ValueRange));
+    assert_eq!(seat.fetch_max(1, 5), Ok(Some(6)));
+    assert_eq!(seat.fetch_max(1, 9), Ok(Some(6)));
+    assert_eq!(seat.fetch_min(1, 3), Ok(Some(9)));
+    assert_eq!(seat.fetch_min(2, 3), Ok(None));
+    assert_eq!((seat.get(1), seat.get(2)), (Ok(Some(3)), Ok(Some(3))));
+    let exchanged = seat.compare_exchange(1, Some(4), Some(8));
+    assert_eq!(exchanged, Ok(Reply { before: Some(3), matched: false }));
+    let exchanged = seat.compare_exchange(1, Some(3), None);
+    assert_eq!(exchanged, Ok(Reply { before: Some(3), matched: true }));
+    seat.extend((10..20).map(|key| (key, key)));
+    assert_eq!(seat.try_extend([(20, 1), (21, VALUE_MAX + 1)]), Err(Fault::ValueRange));
+    assert_eq!(seat.retain(|key, number| key % 2 == 0 || number == 3), Ok(5));
+    let entries = seat.close().unwrap().entries().unwrap();
+    assert_eq!(entries, [(2, 3), (10, 10), (12, 12), (14, 14), (16, 16), (18, 18), (20, 1)]);
+}
+
+#[test]
+fn the_greatest_key_and_number() {
+    for keys in [Keys::Plain, Keys::Mixed] {
+        let mut seat = Seat::open_with(&Shape::for_keys(10, 1).unwrap(), keys).unwrap();
+        assert_eq!(seat.put(KEY_MAX, VALUE_MAX), Ok(None));
+        assert_eq!(seat.put(KEY_MAX + 1, 0), Err(Fault::KeyRange));
+        assert_eq!(seat.put(u64::MAX, 0), Err(Fault::KeyRange));
+        assert_eq!(seat.put(0, VALUE_MAX + 1), Err(Fault::ValueRange));
+        assert_eq!(seat.add(KEY_MAX, 1), Err(Fault::SumRange));
+        assert_eq!(seat.walk().collect::<Vec<_>>(), [(KEY_MAX, VALUE_MAX)]);
+        let ended = seat.close().unwrap();
+        assert_eq!(ended.get(KEY_MAX), Ok(Some(VALUE_MAX)));
+        assert_eq!(ended.get(KEY_MAX + 1), Err(Fault::KeyRange));
+    }
+}
+
+#[test]
+fn shapes_that_are_refused() {
+    let good = Shape::for_keys(10, 1).unwrap();
+    for (shape, fault) in [
+        (Shape { exponents: vec![], ..good.clone() }, Fault::Tables),
+        (Shape { exponents: vec![5; 17], ..good.clone() }, Fault::Tables),
+        (Shape { exponents: vec![1], ..good.clone() }, Fault::Exponents),
+        (Shape { exponents: vec![29], ..good.clone() }, Fault::Exponents),
+        (Shape { seats: 0, ..good.clone() }, Fault::Seats),
+        (Shape { seats: 257, ..good.clone() }, Fault::Seats),
+        (Shape { stripes: 257, ..good.clone() }, Fault::Stripes),
+        (Shape { reprobes: 0, ..good.clone() }, Fault::Reprobes),
+        (Shape { chunk: 5, ..good.clone() }, Fault::Chunk),
+    ] {
+        assert_eq!(Seat::open(&shape).unwrap_err(), fault);
+    }
+}
+
+/// Opens, splits and joins with `?` alone, as a program whose errors go to its callers.
+#[test]
+fn refusals_go_up() -> Result<(), Box<dyn Error + Send + Sync>> {
+    let mut first = Seat::open(&Shape::for_keys(10, 2).unwrap())?;
+    let second = first.split()?;
+    first.put(1, 2)?;
+    first.join(second)?;
+    assert_eq!(first.close()?.size(), 1);
+    Ok(())
 }

@@ -1,0 +1,72 @@
+package samvolip;
+
+import java.lang.invoke.MethodHandle;
+import java.lang.invoke.MethodType;
+import java.util.Arrays;
+import java.util.NoSuchElementException;
+import jdk.incubator.foreign.CLinker;
+import jdk.incubator.foreign.FunctionDescriptor;
+import jdk.incubator.foreign.MemoryAccess;
+import jdk.incubator.foreign.MemoryAddress;
+import jdk.incubator.foreign.MemoryLayout;
+import jdk.incubator.foreign.MemorySegment;
+import jdk.incubator.foreign.SymbolLookup;
+
+/** Functions of C and memory of C's, by the incubator module jdk.incubator.foreign of Java 17. Of this package only this file is another for Java 22. */
+final class Native {
+    private Native() {}
+
+    private static final CLinker LINKER = CLinker.getInstance();
+    /** All memory, by its addresses. */
+    private static final MemorySegment ALL = MemorySegment.globalNativeSegment();
+    private static final MethodHandle CALLOC = linked(CLinker.systemLookup(), "calloc", false, long.class, long.class, long.class);
+    private static final MethodHandle FREE = linked(CLinker.systemLookup(), "free", false, void.class, long.class);
+
+    /** A function of the library. It takes and answers ints and longs, and an address is a long. A quick one ends soon, whatever others do. */
+    static MethodHandle function(String name, boolean quick, Class<?> answer, Class<?>... takes) {
+        return linked(SymbolLookup.loaderLookup(), name, quick, answer, takes);
+    }
+
+    private static MethodHandle linked(SymbolLookup library, String name, boolean quick, Class<?> answer, Class<?>... takes) {
+        MemoryAddress at = library.lookup(name).orElseThrow(() -> new NoSuchElementException(name));
+        MemoryLayout[] all = Arrays.stream(takes).map(Native::layout).toArray(MemoryLayout[]::new);
+        FunctionDescriptor function = answer == void.class ? FunctionDescriptor.ofVoid(all) : FunctionDescriptor.of(layout(answer), all);
+        if (quick) function = function.withAttribute(FunctionDescriptor.TRIVIAL_ATTRIBUTE_NAME, true);
+        return LINKER.downcallHandle(at, MethodType.methodType(answer, takes), function);
+    }
+
+    private static MemoryLayout layout(Class<?> type) {
+        return type == int.class ? CLinker.C_INT : CLinker.C_LONG;
+    }
+
+    /** The address of so many bytes, all 0. */
+    static long allocate(long bytes) {
+        try {
+            long at = (long) CALLOC.invokeExact(1L, bytes);
+            if (at == 0) throw new Refused(Code.E_OUT_OF_MEMORY);
+            return at;
+        } catch (Throwable thrown) {
+            throw Functions.wrong(thrown);
+        }
+    }
+
+    static void free(long at) {
+        try {
+            FREE.invokeExact(at);
+        } catch (Throwable thrown) {
+            throw Functions.wrong(thrown);
+        }
+    }
+
+    static long getLong(long at) {
+        return MemoryAccess.getLongAtOffset(ALL, at);
+    }
+
+    static int getInt(long at) {
+        return MemoryAccess.getIntAtOffset(ALL, at);
+    }
+
+    static void setInt(long at, int number) {
+        MemoryAccess.setIntAtOffset(ALL, at, number);
+    }
+}

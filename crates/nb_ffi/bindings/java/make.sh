@@ -1,0 +1,43 @@
+#!/usr/bin/env bash
+# Makes samvolip.jar: make.sh FOLDER writes FOLDER/samvolip.jar, and prints a line for each Java that it serves: its version and its folder.
+# It takes a JDK 17 and a JDK 22 or later, as many of the two as there are: in JAVA_HOME, on the PATH, in /usr/lib/jvm. With both, the jar
+# serves both.
+set -euo pipefail
+here="$(cd "$(dirname "${BASH_SOURCE[0]}")" && pwd)"
+to="${1:?make.sh FOLDER}"
+mkdir -p "$to"
+to="$(cd "$to" && pwd)"
+
+old=
+new=
+for compiler in ${JAVA_HOME:+"$JAVA_HOME/bin/javac"} "$(command -v javac || true)" /usr/lib/jvm/*/bin/javac; do
+    [ -x "$compiler" ] || continue
+    version="$("$compiler" --version 2> /dev/null | sed -n 's/^javac \([0-9]*\).*/\1/p')"
+    home="$(dirname "$(dirname "$(readlink -f "$compiler")")")"
+    [ -x "$home/bin/jar" ] || continue
+    if [ "$version" = 17 ]; then old="${old:-$version $home}"; fi
+    if [ "${version:-0}" -ge 22 ]; then new="${new:-$version $home}"; fi
+done
+[ -n "$old$new" ] || { echo "make.sh: no JDK at all: neither 17, nor 22 or later" >&2; exit 1; }
+[ -n "$old" ] || echo "no JDK 17 here: the jar doesn't serve it" >&2
+[ -n "$new" ] || echo "no JDK of 22 or later here: the jar serves Java 17 alone" >&2
+
+made="$(mktemp -d)"
+trap 'rm -rf "$made"' EXIT
+mkdir "$made/base"
+printf 'Automatic-Module-Name: samvolip\nMulti-Release: true\n' > "$made/manifest"
+more=()
+if [ -n "$old" ]; then
+    "${old#* }/bin/javac" --add-modules jdk.incubator.foreign -nowarn -d "$made/base" "$here"/samvolip/*.java "$here"/java17/samvolip/*.java \
+        2> "$made/told" || { cat "$made/told" >&2; exit 1; }
+    if [ -n "$new" ]; then
+        mkdir "$made/new"
+        "${new#* }/bin/javac" --release 22 -cp "$made/base" -d "$made/new" "$here"/java22/samvolip/*.java
+        more=(--release 22 -C "$made/new" .)
+    fi
+else
+    "${new#* }/bin/javac" --release 22 -d "$made/base" "$here"/samvolip/*.java "$here"/java22/samvolip/*.java
+fi
+tools="${new:-$old}"
+"${tools#* }/bin/jar" --create --file "$to/samvolip.jar" --manifest "$made/manifest" -C "$made/base" . ${more[@]+"${more[@]}"}
+for java in "$old" "$new"; do [ -z "$java" ] || echo "$java"; done

@@ -1,0 +1,62 @@
+package samvolip;
+
+import java.io.File;
+import java.util.NoSuchElementException;
+
+/** Finds libsamvolip.so, and says what is missing where it can't. */
+final class Library {
+    private Library() {}
+
+    private static boolean ready;
+
+    /** Loads the library, if it isn't loaded. */
+    static synchronized void load() {
+        if (ready) return;
+        find();
+        try {
+            Functions.touch();
+        } catch (ExceptionInInitializerError failed) {
+            if (failed.getCause() instanceof NoSuchElementException missing)
+                throw wrong("the libsamvolip.so that was found has no function " + missing.getMessage() + ": it is of another version", missing);
+            throw wrong(linker(), failed);
+        } catch (NoClassDefFoundError failed) {
+            throw wrong(linker(), failed);
+        }
+        ready = true;
+    }
+
+    private static void find() {
+        String file = System.getProperty("samvolip");
+        String told = "-Dsamvolip=" + file;
+        if (file == null) {
+            file = System.getenv("SAMVOLIP_LIB");
+            told = "SAMVOLIP_LIB=" + file;
+        }
+        try {
+            if (file == null) System.loadLibrary("samvolip");
+            else System.load(inFolder(new File(file)).getAbsolutePath());
+        } catch (UnsatisfiedLinkError failed) {
+            throw wrong(file == null
+                ? "libsamvolip.so isn't found. Say where it is by -Dsamvolip=FILE or by SAMVOLIP_LIB=FILE, or put it into a folder of java.library.path, which is "
+                    + System.getProperty("java.library.path")
+                : told + " is no libsamvolip.so that can be loaded: " + failed.getMessage(), failed);
+        }
+    }
+
+    private static File inFolder(File place) {
+        return place.isDirectory() ? new File(place, "libsamvolip.so") : place;
+    }
+
+    private static String linker() {
+        int version = Runtime.version().feature();
+        if (version == 17) return "Java 17 has to be started with --add-modules jdk.incubator.foreign --enable-native-access=ALL-UNNAMED";
+        if (version < 22) return "this is Java " + version + ": the package samvolip runs on Java 17, and on 22 and later";
+        return "the foreign linker can't be used: the package samvolip has to be built for Java 22 and later, and started with --enable-native-access=ALL-UNNAMED";
+    }
+
+    private static UnsatisfiedLinkError wrong(String text, Throwable cause) {
+        UnsatisfiedLinkError error = new UnsatisfiedLinkError(text);
+        error.initCause(cause);
+        return error;
+    }
+}

@@ -1,0 +1,93 @@
+package samvolip;
+
+import java.util.Arrays;
+
+/**
+ * The tables of a map, by the exponents of their sizes, its seats, and what tunes it. All of it is checked as the map is opened, and refused
+ * by the {@link Code} of what is wrong.
+ *
+ * @param exponents of each table the exponent of two that is its number of slots: 1 to 16 of them, each from 2 to 28, none below the one
+ *     before it; all tables together have 2^30 slots at most, of 16 bytes each
+ * @param seats how many threads may call at a time, 1 to 256
+ * @param stripes over how many words the number of keys is counted, 1 to 256
+ * @param reprobes in how many slots of its path a new key may look for room before the table grows, 1 or more
+ * @param chunk how many slots a thread copies at a time, a power of two from 4 to 1024
+ */
+public record Shape(int[] exponents, int seats, int stripes, int reprobes, int chunk) {
+    /** The most keys that forKeys and forManyKeys make room for. */
+    public static final int MOST_KEYS = 349525, MANY_KEYS = 178956970;
+
+    /** What forManyKeys makes: the least exponent, by how much each is above the one before it, the most stripes, the reprobe limit and the chunk. */
+    private static final int MANY_FIRST_EXPONENT = 4, MANY_STEP = 6, MANY_STRIPES = 16, MANY_REPROBES = 18, MANY_CHUNK = 256;
+
+    public Shape {
+        exponents = exponents.clone();
+    }
+
+    /** Two tables with room to spare for so many different keys, 0 to MOST_KEYS. Refused as {@link Code#E_TABLES}. */
+    public static Shape forKeys(long most, int seats) {
+        if (most < 0 || most > MOST_KEYS) throw new Refused(Code.E_TABLES);
+        int last = lastExponent(most);
+        return new Shape(new int[] {last - 3, last}, seats, seats, 18, 64);
+    }
+
+    /**
+     * Tables with room to spare for so many different keys, 0 to MANY_KEYS, each with a 64th of the slots of the next one, and no more than
+     * 16 stripes. Refused as {@link Code#E_TABLES}.
+     */
+    public static Shape forManyKeys(long most, int seats) {
+        if (most < 0 || most > MANY_KEYS) throw new Refused(Code.E_TABLES);
+        int last = lastExponent(most);
+        int[] exponents = new int[(last - MANY_FIRST_EXPONENT) / MANY_STEP + 1];
+        for (int g = 0; g < exponents.length; g++) exponents[g] = last - MANY_STEP * (exponents.length - 1 - g);
+        return new Shape(exponents, seats, Math.min(seats, MANY_STRIPES), MANY_REPROBES, MANY_CHUNK);
+    }
+
+    /** Tables of these sizes, with a stripe for each seat. */
+    public static Shape of(int seats, int... exponents) {
+        return new Shape(exponents, seats, seats, 18, 64);
+    }
+
+    /** The same with so many stripes. */
+    public Shape withStripes(int stripes) {
+        return new Shape(exponents, seats, stripes, reprobes, chunk);
+    }
+
+    /** The same with this reprobe limit. */
+    public Shape withReprobes(int reprobes) {
+        return new Shape(exponents, seats, stripes, reprobes, chunk);
+    }
+
+    /** The same with this chunk. */
+    public Shape withChunk(int chunk) {
+        return new Shape(exponents, seats, stripes, reprobes, chunk);
+    }
+
+    @Override
+    public int[] exponents() {
+        return exponents.clone();
+    }
+
+    @Override
+    public boolean equals(Object other) {
+        return other instanceof Shape shape && Arrays.equals(exponents, shape.exponents) && seats == shape.seats && stripes == shape.stripes
+            && reprobes == shape.reprobes && chunk == shape.chunk;
+    }
+
+    @Override
+    public int hashCode() {
+        return Arrays.hashCode(exponents) * 31 + seats;
+    }
+
+    @Override
+    public String toString() {
+        return "Shape[exponents=" + Arrays.toString(exponents) + ", seats=" + seats + ", stripes=" + stripes + ", reprobes=" + reprobes + ", chunk=" + chunk + "]";
+    }
+
+    /** The exponent of the smallest table that has half as many slots again as there are keys, of 32 slots at least. */
+    private static int lastExponent(long most) {
+        int last = 5;
+        while (1L << last < most + most / 2) last++;
+        return last;
+    }
+}

@@ -1,0 +1,35 @@
+#!/usr/bin/env bash
+# Tests the package with each Java that is here: test.sh LIBRARY, which is the file libsamvolip.so. It prints a line for each.
+set -euo pipefail
+here="$(cd "$(dirname "${BASH_SOURCE[0]}")" && pwd)"
+library="$(readlink -f "${1:?test.sh LIBRARY}")"
+unset SAMVOLIP_LIB
+made="$(mktemp -d)"
+trap 'rm -rf "$made"' EXIT
+fail() { cat "$made/told"; echo "$*"; exit 1; }
+
+"$here/make.sh" "$made" > "$made/javas"
+while read -r version home; do
+    flags=(--enable-native-access=ALL-UNNAMED -cp "$made/samvolip.jar:$made/$version")
+    [ "$version" != 17 ] || flags+=(--add-modules jdk.incubator.foreign)
+    "$home/bin/javac" -cp "$made/samvolip.jar" -d "$made/$version" "$here"/tests/*.java "$here"/examples/*.java
+    "$home/bin/java" "${flags[@]}" -Dsamvolip="$library" SamvolipTest "$here" > "$made/told" 2>&1 || fail "the test of Java $version fails"
+    "$home/bin/java" "${flags[@]}" -Dsamvolip="$(dirname "$library")" Visits > "$made/told" 2> "$made/errors" || { cat "$made/errors"; fail "the example of Java $version fails"; }
+    diff "$here/examples/Visits.out" "$made/told" || fail "the example of Java $version prints something else"
+
+    # what is told where something is missing: the library, a file that isn't one, the flags of Java 17
+    told() {
+        local line="$1"
+        shift
+        if "$home/bin/java" "$@" Visits > "$made/told" 2>&1; then fail "Java $version finds a library where there is none"; fi
+        grep -qF -- "$line" "$made/told" || fail "Java $version doesn't tell: $line"
+    }
+    told "libsamvolip.so isn't found. Say where it is by -Dsamvolip=FILE" "${flags[@]}"
+    told "-Dsamvolip=/none is no libsamvolip.so that can be loaded" "${flags[@]}" -Dsamvolip=/none
+    if [ "$version" = 17 ]; then
+        told "Java 17 has to be started with --add-modules" -cp "$made/samvolip.jar:$made/$version" -Dsamvolip="$library"
+        told "Java 17 has to be started with --add-modules" -cp "$made/samvolip.jar:$made/$version" --add-modules jdk.incubator.foreign \
+            --enable-native-access=java.logging -Dsamvolip="$library"
+    fi
+    echo "the test of Java $version runs"
+done < "$made/javas"

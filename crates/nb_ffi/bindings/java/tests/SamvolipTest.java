@@ -1,0 +1,404 @@
+import java.io.IOException;
+import java.nio.file.Files;
+import java.nio.file.Path;
+import java.util.ArrayList;
+import java.util.Arrays;
+import java.util.List;
+import java.util.OptionalLong;
+import java.util.concurrent.CountDownLatch;
+import java.util.concurrent.ExecutorService;
+import java.util.concurrent.Executors;
+import java.util.concurrent.Future;
+import java.util.concurrent.atomic.AtomicReference;
+import samvolip.Code;
+import samvolip.Ended;
+import samvolip.Entry;
+import samvolip.Keys;
+import samvolip.LongMap;
+import samvolip.Refused;
+import samvolip.SamvolipMap;
+import samvolip.Seat;
+import samvolip.Shape;
+
+/** Maps that any thread may call, and seats that the program holds itself: eight threads and growth, each call once, and refusals. */
+public final class SamvolipTest {
+    private static void expect(boolean holds) {
+        if (!holds) throw new AssertionError();
+    }
+
+    private static void expect(Object is, Object shouldBe) {
+        if (!is.equals(shouldBe)) throw new AssertionError(is + ", not " + shouldBe);
+    }
+
+    private static OptionalLong of(long number) {
+        return OptionalLong.of(number);
+    }
+
+    private static final OptionalLong NONE = OptionalLong.empty();
+
+    private static Code refused(Runnable call) {
+        try {
+            call.run();
+        } catch (Refused refused) {
+            return refused.code();
+        }
+        throw new AssertionError("it wasn't refused");
+    }
+
+    private static String illegal(Runnable call) {
+        try {
+            call.run();
+        } catch (IllegalStateException | IllegalArgumentException illegal) {
+            return illegal.getMessage();
+        }
+        throw new AssertionError("it was taken");
+    }
+
+    /** Runs a task in so many threads, by their numbers, and hands on what one of them threw. */
+    private static void threads(int number, java.util.function.IntConsumer task) throws InterruptedException {
+        AtomicReference<Throwable> wrong = new AtomicReference<>();
+        Thread[] threads = new Thread[number];
+        for (int t = 0; t < number; t++) {
+            final int me = t;
+            threads[t] = new Thread(() -> {
+                try {
+                    task.accept(me);
+                } catch (Throwable thrown) {
+                    wrong.set(thrown);
+                }
+            });
+            threads[t].start();
+        }
+        for (Thread thread : threads) thread.join();
+        if (wrong.get() != null) throw new AssertionError(wrong.get());
+    }
+
+    private static void eightThreadsAndGrowth() throws InterruptedException {
+        for (Keys keys : Keys.values()) {
+            long step = keys == Keys.MIXED ? 65536 : 1; // plain keys that share their low bits would be slow
+            try (SamvolipMap map = SamvolipMap.open(Shape.of(9, 3, 5, 7, 9, 11, 13), keys)) {
+                threads(8, me -> {
+                    for (long i = 0; i < 40000; i++) {
+                        long key = (i * 7 + me * 625) % 5000 * step;
+                        map.add(key, 1);
+                        expect(map.containsKey(key));
+                        if (i % 10000 == 0) map.forEach((shown, number) -> expect(shown % step == 0 && shown >= 0 && shown < 5000 * step));
+                    }
+                });
+                long[] shown = new long[2];
+                map.forEach((key, number) -> {
+                    shown[0]++;
+                    shown[1] += number;
+                });
+                expect(Arrays.toString(shown), "[5000, 320000]");
+                expect(map.generation() > 2);
+                try (Ended ended = map.end()) {
+                    List<Entry> entries = ended.entries();
+                    expect(entries.size(), 5000);
+                    for (int i = 0; i < 5000; i++) expect(entries.get(i), new Entry(i * step, 64));
+                    expect(ended.size(), 5000L);
+                    expect(ended.get(step), of(64));
+                    expect(ended.get(5000 * step), NONE);
+                }
+            }
+        }
+    }
+
+    private static void threadsComeAndGo() throws InterruptedException {
+        try (SamvolipMap map = SamvolipMap.forKeys(100, 4)) {
+            for (int round = 0; round < 50; round++) threads(4, me -> map.add(me, 1));
+            try (Ended ended = map.end()) {
+                expect(ended.entries(), List.of(new Entry(0, 50), new Entry(1, 50), new Entry(2, 50), new Entry(3, 50)));
+            }
+        }
+    }
+
+    private static void seatsRunOut() throws InterruptedException {
+        try (SamvolipMap map = SamvolipMap.forKeys(100, 2)) {
+            CountDownLatch called = new CountDownLatch(2), end = new CountDownLatch(1);
+            Thread[] threads = new Thread[2];
+            for (int t = 0; t < 2; t++) {
+                threads[t] = new Thread(() -> {
+                    map.add(1, 1);
+                    called.countDown();
+                    try {
+                        end.await();
+                    } catch (InterruptedException woken) {
+                        throw new AssertionError(woken);
+                    }
+                }, "caller-" + t);
+                threads[t].start();
+            }
+            called.await();
+            try {
+                map.get(1);
+                throw new AssertionError();
+            } catch (Refused refused) {
+                expect(refused.code(), Code.ALL_SEATS_TAKEN);
+                expect(refused.getMessage(), "all 2 seats of the map are taken (ALL_SEATS_TAKEN)");
+            }
+            expect(refused(() -> map.seat()), Code.ALL_SEATS_TAKEN);
+            try {
+                map.end();
+                throw new AssertionError();
+            } catch (Refused refused) {
+                expect(refused.code(), Code.SEATS_OUT);
+                expect(refused.getMessage(), "2 seats of the map are out: threads caller-0, caller-1 (SEATS_OUT)");
+            }
+            expect(refused(map::close), Code.SEATS_OUT);
+            end.countDown();
+            for (Thread thread : threads) thread.join();
+            expect(map.get(1), of(2));
+            Seat seat = map.seat();
+            expect(refused(map::end), Code.SEATS_OUT);
+            seat.close();
+            Ended ended = map.end();
+            expect(ended.size(), 1L);
+            ended.close();
+            expect(illegal(() -> map.get(1)), "the map was closed");
+            expect(illegal(map::end), "the map was closed");
+            expect(illegal(ended::size), "the ended map was closed");
+        }
+    }
+
+    private static void threadsOfAPool() throws Exception {
+        ExecutorService pool = Executors.newFixedThreadPool(8);
+        try (SamvolipMap map = SamvolipMap.forKeys(100, 8)) {
+            List<Future<?>> tasks = new ArrayList<>();
+            for (int i = 0; i < 200; i++) tasks.add(pool.submit(map.givingBack(() -> map.add(7, 1))));
+            for (Future<?> task : tasks) task.get();
+            expect(map.get(7), of(200));
+            try (Ended ended = map.end()) {
+                expect(ended.entries(), List.of(new Entry(7, 200)));
+            }
+        } finally {
+            pool.shutdown();
+        }
+    }
+
+    private static void walks(LongMap map, String nested) {
+        for (long key = 0; key < 100; key++) map.put(key * 65536, key);
+        long[] shown = new long[1];
+        map.forEach((key, number) -> {
+            expect(map.get(key), of(number));
+            expect(key, number * 65536);
+            expect(illegal(() -> map.forEach((other, same) -> {})), nested);
+            map.put(key, number);
+            shown[0]++;
+        });
+        expect(shown[0], 100L);
+        try {
+            map.forEach((key, number) -> {
+                throw new ArithmeticException();
+            });
+            throw new AssertionError();
+        } catch (ArithmeticException thrown) {
+            expect(map.removeIf((key, number) -> number >= 10), 90L);
+        }
+        expect(map.sizeEstimate(), 10L);
+    }
+
+    private static void eachCall(LongMap map) {
+        expect(map.put(1, 2), NONE);
+        expect(map.putIfAbsent(1, 3), of(2));
+        expect(map.replace(1, 4), of(2));
+        expect(!map.replace(1, 2, 5) && map.replace(1, 4, 5));
+        expect(map.sizeEstimate(), 1L);
+        expect(map.add(1, 1), of(5));
+        expect(!map.remove(1, 5) && map.remove(1, 6));
+        expect(map.remove(1), NONE);
+        expect(map.sizeEstimate(), 0L);
+        expect(map.getOrDefault(1, 9), 9L);
+        expect(map.computeIfAbsent(1, key -> key + 6), 7L);
+        expect(map.computeIfAbsent(1, key -> 0), 7L);
+        expect(map.computeIfPresent(1, (key, number) -> number + 1), of(8));
+        expect(map.computeIfPresent(2, (key, number) -> 0), NONE);
+        expect(map.merge(1, 2, Long::sum), 10L);
+        expect(map.merge(2, 2, Long::sum), 2L);
+        expect(map.update(2, found -> of(found.orElse(0) + map.get(1).orElse(0))), of(2));
+        expect(map.update(1, found -> NONE), of(10));
+        expect(map.compareAndSet(1, NONE, of(3)) && !map.compareAndSet(1, NONE, of(4)) && map.compareAndSet(1, of(3), NONE));
+        expect(map.containsKey(2) && !map.containsKey(1));
+        expect(refused(() -> map.get(-1)), Code.E_KEY_RANGE);
+        expect(refused(() -> map.put(-2, 1)), Code.E_KEY_RANGE);
+        expect(map.put(Keys.KEY_MAX, Keys.VALUE_MAX), NONE);
+        expect(refused(() -> map.put(1, -1)), Code.E_VALUE_RANGE);
+        expect(refused(() -> map.put(1, Keys.VALUE_MAX + 1)), Code.E_VALUE_RANGE);
+        expect(refused(() -> map.add(Keys.KEY_MAX, 1)), Code.E_SUM_RANGE);
+        expect(map.getOrDefault(Keys.KEY_MAX, 0), Keys.VALUE_MAX);
+        expect(map.generation(), 0);
+        expect(refused(() -> {
+            for (long key = 10; key < 1000; key++) map.put(key, 0);
+        }), Code.E_FULL);
+        expect(map.generation(), 1);
+    }
+
+    private static void shapes() {
+        int[][] many = {{5}, {6}, {9}, {4, 10}, {9, 15, 21}, {8, 14, 20, 26}, {9, 15, 21, 27}, {4, 10, 16, 22, 28}};
+        long[] most = {21, 22, 341, 342, 1000000, 44739243, 44739244, 178956970};
+        for (int i = 0; i < most.length; i++) expect(Arrays.equals(Shape.forManyKeys(most[i], 17).exponents(), many[i]));
+        expect(Shape.forManyKeys(342, 17), new Shape(new int[] {4, 10}, 17, 16, 18, 256));
+        expect(Shape.forKeys(349525, 3), new Shape(new int[] {16, 19}, 3, 3, 18, 64));
+        expect(refused(() -> Shape.forKeys(1 << 20, 1)), Code.E_TABLES);
+        expect(refused(() -> Shape.forKeys(-1, 1)), Code.E_TABLES);
+        expect(refused(() -> Shape.forManyKeys(1 << 28, 1)), Code.E_TABLES);
+        expect(refused(() -> SamvolipMap.forKeys(Long.MAX_VALUE, 1)), Code.E_TABLES);
+        expect(refused(() -> SamvolipMap.forKeys(Long.MIN_VALUE, 1)), Code.E_TABLES);
+        Shape good = Shape.of(1, 4, 5);
+        Object[][] wrong = {
+            {Shape.of(1), Code.E_TABLES}, {Shape.of(1, new int[17]), Code.E_TABLES}, {Shape.of(1, 1), Code.E_EXPONENTS},
+            {Shape.of(1, -1), Code.E_EXPONENTS}, {Shape.of(1, 5, 4), Code.E_FALLING}, {Shape.of(1, 2, 28, 28, 28, 28), Code.E_SLOTS},
+            {Shape.of(0, 4), Code.E_SEATS}, {Shape.of(257, 4), Code.E_SEATS}, {Shape.of(-1, 4), Code.E_SEATS},
+            {Shape.forManyKeys(10, Integer.MIN_VALUE), Code.E_SEATS}, {good.withStripes(0), Code.E_STRIPES}, {good.withStripes(-1), Code.E_STRIPES},
+            {good.withReprobes(0), Code.E_REPROBES}, {good.withChunk(5), Code.E_CHUNK}, {good.withChunk(-4), Code.E_CHUNK},
+        };
+        for (Object[] pair : wrong) {
+            expect(refused(() -> Seat.open((Shape) pair[0])), pair[1]);
+            expect(refused(() -> SamvolipMap.open((Shape) pair[0])), pair[1]);
+        }
+    }
+
+    private static void mixing() {
+        String[][] known = {
+            {"0", "0"}, {"1", "17732798614194424744"}, {"2", "17013110623237245971"}, {"131072", "17231277123929834607"},
+            {"281474976710656", "3229997669068692271"}, {"18446744073709551615", "17684271367961033934"},
+            {"1504646209777642070", "18446744073709551615"}, {"5863696168926310861", "18446744073709551614"},
+        };
+        for (String[] pair : known) {
+            long number = Long.parseUnsignedLong(pair[0]), mixed = Long.parseUnsignedLong(pair[1]);
+            expect(Keys.mix(number), mixed);
+            expect(Keys.unmix(mixed), number);
+        }
+        // two keys are mixed to what is no key, and are keys of their own all the same
+        long[] keys = {1504646209777642070L, 5863696168926310861L, Keys.mix(-1), Keys.mix(-2), Keys.KEY_MAX};
+        try (SamvolipMap map = SamvolipMap.forKeys(100, 1)) {
+            for (long key : keys) expect(map.put(key, key & 1023), NONE);
+            map.forEach((key, number) -> expect(key & 1023, number));
+            try (Ended ended = map.end()) {
+                List<Entry> entries = ended.entries();
+                expect(entries.size(), 5);
+                expect(entries.get(0), new Entry(keys[0], keys[0] & 1023));
+                expect(entries.get(4), new Entry(Keys.KEY_MAX, Keys.KEY_MAX & 1023));
+                for (long key : keys) expect(ended.get(key), of(key & 1023));
+            }
+        }
+    }
+
+    private static void seats() throws InterruptedException {
+        Seat[] seats = new Seat[4];
+        seats[0] = Seat.open(Shape.of(4, 4, 6, 8, 10, 12).withStripes(2));
+        for (int i = 1; i < 4; i++) seats[i] = seats[0].split();
+        expect(refused(() -> seats[0].split()), Code.E_NO_SEAT);
+        threads(4, me -> {
+            for (int i = 0; i < 50000; i++) {
+                seats[me].add((i * 7 + me) % 1000, 1);
+                expect(seats[me].containsKey((i * 7 + me) % 1000));
+            }
+        });
+        expect(refused(() -> seats[0].end()), Code.E_NOT_ALL_SEATS);
+        Seat other = Seat.open(Shape.forKeys(10, 1));
+        expect(illegal(() -> seats[0].join(other)), "not two seats of one map");
+        expect(illegal(() -> seats[0].join(seats[0])), "not two seats of one map");
+        other.close();
+        other.close();
+        expect(illegal(() -> other.get(1)), "the seat was closed");
+        for (int i = 1; i < 4; i++) seats[0].join(seats[i]);
+        expect(illegal(() -> seats[1].get(1)), "the seat was closed");
+        try (Ended ended = seats[0].end()) {
+            expect(ended.size(), 1000L);
+            expect(ended.entries().stream().mapToLong(Entry::number).sum(), 200000L);
+            AtomicReference<String> told = new AtomicReference<>("");
+            Thread elsewhere = new Thread(() -> told.set(illegal(ended::size)));
+            elsewhere.start();
+            elsewhere.join();
+            expect(told.get().startsWith("an ended map stays on the thread that ended it"));
+        }
+    }
+
+    /** Two threads call with one seat at once: each add answers what the one before it left, and the sum is right. */
+    private static void oneSeat() throws InterruptedException {
+        try (Seat seat = Seat.open(Shape.of(1, 4))) {
+            long[] found = new long[100000];
+            threads(2, me -> {
+                for (int i = me * 50000; i < (me + 1) * 50000; i++) found[i] = seat.add(7, 1).orElse(0);
+            });
+            expect(seat.get(7), of(100000));
+            Arrays.sort(found);
+            for (int i = 0; i < found.length; i++) expect(found[i] == i);
+        }
+    }
+
+    private static void seatsOfAMap() throws InterruptedException {
+        try (SamvolipMap map = SamvolipMap.forKeys(100, 3)) {
+            map.put(65536, 1);
+            Seat lent = map.seat();
+            expect(lent.add(65536, 1), of(1));
+            lent.forEach((key, number) -> expect(key, 65536L));
+            expect(illegal(lent::split), "the seat is a SamvolipMap's: close gives it back");
+            expect(illegal(lent::end), "the seat is a SamvolipMap's: close gives it back");
+            lent.close();
+            expect(illegal(() -> lent.get(1)), "the seat was closed");
+            threads(2, me -> {
+                try (Seat seat = map.seat()) {
+                    seat.add(65536, 1);
+                }
+            });
+            expect(map.get(65536), of(4));
+        }
+    }
+
+    private static void manySeats() {
+        Seat[] seats = new Seat[256];
+        seats[0] = Seat.open(Shape.forManyKeys(5000, 256));
+        for (int i = 1; i < 256; i++) seats[i] = seats[0].split();
+        for (int i = 0; i < 256; i++) expect(seats[i].put(i, i), NONE);
+        for (int i = 1; i < 256; i++) seats[0].join(seats[i]);
+        expect(seats[0].sizeEstimate(), 256L);
+        try (Ended ended = seats[0].end()) {
+            expect(ended.size(), 256L);
+        }
+    }
+
+    /** The texts of the codes are the header's, and the page's example is the one that is run. Where they aren't there, nothing is compared. */
+    private static void pages(Path here) throws IOException {
+        Path header = here.resolve("../../include/samvolip.h"), page = here.resolve("../../../../docs/java.md");
+        if (Files.exists(header)) {
+            String text = Files.readString(header);
+            for (Code code : Code.values()) {
+                if (code.number() < 0) expect(text.contains("case SAMVOLIP_" + code + ": return \"" + code.text() + "\";"));
+            }
+        }
+        if (Files.exists(page)) {
+            StringBuilder indented = new StringBuilder();
+            for (String line : Files.readAllLines(here.resolve("examples/Visits.java"))) indented.append(line.isEmpty() ? "" : "    ").append(line).append('\n');
+            expect(Files.readString(page).contains(indented));
+        }
+    }
+
+    public static void main(String[] words) throws Exception {
+        eightThreadsAndGrowth();
+        threadsComeAndGo();
+        seatsRunOut();
+        threadsOfAPool();
+        try (SamvolipMap map = SamvolipMap.forKeys(100, 1)) {
+            walks(map, "this thread's walk over the map is under way");
+        }
+        try (Seat seat = Seat.open(Shape.forKeys(100, 1))) {
+            walks(seat, "a walk of this seat is under way");
+        }
+        try (SamvolipMap map = SamvolipMap.open(Shape.of(1, 4, 6))) {
+            eachCall(map);
+        }
+        try (Seat seat = Seat.open(Shape.of(1, 4, 6))) {
+            eachCall(seat);
+        }
+        shapes();
+        mixing();
+        seats();
+        oneSeat();
+        seatsOfAMap();
+        manySeats();
+        pages(Path.of(words[0]));
+        System.out.println("java: well");
+    }
+}
