@@ -3,7 +3,8 @@
  *
  * Many threads read and write one map at the same time, and none holds up another. It is Cliff
  * Click's non-blocking hash map, proved in Rattle. docs/c.md says what is proved, and what a caller
- * has to keep. The header is for C11 and C++11, with GCC's or Clang's builtins.
+ * has to keep. The header is for C99 and C++11, with GCC's or Clang's builtins. samvolip.hpp is a
+ * map for C++17 over it, which any thread may call.
  *
  *
  * A map in ten lines
@@ -44,7 +45,7 @@
  *
  * Keys. A key's home slot is its low bits; nothing is hashed. Keys that share their low bits, such
  * as addresses or multiples of a power of two, are searched for one after another: 20,000 keys that
- * are multiples of 65,536 take 35 microseconds a put. Mixed by samvolip_mix before they become
+ * are multiples of 65,536 take some 30 microseconds a put. Mixed by samvolip_mix before they become
  * keys, they take 0.1. samvolip_unmix turns the keys of a walk or of an ended map back.
  *
  * Pointers. No pointer is NULL, except where the call says so. What a call writes to (a number, a
@@ -363,8 +364,8 @@ static inline void samvolip_free(samvolip_seat *seat)
  *
  * Cost: wait-free. In the common case two loads. For a key that isn't there the search ends at the
  * first slot that no key has ever taken. In the last table, which keys may fill to the end, it gets
- * long: at 2^19 slots it takes 0.14 microseconds if half of them are taken, 1.7 if 95 % are, and
- * 3400 if all are. Removed keys count, too.
+ * long: at 2^19 slots it takes 0.14 microseconds if half of them are taken, 1 to 2 if 95 % are, and
+ * 2000 to 3500 if all are. Removed keys count, too.
  * Refused: SAMVOLIP_E_KEY_RANGE.
  */
 int samvolip_get(samvolip_seat *seat, uint64_t key, uint64_t *number);
