@@ -24,7 +24,7 @@ while read -r version home; do
         if "$home/bin/java" "$@" Visits > "$made/told" 2>&1; then fail "Java $version finds a library where there is none"; fi
         grep -qF -- "$line" "$made/told" || fail "Java $version doesn't tell: $line"
     }
-    told "libsamvolip.so isn't found. Say where it is by -Dsamvolip=FILE" "${flags[@]}"
+    told "libsamvolip.so isn't found. Say where it is by -Dsamvolip=FILE" "${flags[@]}" -Djava.library.path=/none
     told "-Dsamvolip=/none is no libsamvolip.so that can be loaded" "${flags[@]}" -Dsamvolip=/none
     if [ "$version" = 17 ]; then
         told "Java 17 has to be started with --add-modules" -cp "$made/samvolip.jar:$made/$version" -Dsamvolip="$library"

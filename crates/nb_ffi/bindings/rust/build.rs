@@ -18,7 +18,7 @@ fn main() {
     if let Some(place) = env::var_os("SAMVOLIP_LIB") {
         link_from(Path::new(&place));
     } else if let Some(folder) = installed() {
-        link_shared(&folder);
+        link_one_of(&folder, SHARED, ARCHIVE);
     } else {
         println!(
             "cargo:warning=libsamvolip isn't found: SAMVOLIP_LIB isn't set, and pkg-config knows no samvolip. Set \
@@ -28,23 +28,33 @@ fn main() {
     }
 }
 
+const ARCHIVE: &str = "libsamvolip.a";
+const SHARED: &str = "libsamvolip.so";
+
 /// Links the library of this folder, or this very file.
 fn link_from(place: &Path) {
-    let folder = if place.is_dir() { place } else { place.parent().unwrap_or(Path::new(".")) };
-    let archive = folder.join("libsamvolip.a");
-    let shared = folder.join("libsamvolip.so");
-    for file in [&archive, &shared] {
-        println!("cargo:rerun-if-changed={}", file.display());
+    if !place.is_absolute() {
+        panic!("SAMVOLIP_LIB is {}: it has to be a path from the root on", place.display());
     }
-    let asks_for_shared = place.extension().is_some_and(|end| end == "so");
-    if archive.exists() && !asks_for_shared {
-        println!("cargo:rustc-link-search=native={}", folder.display());
-        println!("cargo:rustc-link-lib=static=samvolip");
-        println!("cargo:rustc-link-lib=dylib=pthread");
-    } else if shared.exists() {
-        link_shared(folder);
-    } else {
-        panic!("SAMVOLIP_LIB is {}, where there is no libsamvolip.a and no libsamvolip.so", place.display());
+    match place.file_name().and_then(|name| name.to_str()) {
+        _ if place.is_dir() => link_one_of(place, ARCHIVE, SHARED),
+        Some(file @ (ARCHIVE | SHARED)) => link_one_of(place.parent().unwrap(), file, file),
+        _ => panic!("SAMVOLIP_LIB is {}, which is no folder and no {ARCHIVE} or {SHARED}", place.display()),
+    }
+}
+
+/// Links the first of the two files that is in the folder.
+fn link_one_of(folder: &Path, first: &str, second: &str) {
+    println!("cargo:rerun-if-changed={}", folder.join(first).display());
+    println!("cargo:rerun-if-changed={}", folder.join(second).display());
+    match [first, second].into_iter().find(|file| folder.join(file).exists()) {
+        Some(ARCHIVE) => {
+            println!("cargo:rustc-link-search=native={}", folder.display());
+            println!("cargo:rustc-link-lib=static=samvolip");
+            println!("cargo:rustc-link-lib=dylib=pthread");
+        }
+        Some(_) => link_shared(folder),
+        None => panic!("there is no {ARCHIVE} and no {SHARED} in {}", folder.display()),
     }
 }
 
