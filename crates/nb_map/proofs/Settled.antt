@@ -1,8 +1,7 @@
 -- The seats of a map are settled: what they know, and how they are put together again.
-use Rattle.std.proofs.Common.{◌≡◌, ◌≢◌, ◌∙◌, ℕ, ◌+◌, ◌<◌, ◌≤◌, ◌==◌, ap, sym, subst, subst₂, refl, List, [], ◌∷◌, ◌++◌, All, Some, None, drop, length, map, reverse, slice_get, arith}
+use Rattle.std.proofs.Common.{◌≡◌, ◌∙◌, ℕ, ◌+◌, ◌≤◌, ◌==◌, ap, sym, subst, subst₂, refl, List, [], ◌∷◌, ◌++◌, All, Some, None, drop, length, map, reverse, slice_get, arith}
 use Rattle.std.specs.List.{AllZip, count_by}
-use Rattle.std.proofs.lemmas.Bool.{ne_eqb}
-use Rattle.std.proofs.lemmas.List.{append-nil, length-map, length-reverse, nil_from_length, reverse-append}
+use Rattle.std.proofs.lemmas.List.{append-nil, length-reverse, nil_from_length, reverse-append}
 use Rattle.std.proofs.lemmas.List.Elements.{All-cons, All-head, All-nil, All-tail, All-weaker, filter_map-append}
 use Rattle.nb_core.proofs.Seating.{AreMoved, moved-back, moved-count}
 use Rattle.nb_core.proofs.Theorems.{calls_append, log_is_replayed, seen_lasts}
@@ -10,19 +9,19 @@ use Rattle.nb_core.specs.Log.{Entry, calls_of, entry_of, log_of}
 use Rattle.nb_core.specs.Meaning.{net_of}
 use Rattle.nb_core.specs.Plans.{IsPlan}
 use Rattle.nb_core.specs.Tables.{tables_at}
-use Rattle.nb_core.specs.History.{IsLegal, seat_of_event}
+use Rattle.nb_core.specs.History.{IsLegal}
 use Rattle.nb_core.specs.declared.events.Event.{Event}
 use Rattle.nb_count.specs.Counts.{CountSeatOf, total_of}
 use Rattle.nb_count.specs.Tallies.{wrapped}
-use Rattle.nb_table.specs.Chains.{Grown, SeenBy, own_events}
+use Rattle.nb_table.specs.Chains.{SeenBy}
 use Rattle.nb_table.specs.Settling.{Settled, at_rest, caught_up}
 use Rattle.nb_table.specs.Views.{HasSeen}
 use Rattle.nb_table.proofs.Theorems.{own-none, settled_as_closed}
 use Rattle.nb_map.specs.Handles.{HandleOf, IsSameMap, seats_of}
 use Rattle.nb_map.specs.inside.Models.{IsParted}
-use Rattle.nb_map.specs.Logs.{HasLogged, log}
+use Rattle.nb_map.specs.Logs.{log}
 use Rattle.nb_map.specs.Maps.{AreMine, HasCounted, IsMine, MapOf, SeatOf}
-use Rattle.nb_map.specs.Settling.{HasCaughtUp, HaveSettled, as_left}
+use Rattle.nb_map.specs.Settling.{HasCaughtUp, HaveSettled}
 use Rattle.nb_map.proofs.Sizes.{AreGathered, ended-with, is-ended, seen}
 use Rattle.nb_map.proofs.Tried.{calls-others}
 
