@@ -4,6 +4,7 @@
 ghost use Rattle.nb_map.specs.Crowding.{AsksAddUp, CrowdedByCalls};
 ghost use Rattle.nb_map.specs.Laws.{LogsAddUp, RepliesFit};
 ghost use Rattle.nb_map.specs.OneSeat.{OneSeat};
+ghost use Rattle.nb_map.specs.Settling.{SettledTwice};
 ghost use Rattle.nb_map.specs.Walks.{WalkLasts, WholeWalk};
 
 /// Calls add up: what a seat's log was, and which calls it made.
@@ -41,4 +42,9 @@ pub fn walk_lasts()
 /// map has all the while.
 pub fn whole_walk()
     ensures { WholeWalk }
+{}
+
+/// Where all seats settle twice, and no call was made between, the second time changes nothing.
+pub fn settled_twice()
+    ensures { SettledTwice }
 {}
