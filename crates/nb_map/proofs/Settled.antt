@@ -1,8 +1,7 @@
 -- The seats of a map are settled: what they know, and how they are put together again.
-use Rattle.std.proofs.Common.{◌≡◌, ◌≢◌, ◌∙◌, ℕ, ◌+◌, ◌<◌, ◌≤◌, ◌==◌, ap, sym, subst, subst₂, refl, List, [], ◌∷◌, ◌++◌, All, Some, None, drop, length, map, reverse, slice_get, arith}
+use Rattle.std.proofs.Common.{◌≡◌, ◌∙◌, ℕ, ◌+◌, ◌≤◌, ◌==◌, ap, sym, subst, subst₂, refl, List, [], ◌∷◌, ◌++◌, All, Some, None, drop, length, map, reverse, slice_get, arith}
 use Rattle.std.specs.List.{AllZip, count_by}
-use Rattle.std.proofs.lemmas.Bool.{ne_eqb}
-use Rattle.std.proofs.lemmas.List.{append-nil, length-map, length-reverse, nil_from_length, reverse-append}
+use Rattle.std.proofs.lemmas.List.{append-nil, length-reverse, nil_from_length, reverse-append}
 use Rattle.std.proofs.lemmas.List.Elements.{All-cons, All-head, All-nil, All-tail, All-weaker, filter_map-append}
 use Rattle.nb_core.proofs.Seating.{AreMoved, moved-back, moved-count}
 use Rattle.nb_core.proofs.Theorems.{calls_append, log_is_replayed, seen_lasts}
@@ -10,19 +9,21 @@ use Rattle.nb_core.specs.Log.{Entry, calls_of, entry_of, log_of}
 use Rattle.nb_core.specs.Meaning.{net_of}
 use Rattle.nb_core.specs.Plans.{IsPlan}
 use Rattle.nb_core.specs.Tables.{tables_at}
-use Rattle.nb_core.specs.History.{IsLegal, seat_of_event}
+use Rattle.nb_core.specs.History.{IsLegal}
 use Rattle.nb_core.specs.declared.events.Event.{Event}
 use Rattle.nb_count.specs.Counts.{CountSeatOf, total_of}
 use Rattle.nb_count.specs.Tallies.{wrapped}
-use Rattle.nb_table.specs.Chains.{Grown, SeenBy, own_events}
+use Rattle.nb_table.specs.Chains.{SeenBy}
 use Rattle.nb_table.specs.Settling.{Settled, at_rest, caught_up}
 use Rattle.nb_table.specs.Views.{HasSeen}
 use Rattle.nb_table.proofs.Theorems.{own-none, settled_as_closed}
+use Rattle.nb_table.proofs.Theorems as chain
+use Rattle.std.proofs.lemmas.Int.{ints}
 use Rattle.nb_map.specs.Handles.{HandleOf, IsSameMap, seats_of}
 use Rattle.nb_map.specs.inside.Models.{IsParted}
-use Rattle.nb_map.specs.Logs.{HasLogged, log}
+use Rattle.nb_map.specs.Logs.{log}
 use Rattle.nb_map.specs.Maps.{AreMine, HasCounted, IsMine, MapOf, SeatOf}
-use Rattle.nb_map.specs.Settling.{HasCaughtUp, HaveSettled, as_left}
+use Rattle.nb_map.specs.Settling.{HasCaughtUp, HaveSettled, SettledTwice}
 use Rattle.nb_map.proofs.Sizes.{AreGathered, ended-with, is-ended, seen}
 use Rattle.nb_map.proofs.Tried.{calls-others}
 
@@ -262,3 +263,39 @@ still-of-one m (h ∷ before) (h' ∷ after) each one =
     All-cons (λ handle. handle.map ≡ m) h' after
     (each.0 ∙ All-head (λ handle. handle.map ≡ m) h before one)
     (still-of-one m before after each.1 (All-tail (λ handle. handle.map ≡ m) h before one))
+
+-- ---- twice
+
+-- what the seats have counted stays
+same-counts :
+    (m : MapOf) (whole : List Entry) (before after : List SeatOf)
+    → AllZip (HasCaughtUp m whole) before after
+    → map (λ seat. seat.count) after ≡ map (λ seat. seat.count) before
+same-counts m whole [] [] each = refl
+same-counts m whole [] (s' ∷ after) each = absurd each
+same-counts m whole (s ∷ before) [] each = absurd each
+same-counts m whole (s ∷ before) (s' ∷ after) each =
+    λ i. each.0.count i ∷ same-counts m whole before after each.1 i
+
+-- seats with the same seats of the chain and of the counter are the same
+same-seats :
+    (xs ys : List SeatOf) → map (λ seat. seat.chain) xs ≡ map (λ seat. seat.chain) ys
+    → map (λ seat. seat.count) xs ≡ map (λ seat. seat.count) ys → xs ≡ ys
+same-seats [] [] chains counts = refl
+same-seats [] (y ∷ ys) chains counts = absurd (omega (arith, ap length chains))
+same-seats (x ∷ xs) [] chains counts = absurd (omega (arith, ap length chains))
+same-seats (x ∷ xs) (y ∷ ys) chains counts =
+    let chain : x.chain ≡ y.chain = cc in
+    let count : x.count ≡ y.count = cc in
+    let rest = same-seats xs ys (ap (drop 1) chains) (ap (drop 1) counts) in
+    λ i. record { chain = chain i; count = count i } ∷ rest i
+
+-- the second time changes nothing
+pub settled_twice : SettledTwice
+settled_twice m before after again size size' s t =
+    let p = m.chain.shape in
+    let chains = chain.settled_twice p s.left.left.plan _ _ _ s.tables t.tables in
+    let first = same-counts m _ before after s.each in (
+      same-seats again after chains (same-counts m _ after again t.each),
+      omega (arith, ints, s.ended.counted, t.ended.counted, ap total_of first),
+    )

@@ -39,3 +39,9 @@ pub record HaveSettled (m : MapOf) (before after : List SeatOf) (size : ℕ) : T
   pub keys : size ≡ length (numbers.entries (map_of_log (log_of tables.history)))
   -- and each seat's log is this log now
   pub each : AllZip (HasCaughtUp m (log_of tables.history)) before after
+
+-- Where all seats settle twice, and no call was made between, the second time changes nothing.
+abbrev pub SettledTwice : Type 0
+SettledTwice =
+    (m : MapOf) (before after again : List SeatOf) (size size' : ℕ) → HaveSettled m before after size
+    → HaveSettled m after again size' → (again ≡ after) × (size' ≡ size)

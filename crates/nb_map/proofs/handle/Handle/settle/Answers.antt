@@ -1,4 +1,4 @@
-use Rattle.std.proofs.Common.{◌≡◌, ◌∙◌, All, [], IfOk, Some, ap, slice_get, length, refl, reverse, subst, sym, arith}
+use Rattle.std.proofs.Common.{◌≡◌, ◌∙◌, All, Some, ap, slice_get, length, subst, sym}
 use Rattle.std.proofs.lemmas.List.{nil_from_length}
 use Rattle.std.proofs.lemmas.Result.{IfOk-weaker}
 use Rattle.nb_map.proofs.Settled.{of-first, same-maps, settled-handles, still-of-one}

@@ -1,4 +1,4 @@
-use Rattle.std.proofs.Common.{◌≡◌, ◌∙◌, ap, length, subst, sym, arith}
+use Rattle.std.proofs.Common.{◌≡◌, ap, length, subst, sym, arith}
 use Rattle.nb_map.proofs.Paired.{own-chains, own-counts}
 use Rattle.nb_map.proofs.Settled.{each-mine, have-settled}
 use Rattle.nb_map.specs.inside.Models.{IsParted, map_within}
