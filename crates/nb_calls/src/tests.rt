@@ -3,6 +3,7 @@ mod calls;
 mod fullness;
 mod rows;
 mod seats;
+mod settling;
 mod stress;
 mod tallies;
 mod trying;

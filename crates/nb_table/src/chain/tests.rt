@@ -133,3 +133,15 @@ fn all_seats_close(rt: HostRuntime) -> Result<(), Fail> {
     assert!(rt; chain.close(seats).is_ok());
     Ok(())
 }
+
+/// Seats that are settled, twice, all know the same top table and close their chain.
+#[test]
+fn settled_seats_close(rt: HostRuntime) -> Result<(), Fail> {
+    let shape = Shape::new(2, 3, 4, 1)?;
+    let (chain, mut seats) = Chain::new(rt.alloc(), shape)?;
+    chain.settle(&mut seats);
+    chain.settle(&mut seats);
+    assert_eq!(rt; seats.len(), 4);
+    assert!(rt; chain.close(seats).is_ok());
+    Ok(())
+}

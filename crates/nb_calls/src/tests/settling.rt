@@ -1,0 +1,37 @@
+//! All handles of a map settle, and work on.
+use nb_core::{Key, Num, Shape};
+use nb_map::{Handle, SettleFault};
+use std::test::Fail;
+use std::thread;
+
+/// Four threads add to one key, settle, add again, and close the map.
+#[test]
+fn settled_between_rounds(rt: HostRuntime) -> Result<(), Fail> {
+    let key = Key::new(7)?;
+    let once = Num::new(1)?;
+    let mut handles = Handle::open(rt.alloc(), Shape::new(4, 4, 4, 1)?)?;
+    assert_eq!(rt; Handle::settle(rt.alloc(), &mut handles), Ok(0));
+    thread::for_each_mut(
+        &rt,
+        handles.as_mut_slice(),
+        4,
+        &|_, handle: &mut Handle| {
+            let _ = handle.add(&rt, key, once);
+        },
+    );
+    assert_eq!(rt; Handle::settle(rt.alloc(), &mut handles), Ok(1));
+    for handle in &mut handles {
+        assert_eq!(rt; handle.get(key).map(Num::get), Some(4));
+    }
+    Ok(())
+}
+
+/// A handle is missing: nothing is settled, and the others work on.
+#[test]
+fn settled_without_a_handle(rt: HostRuntime) -> Result<(), Fail> {
+    let mut handles = Handle::open(rt.alloc(), Shape::new(4, 4, 3, 1)?)?;
+    drop(handles.pop());
+    assert_eq!(rt; Handle::settle(rt.alloc(), &mut handles), Err(SettleFault::NotAll));
+    assert_eq!(rt; handles.len(), 2);
+    Ok(())
+}
