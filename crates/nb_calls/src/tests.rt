@@ -1,5 +1,7 @@
 //! Calls of the map with their replies, one after another and by several threads.
+mod bulk;
 mod calls;
+mod compound;
 mod fullness;
 mod rows;
 mod seats;
