@@ -31,7 +31,10 @@ fn settled_between_rounds(rt: HostRuntime) -> Result<(), Fail> {
 fn settled_without_a_handle(rt: HostRuntime) -> Result<(), Fail> {
     let mut handles = Handle::open(rt.alloc(), Shape::new(4, 4, 3, 1)?)?;
     drop(handles.pop());
-    assert_eq!(rt; Handle::settle(rt.alloc(), &mut handles), Err(SettleFault::NotAll));
+    assert_eq!(rt;
+        Handle::settle(rt.alloc(), &mut handles),
+        Err(SettleFault::NotAll)
+    );
     assert_eq!(rt; handles.len(), 2);
     Ok(())
 }

@@ -112,7 +112,14 @@ fn write_rounds<R: Wait>(
 {
     for _ in rt.forever() {
         let mut left = u32::MAX;
-        match climb(chain, seat, &call, Rung::at(top), &mut left, &mut Rest::new()) {
+        match climb(
+            chain,
+            seat,
+            &call,
+            Rung::at(top),
+            &mut left,
+            &mut Rest::new(),
+        ) {
             Ok(reply) => return Ok(reply),
             Err(PutFault::Contended) => {}
             Err(PutFault::Full) => return Err(AddFault::Full),
