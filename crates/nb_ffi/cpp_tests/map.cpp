@@ -256,6 +256,18 @@ void refuses_when_full()
 
 } // namespace
 
+void tells_how_full()
+{
+    const samvolip::shape small = {{4}, 1, 1, 1, 18, 8};
+    samvolip::map map = samvolip::map::open(small).value();
+    for (std::uint64_t key = 0; key < 11; key++) {
+        EXPECT(!map.occupancy().value().should_renew());
+        EXPECT(map.put(key, key).value() == std::nullopt && map.remove(key).value() == key);
+    }
+    const samvolip::occupancy seen = map.occupancy().value();
+    EXPECT(seen.is_last && seen.looked == 16 && seen.taken == 11 && seen.should_renew());
+}
+
 int main()
 {
     ends(keys::plain);
@@ -263,6 +275,7 @@ int main()
     mixes_every_key();
     opens_and_moves();
     refuses_when_full();
+    tells_how_full();
     std::puts("map: well");
     return 0;
 }

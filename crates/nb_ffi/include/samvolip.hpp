@@ -602,6 +602,22 @@ private:
     keys how_ = keys::plain;
 };
 
+/* ---- how full a map is --------------------------------------------------------------------- */
+
+/* How full the top table of a map is: how many of its slots are taken, of so many that were looked
+   at. A slot stays taken, also if its key is removed. */
+struct occupancy {
+    bool is_last; /* whether the table is the map's last one. If not, the map grows in time */
+    std::uint32_t looked;
+    std::uint32_t taken;
+
+    /* Whether it is time for a new map: more than two thirds of the last table are taken. */
+    constexpr bool should_renew() const noexcept
+    {
+        return is_last && std::uint64_t{2} * looked < std::uint64_t{3} * taken;
+    }
+};
+
 /* ---- calls --------------------------------------------------------------------------------- */
 
 /* What is at a key: a number, or none. */
@@ -772,6 +788,18 @@ public:
         if (!mine)
             return why;
         return samvolip_generation(&mine->handle);
+    }
+
+    /* How full the top table is, by a sample of its slots. */
+    result<samvolip::occupancy> occupancy()
+    {
+        refusal why;
+        place *mine = self().mine(why);
+        if (!mine)
+            return why;
+        samvolip::occupancy seen{};
+        seen.is_last = samvolip_occupancy(&mine->handle, &seen.taken, &seen.looked) == 1;
+        return seen;
     }
 
 private:
