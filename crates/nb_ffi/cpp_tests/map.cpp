@@ -254,8 +254,6 @@ void refuses_when_full()
     EXPECT(map.fetch_max(4, 4).error().why() == fault::full);
 }
 
-} // namespace
-
 void tells_how_full()
 {
     const samvolip::shape small = {{4}, 1, 1, 1, 18, 8};
@@ -267,6 +265,8 @@ void tells_how_full()
     const samvolip::occupancy seen = map.occupancy().value();
     EXPECT(seen.is_last && seen.looked == 16 && seen.taken == 11 && seen.should_renew());
 }
+
+} // namespace
 
 int main()
 {
