@@ -582,7 +582,7 @@ static inline int samvolip_should_renew(samvolip_seat *seat)
 {
     uint32_t taken = 0, looked = 0;
     int last = samvolip_occupancy(seat, &taken, &looked);
-    return last && (uint64_t)3 * taken > (uint64_t)2 * looked;
+    return last && UINT64_C(3) * taken > UINT64_C(2) * looked;
 }
 
 /* ---- writes by name ------------------------------------------------------------------------ */
