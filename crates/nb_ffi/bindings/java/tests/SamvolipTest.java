@@ -14,6 +14,7 @@ import samvolip.Code;
 import samvolip.Ended;
 import samvolip.Entry;
 import samvolip.Keys;
+import samvolip.Occupancy;
 import samvolip.LongMap;
 import samvolip.Refused;
 import samvolip.SamvolipMap;
