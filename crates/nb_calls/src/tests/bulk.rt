@@ -1,5 +1,5 @@
 //! Calls over many keys at once.
-use super::rows::{alone, key, number, one_leaves, puts, two, two_leave};
+use super::rows::{alone, key, number, one_leaves, puts, two};
 use nb_core::{Key, Num, Shape};
 use nb_map::{FullAfter, Handle};
 use std::process::Abort;
@@ -48,7 +48,9 @@ fn retain_leaves_what_has_changed(rt: HostRuntime) -> Result<(), Fail> {
         let _ = b.add(&rt, changed, once);
         false
     });
-    two_leave(&rt, rt.alloc(), a, b, &[(2, 22)])
+    assert_eq!(rt; a.get(changed), Some(number(&rt, 22)));
+    assert_eq!(rt; a.get(key(&rt, 1)), None);
+    Ok(())
 }
 
 /// Nothing is left.

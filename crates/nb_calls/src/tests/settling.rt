@@ -1,8 +1,30 @@
 //! All handles of a map settle, and work on.
+ghost use Rattle.std.specs.Prelude.{◌≡◌};
+ghost use Rattle.nb_map.specs.Handles.{AreOfOneMap};
+
 use nb_core::{Key, Num, Shape};
 use nb_map::{Handle, SettleFault};
+use std::sync::Wait;
 use std::test::Fail;
 use std::thread;
+use std::thread::Threads;
+
+/// Each handle adds to a key in a thread of its own.
+fn all_add<R: Threads + Sync + Wait>(rt: &R, handles: &mut [Handle], key: Key, once: Num)
+    requires { AreOfOneMap handles.old }
+    ensures { AreOfOneMap handles.new }
+{
+    thread::for_each_mut(
+        rt,
+        handles,
+        4,
+        &|_, handle: &mut Handle|
+            ensures { handle.exit.now.map ≡ handle.entry.now.map }
+        {
+            let _ = handle.add(rt, key, once);
+        },
+    );
+}
 
 /// Four threads add to one key, settle, add again, and close the map.
 #[test]
@@ -11,14 +33,7 @@ fn settled_between_rounds(rt: HostRuntime) -> Result<(), Fail> {
     let once = Num::new(1)?;
     let mut handles = Handle::open(rt.alloc(), Shape::new(4, 4, 4, 1)?)?;
     assert_eq!(rt; Handle::settle(rt.alloc(), &mut handles), Ok(0));
-    thread::for_each_mut(
-        &rt,
-        handles.as_mut_slice(),
-        4,
-        &|_, handle: &mut Handle| {
-            let _ = handle.add(&rt, key, once);
-        },
-    );
+    all_add(&rt, handles.as_mut_slice(), key, once);
     assert_eq!(rt; Handle::settle(rt.alloc(), &mut handles), Ok(1));
     for handle in &mut handles {
         assert_eq!(rt; handle.get(key).map(Num::get), Some(4));
