@@ -64,6 +64,7 @@ fn many_seats_add_while_the_map_grows(rt: HostRuntime) -> Result<(), Fail> {
 }
 
 /// A map for millions of keys grows from its first table to one of 2^22 slots, and has all of them.
+/// As `rt try` builds it, this takes minutes.
 #[test]
 fn millions_of_keys(rt: HostRuntime) -> Result<(), Fail> {
     let shape = Shape::for_many_keys(PUT as usize, 1)?;
