@@ -81,17 +81,6 @@ pub record IsCounting (p : Plan) (before now : SeenBy) (g n taken : ℕ) : Type 
   pub most : taken ≤ taken_among p (seen_by p now) g n
   pub few : taken ≤ n
 
--- before the first slot
-pub counting-none :
-    (chain : ChainOf) (seat : SeenBy) → IsOwn chain seat → (g : ℕ)
-    → IsCounting chain.shape seat seat g 0 0
-counting-none chain seat own g = record {
-  grown = steps_add_up.none own;
-  least = le_refl 0;
-  most = le_refl 0;
-  few = le_refl 0;
-}
-
 -- after one more
 pub counting-more :
     (chain : ChainOf) {before now after : SeenBy} (g n taken more : ℕ) → IsOwn chain before

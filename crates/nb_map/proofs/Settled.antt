@@ -36,20 +36,6 @@ pub record ArePairing (chains : List SeenBy) (counts : List CountSeatOf)
   pub in_chain : AreMoved (λ seat. seat.chain) chains chains' (reverse seats)
   pub in_counter : AreMoved (λ seat. seat.count) counts counts' (reverse seats)
 
-pub pairing-first :
-    (chains : List SeenBy) (counts : List CountSeatOf) (seats : List SeatOf) → seats ≡ []
-    → ArePairing chains counts chains counts seats
-pairing-first chains counts seats none = record {
-  in_chain = record {
-    is = sym (append-nil chains)
-        ∙ ap (λ ss. chains ++ map (λ (seat : SeatOf). seat.chain) (reverse ss)) (sym none);
-  };
-  in_counter = record {
-    is = sym (append-nil counts)
-        ∙ ap (λ ss. counts ++ map (λ (seat : SeatOf). seat.count) (reverse ss)) (sym none);
-  };
-}
-
 module _
     {chains : List SeenBy} {counts : List CountSeatOf} {chains' : List SeenBy}
     {counts' : List CountSeatOf} {seats : List SeatOf}

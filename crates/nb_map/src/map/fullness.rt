@@ -11,8 +11,8 @@ impl Map {
     /// or closed to keys. Of a table with more than 1,024 slots so many are looked at, one in each
     /// of 1,024 blocks. It makes one load of the top word, and one for each slot.
     ///
-    /// A sample of 1,024 slots is off by 3 percent or less, nineteen times of twenty, where keys
-    /// have slots independent of the sample's.
+    /// A sample of 1,024 slots is off by some 3 percent at most, nineteen times of twenty, where
+    /// keys have slots independent of the sample's.
     pub fn occupancy(&self, seat: &mut Seat) -> Occupancy
         requires own { IsMine self.now seat.old }
         ensures { HasSampled self.now seat.old seat.new result }

@@ -4,8 +4,8 @@ ghost use Rattle.nb_table.specs.Chains.{ChainOf};
 use nb_table::Chain;
 use std::hint::spin_loop;
 
-/// Something that is done before each exchange of a write, so that a test may let other seats make
-/// steps just then.
+/// What a write does before each exchange, and after each that it has lost: nothing, or a rest; or,
+/// in a test, steps of other seats just then.
 pub trait Pause {
     /// What the pause needs of the chain: for one that holds seats, that they are the chain's.
     ghost serves: { Self → ChainOf → Type 0 };
