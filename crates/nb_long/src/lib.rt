@@ -12,6 +12,3 @@ mod store;
 pub use handle::Handle;
 pub use map::{Compared, LongFault, LongMap, Stored, Unshown};
 pub use store::{Placed, Receipt, Shown, Store, StoreFault};
-
-#[cfg(test)]
-mod tests;

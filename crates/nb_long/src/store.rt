@@ -229,6 +229,3 @@ impl<V> Store<V> {
         true
     }
 }
-
-#[cfg(test)]
-mod tests;

@@ -18,6 +18,3 @@ pub use handle::Handle;
 pub use handle_walk::HandleWalk;
 pub use nb_map::{Full, Occupancy};
 pub use set::{LongSet, Seat, Walk};
-
-#[cfg(test)]
-mod tests;

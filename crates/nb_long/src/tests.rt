@@ -1,7 +1,0 @@
-//! Typed maps: values by their receipts, by keys, and between threads.
-mod cache;
-mod handles;
-mod on_map;
-mod refused;
-mod threads;
-mod values;

@@ -1,0 +1,8 @@
+//! Typed maps: values by their receipts, by keys, and between threads.
+mod cache;
+mod handles;
+mod on_map;
+mod refused;
+mod texts;
+mod threads;
+mod values;

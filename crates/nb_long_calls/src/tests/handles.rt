@@ -1,0 +1,63 @@
+//! Threads read and write one typed map by handles.
+use nb_core::{Key, Shape};
+use nb_long::Handle;
+use std::process::Abort;
+use std::test::Fail;
+use std::thread;
+
+/// Takes a handle out of these.
+fn one_of<R: Abort>(rt: &R, handles: &mut Vec<Handle<u64>>) -> Handle<u64> {
+    let Some(handle) = handles.pop() else {
+        panic!(rt; "there is a handle")
+    };
+    handle
+}
+
+/// The value at a key, by a handle.
+fn value_at<R: Abort>(rt: &R, handle: &mut Handle<u64>, key: Key) -> Option<u64> {
+    let number = handle.number_at(key)?;
+    let Some(found) = handle.show(number) else {
+        panic!(rt; "the value is shown")
+    };
+    Some(*found.value())
+}
+
+/// Four threads put a value at one key, and all handles close the map.
+#[test]
+fn four_threads_by_handles(rt: HostRuntime) -> Result<(), Fail> {
+    let key = Key::new(7)?;
+    let mut handles = Handle::open(rt.alloc(), Shape::new(4, 4, 4, 1)?)?;
+    thread::for_each_mut(
+        &rt,
+        handles.as_mut_slice(),
+        4,
+        &|_, handle: &mut Handle<u64>| {
+            let _ = handle.put(&rt, key, 5_u64);
+        },
+    );
+    let Ok((ended, _store)) = Handle::close(&rt, handles) else {
+        panic!(rt; "all handles are here")
+    };
+    assert_eq!(rt; ended.size(), 1);
+    Ok(())
+}
+
+/// The calls of two handles of one map, and what each sees.
+#[test]
+fn calls_by_name(rt: HostRuntime) -> Result<(), Fail> {
+    let key = Key::new(7)?;
+    let mut handles = Handle::open(rt.alloc(), Shape::new(4, 4, 3, 1)?)?;
+    let mut mine = one_of(&rt, &mut handles);
+    let mut theirs = one_of(&rt, &mut handles);
+    assert_eq!(rt; mine.shape().seats(), 3);
+    assert_eq!(rt; value_at(&rt, &mut mine, key), None);
+    assert!(rt; matches!(mine.put_if_absent(&rt, key, 5), Ok(stored) if stored.done));
+    assert!(rt; matches!(theirs.replace_if(&rt, key, &5, 6), Ok(stored) if stored.done));
+    assert!(rt; matches!(theirs.remove_if(&rt, key, &5), Ok(false)));
+    assert!(rt; matches!(theirs.take_if(&rt, key, &5), Ok(compared) if !compared.done));
+    assert_eq!(rt; value_at(&rt, &mut mine, key), Some(6));
+    assert!(rt; mine.remove(&rt, key).is_some());
+    assert!(rt; matches!(mine.replace(&rt, key, 8), Ok(stored) if !stored.done));
+    assert_eq!(rt; (mine.occupancy().taken, mine.occupancy().looked), (1, 16));
+    Ok(())
+}

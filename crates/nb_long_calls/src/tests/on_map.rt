@@ -1,0 +1,80 @@
+//! Typed maps with their seats, and looks at what a key has.
+ghost use Rattle.std.specs.Prelude.{IfOk, IfSome};
+ghost use Rattle.boxcar.specs.Table.{Shows};
+ghost use Rattle.nb_map.specs.Maps.{AreMine, IsMine};
+
+use nb_core::{Key, OutOfMemory, Shape};
+use nb_long::{LongMap, Shown};
+use nb_map::Seat;
+use std::alloc::Global;
+use std::process::Abort;
+
+pub(super) fn key<R: Abort>(rt: &R, k: u64) -> Key {
+    Key::new(k).expect(rt, "a key")
+}
+
+/// A map with so many seats, of one table of four slots.
+pub(super) fn map_of<R: Abort, V: Drop>(
+    rt: &R,
+    alloc: Global,
+    seats: usize,
+) -> Result<(LongMap<V>, Vec<Seat>), OutOfMemory>
+    ensures { IfOk result (λ made. AreMine made.0.map made.1.items) }
+{
+    let shape = Shape::new(2, 1, seats, 1).expect(rt, "a shape");
+    LongMap::new(alloc, shape)
+}
+
+/// One of the seats.
+pub(super) fn taken<R: Abort, V>(rt: &R, map: &LongMap<V>, seats: &mut Vec<Seat>) -> Seat
+    requires own { AreMine map.now.map seats.old.items }
+    ensures taken { IsMine map.now.map result }
+    ensures left { AreMine map.now.map seats.new.items }
+{
+    let Some(seat) = seats.pop() else {
+        panic!(rt; "there is a seat")
+    };
+    seat
+}
+
+/// A map with one seat.
+pub(super) fn with_one<R: Abort, V: Drop>(
+    rt: &R,
+    alloc: Global,
+) -> Result<(LongMap<V>, Seat), OutOfMemory>
+    ensures { IfOk result (λ made. IsMine made.0.map made.1) }
+{
+    let (map, mut seats) = map_of(rt, alloc, 1)?;
+    let seat = taken(rt, &map, &mut seats);
+    Ok((map, seat))
+}
+
+/// A map with two seats.
+pub(super) fn with_two<R: Abort, V: Drop>(
+    rt: &R,
+    alloc: Global,
+) -> Result<(LongMap<V>, Seat, Seat), OutOfMemory>
+    ensures { IfOk result (λ made. IsMine made.0.map made.1 × IsMine made.0.map made.2) }
+{
+    let (map, mut seats) = map_of(rt, alloc, 2)?;
+    let b = taken(rt, &map, &mut seats);
+    let a = taken(rt, &map, &mut seats);
+    Ok((map, a, b))
+}
+
+/// What a key has.
+pub(super) fn found<'a, R: Abort, V>(
+    rt: &R,
+    map: &'a LongMap<V>,
+    seat: &mut Seat,
+    k: u64,
+) -> Option<Shown<'a, V>>
+    requires own { IsMine map.now.map seat.old }
+    ensures found { IfSome result (λ found. Shows map.now.store found) }
+    ensures own { IsMine map.now.map seat.new }
+{
+    let Ok(found) = map.get(seat, key(rt, k)) else {
+        panic!(rt; "each number is shown")
+    };
+    found
+}
