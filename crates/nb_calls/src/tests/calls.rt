@@ -6,7 +6,7 @@ use super::rows::Call::{
 };
 use super::rows::*;
 use nb_core::{Change, Shape, VALUE_MAX, Want};
-use nb_map::{AddFault, Full, Handle, PutFault};
+use nb_map::{AddFault, Full, FullAfter, Handle, PutFault, SettleFault};
 use std::process::Abort;
 use std::sync::Wait;
 use std::test::Fail;
@@ -278,6 +278,20 @@ fn fault_texts(rt: HostRuntime) -> Result<(), Fail> {
         (PutFault::Full, "the map is full"),
         (PutFault::Contended, "other writes of the key came first"),
         (PutFault::ValueRange, "value too large"),
+    ] {
+        assert_eq!(rt; fault.to_string(rt.alloc())?.as_str(), text);
+    }
+    Ok(())
+}
+
+#[test]
+fn texts_of_many_and_of_settling(rt: HostRuntime) -> Result<(), Fail> {
+    let after = FullAfter { put: 7 };
+    let text = "the map is full after 7 of the entries";
+    assert_eq!(rt; after.to_string(rt.alloc())?.as_str(), text);
+    for (fault, text) in [
+        (SettleFault::NotAll, "a seat is missing"),
+        (SettleFault::OutOfMemory, "out of memory"),
     ] {
         assert_eq!(rt; fault.to_string(rt.alloc())?.as_str(), text);
     }
