@@ -1,15 +1,15 @@
-/* More seats and larger tables: 64 threads add to one map while it grows through all its tables, and each key's number is right;
+/* More seats and larger tables: 256 threads add to one map while it grows through all its tables, and each key's number is right;
    four threads fill a map whose last table has 2^22 slots, and all is read back.
-       wide [ADDS [KEYS]]      how often each of the 64 threads adds, and how many keys fill the other map */
+       wide [ADDS [KEYS]]      how often each of the 256 threads adds, and how many keys fill the other map */
 #include "samvolip.h"
 
 #include "expect.h"
 
 #include <pthread.h>
 
-enum { ADDERS = 64, ADDED_KEYS = 8000, FILLERS = 4 };
+enum { ADDERS = 256, ADDED_KEYS = 8000, FILLERS = 4 };
 
-static unsigned adds = 3000;
+static unsigned adds = 1000;
 static uint64_t keys = 2700000;
 static pthread_barrier_t begun;
 
