@@ -2,6 +2,7 @@
 use nb_core::{Key, Shape};
 use nb_long::Handle;
 use std::process::Abort;
+use std::sync::Wait;
 use std::test::Fail;
 use std::thread;
 
@@ -42,6 +43,30 @@ fn four_threads_by_handles(rt: HostRuntime) -> Result<(), Fail> {
     Ok(())
 }
 
+/// One handle puts a value where there is none, and the other replaces it.
+fn writes<R: Wait + Abort>(rt: &R, mine: &mut Handle<u64>, theirs: &mut Handle<u64>, key: Key) {
+    assert!(rt; matches!(mine.put_if_absent(rt, key, 5), Ok(stored) if stored.done));
+    assert!(rt; matches!(theirs.replace_if(rt, key, &5, 6), Ok(stored) if stored.done));
+}
+
+/// A value that isn't the one to compare with stays.
+fn keeps_another<R: Wait + Abort>(rt: &R, handle: &mut Handle<u64>, key: Key) {
+    assert!(rt; matches!(handle.remove_if(rt, key, &5), Ok(false)));
+    assert!(rt; matches!(handle.take_if(rt, key, &5), Ok(compared) if !compared.done));
+}
+
+/// Where the key is taken out, there is nothing to replace.
+fn removes<R: Wait + Abort>(rt: &R, handle: &mut Handle<u64>, key: Key) {
+    assert!(rt; handle.remove(rt, key).is_some());
+    assert!(rt; matches!(handle.replace(rt, key, 8), Ok(stored) if !stored.done));
+}
+
+/// One slot of the first table is taken.
+fn is_hardly_full<R: Abort>(rt: &R, handle: &mut Handle<u64>) {
+    let fullness = handle.occupancy();
+    assert_eq!(rt; (fullness.taken, fullness.looked), (1, 16));
+}
+
 /// The calls of two handles of one map, and what each sees.
 #[test]
 fn calls_by_name(rt: HostRuntime) -> Result<(), Fail> {
@@ -51,13 +76,10 @@ fn calls_by_name(rt: HostRuntime) -> Result<(), Fail> {
     let mut theirs = one_of(&rt, &mut handles);
     assert_eq!(rt; mine.shape().seats(), 3);
     assert_eq!(rt; value_at(&rt, &mut mine, key), None);
-    assert!(rt; matches!(mine.put_if_absent(&rt, key, 5), Ok(stored) if stored.done));
-    assert!(rt; matches!(theirs.replace_if(&rt, key, &5, 6), Ok(stored) if stored.done));
-    assert!(rt; matches!(theirs.remove_if(&rt, key, &5), Ok(false)));
-    assert!(rt; matches!(theirs.take_if(&rt, key, &5), Ok(compared) if !compared.done));
+    writes(&rt, &mut mine, &mut theirs, key);
+    keeps_another(&rt, &mut theirs, key);
     assert_eq!(rt; value_at(&rt, &mut mine, key), Some(6));
-    assert!(rt; mine.remove(&rt, key).is_some());
-    assert!(rt; matches!(mine.replace(&rt, key, 8), Ok(stored) if !stored.done));
-    assert_eq!(rt; (mine.occupancy().taken, mine.occupancy().looked), (1, 16));
+    removes(&rt, &mut mine, key);
+    is_hardly_full(&rt, &mut mine);
     Ok(())
 }
