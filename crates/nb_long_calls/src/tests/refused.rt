@@ -105,18 +105,29 @@ fn opens<R: Wait + Abort>(rt: &R, alloc: Global, shape: Shape) -> Result<(), Out
     Ok(())
 }
 
+/// A put, and one where the key is absent, each in a map that has stored nothing yet.
+fn stores<R: Wait + Abort>(rt: &R, alloc: Global) {
+    let (map, mut seat) = fresh(rt, alloc);
+    puts(rt, &map, &mut seat);
+    let (map, mut seat) = fresh(rt, alloc);
+    puts_if_absent(rt, &map, &mut seat);
+}
+
+/// Both replacements, each in a map that has stored nothing yet.
+fn stores_in_vain<R: Wait + Abort>(rt: &R, alloc: Global) {
+    let (map, mut seat) = fresh(rt, alloc);
+    replaces(rt, &map, &mut seat);
+    let (map, mut seat) = fresh(rt, alloc);
+    replaces_if(rt, &map, &mut seat);
+}
+
 /// What takes memory is called again where it was refused, and then it has it: so this passes
 /// whichever one request is refused.
 #[test]
 fn refused_memory(rt: HostRuntime) -> Result<(), Fail> {
-    let (map, mut seat) = fresh(&rt, rt.alloc());
-    puts(&rt, &map, &mut seat);
-    let (map, mut seat) = fresh(&rt, rt.alloc());
-    puts_if_absent(&rt, &map, &mut seat);
-    let (map, mut seat) = fresh(&rt, rt.alloc());
-    replaces(&rt, &map, &mut seat);
-    let (map, mut seat) = fresh(&rt, rt.alloc());
-    replaces_if(&rt, &map, &mut seat);
-    opens(&rt, rt.alloc(), Shape::new(2, 2, 3, 1)?)?;
+    stores(&rt, rt.alloc());
+    stores_in_vain(&rt, rt.alloc());
+    let shape = Shape::new(2, 2, 3, 1)?;
+    opens(&rt, rt.alloc(), shape)?;
     Ok(())
 }
