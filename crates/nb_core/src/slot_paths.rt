@@ -30,8 +30,8 @@ pub struct Path {
 impl Path {
     /// The slot at a distance on the path, which begins at the key's home slot.
     #[inline]
-    pub fn slot(self, distance: usize) -> Slot
-        ensures { (p : Plan) (g k : ℕ) → IsPathIn p g k self → IsOnPathAt p g k distance result }
+    pub fn slot(&self, distance: usize) -> Slot
+        ensures { (p : Plan) (g k : ℕ) → IsPathIn p g k self.now → IsOnPathAt p g k distance result }
     {
         let i = (self.key.get() as usize).wrapping_add(distance) & self.last as usize;
         Slot {

@@ -20,7 +20,7 @@ slot-same {g' = g'} {i = i} {i' = i'} {value = value} same same' same'' =
 pub returns : goal.returns
 returns c p g k path =
     let distance = c.args.distance in
-    let last = c.args.self.last in
+    let last = c.args.self.now.last in
     let x = (c.get.result + distance) % 2 ^ 64 in
     let is : bit_and x last ≡ path_slot p g k distance =
     ap (bit_and x) path.last
@@ -28,8 +28,8 @@ returns c p g k path =
     ∙ ap (λ n. (n + distance) % size_of p g) (c.get.ensures.number ∙ path.key) in
     let within : bit_and x last < size_of p g =
     subst (λ i. i < size_of p g) (sym is) (mod-lt (k + distance) (pow_pos _)) in
-    let value : c.args.self.base + 4 + 2 * bit_and x last
-    ≡ value_index p c.args.self.g (bit_and x last)
+    let value : c.args.self.now.base + 4 + 2 * bit_and x last
+    ≡ value_index p c.args.self.now.g (bit_and x last)
     = omega (arith, path.base, ap (base_of p) path.table) in
     record {
       is = slot-same path.table is (value
