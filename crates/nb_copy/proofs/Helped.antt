@@ -16,7 +16,7 @@ use Rattle.nb_copy.proofs.Adding.{copied-adds}
 use Rattle.nb_copy.proofs.Copied.{copied-more, copied-own, copied-within}
 use Rattle.nb_copy.proofs.Counted.{copied-counting, copied-take}
 use Rattle.nb_copy.specs.Copying.{HasCopied}
-use Rattle.nb_copy.specs.Handing.{HasHelped, IsHanded, IsRaised, adds_of, chunk_steps, slot_steps}
+use Rattle.nb_copy.specs.Handing.{HasHelped, IsHanded, IsRaised, adds_of, chunk_steps, looks_of, slot_steps}
 
 -- one add of so many slots, or none where there are none
 abbrev pub one_add : ℕ → List ℕ
@@ -67,10 +67,11 @@ four-handed p plan g table =
     let exponent = All-get_or (λ e. (2 ≤ e) × (e ≤ 28)) p.exponents g 0 table plan.sizes in
     le-min (pow_mono exponent.0) (omega (arith, pow_mono plan.chunk.1, plan.chunk.3))
 
--- what it costs to take and to count the chunks of a table is less than a step for each slot
+-- what it costs to take and to count the chunks of a table, and to look at the top word, is no more
+-- than a step for each slot
 chunks-bound :
     (size chunk n most : ℕ) → 4 ≤ size → 4 ≤ chunk → n * chunk ≤ size
-    → n * (chunk * most + 3) < size * (most + 1)
+    → n * (chunk * most + 3) + looks_of size ≤ size * (most + 1)
 chunks-bound size chunk n most some four within =
     let copied = mul-le-mul_right most within in
     let counted = mul-le-mul_left n four in
@@ -156,7 +157,7 @@ module _ (chain : ChainOf) (g : ℕ) (table : g < generations_of chain.shape) wh
       → (slots : List ℕ) × HasCopied p g start after slots taken (length slots)
       (taken * chunk_steps p g)
       → (slots : List ℕ) × (chunks : ℕ) × (most : ℕ) × (chunks ≤ size_of p g / chunk_of p g)
-      × (most < size_of p g * (slot_steps p g + 1))
+      × (most + looks_of (size_of p g) ≤ size_of p g * (slot_steps p g + 1))
       × HasCopied p g start after slots chunks (length slots) most
   helped-all taken own few copied = (
     copied.0,

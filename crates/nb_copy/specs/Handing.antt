@@ -1,9 +1,10 @@
 -- What it takes to copy slots, chunks and whole tables.
-use Rattle.std.specs.Prelude.{◌≡◌, ℕ, suc, ◌+◌, ◌*◌, ◌/◌, ◌<◌, ◌≤◌, ◌==◌, ◌&&◌, if◌then◌else◌, List, [], ◌∷◌, ◌++◌, length, All}
+use Rattle.std.specs.Prelude.{◌≡◌, ℕ, suc, ◌+◌, ◌-◌, ◌*◌, ◌/◌, ◌<◌, ◌≤◌, ◌==◌, ◌&&◌, if◌then◌else◌, List, [], ◌∷◌, ◌++◌, length, All}
 use Rattle.nb_core.specs.Plans.{Plan, size_of}
 use Rattle.nb_core.specs.Tables.{IsComplete, IsFinished, chunk_of, tables_at}
 use Rattle.nb_core.specs.declared.events.Event.{Event}
 use Rattle.nb_core.specs.declared.events.Event.TheVariants.{Count, Take}
+use Rattle.nb_copy.specs.declared.tables.TheConstants.{LOOK}
 use Rattle.nb_table.specs.Chains.{SeenBy, seen_by}
 use Rattle.nb_copy.specs.Copying.{HasCopied}
 
@@ -17,6 +18,14 @@ slot_steps p g = 2 * size_of p (suc g) + 6
 -- for a chunk, which is taken and counted
 abbrev pub chunk_steps : Plan → ℕ → ℕ
 chunk_steps p g = chunk_of p g * slot_steps p g + 3
+
+-- how often a copier looks at the top word on its way through so many slots
+abbrev pub looks_of : ℕ → ℕ
+looks_of n = (n + (LOOK - 1)) / LOOK
+
+-- for so many slots, which are gone through one by one
+abbrev pub walk_steps : Plan → (g n : ℕ) → ℕ
+walk_steps p g n = n * (slot_steps p g + 2) + looks_of n
 
 -- and for a table, whose slots are gone through in chunks and then one by one
 abbrev pub table_steps : Plan → ℕ → ℕ

@@ -6,6 +6,9 @@ ghost use Rattle.std.specs.Prelude.{
   ◌-◌,
   ◌*◌,
   ◌/◌,
+  ◌%◌,
+  ◌==◌,
+  false,
   ◌<◌,
   ◌≤◌,
   suc,
@@ -20,10 +23,18 @@ ghost use Rattle.std.specs.Prelude.{
 };
 ghost use Rattle.nb_core.specs.History.{counted_by, turned_by};
 ghost use Rattle.nb_core.specs.Plans.{generations_of, size_of};
-ghost use Rattle.nb_core.specs.Tables.{IsFinished, IsInstalled, IsSlot, chunk_of};
+ghost use Rattle.nb_core.specs.Tables.{IsComplete, IsFinished, IsInstalled, IsSlot, chunk_of};
 ghost use Rattle.nb_table.specs.Chains.{IsOwn, seen_by};
 ghost use Rattle.nb_copy.specs.Copying.{HasCopied};
-ghost use Rattle.nb_copy.specs.Handing.{HasCompleted, HasHelped, IsRaised, adds_of, slot_steps};
+ghost use Rattle.nb_copy.specs.Handing.{
+  HasCompleted,
+  HasHelped,
+  IsRaised,
+  adds_of,
+  looks_of,
+  slot_steps,
+  walk_steps,
+};
 
 use crate::slots::copy_slot;
 use nb_table::{Chain, ChainSeat};
@@ -44,8 +55,9 @@ pub fn help(chain: &Chain, seat: &mut ChainSeat, g: u32) -> usize
 
 /// Copies the whole of table `g`, which has a next one, together with whoever copies it too. It
 /// takes chunks while there are some. Unless the top word is past the table then, it goes through
-/// every slot itself, so that it waits for no other thread, and raises the top word. It costs at
-/// most a few steps for each pair of a slot of this table and one of the next.
+/// the slots itself, so that it waits for no other thread, until it finds the top word past the
+/// table, or else has gone through all of them and raises the top word. It costs at most a few steps
+/// for each pair of a slot of this table and one of the next.
 #[tactic(auto, using(nb_core::proofs::Theorems::linked))]
 pub fn complete(chain: &Chain, seat: &mut ChainSeat, g: u32)
     requires own { IsOwn chain.now seat.old }
@@ -53,8 +65,7 @@ pub fn complete(chain: &Chain, seat: &mut ChainSeat, g: u32)
     ensures completed { HasCompleted chain.now.shape g seat.old seat.new }
 {
     copy_chunks(chain, seat, g);
-    if chain.load_top(seat) <= g {
-        copy_all(chain, seat, g);
+    if copy_all(chain, seat, g) {
         chain.promote(seat, g);
     }
 }
@@ -148,7 +159,8 @@ fn copy_chunks(chain: &Chain, seat: &mut ChainSeat, g: u32)
     requires growing { IsInstalled (seen_by chain.now.shape seat.old) (suc g) }
     ensures copied { (slots : List ℕ) × (chunks : ℕ) × (most : ℕ)
         × (chunks ≤ size_of chain.now.shape g / chunk_of chain.now.shape g)
-        × (most < size_of chain.now.shape g * (slot_steps chain.now.shape g + 1))
+        × (most + looks_of (size_of chain.now.shape g)
+        ≤ size_of chain.now.shape g * (slot_steps chain.now.shape g + 1))
         × HasCopied chain.now.shape g seat.old seat.new slots chunks (length slots) most }
 {
     let chunks = chain.shape().chunks_of(g);
@@ -159,18 +171,38 @@ fn copy_chunks(chain: &Chain, seat: &mut ChainSeat, g: u32)
     }
 }
 
-/// Finishes every slot of table `g`, and counts each one that its own steps turned.
-fn copy_all(chain: &Chain, seat: &mut ChainSeat, g: u32)
+/// How many slots a copier of a whole table goes through before it looks at the top word again.
+const LOOK: usize = 64;
+
+/// Finishes every slot of table `g`, and counts each one that its own steps turned, until it finds
+/// the top word past the table: then all its slots are finished. It looks before it begins, and
+/// again after each `LOOK` slots. Answers whether it has gone through every slot.
+fn copy_all(chain: &Chain, seat: &mut ChainSeat, g: u32) -> bool
     requires own { IsOwn chain.now seat.old }
     requires table { g < generations_of chain.now.shape }
     requires growing { IsInstalled (seen_by chain.now.shape seat.old) (suc g) }
     ensures copied { (slots : List ℕ)
         × HasCopied chain.now.shape g seat.old seat.new slots 0 (length slots)
-        (size_of chain.now.shape g * (slot_steps chain.now.shape g + 2)) }
-    ensures complete { (i : ℕ) → i < size_of chain.now.shape g
-        → IsFinished (seen_by chain.now.shape seat.new) g i }
+        (walk_steps chain.now.shape g (size_of chain.now.shape g)) }
+    ensures complete { IsComplete chain.now.shape (seen_by chain.now.shape seat.new) g }
+    ensures past { result ≡ false → g < (seen_by chain.now.shape seat.new).top }
 {
     for i in 0..chain.shape().size_of(g) {
+        if is_past(chain, seat, g, i) {
+            return false;
+        }
         copy_and_count(chain, seat, g, i);
     }
+    true
+}
+
+/// Whether the top word was seen past table `g`, by a look before each `LOOK` slots.
+#[inline]
+fn is_past(chain: &Chain, seat: &mut ChainSeat, g: u32, i: usize) -> bool
+    requires own { IsOwn chain.now seat.old }
+    ensures copied { HasCopied chain.now.shape g seat.old seat.new [] 0 0
+        (if i % LOOK == 0 then 1 else 0) }
+    ensures past { IsTrue result → g < (seen_by chain.now.shape seat.new).top }
+{
+    i % LOOK == 0 && chain.load_top(seat) > g
 }

@@ -6,6 +6,7 @@ pub mod Log
 pub mod Meaning
 pub mod Mixing
 pub mod Layout
+pub mod Paths
 pub mod Plans
 pub mod Rooms
 pub mod States

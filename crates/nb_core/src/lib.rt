@@ -18,6 +18,7 @@ mod plain;
 mod seat_room;
 mod seats;
 mod shapes;
+mod slot_paths;
 mod slot_words;
 mod states;
 
@@ -34,6 +35,7 @@ pub use shapes::{
     MAX_SEATS, MAX_SLOTS, MAX_STRIPES, MOST_KEYS, NOT_INSTALLED, SMALL_EXPONENT, Shape, ShapeFault,
     TOP_INDEX,
 };
+pub use slot_paths::{Path, Slot};
 pub use slot_words::{
     DEAD_KEY, EMPTY_KEY, FINISHED_BIT, KeyWord, NULL_VALUE, PRIMED_BIT, ValueWord, decode_key,
     decode_value, encode_key, encode_value,

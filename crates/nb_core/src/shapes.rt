@@ -23,11 +23,13 @@ ghost use Rattle.nb_core.specs.Plans.{
   value_index,
   word_count,
 };
+ghost use Rattle.nb_core.specs.Paths.{IsPathIn};
 ghost use Rattle.nb_core.specs.Tables.{chunk_of, path_slot};
 
 mod wide;
 
 use crate::numbers::Key;
+use crate::slot_paths::Path;
 use std::marker::Model;
 use thiserror::Error;
 
@@ -377,6 +379,20 @@ impl Shape {
         ensures in_table { result < size_of self.now g }
     {
         (key.get() as usize).wrapping_add(distance) & self.last_of(g)
+    }
+
+    /// The path of a key in table `g`: for a search, which then need not ask the shape again.
+    #[inline]
+    pub fn path(&self, g: u32, key: Key) -> Path
+        requires { g < generations_of self.now }
+        ensures { IsPathIn self.now g key result }
+    {
+        Path {
+            g,
+            key,
+            last: self.lasts[g as usize],
+            base: self.bases[g as usize],
+        }
     }
 
     /// The index of a header word of table `g`.

@@ -1,7 +1,8 @@
 -- What a load of a value shows of a key, where it is told the read, and where it isn't.
-use Rattle.std.proofs.Common.{◌≡◌, ◌∙◌, not, ℕ, Bool, true, false, cond, [], Option, Some, None, ap, sym, refl, subst}
+use Rattle.std.proofs.Common.{◌≡◌, ◌∙◌, IsTrue, not, ℕ, Bool, true, false, cond, [], Option, Some, None, ap, sym, refl, subst}
 use Rattle.nb_core.specs.Plans.{Plan}
 use Rattle.nb_core.specs.States.{shown_by_value}
+use Rattle.nb_core.specs.Tables.{Tables}
 use Rattle.nb_core.specs.declared.calls.Call.{Call}
 use Rattle.nb_core.specs.declared.calls.Call.TheVariants as call
 use Rattle.nb_core.specs.declared.states.ValueState.{ValueState}
@@ -9,7 +10,7 @@ use Rattle.nb_table.specs.Chains.{ChainOf, Extended, IsOwn, SeenBy}
 use Rattle.nb_table.specs.Events.{read, reads}
 use Rattle.nb_map.specs.Logs.{as_replied}
 use Rattle.nb_map.specs.Calling.{HasMade}
-use Rattle.nb_map.specs.inside.Reading.{glanced_by}
+use Rattle.nb_map.specs.inside.Reading.{IsGlance, glanced_by}
 use Rattle.nb_map.specs.declared.steps.get.Glance.{Glance}
 use Rattle.nb_map.specs.declared.steps.get.Glance.TheVariants as glance
 use Rattle.nb_map.proofs.Made.{made-more, made-quiet, made-read}
@@ -72,3 +73,11 @@ made-looked chain key {before} {after = after} false shown mine first empty none
 pub turned : (a b : Bool) → not a ≡ b → a ≡ not b
 turned true b is = ap not is
 turned false b is = ap not is
+
+-- what a glance shows is right, where the slot is the key's, or shows that there is no number
+pub glance-either :
+    (p : Plan) (t : Tables) (g k : ℕ) (own : Bool) (shown : Glance)
+    → (IsTrue own → IsGlance p t g k shown) → (own ≡ false → shown ≡ glance.Shows None)
+    → IsGlance p t g k shown
+glance-either p t g k true shown mine empty = mine refl
+glance-either p t g k false shown mine empty = subst (IsGlance p t g k) (sym (empty refl)) tt

@@ -15,6 +15,7 @@ mod Logged
 mod Look
 mod Made
 mod OneSeat
+mod OnPath
 mod Paired
 mod Passed
 mod Passing

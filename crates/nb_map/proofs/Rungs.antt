@@ -1,19 +1,19 @@
 -- Where a call has come to on its way up the tables.
-use Rattle.std.proofs.Common.{ℕ, suc, ◌+◌, ◌<◌, List, add-one, inl, sym, subst, arith}
+use Rattle.std.proofs.Common.{◌≡◌, ℕ, suc, ◌+◌, ◌<◌, List, add-one, inl, sym, subst, arith}
 use Rattle.std.proofs.lemmas.Nat.{pow_pos}
 use Rattle.nb_core.specs.History.{key_of_call}
 use Rattle.nb_core.specs.Laws.{Lasts}
-use Rattle.nb_core.specs.Plans.{Plan, generations_of}
+use Rattle.nb_core.specs.Plans.{Plan, generations_of, value_index}
 use Rattle.nb_core.specs.Tables.{Tables}
 use Rattle.nb_core.specs.declared.calls.Call.{Call}
 use Rattle.nb_core.specs.declared.calls.Reply.{Reply}
+use Rattle.nb_core.specs.declared.slot_paths.Slot.{Slot}
 use Rattle.nb_table.specs.Chains.{ChainOf, IsOwn, SeenBy, seen_by}
 use Rattle.nb_table.specs.Conditions.{IsReached}
 use Rattle.nb_map.specs.Calling.{HasMade}
 use Rattle.nb_map.specs.declared.steps.rung.Below.{Below}
 use Rattle.nb_map.specs.declared.steps.rung.Below.TheVariants.{Complete, HasKey, Passed}
 use Rattle.nb_map.specs.declared.steps.rung.Rung.{Rung}
-use Rattle.nb_map.specs.declared.steps.rung.Slot.{Slot}
 use Rattle.nb_map.specs.inside.Climbing.{GoesOn, HasBelow, IsAbove, IsAt, IsAtSlot, IsSlotOf}
 use Rattle.nb_map.proofs.Made.{made-own, made-stays, slot-below-lasts}
 use Rattle.nb_map.proofs.Searched.{others-none, reached-above, reached-lasts, table-within}
@@ -58,18 +58,18 @@ module _ (chain : ChainOf) where
       record {
         own = made-own chain at.own steps;
         slot = at.slot;
-        claimed = lasting.claimed slot.g slot.i k at.slot at.claimed;
-        reached = reached-lasts p _ _ lasting slot.g k at.slot.0 at.reached;
+        claimed = lasting.claimed slot.g slot.i k at.slot.slot at.claimed;
+        reached = reached-lasts p _ _ lasting slot.g k at.slot.slot.0 at.reached;
       }
 
   -- from a table a call comes to its key's slot there
   pub at-slot :
-      {call : Call} {rung : Rung} {seat : SeenBy} (i : ℕ) → IsAt chain call seat rung
-      → IsSlotOf p (seen_by p seat) rung.g i (key_of_call call)
-      → IsAtSlot chain call seat (record { g = rung.g; i = i })
-  at-slot i at is = record {
+      {call : Call} {rung : Rung} {seat : SeenBy} (i value : ℕ) → value ≡ value_index p rung.g i
+      → IsAt chain call seat rung → IsSlotOf p (seen_by p seat) rung.g i (key_of_call call)
+      → IsAtSlot chain call seat (record { g = rung.g; i = i; value = value })
+  at-slot i value there at is = record {
     own = at.own;
-    slot = (at.table, is.0);
+    slot = record { slot = (at.table, is.0); value = there };
     claimed = is.1;
     reached = at.reached;
   }

@@ -16,6 +16,7 @@ use Rattle.nb_core.specs.States.{shown_by_value}
 use Rattle.nb_core.specs.declared.calls.Call.{Call}
 use Rattle.nb_core.specs.declared.calls.Call.TheVariants.{Get, Write}
 use Rattle.nb_core.specs.declared.calls.Reply.{Reply}
+use Rattle.nb_core.specs.declared.slot_paths.Slot.{Slot}
 use Rattle.nb_core.specs.declared.events.Event.{Event}
 use Rattle.nb_core.specs.declared.events.Event.TheVariants.{Won, Read}
 use Rattle.nb_core.specs.declared.states.KeyState.TheVariants.{Claimed}
@@ -35,7 +36,6 @@ use Rattle.nb_map.specs.inside.Climbing.{GoesOn, IsAbove, IsAtSlot, IsRefused, I
 use Rattle.nb_map.specs.inside.Writing.{IsDecided}
 use Rattle.nb_map.specs.Progress.{passed_since}
 use Rattle.nb_map.specs.declared.steps.rung.Below.TheVariants.{HasKey}
-use Rattle.nb_map.specs.declared.steps.rung.Slot.{Slot}
 use Rattle.nb_map.specs.declared.steps.rung.Visit.{Visit}
 use Rattle.nb_map.specs.declared.steps.rung.Visit.TheVariants.{Told, Refused, Above}
 use Rattle.nb_map.specs.Steps.{slot_visit_steps}
@@ -337,9 +337,9 @@ module _ (chain : ChainOf) where
           → HasTried p call start after slot tries (left - 1) found (Some other)
       tried-lost other differs shows some =
           let here = slot-stays chain at tried.made in
-          let settled = reached-settled chain now here.own slot.g (key_of_call call) here.slot.0
+          let settled = reached-settled chain now here.own slot.g (key_of_call call) here.slot.slot.0
           here.reached in
-          let one = lost-one call slot.g slot.i found here.own step here.slot here.claimed settled
+          let one = lost-one call slot.g slot.i found here.own step here.slot.slot here.claimed settled
           held (shown-some found other shows).0 (λ same. differs (same ∙ tried.held)) in
           record {
             made = made-within _ _ (omega (arith, tried.spent.fewer, some))
@@ -397,5 +397,5 @@ module _ (chain : ChainOf) where
       let here = slot-stays chain at tried.made in
       let still = slot-stays chain here made in (
         above (key_of_call call) here.claimed,
-        record { slot = slot.i; in_table = still.slot.1; is = still.claimed },
+        record { slot = slot.i; in_table = still.slot.slot.1; is = still.claimed },
       )

@@ -1,9 +1,9 @@
 -- The exchanges of an empty key word, and of a next word.
-use Rattle.std.proofs.Common.{◌≡◌, ◌≢◌, ◌∙◌, ℕ, ◌+◌, ◌<◌, ◌≤◌, ◌⊎◌, zero, suc, cond, eqb, List, [], ◌∷◌, ◌++◌, slice_index, slice_set, ap, sym, subst, refl, inl, inr, arith}
+use Rattle.std.proofs.Common.{◌≡◌, ◌≢◌, ◌∙◌, ℕ, ◌+◌, ◌-◌, ◌<◌, ◌≤◌, ◌⊎◌, zero, suc, cond, eqb, List, [], ◌∷◌, ◌++◌, slice_index, slice_set, ap, sym, subst, refl, inl, inr, arith}
 use Rattle.std.proofs.lemmas.Bool.{eq-eqb, eqb-true, ne_eqb}
 use Rattle.std.proofs.lemmas.Bool.Decides.{eqb_tells}
 use Rattle.std.proofs.lemmas.List.{get_or-set_same}
-use Rattle.nb_core.specs.Plans.{Plan, IsPlan, Header, Key, generations_of, header_index, key_index, limit_of, word_count}
+use Rattle.nb_core.specs.Plans.{Plan, IsPlan, Header, Key, generations_of, header_index, key_index, limit_of, value_index, word_count}
 use Rattle.nb_core.specs.States.{key_state, key_word}
 use Rattle.nb_core.specs.Tables.{AreOthers, HasSlotBelow, IsInstalled, IsReady, IsSlot, Tables, tables_at, words_of}
 use Rattle.nb_core.specs.History.{HasWay, IsLegal, seat_of_event}
@@ -19,6 +19,11 @@ use Rattle.nb_table.specs.Events.{only}
 use Rattle.nb_table.proofs.Events.{claim_events, install_events, kill_events}
 use Rattle.nb_table.specs.Steps.{Can, MayStep, Stepped}
 use Rattle.nb_core.proofs.Theorems.{lawful_words, linked, indices_are_distinct}
+
+-- a slot's key word lies right before its value word
+pub before-value :
+    (p : Plan) (g i : ℕ) {value : ℕ} → value ≡ value_index p g i → value - 1 ≡ key_index p g i
+before-value p g i is = omega (arith, is)
 
 -- ---- what may be exchanged
 

@@ -1,6 +1,7 @@
 //! The steps by which calls change the map.
 ghost use Rattle.std.specs.Prelude.{◌≡◌, ◌≢◌, true, [], ◌∷◌, IfErr, OnOk};
 ghost use Rattle.nb_core.specs.History.{IsCallInRange, IsExchange, number_in_value, key_of_call};
+ghost use Rattle.nb_core.specs.Paths.{IsPlaced};
 ghost use Rattle.nb_core.specs.States.{shown_by_value};
 ghost use Rattle.nb_core.specs.Tables.{IsSlot, IsUnprimed};
 ghost use Rattle.nb_core.specs.declared.events.Event.TheVariants as event;
@@ -10,7 +11,7 @@ ghost use Rattle.nb_table.specs.Conditions.{IsReached};
 ghost use Rattle.nb_table.specs.Events.{read};
 
 use crate::chain::{Chain, ChainSeat, ForProof, NOTHING};
-use nb_core::{Call, Change, ValueState, ValueWord, Want};
+use nb_core::{Call, Change, Slot, ValueState, ValueWord, Want};
 use std::marker::Brand;
 
 /// Reminds a proof of the ranges of a call's key and numbers. It does nothing.
@@ -34,9 +35,53 @@ pub(crate) fn known(call: &Call)
 
 impl Chain {
     /// Puts a value in place of another for a call, by one compare-exchange on the value word of
-    /// the key's slot `i` of table `g`. Another word than `from` stays as it is, and is the answer;
-    /// what it shows of the key may be the call's read then, as at `load_value_word`. `call` is for
-    /// proofs alone: the step doesn't read it.
+    /// the key's slot. Another word than `from` stays as it is, and is the answer; what it shows of
+    /// the key may be the call's read then, as at `load_value_word_at`. `call` is for proofs alone:
+    /// the step doesn't read it.
+    #[inline]
+    pub fn win_value_at(
+        &self,
+        seat: &mut ChainSeat,
+        at: Slot,
+        call: Call,
+        from: ValueWord,
+        to: ValueState,
+    ) -> Result<(), ValueWord>
+        requires own { IsOwn self.now seat.old }
+        requires slot { IsPlaced self.now.shape at }
+        requires reached { IsReached self.now.shape (seen_by self.now.shape seat.old) at.g
+            (key_of_call call) }
+        requires claimed { (seen_by self.now.shape seat.old).key at.g at.i
+            ≡ key_is.Claimed (key_of_call call) }
+        requires unprimed { IsUnprimed from }
+        requires exchange { IsExchange call (key_of_call call) from to }
+        ensures won { OnOk result (Extended self.now.shape seat.old seat.new
+            (event.Won seat.old.number at.g at.i from to call
+            (record { before = number_in_value from; matched = true }) ∷ []) 1
+            × ((seen_by self.now.shape seat.new).value at.g at.i ≡ to)) }
+        ensures lost { IfErr result (λ found. (found ≢ from)
+            × Extended self.now.shape seat.old seat.new
+            (read seat.old.number call (shown_by_value found)) 1
+            × ((seen_by self.now.shape seat.new).value at.g at.i ≡ found)) }
+    {
+        known(&call);
+        let old = from.get();
+        let new = ValueWord::of(to).get();
+        let for_proof = ForProof {
+            g: at.g,
+            i: at.i,
+            call: Some(call),
+            ..NOTHING
+        };
+        let found = self.exchanges::<Brand>(seat, at.value, old, new, for_proof);
+        if found == old {
+            Ok(())
+        } else {
+            Err(ValueWord::lawful(found))
+        }
+    }
+
+    /// The same at slot `i` of table `g`. `call` is for proofs alone.
     #[inline]
     pub fn win_value(
         &self,
@@ -64,21 +109,7 @@ impl Chain {
             (read seat.old.number call (shown_by_value found)) 1
             × ((seen_by self.now.shape seat.new).value g i ≡ found)) }
     {
-        known(&call);
-        let index = self.shape.value_index(g, i);
-        let old = from.get();
-        let new = ValueWord::of(to).get();
-        let for_proof = ForProof {
-            g,
-            i,
-            call: Some(call),
-            ..NOTHING
-        };
-        let found = self.exchanges::<Brand>(seat, index, old, new, for_proof);
-        if found == old {
-            Ok(())
-        } else {
-            Err(ValueWord::lawful(found))
-        }
+        let value = self.shape.value_index(g, i);
+        self.win_value_at(seat, Slot { g, i, value }, call, from, to)
     }
 }

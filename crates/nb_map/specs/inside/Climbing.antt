@@ -3,10 +3,12 @@ use Rattle.std.specs.Prelude.{ℕ, List, [], ◌∷◌, ◌≡◌, ◌≤◌, �
 use Rattle.nb_core.specs.Calls.{Fills, leaves_alone}
 use Rattle.nb_core.specs.History.{key_of_call}
 use Rattle.nb_core.specs.Log.{reply_at}
+use Rattle.nb_core.specs.Paths.{IsPlaced}
 use Rattle.nb_core.specs.Plans.{Plan, generations_of, size_of}
-use Rattle.nb_core.specs.Tables.{AreOthers, HasSlotBelow, IsInstalled, IsPassed, IsReady, IsSlot, Tables}
+use Rattle.nb_core.specs.Tables.{AreOthers, HasSlotBelow, IsInstalled, IsPassed, IsReady, Tables}
 use Rattle.nb_core.specs.declared.calls.Call.{Call}
 use Rattle.nb_core.specs.declared.calls.Reply.{Reply}
+use Rattle.nb_core.specs.declared.slot_paths.Slot.{Slot}
 use Rattle.nb_core.specs.declared.states.KeyState.TheVariants.{Claimed}
 use Rattle.nb_table.specs.Chains.{ChainOf, IsOwn, SeenBy, seen_by}
 use Rattle.nb_table.specs.Conditions.{IsReached}
@@ -18,7 +20,6 @@ use Rattle.nb_map.specs.declared.faults.PutFault.{PutFault}
 use Rattle.nb_map.specs.declared.steps.rung.Below.TheVariants as below
 use Rattle.nb_map.specs.declared.steps.rung.Below.{Below}
 use Rattle.nb_map.specs.declared.steps.rung.Rung.{Rung}
-use Rattle.nb_map.specs.declared.steps.rung.Slot.{Slot}
 use Rattle.nb_map.specs.declared.steps.rung.Visit.TheVariants.{Told, Refused, Above}
 use Rattle.nb_map.specs.declared.steps.rung.Visit.{Visit}
 
@@ -55,7 +56,7 @@ rung_for_read g from = record { g = g; from = from; below = below.Passed }
 -- The call has come to this slot, which is its key's.
 pub record IsAtSlot (chain : ChainOf) (call : Call) (seat : SeenBy) (at : Slot) : Type 0 where
   pub own : IsOwn chain seat
-  pub slot : IsSlot chain.shape at.g at.i
+  pub slot : IsPlaced chain.shape at
   pub claimed : (seen_by chain.shape seat).key at.g at.i ≡ Claimed (key_of_call call)
   pub reached : IsReached chain.shape (seen_by chain.shape seat) at.g (key_of_call call)
 

@@ -4,10 +4,12 @@ use Rattle.std.specs.Prelude.{List, [], ◌≡◌, ℕ, true, false, Option, Non
 use Rattle.nb_core.specs.Calls.{leaves_alone, overflows}
 use Rattle.nb_core.specs.History.{IsExchange, number_in_value, key_of_call}
 use Rattle.nb_core.specs.Log.{Numbers, reply_at}
+use Rattle.nb_core.specs.Paths.{IsPlaced}
 use Rattle.nb_core.specs.Plans.{Plan}
-use Rattle.nb_core.specs.Tables.{IsInstalled, IsReady, IsSlot, IsUnprimed, path_slot}
+use Rattle.nb_core.specs.Tables.{IsInstalled, IsReady, IsUnprimed, path_slot}
 use Rattle.nb_core.specs.declared.calls.Call.{Call}
 use Rattle.nb_core.specs.declared.calls.Reply.{Reply}
+use Rattle.nb_core.specs.declared.slot_paths.Slot.{Slot}
 use Rattle.nb_core.specs.declared.states.ValueState.{ValueState}
 use Rattle.nb_table.specs.Chains.{ChainOf, IsOwn, SeenBy, seen_by}
 use Rattle.nb_map.specs.Logs.{made_in}
@@ -16,7 +18,6 @@ use Rattle.nb_map.specs.Refusals.{IsJust}
 use Rattle.nb_map.specs.declared.faults.PutFault.{PutFault}
 use Rattle.nb_map.specs.declared.steps.decide.Decision.TheVariants as decision
 use Rattle.nb_map.specs.declared.steps.decide.Decision.{Decision}
-use Rattle.nb_map.specs.declared.steps.rung.Slot.{Slot}
 
 -- ---- what a call does at its key
 
@@ -40,7 +41,7 @@ IsDecided call number decision.Overflow =
 -- The slot is the home of the call's key in a table that is there. The table below is complete.
 pub record IsHomeOf (chain : ChainOf) (call : Call) (seat : SeenBy) (home : Slot) : Type 0 where
   pub own : IsOwn chain seat
-  pub slot : IsSlot chain.shape home.g home.i
+  pub slot : IsPlaced chain.shape home
   pub is : path_slot chain.shape home.g (key_of_call call) 0 ≡ home.i
   pub installed : IsInstalled (seen_by chain.shape seat) home.g
   pub ready : IsReady chain.shape (seen_by chain.shape seat) home.g

@@ -10,10 +10,10 @@ use crate::faults::PutFault;
 use crate::steps::claim::find_or_claim;
 use crate::steps::decide::{Decision, decide};
 use crate::steps::pause::Pause;
-use crate::steps::rung::{Below, Rung, Slot, Visit};
+use crate::steps::rung::{Below, Rung, Visit};
 use crate::steps::search::{PathEnd, probe};
 use crate::steps::slot::call_at;
-use nb_core::{Call, Reply};
+use nb_core::{Call, Reply, Slot};
 use nb_table::{Chain, ChainSeat};
 
 /// Makes a call, from a rung on: in the table that it has come to, or else in the next one, and so
@@ -76,7 +76,15 @@ fn visit<P: Pause>(
     ensures serves { P.serves pause.new chain.now }
 {
     match find(chain, seat, call, rung) {
-        Ok(i) => call_at(chain, seat, call, Slot { g: rung.g, i }, tries, pause),
+        Ok(i) => {
+            let value = chain.shape().value_index(rung.g, i);
+            let slot = Slot {
+                g: rung.g,
+                i,
+                value,
+            };
+            call_at(chain, seat, call, slot, tries, pause)
+        }
         Err(visit) => visit,
     }
 }

@@ -1,6 +1,7 @@
 //! Reading a key.
 ghost use Rattle.std.specs.Prelude.{IsTrue, None, Some, [], false, if◌then◌else◌, ℕ, ◌+◌, ◌≡◌, ◌≤◌};
-ghost use Rattle.nb_core.specs.Tables.{IsSlot, path_slot};
+ghost use Rattle.nb_core.specs.Paths.{IsPlaced};
+ghost use Rattle.nb_core.specs.Tables.{path_slot};
 ghost use Rattle.nb_core.specs.declared.calls.Call.TheVariants as call;
 ghost use Rattle.nb_core.specs.declared.states.KeyState.TheVariants as key_is;
 ghost use Rattle.nb_table.specs.Chains.{IsOwn, seen_by};
@@ -15,9 +16,9 @@ ghost use Rattle.nb_map.specs.inside.Reading.{IsGlance, glanced_by};
 
 use crate::steps::climb::climb;
 use crate::steps::pause::NoPause;
-use crate::steps::rung::{Below, Rung, Slot, Visit};
+use crate::steps::rung::{Below, Rung, Visit};
 use crate::steps::slot::call_at;
-use nb_core::{Call, Key, KeyState, KeyWord, Num};
+use nb_core::{Call, Key, KeyState, KeyWord, Num, Slot};
 use nb_table::{Chain, ChainSeat};
 
 /// What a glance at a key's home slot shows of it.
@@ -79,12 +80,11 @@ fn glance_in(chain: &Chain, seat: &mut ChainSeat, g: u32, key: Key) -> Glance
         (glanced_by (call.Get key) result) 2 }
     ensures glance { IsGlance chain.now.shape (seen_by chain.now.shape seat.new) g key result }
 {
-    let i = chain.shape().path_slot(g, key, 0);
-    let word = chain.load_key_word(seat, g, i, Some(Call::Get { key }));
+    let home = chain.shape().path(g, key).slot(0);
+    let word = chain.load_key_word_at(seat, home, Some(Call::Get { key }));
     if !word.is_or_empty(key) {
         return away(word);
     }
-    let home = Slot { g, i };
     glance_at(chain, seat, key, home, !word.is_empty())
 }
 
@@ -118,7 +118,7 @@ fn read_if(deciding: bool, key: Key) -> Option<Call>
 #[inline]
 fn glance_at(chain: &Chain, seat: &mut ChainSeat, key: Key, home: Slot, is_own: bool) -> Glance
     requires own { IsOwn chain.now seat.old }
-    requires slot { IsSlot chain.now.shape home.g home.i }
+    requires slot { IsPlaced chain.now.shape home }
     requires home { path_slot chain.now.shape home.g key 0 ≡ home.i }
     requires claimed { IsTrue is_own → (seen_by chain.now.shape seat.old).key home.g home.i
         ≡ key_is.Claimed key }
@@ -129,7 +129,7 @@ fn glance_at(chain: &Chain, seat: &mut ChainSeat, key: Key, home: Slot, is_own: 
         home.g key result }
     ensures empty { is_own ≡ false → result ≡ glance_is.Shows None }
 {
-    let word = chain.load_value_word(seat, home.g, home.i, read_if(is_own, key));
+    let word = chain.load_value_word_at(seat, home, read_if(is_own, key));
     let Some(number) = word.shows() else {
         return if is_own {
             Glance::From(0)

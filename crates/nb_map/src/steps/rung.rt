@@ -39,13 +39,6 @@ impl Rung {
     }
 }
 
-/// A slot of a table.
-#[derive(Clone, Copy)]
-pub(crate) struct Slot {
-    pub(crate) g: u32,
-    pub(crate) i: usize,
-}
-
 /// What a call comes to in a table.
 #[derive(Clone, Copy)]
 pub(crate) enum Visit {

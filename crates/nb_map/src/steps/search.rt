@@ -36,12 +36,13 @@ pub(crate) fn probe(chain: &Chain, seat: &mut ChainSeat, call: &Call, rung: Rung
         (key_of_call call.now) result }
 {
     let key = call.key();
+    let path = chain.shape().path(rung.g, key);
     for distance in rung.from..chain.shape().size_of(rung.g) {
-        let i = chain.shape().path_slot(rung.g, key, distance);
-        match chain.load_key(seat, rung.g, i, Some(*call)) {
+        let at = path.slot(distance);
+        match chain.load_key_word_at(seat, at, Some(*call)).state() {
             KeyState::Claimed(other) => {
                 if other == key {
-                    return PathEnd::Slot(i);
+                    return PathEnd::Slot(at.i);
                 }
             }
             KeyState::Empty => return PathEnd::Empty(distance),

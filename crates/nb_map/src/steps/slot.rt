@@ -11,9 +11,9 @@ ghost use Rattle.nb_map.specs.inside.Climbing.{IsAbove, IsAtSlot, IsSpent, IsVis
 use crate::faults::PutFault;
 use crate::steps::decide::{Decision, decide};
 use crate::steps::pause::Pause;
-use crate::steps::rung::{Below, Slot, Visit};
+use crate::steps::rung::{Below, Visit};
 use nb_copy::copy_and_count;
-use nb_core::{Call, Num, Reply, ValueWord};
+use nb_core::{Call, Num, Reply, Slot, ValueWord};
 use nb_table::{Chain, ChainSeat};
 
 /// Makes a call at its key's slot. What the slot's value shows decides it, by a load or by an
@@ -39,14 +39,14 @@ pub(crate) fn call_at<P: Pause>(
     ensures spent { IsSpent call.now seat.old seat.new tries.old tries.new }
     ensures serves { P.serves pause.new chain.now }
 {
-    let mut from = chain.load_value_word(seat, slot.g, slot.i, Some(*call));
+    let mut from = chain.load_value_word_at(seat, slot, Some(*call));
     while let Some(number) = from.shows() {
         match decide(call, &number) {
             Decision::Leave(reply) => return Visit::Told(reply),
             Decision::Overflow => return Visit::Refused(PutFault::ValueRange),
             Decision::Exchange(to) => {
                 pause.before_exchange(chain);
-                let Err(found) = chain.win_value(seat, slot.g, slot.i, *call, from, to) else {
+                let Err(found) = chain.win_value_at(seat, slot, *call, from, to) else {
                     return Visit::Told(Reply {
                         before: number,
                         matched: true,

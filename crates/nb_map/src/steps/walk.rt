@@ -11,9 +11,9 @@ ghost use Rattle.nb_map.specs.declared.steps.walk.Place.TheVariants as walk_at;
 ghost use Rattle.nb_map.specs.inside.Walking.{HasGone, IsEarlier, IsFirstOf};
 
 use crate::steps::get::get_at;
-use crate::steps::rung::{Below, Rung, Slot};
+use crate::steps::rung::{Below, Rung};
 use crate::steps::search::{PathEnd, probe};
-use nb_core::{Call, Key, KeyState, Num};
+use nb_core::{Call, Key, KeyState, Num, Slot};
 use nb_table::{Chain, ChainSeat};
 
 /// A place of a walk.
@@ -105,7 +105,8 @@ fn next_in(chain: &Chain, seat: &mut ChainSeat, first: u32, g: u32, from: usize)
     let size = chain.shape().size_of(g);
     for i in from..size {
         if let Some(key) = first_seen(chain, seat, first, g, i) {
-            if let Some(number) = get_at(chain, seat, key, Slot { g, i }) {
+            let value = chain.shape().value_index(g, i);
+            if let Some(number) = get_at(chain, seat, key, Slot { g, i, value }) {
                 return Stretch {
                     to: i + 1,
                     shown: Some((key, number)),

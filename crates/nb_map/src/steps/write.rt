@@ -18,9 +18,9 @@ use crate::steps::claim::has_next;
 use crate::steps::climb::climb;
 use crate::steps::decide::{Decision, decide};
 use crate::steps::pause::{Pause, Rest};
-use crate::steps::rung::{Rung, Slot, Visit};
+use crate::steps::rung::{Rung, Visit};
 use crate::steps::slot::call_at;
-use nb_core::{Call, Change, Key, KeyState, KeyWord, Reply, Want};
+use nb_core::{Call, Change, Key, KeyState, KeyWord, Reply, Slot, Want};
 use nb_table::{Chain, ChainSeat};
 use std::sync::Wait;
 
@@ -157,14 +157,13 @@ fn write_home<P: Pause>(
     ensures short { IsShortThere chain.now.shape top call.now seat.old seat.new result }
     ensures serves { P.serves pause.new chain.now }
 {
-    let i = chain.shape().path_slot(top, call.key(), 0);
-    let word = chain.load_key_word(seat, top, i, Some(*call));
+    let home = chain.shape().path(top, call.key()).slot(0);
+    let word = chain.load_key_word_at(seat, home, Some(*call));
     if word.is_empty() {
         if let Decision::Leave(reply) = decide(call, &None) {
             return Some(Ok(reply));
         }
     }
-    let home = Slot { g: top, i };
     if !has_home(chain, seat, call, home, word) {
         return None;
     }
@@ -212,7 +211,7 @@ fn claim_home(chain: &Chain, seat: &mut ChainSeat, call: &Call, home: Slot) -> b
     if has_next(chain, seat, home.g) {
         return false;
     }
-    match chain.claim_key(seat, home.g, home.i, call.key()) {
+    match chain.claim_key_at(seat, home, call.key()) {
         KeyState::Empty => true,
         KeyState::Dead => false,
         KeyState::Claimed(other) => other == call.key(),

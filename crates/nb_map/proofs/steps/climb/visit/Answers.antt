@@ -1,4 +1,4 @@
-use Rattle.std.proofs.Common.{arith}
+use Rattle.std.proofs.Common.{arith, rules}
 use Rattle.nb_map.proofs.Climbed.{visit-here, visit-longer, visited}
 use Rattle.nb_map.proofs.Made.{made-within}
 use Rattle.nb_map.proofs.Rungs.{at-slot, at-stays}
@@ -7,7 +7,7 @@ use Rattle.nb_map.proofs.steps.climb.visit.Goals as goal
 
 pub call_at-requires-clause-at : goal.call_at-requires-clause-at
 call_at-requires-clause-at g c =
-    at-slot c.args.chain.now c.in-Ok.i
+    at-slot c.args.chain.now c.in-Ok.i c.value_index-value.result (search rules)
     (at-stays c.args.chain.now c.requires.at c.in-Ok.ensures.made) c.in-Ok.ensures.found
 
 pub returns-in-Ok-clause-made : goal.returns-in-Ok-clause-made

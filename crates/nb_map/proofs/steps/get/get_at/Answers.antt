@@ -13,7 +13,7 @@ returns-in-Told c =
     let p = c.args.chain.now.shape in
     let get = call.Get c.args.key in
     let visit = c.in-Told.ensures in
-    let bound = climb-bound p c.requires.at.own.plan c.args.slot.g c.requires.at.slot.0 in
+    let bound = climb-bound p c.requires.at.own.plan c.args.slot.g c.requires.at.slot.slot.0 in
     record {
       made = made-within _ (get_steps p) (omega (arith, bound, visit.spent.read (λ number. refl)))
           (subst (λ calls. HasMade p get c.args.seat.now c.call_at.new.seat calls
@@ -34,7 +34,7 @@ pub returns-in-Above : goal.returns-in-Above
 returns-in-Above c =
     let p = c.args.chain.now.shape in
     let visit = c.in-Above.ensures in
-    let bound = climb-bound p c.requires.at.own.plan c.args.slot.g c.requires.at.slot.0 in
+    let bound = climb-bound p c.requires.at.own.plan c.args.slot.g c.requires.at.slot.slot.0 in
     record {
       made = made-within _ (get_steps p) (omega (arith, bound, visit.spent.read (λ number. refl)))
           (made-then c.requires.at.own visit.made c.get_from.ensures.made);

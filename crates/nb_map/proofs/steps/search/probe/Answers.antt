@@ -1,18 +1,66 @@
-use Rattle.std.proofs.Common.{◌≡◌, ◌∙◌, ◌+◌, ◌-◌, ◌<◌, ◌≢◌, None, Some, ap, refl, sym, subst, arith, rules}
-use Rattle.std.proofs.lemmas.Bool.{eqb-false}
+use Rattle.std.proofs.Common.{◌≡◌, ◌∙◌, ◌+◌, ◌-◌, ◌<◌, ◌≢◌, None, Some, ap, mod-lt, refl, sym, subst, arith, rules}
+use Rattle.std.proofs.lemmas.Bool.{eqb-false, eqb-true}
+use Rattle.std.proofs.lemmas.Nat.{pow_pos}
 use Rattle.nb_core.specs.History.{key_of_call}
-use Rattle.nb_core.specs.Tables.{AreOthers, path_slot}
+use Rattle.nb_core.specs.Paths.{slot_on}
+use Rattle.nb_core.specs.Tables.{AreOthers, IsOnPath, path_slot}
 use Rattle.nb_core.specs.Plans.{size_of}
+use Rattle.nb_core.specs.declared.slot_paths.Slot.{Slot}
+use Rattle.nb_core.specs.declared.states.KeyState.{KeyState}
 use Rattle.nb_core.specs.declared.states.KeyState.TheVariants.{Claimed, Dead, Empty}
 use Rattle.nb_table.specs.Events.{read, shown_by_key}
 use Rattle.nb_table.specs.Chains.{Extended, seen_by}
+use Rattle.nb_table.specs.Conditions.{IsReached}
 use Rattle.nb_map.specs.Calling.{HasMade}
+use Rattle.nb_map.specs.inside.Climbing.{IsSlotOf}
+use Rattle.nb_map.proofs.OnPath.{slot-of_path}
 use Rattle.nb_map.proofs.Made.{made-none, made-own, made-within}
 use Rattle.nb_map.proofs.Rungs.{at-stays}
 use Rattle.nb_map.proofs.Searched.{dead-next, on-path, others-more, read-end, read-start, shown-own, walked, walked-on}
 use Rattle.nb_map.proofs.steps.search.probe.Goals as goal
-use Rattle.nb_map.proofs.steps.search.probe.Goals.{After-load_key}
+use Rattle.nb_map.proofs.steps.search.probe.Goals.{After-state}
 use Rattle.nb_table.proofs.Theorems.{steps_add_up}
+
+-- the slot that is looked at
+place :
+    (c : After-state)
+    → c.slot-at.result ≡ slot_on c.args.chain.now.shape c.args.rung.g (key_of_call c.args.call.now)
+    c.loop-distance.distance
+place c =
+    (slot-of_path c.shape.ensures c.key-key.ensures c.path-path.ensures c.slot-at.ensures).is
+
+-- what its load showed
+load :
+    (c : After-state) (s : KeyState) → c.state.result ≡ s
+    → Extended c.args.chain.now.shape c.loop-distance.seat c.load_key_word_at.new.seat
+    (read c.loop-distance.seat.number c.args.call.now
+    (shown_by_key c.args.chain.now.shape c.args.rung.g
+    (path_slot c.args.chain.now.shape c.args.rung.g (key_of_call c.args.call.now)
+    c.loop-distance.distance)
+    s (key_of_call c.args.call.now))) 1
+load c s is =
+    let p = c.args.chain.now.shape in
+    let k = key_of_call c.args.call.now in
+    subst (λ s. Extended p c.loop-distance.seat c.load_key_word_at.new.seat
+    (read c.loop-distance.seat.number c.args.call.now
+    (shown_by_key p c.args.rung.g (path_slot p c.args.rung.g k c.loop-distance.distance) s k)) 1)
+    (sym c.state.ensures ∙ is)
+    (subst (λ (at : Slot). Extended p c.loop-distance.seat c.load_key_word_at.new.seat
+    (read c.loop-distance.seat.number c.args.call.now
+    (shown_by_key p at.g at.i c.load_key_word_at.result k)) 1)
+    (place c) c.load_key_word_at.ensures.grows)
+
+-- and what the seat has seen of it then
+found :
+    (c : After-state) (s : KeyState) → c.state.result ≡ s
+    → (seen_by c.args.chain.now.shape c.load_key_word_at.new.seat).key c.args.rung.g
+    (path_slot c.args.chain.now.shape c.args.rung.g (key_of_call c.args.call.now)
+    c.loop-distance.distance)
+    ≡ s
+found c s is =
+    subst (λ (at : Slot). (seen_by c.args.chain.now.shape c.load_key_word_at.new.seat).key at.g at.i
+    ≡ s) (place c)
+    (c.load_key_word_at.ensures.found ∙ sym c.state.ensures ∙ is)
 
 pub loop-distance-init : goal.loop-distance-init
 loop-distance-init c =
@@ -25,165 +73,154 @@ loop-distance-init c =
       c.requires.at.others,
     )
 
-pub load_key-requires-clause-own : goal.load_key-requires-clause-own
-load_key-requires-clause-own c =
+pub load_key_word_at-requires-clause-own : goal.load_key_word_at-requires-clause-own
+load_key_word_at-requires-clause-own c =
     made-own c.args.chain.now c.requires.at.own c.loop-distance.invariant.0
 
-pub load_key-requires-clause-reached : goal.load_key-requires-clause-reached
-load_key-requires-clause-reached c =
-    (at-stays c.args.chain.now c.requires.at c.loop-distance.invariant.0).reached
+pub load_key_word_at-requires-clause-slot : goal.load_key_word_at-requires-clause-slot
+load_key_word_at-requires-clause-slot c =
+    (slot-of_path c.shape.ensures c.key-key.ensures c.path-path.ensures c.slot-at.ensures).placed
 
-pub load_key-requires-clause-on_path : goal.load_key-requires-clause-on_path
-load_key-requires-clause-on_path c =
+pub load_key_word_at-requires-clause-reached : goal.load_key_word_at-requires-clause-reached
+load_key_word_at-requires-clause-reached c =
+    let chain = c.args.chain.now in
+    let here = (at-stays chain c.requires.at c.loop-distance.invariant.0).reached in
+    subst (λ (at : Slot). IsReached chain.shape (seen_by chain.shape c.loop-distance.seat) at.g
+    (key_of_call c.args.call.now))
+    (sym (slot-of_path c.shape.ensures c.key-key.ensures c.path-path.ensures c.slot-at.ensures).is) here
+
+pub load_key_word_at-requires-clause-on_path : goal.load_key_word_at-requires-clause-on_path
+load_key_word_at-requires-clause-on_path c =
     let chain = c.args.chain.now in
     let so_far = c.loop-distance.invariant in
     let near : c.loop-distance.distance < size_of chain.shape c.args.rung.g = search rules in
-    let at : path_slot chain.shape c.args.rung.g (key_of_call c.args.call.now) c.loop-distance.distance
-    ≡ c.path_slot-i.result =
-    ap (λ k. path_slot chain.shape c.args.rung.g k c.loop-distance.distance) (sym c.key-key.ensures)
-    ∙ search rules in
-    on-path chain.shape (seen_by c.args.chain.now.shape c.loop-distance.seat)
-    c.args.rung.g _ _ c.loop-distance.distance (key_of_call c.args.call.now) refl near at so_far.1
+    subst (λ (at : Slot). IsOnPath chain.shape (seen_by chain.shape c.loop-distance.seat) at.g at.i
+    (key_of_call c.args.call.now))
+    (sym (slot-of_path c.shape.ensures c.key-key.ensures c.path-path.ensures c.slot-at.ensures).is)
+    (on-path chain.shape (seen_by chain.shape c.loop-distance.seat)
+    c.args.rung.g _ _ c.loop-distance.distance (key_of_call c.args.call.now) refl near refl so_far.1)
+
+-- ---- at the key's own slot
 
 pub returns-then-eq-clause-made : goal.returns-then-eq-clause-made
 returns-then-eq-clause-made c =
     let chain = c.args.chain.now in
+    let p = chain.shape in
+    let k = key_of_call c.args.call.now in
     let so_far = c.loop-distance.invariant in
     let table = c.requires.at.table in
-    let near : c.loop-distance.distance < size_of chain.shape c.args.rung.g = search rules in
-    let load : Extended c.args.chain.now.shape c.loop-distance.seat c.load_key.new.seat
-    (read c.loop-distance.seat.number c.args.call.now
-    (shown_by_key chain.shape c.args.rung.g c.path_slot-i.result (Claimed c.in-Claimed.other)
-    (key_of_call c.args.call.now))) 1
-    = subst (λ s. Extended c.args.chain.now.shape c.loop-distance.seat c.load_key.new.seat
-    (read c.loop-distance.seat.number c.args.call.now
-    (shown_by_key chain.shape c.args.rung.g c.path_slot-i.result s (key_of_call c.args.call.now)))
-    1) c.in-Claimed.is c.load_key.ensures.grows in
-    let none = shown-own chain.shape c.args.rung.g c.path_slot-i.result (key_of_call c.args.call.now)
+    let near : c.loop-distance.distance < size_of p c.args.rung.g = search rules in
+    let none = shown-own p c.args.rung.g (path_slot p c.args.rung.g k c.loop-distance.distance) k
     c.key-key.result c.in-Claimed.other (sym c.key-key.ensures) c.if-eq.ensures in
     made-within (c.loop-distance.distance + 1 - c.args.rung.from)
-    (size_of chain.shape c.args.rung.g - c.args.rung.from) (omega (arith, near))
+    (size_of p c.args.rung.g - c.args.rung.from) (omega (arith, near))
     (walked chain c.args.rung.g table c.loop-distance.distance c.args.rung.from None near
     c.loop-distance.auto.distance
     c.requires.at.own so_far.0
-    (subst (λ shown. Extended c.args.chain.now.shape c.loop-distance.seat c.load_key.new.seat
-    (read c.loop-distance.seat.number c.args.call.now shown) 1) none load))
+    (subst (λ shown. Extended p c.loop-distance.seat c.load_key_word_at.new.seat
+    (read c.loop-distance.seat.number c.args.call.now shown) 1) none
+    (load (goal.at.returns-then-eq-clause-made c).After-state (Claimed c.in-Claimed.other)
+    c.in-Claimed.is)))
+
+pub returns-then-eq-clause-ends : goal.returns-then-eq-clause-ends
+returns-then-eq-clause-ends c =
+    let p = c.args.chain.now.shape in
+    let g = c.args.rung.g in
+    let k = key_of_call c.args.call.now in
+    let there = (goal.at.returns-then-eq-clause-ends c).After-state in
+    let is = place there in
+    let same : c.in-Claimed.other ≡ k = eqb-true _ _ (sym c.if-eq.ensures) ∙ c.key-key.ensures in
+    subst (λ (at : Slot). IsSlotOf p (seen_by p c.load_key_word_at.new.seat) g at.i k) (sym is) (
+      mod-lt (k + c.loop-distance.distance) (pow_pos _),
+      found there (Claimed c.in-Claimed.other) c.in-Claimed.is ∙ ap Claimed same,
+    )
+
+-- ---- at an empty one
 
 pub returns-in-Empty-clause-made : goal.returns-in-Empty-clause-made
 returns-in-Empty-clause-made c =
     let chain = c.args.chain.now in
-    let so_far = c.loop-distance.invariant in
-    let table = c.requires.at.table in
     let near : c.loop-distance.distance < size_of chain.shape c.args.rung.g = search rules in
-    let load : Extended c.args.chain.now.shape c.loop-distance.seat c.load_key.new.seat
-    (read c.loop-distance.seat.number c.args.call.now
-    (shown_by_key chain.shape c.args.rung.g c.path_slot-i.result Empty
-    (key_of_call c.args.call.now))) 1
-    = subst (λ s. Extended c.args.chain.now.shape c.loop-distance.seat c.load_key.new.seat
-    (read c.loop-distance.seat.number c.args.call.now
-    (shown_by_key chain.shape c.args.rung.g c.path_slot-i.result s (key_of_call c.args.call.now)))
-    1) c.in-Empty.is c.load_key.ensures.grows in
-    walked chain c.args.rung.g table c.loop-distance.distance c.args.rung.from (Some None)
-    near c.loop-distance.auto.distance
-    c.requires.at.own so_far.0 load
+    walked chain c.args.rung.g c.requires.at.table c.loop-distance.distance c.args.rung.from
+    (Some None) near c.loop-distance.auto.distance
+    c.requires.at.own c.loop-distance.invariant.0
+    (load (goal.at.returns-in-Empty-clause-made c).After-state Empty c.in-Empty.is)
+
+-- what is known of the path after the load
+still :
+    (c : After-state)
+    → AreOthers c.args.chain.now.shape
+    (seen_by c.args.chain.now.shape c.load_key_word_at.new.seat) c.args.rung.g
+    (key_of_call c.args.call.now) c.loop-distance.distance
+still c =
+    let chain = c.args.chain.now in
+    let so_far = c.loop-distance.invariant in
+    (steps_add_up.stays (made-own chain c.requires.at.own so_far.0)
+    (steps_add_up.one c.load_key_word_at.ensures.grows)).others
+    c.args.rung.g (key_of_call c.args.call.now) c.loop-distance.distance c.requires.at.table
+    so_far.1
 
 pub returns-in-Empty-clause-ends : goal.returns-in-Empty-clause-ends
 returns-in-Empty-clause-ends c =
-    let chain = c.args.chain.now in
-    let so_far = c.loop-distance.invariant in
-    let table = c.requires.at.table in
-    let near : c.loop-distance.distance < size_of chain.shape c.args.rung.g = search rules in
-    let at : path_slot chain.shape c.args.rung.g (key_of_call c.args.call.now) c.loop-distance.distance
-    ≡ c.path_slot-i.result =
-    ap (λ k. path_slot chain.shape c.args.rung.g k c.loop-distance.distance) (sym c.key-key.ensures)
-    ∙ search rules in
-    let own = made-own chain c.requires.at.own so_far.0 in
-    let lasting = steps_add_up.stays own (steps_add_up.one c.load_key.ensures.grows) in (
-      near,
-      lasting.others c.args.rung.g (key_of_call c.args.call.now) c.loop-distance.distance table so_far.1,
-      ap ((seen_by c.args.chain.now.shape c.load_key.new.seat).key c.args.rung.g) at
-          ∙ c.load_key.ensures.found ∙ c.in-Empty.is,
-    )
+    let there = (goal.at.returns-in-Empty-clause-ends c).After-state in
+    let near : c.loop-distance.distance < size_of c.args.chain.now.shape c.args.rung.g
+    = search rules in
+    (near, still there, found there Empty c.in-Empty.is)
+
+-- ---- at a closed one
 
 pub returns-in-Dead-clause-made : goal.returns-in-Dead-clause-made
 returns-in-Dead-clause-made c =
     let chain = c.args.chain.now in
-    let so_far = c.loop-distance.invariant in
-    let table = c.requires.at.table in
     let near : c.loop-distance.distance < size_of chain.shape c.args.rung.g = search rules in
-    let load : Extended c.args.chain.now.shape c.loop-distance.seat c.load_key.new.seat
-    (read c.loop-distance.seat.number c.args.call.now
-    (shown_by_key chain.shape c.args.rung.g c.path_slot-i.result Dead (key_of_call c.args.call.now)))
-    1
-    = subst (λ s. Extended c.args.chain.now.shape c.loop-distance.seat c.load_key.new.seat
-    (read c.loop-distance.seat.number c.args.call.now
-    (shown_by_key chain.shape c.args.rung.g c.path_slot-i.result s (key_of_call c.args.call.now)))
-    1) c.in-Dead.is c.load_key.ensures.grows in
     made-within (c.loop-distance.distance + 1 - c.args.rung.from)
     (size_of chain.shape c.args.rung.g - c.args.rung.from) (omega (arith, near))
-    (walked chain c.args.rung.g table c.loop-distance.distance c.args.rung.from None near
-    c.loop-distance.auto.distance
-    c.requires.at.own so_far.0 load)
+    (walked chain c.args.rung.g c.requires.at.table c.loop-distance.distance c.args.rung.from None
+    near c.loop-distance.auto.distance
+    c.requires.at.own c.loop-distance.invariant.0
+    (load (goal.at.returns-in-Dead-clause-made c).After-state Dead c.in-Dead.is))
 
 pub returns-in-Dead-clause-ends : goal.returns-in-Dead-clause-ends
 returns-in-Dead-clause-ends c =
     let chain = c.args.chain.now in
-    let so_far = c.loop-distance.invariant in
-    let table = c.requires.at.table in
-    let near : c.loop-distance.distance < size_of chain.shape c.args.rung.g = search rules in
-    let at : path_slot chain.shape c.args.rung.g (key_of_call c.args.call.now) c.loop-distance.distance
-    ≡ c.path_slot-i.result =
-    ap (λ k. path_slot chain.shape c.args.rung.g k c.loop-distance.distance) (sym c.key-key.ensures)
-    ∙ search rules in
-    let own = made-own chain c.requires.at.own so_far.0 in
-    let lasting = steps_add_up.stays own (steps_add_up.one c.load_key.ensures.grows) in
-    let is : (seen_by c.args.chain.now.shape c.load_key.new.seat).key c.args.rung.g
-    (path_slot chain.shape c.args.rung.g (key_of_call c.args.call.now) c.loop-distance.distance) ≡ Dead
-    = ap ((seen_by c.args.chain.now.shape c.load_key.new.seat).key c.args.rung.g) at
-    ∙ c.load_key.ensures.found ∙ c.in-Dead.is in
-    let in_table : c.path_slot-i.result < size_of chain.shape c.args.rung.g = search rules in (
-      (
-        c.loop-distance.distance,
-        near,
-        lasting.others c.args.rung.g (key_of_call c.args.call.now) c.loop-distance.distance
-            table so_far.1,
-        is,
-      ),
-      dead-next chain c.load_key.new.seat
-          (steps_add_up.own own (steps_add_up.one c.load_key.ensures.grows))
-          c.args.rung.g c.path_slot-i.result (table, in_table) (c.load_key.ensures.found ∙ c.in-Dead.is),
+    let p = chain.shape in
+    let g = c.args.rung.g in
+    let k = key_of_call c.args.call.now in
+    let there = (goal.at.returns-in-Dead-clause-ends c).After-state in
+    let near : c.loop-distance.distance < size_of p g = search rules in
+    let own = made-own chain c.requires.at.own c.loop-distance.invariant.0 in
+    let is = found there Dead c.in-Dead.is in (
+      (c.loop-distance.distance, near, still there, is),
+      dead-next chain c.load_key_word_at.new.seat
+          (steps_add_up.own own (steps_add_up.one c.load_key_word_at.ensures.grows))
+          g (path_slot p g k c.loop-distance.distance)
+          (c.requires.at.table, mod-lt (k + c.loop-distance.distance) (pow_pos _)) is,
     )
+
+-- ---- behind another key's
 
 pub loop-distance-preserved : goal.loop-distance-preserved
 loop-distance-preserved c =
     let chain = c.args.chain.now in
+    let p = chain.shape in
+    let g = c.args.rung.g in
+    let k = key_of_call c.args.call.now in
     let so_far = c.loop-distance.invariant in
     let table = c.requires.at.table in
-    let near : c.loop-distance.distance < size_of chain.shape c.args.rung.g = search rules in
-    let at : path_slot chain.shape c.args.rung.g (key_of_call c.args.call.now) c.loop-distance.distance
-    ≡ c.path_slot-i.result =
-    ap (λ k. path_slot chain.shape c.args.rung.g k c.loop-distance.distance) (sym c.key-key.ensures)
-    ∙ search rules in
+    let there = (goal.at.loop-distance-preserved c).After-state in
+    let near : c.loop-distance.distance < size_of p g = search rules in
     let own = made-own chain c.requires.at.own so_far.0 in
-    let load : Extended c.args.chain.now.shape c.loop-distance.seat c.load_key.new.seat
-    (read c.loop-distance.seat.number c.args.call.now
-    (shown_by_key chain.shape c.args.rung.g c.path_slot-i.result (Claimed c.in-Claimed.other)
-    (key_of_call c.args.call.now))) 1
-    = subst (λ s. Extended c.args.chain.now.shape c.loop-distance.seat c.load_key.new.seat
-    (read c.loop-distance.seat.number c.args.call.now
-    (shown_by_key chain.shape c.args.rung.g c.path_slot-i.result s (key_of_call c.args.call.now)))
-    1) c.in-Claimed.is c.load_key.ensures.grows in
-    let differs : c.in-Claimed.other ≢ key_of_call c.args.call.now =
+    let differs : c.in-Claimed.other ≢ k =
     (λ same. eqb-false c.in-Claimed.other c.key-key.result (sym c.eq.ensures ∙ c.if-eq.false)
     (same ∙ sym c.key-key.ensures)) in
-    let lasting = steps_add_up.stays own (steps_add_up.one c.load_key.ensures.grows) in (
-      walked-on chain c.args.rung.g table c.loop-distance.distance c.args.rung.from c.path_slot-i.result
-          (key_of_call c.args.call.now)
-          c.in-Claimed.other near c.loop-distance.auto.distance c.requires.at.own refl at
-          differs so_far.0 load,
-      others-more chain.shape _ _ lasting c.args.rung.g (key_of_call c.args.call.now) c.loop-distance.distance _
-          c.in-Claimed.other table so_far.1 at
-          (c.load_key.ensures.found ∙ c.in-Claimed.is) differs,
+    let lasting = steps_add_up.stays own (steps_add_up.one c.load_key_word_at.ensures.grows) in (
+      walked-on chain g table c.loop-distance.distance c.args.rung.from
+          (path_slot p g k c.loop-distance.distance) k
+          c.in-Claimed.other near c.loop-distance.auto.distance c.requires.at.own refl refl
+          differs so_far.0 (load there (Claimed c.in-Claimed.other) c.in-Claimed.is),
+      others-more p _ _ lasting g k c.loop-distance.distance _
+          c.in-Claimed.other table so_far.1 refl
+          (found there (Claimed c.in-Claimed.other) c.in-Claimed.is) differs,
     )
 
 pub returns-clause-made : goal.returns-clause-made

@@ -8,7 +8,7 @@ use Rattle.nb_map.proofs.steps.search.probe.Given as goal
 
 abbrev pub invariant-loop-distance : goal.invariant-loop-distance
 invariant-loop-distance l =
-    HasMade l.chain.shape l.call l.fn.seat l.seat (read_up_to l.chain.shape l.rung.g l.call l.distance)
-    (l.distance - l.rung.from)
-    × AreOthers l.chain.shape (seen_by l.chain.shape l.seat) l.rung.g (key_of_call l.call)
+    HasMade l.chain.shape l.call l.fn.seat l.seat (read_up_to l.chain.shape l.fn.rung.g l.call l.distance)
+    (l.distance - l.fn.rung.from)
+    × AreOthers l.chain.shape (seen_by l.chain.shape l.seat) l.fn.rung.g (key_of_call l.call)
     l.distance

@@ -12,8 +12,8 @@ use Rattle.nb_table.proofs.Theorems.{steps_add_up}
 
 pub loop-number-init : goal.loop-number-init
 loop-number-init g c = record {
-  tried = tried-first c.args.chain.now c.args.slot c.load_value_word-from.result c.args.tries.now
-      c.load_value_word-from.ensures.grows c.load_value_word-from.ensures.found;
+  tried = tried-first c.args.chain.now c.args.slot c.load_value_word_at-from.result c.args.tries.now
+      c.load_value_word_at-from.ensures.grows c.load_value_word_at-from.ensures.found;
   some = c.requires.some;
   serves = c.requires.serves;
 }
@@ -46,7 +46,7 @@ returns-in-Overflow g c =
       visit = (
         refused.1 _
             (shown-decided chain c.loop-number.seat here.own c.args.slot.g c.args.slot.i
-            (key_of_call c.args.call.now) here.slot here.reached here.claimed _ c.in-Some.number
+            (key_of_call c.args.call.now) here.slot.slot here.reached here.claimed _ c.in-Some.number
             tried.held tried.shows),
         no-read c.args.call.now c.in-Some.number refused.0,
       );
@@ -59,8 +59,8 @@ returns-in-Overflow g c =
 pub before_exchange-requires : goal.before_exchange-requires
 before_exchange-requires g c = record { serves = c.loop-number.invariant.serves }
 
-pub win_value-requires : goal.win_value-requires
-win_value-requires g c =
+pub win_value_at-requires : goal.win_value_at-requires
+win_value_at-requires g c =
     let tried = tried-as (sym c.shows.ensures ∙ c.in-Some.is) c.loop-number.invariant.tried in
     let here = slot-stays c.args.chain.now c.requires.at tried.made in
     let value = shown-some _ c.in-Some.number tried.shows in
@@ -75,12 +75,12 @@ win_value-requires g c =
       exchange = decided.2 _ value.0 value.1;
     }
 
-pub returns-in_default-win_value : goal.returns-in_default-win_value
-returns-in_default-win_value g c =
+pub returns-in_default-win_value_at : goal.returns-in_default-win_value_at
+returns-in_default-win_value_at g c =
     let tried = tried-as (sym c.shows.ensures ∙ c.in-Some.is) c.loop-number.invariant.tried in
     let decided = subst (IsDecided c.args.call.now c.in-Some.number) c.in-Exchange.is
     c.decide.ensures in
-    let won = (on-ok c.win_value.result c.in_default-win_value.not-Err c.win_value.ensures.won).0 in
+    let won = (on-ok c.win_value_at.result c.in_default-win_value_at.not-Err c.win_value_at.ensures.won).0 in
     record {
       made = made-within _ _ (omega arith)
           (tried-won c.args.chain.now c.requires.at tried decided.0 won);
@@ -94,7 +94,7 @@ returns-in_default-win_value g c =
 -- what was tried then
 lost :
     (g : Over) (c : In-Some-shows g)
-    → HasTried c.args.chain.now.shape c.args.call.now c.args.seat.now c.win_value.new.seat
+    → HasTried c.args.chain.now.shape c.args.call.now c.args.seat.now c.win_value_at.new.seat
     c.args.slot c.args.tries.now (c.loop-number.tries - 1) c.in-Err.found (Some c.in-Some-shows.shown)
 lost g c =
     let tried = tried-as (sym c.shows.ensures ∙ c.in-Some.is) c.loop-number.invariant.tried in
@@ -157,7 +157,7 @@ pass_slot-requires g c =
     let here = slot-stays c.args.chain.now c.requires.at tried.made in
     record {
       own = here.own;
-      slot = here.slot;
+      slot = here.slot.slot;
       primed = shown-none _ none;
       held = tried.held;
     }

@@ -39,7 +39,7 @@ get_at-requires c =
     record {
       at = record {
         own = own;
-        slot = (c.requires.table, search rules);
+        slot = record { slot = (c.requires.table, search rules); value = search rules };
         claimed = place.is;
         reached = first.1;
       };

@@ -15,21 +15,21 @@ pub returns-then-has_next-clause-made : goal.returns-then-has_next-clause-made
 returns-then-has_next-clause-made c =
     made-within 1 2 (omega arith) (c.has_next.ensures.made c.args.call.now)
 
-pub claim_key-requires-clause-own : goal.claim_key-requires-clause-own
-claim_key-requires-clause-own c =
+pub claim_key_at-requires-clause-own : goal.claim_key_at-requires-clause-own
+claim_key_at-requires-clause-own c =
     made-own c.args.chain.now c.requires.home.own (c.has_next.ensures.made c.args.call.now)
 
-pub claim_key-requires-clause-installed : goal.claim_key-requires-clause-installed
-claim_key-requires-clause-installed c =
+pub claim_key_at-requires-clause-installed : goal.claim_key_at-requires-clause-installed
+claim_key_at-requires-clause-installed c =
     (made-stays c.args.chain.now c.requires.home.own (c.has_next.ensures.made c.args.call.now)).installed
     c.args.home.g c.requires.home.installed
 
-pub claim_key-requires-clause-way : goal.claim_key-requires-clause-way
-claim_key-requires-clause-way c =
+pub claim_key_at-requires-clause-way : goal.claim_key_at-requires-clause-way
+claim_key_at-requires-clause-way c =
     let chain = c.args.chain.now in
     let p = chain.shape in
     let g = c.args.home.g in
-    let table = c.requires.home.slot.0 in
+    let table = c.requires.home.slot.slot.0 in
     let seen = seen_by p c.has_next.new.seat in
     let lasting = made-stays chain c.requires.home.own (c.has_next.ensures.made c.args.call.now) in
     let limit = limits_fit p c.requires.home.own.plan g table in
@@ -44,22 +44,22 @@ returns-in-Empty-clause-made c =
     made-more c.args.chain.now c.requires.home.own (c.has_next.ensures.made call)
     (made-claim c.args.chain.now call c.key.result c.args.home.g c.args.home.i (sym c.key.ensures)
     c.requires.fills
-    c.requires.home.slot.0 (c.has_next.ensures.none c.if-has_next.false)
-    (c.claim_key.ensures.won c.in-Empty.is).0)
+    c.requires.home.slot.slot.0 (c.has_next.ensures.none c.if-has_next.false)
+    (c.claim_key_at.ensures.won c.in-Empty.is).0)
 
 pub returns-in-Dead-clause-made : goal.returns-in-Dead-clause-made
 returns-in-Dead-clause-made c =
     let call = c.args.call.now in
     made-more c.args.chain.now c.requires.home.own (c.has_next.ensures.made call)
     (made-quiet c.args.chain.now.shape call
-    (c.claim_key.ensures.lost (dead-empty c.claim_key.result c.in-Dead.is)).0)
+    (c.claim_key_at.ensures.lost (dead-empty c.claim_key_at.result c.in-Dead.is)).0)
 
 pub returns-in-Claimed-clause-made : goal.returns-in-Claimed-clause-made
 returns-in-Claimed-clause-made c =
     let call = c.args.call.now in
     made-more c.args.chain.now c.requires.home.own (c.has_next.ensures.made call)
     (made-quiet c.args.chain.now.shape call
-    (c.claim_key.ensures.lost (claimed-empty c.claim_key.result c.in-Claimed.other
+    (c.claim_key_at.ensures.lost (claimed-empty c.claim_key_at.result c.in-Claimed.other
     c.in-Claimed.is)).0)
 
 -- ---- where the key hasn't the slot
@@ -71,17 +71,17 @@ returns-then-has_next-clause-away c lost last home =
 pub returns-in-Dead-clause-away : goal.returns-in-Dead-clause-away
 returns-in-Dead-clause-away c lost last home =
     let p = c.args.chain.now.shape in
-    let seen = seen_by p c.claim_key.new.seat in
-    let word = (c.claim_key.ensures.lost (dead-empty c.claim_key.result c.in-Dead.is)).1 in
+    let seen = seen_by p c.claim_key_at.new.seat in
+    let word = (c.claim_key_at.ensures.lost (dead-empty c.claim_key_at.result c.in-Dead.is)).1 in
     dead-away p seen c.args.home.g (key_of_call c.args.call.now)
     (ap (seen.key c.args.home.g) c.requires.home.is ∙ word ∙ c.in-Dead.is) home
 
 pub returns-in-Claimed-clause-away : goal.returns-in-Claimed-clause-away
 returns-in-Claimed-clause-away c lost last home =
     let p = c.args.chain.now.shape in
-    let seen = seen_by p c.claim_key.new.seat in
-    let word = (c.claim_key.ensures.lost
-    (claimed-empty c.claim_key.result c.in-Claimed.other c.in-Claimed.is)).1 in
+    let seen = seen_by p c.claim_key_at.new.seat in
+    let word = (c.claim_key_at.ensures.lost
+    (claimed-empty c.claim_key_at.result c.in-Claimed.other c.in-Claimed.is)).1 in
     other-away p seen c.args.home.g (key_of_call c.args.call.now) c.in-Claimed.other
     (ap (seen.key c.args.home.g) c.requires.home.is ∙ word ∙ c.in-Claimed.is)
     (λ same. eqb-false c.in-Claimed.other c.key-in-Claimed.result (sym c.eq.ensures ∙ lost)

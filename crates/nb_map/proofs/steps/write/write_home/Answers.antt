@@ -1,15 +1,18 @@
 use Rattle.std.proofs.Common.{◌≡◌, ◌∙◌, ◌+◌, ◌<◌, ◌≤◌, ℕ, IsTrue, cond, List, [], ◌∷◌, None, Some, Result, ap, refl, subst, sym, arith, rules}
 use Rattle.nb_core.specs.Calls.{Fills}
 use Rattle.nb_core.specs.History.{key_of_call}
-use Rattle.nb_core.specs.Tables.{path_slot}
+use Rattle.nb_core.specs.Paths.{IsOnPathAt}
+use Rattle.nb_core.specs.Tables.{IsInstalled, IsPassed, IsReady, path_slot}
 use Rattle.nb_core.specs.declared.calls.Call.{Call}
 use Rattle.nb_core.specs.declared.calls.Reply.{Reply}
+use Rattle.nb_core.specs.declared.slot_paths.Slot.{Slot}
 use Rattle.nb_core.specs.declared.states.KeyState.TheVariants.{Empty}
-use Rattle.nb_table.specs.Chains.{Extended, SeenBy}
+use Rattle.nb_table.specs.Chains.{Extended, SeenBy, seen_by}
 use Rattle.nb_table.specs.Events.{read, shown_by_key}
 use Rattle.nb_map.specs.Logs.{as_replied}
 use Rattle.nb_map.specs.Calling.{HasMade}
-use Rattle.nb_map.specs.Progress.{IsAloneAtHome, IsKnownHome}
+use Rattle.nb_map.specs.Progress.{IsAloneAtHome, IsAtHome, IsKnownHome, IsLastSeen}
+use Rattle.nb_map.specs.Steps.{pass_steps}
 use Rattle.nb_map.specs.declared.faults.PutFault.{PutFault}
 use Rattle.nb_map.specs.inside.Climbing.{rung_at}
 use Rattle.nb_map.specs.inside.Writing.{IsDecided, IsShortThere}
@@ -17,7 +20,8 @@ use Rattle.nb_map.proofs.HomeSlot.{made-look, own-slot}
 use Rattle.nb_map.proofs.Tried.{acts-unless}
 use Rattle.nb_map.proofs.Home.{passed-away}
 use Rattle.nb_map.proofs.Made.{made-none, made-read, made-within}
-use Rattle.nb_map.proofs.Rungs.{at-slot, at-stays}
+use Rattle.nb_map.proofs.OnPath.{at-home, found-on_path, home-on_path, home-reached, load-on_path, slot-is, slot-of_path}
+use Rattle.nb_map.proofs.Rungs.{at-stays}
 use Rattle.nb_map.proofs.Searched.{made-then}
 use Rattle.nb_map.proofs.Spent.{passed-sum, refused-longer, spent-none, spent-sooner}
 use Rattle.nb_map.proofs.steps.write.write_home.Given.{Over}
@@ -27,6 +31,22 @@ use Rattle.nb_table.proofs.Theorems.{steps_add_up}
 
 -- ---- the look at the home slot
 
+pub load_key_word_at-word-requires-clause-slot : goal.load_key_word_at-word-requires-clause-slot
+load_key_word_at-word-requires-clause-slot g c =
+    (slot-of_path c.shape.ensures c.key.ensures c.path.ensures c.slot-home.ensures).placed
+
+pub load_key_word_at-word-requires-clause-reached :
+    goal.load_key_word_at-word-requires-clause-reached
+load_key_word_at-word-requires-clause-reached g c =
+    home-reached c.args.chain.now c.requires.at
+    (slot-of_path c.shape.ensures c.key.ensures c.path.ensures c.slot-home.ensures)
+
+pub load_key_word_at-word-requires-clause-on_path :
+    goal.load_key_word_at-word-requires-clause-on_path
+load_key_word_at-word-requires-clause-on_path g c =
+    home-on_path c.args.chain.now c.requires.at
+    (slot-of_path c.shape.ensures c.key.ensures c.path.ensures c.slot-home.ensures)
+
 pub returns-in-Leave : goal.returns-in-Leave
 returns-in-Leave g c =
     let p = c.args.chain.now.shape in
@@ -34,18 +54,21 @@ returns-in-Leave g c =
     let old = c.args.seat.now in
     let left = subst (IsDecided call None) c.in-Leave.is c.decide.ensures in
     let empty = c.is_empty.ensures.yes c.if-is_empty.true in
-    let load = (steps_add_up.one c.load_key_word-word.ensures.grows).steps in
+    let load = (steps_add_up.one c.load_key_word_at-word.ensures.grows).steps in
+    let home = path_slot p c.args.top (key_of_call call) 0 in
+    let shown = load-on_path call c.load_key_word_at-word.result
+    (slot-of_path c.shape.ensures c.key.ensures c.path.ensures c.slot-home.ensures)
+    c.load_key_word_at-word.ensures.grows in
     record {
       made = made-within 1 _ (omega arith)
-          (subst (λ made. HasMade p call old c.load_key_word-word.new.seat made 1)
+          (subst (λ made. HasMade p call old c.load_key_word_at-word.new.seat made 1)
           (ap (λ b. cond b (as_replied call None) []) left.0
           ∙ ap (λ r. (call, r) ∷ []) (sym left.1))
           (made-read p call (Some None)
-          (subst (λ s. Extended p old c.load_key_word-word.new.seat (read old.number call
-          (shown_by_key p c.args.top c.path_slot-i.result s (key_of_call call))) 1) empty
-          c.load_key_word-word.ensures.grows)));
+          (subst (λ s. Extended p old c.load_key_word_at-word.new.seat (read old.number call
+          (shown_by_key p c.args.top home s (key_of_call call))) 1) empty shown)));
       told = tt;
-      spent = spent-none call old c.load_key_word-word.new.seat c.args.tries.now;
+      spent = spent-none call old c.load_key_word_at-word.new.seat c.args.tries.now;
       looked = omega (arith, load);
       short = record {
         known = λ alone known. (refl, omega (arith, load));
@@ -55,45 +78,68 @@ returns-in-Leave g c =
     }
 
 -- the slot's place on the path
-pub home-is :
-    (g : Over) (c : After-has_home g) → path_slot c.args.chain.now.shape c.args.top
-    (key_of_call c.args.call.now) 0 ≡ c.path_slot-i.result
-home-is g c =
-    ap (λ k. path_slot c.args.chain.now.shape c.args.top k 0) (sym c.key.ensures)
-    ∙ search rules
+place :
+    (g : Over) (c : After-has_home g)
+    → IsOnPathAt c.args.chain.now.shape c.args.top (key_of_call c.args.call.now) 0 c.slot-home.result
+place g c = slot-of_path c.shape.ensures c.key.ensures c.path.ensures c.slot-home.ensures
 
 pub has_home-requires-clause-home : goal.has_home-requires-clause-home
 has_home-requires-clause-home g c =
-    let load = steps_add_up.one c.load_key_word-word.ensures.grows in
+    let p = c.args.chain.now.shape in
+    let seen = seen_by p c.load_key_word_at-word.new.seat in
+    let load = steps_add_up.one c.load_key_word_at-word.ensures.grows in
     let lasting = steps_add_up.stays c.requires.at.own load in
     let table = c.requires.at.table in
+    let place : IsOnPathAt p c.args.top (key_of_call c.args.call.now) 0 c.slot-home.result =
+    slot-of_path c.shape.ensures c.key.ensures c.path.ensures c.slot-home.ensures in
     record {
       own = steps_add_up.own c.requires.at.own load;
-      slot = (table, search rules);
-      is = ap (λ k. path_slot c.args.chain.now.shape c.args.top k 0) (sym c.key.ensures)
-          ∙ search rules;
-      installed = lasting.installed c.args.top c.requires.at.reached.installed;
-      ready = lasting.ready c.args.top table c.requires.at.known;
+      slot = place.placed;
+      is = slot-is place;
+      installed = subst (λ (home : Slot). IsInstalled seen home.g) (sym place.is)
+          (lasting.installed c.args.top c.requires.at.reached.installed);
+      ready = subst (λ (home : Slot). IsReady p seen home.g) (sym place.is)
+          (lasting.ready c.args.top table c.requires.at.known);
     }
 
 -- ---- the slot is the key's, or is claimed for it
 
 fills :
-    (g : Over) (c : After-has_home g) → c.load_key_word-word.result ≡ Empty → Fills c.args.call.now
+    (g : Over) (c : After-has_home g) → c.load_key_word_at-word.result ≡ Empty → Fills c.args.call.now
 fills g c empty = elim c.if-is_empty.branch [
   | then-is_empty+in_default w ↦
       acts-unless c.args.call.now None w.decide.result w.decide.ensures w.in_default.not-Leave
   | else-is_empty w ↦ absurd (c.is_empty.ensures.no w.if-is_empty.false empty)
 ]
 
+abbrev home : (g : Over) (c : After-has_home g) → ℕ
+home g c = path_slot c.args.chain.now.shape c.args.top (key_of_call c.args.call.now) 0
+
+-- what the load showed
+shown :
+    (g : Over) (c : After-has_home g)
+    → Extended c.args.chain.now.shape c.args.seat.now c.load_key_word_at-word.new.seat
+    (read c.args.seat.now.number c.args.call.now (shown_by_key c.args.chain.now.shape c.args.top
+    (home g c) c.load_key_word_at-word.result (key_of_call c.args.call.now))) 1
+shown g c =
+    load-on_path c.args.call.now c.load_key_word_at-word.result (place g c)
+    c.load_key_word_at-word.ensures.grows
+
+found :
+    (g : Over) (c : After-has_home g)
+    → (seen_by c.args.chain.now.shape c.load_key_word_at-word.new.seat).key c.args.top (home g c)
+    ≡ c.load_key_word_at-word.result
+found g c =
+    found-on_path (seen_by c.args.chain.now.shape c.load_key_word_at-word.new.seat)
+    c.load_key_word_at-word.result (place g c) c.load_key_word_at-word.ensures.found
+
 -- up to there, no call was made
 looked :
     (g : Over) (c : After-has_home g)
     → HasMade c.args.chain.now.shape c.args.call.now c.args.seat.now c.has_home.new.seat [] 3
 looked g c =
-    made-look c.args.chain.now (rung_at c.args.top) c.path_slot-i.result c.load_key_word-word.result
-    c.requires.at (home-is g c) c.load_key_word-word.ensures.grows
-    c.load_key_word-word.ensures.found (fills g c) c.has_home.ensures.made
+    made-look c.args.chain.now (rung_at c.args.top) (home g c) c.load_key_word_at-word.result
+    c.requires.at refl (shown g c) (found g c) (fills g c) c.has_home.ensures.made
 
 -- and one step was made at least
 looked-on :
@@ -103,7 +149,7 @@ looked-on :
 looked-on g c made =
     omega (
       arith,
-      (steps_add_up.one c.load_key_word-word.ensures.grows).steps,
+      (steps_add_up.one c.load_key_word_at-word.ensures.grows).steps,
       c.has_home.ensures.made.grown.steps,
       made.grown.steps,
     )
@@ -116,12 +162,12 @@ one-step :
     → IsKnownHome c.args.chain.now.shape c.args.top c.args.call.now c.args.seat.now
     → IsTrue c.has_home.result × (c.has_home.new.seat.steps ≤ c.args.seat.now.steps + 1)
 one-step g c made alone known =
-    let word = own-slot c.args.chain.now (rung_at c.args.top) c.path_slot-i.result
-    c.load_key_word-word.result c.requires.at (home-is g c) c.load_key_word-word.ensures.grows
-    c.load_key_word-word.ensures.found (fills g c) c.has_home.ensures.made made alone known in
+    let word = own-slot c.args.chain.now (rung_at c.args.top) (home g c)
+    c.load_key_word_at-word.result c.requires.at refl (shown g c) (found g c) (fills g c)
+    c.has_home.ensures.made made alone known in
     let kept = c.has_home.ensures.kept word in
-    let load = (steps_add_up.one c.load_key_word-word.ensures.grows).steps in
-    let same : c.has_home.new.seat.steps ≡ c.load_key_word-word.new.seat.steps =
+    let load = (steps_add_up.one c.load_key_word_at-word.ensures.grows).steps in
+    let same : c.has_home.new.seat.steps ≡ c.load_key_word_at-word.new.seat.steps =
     ap (λ (s : SeenBy). s.steps) kept.1 in
     (kept.0, omega (arith, load, same))
 
@@ -174,7 +220,7 @@ returns-then-not-has_home-clause-spent g c =
 
 pub returns-then-not-has_home-clause-looked : goal.returns-then-not-has_home-clause-looked
 returns-then-not-has_home-clause-looked g c =
-    let load = (steps_add_up.one c.load_key_word-word.ensures.grows).steps in
+    let load = (steps_add_up.one c.load_key_word_at-word.ensures.grows).steps in
     omega (arith, load, c.has_home.ensures.made.grown.steps)
 
 pub returns-then-not-has_home-clause-short : goal.returns-then-not-has_home-clause-short
@@ -183,7 +229,11 @@ returns-then-not-has_home-clause-short g c =
     let chain = c.args.chain.now in
     let own = (at-stays chain c.requires.at (looked g there)).own in
     let not = c.if-not-has_home.true in
-    let none = c.has_home.ensures.away (search (rules, not)) in
+    let p = chain.shape in
+    let seat = c.has_home.new.seat in
+    let none = subst (λ (home : Slot). IsLastSeen p home.g seat
+    → IsAtHome p (seen_by p seat) home.g (key_of_call c.args.call.now) → ⊥) (place g there).is
+    (c.has_home.ensures.away (search (rules, not))) in
     record {
       known = λ alone known.
           let had = (one-step g there (made-none chain c.args.call.now c.has_home.new.seat own)
@@ -199,7 +249,7 @@ call_at-requires-clause-at g c =
     let there = (goal.at.call_at-requires-clause-at g c).After-has_home in
     let chain = c.args.chain.now in
     let here = at-stays chain c.requires.at (looked g there) in
-    at-slot chain c.path_slot-i.result here (search rules, search rules)
+    at-home chain (place g there) here (c.has_home.ensures.claimed (search rules))
 
 pub returns-in-Told : goal.returns-in-Told
 returns-in-Told g c =
@@ -248,13 +298,19 @@ pub returns-in-Above : goal.returns-in-Above
 returns-in-Above g c =
     let there = (goal.at.returns-in-Above g c).After-has_home in
     let chain = c.args.chain.now in
+    let p = chain.shape in
+    let k = key_of_call c.args.call.now in
     let look = looked g there in
     let visit = c.in-Above.ensures in
     let here = at-stays chain (at-stays chain c.requires.at look) visit.made in
-    let away = passed-away chain c.call_at.new.seat here.own c.args.top
-    (key_of_call c.args.call.now) here.table visit.visit.0.0.0 in
+    let is = (place g there).is in
+    let same = ap (λ (home : Slot). pass_steps p home.g) is in
+    let passed = subst (λ (home : Slot). IsPassed p (seen_by p c.call_at.new.seat) home.g k) is
+    visit.visit.0.0.0 in
+    let away = passed-away chain c.call_at.new.seat here.own c.args.top k here.table passed in
     record {
-      made = made-within _ _ (omega arith) (made-then c.requires.at.own look visit.made);
+      made = made-within _ _ (omega (arith, same))
+          (made-then c.requires.at.own look visit.made);
       told = visit.visit.1;
       spent = spent-sooner look.grown visit.made.grown visit.spent;
       looked = looked-on g there visit.made;

@@ -1,6 +1,6 @@
 use Rattle.std.proofs.Common.{unwrap_or}
 use Rattle.nb_table.proofs.Events.{claim_events}
-use Rattle.nb_table.proofs.chain.Chain.claim_key.Given as goal
+use Rattle.nb_table.proofs.chain.Chain.claim_key_at.Given as goal
 
 abbrev pub ghosts-exchanges : goal.ghosts-exchanges
 ghosts-exchanges a = record {

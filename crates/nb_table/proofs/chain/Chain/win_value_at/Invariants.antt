@@ -2,7 +2,7 @@ use Rattle.std.specs.Prelude.{unwrap_or}
 use Rattle.nb_core.specs.States.{value_in_word}
 use Rattle.nb_core.specs.declared.calls.Call.TheVariants.{Get}
 use Rattle.nb_table.proofs.Events.{win_events}
-use Rattle.nb_table.proofs.chain.Chain.win_value.Given as goal
+use Rattle.nb_table.proofs.chain.Chain.win_value_at.Given as goal
 
 abbrev pub ghosts-exchanges : goal.ghosts-exchanges
 ghosts-exchanges a = record {

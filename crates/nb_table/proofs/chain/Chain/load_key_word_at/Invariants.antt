@@ -1,6 +1,6 @@
 use Rattle.nb_core.specs.States.{key_state}
 use Rattle.nb_table.specs.Events.{reads, shown_by_key}
-use Rattle.nb_table.proofs.chain.Chain.load_key_word.Given as goal
+use Rattle.nb_table.proofs.chain.Chain.load_key_word_at.Given as goal
 
 abbrev pub ghosts-loads : goal.ghosts-loads
 ghosts-loads a = record {
