@@ -1,3 +1,4 @@
+mod Alone
 mod AtHome
 mod Bounds
 mod Claimed
@@ -7,6 +8,7 @@ mod Counted
 mod Crowding
 mod Earlier
 mod Extended
+mod Filled
 mod Glanced
 mod Held
 mod Home
@@ -15,6 +17,7 @@ mod Logged
 mod Look
 mod Made
 mod OneSeat
+mod Opened
 mod Paired
 mod Passed
 mod Passing

@@ -17,4 +17,5 @@ pub mod OneSeat
 pub mod Laws
 pub mod Calling
 pub mod Crowding
+pub mod Opening
 pub mod inside

@@ -5,3 +5,4 @@ pub mod Climbing
 pub mod Reading
 pub mod Writing
 pub mod Walking
+pub mod Filling

@@ -1,7 +1,8 @@
 //! Why writes are refused, and which refusals are part of others, so that `?` takes the one for the
-//! other; and why seats aren't settled.
+//! other; why seats aren't settled; and why a map isn't opened with entries.
 ghost use Rattle.std.specs.Prelude.{◌≡◌};
 
+use nb_core::OutOfMemory;
 use thiserror::Error;
 
 /// Other keys have all slots of the last table, so there is none for this one. The map is
@@ -54,6 +55,27 @@ pub enum SettleFault {
     /// Memory to put the seats together was refused.
     #[error("out of memory")]
     OutOfMemory,
+}
+
+/// Why a map wasn't opened with entries.
+#[derive(Clone, Copy, Debug, PartialEq, Eq, Error)]
+pub enum OpenFault {
+    /// The entries have more keys than the last table of the shape has slots.
+    #[error("the map is full")]
+    Full,
+    /// Memory for the map, or to settle its seats, was refused.
+    #[error("out of memory")]
+    OutOfMemory,
+}
+
+impl From<OutOfMemory> for OpenFault {
+    ghost use Rattle.nb_map.specs.declared.faults.OpenFault.TheVariants.{OutOfMemory};
+
+    ghost from_gives = { λ _ fault. fault ≡ OutOfMemory };
+
+    fn from(_refused: OutOfMemory) -> OpenFault {
+        OpenFault::OutOfMemory
+    }
 }
 
 impl From<Full> for AddFault {

@@ -12,6 +12,7 @@ mod bulk;
 mod compound;
 mod ended;
 mod fullness;
+mod opening;
 mod settling;
 mod trying;
 mod updating;
