@@ -13,6 +13,7 @@ mod Glanced
 mod Held
 mod Home
 mod HomeSlot
+mod Listed
 mod Logged
 mod Look
 mod Made
@@ -21,6 +22,7 @@ mod Opened
 mod Paired
 mod Passed
 mod Passing
+mod Renewed
 mod Replied
 mod Rested
 mod Rounds

@@ -229,7 +229,7 @@ no-win n k (Won s g i a b c r) h all =
     let entry : Entry = record { seat = s; call = c; reply = r } in
     let same : s ≡ n = All-head (λ entry. entry.seat ≡ n) entry (log_of h) all in (
       ap (λ own. (key_of_call c == k) && not own) (eq-eqb s n same)
-      ∙ not-another (key_of_call c == k),
+          ∙ not-another (key_of_call c == k),
       All-tail (λ entry. entry.seat ≡ n) entry (log_of h) all,
     )
 no-win n k (Read s c r) h all =

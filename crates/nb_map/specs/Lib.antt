@@ -18,4 +18,5 @@ pub mod Laws
 pub mod Calling
 pub mod Crowding
 pub mod Opening
+pub mod Renewing
 pub mod inside

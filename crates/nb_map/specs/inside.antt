@@ -6,3 +6,4 @@ pub mod Reading
 pub mod Writing
 pub mod Walking
 pub mod Filling
+pub mod Listing

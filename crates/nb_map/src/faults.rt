@@ -78,6 +78,56 @@ impl From<OutOfMemory> for OpenFault {
     }
 }
 
+/// Why a map wasn't made anew.
+#[derive(Clone, Copy, Debug, PartialEq, Eq, Error)]
+pub enum RenewFault {
+    /// The map has more keys than the last table of the new shape has slots.
+    #[error("the new map is full")]
+    Full,
+    /// Some of the map's seats aren't there.
+    #[error("a seat is missing")]
+    NotAll,
+    /// Memory for the new map, for the entries, or to settle the seats was refused.
+    #[error("out of memory")]
+    OutOfMemory,
+}
+
+impl From<OutOfMemory> for RenewFault {
+    ghost use Rattle.nb_map.specs.declared.faults.RenewFault.TheVariants.{OutOfMemory};
+
+    ghost from_gives = { λ _ fault. fault ≡ OutOfMemory };
+
+    fn from(_refused: OutOfMemory) -> RenewFault {
+        RenewFault::OutOfMemory
+    }
+}
+
+impl From<SettleFault> for RenewFault {
+    ghost use Rattle.nb_map.specs.Renewing.{unsettled};
+
+    ghost from_gives = { λ refusal fault. fault ≡ unsettled refusal };
+
+    fn from(refusal: SettleFault) -> RenewFault {
+        match refusal {
+            SettleFault::NotAll => RenewFault::NotAll,
+            SettleFault::OutOfMemory => RenewFault::OutOfMemory,
+        }
+    }
+}
+
+impl From<OpenFault> for RenewFault {
+    ghost use Rattle.nb_map.specs.Renewing.{unopened};
+
+    ghost from_gives = { λ refusal fault. fault ≡ unopened refusal };
+
+    fn from(refusal: OpenFault) -> RenewFault {
+        match refusal {
+            OpenFault::Full => RenewFault::Full,
+            OpenFault::OutOfMemory => RenewFault::OutOfMemory,
+        }
+    }
+}
+
 impl From<Full> for AddFault {
     ghost use Rattle.nb_map.specs.declared.faults.AddFault.TheVariants.{Full};
 

@@ -10,6 +10,7 @@ mod closing;
 mod compound;
 mod fullness;
 mod opening;
+mod renewing;
 mod settling;
 mod trying;
 mod waiting;
