@@ -1,3 +1,4 @@
+mod Alone
 mod AtHome
 mod Bounds
 mod Claimed
@@ -7,18 +8,22 @@ mod Counted
 mod Crowding
 mod Earlier
 mod Extended
+mod Filled
 mod Glanced
 mod Held
 mod Home
 mod HomeSlot
+mod Listed
 mod Logged
 mod Look
 mod Made
 mod OneSeat
 mod OnPath
+mod Opened
 mod Paired
 mod Passed
 mod Passing
+mod Renewed
 mod Replied
 mod Rested
 mod Rounds

@@ -6,6 +6,7 @@ use Rattle.std.specs.Option.{IfSome}
 use Rattle.std.proofs.Math.IntN.{◌+ℤ◌}
 use Rattle.std.proofs.Math.Nat.{mul-le-mul_right}
 use Rattle.std.proofs.lemmas.Int.{ints}
+use Rattle.std.proofs.lemmas.List.{append-nil}
 use Rattle.std.proofs.lemmas.List.Sums.{sum_by-cons}
 use Rattle.std.proofs.lemmas.List.Elements.{All-cons, All-head, All-nil, All-tail, All-weaker, Contains-append_right}
 use Rattle.nb_core.specs.Calls.{Fills}
@@ -19,13 +20,14 @@ use Rattle.nb_core.specs.declared.events.Event.{Event}
 use Rattle.nb_core.specs.declared.events.Event.TheVariants.{Claim, Install}
 use Rattle.nb_count.specs.Counts.{CountSeatOf}
 use Rattle.nb_table.specs.Chains.{Grown, SeenBy}
-use Rattle.nb_map.specs.Bulk.{Begun, HasSwept, HasSweptAll, Kept, Missed, Unwanted, counted_after, has_changed, read_as, removal_steps}
+use Rattle.nb_map.specs.Bulk.{Begun, HasSwept, HasSweptAll, Kept, Missed, Unwanted, counted_after, has_changed, read_as, removal_steps, walk_steps}
 use Rattle.nb_map.specs.Calling.{HasMade, HasStepped, MayMake}
 use Rattle.nb_map.specs.Logs.{HasLogged, log}
 use Rattle.nb_map.specs.Maps.{IsMine, MapOf, SeatOf, accounted}
 use Rattle.nb_map.specs.NamedCalls.{remove_if_of}
 use Rattle.nb_map.specs.Progress.{passed_since}
 use Rattle.nb_map.specs.Promises.{HasBegunWalk, HasWalkedOn, HasWritten, Matched}
+use Rattle.nb_map.specs.Renewing.{IsRead}
 use Rattle.nb_map.specs.Steps.{get_steps, passing_steps, put_steps, slots_ahead, slots_below}
 use Rattle.nb_map.specs.Walks.{IsMiss, IsUnderway, IsWalkOf, Rested, WalkOf, hit, with_shown}
 use Rattle.nb_map.specs.declared.steps.walk.Place.{Place}
@@ -409,7 +411,7 @@ module _ {m : MapOf} {before : SeatOf} (mine : IsMine m before) where
 
 module _ {F : Type 0} {Step : F → (k n : ℕ) → Bool → F → Type 0} {first : F} where
   -- reads that found nothing
-  swept-missed :
+  pub swept-missed :
       {calls : List (Call × Reply)} {shown : List (ℕ × ℕ)} {f : F} (misses : List (Call × Reply))
       → All IsMiss misses → HasSwept Step first calls shown f
       → HasSwept Step first (misses ++ calls) shown f
@@ -420,7 +422,7 @@ module _ {F : Type 0} {Step : F → (k n : ℕ) → Bool → F → Type 0} {firs
       (Missed (swept-missed misses (All-tail IsMiss made misses missed) swept) miss.0)
 
   -- each entry was read
-  swept-read :
+  pub swept-read :
       {calls : List (Call × Reply)} {shown : List (ℕ × ℕ)} {f : F}
       → HasSwept Step first calls shown f
       → All (λ pair. Contains calls (Get pair.0, reply_at (Get pair.0) (Some pair.1))) shown
@@ -516,6 +518,46 @@ module _ {F : Type 0} {Step : F → (k n : ℕ) → Bool → F → Type 0} {firs
         within all ahead c removals =
             let less : (all - ahead) * c ≤ all * c = mul-le-mul_right c (omega arith) in
             omega (arith, less)
+
+-- ---- calls that are all reads
+
+as-read-calls : (calls : List (Call × Reply)) → All IsRead calls → All IsReadCall calls
+unfolding IsReadCall
+as-read-calls calls reads = reads
+
+-- they leave what is counted,
+pub counted-reads :
+    (calls : List (Call × Reply)) (count : CountSeatOf) → All IsRead calls
+    → counted_after calls count ≡ count
+counted-reads calls count reads =
+    let are = as-read-calls calls reads in
+    ap (λ all. counted_after all count) (sym (append-nil calls))
+    ∙ ap₂ (λ net changed. record count {
+      added = count.added +ℤ net;
+      adds = count.adds + changed;
+      steps = count.steps + changed;
+    }) (reads-net calls [] are) (reads-changed calls [] are)
+    ∙ counted-none count
+
+-- and take no more steps than their walk
+pub far-reads :
+    (m : MapOf) (before now : SeatOf) (place : Place) (calls : List (Call × Reply))
+    → All IsRead calls → far_steps m before now place calls ≤ walk_steps m.chain.shape
+far-reads m before now place calls reads =
+    let none : sum_by (λ (made : Call × Reply). removal_steps m.chain.shape before.chain now.chain made.0)
+    calls ≡ 0
+    = ap (sum_by (λ (made : Call × Reply). removal_steps m.chain.shape before.chain now.chain made.0))
+    (sym (append-nil calls))
+    ∙ reads-removals m.chain.shape before.chain now.chain calls [] (as-read-calls calls reads) in
+    within (slots_below m.chain.shape (generations_of m.chain.shape))
+    (slots_ahead m.chain.shape place)
+    (slots_below m.chain.shape (generations_of m.chain.shape) + get_steps m.chain.shape + 4) _ none
+  where
+    within : (all ahead c removals : ℕ) → removals ≡ 0
+        → 1 + (all - ahead) * c + removals ≤ 1 + all * c
+    within all ahead c removals none =
+        let less : (all - ahead) * c ≤ all * c = mul-le-mul_right c (omega arith) in
+        omega (arith, less, none)
 
 -- ---- other functions
 

@@ -17,4 +17,6 @@ pub mod OneSeat
 pub mod Laws
 pub mod Calling
 pub mod Crowding
+pub mod Opening
+pub mod Renewing
 pub mod inside

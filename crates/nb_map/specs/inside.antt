@@ -5,3 +5,5 @@ pub mod Climbing
 pub mod Reading
 pub mod Writing
 pub mod Walking
+pub mod Filling
+pub mod Listing

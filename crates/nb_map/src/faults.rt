@@ -1,7 +1,8 @@
 //! Why writes are refused, and which refusals are part of others, so that `?` takes the one for the
-//! other; and why seats aren't settled.
+//! other; why seats aren't settled; and why a map isn't opened with entries.
 ghost use Rattle.std.specs.Prelude.{◌≡◌};
 
+use nb_core::OutOfMemory;
 use thiserror::Error;
 
 /// Other keys have all slots of the last table, so there is none for this one. The map is
@@ -54,6 +55,77 @@ pub enum SettleFault {
     /// Memory to put the seats together was refused.
     #[error("out of memory")]
     OutOfMemory,
+}
+
+/// Why a map wasn't opened with entries.
+#[derive(Clone, Copy, Debug, PartialEq, Eq, Error)]
+pub enum OpenFault {
+    /// The entries have more keys than the last table of the shape has slots.
+    #[error("the map is full")]
+    Full,
+    /// Memory for the map, or to settle its seats, was refused.
+    #[error("out of memory")]
+    OutOfMemory,
+}
+
+impl From<OutOfMemory> for OpenFault {
+    ghost use Rattle.nb_map.specs.declared.faults.OpenFault.TheVariants.{OutOfMemory};
+
+    ghost from_gives = { λ _ fault. fault ≡ OutOfMemory };
+
+    fn from(_refused: OutOfMemory) -> OpenFault {
+        OpenFault::OutOfMemory
+    }
+}
+
+/// Why a map wasn't made anew.
+#[derive(Clone, Copy, Debug, PartialEq, Eq, Error)]
+pub enum RenewFault {
+    /// The map has more keys than the last table of the new shape has slots.
+    #[error("the new map is full")]
+    Full,
+    /// Some of the map's seats aren't there.
+    #[error("a seat is missing")]
+    NotAll,
+    /// Memory for the new map, for the entries, or to settle the seats was refused.
+    #[error("out of memory")]
+    OutOfMemory,
+}
+
+impl From<OutOfMemory> for RenewFault {
+    ghost use Rattle.nb_map.specs.declared.faults.RenewFault.TheVariants.{OutOfMemory};
+
+    ghost from_gives = { λ _ fault. fault ≡ OutOfMemory };
+
+    fn from(_refused: OutOfMemory) -> RenewFault {
+        RenewFault::OutOfMemory
+    }
+}
+
+impl From<SettleFault> for RenewFault {
+    ghost use Rattle.nb_map.specs.Renewing.{unsettled};
+
+    ghost from_gives = { λ refusal fault. fault ≡ unsettled refusal };
+
+    fn from(refusal: SettleFault) -> RenewFault {
+        match refusal {
+            SettleFault::NotAll => RenewFault::NotAll,
+            SettleFault::OutOfMemory => RenewFault::OutOfMemory,
+        }
+    }
+}
+
+impl From<OpenFault> for RenewFault {
+    ghost use Rattle.nb_map.specs.Renewing.{unopened};
+
+    ghost from_gives = { λ refusal fault. fault ≡ unopened refusal };
+
+    fn from(refusal: OpenFault) -> RenewFault {
+        match refusal {
+            OpenFault::Full => RenewFault::Full,
+            OpenFault::OutOfMemory => RenewFault::OutOfMemory,
+        }
+    }
 }
 
 impl From<Full> for AddFault {

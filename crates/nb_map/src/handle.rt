@@ -9,6 +9,8 @@ mod bulk;
 mod closing;
 mod compound;
 mod fullness;
+mod opening;
+mod renewing;
 mod settling;
 mod trying;
 mod waiting;
@@ -16,6 +18,7 @@ mod walks;
 
 use crate::map::{Map, Seat};
 use nb_core::{Key, Num, OutOfMemory, Shape};
+use opening::sharing;
 use std::alloc::Global;
 use std::marker::Model;
 use std::sync::Arc;
@@ -52,19 +55,8 @@ impl Handle {
         ensures empty { IfOk result (λ handles. HaveEmptyLogs (seats_of handles.items)) }
         ensures one { IfOk result (λ handles. AreOfOneMap handles.items) }
     {
-        let mut handles = Vec::with_capacity(alloc, shape.seats())?;
         let (map, seats) = Map::new(alloc, shape)?;
-        let Ok(map) = Arc::new(alloc, map) else {
-            return Err(OutOfMemory);
-        };
-        for seat in seats {
-            handles.push_reserved(Handle {
-                map: Arc::try_clone(&map)?,
-                seat,
-                room: Vec::with_capacity(alloc, shape.seats())?,
-            });
-        }
-        Ok(handles)
+        sharing(alloc, map, seats)
     }
 
     /// What every handle is: its seat is a seat of its map. Nothing runs. A proof over several

@@ -13,7 +13,7 @@ mod map;
 mod occupancy;
 pub mod steps;
 
-pub use faults::{AddFault, Full, FullAfter, PutFault, SettleFault};
+pub use faults::{AddFault, Full, FullAfter, OpenFault, PutFault, RenewFault, SettleFault};
 pub use handle::{Handle, HandleWalk};
 pub use map::{Ended, Map, Seat, Walk};
 pub use nb_core::NotAll;

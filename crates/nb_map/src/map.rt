@@ -12,6 +12,8 @@ mod bulk;
 mod compound;
 mod ended;
 mod fullness;
+mod listing;
+mod opening;
 mod settling;
 mod trying;
 mod updating;
