@@ -6,5 +6,6 @@ mod Logged
 mod Promised
 mod Read
 mod Sampled
+mod Settled
 mod Walked
 pub mod Theorems

@@ -8,3 +8,4 @@ pub mod Laws
 pub mod Handles
 pub mod Promises
 pub mod Fullness
+pub mod Settling

@@ -7,6 +7,7 @@ ghost use Rattle.nb_set.specs.Promises.{HasEstimated, HasLookedUp, HasMet, HasSe
 ghost use Rattle.nb_set.specs.Sets.{IsMadeFor, IsMine, SetOf, log, shape_of};
 
 mod fullness;
+mod settling;
 
 use crate::ended::SetEnded;
 use crate::set::present;
