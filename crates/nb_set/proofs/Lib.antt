@@ -7,5 +7,6 @@ mod Promised
 mod Read
 mod Sampled
 mod Settled
+mod Swept
 mod Walked
 pub mod Theorems

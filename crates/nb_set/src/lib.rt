@@ -16,7 +16,7 @@ mod set;
 pub use ended::SetEnded;
 pub use handle::Handle;
 pub use handle_walk::HandleWalk;
-pub use nb_map::{Full, Occupancy, SettleFault};
+pub use nb_map::{Full, FullAfter, Occupancy, SettleFault};
 pub use set::{LongSet, Seat, Walk};
 
 #[cfg(test)]

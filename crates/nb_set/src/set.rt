@@ -6,6 +6,7 @@ ghost use Rattle.nb_set.specs.Promises.{HasBegunWalk, HasEstimated, HasLookedUp,
 ghost use Rattle.nb_set.specs.Sets.{AreMine, IsMadeFor, IsMine, log, new_seats, seat_on, shape_of};
 ghost use Rattle.nb_set.specs.Walks.{IsWalkOf};
 
+pub(crate) mod bulk;
 mod fullness;
 mod settling;
 
@@ -58,7 +59,7 @@ impl Model for Seat {
 /// own seat.
 #[derive(Drop)]
 pub struct Walk {
-    map: nb_map::Walk,
+    pub(crate) map: nb_map::Walk,
 }
 
 impl Model for Walk {
