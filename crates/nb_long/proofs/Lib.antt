@@ -2,4 +2,5 @@ mod Comparing
 mod Held
 mod Passed
 mod Rounds
+mod Settled
 mod Written

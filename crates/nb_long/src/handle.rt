@@ -14,6 +14,7 @@ ghost use Rattle.nb_long.specs.Promises.{HasChangedIf, HasPutValue, HasReplacedI
 ghost use Rattle.nb_long.specs.Typed.{LongMapOf};
 
 mod fullness;
+mod settling;
 
 use crate::map::{Compared, LongFault, LongMap, Stored, Unshown};
 use crate::store::{Shown, Store};

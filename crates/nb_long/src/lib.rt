@@ -11,4 +11,5 @@ mod store;
 
 pub use handle::Handle;
 pub use map::{Compared, LongFault, LongMap, Stored, Unshown};
+pub use nb_map::SettleFault;
 pub use store::{Placed, Receipt, Shown, Store, StoreFault};

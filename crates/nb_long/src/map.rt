@@ -15,6 +15,7 @@ ghost use Rattle.nb_long.specs.Promises.{HasChangedIf, HasGotValue, HasMadeRound
 ghost use Rattle.nb_long.specs.Typed.{number_of};
 
 mod fullness;
+mod settling;
 
 use crate::store::{Placed, Receipt, Shown, Store, StoreFault};
 use nb_core::{Change, Key, NotAll, Num, OutOfMemory, Shape, Want};

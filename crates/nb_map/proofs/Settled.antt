@@ -1,19 +1,21 @@
 -- The seats of a map are settled: what they know, and how they are put together again.
-use Rattle.std.proofs.Common.{◌≡◌, ◌∙◌, ℕ, ◌+◌, ◌≤◌, ◌==◌, ap, sym, subst, subst₂, refl, List, [], ◌∷◌, ◌++◌, All, Some, None, drop, length, map, reverse, slice_get, arith}
+use Rattle.std.proofs.Common.{◌≡◌, ◌∙◌, ℕ, ◌+◌, ◌≤◌, ◌<◌, ◌==◌, ap, sym, subst, subst₂, refl, List, [], ◌∷◌, ◌++◌, All, Some, None, drop, length, map, reverse, slice_get, arith}
 use Rattle.std.specs.List.{AllZip, count_by}
 use Rattle.std.proofs.lemmas.List.{append-nil, length-reverse, nil_from_length, reverse-append}
-use Rattle.std.proofs.lemmas.List.Elements.{All-cons, All-head, All-nil, All-tail, All-weaker, filter_map-append}
-use Rattle.nb_core.proofs.Seating.{AreMoved, moved-back, moved-count}
+use Rattle.std.proofs.lemmas.List.Elements.{All-cons, All-head, All-map, All-nil, All-tail, All-weaker, filter_map-append}
+use Rattle.nb_core.proofs.Seating.{AreMoved, count-map, moved-back, moved-count}
 use Rattle.nb_core.proofs.Theorems.{calls_append, log_is_replayed, seen_lasts}
 use Rattle.nb_core.specs.Log.{Entry, calls_of, entry_of, log_of}
 use Rattle.nb_core.specs.Meaning.{net_of}
-use Rattle.nb_core.specs.Plans.{IsPlan}
-use Rattle.nb_core.specs.Tables.{tables_at}
+use Rattle.nb_core.specs.Plans.{IsPlan, Plan}
+use Rattle.nb_core.specs.Tables.{tables_at, words_of}
 use Rattle.nb_core.specs.History.{IsLegal}
 use Rattle.nb_core.specs.declared.events.Event.{Event}
 use Rattle.nb_count.specs.Counts.{CountSeatOf, total_of}
 use Rattle.nb_count.specs.Tallies.{wrapped}
 use Rattle.nb_table.specs.Chains.{SeenBy}
+use Rattle.nb_table.specs.Gathered.{ClosedWith}
+use Rattle.nb_table.specs.Left.{ClosedOf}
 use Rattle.nb_table.specs.Settling.{Settled, at_rest, caught_up}
 use Rattle.nb_table.specs.Views.{HasSeen}
 use Rattle.nb_table.proofs.Theorems.{own-none, settled_as_closed}
@@ -23,7 +25,7 @@ use Rattle.nb_map.specs.Handles.{HandleOf, IsSameMap, seats_of}
 use Rattle.nb_map.specs.inside.Models.{IsParted}
 use Rattle.nb_map.specs.Logs.{log}
 use Rattle.nb_map.specs.Maps.{AreMine, HasCounted, IsMine, MapOf, SeatOf}
-use Rattle.nb_map.specs.Settling.{HasCaughtUp, HaveSettled, SettledTwice}
+use Rattle.nb_map.specs.Settling.{HasCaughtUp, HaveSettled, SettledIsEnded, SettledTwice}
 use Rattle.nb_map.proofs.Sizes.{AreGathered, ended-with, is-ended, seen}
 use Rattle.nb_map.proofs.Tried.{calls-others}
 
@@ -285,3 +287,38 @@ settled_twice m before after again size size' s t =
       same-seats again after chains (same-counts m _ after again t.each),
       omega (arith, ints, s.ended.counted, t.ended.counted, ap total_of first),
     )
+
+-- ---- and then finished
+
+-- the history that is left is the one that they settled on
+settled-history :
+    (p : Plan) (before after : List SeenBy) (closed : ClosedOf) → closed.shape ≡ p
+    → (s : Settled p before after) → ClosedWith after closed → closed.history ≡ s.history
+settled-history p before after closed shape =
+    let P : Plan → Type 0 = λ p. (s : Settled p before after) → ClosedWith after closed
+    → closed.history ≡ s.history in
+    subst P shape (λ s left. chain.settled_is_left before after closed s left)
+
+-- so are the words, and the number of keys
+pub settled_is_ended : SettledIsEnded
+settled_is_ended m before after size ended s all with left =
+    let p = m.chain.shape in
+    let closed : ClosedWith (map (λ seat. seat.chain) after) ended.tables = record {
+      left = left.left;
+      seen = All-map (λ seat. HasSeen ended.tables.history seat.number seat.seen)
+          (λ seat. seat.chain) after left.seen;
+      once = λ n below. count-map (λ seat. seat.number == n) (λ seat. seat.chain) after
+          ∙ with.once n (subst (λ seats. n < seats) (sym all)
+          (subst (λ (p : Plan). n < p.seats) left.shape below));
+    } in
+    let history : ended.tables.history ≡ s.tables.history
+    = settled-history p _ _ ended.tables left.shape s.tables closed in
+    let words : ended.tables.words ≡ words_of p s.tables.history
+    = left.left.is ∙ ap (λ p. words_of p ended.tables.history) left.shape ∙ ap (words_of p) history in
+    let first = same-counts m _ before after s.each in
+    let same : ended.size ≡ size
+    = omega (arith, ints, s.ended.counted, with.counted, ap total_of first) in
+    λ i. record {
+      tables = record { shape = left.shape i; words = words i; history = history i };
+      size = same i;
+    }

@@ -3,5 +3,5 @@ pub use Rattle.nb_map.proofs.Crowding.{asks_add_up, crowded_by_calls}
 pub use Rattle.nb_map.proofs.Logged.{logs_add_up}
 pub use Rattle.nb_map.proofs.OneSeat.{one_seat}
 pub use Rattle.nb_map.proofs.Replied.{replies_fit}
-pub use Rattle.nb_map.proofs.Settled.{settled_twice}
+pub use Rattle.nb_map.proofs.Settled.{settled_is_ended, settled_twice}
 pub use Rattle.nb_map.proofs.WholeWalk.{walk_lasts, whole_walk}

@@ -45,3 +45,12 @@ abbrev pub SettledTwice : Type 0
 SettledTwice =
     (m : MapOf) (before after again : List SeatOf) (size size' : ℕ) → HaveSettled m before after size
     → HaveSettled m after again size' → (again ≡ after) × (size' ≡ size)
+
+-- Where all seats settle and then finish the map, and no call was made between, what is left is what
+-- they knew: the history that they settled on, with its log, and the settled size.
+abbrev pub SettledIsEnded : Type 0
+SettledIsEnded =
+    (m : MapOf) (before after : List SeatOf) (size : ℕ) (ended : EndedOf)
+    → (settled : HaveSettled m before after size) → length after ≡ m.chain.shape.seats
+    → EndedWith after ended → HasTablesLeft m.chain.shape after ended
+    → ended ≡ as_left m.chain.shape settled.tables.history size

@@ -5,7 +5,7 @@ ghost use Rattle.nb_map.specs.Crowding.{AsksAddUp, CrowdedByCalls};
 ghost use Rattle.nb_map.specs.Fullness.{SampleIsSpread};
 ghost use Rattle.nb_map.specs.Laws.{LogsAddUp, RepliesFit};
 ghost use Rattle.nb_map.specs.OneSeat.{OneSeat};
-ghost use Rattle.nb_map.specs.Settling.{SettledTwice};
+ghost use Rattle.nb_map.specs.Settling.{SettledIsEnded, SettledTwice};
 ghost use Rattle.nb_map.specs.Walks.{WalkLasts, WholeWalk};
 
 /// The slots that a look at how full a map is looks at are slots of the table, each in a block of
@@ -54,4 +54,9 @@ pub fn whole_walk()
 /// Where all seats settle twice, and no call was made between, the second time changes nothing.
 pub fn settled_twice()
     ensures { SettledTwice }
+{}
+
+/// Where all seats settle and then finish the map, what is left is what they knew.
+pub fn settled_is_ended()
+    ensures { SettledIsEnded }
 {}

@@ -1,5 +1,5 @@
 -- The seats of a set are dealt, and gathered.
-use Rattle.std.proofs.Common.{◌≡◌, ◌∙◌, ◌<◌, ◌==◌, ℕ, List, [], map, length, ap, sym, subst, refl}
+use Rattle.std.proofs.Common.{◌≡◌, ◌∙◌, ◌<◌, ◌==◌, ℕ, List, [], ◌∷◌, map, length, ap, sym, subst, refl}
 use Rattle.std.specs.List.{All, range_with_len}
 use Rattle.std.proofs.lemmas.List.{length-map, map-append}
 use Rattle.std.proofs.lemmas.List.Elements.{All-map, All-same, All-weaker}
@@ -10,20 +10,25 @@ use Rattle.nb_map.specs.Ending as of_map
 use Rattle.nb_map.specs.Maps as maps
 use Rattle.nb_set.specs.Ending.{EndedOf, EndedWith, HasAll, log_left}
 use Rattle.nb_set.specs.OfMap.{call_as, entry_as, log_as}
-use Rattle.nb_set.specs.Sets.{AreMine, IsMine, SeatOf, SetOf, log, new_seat, new_seats, seat_number}
+use Rattle.nb_set.specs.Sets.{AreMine, IsMine, SeatOf, SetOf, log, new_seat, new_seats, seat_number, seat_on}
 use Rattle.nb_set.proofs.Read.{calls-as, read}
-
--- a seat of a map as one of the set
-abbrev pub as_set : maps.SeatOf → SeatOf
-as_set seat = record { map = seat }
 
 -- the seats of a map, as those of the set
 abbrev pub in-map : List SeatOf → List maps.SeatOf
 in-map = map (λ seat. seat.map)
 
+-- there and back
+pub in-on : (seats : List maps.SeatOf) → in-map (map seat_on seats) ≡ seats
+in-on [] = refl
+in-on (seat ∷ seats) = ap (λ rest. seat ∷ rest) (in-on seats)
+
+pub on-in : (seats : List SeatOf) → map seat_on (in-map seats) ≡ seats
+on-in [] = refl
+on-in (seat ∷ seats) = ap (λ rest. seat ∷ rest) (on-in seats)
+
 pub dealt : (set : SetOf) (count : ℕ)
-    → map as_set (maps.new_seats set.map count) ≡ new_seats set count
-dealt set count = map-map as_set (maps.new_seat set.map) (range_with_len 0 count)
+    → map seat_on (maps.new_seats set.map count) ≡ new_seats set count
+dealt set count = map-map seat_on (maps.new_seat set.map) (range_with_len 0 count)
 
 -- a new seat's log is empty
 pub logs-empty :
@@ -36,8 +41,8 @@ logs-empty set count seats are =
 -- they are the set's where they are the map's
 pub mine-as :
     (set : SetOf) (seats : List maps.SeatOf) → maps.AreMine set.map seats
-    → AreMine set (map as_set seats)
-mine-as set seats mine = All-map (IsMine set) as_set seats mine
+    → AreMine set (map seat_on seats)
+mine-as set seats mine = All-map (IsMine set) seat_on seats mine
 
 pub mine-in :
     (set : SetOf) (seats : List SeatOf) → AreMine set seats → maps.AreMine set.map (in-map seats)

@@ -6,5 +6,7 @@ mod Logged
 mod Promised
 mod Read
 mod Sampled
+mod Settled
+mod Swept
 mod Walked
 pub mod Theorems

@@ -8,3 +8,5 @@ pub mod Laws
 pub mod Handles
 pub mod Promises
 pub mod Fullness
+pub mod Bulk
+pub mod Settling

@@ -22,6 +22,10 @@ pub record SetOf : Type 0 where
 pub record SeatOf : Type 0 where
   pub map : maps.SeatOf
 
+-- a seat of that map, as one of the set
+abbrev pub seat_on : maps.SeatOf → SeatOf
+seat_on seat = record { map = seat }
+
 -- the shape of its tables
 abbrev pub shape_of : SetOf → Plan
 shape_of set = set.map.chain.shape

@@ -6,7 +6,9 @@ ghost use Rattle.nb_set.specs.Log as call;
 ghost use Rattle.nb_set.specs.Promises.{HasEstimated, HasLookedUp, HasMet, HasSeenTop, HasWritten};
 ghost use Rattle.nb_set.specs.Sets.{IsMadeFor, IsMine, SetOf, log, shape_of};
 
+mod bulk;
 mod fullness;
+mod settling;
 
 use crate::ended::SetEnded;
 use crate::set::present;

@@ -1,12 +1,13 @@
 //! Walks by handles.
 ghost use Rattle.std.specs.Iterator.{at_most};
 ghost use Rattle.std.specs.Prelude.{◌≡◌};
-ghost use Rattle.nb_set.specs.Handles.{handle_on};
-ghost use Rattle.nb_set.specs.Promises.{HandleHasWalkedOn, HasBegunWalk, ahead_of};
+ghost use Rattle.nb_set.specs.Handles.{IsSameSet, handle_on};
+ghost use Rattle.nb_set.specs.Promises.{HandleHasWalkedOn, HasBegunWalk, HasWalkedOn, ahead_of};
 ghost use Rattle.nb_set.specs.Sets.{IsMine};
 ghost use Rattle.nb_set.specs.Walks.{IsWalkOf};
 
 use crate::handle::Handle;
+use crate::set::Walk;
 use nb_core::Key;
 use std::marker::Model;
 
@@ -41,6 +42,28 @@ impl Handle {
             map: map.walk(),
             room,
         }
+    }
+
+    /// Begins a walk over the set's keys that leaves the handle where it is: `LongSet::walk`. It is
+    /// taken on by `next_key`, and the handle makes what calls it likes meanwhile.
+    pub fn begin_walk(&mut self) -> Walk
+        ensures begun { HasBegunWalk self.old.set self.old.seat self.new.seat result }
+        ensures same { IsSameSet self.old self.new }
+    {
+        let map = self.map.begin_walk();
+        Walk { map }
+    }
+
+    /// The next key of a walk that this handle has begun by `begin_walk`, until `None` ends it:
+    /// `LongSet::next_key`.
+    pub fn next_key(&mut self, walk: &mut Walk) -> Option<Key>
+        requires walk { IsWalkOf self.old.set self.old.seat walk.old }
+        ensures walked { HasWalkedOn self.old.set self.old.seat self.new.seat walk.old walk.new
+            result }
+        ensures same { IsSameSet self.old self.new }
+    {
+        let (key, _) = self.map.next_key(&mut walk.map)?;
+        Some(key)
     }
 }
 

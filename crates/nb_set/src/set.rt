@@ -3,10 +3,12 @@ ghost use Rattle.std.specs.Prelude.{◌≡◌, ◌≤◌, ◌↔◌, All, IfErr,
 ghost use Rattle.nb_set.specs.Ending.{EndedWith, HasTablesLeft};
 ghost use Rattle.nb_set.specs.Log as call;
 ghost use Rattle.nb_set.specs.Promises.{HasBegunWalk, HasEstimated, HasLookedUp, HasMet, HasSeenTop, HasWalkedOn, HasWritten};
-ghost use Rattle.nb_set.specs.Sets.{AreMine, IsMadeFor, IsMine, log, new_seats, shape_of};
+ghost use Rattle.nb_set.specs.Sets.{AreMine, IsMadeFor, IsMine, log, new_seats, seat_on, shape_of};
 ghost use Rattle.nb_set.specs.Walks.{IsWalkOf};
 
+pub(crate) mod bulk;
 mod fullness;
+mod settling;
 
 use crate::ended::SetEnded;
 use nb_core::{Key, NotAll, Num, OutOfMemory, SeatRoom, Shape};
@@ -57,7 +59,7 @@ impl Model for Seat {
 /// own seat.
 #[derive(Drop)]
 pub struct Walk {
-    map: nb_map::Walk,
+    pub(crate) map: nb_map::Walk,
 }
 
 impl Model for Walk {
@@ -83,9 +85,7 @@ impl LongSet {
         let mut seats = Vec::with_capacity(alloc, shape.seats())?;
         let room = SeatRoom::new(alloc, shape.seats())?;
         let (map, map_seats) = Map::new(alloc, shape)?;
-        for seat in map_seats {
-            seats.push_reserved(Seat { map: seat });
-        }
+        put_on_set(map_seats, &mut seats);
         Ok((LongSet { map, room }, seats))
     }
 
@@ -215,7 +215,7 @@ pub(crate) fn present() -> Num
 }
 
 /// The map's seats in these seats of a set, in a vector that has room for them.
-fn of_map(seats: Vec<Seat>, room: Vec<nb_map::Seat>) -> Vec<nb_map::Seat>
+pub(crate) fn of_map(seats: Vec<Seat>, room: Vec<nb_map::Seat>) -> Vec<nb_map::Seat>
     requires empty { room.items ≡ [] }
     requires room { length seats.items ≤ vec_capacity room }
     ensures { result.items ≡ map (λ seat. seat.map) seats.items }
@@ -226,4 +226,15 @@ fn of_map(seats: Vec<Seat>, room: Vec<nb_map::Seat>) -> Vec<nb_map::Seat>
         map_seats.push_reserved(map);
     }
     map_seats
+}
+
+/// Puts a map's seats, as those of a set, into a vector that has room for them.
+pub(crate) fn put_on_set(map_seats: Vec<nb_map::Seat>, seats: &mut Vec<Seat>)
+    requires empty { seats.old.items ≡ [] }
+    requires room { length map_seats.items ≤ vec_capacity seats.old }
+    ensures { seats.new.items ≡ map seat_on map_seats.items }
+{
+    for map in map_seats {
+        seats.push_reserved(Seat { map });
+    }
 }

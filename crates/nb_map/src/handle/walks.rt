@@ -1,9 +1,9 @@
 //! Walks by handles.
 ghost use Rattle.std.specs.Prelude.{◌≡◌};
 ghost use Rattle.std.specs.Iterator.{at_most};
-ghost use Rattle.nb_map.specs.Handles.{handle_on};
+ghost use Rattle.nb_map.specs.Handles.{IsSameMap, handle_on};
 ghost use Rattle.nb_map.specs.Maps.{IsMine};
-ghost use Rattle.nb_map.specs.Promises.{HandleHasWalkedOn, HasBegunWalk, ahead_of};
+ghost use Rattle.nb_map.specs.Promises.{HandleHasWalkedOn, HasBegunWalk, HasWalkedOn, ahead_of};
 ghost use Rattle.nb_map.specs.Walks.{IsWalkOf};
 
 use crate::handle::Handle;
@@ -53,6 +53,26 @@ impl Handle {
             room,
             walk,
         }
+    }
+
+    /// Begins a walk over the map's keys that leaves the handle where it is: `Map::walk`. It is taken
+    /// on by `next_key`, and the handle makes what calls it likes meanwhile.
+    pub fn begin_walk(&mut self) -> Walk
+        ensures begun { HasBegunWalk self.old.map self.old.seat self.new.seat result }
+        ensures map { IsSameMap self.old self.new }
+    {
+        self.map.walk(&mut self.seat)
+    }
+
+    /// The next key of a walk that this handle has begun by `begin_walk`, with its number, until
+    /// `None` ends it: `Map::next_key`.
+    pub fn next_key(&mut self, walk: &mut Walk) -> Option<(Key, Num)>
+        requires walk { IsWalkOf self.old.map self.old.seat walk.old }
+        ensures walked { HasWalkedOn self.old.map self.old.seat self.new.seat walk.old walk.new
+            result }
+        ensures map { IsSameMap self.old self.new }
+    {
+        self.map.next_key(&mut self.seat, walk)
     }
 }
 

@@ -1,0 +1,12 @@
+use Rattle.std.proofs.Common.{◌≡◌, ℕ, List, ◌++◌, length}
+use Rattle.nb_set.specs.Bulk.{HasAddedAll}
+use Rattle.nb_set.proofs.handle.Handle.extend.Given as goal
+
+abbrev pub invariant-loop-key : goal.invariant-loop-key
+invariant-loop-key g l =
+    (l.self.set ≡ l.fn.self.set)
+    × (first : List ℕ) × (l.fn.keys ≡ first ++ l.rest) × (length first ≡ l.put)
+    × HasAddedAll l.fn.self.set l.fn.self.seat first l.self.seat
+
+abbrev pub decreases-loop-key : goal.decreases-loop-key
+decreases-loop-key g l = length l.rest

@@ -1,0 +1,8 @@
+use Rattle.std.proofs.Common.{rules}
+use Rattle.nb_set.proofs.Swept.{sweep-as}
+use Rattle.nb_set.specs.Bulk.{KeepsNone}
+use Rattle.nb_set.proofs.set.LongSet.clear.Goals as goal
+
+pub returns : goal.returns
+returns g c =
+    sweep-as KeepsNone (λ f. tt) (λ f k keep g step. search (rules, step.met)) c.retain.ensures
