@@ -159,6 +159,33 @@ static void puts_and_gets(samvolip_seat *seat)
     EXPECT(samvolip_generation(seat) == 0);
 }
 
+/* The writes by their names with tries: each answer and refusal, except a contended one. */
+static void tries(samvolip_seat *seat)
+{
+    const uint64_t past_key = SAMVOLIP_KEY_MAX + 1, past = SAMVOLIP_VALUE_MAX + 1;
+    uint64_t was = 99;
+    EXPECT(samvolip_try_put(seat, 50, 5, 1, &was) == SAMVOLIP_ABSENT && was == 0);
+    EXPECT(samvolip_try_put(seat, 50, 6, 0, &was) == SAMVOLIP_PRESENT && was == 5);
+    EXPECT(samvolip_try_put_if_absent(seat, 50, 7, 1, &was) == SAMVOLIP_PRESENT && was == 6);
+    EXPECT(samvolip_try_put_if_absent(seat, 51, 7, 1, &was) == SAMVOLIP_ABSENT && was == 0);
+    EXPECT(samvolip_try_add(seat, 51, 7, 1, &was) == SAMVOLIP_PRESENT && was == 7);
+    EXPECT(samvolip_try_add(seat, 52, 7, UINT32_MAX, &was) == SAMVOLIP_ABSENT && was == 0);
+    EXPECT(samvolip_try_add(seat, 51, SAMVOLIP_VALUE_MAX, 1, &was) == SAMVOLIP_E_SUM_RANGE);
+    EXPECT(samvolip_try_remove(seat, 51, 1, &was) == SAMVOLIP_PRESENT && was == 14);
+    EXPECT(samvolip_try_remove(seat, 51, 1, &was) == SAMVOLIP_ABSENT && was == 0);
+    was = 99;
+    EXPECT(samvolip_try_put(seat, past_key, past, 1, &was) == SAMVOLIP_E_KEY_RANGE);
+    EXPECT(samvolip_try_put_if_absent(seat, past_key, past, 1, &was) == SAMVOLIP_E_KEY_RANGE);
+    EXPECT(samvolip_try_add(seat, past_key, past, 1, &was) == SAMVOLIP_E_KEY_RANGE);
+    EXPECT(samvolip_try_remove(seat, past_key, 1, &was) == SAMVOLIP_E_KEY_RANGE);
+    EXPECT(samvolip_try_put(seat, 50, past, 1, &was) == SAMVOLIP_E_VALUE_RANGE);
+    EXPECT(samvolip_try_put_if_absent(seat, 50, past, 1, &was) == SAMVOLIP_E_VALUE_RANGE);
+    EXPECT(samvolip_try_add(seat, 50, past, 1, &was) == SAMVOLIP_E_VALUE_RANGE);
+    EXPECT(was == 99);
+    EXPECT(samvolip_try_remove(seat, 50, 1, &was) == SAMVOLIP_PRESENT && was == 6);
+    EXPECT(samvolip_try_remove(seat, 52, 1, &was) == SAMVOLIP_PRESENT && was == 7);
+}
+
 static void tells_how_full(void)
 {
     const samvolip_shape shape = {{2, 5}, 2, 1, 1, UINT32_MAX, 8};
@@ -216,6 +243,11 @@ static void refuses_when_full(void)
     EXPECT(samvolip_put(&seat, 4, 4, NULL) == SAMVOLIP_E_FULL);
     EXPECT(samvolip_put_if_absent(&seat, 4, 4, NULL) == SAMVOLIP_E_FULL);
     EXPECT(samvolip_add(&seat, 4, 4, NULL) == SAMVOLIP_E_FULL);
+    uint64_t was = 99;
+    EXPECT(samvolip_try_put(&seat, 4, 4, 1, &was) == SAMVOLIP_E_FULL);
+    EXPECT(samvolip_try_put_if_absent(&seat, 4, 4, 1, &was) == SAMVOLIP_E_FULL);
+    EXPECT(samvolip_try_add(&seat, 4, 4, 1, &was) == SAMVOLIP_E_FULL && was == 99);
+    EXPECT(samvolip_try_remove(&seat, 4, 1, &was) == SAMVOLIP_ABSENT && was == 0);
     EXPECT(samvolip_replace(&seat, 4, 4, NULL) == SAMVOLIP_ABSENT);
     EXPECT(samvolip_put(&seat, 3, 4, NULL) == SAMVOLIP_PRESENT);
     samvolip_free(&seat);
@@ -349,6 +381,7 @@ int main(void)
     samvolip_seat seat = SAMVOLIP_SEAT_INIT;
     EXPECT(samvolip_open(&shape, &seat) == SAMVOLIP_OK);
     puts_and_gets(&seat);
+    tries(&seat);
     refuses_calls(&seat);
     walks(&seat);
     samvolip_free(&seat);

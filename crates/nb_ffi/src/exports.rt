@@ -6,4 +6,5 @@ mod ended;
 mod fullness;
 mod handles;
 mod library;
+mod trying;
 mod walks;

@@ -15,4 +15,5 @@ mod map_shape;
 mod parts;
 mod seat_handle;
 mod session;
+mod trying;
 mod walks;

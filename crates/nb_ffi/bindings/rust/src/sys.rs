@@ -7,7 +7,7 @@ use std::mem::size_of;
 use std::ptr::NonNull;
 
 /// The version of `samvolip.h` that this file tells of.
-pub const VERSION: u32 = 0x000500;
+pub const VERSION: u32 = 0x000600;
 
 /// The greatest key.
 pub const KEY_MAX: u64 = u64::MAX - 2;
@@ -140,6 +140,28 @@ extern "C" {
         tries: u32,
         reply: *mut Reply,
     ) -> i32;
+    pub fn samvolip_try_put(
+        seat: *mut Handle,
+        key: u64,
+        number: u64,
+        tries: u32,
+        before: *mut u64,
+    ) -> i32;
+    pub fn samvolip_try_put_if_absent(
+        seat: *mut Handle,
+        key: u64,
+        number: u64,
+        tries: u32,
+        before: *mut u64,
+    ) -> i32;
+    pub fn samvolip_try_add(
+        seat: *mut Handle,
+        key: u64,
+        number: u64,
+        tries: u32,
+        before: *mut u64,
+    ) -> i32;
+    pub fn samvolip_try_remove(seat: *mut Handle, key: u64, tries: u32, before: *mut u64) -> i32;
     pub fn samvolip_size_estimate(seat: *mut Handle) -> u64;
     pub fn samvolip_generation(seat: *mut Handle) -> u32;
     pub fn samvolip_occupancy(seat: *mut Handle, taken: *mut u32, looked: *mut u32) -> i32;
