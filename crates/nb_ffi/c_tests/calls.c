@@ -314,6 +314,44 @@ static void splits_and_joins(void)
     EXPECT(ended.handle == NULL);
 }
 
+/* Three handles are joined to one, which is settled, and split again: each has its seat again. */
+static void settles(void)
+{
+    enum { SEATS = 3 };
+    const samvolip_shape shape = samvolip_shape_for_keys(100, SEATS);
+    samvolip_seat seats[SEATS] = {SAMVOLIP_SEAT_INIT};
+    uint64_t size = 99, number = 99, key = 99;
+    EXPECT(samvolip_open(&shape, &seats[0]) == SAMVOLIP_OK);
+    EXPECT(samvolip_settle(&seats[0], &size) == SAMVOLIP_OK && size == 0);
+    size = 99;
+    for (int i = 1; i < SEATS; i++)
+        EXPECT(samvolip_split(&seats[0], &seats[i]) == SAMVOLIP_OK);
+    for (uint64_t k = 0; k < 12; k++)
+        EXPECT(samvolip_put(&seats[k % SEATS], k, k + 1, NULL) == SAMVOLIP_ABSENT);
+    EXPECT(samvolip_remove(&seats[2], 5, NULL) == SAMVOLIP_PRESENT);
+    samvolip_walk(&seats[0]);
+    EXPECT(samvolip_next(&seats[0], &key, &number) == SAMVOLIP_PRESENT);
+    EXPECT(samvolip_settle(&seats[0], &size) == SAMVOLIP_E_NOT_ALL_SEATS && size == 99);
+    for (int i = 1; i < SEATS; i++)
+        EXPECT(samvolip_join(&seats[0], &seats[i]) == SAMVOLIP_OK);
+    EXPECT(samvolip_settle(&seats[0], &size) == SAMVOLIP_OK && size == 11);
+    for (int i = SEATS - 1; i > 0; i--)
+        EXPECT(samvolip_split(&seats[0], &seats[i]) == SAMVOLIP_OK);
+    /* the walk and the map go on */
+    for (int i = 0; i < 10; i++)
+        EXPECT(samvolip_next(&seats[0], &key, &number) == SAMVOLIP_PRESENT && number == key + 1);
+    EXPECT(samvolip_next(&seats[0], &key, &number) == SAMVOLIP_ABSENT);
+    for (int i = 0; i < SEATS; i++)
+        EXPECT(samvolip_get(&seats[i], 7, &number) == SAMVOLIP_PRESENT && number == 8);
+    EXPECT(samvolip_put(&seats[1], 5, 6, NULL) == SAMVOLIP_ABSENT);
+    for (int i = 1; i < SEATS; i++)
+        EXPECT(samvolip_join(&seats[0], &seats[i]) == SAMVOLIP_OK);
+    EXPECT(samvolip_settle(&seats[0], &size) == SAMVOLIP_OK && size == 12);
+    samvolip_ended ended = SAMVOLIP_ENDED_INIT;
+    EXPECT(samvolip_close(&seats[0], &ended) == SAMVOLIP_OK && samvolip_ended_size(&ended) == 12);
+    samvolip_ended_free(&ended);
+}
+
 /* Handles of zeros are empty, and a map without keys has all of them in no room. */
 static void begins_with_zeros(void)
 {
@@ -390,6 +428,7 @@ int main(void)
     refuses_when_full();
     tells_how_full();
     splits_and_joins();
+    settles();
     begins_with_zeros();
     tells_codes();
     puts("calls: well");

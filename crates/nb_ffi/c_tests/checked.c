@@ -53,7 +53,9 @@ static void ends(samvolip_seat *mine, samvolip_seat *yours)
     samvolip_entry entries[KEYS];
     uint64_t number = 99;
     EXPECT(samvolip_close(mine, &ended) == SAMVOLIP_E_NOT_ALL_SEATS && ended.handle == NULL);
+    EXPECT(samvolip_settle(mine, &number) == SAMVOLIP_E_NOT_ALL_SEATS && number == 99);
     EXPECT(samvolip_join(mine, yours) == SAMVOLIP_OK && yours->handle == NULL);
+    EXPECT(samvolip_settle(mine, &number) == SAMVOLIP_OK && number == KEYS && mine->in_use == 0);
     EXPECT(samvolip_close(mine, &ended) == SAMVOLIP_OK && mine->handle == NULL);
     EXPECT(mine->in_use == 0 && yours->in_use == 0);
     EXPECT(samvolip_ended_size(&ended) == KEYS);

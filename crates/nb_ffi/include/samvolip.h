@@ -60,8 +60,8 @@
  * keep a slot without a number, so that a later new key may find less room.)
  *
  * Memory. samvolip_open reserves all tables of the map, and the map keeps them until it is freed.
- * samvolip_open, samvolip_split, samvolip_close and samvolip_ended_entries take memory, by malloc;
- * no other call does.
+ * samvolip_open, samvolip_split, samvolip_settle, samvolip_close and samvolip_ended_entries take
+ * memory, by malloc; no other call does.
  *
  * Versions. samvolip_open tells the library which header the program was compiled with: its version
  * and the sizes of its structs. If they aren't the library's, the call is refused with
@@ -142,7 +142,7 @@ enum samvolip_code {
     SAMVOLIP_E_CONTENDED = -14, /* others wrote the key first, as often as there were tries */
     SAMVOLIP_E_SUM_RANGE = -15, /* the sum of an add is past SAMVOLIP_VALUE_MAX */
 
-    /* why a handle isn't split or closed */
+    /* why a handle isn't split, settled or closed */
     SAMVOLIP_E_NO_SEAT = -16,       /* the handle has no seat in reserve */
     SAMVOLIP_E_NOT_ALL_SEATS = -17, /* the handle doesn't have all seats of the map */
 
@@ -333,6 +333,20 @@ int samvolip_split(samvolip_seat *seat, samvolip_seat *other);
 int samvolip_join(samvolip_seat *seat, samvolip_seat *other);
 
 /*
+ * With all seats of the map in `seat`: writes how many keys the map has to `size`. That is exact,
+ * and no estimate. Afterwards each seat knows of all calls that were made, as if the map had been
+ * closed. The map goes on, and so does a walk of `seat`.
+ *
+ * If several handles have the seats, join the others to one, settle that one, and split it again.
+ * If the last one that was joined is split off first, and so on, each handle gets its seat again.
+ *
+ * Cost: a few loads, one of each stripe, a few steps for each seat, and memory for three lists of
+ * seats and for a map of four slots, which is freed again.
+ * Refused: SAMVOLIP_E_NOT_ALL_SEATS, SAMVOLIP_E_OUT_OF_MEMORY. Then `size` stays as it was.
+ */
+int samvolip_settle(samvolip_seat *seat, uint64_t *size);
+
+/*
  * Ends the map of `seat`, if `seat` has all seats of the map. What is left of the map goes to
  * `ended`, which is empty before. `seat` is empty afterwards.
  *
@@ -388,16 +402,16 @@ int samvolip_put_if_match(samvolip_seat *seat, uint64_t key, uint32_t want, uint
                           samvolip_reply *reply);
 
 /*
- * Four writes by their names, each with `tries`, as samvolip_put_if_match has them: the first puts a
+ * Four writes by their names, each with `tries` as samvolip_put_if_match has them. The first puts a
  * number at a key, the second puts it if there is none, the third adds it to what is there, or to 0
- * if there is none, and the last removes the key. Each returns SAMVOLIP_PRESENT if there was a number
- * at the key, and writes that to `before`; or SAMVOLIP_ABSENT, and 0 is written. If a call is
- * refused, `before` stays as it was. samvolip_put and its like, below, are never contended, and take
- * NULL for `before`.
+ * if there is none, and the last removes the key. Each returns SAMVOLIP_PRESENT if there was a
+ * number at the key, and writes that to `before`; or SAMVOLIP_ABSENT, and 0 is written. If a call
+ * is refused, `before` stays as it was. samvolip_put and its like, below, are never contended, and
+ * take NULL for `before`.
  *
  * Cost: that of samvolip_put_if_match in steps, and less in time, since nothing is decoded.
- * Refused: SAMVOLIP_E_KEY_RANGE, SAMVOLIP_E_CONTENDED; all but samvolip_try_remove as
- * SAMVOLIP_E_VALUE_RANGE and SAMVOLIP_E_FULL, too, and samvolip_try_add as SAMVOLIP_E_SUM_RANGE.
+ * Refused: SAMVOLIP_E_KEY_RANGE, SAMVOLIP_E_CONTENDED; except for samvolip_try_remove
+ * SAMVOLIP_E_VALUE_RANGE and SAMVOLIP_E_FULL; and for samvolip_try_add SAMVOLIP_E_SUM_RANGE.
  */
 int samvolip_try_put(samvolip_seat *seat, uint64_t key, uint64_t number, uint32_t tries,
                      uint64_t *before);

@@ -105,6 +105,16 @@ static inline int samvolip_checked_join(samvolip_seat *seat, samvolip_seat *othe
     return code;
 }
 
+static inline int samvolip_checked_settle(samvolip_seat *seat, uint64_t *size)
+{
+    int code;
+    samvolip_check(size != NULL, "samvolip_settle", "the size is NULL");
+    samvolip_enter(seat, "samvolip_settle");
+    code = samvolip_settle(seat, size);
+    samvolip_leave(seat);
+    return code;
+}
+
 static inline int samvolip_checked_close(samvolip_seat *seat, samvolip_ended *ended)
 {
     int code;
@@ -281,6 +291,7 @@ static inline int samvolip_checked_ended_entries(const samvolip_ended *ended,
 #define samvolip_open samvolip_checked_open
 #define samvolip_split samvolip_checked_split
 #define samvolip_join samvolip_checked_join
+#define samvolip_settle samvolip_checked_settle
 #define samvolip_close samvolip_checked_close
 #define samvolip_free samvolip_checked_free
 #define samvolip_get samvolip_checked_get

@@ -21,6 +21,7 @@ final class Functions {
     static final MethodHandle OPEN = Native.function("samvolip_open_with", false, I, L, L, L);
     static final MethodHandle SPLIT = Native.function("samvolip_split", false, I, L, L);
     static final MethodHandle JOIN = Native.function("samvolip_join", false, I, L, L);
+    static final MethodHandle SETTLE = Native.function("samvolip_settle", false, I, L, L);
     static final MethodHandle CLOSE = Native.function("samvolip_close", false, I, L, L);
     static final MethodHandle FREE = Native.function("samvolip_free_open", false, void.class, L);
     static final MethodHandle GET = Native.function("samvolip_get", true, I, L, L, L);

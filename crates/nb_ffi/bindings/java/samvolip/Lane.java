@@ -80,6 +80,17 @@ final class Lane {
         other.release();
     }
 
+    /** With all seats of the map: how many keys it has, exactly. */
+    long settle() {
+        long at = full();
+        try {
+            made((int) Functions.SETTLE.invokeExact(at, at + WORDS));
+            return Native.getLong(at + WORDS);
+        } catch (Throwable thrown) {
+            throw wrong(thrown);
+        }
+    }
+
     /** With all seats of the map: what is left of it, as a lane whose handle is an ended map's. This one is freed. */
     Lane end() {
         Lane ended = new Lane();

@@ -78,6 +78,7 @@ def _function(library: ctypes.CDLL, name: str, result: Any, *takes: Any) -> Any:
 open_with = _function(_lets_go, "open_with", c_int, POINTER(Header), POINTER(Shape), _HANDLE)
 split = _function(_lets_go, "split", c_int, _HANDLE, _HANDLE)
 join = _function(_lets_go, "join", c_int, _HANDLE, _HANDLE)
+settle = _function(_lets_go, "settle", c_int, _HANDLE, _NUMBER)
 close = _function(_lets_go, "close", c_int, _HANDLE, _HANDLE)
 free_open = _function(_lets_go, "free_open", None, _HANDLE)
 get = _function(_keeps, "get", c_int, _HANDLE, c_uint64, _NUMBER)

@@ -115,6 +115,15 @@ impl Seat {
         }
     }
 
+    /// With all seats: how many keys the map has, exactly. Each seat knows of all calls then, and the map goes on. Refused as
+    /// [`Fault::NotAllSeats`] or [`Fault::OutOfMemory`].
+    pub fn settle(&mut self) -> Result<u64, Fault> {
+        let mut size = 0;
+        // SAFETY: the handle is full.
+        made(unsafe { sys::samvolip_settle(&mut self.raw, &mut size) })?;
+        Ok(size)
+    }
+
     /// With all seats: what is left of the map. Refused as [`Fault::NotAllSeats`] or [`Fault::OutOfMemory`], with the seat
     /// given back.
     pub fn close(self) -> Result<Ended, Refused> {

@@ -127,6 +127,7 @@ extern "C" {
     ) -> i32;
     pub fn samvolip_split(seat: *mut Handle, other: *mut Handle) -> i32;
     pub fn samvolip_join(seat: *mut Handle, other: *mut Handle) -> i32;
+    pub fn samvolip_settle(seat: *mut Handle, size: *mut u64) -> i32;
     pub fn samvolip_close(seat: *mut Handle, ended: *mut Handle) -> i32;
     pub fn samvolip_free_open(seat: *mut Handle);
     pub fn samvolip_get(seat: *mut Handle, key: u64, number: *mut u64) -> i32;
