@@ -47,6 +47,9 @@ int main(int count, char **words)
     case 11: samvolip_split(&mine, &yours); break;
     case 12: samvolip_ended_size(&ended); break;
     case 13: samvolip_join(&mine, &yours), samvolip_put(&yours, 1, 1, NULL); break;
+    case 14: samvolip_try_put(&mine, 1, 1, 1, NULL); break;
+    case 15: samvolip_free(&mine), samvolip_add(&mine, 1, 1, NULL); break;
+    case 16: samvolip_settle(&mine, NULL); break;
     default: return 0;
     }
     return 1;

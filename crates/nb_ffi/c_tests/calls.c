@@ -159,6 +159,33 @@ static void puts_and_gets(samvolip_seat *seat)
     EXPECT(samvolip_generation(seat) == 0);
 }
 
+/* The writes by their names with tries: each answer and refusal, except a contended one. */
+static void tries(samvolip_seat *seat)
+{
+    const uint64_t past_key = SAMVOLIP_KEY_MAX + 1, past = SAMVOLIP_VALUE_MAX + 1;
+    uint64_t was = 99;
+    EXPECT(samvolip_try_put(seat, 50, 5, 1, &was) == SAMVOLIP_ABSENT && was == 0);
+    EXPECT(samvolip_try_put(seat, 50, 6, 0, &was) == SAMVOLIP_PRESENT && was == 5);
+    EXPECT(samvolip_try_put_if_absent(seat, 50, 7, 1, &was) == SAMVOLIP_PRESENT && was == 6);
+    EXPECT(samvolip_try_put_if_absent(seat, 51, 7, 1, &was) == SAMVOLIP_ABSENT && was == 0);
+    EXPECT(samvolip_try_add(seat, 51, 7, 1, &was) == SAMVOLIP_PRESENT && was == 7);
+    EXPECT(samvolip_try_add(seat, 52, 7, UINT32_MAX, &was) == SAMVOLIP_ABSENT && was == 0);
+    EXPECT(samvolip_try_add(seat, 51, SAMVOLIP_VALUE_MAX, 1, &was) == SAMVOLIP_E_SUM_RANGE);
+    EXPECT(samvolip_try_remove(seat, 51, 1, &was) == SAMVOLIP_PRESENT && was == 14);
+    EXPECT(samvolip_try_remove(seat, 51, 1, &was) == SAMVOLIP_ABSENT && was == 0);
+    was = 99;
+    EXPECT(samvolip_try_put(seat, past_key, past, 1, &was) == SAMVOLIP_E_KEY_RANGE);
+    EXPECT(samvolip_try_put_if_absent(seat, past_key, past, 1, &was) == SAMVOLIP_E_KEY_RANGE);
+    EXPECT(samvolip_try_add(seat, past_key, past, 1, &was) == SAMVOLIP_E_KEY_RANGE);
+    EXPECT(samvolip_try_remove(seat, past_key, 1, &was) == SAMVOLIP_E_KEY_RANGE);
+    EXPECT(samvolip_try_put(seat, 50, past, 1, &was) == SAMVOLIP_E_VALUE_RANGE);
+    EXPECT(samvolip_try_put_if_absent(seat, 50, past, 1, &was) == SAMVOLIP_E_VALUE_RANGE);
+    EXPECT(samvolip_try_add(seat, 50, past, 1, &was) == SAMVOLIP_E_VALUE_RANGE);
+    EXPECT(was == 99);
+    EXPECT(samvolip_try_remove(seat, 50, 1, &was) == SAMVOLIP_PRESENT && was == 6);
+    EXPECT(samvolip_try_remove(seat, 52, 1, &was) == SAMVOLIP_PRESENT && was == 7);
+}
+
 static void tells_how_full(void)
 {
     const samvolip_shape shape = {{2, 5}, 2, 1, 1, UINT32_MAX, 8};
@@ -216,6 +243,11 @@ static void refuses_when_full(void)
     EXPECT(samvolip_put(&seat, 4, 4, NULL) == SAMVOLIP_E_FULL);
     EXPECT(samvolip_put_if_absent(&seat, 4, 4, NULL) == SAMVOLIP_E_FULL);
     EXPECT(samvolip_add(&seat, 4, 4, NULL) == SAMVOLIP_E_FULL);
+    uint64_t was = 99;
+    EXPECT(samvolip_try_put(&seat, 4, 4, 1, &was) == SAMVOLIP_E_FULL);
+    EXPECT(samvolip_try_put_if_absent(&seat, 4, 4, 1, &was) == SAMVOLIP_E_FULL);
+    EXPECT(samvolip_try_add(&seat, 4, 4, 1, &was) == SAMVOLIP_E_FULL && was == 99);
+    EXPECT(samvolip_try_remove(&seat, 4, 1, &was) == SAMVOLIP_ABSENT && was == 0);
     EXPECT(samvolip_replace(&seat, 4, 4, NULL) == SAMVOLIP_ABSENT);
     EXPECT(samvolip_put(&seat, 3, 4, NULL) == SAMVOLIP_PRESENT);
     samvolip_free(&seat);
@@ -280,6 +312,44 @@ static void splits_and_joins(void)
     samvolip_ended_free(&ended);
     samvolip_ended_free(&ended);
     EXPECT(ended.handle == NULL);
+}
+
+/* Three handles are joined to one, which is settled, and split again: each has its seat again. */
+static void settles(void)
+{
+    enum { SEATS = 3 };
+    const samvolip_shape shape = samvolip_shape_for_keys(100, SEATS);
+    samvolip_seat seats[SEATS] = {SAMVOLIP_SEAT_INIT};
+    uint64_t size = 99, number = 99, key = 99;
+    EXPECT(samvolip_open(&shape, &seats[0]) == SAMVOLIP_OK);
+    EXPECT(samvolip_settle(&seats[0], &size) == SAMVOLIP_OK && size == 0);
+    size = 99;
+    for (int i = 1; i < SEATS; i++)
+        EXPECT(samvolip_split(&seats[0], &seats[i]) == SAMVOLIP_OK);
+    for (uint64_t k = 0; k < 12; k++)
+        EXPECT(samvolip_put(&seats[k % SEATS], k, k + 1, NULL) == SAMVOLIP_ABSENT);
+    EXPECT(samvolip_remove(&seats[2], 5, NULL) == SAMVOLIP_PRESENT);
+    samvolip_walk(&seats[0]);
+    EXPECT(samvolip_next(&seats[0], &key, &number) == SAMVOLIP_PRESENT);
+    EXPECT(samvolip_settle(&seats[0], &size) == SAMVOLIP_E_NOT_ALL_SEATS && size == 99);
+    for (int i = 1; i < SEATS; i++)
+        EXPECT(samvolip_join(&seats[0], &seats[i]) == SAMVOLIP_OK);
+    EXPECT(samvolip_settle(&seats[0], &size) == SAMVOLIP_OK && size == 11);
+    for (int i = SEATS - 1; i > 0; i--)
+        EXPECT(samvolip_split(&seats[0], &seats[i]) == SAMVOLIP_OK);
+    /* the walk and the map go on */
+    for (int i = 0; i < 10; i++)
+        EXPECT(samvolip_next(&seats[0], &key, &number) == SAMVOLIP_PRESENT && number == key + 1);
+    EXPECT(samvolip_next(&seats[0], &key, &number) == SAMVOLIP_ABSENT);
+    for (int i = 0; i < SEATS; i++)
+        EXPECT(samvolip_get(&seats[i], 7, &number) == SAMVOLIP_PRESENT && number == 8);
+    EXPECT(samvolip_put(&seats[1], 5, 6, NULL) == SAMVOLIP_ABSENT);
+    for (int i = 1; i < SEATS; i++)
+        EXPECT(samvolip_join(&seats[0], &seats[i]) == SAMVOLIP_OK);
+    EXPECT(samvolip_settle(&seats[0], &size) == SAMVOLIP_OK && size == 12);
+    samvolip_ended ended = SAMVOLIP_ENDED_INIT;
+    EXPECT(samvolip_close(&seats[0], &ended) == SAMVOLIP_OK && samvolip_ended_size(&ended) == 12);
+    samvolip_ended_free(&ended);
 }
 
 /* Handles of zeros are empty, and a map without keys has all of them in no room. */
@@ -349,6 +419,7 @@ int main(void)
     samvolip_seat seat = SAMVOLIP_SEAT_INIT;
     EXPECT(samvolip_open(&shape, &seat) == SAMVOLIP_OK);
     puts_and_gets(&seat);
+    tries(&seat);
     refuses_calls(&seat);
     walks(&seat);
     samvolip_free(&seat);
@@ -357,6 +428,7 @@ int main(void)
     refuses_when_full();
     tells_how_full();
     splits_and_joins();
+    settles();
     begins_with_zeros();
     tells_codes();
     puts("calls: well");

@@ -19,6 +19,10 @@ static void writes_and_reads(samvolip_seat *mine, samvolip_seat *yours)
     }
     EXPECT(samvolip_put(yours, 7, 70, &number) == SAMVOLIP_PRESENT && number == 8);
     EXPECT(samvolip_get(mine, 7, &number) == SAMVOLIP_PRESENT && number == 70);
+    EXPECT(samvolip_try_remove(mine, 6, 1, &number) == SAMVOLIP_PRESENT && number == 7);
+    EXPECT(samvolip_try_put_if_absent(yours, 6, 3, 1, &number) == SAMVOLIP_ABSENT && number == 0);
+    EXPECT(samvolip_try_add(mine, 6, 3, 1, &number) == SAMVOLIP_PRESENT && number == 3);
+    EXPECT(samvolip_try_put(yours, 6, 7, 1, &number) == SAMVOLIP_PRESENT && number == 6);
     samvolip_meet(mine, yours);
     EXPECT(samvolip_size_estimate(yours) == KEYS);
     EXPECT(samvolip_generation(mine) == 1 && samvolip_generation(yours) == 1);
@@ -49,7 +53,9 @@ static void ends(samvolip_seat *mine, samvolip_seat *yours)
     samvolip_entry entries[KEYS];
     uint64_t number = 99;
     EXPECT(samvolip_close(mine, &ended) == SAMVOLIP_E_NOT_ALL_SEATS && ended.handle == NULL);
+    EXPECT(samvolip_settle(mine, &number) == SAMVOLIP_E_NOT_ALL_SEATS && number == 99);
     EXPECT(samvolip_join(mine, yours) == SAMVOLIP_OK && yours->handle == NULL);
+    EXPECT(samvolip_settle(mine, &number) == SAMVOLIP_OK && number == KEYS && mine->in_use == 0);
     EXPECT(samvolip_close(mine, &ended) == SAMVOLIP_OK && mine->handle == NULL);
     EXPECT(mine->in_use == 0 && yours->in_use == 0);
     EXPECT(samvolip_ended_size(&ended) == KEYS);

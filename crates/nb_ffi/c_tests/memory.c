@@ -31,6 +31,11 @@ int main(void)
     EXPECT(samvolip_join(&seats[1], &seats[2]) == SAMVOLIP_OK && seats[2].handle == NULL);
     EXPECT(samvolip_join(&seats[0], &seats[1]) == SAMVOLIP_OK && seats[1].handle == NULL);
     EXPECT(samvolip_put(&seats[0], 5, 50, NULL) == SAMVOLIP_PRESENT);
+    uint64_t size = 99, number = 99;
+    samvolip_walk(&seats[0]);
+    while (is_refused(samvolip_settle(&seats[0], &size)))
+        EXPECT(size == 99 && samvolip_get(&seats[0], 5, &number) == 1 && number == 50);
+    EXPECT(size == 12 && samvolip_next(&seats[0], &number, &size) == SAMVOLIP_PRESENT);
     while (is_refused(samvolip_close(&seats[0], &ended)))
         EXPECT(samvolip_put(&seats[0], 5, 51, NULL) == SAMVOLIP_PRESENT);
     samvolip_entry entries[12] = {{99, 99}};

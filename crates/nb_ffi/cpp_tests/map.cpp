@@ -184,6 +184,7 @@ void ends(keys how)
     // refused while the other seat is out, and the map works on
     auto refused = map.close();
     EXPECT(refused.error().why() == fault::not_all_seats && refused.error().seats() == 1);
+    EXPECT(map.settle().error().why() == fault::not_all_seats);
     EXPECT(refused.error().message() == "1 other seats of the map are out");
     EXPECT(map.get(65536).value() == 1u);
     auto lacking = map.take_seat();
@@ -191,6 +192,9 @@ void ends(keys how)
     EXPECT(lacking.error().message() == "all 2 seats of the map are out");
     seat = samvolip::seat();
     EXPECT(map.put(SAMVOLIP_KEY_MAX, 1).has_value());
+    EXPECT(map.settle().value() == 301);
+    EXPECT(map.remove(SAMVOLIP_KEY_MAX).value() == 1u && map.settle().value() == 300);
+    EXPECT(map.put(SAMVOLIP_KEY_MAX, 1).value() == std::nullopt);
 
     samvolip::ended ended = map.close().value();
     EXPECT(ended.size() == 301 && ended.get(65536).value() == 1u && ended.get(1).value() == std::nullopt);
@@ -201,6 +205,7 @@ void ends(keys how)
         EXPECT(entries[i].key == i * 65536 && entries[i].number == i);
     EXPECT(map.get(1).error().why() == fault::empty && map.close().error().why() == fault::empty);
     EXPECT(map.take_seat().error().why() == fault::empty && map.walk().error().why() == fault::empty);
+    EXPECT(map.settle().error().why() == fault::empty);
     EXPECT(refused.error().message() != map.get(1).error().message());
 
     samvolip::ended moved = std::move(ended);

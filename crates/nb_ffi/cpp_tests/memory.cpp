@@ -42,6 +42,8 @@ int main()
     last = samvolip::seat();
     seat = samvolip::seat();
     last = samvolip::seat();
+    EXPECT(made([&] { return map.settle(); }) == 12);
+    made([&] { return map.put(0, 0); });
     samvolip::ended ended = made([&] { return map.close(); });
     EXPECT(map.get(0).error().why() == fault::empty);
     const auto entries = made([&] { return ended.entries(); });

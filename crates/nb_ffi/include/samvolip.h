@@ -60,8 +60,8 @@
  * keep a slot without a number, so that a later new key may find less room.)
  *
  * Memory. samvolip_open reserves all tables of the map, and the map keeps them until it is freed.
- * samvolip_open, samvolip_split, samvolip_close and samvolip_ended_entries take memory, by malloc;
- * no other call does.
+ * samvolip_open, samvolip_split, samvolip_settle, samvolip_close and samvolip_ended_entries take
+ * memory, by malloc; no other call does.
  *
  * Versions. samvolip_open tells the library which header the program was compiled with: its version
  * and the sizes of its structs. If they aren't the library's, the call is refused with
@@ -86,8 +86,8 @@
 extern "C" {
 #endif
 
-/* Version 0.5.0, as one number. samvolip_version returns that of the library. */
-#define SAMVOLIP_VERSION 0x000500u
+/* Version 0.6.0, as one number. samvolip_version returns that of the library. */
+#define SAMVOLIP_VERSION 0x000600u
 
 /* The greatest key and the greatest number. */
 #define SAMVOLIP_KEY_MAX (UINT64_MAX - 2)
@@ -142,7 +142,7 @@ enum samvolip_code {
     SAMVOLIP_E_CONTENDED = -14, /* others wrote the key first, as often as there were tries */
     SAMVOLIP_E_SUM_RANGE = -15, /* the sum of an add is past SAMVOLIP_VALUE_MAX */
 
-    /* why a handle isn't split or closed */
+    /* why a handle isn't split, settled or closed */
     SAMVOLIP_E_NO_SEAT = -16,       /* the handle has no seat in reserve */
     SAMVOLIP_E_NOT_ALL_SEATS = -17, /* the handle doesn't have all seats of the map */
 
@@ -333,6 +333,20 @@ int samvolip_split(samvolip_seat *seat, samvolip_seat *other);
 int samvolip_join(samvolip_seat *seat, samvolip_seat *other);
 
 /*
+ * With all seats of the map in `seat`: writes how many keys the map has to `size`. That is exact,
+ * and no estimate. Afterwards each seat knows of all calls that were made, as if the map had been
+ * closed. The map goes on, and so does a walk of `seat`.
+ *
+ * If several handles have the seats, join the others to one, settle that one, and split it again.
+ * If the last one that was joined is split off first, and so on, each handle gets its seat again.
+ *
+ * Cost: a few loads, one of each stripe, a few steps for each seat, and memory for three lists of
+ * seats and for a map of four slots, which is freed again.
+ * Refused: SAMVOLIP_E_NOT_ALL_SEATS, SAMVOLIP_E_OUT_OF_MEMORY. Then `size` stays as it was.
+ */
+int samvolip_settle(samvolip_seat *seat, uint64_t *size);
+
+/*
  * Ends the map of `seat`, if `seat` has all seats of the map. What is left of the map goes to
  * `ended`, which is empty before. `seat` is empty afterwards.
  *
@@ -386,6 +400,26 @@ int samvolip_get(samvolip_seat *seat, uint64_t key, uint64_t *number);
 int samvolip_put_if_match(samvolip_seat *seat, uint64_t key, uint32_t want, uint64_t old,
                           uint32_t change, uint64_t number, uint32_t tries,
                           samvolip_reply *reply);
+
+/*
+ * Four writes by their names, each with `tries` as samvolip_put_if_match has them. The first puts a
+ * number at a key, the second puts it if there is none, the third adds it to what is there, or to 0
+ * if there is none, and the last removes the key. Each returns SAMVOLIP_PRESENT if there was a
+ * number at the key, and writes that to `before`; or SAMVOLIP_ABSENT, and 0 is written. If a call
+ * is refused, `before` stays as it was. samvolip_put and its like, below, are never contended, and
+ * take NULL for `before`.
+ *
+ * Cost: that of samvolip_put_if_match in steps, and less in time, since nothing is decoded.
+ * Refused: SAMVOLIP_E_KEY_RANGE, SAMVOLIP_E_CONTENDED; except for samvolip_try_remove
+ * SAMVOLIP_E_VALUE_RANGE and SAMVOLIP_E_FULL; and for samvolip_try_add SAMVOLIP_E_SUM_RANGE.
+ */
+int samvolip_try_put(samvolip_seat *seat, uint64_t key, uint64_t number, uint32_t tries,
+                     uint64_t *before);
+int samvolip_try_put_if_absent(samvolip_seat *seat, uint64_t key, uint64_t number, uint32_t tries,
+                               uint64_t *before);
+int samvolip_try_add(samvolip_seat *seat, uint64_t key, uint64_t number, uint32_t tries,
+                     uint64_t *before);
+int samvolip_try_remove(samvolip_seat *seat, uint64_t key, uint32_t tries, uint64_t *before);
 
 /*
  * About how many keys the map has. While others write, it is no more than a guess: a sum below zero
@@ -588,9 +622,10 @@ static inline int samvolip_should_renew(samvolip_seat *seat)
 /* ---- writes by name ------------------------------------------------------------------------ */
 
 /*
- * The calls of java.util.concurrent.ConcurrentMap, and an add. Each is one samvolip_put_if_match,
- * which is made again as long as other writes of the key come first. So none is refused as
- * contended. They are lock-free: only the success of others costs them anything.
+ * The calls of java.util.concurrent.ConcurrentMap, and an add. Each is one call of the library,
+ * samvolip_try_put and its like or samvolip_put_if_match, which is made again as long as other
+ * writes of the key come first. So none is refused as contended. They are lock-free: only the
+ * success of others costs them anything.
  *
  * Each returns SAMVOLIP_PRESENT if there was a number at the key, and writes that to `before`. Else
  * it returns SAMVOLIP_ABSENT, and writes 0. If it is refused, `before` stays as it was. `before`
@@ -617,16 +652,7 @@ static inline int samvolip_found(const samvolip_reply *reply, uint64_t *before)
     return reply->had ? SAMVOLIP_PRESENT : SAMVOLIP_ABSENT;
 }
 
-/* The same write, and what it found. */
-static inline int samvolip_write_found(samvolip_seat *seat, uint64_t key, uint32_t want,
-                                       uint32_t change, uint64_t number, uint64_t *before)
-{
-    samvolip_reply reply;
-    int code = samvolip_write(seat, key, want, 0, change, number, &reply);
-    return code < 0 ? code : samvolip_found(&reply, before);
-}
-
-/* The same, and whether its condition held. */
+/* The same write, and whether its condition held. */
 static inline int samvolip_write_matched(samvolip_seat *seat, uint64_t key, uint64_t old,
                                          uint32_t change, uint64_t number)
 {
@@ -641,14 +667,24 @@ static inline int samvolip_write_matched(samvolip_seat *seat, uint64_t key, uint
 static inline int samvolip_put(samvolip_seat *seat, uint64_t key, uint64_t number,
                                uint64_t *before)
 {
-    return samvolip_write_found(seat, key, SAMVOLIP_ANY, SAMVOLIP_PUT, number, before);
+    uint64_t found;
+    int code;
+    do
+        code = samvolip_try_put(seat, key, number, UINT32_MAX, before ? before : &found);
+    while (code == SAMVOLIP_E_CONTENDED);
+    return code;
 }
 
 /* Puts a number at a key that has none: SAMVOLIP_ABSENT if it did. Refused as samvolip_put. */
 static inline int samvolip_put_if_absent(samvolip_seat *seat, uint64_t key, uint64_t number,
                                          uint64_t *before)
 {
-    return samvolip_write_found(seat, key, SAMVOLIP_WANT_ABSENT, SAMVOLIP_PUT, number, before);
+    uint64_t found;
+    int code;
+    do
+        code = samvolip_try_put_if_absent(seat, key, number, UINT32_MAX, before ? before : &found);
+    while (code == SAMVOLIP_E_CONTENDED);
+    return code;
 }
 
 /* Puts a number in place of another: SAMVOLIP_PRESENT if it did. Refused: E_KEY_RANGE,
@@ -656,7 +692,9 @@ static inline int samvolip_put_if_absent(samvolip_seat *seat, uint64_t key, uint
 static inline int samvolip_replace(samvolip_seat *seat, uint64_t key, uint64_t number,
                                    uint64_t *before)
 {
-    return samvolip_write_found(seat, key, SAMVOLIP_WANT_PRESENT, SAMVOLIP_PUT, number, before);
+    samvolip_reply reply;
+    int code = samvolip_write(seat, key, SAMVOLIP_WANT_PRESENT, 0, SAMVOLIP_PUT, number, &reply);
+    return code < 0 ? code : samvolip_found(&reply, before);
 }
 
 /* Puts `number` in place of `old`. Refused: E_KEY_RANGE, E_VALUE_RANGE. */
@@ -669,7 +707,12 @@ static inline int samvolip_replace_if(samvolip_seat *seat, uint64_t key, uint64_
 /* Removes a key. Refused: E_KEY_RANGE. */
 static inline int samvolip_remove(samvolip_seat *seat, uint64_t key, uint64_t *before)
 {
-    return samvolip_write_found(seat, key, SAMVOLIP_ANY, SAMVOLIP_REMOVE, 0, before);
+    uint64_t found;
+    int code;
+    do
+        code = samvolip_try_remove(seat, key, UINT32_MAX, before ? before : &found);
+    while (code == SAMVOLIP_E_CONTENDED);
+    return code;
 }
 
 /* Removes a key that has this number. Refused: E_KEY_RANGE, E_VALUE_RANGE. */
@@ -683,7 +726,12 @@ static inline int samvolip_remove_if(samvolip_seat *seat, uint64_t key, uint64_t
 static inline int samvolip_add(samvolip_seat *seat, uint64_t key, uint64_t number,
                                uint64_t *before)
 {
-    return samvolip_write_found(seat, key, SAMVOLIP_ANY, SAMVOLIP_ADD, number, before);
+    uint64_t found;
+    int code;
+    do
+        code = samvolip_try_add(seat, key, number, UINT32_MAX, before ? before : &found);
+    while (code == SAMVOLIP_E_CONTENDED);
+    return code;
 }
 
 /*

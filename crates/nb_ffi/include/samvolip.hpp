@@ -364,19 +364,22 @@ public:
     refusal close(samvolip_ended &ended)
     {
         std::lock_guard<std::mutex> held(lock_);
-        if (!is_open())
-            return fault::empty;
-        place *mine = place_of(this);
-        const unsigned others = out_ - (mine ? 1 : 0);
-        if (others > 0)
-            return refusal(fault::not_all_seats, others);
-        if (mine) {
-            forget(mine);
-            keep(mine);
-            shares_.fetch_sub(1, std::memory_order_relaxed); /* the owner has one, too */
-        }
-        const int code = join_and_close(ended);
-        return code < 0 ? refusal::of_code(code) : refusal();
+        const refusal why = gather();
+        if (why.why() != fault::none)
+            return why;
+        const int code = samvolip_close(&reserve_, &ended);
+        is_open_.store(reserve_.handle != nullptr);
+        return refusal::of_code(code);
+    }
+
+    /* Settles the map for its owner, under the same conditions. */
+    refusal settle(std::uint64_t &size)
+    {
+        std::lock_guard<std::mutex> held(lock_);
+        const refusal why = gather();
+        if (why.why() != fault::none)
+            return why;
+        return refusal::of_code(samvolip_settle(&reserve_, &size));
     }
 
     /* Ends the pool for the map: only seats from take_seat() are left, and work on. */
@@ -430,8 +433,21 @@ private:
             samvolip_free(&one->handle);
     }
 
-    int join_and_close(samvolip_ended &ended)
+    /* Joins all seats to the handle in reserve, if nobody has one except this thread, which has none
+       afterwards. */
+    refusal gather()
     {
+        if (!is_open())
+            return fault::empty;
+        place *mine = place_of(this);
+        const unsigned others = out_ - (mine ? 1 : 0);
+        if (others > 0)
+            return refusal(fault::not_all_seats, others);
+        if (mine) {
+            forget(mine);
+            keep(mine);
+            shares_.fetch_sub(1, std::memory_order_relaxed); /* the owner has one, too */
+        }
         if (!reserve_.handle) {
             reserve_ = std::exchange(idle_->handle, SAMVOLIP_SEAT_INIT);
             push(blank_, pop(idle_));
@@ -439,13 +455,11 @@ private:
         while (idle_) {
             const int code = samvolip_join(&reserve_, &idle_->handle);
             if (code < 0)
-                return code;
+                return refusal::of_code(code);
             unsplit_++;
             push(blank_, pop(idle_));
         }
-        const int code = samvolip_close(&reserve_, &ended);
-        is_open_.store(reserve_.handle != nullptr);
-        return code;
+        return refusal();
     }
 
     void give_up_share() noexcept
@@ -1064,6 +1078,22 @@ public:
         if (!at)
             return why;
         return samvolip::walk(at, how_);
+    }
+
+    /*
+     * How many keys the map has, exactly, and it goes on. This thread has no seat of it afterwards,
+     * until its next call, and its walk is cut off.
+     *
+     * Cost: that of samvolip_join for each seat that was ever out, and of samvolip_settle.
+     * Refused: as close.
+     */
+    result<std::uint64_t> settle()
+    {
+        std::uint64_t size = 0;
+        const refusal why = pool_ ? pool_->settle(size) : refusal(fault::empty);
+        if (why.why() != fault::none)
+            return why;
+        return size;
     }
 
     /*

@@ -105,6 +105,16 @@ static inline int samvolip_checked_join(samvolip_seat *seat, samvolip_seat *othe
     return code;
 }
 
+static inline int samvolip_checked_settle(samvolip_seat *seat, uint64_t *size)
+{
+    int code;
+    samvolip_check(size != NULL, "samvolip_settle", "the size is NULL");
+    samvolip_enter(seat, "samvolip_settle");
+    code = samvolip_settle(seat, size);
+    samvolip_leave(seat);
+    return code;
+}
+
 static inline int samvolip_checked_close(samvolip_seat *seat, samvolip_ended *ended)
 {
     int code;
@@ -146,6 +156,53 @@ static inline int samvolip_checked_put_if_match(samvolip_seat *seat, uint64_t ke
     samvolip_check(change <= SAMVOLIP_ADD, "samvolip_put_if_match", "no such change");
     samvolip_enter(seat, "samvolip_put_if_match");
     code = samvolip_put_if_match(seat, key, want, old, change, number, tries, reply);
+    samvolip_leave(seat);
+    return code;
+}
+
+static inline int samvolip_checked_try_put(samvolip_seat *seat, uint64_t key,
+                                           uint64_t number, uint32_t tries,
+                                           uint64_t *before)
+{
+    int code;
+    samvolip_check(before != NULL, "samvolip_try_put", "the number is NULL");
+    samvolip_enter(seat, "samvolip_try_put");
+    code = samvolip_try_put(seat, key, number, tries, before);
+    samvolip_leave(seat);
+    return code;
+}
+
+static inline int samvolip_checked_try_put_if_absent(samvolip_seat *seat, uint64_t key,
+                                                     uint64_t number, uint32_t tries,
+                                                     uint64_t *before)
+{
+    int code;
+    samvolip_check(before != NULL, "samvolip_try_put_if_absent", "the number is NULL");
+    samvolip_enter(seat, "samvolip_try_put_if_absent");
+    code = samvolip_try_put_if_absent(seat, key, number, tries, before);
+    samvolip_leave(seat);
+    return code;
+}
+
+static inline int samvolip_checked_try_add(samvolip_seat *seat, uint64_t key,
+                                           uint64_t number, uint32_t tries,
+                                           uint64_t *before)
+{
+    int code;
+    samvolip_check(before != NULL, "samvolip_try_add", "the number is NULL");
+    samvolip_enter(seat, "samvolip_try_add");
+    code = samvolip_try_add(seat, key, number, tries, before);
+    samvolip_leave(seat);
+    return code;
+}
+
+static inline int samvolip_checked_try_remove(samvolip_seat *seat, uint64_t key, uint32_t tries,
+                                              uint64_t *before)
+{
+    int code;
+    samvolip_check(before != NULL, "samvolip_try_remove", "the number is NULL");
+    samvolip_enter(seat, "samvolip_try_remove");
+    code = samvolip_try_remove(seat, key, tries, before);
     samvolip_leave(seat);
     return code;
 }
@@ -234,10 +291,15 @@ static inline int samvolip_checked_ended_entries(const samvolip_ended *ended,
 #define samvolip_open samvolip_checked_open
 #define samvolip_split samvolip_checked_split
 #define samvolip_join samvolip_checked_join
+#define samvolip_settle samvolip_checked_settle
 #define samvolip_close samvolip_checked_close
 #define samvolip_free samvolip_checked_free
 #define samvolip_get samvolip_checked_get
 #define samvolip_put_if_match samvolip_checked_put_if_match
+#define samvolip_try_put samvolip_checked_try_put
+#define samvolip_try_put_if_absent samvolip_checked_try_put_if_absent
+#define samvolip_try_add samvolip_checked_try_add
+#define samvolip_try_remove samvolip_checked_try_remove
 #undef samvolip_size_estimate
 #define samvolip_size_estimate samvolip_checked_size_estimate
 #define samvolip_generation samvolip_checked_generation

@@ -10,4 +10,5 @@ mod Lending
 mod Promised
 mod Sampled
 mod SeatBox
+mod Settled
 mod Writing

@@ -67,6 +67,16 @@ checked_call key want old change number =
     and_then (checked_key key) (λ the_key. and_then (checked_want want old) (λ the_want.
     map_ok (call.Write the_key the_want) (checked_change change number)))
 
+-- a key and a number, or the code of the first of the two that is none
+abbrev pub checked_entry : (key number : ℕ) → Result (ℕ × ℕ) ℤ
+checked_entry key number =
+    and_then (checked_key key) (λ the_key.
+    map_ok (λ the_number. (the_key, the_number)) (checked_number number))
+
+-- the call of the two
+abbrev pub checked_with : (call : ℕ → ℕ → Call) → (key number : ℕ) → Result Call ℤ
+checked_with call key number = map_ok (λ entry. call entry.0 entry.1) (checked_entry key number)
+
 -- the call that a write is
 abbrev pub write_of : WriteAsked → Call
 write_of asked = call.Write asked.key asked.want asked.change

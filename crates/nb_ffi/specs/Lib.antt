@@ -11,3 +11,4 @@ pub mod Closing
 pub mod Entries
 pub mod Telling
 pub mod Fullness
+pub mod Settling

@@ -5,7 +5,7 @@ use Rattle.nb_core.specs.Plans.{Plan}
 use Rattle.nb_core.specs.declared.calls.Call.{Call}
 use Rattle.nb_core.specs.declared.calls.Reply.{Reply}
 use Rattle.nb_map.specs.Ending.{EndedOf, map_left}
-use Rattle.nb_map.specs.Promises.{Refused, Replied}
+use Rattle.nb_map.specs.Promises.{Refused, Replied, found_or_refused}
 use Rattle.nb_map.specs.declared.faults.PutFault.{PutFault}
 use Rattle.nb_ffi.specs.Closing.{HasAllSeats, IsEndOf}
 use Rattle.nb_ffi.specs.Codes.{fault_code, reply_in_c}
@@ -38,6 +38,25 @@ IsWrite (Ok call) tries code reply reply' before after =
     × StaysOpen before after (HasTriedToWrite call tries (Refused fault)))
 IsWrite (Err refusal) tries code reply reply' before after =
     (code ≡ refusal) × (reply' ≡ reply) × (after ≡ before)
+
+-- A write that answers what it found, or why it was refused, is told by this code: what it found is
+-- written, or 0 where there was none; or nothing is written.
+abbrev pub IsTold : Result (Option ℕ) PutFault → (code : ℤ) → (number number' : ℕ) → Type 0
+IsTold (Ok (Some found)) code number number' = (code ≡ PRESENT) × (number' ≡ found)
+IsTold (Ok None) code number number' = (code ≡ ABSENT) × (number' ≡ 0)
+IsTold (Err fault) code number number' = (code ≡ fault_code fault) × (number' ≡ number)
+
+-- A write that is asked for by its name came to this code: it was made, or it was refused, and that
+-- is told; or its key or its number is none, and nothing happened.
+abbrev pub IsNamedWrite :
+    Result Call ℤ → (tries : ℕ) → (code : ℤ) → (number number' : ℕ)
+    → (before after : Option SessionOf)
+    → Type 0
+IsNamedWrite (Ok call) tries code number number' before after =
+    (answer : Result (Option ℕ) PutFault) × IsTold answer code number number'
+    × StaysOpen before after (HasTriedToWrite call tries (found_or_refused answer))
+IsNamedWrite (Err refusal) tries code number number' before after =
+    (code ≡ refusal) × (number' ≡ number) × (after ≡ before)
 
 -- both handles are of one map
 abbrev pub AreOfOneMap : Option SessionOf → Option SessionOf → Type 0

@@ -4,6 +4,7 @@ ghost use Rattle.nb_ffi.specs.Checking.{map_ok};
 ghost use Rattle.nb_ffi.specs.Codes.{
   checked_call,
   checked_change,
+  checked_entry,
   checked_key,
   checked_number,
   checked_want,
@@ -167,6 +168,14 @@ fn change_of(code: u32, number: u64) -> Result<Change, i32>
         },
         _ => Err(E_CHANGE),
     }
+}
+
+/// The key and the number, or the first of them that is none.
+#[inline]
+pub(crate) fn entry_of(key: u64, number: u64) -> Result<(Key, Num), i32>
+    ensures { result ≡ checked_entry key number }
+{
+    Ok((key_of(key)?, number_of(number)?))
 }
 
 /// A write that C asks for.

@@ -6,4 +6,6 @@ mod ended;
 mod fullness;
 mod handles;
 mod library;
+mod settling;
+mod trying;
 mod walks;

@@ -15,4 +15,6 @@ mod map_shape;
 mod parts;
 mod seat_handle;
 mod session;
+mod settling;
+mod trying;
 mod walks;

@@ -116,7 +116,7 @@ impl Session {
 
 impl Session {
     /// Whether the handle has all seats of its map.
-    fn is_whole(&self) -> bool
+    pub(crate) fn is_whole(&self) -> bool
         ensures { (result ≡ true) ↔ HasAllSeats self.now }
     {
         self.spare.len() + 1 == self.map.shape().seats()

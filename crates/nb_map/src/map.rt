@@ -143,6 +143,7 @@ impl Map {
     /// (`IsShortAtHome` says all that is asked). A key that came is counted afterwards, and one
     /// that went, by one step on the counter. A refused write leaves the map as it is; but tables
     /// may have been installed and copied for it, and its key may keep a slot without a number.
+    #[inline(always)]
     pub fn put_if_match(
         &self,
         seat: &mut Seat,

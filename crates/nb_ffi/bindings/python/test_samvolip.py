@@ -74,9 +74,11 @@ def threads():
     assert refused(first.split) == Code.E_NO_SEAT
     run_all([threading.Thread(target=work, args=(seat, number)) for number, seat in enumerate(seats)])
     assert sorted(key for key, _ in first.walk()) == list(range(1000))
-    assert refused(first.close) == Code.E_NOT_ALL_SEATS
+    assert refused(first.close) == refused(first.settle) == Code.E_NOT_ALL_SEATS
     for seat in seats[1:]:
         first.join(seat)
+    assert first.settle() == 1000
+    assert first.put(1000, 1) is None and first.settle() == 1001 and first.remove(1000) == 1
     ended = first.close()
     assert len(ended) == 1000
     assert sum(number for _, number in ended.entries()) == 20000

@@ -9,8 +9,8 @@ ghost use Rattle.nb_map.specs.Calling.{HasMade};
 ghost use Rattle.nb_map.specs.Logs.{made_in};
 ghost use Rattle.nb_map.specs.Progress.{IsAtHome, IsHomeSlot, IsLastSeen, IsShortAtHome, passed_since};
 ghost use Rattle.nb_map.specs.Refusals.{IsJust, IsJustAdd};
-ghost use Rattle.nb_map.specs.Steps.{home_steps, put_steps};
-ghost use Rattle.nb_map.specs.inside.Climbing.{IsAt, IsSpent, rung_at};
+ghost use Rattle.nb_map.specs.Steps.{climb_steps, home_steps, put_steps};
+ghost use Rattle.nb_map.specs.inside.Climbing.{IsAt, IsRefused, IsSpent, rung_at};
 ghost use Rattle.nb_map.specs.inside.Writing.{IsHomeOf, IsShortThere, IsToldAtHome, made_at_home};
 
 use crate::faults::{AddFault, PutFault};
@@ -28,6 +28,7 @@ use std::sync::Wait;
 /// exchange that another seat came before is tried again, so many times in all; the pause is made
 /// before each. A write that leaves the map as it is makes no exchange. One conditional write
 /// stands behind all writes of `ConcurrentMap`, as `putIfMatch` of high-scale-lib.
+#[inline(always)]
 pub fn put_if_match_in<P: Pause>(
     chain: &Chain,
     seat: &mut ChainSeat,
@@ -57,9 +58,34 @@ pub fn put_if_match_in<P: Pause>(
         Some(told) => told,
         None => {
             let top = chain.load_top(seat);
-            climb(chain, seat, &call, Rung::at(top), &mut left, pause)
+            write_above(chain, seat, call, top, left, pause).0
         }
     }
+}
+
+/// Makes a write in the top table or above it, with so many tries. It says how many are left. What
+/// it takes by value stays out of memory on the straight way.
+#[inline(never)]
+fn write_above<P: Pause>(
+    chain: &Chain,
+    seat: &mut ChainSeat,
+    call: Call,
+    top: u32,
+    tries: u32,
+    pause: &mut P,
+) -> (Result<Reply, PutFault>, u32)
+    requires at { IsAt chain.now call seat.old (rung_at top) }
+    requires some { 1 ≤ tries }
+    requires serves { P.serves pause.old chain.now }
+    ensures made { HasMade chain.now.shape call seat.old seat.new (made_in call result.0)
+        (climb_steps chain.now.shape + (tries - result.1)) }
+    ensures refused { IfErr result.0 (IsRefused chain.now.shape call seat.old seat.new tries) }
+    ensures spent { IsSpent call seat.old seat.new tries result.1 }
+    ensures serves { P.serves pause.new chain.now }
+{
+    let mut rest = tries;
+    let told = climb(chain, seat, &call, Rung::at(top), &mut rest, pause);
+    (told, rest)
 }
 
 /// Makes a write on a chain of tables, and tries again for as long as other seats come first.

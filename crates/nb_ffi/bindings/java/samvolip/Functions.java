@@ -7,7 +7,7 @@ final class Functions {
     private Functions() {}
 
     /** The version of the samvolip.h that this package tells of, and the sizes of its structs. */
-    static final int VERSION = 0x000500, SHAPE_SIZE = 84, HANDLE_SIZE = 8, REPLY_SIZE = 16, ENTRY_SIZE = 16;
+    static final int VERSION = 0x000600, SHAPE_SIZE = 84, HANDLE_SIZE = 8, REPLY_SIZE = 16, ENTRY_SIZE = 16;
 
     static final int PRESENT = 1;
 
@@ -21,10 +21,15 @@ final class Functions {
     static final MethodHandle OPEN = Native.function("samvolip_open_with", false, I, L, L, L);
     static final MethodHandle SPLIT = Native.function("samvolip_split", false, I, L, L);
     static final MethodHandle JOIN = Native.function("samvolip_join", false, I, L, L);
+    static final MethodHandle SETTLE = Native.function("samvolip_settle", false, I, L, L);
     static final MethodHandle CLOSE = Native.function("samvolip_close", false, I, L, L);
     static final MethodHandle FREE = Native.function("samvolip_free_open", false, void.class, L);
     static final MethodHandle GET = Native.function("samvolip_get", true, I, L, L, L);
     static final MethodHandle PUT_IF_MATCH = Native.function("samvolip_put_if_match", false, I, L, L, I, L, I, L, I, L);
+    static final MethodHandle TRY_PUT = Native.function("samvolip_try_put", false, I, L, L, L, I, L);
+    static final MethodHandle TRY_PUT_IF_ABSENT = Native.function("samvolip_try_put_if_absent", false, I, L, L, L, I, L);
+    static final MethodHandle TRY_ADD = Native.function("samvolip_try_add", false, I, L, L, L, I, L);
+    static final MethodHandle TRY_REMOVE = Native.function("samvolip_try_remove", false, I, L, L, I, L);
     static final MethodHandle SIZE_ESTIMATE = Native.function("samvolip_size_estimate", true, L, L);
     static final MethodHandle GENERATION = Native.function("samvolip_generation", true, I, L);
     static final MethodHandle OCCUPANCY = Native.function("samvolip_occupancy", true, I, L, L, L);

@@ -80,6 +80,17 @@ final class Lane {
         other.release();
     }
 
+    /** With all seats of the map: how many keys it has, exactly. */
+    long settle() {
+        long at = full();
+        try {
+            made((int) Functions.SETTLE.invokeExact(at, at + WORDS));
+            return Native.getLong(at + WORDS);
+        } catch (Throwable thrown) {
+            throw wrong(thrown);
+        }
+    }
+
     /** With all seats of the map: what is left of it, as a lane whose handle is an ended map's. This one is freed. */
     Lane end() {
         Lane ended = new Lane();
@@ -128,10 +139,29 @@ final class Lane {
         }
     }
 
-    /** A write, and what it found. */
+    /** A put, add or remove by its name: its code. What it found is in the words. */
+    private static int tried(long at, long key, int want, int change, long number) throws Throwable {
+        if (change == Functions.REMOVE) return (int) Functions.TRY_REMOVE.invokeExact(at, key, -1, at + WORDS);
+        if (change == Functions.ADD) return (int) Functions.TRY_ADD.invokeExact(at, key, number, -1, at + WORDS);
+        if (want == Functions.WANT_ABSENT) return (int) Functions.TRY_PUT_IF_ABSENT.invokeExact(at, key, number, -1, at + WORDS);
+        return (int) Functions.TRY_PUT.invokeExact(at, key, number, -1, at + WORDS);
+    }
+
+    /** A write, made again while it is contended, and what it found. */
     OptionalLong written(long key, int want, int change, long number) {
-        long at = write(key, want, 0, change, number);
-        return Native.getInt(at + WORDS + 8) == 1 ? OptionalLong.of(Native.getLong(at + WORDS)) : OptionalLong.empty();
+        if (want == Functions.WANT_PRESENT) {
+            long at = write(key, want, 0, change, number);
+            return Native.getInt(at + WORDS + 8) == 1 ? OptionalLong.of(Native.getLong(at + WORDS)) : OptionalLong.empty();
+        }
+        long at = full();
+        try {
+            int code;
+            do code = tried(at, key, want, change, number);
+            while (code == Code.E_CONTENDED.number());
+            return made(code) == Functions.PRESENT ? OptionalLong.of(Native.getLong(at + WORDS)) : OptionalLong.empty();
+        } catch (Throwable thrown) {
+            throw wrong(thrown);
+        }
     }
 
     /** A write, and whether its condition held. */

@@ -76,6 +76,15 @@ public final class Seat extends LongMap implements AutoCloseable {
         }
     }
 
+    /**
+     * With all seats: how many keys the map has, exactly. Each seat knows of all calls then, and the map goes on. Refused as
+     * {@link Code#E_NOT_ALL_SEATS}.
+     */
+    public synchronized long settle() {
+        checkOwn();
+        return full().settle();
+    }
+
     /** With all seats: what is left of the map. This seat is closed then. Refused as {@link Code#E_NOT_ALL_SEATS}. */
     public synchronized Ended end() {
         checkOwn();

@@ -320,6 +320,7 @@ public final class SamvolipTest {
             }
         });
         expect(refused(() -> seats[0].end()), Code.E_NOT_ALL_SEATS);
+        expect(refused(() -> seats[0].settle()), Code.E_NOT_ALL_SEATS);
         Seat other = Seat.open(Shape.forKeys(10, 1));
         expect(illegal(() -> seats[0].join(other)), "not two seats of one map");
         expect(illegal(() -> seats[0].join(seats[0])), "not two seats of one map");
@@ -328,6 +329,7 @@ public final class SamvolipTest {
         expect(illegal(() -> other.get(1)), "the seat was closed");
         for (int i = 1; i < 4; i++) seats[0].join(seats[i]);
         expect(illegal(() -> seats[1].get(1)), "the seat was closed");
+        expect(seats[0].settle(), 1000L);
         try (Ended ended = seats[0].end()) {
             expect(ended.size(), 1000L);
             expect(ended.entries().stream().mapToLong(Entry::number).sum(), 200000L);

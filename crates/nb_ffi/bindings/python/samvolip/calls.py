@@ -16,8 +16,8 @@ T = TypeVar("T")
 TRIES = 2**32 - 1
 
 # as plain numbers, which ctypes takes faster
-_ANY, _ABSENT, _PRESENT, _EQUAL = (int(want) for want in Want)
-_PUT, _REMOVE, _ADD = (int(change) for change in Change)
+_PRESENT, _EQUAL = int(Want.PRESENT), int(Want.EQUAL)
+_PUT, _REMOVE = int(Change.PUT), int(Change.REMOVE)
 _CONTENDED = int(Code.E_CONTENDED)
 
 
@@ -129,22 +129,27 @@ class Calls:
                 made(code)
                 return reply
 
-    def _found(self, key: SupportsIndex, want: int, change: int, number: int = 0) -> int | None:
-        """What such a write found."""
-        reply = self._write(key, want, change, number)
-        return reply.before if reply.had else None
+    def _tried(self, function: Any, key: SupportsIndex, *numbers: int) -> int | None:
+        """What a write by its name found. It is made again as long as it is contended."""
+        before = c_uint64()
+        key = self._key(key)
+        while True:
+            code = self._reach(function, key, *numbers, TRIES, before)
+            if code != _CONTENDED:
+                return before.value if made(code) else None
 
     def put(self, key: SupportsIndex, number: SupportsIndex) -> int | None:
         """Puts a number at a key. What was there, or None."""
-        return self._found(key, _ANY, _PUT, word(number))
+        return self._tried(library.try_put, key, word(number))
 
     def put_if_absent(self, key: SupportsIndex, number: SupportsIndex) -> int | None:
         """Puts a number at a key that has none. What was there: None if it did."""
-        return self._found(key, _ABSENT, _PUT, word(number))
+        return self._tried(library.try_put_if_absent, key, word(number))
 
     def replace(self, key: SupportsIndex, number: SupportsIndex) -> int | None:
         """Puts a number at a key that has one. What was there, or None."""
-        return self._found(key, _PRESENT, _PUT, word(number))
+        reply = self._write(key, _PRESENT, _PUT, word(number))
+        return reply.before if reply.had else None
 
     def replace_if(self, key: SupportsIndex, old: SupportsIndex, number: SupportsIndex) -> bool:
         """Puts a number in place of another. Whether it did."""
@@ -152,7 +157,7 @@ class Calls:
 
     def remove(self, key: SupportsIndex) -> int | None:
         """Takes a key out. What was there, or None."""
-        return self._found(key, _ANY, _REMOVE)
+        return self._tried(library.try_remove, key)
 
     def remove_if(self, key: SupportsIndex, number: SupportsIndex) -> bool:
         """Takes a key out that has this number. Whether it did."""
@@ -160,7 +165,7 @@ class Calls:
 
     def add(self, key: SupportsIndex, number: SupportsIndex) -> int | None:
         """Adds a number to what is at a key, or to 0 if there is none. What was there, or None."""
-        return self._found(key, _ANY, _ADD, word(number))
+        return self._tried(library.try_add, key, word(number))
 
     def compute(self, key: SupportsIndex, function: Callable[[int | None], int | None]) -> int | None:
         """Puts at a key what the function makes of the number there. None is no number, before and after. What it made.

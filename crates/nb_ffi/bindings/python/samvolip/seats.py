@@ -89,6 +89,12 @@ class Seat(Calls):
             self.count += other.count
             other.count = 0
 
+    def settle(self) -> int:
+        """How many keys the map has, exactly, if the seat has all seats. Each knows of all calls then, and the map goes on."""
+        size = c_uint64()
+        made(self._reach(library.settle, size))
+        return size.value
+
     def close(self) -> Ended:
         """Ends the map, if the seat has all seats: what is left of it. The seat is empty then."""
         handle = c_void_p()

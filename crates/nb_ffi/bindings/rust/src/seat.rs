@@ -115,6 +115,15 @@ impl Seat {
         }
     }
 
+    /// With all seats: how many keys the map has, exactly. Each seat knows of all calls then, and the map goes on. Refused as
+    /// [`Fault::NotAllSeats`] or [`Fault::OutOfMemory`].
+    pub fn settle(&mut self) -> Result<u64, Fault> {
+        let mut size = 0;
+        // SAFETY: the handle is full.
+        made(unsafe { sys::samvolip_settle(&mut self.raw, &mut size) })?;
+        Ok(size)
+    }
+
     /// With all seats: what is left of the map. Refused as [`Fault::NotAllSeats`] or [`Fault::OutOfMemory`], with the seat
     /// given back.
     pub fn close(self) -> Result<Ended, Refused> {
@@ -196,15 +205,38 @@ impl Seat {
         }
     }
 
+    /// A write by its name, for as long as it is contended: what it found.
+    #[inline]
+    fn tried(
+        &mut self,
+        call: impl Fn(*mut sys::Handle, *mut u64) -> i32,
+    ) -> Result<Option<u64>, Fault> {
+        let mut before = 0;
+        loop {
+            match call(&mut self.raw, &mut before) {
+                sys::E_CONTENDED => continue,
+                code => return Ok((made(code)? == sys::PRESENT).then_some(before)),
+            }
+        }
+    }
+
     /// Puts a number at a key, and answers what was there. Refused as [`Fault::KeyRange`], [`Fault::ValueRange`] or
     /// [`Fault::Full`].
     pub fn put(&mut self, key: u64, number: u64) -> Result<Option<u64>, Fault> {
-        Ok(self.write(key, Want::Any, Change::Put(number))?.before)
+        let key = self.keys.inside(key);
+        // SAFETY: the handle is full.
+        self.tried(|seat, before| unsafe {
+            sys::samvolip_try_put(seat, key, number, u32::MAX, before)
+        })
     }
 
     /// Puts a number at a key that has none, and answers what was there. Refused as [`put`](Seat::put).
     pub fn put_if_absent(&mut self, key: u64, number: u64) -> Result<Option<u64>, Fault> {
-        Ok(self.write(key, Want::Absent, Change::Put(number))?.before)
+        let key = self.keys.inside(key);
+        // SAFETY: the handle is full.
+        self.tried(|seat, before| unsafe {
+            sys::samvolip_try_put_if_absent(seat, key, number, u32::MAX, before)
+        })
     }
 
     /// Puts a number in place of another, and answers what was there. Refused as [`Fault::KeyRange`] or
@@ -220,7 +252,11 @@ impl Seat {
 
     /// Takes a key out, and answers what was there. Refused as [`Fault::KeyRange`].
     pub fn remove(&mut self, key: u64) -> Result<Option<u64>, Fault> {
-        Ok(self.write(key, Want::Any, Change::Remove)?.before)
+        let key = self.keys.inside(key);
+        // SAFETY: the handle is full.
+        self.tried(|seat, before| unsafe {
+            sys::samvolip_try_remove(seat, key, u32::MAX, before)
+        })
     }
 
     /// Takes out a key that has this number, and answers whether it did. Refused as [`replace`](Seat::replace).
@@ -231,7 +267,11 @@ impl Seat {
     /// Adds a number to what is at a key, or to 0, and answers what was there. Refused as [`put`](Seat::put), or as
     /// [`Fault::SumRange`].
     pub fn add(&mut self, key: u64, number: u64) -> Result<Option<u64>, Fault> {
-        Ok(self.write(key, Want::Any, Change::Add(number))?.before)
+        let key = self.keys.inside(key);
+        // SAFETY: the handle is full.
+        self.tried(|seat, before| unsafe {
+            sys::samvolip_try_add(seat, key, number, u32::MAX, before)
+        })
     }
 
     /// Sets a key to `new` if it is at `old`, by one step; `None` is no number. Refused as [`put`](Seat::put).

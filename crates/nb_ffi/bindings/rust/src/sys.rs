@@ -7,7 +7,7 @@ use std::mem::size_of;
 use std::ptr::NonNull;
 
 /// The version of `samvolip.h` that this file tells of.
-pub const VERSION: u32 = 0x000500;
+pub const VERSION: u32 = 0x000600;
 
 /// The greatest key.
 pub const KEY_MAX: u64 = u64::MAX - 2;
@@ -127,6 +127,7 @@ extern "C" {
     ) -> i32;
     pub fn samvolip_split(seat: *mut Handle, other: *mut Handle) -> i32;
     pub fn samvolip_join(seat: *mut Handle, other: *mut Handle) -> i32;
+    pub fn samvolip_settle(seat: *mut Handle, size: *mut u64) -> i32;
     pub fn samvolip_close(seat: *mut Handle, ended: *mut Handle) -> i32;
     pub fn samvolip_free_open(seat: *mut Handle);
     pub fn samvolip_get(seat: *mut Handle, key: u64, number: *mut u64) -> i32;
@@ -140,6 +141,28 @@ extern "C" {
         tries: u32,
         reply: *mut Reply,
     ) -> i32;
+    pub fn samvolip_try_put(
+        seat: *mut Handle,
+        key: u64,
+        number: u64,
+        tries: u32,
+        before: *mut u64,
+    ) -> i32;
+    pub fn samvolip_try_put_if_absent(
+        seat: *mut Handle,
+        key: u64,
+        number: u64,
+        tries: u32,
+        before: *mut u64,
+    ) -> i32;
+    pub fn samvolip_try_add(
+        seat: *mut Handle,
+        key: u64,
+        number: u64,
+        tries: u32,
+        before: *mut u64,
+    ) -> i32;
+    pub fn samvolip_try_remove(seat: *mut Handle, key: u64, tries: u32, before: *mut u64) -> i32;
     pub fn samvolip_size_estimate(seat: *mut Handle) -> u64;
     pub fn samvolip_generation(seat: *mut Handle) -> u32;
     pub fn samvolip_occupancy(seat: *mut Handle, taken: *mut u32, looked: *mut u32) -> i32;

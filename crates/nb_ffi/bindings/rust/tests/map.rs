@@ -118,6 +118,22 @@ fn more_threads_than_seats() {
 }
 
 #[test]
+fn settle_with_all_seats() {
+    let mut mine = Seat::open(&Shape::for_keys(100, 2).unwrap()).unwrap();
+    let mut other = mine.split().unwrap();
+    mine.put(1, 5).unwrap();
+    other.put(2, 6).unwrap();
+    assert_eq!(mine.settle(), Err(Fault::NotAllSeats));
+    mine.join(other).unwrap();
+    assert_eq!(mine.settle(), Ok(2));
+    let mut other = mine.split().unwrap();
+    assert_eq!(other.remove(1), Ok(Some(5)));
+    mine.join(other).unwrap();
+    assert_eq!(mine.settle(), Ok(1));
+    assert_eq!(mine.close().unwrap().size(), 1);
+}
+
+#[test]
 fn close_while_others_have_seats() {
     let map = Arc::new(Map::for_keys(100, 4).unwrap());
     map.put(1, 5).unwrap();

@@ -1,7 +1,6 @@
-use Rattle.std.proofs.Common.{inl, inr, subst, sym, arith}
+use Rattle.std.proofs.Common.{inl, inr, arith}
 use Rattle.std.proofs.lemmas.Result.{IfErr-weaker}
 use Rattle.nb_core.specs.declared.calls.Call.TheVariants as call
-use Rattle.nb_map.specs.inside.Climbing.{IsAt}
 use Rattle.nb_map.proofs.AtHome.{told-just}
 use Rattle.nb_map.proofs.Spent.{just-longer, spent-later}
 use Rattle.nb_map.proofs.Straight.{at-known, at-top, made-elsewhere, made-there, short-elsewhere, short-there}
@@ -32,14 +31,11 @@ returns-in-Some g c =
 
 -- ---- elsewhere
 
-pub climb-requires-clause-at : goal.climb-requires-clause-at
-climb-requires-clause-at g c =
-    let chain = c.args.chain.now in
-    let write = call.Write c.args.key c.args.want c.args.change in
-    subst (IsAt chain write c.load_top-top.new.seat) (sym c.at.ensures)
-    (at-top chain c.known_top-known.result c.requires.own c.known_top-known.ensures
+pub write_above-requires-clause-at : goal.write_above-requires-clause-at
+write_above-requires-clause-at g c =
+    at-top c.args.chain.now c.known_top-known.result c.requires.own c.known_top-known.ensures
     c.in-None.ensures.made c.load_top-top.ensures.grows c.load_top-top.result
-    c.load_top-top.ensures.found)
+    c.load_top-top.ensures.found
 
 pub returns-in-None : goal.returns-in-None
 returns-in-None g c =
@@ -47,22 +43,22 @@ returns-in-None g c =
     let write = call.Write c.args.key c.args.want c.args.change in
     let home = c.in-None.ensures in
     let load = steps_add_up.one c.load_top-top.ensures.grows in
-    let climb = c.climb.ensures in
+    let above = c.write_above.ensures in
     record {
       made = made-elsewhere c.args.chain.now c.known_top-known.result c.requires.own
           c.known_top-known.ensures home.made c.load_top-top.ensures.grows home.spent
-          c.requires.some climb.made climb.spent;
-      refused = IfErr-weaker c.climb.result _ _
+          c.requires.some above.made above.spent;
+      refused = IfErr-weaker c.write_above.result.0 _ _
           (λ fault refused.
           just-longer p write c.args.tries c.write_home.new.tries
-          (steps_add_up.more home.made.grown load) climb.made.grown
-          (spent-later home.spent home.made.grown load).lost fault refused.0) climb.refused;
-      looked = omega (arith, home.looked, load.steps, climb.made.grown.steps);
+          (steps_add_up.more home.made.grown load) above.made.grown
+          (spent-later home.spent home.made.grown load).lost fault refused.0) above.refused;
+      looked = omega (arith, home.looked, load.steps, above.made.grown.steps);
       short = short-elsewhere c.args.chain.now c.known_top-known.result c.requires.own
           c.known_top-known.ensures home.made c.load_top-top.ensures.grows
           (λ alone way. elim way [
             | inl known ↦ let told = (home.short.known alone known).0 in cc
             | inr last ↦ let told = (home.short.claimed alone last).0 in cc
-          ]) climb.made;
-      serves = climb.serves;
+          ]) above.made;
+      serves = above.serves;
     }

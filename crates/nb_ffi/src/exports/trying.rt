@@ -1,0 +1,101 @@
+//! Writes at a key by their names, each with so many tries.
+ghost use Rattle.nb_map.specs.NamedCalls.{add_of, put_if_absent_of, put_of, remove_of};
+ghost use Rattle.nb_ffi.specs.Checking.{map_ok};
+ghost use Rattle.nb_ffi.specs.Codes.{checked_key, checked_with};
+ghost use Rattle.nb_ffi.specs.Handles.{IsOpen};
+ghost use Rattle.nb_ffi.specs.Telling.{IsNamedWrite, IsTold};
+
+use crate::codes::{ABSENT, PRESENT, entry_of, fault_code, key_of};
+use crate::seat_handle::SeatHandle;
+use nb_core::Num;
+use nb_map::PutFault;
+
+/// `Map::try_put`.
+#[unsafe(no_mangle)]
+pub extern "C" fn samvolip_try_put(
+    seat: &mut SeatHandle,
+    key: u64,
+    number: u64,
+    tries: u32,
+    before: &mut u64,
+) -> i32
+    requires open { IsOpen seat.old.session }
+    ensures { IsNamedWrite (checked_with put_of key number) tries result before.old before.new
+        seat.old.session seat.new.session }
+{
+    match entry_of(key, number) {
+        Ok((key, number)) => told(seat.lend().try_put(key, number, tries), before),
+        Err(code) => code,
+    }
+}
+
+/// `Map::try_put_if_absent`.
+#[unsafe(no_mangle)]
+pub extern "C" fn samvolip_try_put_if_absent(
+    seat: &mut SeatHandle,
+    key: u64,
+    number: u64,
+    tries: u32,
+    before: &mut u64,
+) -> i32
+    requires open { IsOpen seat.old.session }
+    ensures { IsNamedWrite (checked_with put_if_absent_of key number) tries result before.old before.new
+        seat.old.session seat.new.session }
+{
+    match entry_of(key, number) {
+        Ok((key, number)) => told(seat.lend().try_put_if_absent(key, number, tries), before),
+        Err(code) => code,
+    }
+}
+
+/// `Map::try_add`.
+#[unsafe(no_mangle)]
+pub extern "C" fn samvolip_try_add(
+    seat: &mut SeatHandle,
+    key: u64,
+    number: u64,
+    tries: u32,
+    before: &mut u64,
+) -> i32
+    requires open { IsOpen seat.old.session }
+    ensures { IsNamedWrite (checked_with add_of key number) tries result before.old before.new
+        seat.old.session seat.new.session }
+{
+    match entry_of(key, number) {
+        Ok((key, number)) => told(seat.lend().try_add(key, number, tries), before),
+        Err(code) => code,
+    }
+}
+
+/// `Map::try_remove`.
+#[unsafe(no_mangle)]
+pub extern "C" fn samvolip_try_remove(
+    seat: &mut SeatHandle,
+    key: u64,
+    tries: u32,
+    before: &mut u64,
+) -> i32
+    requires open { IsOpen seat.old.session }
+    ensures { IsNamedWrite (map_ok remove_of (checked_key key)) tries result before.old before.new
+        seat.old.session seat.new.session }
+{
+    match key_of(key) {
+        Ok(key) => told(seat.lend().try_remove(key, tries), before),
+        Err(code) => code,
+    }
+}
+
+/// Writes what a write found, or 0 where there was none, and answers its code.
+#[inline(always)]
+fn told(answer: Result<Option<Num>, PutFault>, number: &mut u64) -> i32
+    ensures { IsTold answer result number.old number.new }
+{
+    match answer {
+        Ok(found) => {
+            // a hit and a miss take the same way
+            *number = found.map_or(0, Num::get);
+            if found.is_some() { PRESENT } else { ABSENT }
+        }
+        Err(fault) => fault_code(fault),
+    }
+}
