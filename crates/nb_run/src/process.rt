@@ -1,7 +1,8 @@
 //! The program as a process: its words, its streams and its exit status.
 ghost use Rattle.std.specs.Io.{WritesAtMost};
 
-use crate::serve::serve;
+use crate::progress::{Progress, Watched};
+use crate::serve::serve_gated;
 use nb_script::options::OptionFault;
 use nb_script::streams::{FromRead, FromWrite};
 use std::env;
@@ -60,17 +61,32 @@ pub(crate) fn arguments<P: Env + AllocGlobal>(process: &P) -> Result<Vec<String>
     Ok(words)
 }
 
-/// Serves a process on its standard streams, and answers its exit status.
-pub fn serve_process<P, R, W, E>(process: &P, input: R, output: W, errors: E) -> u8
+/// Serves a process on its standard streams, and answers its exit status. Progress is told on
+/// standard error, past `errors`, where that is asked for.
+pub fn serve_process<P, R, W, E>(
+    process: &P,
+    input: R,
+    output: W,
+    errors: E,
+    tells_progress: bool,
+) -> u8
 where
-    P: Env + Threads + Wait + AllocGlobal + Sync,
+    P: Env + Threads + Wait + AllocGlobal + Eprint + Sync,
     R: Read + Drop,
     W: Write + Drop,
     E: Write + Drop,
 {
     let words = arguments(process);
-    let mut reader = FromRead::new(input);
-    let mut writer = FromWrite::new(output);
-    let mut errors = FromWrite::new(errors);
-    serve(process, words, &mut reader, &mut writer, &mut errors)
+    let progress = Progress::new(process, tells_progress);
+    let mut reader = FromRead::new(Watched::new(&progress, input));
+    let mut writer = FromWrite::new(Watched::new(&progress, output));
+    let mut errors = FromWrite::new(Watched::new(&progress, errors));
+    serve_gated(
+        process,
+        &progress,
+        words,
+        &mut reader,
+        &mut writer,
+        &mut errors,
+    )
 }

@@ -22,7 +22,8 @@ ghost use Rattle.nb_run.specs.Serving.{
   streams,
 };
 
-use crate::run::run;
+use crate::gate::{Gate, Open};
+use crate::run::run_gated;
 use nb_script::faults::{RunFault, ServeFault};
 use nb_script::options::{OptionFault, Options, read_options};
 use nb_script::streams::{Sink, Source, write_all};
@@ -43,8 +44,9 @@ fn options_of(
 }
 
 /// Reads the options and runs the script, or writes the help that the words ask for.
-fn attend<H: Threads + Wait + AllocGlobal + Sync, R: Source, W: Sink>(
+fn attend<H: Threads + Wait + AllocGlobal + Sync, G: Gate + Sync, R: Source, W: Sink>(
     rt: &H,
+    gate: &G,
     words: Result<Vec<String>, OptionFault>,
     reader: &mut R,
     writer: &mut W,
@@ -65,7 +67,7 @@ fn attend<H: Threads + Wait + AllocGlobal + Sync, R: Source, W: Sink>(
         → writer.new ≡ writer.old) }
 {
     match options_of(rt.alloc(), words) {
-        Ok(options) => run(rt, &options, reader, writer).map_err(ServeFault::Run),
+        Ok(options) => run_gated(rt, gate, &options, reader, writer).map_err(ServeFault::Run),
         Err(OptionFault::Usage) => Err(ServeFault::Usage),
         Err(OptionFault::OutOfMemory) => Err(ServeFault::Run(RunFault::OutOfMemory)),
         Err(OptionFault::Help(text)) => match write_all(writer, text.as_bytes()) {
@@ -108,7 +110,46 @@ pub fn serve<H: Threads + Wait + AllocGlobal + Sync, R: Source, W: Sink, E: Sink
     // Another fault than a failed write leaves the writer as it was.
     ensures silent { result ≢ 0 → W.failed writer.new ≡ false → writer.new ≡ writer.old }
 {
-    match attend(rt, words, reader, writer) {
+    serve_gated(rt, &Open, words, reader, writer, errors)
+}
+
+/// The same, with a gate round each command.
+pub fn serve_gated<
+    H: Threads + Wait + AllocGlobal + Sync,
+    G: Gate + Sync,
+    R: Source,
+    W: Sink,
+    E: Sink,
+>(
+    rt: &H,
+    gate: &G,
+    words: Result<Vec<String>, OptionFault>,
+    reader: &mut R,
+    writer: &mut W,
+    errors: &mut E,
+) -> u8
+    requires reader { R.failed reader.old ≡ false }
+    requires more { R.ended reader.old ≡ false }
+    requires writer { W.failed writer.old ≡ false }
+    requires errors { E.failed errors.old ≡ false }
+
+    ensures done { result ≡ 0 → HasRunAsAsked words (R.remaining reader.old)
+        (R.remaining reader.new) (W.contents writer.old) (W.contents writer.new)
+        ⊎ HasShownHelp words (R.remaining reader.old) (R.remaining reader.new)
+        (W.contents writer.old) (W.contents writer.new) }
+    ensures whole { result ≡ 0 → (R.failed reader.new ≡ false) × (W.failed writer.new ≡ false) }
+    ensures quiet { result ≡ 0 → errors.new ≡ errors.old }
+
+    ensures failed { result ≢ 0 → HasFailed words
+        (streams (R.remaining reader.old) (W.contents writer.old) (E.contents errors.old)
+        (R.failed reader.old) (W.failed writer.old) (E.failed errors.old))
+        (streams (R.remaining reader.new) (W.contents writer.new) (E.contents errors.new)
+        (R.failed reader.new) (W.failed writer.new) (E.failed errors.new))
+        result }
+
+    ensures silent { result ≢ 0 → W.failed writer.new ≡ false → writer.new ≡ writer.old }
+{
+    match attend(rt, gate, words, reader, writer) {
         Ok(()) => 0,
         Err(fault) => {
             let _ = fault.complain(errors);
