@@ -774,8 +774,8 @@ public:
             int code;
             do
                 code = samvolip_compare_exchange(seat, in_map, expected ? &*expected : nullptr,
-                                                 next ? &*next : nullptr, UINT32_MAX, &reply);
-            while (code == SAMVOLIP_E_CONTENDED);
+                                                 next ? &*next : nullptr, 1, &reply);
+            while (code == SAMVOLIP_E_CONTENDED && samvolip_rest());
             if (code < 0)
                 return code;
             if (!reply.matched)

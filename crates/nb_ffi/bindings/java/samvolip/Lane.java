@@ -125,13 +125,20 @@ final class Lane {
         }
     }
 
+    /** Whether others came before a write. Then they go on for some microseconds, and make several calls while they have the key's cache line. */
+    private static boolean isContended(int code) {
+        if (code != Code.E_CONTENDED.number()) return false;
+        for (int turn = 0; turn < 200; turn++) Thread.onSpinWait();
+        return true;
+    }
+
     /** The write behind all others, made again while it is contended. Its reply is in the words. */
     private long write(long key, int want, long old, int change, long number) {
         long at = full();
         try {
             int code;
-            do code = (int) Functions.PUT_IF_MATCH.invokeExact(at, key, want, old, change, number, -1, at + WORDS);
-            while (code == Code.E_CONTENDED.number());
+            do code = (int) Functions.PUT_IF_MATCH.invokeExact(at, key, want, old, change, number, 1, at + WORDS);
+            while (isContended(code));
             made(code);
             return at;
         } catch (Throwable thrown) {
@@ -141,10 +148,10 @@ final class Lane {
 
     /** A put, add or remove by its name: its code. What it found is in the words. */
     private static int tried(long at, long key, int want, int change, long number) throws Throwable {
-        if (change == Functions.REMOVE) return (int) Functions.TRY_REMOVE.invokeExact(at, key, -1, at + WORDS);
-        if (change == Functions.ADD) return (int) Functions.TRY_ADD.invokeExact(at, key, number, -1, at + WORDS);
-        if (want == Functions.WANT_ABSENT) return (int) Functions.TRY_PUT_IF_ABSENT.invokeExact(at, key, number, -1, at + WORDS);
-        return (int) Functions.TRY_PUT.invokeExact(at, key, number, -1, at + WORDS);
+        if (change == Functions.REMOVE) return (int) Functions.TRY_REMOVE.invokeExact(at, key, 1, at + WORDS);
+        if (change == Functions.ADD) return (int) Functions.TRY_ADD.invokeExact(at, key, number, 1, at + WORDS);
+        if (want == Functions.WANT_ABSENT) return (int) Functions.TRY_PUT_IF_ABSENT.invokeExact(at, key, number, 1, at + WORDS);
+        return (int) Functions.TRY_PUT.invokeExact(at, key, number, 1, at + WORDS);
     }
 
     /** A write, made again while it is contended, and what it found. */
@@ -157,7 +164,7 @@ final class Lane {
         try {
             int code;
             do code = tried(at, key, want, change, number);
-            while (code == Code.E_CONTENDED.number());
+            while (isContended(code));
             return made(code) == Functions.PRESENT ? OptionalLong.of(Native.getLong(at + WORDS)) : OptionalLong.empty();
         } catch (Throwable thrown) {
             throw wrong(thrown);

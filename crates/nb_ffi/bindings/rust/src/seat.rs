@@ -198,8 +198,8 @@ impl Seat {
     #[inline]
     fn write(&mut self, key: u64, want: Want, change: Change) -> Result<Reply, Fault> {
         loop {
-            match self.put_if_match(key, want, change, u32::MAX) {
-                Err(Fault::Contended) => continue,
+            match self.put_if_match(key, want, change, 1) {
+                Err(Fault::Contended) => rest(),
                 ended => return ended,
             }
         }
@@ -214,7 +214,7 @@ impl Seat {
         let mut before = 0;
         loop {
             match call(&mut self.raw, &mut before) {
-                sys::E_CONTENDED => continue,
+                sys::E_CONTENDED => rest(),
                 code => return Ok((made(code)? == sys::PRESENT).then_some(before)),
             }
         }
@@ -226,7 +226,7 @@ impl Seat {
         let key = self.keys.inside(key);
         // SAFETY: the handle is full.
         self.tried(|seat, before| unsafe {
-            sys::samvolip_try_put(seat, key, number, u32::MAX, before)
+            sys::samvolip_try_put(seat, key, number, 1, before)
         })
     }
 
@@ -235,7 +235,7 @@ impl Seat {
         let key = self.keys.inside(key);
         // SAFETY: the handle is full.
         self.tried(|seat, before| unsafe {
-            sys::samvolip_try_put_if_absent(seat, key, number, u32::MAX, before)
+            sys::samvolip_try_put_if_absent(seat, key, number, 1, before)
         })
     }
 
@@ -255,7 +255,7 @@ impl Seat {
         let key = self.keys.inside(key);
         // SAFETY: the handle is full.
         self.tried(|seat, before| unsafe {
-            sys::samvolip_try_remove(seat, key, u32::MAX, before)
+            sys::samvolip_try_remove(seat, key, 1, before)
         })
     }
 
@@ -270,7 +270,7 @@ impl Seat {
         let key = self.keys.inside(key);
         // SAFETY: the handle is full.
         self.tried(|seat, before| unsafe {
-            sys::samvolip_try_add(seat, key, number, u32::MAX, before)
+            sys::samvolip_try_add(seat, key, number, 1, before)
         })
     }
 
@@ -442,6 +442,15 @@ pub(crate) fn update_from(
             return Ok(found);
         }
         found = reply.before;
+    }
+}
+
+/// Lets other threads go on for some microseconds, since they came first: they make several calls while they have the key's
+/// cache line.
+#[cold]
+fn rest() {
+    for _ in 0..200 {
+        std::hint::spin_loop();
     }
 }
 
