@@ -6,6 +6,7 @@ use super::rows::Call::{
     Add, Estimate, Generation, Get, Has, Put, PutIfAbsent, Remove, RemoveIf, Replace, ReplaceIf,
 };
 use super::rows::*;
+use super::settling::settles;
 use nb_core::{Change, Shape, VALUE_MAX, Want};
 use nb_map::{AddFault, Full, FullAfter, Handle, PutFault, SettleFault};
 use std::process::Abort;
@@ -30,6 +31,7 @@ fn refused_memory(rt: HostRuntime) -> Result<(), Fail> {
         Err(_) => Handle::open(rt.alloc(), Shape::new(2, 2, 1, 1)?)?,
     };
     last_sees(&rt, &mut handles, &[(1, Put(11), Nothing)])?;
+    settles(&rt, rt.alloc(), &mut handles, 1);
     let ended = ended(&rt, handles);
     let entries = match ended.entries(rt.alloc()) {
         Ok(entries) => entries,

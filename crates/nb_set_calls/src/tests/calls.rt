@@ -2,6 +2,7 @@
 ghost use Rattle.nb_set.specs.Sets.{IsMine};
 
 use super::on_set::*;
+use super::settling::{handles_settle, settles};
 use nb_core::{NotAll, OutOfMemory, Shape};
 use nb_set::{Full, Handle, LongSet, Seat};
 use std::alloc::Global;
@@ -26,11 +27,12 @@ fn set_of_keys(rt: HostRuntime) -> Result<(), Fail> {
 /// A refused set of handles is asked for again. Then each seat has its handle, and all of them close
 /// the set.
 fn opens<R: Wait + Abort>(rt: &R, alloc: Global, shape: Shape) -> Result<(), OutOfMemory> {
-    let handles = match Handle::open(alloc, shape) {
+    let mut handles = match Handle::open(alloc, shape) {
         Ok(handles) => handles,
         Err(OutOfMemory) => Handle::open(alloc, shape)?,
     };
     assert_eq!(rt; handles.len(), shape.seats());
+    handles_settle(rt, alloc, &mut handles, 0);
     let Ok(ended) = Handle::close(rt, handles) else {
         panic!(rt; "all handles are here")
     };
@@ -49,6 +51,7 @@ fn refused_memory(rt: HostRuntime) -> Result<(), Fail> {
     let mut seat = taken(&rt, &set, &mut seats);
     adds(&rt, &set, &mut seat, &[1]);
     given_back(&set, &mut seats, seat)?;
+    settles(&rt, rt.alloc(), &set, &mut seats, 1);
     let ended = ended(&rt, set, seats);
     let entries = match ended.entries(rt.alloc()) {
         Ok(entries) => entries,
