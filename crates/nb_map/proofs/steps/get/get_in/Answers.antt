@@ -1,4 +1,4 @@
-use Rattle.std.proofs.Common.{◌+◌, inl, subst, sym, arith}
+use Rattle.std.proofs.Common.{inl, subst, sym, arith}
 use Rattle.nb_core.specs.declared.calls.Call.TheVariants as call
 use Rattle.nb_table.specs.Chains.{seen_by}
 use Rattle.nb_map.specs.Progress.{IsAtHome}

@@ -1,11 +1,10 @@
-use Rattle.std.proofs.Common.{◌≡◌, ◌∙◌, ◌+◌, [], None, Some, ap, refl, subst, sym, arith}
+use Rattle.std.proofs.Common.{◌≡◌, ◌∙◌, [], None, Some, refl, subst, arith}
 use Rattle.nb_core.specs.Tables.{path_slot}
 use Rattle.nb_core.specs.declared.calls.Call.TheVariants as call
 use Rattle.nb_core.specs.declared.states.KeyState.{KeyState}
 use Rattle.nb_core.specs.declared.states.KeyState.TheVariants.{Empty}
 use Rattle.nb_table.specs.Chains.{Extended}
 use Rattle.nb_table.specs.Events.{read, shown_by_key}
-use Rattle.nb_table.proofs.Theorems.{steps_add_up}
 use Rattle.nb_map.specs.Calling.{HasMade}
 use Rattle.nb_map.proofs.Bounds.{climb-bound}
 use Rattle.nb_map.proofs.HomeSlot.{made-on_path}

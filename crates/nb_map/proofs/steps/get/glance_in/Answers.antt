@@ -1,4 +1,4 @@
-use Rattle.std.proofs.Common.{◌≡◌, ◌∙◌, None, Some, ap, inl, inr, refl, sym, subst, arith, rules, IsTrue}
+use Rattle.std.proofs.Common.{◌∙◌, None, Some, inl, inr, refl, sym, subst, arith, rules, IsTrue}
 use Rattle.std.proofs.lemmas.Bool.{eq-eqb}
 use Rattle.std.proofs.lemmas.Nat.{pow_pos}
 use Rattle.nb_core.specs.Tables.{path_slot}
@@ -14,7 +14,7 @@ use Rattle.nb_map.specs.inside.Reading.{IsGlance, glanced_by}
 use Rattle.nb_map.proofs.Glanced.{glance-either, made-looked, turned}
 use Rattle.nb_map.proofs.Home.{dead-away, others-away}
 use Rattle.nb_map.proofs.OnPath.{found-on_path, load-on_path, slot-is, slot-of_path, slot-on_path, slot-reached}
-use Rattle.nb_map.proofs.Made.{made-quiet, made-read, made-within, read_shown}
+use Rattle.nb_map.proofs.Made.{made-quiet, made-read, made-within}
 use Rattle.nb_map.proofs.Searched.{others-more, others-none, read-before, reached-lasts, shown-other, shown-own, three-slots, two-slots}
 use Rattle.nb_map.proofs.steps.get.glance_in.Goals as goal
 use Rattle.nb_table.proofs.Theorems.{steps_add_up}
