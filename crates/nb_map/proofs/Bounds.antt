@@ -107,7 +107,7 @@ climbed-most p g table = rungs-most p (generations_of p) (suc g) table
 -- so there is room for what comes before, which is a few steps and the end of a copy
 pub climb-bound :
     (p : Plan) → IsPlan p → (g : ℕ) → g < generations_of p
-    → 6 + pass_steps p g + climb_steps p ≤ get_steps p
+    → 8 + pass_steps p g + climb_steps p ≤ get_steps p
 climb-bound p plan g table =
     let tables = generations_of p in
     fits (climb_steps p) (steps_below p tables) (slots_below p tables) (completed_below p tables)
@@ -117,6 +117,6 @@ climb-bound p plan g table =
     fits : (climbed under t done tables n above : ℕ)
         → climbed + under ≤ 3 * t + 2 * done + tables * (2 * n + 15)
         → done ≤ t * (4 * n + 15) + tables → above ≤ n → 1 ≤ tables
-        → 6 + (2 * above + 6 + 2) + climbed ≤ 8 * (t + tables) * (n + 8)
+        → 8 + (2 * above + 6 + 2) + climbed ≤ 8 * (t + tables) * (n + 8)
     fits climbed under t done tables n above a b c d =
         omega (arith, a, b, c, mul-le-mul_right (6 * n + 47) d)

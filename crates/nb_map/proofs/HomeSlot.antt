@@ -1,10 +1,9 @@
 -- What a look at a key's home slot leaves open for a write.
-use Rattle.std.proofs.Common.{◌≡◌, ◌∙◌, ◌==◌, ℕ, ◌<◌, Bool, true, false, cond, List, [], None, Some, ap, sym, subst, refl, inl, inr}
+use Rattle.std.proofs.Common.{◌≡◌, ◌∙◌, ◌==◌, ℕ, ◌+◌, ◌<◌, Bool, true, false, cond, List, [], None, Some, ap, sym, subst, refl, inl, inr, arith}
 use Rattle.std.proofs.lemmas.Bool.{eqb-false}
-use Rattle.std.proofs.lemmas.Nat.{pow_pos}
-use Rattle.nb_core.specs.Calls.{Fills}
+use Rattle.nb_core.specs.Calls.{Fills, leaves_alone}
 use Rattle.nb_core.specs.History.{key_of_call}
-use Rattle.nb_core.specs.Plans.{Plan, generations_of}
+use Rattle.nb_core.specs.Plans.{Plan, generations_of, size_of}
 use Rattle.nb_core.specs.Tables.{path_slot}
 use Rattle.nb_core.specs.declared.calls.Call.{Call}
 use Rattle.nb_core.specs.declared.calls.Reply.{Reply}
@@ -22,21 +21,22 @@ use Rattle.nb_map.proofs.Home.{home-before, home-in}
 use Rattle.nb_map.proofs.Made.{made-quiet, made-read, made-stays, read_shown}
 use Rattle.nb_map.proofs.Searched.{made-then, read-before, shown-other, shown-own, two-slots}
 
--- A load of the home slot's key word isn't the call's read, but where the slot is empty and the
--- call leaves an absent key at that.
-made-at-home :
-    (chain : ChainOf) (call : Call) {before after : SeenBy} (g i : ℕ) (s : KeyState)
-    → IsOwn chain before → g < generations_of chain.shape
-    → path_slot chain.shape g (key_of_call call) 0 ≡ i → (s ≡ Empty → Fills call)
+-- A load of the key word of a slot of the key's path, which isn't the path's last one, isn't the
+-- call's read, but where the slot is empty and the call leaves an absent key at that.
+pub made-on_path :
+    (chain : ChainOf) (call : Call) {before after : SeenBy} (g d i : ℕ) (s : KeyState)
+    → IsOwn chain before → g < generations_of chain.shape → d + 1 < size_of chain.shape g
+    → path_slot chain.shape g (key_of_call call) d ≡ i
+    → (s ≡ Empty → leaves_alone call None ≡ false)
     → Extended chain.shape before after
     (read before.number call (shown_by_key chain.shape g i s (key_of_call call))) 1
     → HasMade chain.shape call before after [] 1
-made-at-home chain call {before} {after} g i Empty own table at fills step =
+made-on_path chain call {before} {after} g d i Empty own table near at fills step =
     subst (λ made. HasMade chain.shape call before after made 1)
     (ap (λ b. cond b (as_replied call None) []) (fills refl))
     (made-read chain.shape call (Some None) step)
-made-at-home chain call g i Dead own table at fills step = made-quiet chain.shape call step
-made-at-home chain call {before} {after} g i (Claimed other) own table at fills step =
+made-on_path chain call g d i Dead own table near at fills step = made-quiet chain.shape call step
+made-on_path chain call {before} {after} g d i (Claimed other) own table near at fills step =
     own-or-not (other == k) refl
   where
     p : Plan
@@ -52,8 +52,8 @@ made-at-home chain call {before} {after} g i (Claimed other) own table at fills 
         (shown-own p g i k k other refl (sym is)) step)
     own-or-not false is =
         let none = ap (λ i. read_shown call (shown_by_key p g i (Claimed other) k)) (sym at)
-        ∙ shown-other chain g table call 0 other (pow_pos _) (eqb-false other k is)
-        ∙ read-before p g call 1 (two-slots p own.plan g table) in
+        ∙ shown-other chain g table call d other (omega (arith, near)) (eqb-false other k is)
+        ∙ read-before p g call (d + 1) near in
         subst (λ made. HasMade p call before after made 1) none
         (made-read p call (shown_by_key p g i (Claimed other) k) step)
 
@@ -73,7 +73,8 @@ module _ (chain : ChainOf) {call : Call} {start looked there : SeenBy} (rung : R
   pub made-look : HasMade chain.shape call start there [] 3
   made-look =
       made-then at.own
-      (made-at-home chain call rung.g i state at.own at.table is fills load) claim
+      (made-on_path chain call rung.g 0 i state at.own at.table
+      (two-slots chain.shape at.own.plan rung.g at.table) is fills load) claim
 
   -- and where the key is at home in the end, and was known there if the call puts a number at an
   -- absent key, the slot was the key's

@@ -1,18 +1,17 @@
 -- The slots that a path gives.
-use Rattle.std.proofs.Common.{◌≡◌, ℕ, refl, subst, subst₂, sym}
-use Rattle.std.proofs.lemmas.Nat.{pow_pos}
+use Rattle.std.proofs.Common.{◌≡◌, ℕ, ◌<◌, refl, subst, subst₂, sym}
 use Rattle.nb_core.specs.History.{key_of_call}
 use Rattle.nb_core.specs.Paths.{IsOnPathAt, IsPathIn, IsPlaced}
-use Rattle.nb_core.specs.Plans.{Plan}
+use Rattle.nb_core.specs.Plans.{Plan, size_of}
 use Rattle.nb_core.specs.Tables.{IsOnPath, Tables, path_slot}
 use Rattle.nb_core.specs.declared.calls.Call.{Call}
 use Rattle.nb_core.specs.declared.slot_paths.Path.{Path}
 use Rattle.nb_core.specs.declared.slot_paths.Slot.{Slot}
 use Rattle.nb_core.specs.declared.states.KeyState.{KeyState}
+use Rattle.nb_core.specs.declared.states.KeyState.TheVariants.{Claimed}
 use Rattle.nb_table.specs.Chains.{ChainOf, Extended, SeenBy, seen_by}
 use Rattle.nb_table.specs.Conditions.{IsReached}
 use Rattle.nb_table.specs.Events.{read, shown_by_key}
-use Rattle.nb_map.proofs.Searched.{others-none}
 use Rattle.nb_map.specs.Progress.{IsHomeSlot}
 use Rattle.nb_map.specs.declared.steps.rung.Rung.{Rung}
 use Rattle.nb_map.specs.inside.Climbing.{IsAt, IsAtSlot}
@@ -65,22 +64,34 @@ at-home chain {call} {seat = seat} place at claimed =
       reached = at.reached;
     })
 
--- a call that has come to a table may load the key word of its key's home slot there
-module _ (chain : ChainOf) {call : Call} {rung : Rung} {seat : SeenBy} {home : Slot}
+-- a call that has come to a slot of its key's path may load its key word,
+module _ (chain : ChainOf) {call : Call} {rung : Rung} {seat : SeenBy} {slot : Slot}
     (at : IsAt chain call seat rung)
-    (place : IsOnPathAt chain.shape rung.g (key_of_call call) 0 home) where
-  pub home-reached : IsReached chain.shape (seen_by chain.shape seat) home.g (key_of_call call)
-  home-reached =
-      subst (λ (home : Slot). IsReached chain.shape (seen_by chain.shape seat) home.g
+    (place : IsOnPathAt chain.shape rung.g (key_of_call call) rung.from slot) where
+  pub slot-reached : IsReached chain.shape (seen_by chain.shape seat) slot.g (key_of_call call)
+  slot-reached =
+      subst (λ (slot : Slot). IsReached chain.shape (seen_by chain.shape seat) slot.g
       (key_of_call call)) (sym place.is) at.reached
 
-  pub home-on_path :
-      IsOnPath chain.shape (seen_by chain.shape seat) home.g home.i (key_of_call call)
-  home-on_path =
-      subst (λ (home : Slot). IsOnPath chain.shape (seen_by chain.shape seat) home.g home.i
+  pub slot-on_path :
+      rung.from < size_of chain.shape rung.g
+      → IsOnPath chain.shape (seen_by chain.shape seat) slot.g slot.i (key_of_call call)
+  slot-on_path near =
+      subst (λ (slot : Slot). IsOnPath chain.shape (seen_by chain.shape seat) slot.g slot.i
       (key_of_call call)) (sym place.is) (record {
-        distance = 0;
-        in_table = pow_pos _;
+        distance = rung.from;
+        in_table = near;
         at = refl;
-        passed = others-none chain.shape (seen_by chain.shape seat) rung.g (key_of_call call);
+        passed = at.others;
       })
+
+  -- and is at its key's slot, where that is the key's
+  pub at-own :
+      (seen_by chain.shape seat).key slot.g slot.i ≡ Claimed (key_of_call call)
+      → IsAtSlot chain call seat slot
+  at-own claimed = record {
+    own = at.own;
+    slot = place.placed;
+    claimed = claimed;
+    reached = slot-reached;
+  }

@@ -278,12 +278,16 @@ module _ (chain : ChainOf) (g : ℕ) (table : g < generations_of chain.shape) wh
 
 -- ---- what was seen
 
--- a table has more than one slot
-pub two-slots : (p : Plan) → IsPlan p → (g : ℕ) → g < generations_of p → 1 < size_of p g
-two-slots p plan g table =
+-- a table has more than two slots
+pub three-slots : (p : Plan) → IsPlan p → (g : ℕ) → g < generations_of p → 2 < size_of p g
+three-slots p plan g table =
     let most : 2 ^ 2 ≤ size_of p g = pow_mono
     (All-get_or (λ e. (2 ≤ e) × (e ≤ 28)) p.exponents g 0 table plan.sizes).0 in
     omega (arith, most)
+
+-- so it has more than one
+pub two-slots : (p : Plan) → IsPlan p → (g : ℕ) → g < generations_of p → 1 < size_of p g
+two-slots p plan g table = omega (arith, three-slots p plan g table)
 
 -- the slot lies on the key's path, behind slots of other keys
 pub on-path :

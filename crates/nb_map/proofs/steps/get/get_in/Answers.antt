@@ -1,8 +1,8 @@
-use Rattle.std.proofs.Common.{◌+◌, inl, subst, sym, arith}
+use Rattle.std.proofs.Common.{inl, subst, sym, arith}
 use Rattle.nb_core.specs.declared.calls.Call.TheVariants as call
 use Rattle.nb_table.specs.Chains.{seen_by}
 use Rattle.nb_map.specs.Progress.{IsAtHome}
-use Rattle.nb_map.specs.Steps.{climb_steps, get_steps}
+use Rattle.nb_map.specs.Steps.{get_steps}
 use Rattle.nb_map.proofs.Bounds.{climb-bound}
 use Rattle.nb_map.proofs.Home.{home-before}
 use Rattle.nb_map.proofs.Made.{made-more, made-own, made-stays, made-within}
@@ -44,11 +44,12 @@ get_on-requires c =
         table = here.table;
         reached = here.reached;
         within = omega (arith, glance.glance.0);
-        start = inl glance.glance.0;
+        start = inl (omega (arith, glance.glance.0));
         others = glance.glance.1;
         known = tt;
       };
       away = glance.glance.2;
+      near = glance.glance.0;
     }
 
 pub returns-in-From : goal.returns-in-From
@@ -62,7 +63,7 @@ returns-in-From c =
     let first = made-stays chain at.own glanced in
     let second = made-stays chain (made-own chain at.own glanced) c.get_on.ensures.made in
     record {
-      made = made-within (2 + (3 + climb_steps p)) (get_steps p) (omega (arith, bound))
+      made = made-within _ (get_steps p) (omega (arith, bound))
           (made-more chain c.requires.own glanced c.get_on.ensures.made);
       short = record {
         two_steps = λ home.

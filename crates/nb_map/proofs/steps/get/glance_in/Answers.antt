@@ -1,4 +1,4 @@
-use Rattle.std.proofs.Common.{◌≡◌, ◌∙◌, None, Some, ap, inl, inr, refl, sym, subst, arith, rules, IsTrue}
+use Rattle.std.proofs.Common.{◌∙◌, None, Some, inl, inr, refl, sym, subst, arith, rules, IsTrue}
 use Rattle.std.proofs.lemmas.Bool.{eq-eqb}
 use Rattle.std.proofs.lemmas.Nat.{pow_pos}
 use Rattle.nb_core.specs.Tables.{path_slot}
@@ -13,9 +13,9 @@ use Rattle.nb_map.specs.Calling.{HasMade}
 use Rattle.nb_map.specs.inside.Reading.{IsGlance, glanced_by}
 use Rattle.nb_map.proofs.Glanced.{glance-either, made-looked, turned}
 use Rattle.nb_map.proofs.Home.{dead-away, others-away}
-use Rattle.nb_map.proofs.OnPath.{found-on_path, home-on_path, home-reached, load-on_path, slot-is, slot-of_path}
-use Rattle.nb_map.proofs.Made.{made-quiet, made-read, made-within, read_shown}
-use Rattle.nb_map.proofs.Searched.{others-more, others-none, read-before, reached-lasts, shown-other, shown-own, two-slots}
+use Rattle.nb_map.proofs.OnPath.{found-on_path, load-on_path, slot-is, slot-of_path, slot-on_path, slot-reached}
+use Rattle.nb_map.proofs.Made.{made-quiet, made-read, made-within}
+use Rattle.nb_map.proofs.Searched.{others-more, others-none, read-before, reached-lasts, shown-other, shown-own, three-slots, two-slots}
 use Rattle.nb_map.proofs.steps.get.glance_in.Goals as goal
 use Rattle.nb_table.proofs.Theorems.{steps_add_up}
 
@@ -26,14 +26,15 @@ load_key_word_at-word-requires-clause-slot c =
 pub load_key_word_at-word-requires-clause-reached :
     goal.load_key_word_at-word-requires-clause-reached
 load_key_word_at-word-requires-clause-reached c =
-    home-reached c.args.chain.now c.requires.at
+    slot-reached c.args.chain.now c.requires.at
     (slot-of_path c.shape.ensures refl c.path.ensures c.slot-home.ensures)
 
 pub load_key_word_at-word-requires-clause-on_path :
     goal.load_key_word_at-word-requires-clause-on_path
 load_key_word_at-word-requires-clause-on_path c =
-    home-on_path c.args.chain.now c.requires.at
+    slot-on_path c.args.chain.now c.requires.at
     (slot-of_path c.shape.ensures refl c.path.ensures c.slot-home.ensures)
+    (pow_pos _)
 
 pub returns-then-not-is_or_empty-clause-made : goal.returns-then-not-is_or_empty-clause-made
 returns-then-not-is_or_empty-clause-made c =
@@ -78,21 +79,20 @@ returns-then-not-is_or_empty-clause-glance c =
     elim (c.is_or_empty.ensures.no c.if-not-is_or_empty.true) [
       | inl dead ↦
           subst (IsGlance p seen c.args.g c.args.key) (sym (c.away.ensures.dead dead)) (
-            pow_pos _,
+            two-slots p c.requires.at.own.plan c.args.g c.requires.at.table,
             others-none p seen c.args.g c.args.key,
             dead-away p seen c.args.g c.args.key
                 (found ∙ dead),
           )
       | inr other ↦
           let table = c.requires.at.table in
-          let more = two-slots p c.requires.at.own.plan c.args.g table in
           let lasting = steps_add_up.stays c.requires.at.own
           (steps_add_up.one c.load_key_word_at-word.ensures.grows) in
           let others = others-more p _ _ lasting c.args.g c.args.key 0 _ other.0 table
           (others-none p (seen_by p c.args.seat.now) c.args.g c.args.key) refl
           (found ∙ other.1) other.2 in
           subst (IsGlance p seen c.args.g c.args.key) (sym (c.away.ensures.other other.0 other.1))
-          (more, others, others-away p seen c.args.g c.args.key 1 (omega arith) others)
+          (three-slots p c.requires.at.own.plan c.args.g table, others, others-away p seen c.args.g c.args.key 1 (omega arith) others)
     ]
 
 pub glance_at-requires-clause-slot : goal.glance_at-requires-clause-slot

@@ -7,7 +7,8 @@ use Rattle.nb_map.specs.Steps.{get_steps}
 use Rattle.nb_map.specs.inside.Walking.{HasGone, IsFirstOf}
 use Rattle.nb_map.specs.Steps.{meeting_steps}
 use Rattle.nb_map.specs.declared.steps.walk.Place.TheVariants.{Slot}
-use Rattle.nb_map.proofs.Made.{made-own}
+use Rattle.nb_map.proofs.Bounds.{climb-bound}
+use Rattle.nb_map.proofs.Made.{made-own, made-within}
 use Rattle.nb_map.proofs.Passing.{gone-found, gone-missed, gone-on, gone-skipped}
 use Rattle.nb_map.proofs.Walked.{first-still, gone-none, gone-within}
 use Rattle.nb_map.proofs.steps.walk.next_in.Goals as goal
@@ -53,7 +54,8 @@ returns-in-Some-get_at-clause-gone c =
     c.requires.own c.requires.first c.loop-i.invariant
     (gone-found chain c.args.first c.args.g c.loop-i.i c.requires.table own
     c.first_seen.ensures.made c.in-Some.ensures.first.0
-    c.in-Some-get_at.ensures.made)
+    (made-within _ _ (omega (arith, climb-bound chain.shape own.plan c.args.g c.requires.table))
+    c.in-Some-get_at.ensures.made))
 
 -- what isn't some is none
 none-of : (found : Option ℕ) → ((k : ℕ) → found ≢ Some k) → found ≡ None
@@ -73,7 +75,8 @@ loop-i-preserved c =
           subst (λ number. HasMade p (call.Get w.in-Some.key)
           c.first_seen.new.seat w.get_at.new.seat (as_replied (call.Get w.in-Some.key) number)
           (get_steps p))
-          none w.get_at.ensures.made in
+          none (made-within _ _ (omega (arith, climb-bound p own.plan c.args.g c.requires.table))
+          w.get_at.ensures.made) in
           subst (λ seat. HasGone p c.args.seat.now seat c.args.first (Slot c.args.g c.args.from)
           (Slot c.args.g (c.loop-i.i + 1)) None
           ((c.loop-i.i + 1 - c.args.from) * meeting_steps p))

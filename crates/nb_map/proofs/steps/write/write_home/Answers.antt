@@ -1,4 +1,5 @@
 use Rattle.std.proofs.Common.{◌≡◌, ◌∙◌, ◌+◌, ◌<◌, ◌≤◌, ℕ, IsTrue, cond, List, [], ◌∷◌, None, Some, Result, ap, refl, subst, sym, arith, rules}
+use Rattle.std.proofs.lemmas.Nat.{pow_pos}
 use Rattle.nb_core.specs.Calls.{Fills}
 use Rattle.nb_core.specs.History.{key_of_call}
 use Rattle.nb_core.specs.Paths.{IsOnPathAt}
@@ -20,7 +21,7 @@ use Rattle.nb_map.proofs.HomeSlot.{made-look, own-slot}
 use Rattle.nb_map.proofs.Tried.{acts-unless}
 use Rattle.nb_map.proofs.Home.{passed-away}
 use Rattle.nb_map.proofs.Made.{made-none, made-read, made-within}
-use Rattle.nb_map.proofs.OnPath.{at-home, found-on_path, home-on_path, home-reached, load-on_path, slot-is, slot-of_path}
+use Rattle.nb_map.proofs.OnPath.{at-home, found-on_path, load-on_path, slot-is, slot-of_path, slot-on_path, slot-reached}
 use Rattle.nb_map.proofs.Rungs.{at-stays}
 use Rattle.nb_map.proofs.Searched.{made-then}
 use Rattle.nb_map.proofs.Spent.{passed-sum, refused-longer, spent-none, spent-sooner}
@@ -38,14 +39,15 @@ load_key_word_at-word-requires-clause-slot g c =
 pub load_key_word_at-word-requires-clause-reached :
     goal.load_key_word_at-word-requires-clause-reached
 load_key_word_at-word-requires-clause-reached g c =
-    home-reached c.args.chain.now c.requires.at
+    slot-reached c.args.chain.now c.requires.at
     (slot-of_path c.shape.ensures c.key.ensures c.path.ensures c.slot-home.ensures)
 
 pub load_key_word_at-word-requires-clause-on_path :
     goal.load_key_word_at-word-requires-clause-on_path
 load_key_word_at-word-requires-clause-on_path g c =
-    home-on_path c.args.chain.now c.requires.at
+    slot-on_path c.args.chain.now c.requires.at
     (slot-of_path c.shape.ensures c.key.ensures c.path.ensures c.slot-home.ensures)
+    (pow_pos _)
 
 pub returns-in-Leave : goal.returns-in-Leave
 returns-in-Leave g c =
