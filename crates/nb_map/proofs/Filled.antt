@@ -2,14 +2,13 @@
 use Rattle.std.proofs.Common.{◌≡◌, ◌∙◌, ◌≤◌, ℕ, true, false, List, [], ◌∷◌, ◌++◌, map, reverse, Option, Result, Ok, Err, ap, sym, subst, refl, inl, inr}
 use Rattle.std.specs.Prelude.{is_err}
 use Rattle.std.proofs.lemmas.List.{append_assoc, reverse-append}
-use Rattle.nb_core.specs.declared.calls.Call.{Call}
 use Rattle.nb_core.specs.declared.numbers.TheConstants.{VALUE_MAX}
 use Rattle.nb_map.proofs.Crowding.{asks_add_up}
 use Rattle.nb_map.proofs.Logged.{logged-same, logged-then}
 use Rattle.nb_map.specs.Bulk.{put_entry}
-use Rattle.nb_map.specs.Crowding.{IsFilled, fills}
+use Rattle.nb_map.specs.Crowding.{IsFilled}
 use Rattle.nb_map.specs.Maps.{IsMine, MapOf, SeatOf}
-use Rattle.nb_map.specs.Promises.{Found, HasTriedToWrite, Outcome, Refused, found_or_refused}
+use Rattle.nb_map.specs.Promises.{Found, HasTriedToWrite, Outcome, found_or_refused}
 use Rattle.nb_map.specs.declared.faults.PutFault.{PutFault}
 use Rattle.nb_map.specs.inside.Filling.{HasClaimedFor, HasFilled, HasPut, puts_of}
 

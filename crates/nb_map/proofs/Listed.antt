@@ -1,8 +1,8 @@
 -- A walk lists the entries that it shows.
-use Rattle.std.proofs.Common.{◌≡◌, ◌∙◌, ℕ, ◌+◌, ◌≤◌, Bool, true, false, List, [], ◌∷◌, ◌++◌, reverse, None, Some, ap, refl, subst, sym, arith}
-use Rattle.std.specs.List.{All, sum_by}
+use Rattle.std.proofs.Common.{◌≡◌, ◌∙◌, ℕ, Bool, true, false, List, [], ◌∷◌, ◌++◌, reverse, None, Some, ap, refl, subst, sym, arith}
+use Rattle.std.specs.List.{All}
 use Rattle.std.proofs.lemmas.List.{reverse-append}
-use Rattle.std.proofs.lemmas.List.Elements.{All-append, All-cons, All-nil, All-weaker}
+use Rattle.std.proofs.lemmas.List.Elements.{All-cons, All-nil}
 use Rattle.nb_core.specs.declared.calls.Call.{Call}
 use Rattle.nb_core.specs.declared.calls.Reply.{Reply}
 use Rattle.nb_map.proofs.Crowding.{asks_add_up}
@@ -14,7 +14,7 @@ use Rattle.nb_map.specs.Bulk.{Begun, HasSwept, Kept, Missed, Unwanted, read_as, 
 use Rattle.nb_map.specs.Maps.{IsMine, MapOf, SeatOf}
 use Rattle.nb_map.specs.Promises.{HasWalkedOn}
 use Rattle.nb_map.specs.Renewing.{HasOnlyRead, IsRead}
-use Rattle.nb_map.specs.Walks.{HasShownAll, IsMiss, WalkOf}
+use Rattle.nb_map.specs.Walks.{HasShownAll, WalkOf}
 use Rattle.nb_map.specs.inside.Listing.{HasListed}
 
 -- the entries so far are left with this one more, which stays

@@ -1,5 +1,5 @@
 -- A map that has entries from the start: what its seats know, and when it has too few slots.
-use Rattle.std.proofs.Common.{◌≡◌, ◌≢◌, ◌∙◌, ℕ, zero, suc, ◌==◌, ◌+◌, ◌-◌, ◌<◌, ◌≤◌, ◌&&◌, ◌||◌, not, Bool, true, false, cond, eqb, List, [], ◌∷◌, ◌++◌, length, length-append, map, filter, drop, reverse, take, All, Option, Some, None, is_some, ap, ap₂, sym, subst, refl, inl, inr, ◌⊎◌, arith}
+use Rattle.std.proofs.Common.{◌≡◌, ◌≢◌, ◌∙◌, ℕ, zero, suc, ◌==◌, ◌+◌, ◌-◌, ◌<◌, ◌≤◌, ◌&&◌, ◌||◌, not, Bool, true, false, cond, eqb, List, [], ◌∷◌, ◌++◌, length, length-append, map, filter, drop, reverse, take, All, is_some, ap, ap₂, sym, subst, refl, inl, inr, ◌⊎◌, arith}
 use Rattle.std.specs.FinMap as numbers
 use Rattle.std.specs.FinMap.{contains_key-keys, from_entries, get, get-from_entries, len, len-empty, len-entries, len-insert}
 use Rattle.std.specs.FinMap.Entries.{is_some-find}
@@ -15,12 +15,11 @@ use Rattle.std.proofs.lemmas.List.Sums.{sum_by-cons}
 use Rattle.std.proofs.lemmas.List.FromFn.{length-map-range_with_len}
 use Rattle.std.proofs.lemmas.Map.Made.{is_member-filter}
 use Rattle.nb_core.proofs.Seating.{All-left, All-numbered, All-right}
-use Rattle.nb_core.specs.Calls.{Fills}
 use Rattle.nb_core.specs.History.{key_of_call}
 use Rattle.nb_core.specs.Log.{Entry, Numbers, calls_of, log_of, map_after, map_of_log}
 use Rattle.nb_core.specs.Meaning.{is_win_of_another, passed_over}
 use Rattle.nb_core.specs.Plans.{IsPlan, Plan, generations_of, size_of}
-use Rattle.nb_core.specs.Tables.{Tables, tables_at}
+use Rattle.nb_core.specs.Tables.{tables_at}
 use Rattle.nb_core.specs.declared.calls.Call.{Call}
 use Rattle.nb_core.specs.declared.calls.Reply.{Reply}
 use Rattle.nb_core.specs.declared.events.Event.{Event}
@@ -34,7 +33,7 @@ use Rattle.nb_map.proofs.Filled.{claims-more, entry-filled}
 use Rattle.nb_map.proofs.Logged.{logged-then}
 use Rattle.nb_map.specs.Bulk.{put_entry}
 use Rattle.nb_map.specs.Crowding.{HasAskedFor, HasAskedIn, IsClaimOf, IsFilled, fills, others_filled}
-use Rattle.nb_map.specs.Ending.{HasAll, log_left}
+use Rattle.nb_map.specs.Ending.{HasAll}
 use Rattle.nb_map.specs.Handles.{HandleOf, handle_on, seats_of}
 use Rattle.nb_map.specs.Logs.{HasLogged, log}
 use Rattle.nb_map.specs.Maps.{IsMadeFor, IsMine, MapOf, SeatOf, new_seat, new_seats}
@@ -44,7 +43,7 @@ use Rattle.nb_map.specs.Refusals.{HasGivenUp}
 use Rattle.nb_map.specs.Settling.{HasCaughtUp, HaveSettled, as_left}
 use Rattle.nb_map.specs.declared.faults.PutFault.{PutFault}
 use Rattle.nb_map.specs.declared.faults.PutFault.TheVariants as fault
-use Rattle.nb_map.specs.inside.Filling.{HasClaimedFor, HasFilled, HasPut, puts_of}
+use Rattle.nb_map.specs.inside.Filling.{HasClaimedFor, HasFilled, puts_of}
 
 -- ---- the map of puts
 

@@ -1,35 +1,34 @@
 -- A map at rest: its entries, by a walk between two times at which all handles settle; and what the
 -- handles know then.
-use Rattle.std.proofs.Common.{◌≡◌, ◌≢◌, ◌∙◌, ℕ, zero, suc, ◌==◌, ◌+◌, ◌<◌, ◌≤◌, ◌||◌, Bool, true, false, cond, eqb, List, [], ◌∷◌, ◌++◌, length, length-append, map, reverse, All, Option, Some, None, is_some, ap, ap₂, sym, subst, subst₂, refl, inl, inr, ◌⊎◌, arith}
+use Rattle.std.proofs.Common.{◌≡◌, ◌∙◌, ℕ, zero, suc, ◌+◌, ◌≤◌, ◌||◌, Bool, true, false, cond, eqb, List, [], ◌∷◌, ◌++◌, length, length-append, map, reverse, All, Option, Some, None, ap, sym, subst, subst₂, refl, inl, inr, ◌⊎◌, arith}
 use Rattle.std.specs.Cmp.{nat_cmp_total, unsigned_tied}
 use Rattle.std.specs.FinMap.{from_entries, get, get-empty, get-insert, nat_cmp-IsAntisymmetric, same_map}
 use Rattle.std.specs.List.{AllZip, Contains, slice_index_or}
 use Rattle.std.specs.Ordering.{nat_cmp}
 use Rattle.std.specs.Set.{is_member}
-use Rattle.std.proofs.lemmas.Bool.{cases_Bool, eq-eqb, eqb-true, or_left, or_right}
+use Rattle.std.proofs.lemmas.Bool.{eq-eqb, eqb-true, or_left, or_right}
 use Rattle.std.proofs.lemmas.List.{append_assoc, append_cancel_right, map-append, nil_from_length}
 use Rattle.std.proofs.lemmas.List.Elements.{All-append, All-cons, All-head, All-map, All-nil, All-tail, All-weaker, length_all_zip}
 use Rattle.nb_core.proofs.Seating.{All-left, All-right, All-unmap}
-use Rattle.nb_core.specs.Log.{Entry, HeldThrough, IsBeginning, IsReplayed, Numbers, calls_of, log_of, map_after, map_of_log, reply_at, reply_of}
+use Rattle.nb_core.specs.Log.{Entry, HeldThrough, IsReplayed, Numbers, calls_of, log_of, map_after, map_of_log, reply_at, reply_of}
 use Rattle.nb_core.specs.declared.calls.Call.{Call}
 use Rattle.nb_core.specs.declared.calls.Call.TheVariants.{Get}
 use Rattle.nb_core.specs.declared.calls.Reply.{Reply}
-use Rattle.nb_map.proofs.Alone.{all-its, entries-by, entry_by, whole-is}
+use Rattle.nb_map.proofs.Alone.{all-its, entries-by, entry_by}
 use Rattle.nb_map.proofs.Crowding.{asks_add_up}
 use Rattle.nb_map.proofs.Logged.{logged-same, logged-then}
 use Rattle.nb_map.proofs.Made.{begins, begins-itself, begins-more}
 use Rattle.nb_map.proofs.Opened.{caught-logs}
 use Rattle.nb_map.proofs.Settled.{each-mine, still-of-one}
 use Rattle.nb_map.specs.Bulk.{read_as, walk_steps}
-use Rattle.nb_map.specs.Ending.{EndedOf, EndedWith, HasAll, map_left}
+use Rattle.nb_map.specs.Ending.{HasAll}
 use Rattle.nb_map.specs.Handles.{HandleOf, IsSameMap, seats_of}
 use Rattle.nb_map.specs.Logs.{log}
 use Rattle.nb_map.specs.Maps.{IsMine, MapOf, SeatOf}
 use Rattle.nb_map.specs.Opening.{map_of_entries}
-use Rattle.nb_map.specs.Renewing.{AreKept, HasOnlyRead, IsKept, IsRead}
+use Rattle.nb_map.specs.Renewing.{HasOnlyRead, IsKept, IsRead}
 use Rattle.nb_map.specs.Settling.{HasCaughtUp, HaveSettled, as_left}
-use Rattle.nb_map.specs.Walks.{HasShownAll}
-use Rattle.nb_map.specs.inside.Listing.{AreAllEntries, HasListed, HaveListed, HaveRead}
+use Rattle.nb_map.specs.inside.Listing.{AreAllEntries, HaveListed, HaveRead}
 
 -- ---- reads after a log
 

@@ -1,8 +1,8 @@
-use Rattle.std.proofs.Common.{◌∙◌, All, ap, length, map, subst, sym, arith}
+use Rattle.std.proofs.Common.{◌∙◌, All, ap, length, subst, sym, arith}
 use Rattle.std.specs.Arc.{arc_value}
 use Rattle.std.proofs.lemmas.List.{length-map}
 use Rattle.std.proofs.lemmas.List.Elements.{All-tail}
-use Rattle.nb_core.proofs.Seating.{all-moved, moved-count, moved-more}
+use Rattle.nb_core.proofs.Seating.{moved-count, moved-more}
 use Rattle.nb_map.specs.Handles.{handle_on}
 use Rattle.nb_map.specs.inside.Models.{seat_of}
 use Rattle.nb_map.specs.Maps.{IsMine}

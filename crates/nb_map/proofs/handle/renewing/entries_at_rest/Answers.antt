@@ -1,5 +1,5 @@
-use Rattle.std.proofs.Common.{◌≡◌, ◌∙◌, [], Err, Ok, inr, subst, sym}
-use Rattle.nb_map.proofs.Renewed.{HaveKept, again-kept, all-entries, read-kept, read-one, read-some, settled-again, settled-kept, settled-once, settled-some}
+use Rattle.std.proofs.Common.{◌≡◌, [], inr, subst, sym}
+use Rattle.nb_map.proofs.Renewed.{HaveKept, again-kept, all-entries, read-kept, read-one, settled-again, settled-kept, settled-once, settled-some}
 use Rattle.nb_map.proofs.handle.renewing.entries_at_rest.Goals as goal
 
 pub returns-in_err-entries-clause-kept : goal.returns-in_err-entries-clause-kept

@@ -1,4 +1,4 @@
-use Rattle.std.proofs.Common.{◌≡◌, ◌++◌, ◌∷◌, [], refl, rules, subst, sym}
+use Rattle.std.proofs.Common.{◌++◌, ◌∷◌, [], refl, rules, subst, sym}
 use Rattle.nb_map.proofs.Listed.{Lists, list-all, list-read}
 use Rattle.nb_map.proofs.Swept.{HasSweptTo, sweep-begun, sweep-kept}
 use Rattle.nb_map.proofs.map.Map.list.Goals as goal
