@@ -3,6 +3,7 @@ mod bulk;
 mod calls;
 mod compound;
 mod fullness;
+mod renewing;
 mod rows;
 mod seats;
 mod settling;

@@ -1,5 +1,6 @@
 //! The map's calls one after another, or of two handles, with their answers and with what they
 //! leave.
+use super::renewing::renews;
 use super::rows::Answer::{Is, Nothing, Replied, Was};
 use super::rows::Call::{
     Add, Estimate, Generation, Get, Has, Put, PutIfAbsent, Remove, RemoveIf, Replace, ReplaceIf,
@@ -35,7 +36,7 @@ fn refused_memory(rt: HostRuntime) -> Result<(), Fail> {
         Err(_) => ended.entries(rt.alloc())?,
     };
     assert_eq!(rt; entries.len(), 1);
-    Ok(())
+    renews(&rt, rt.alloc())
 }
 
 /// Each of two threads puts a key of its own.

@@ -10,7 +10,7 @@ use std::thread;
 use std::thread::Threads;
 
 /// Each handle adds to a key in a thread of its own.
-fn all_add<R: Threads + Sync + Wait>(rt: &R, handles: &mut [Handle], key: Key, once: Num)
+pub(super) fn all_add<R: Threads + Sync + Wait>(rt: &R, handles: &mut [Handle], key: Key, once: Num)
     requires { AreOfOneMap handles.old }
     ensures { AreOfOneMap handles.new }
 {
