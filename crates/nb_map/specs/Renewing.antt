@@ -40,7 +40,7 @@ pub record HaveTooMany (p : Plan) (before : List HandleOf) : Type 0 where
 abbrev pub IsRead : Call × Reply → Type 0
 IsRead made = (k : ℕ) × (number : Option ℕ) × (made ≡ read_as k number)
 
--- The seat has made no calls but reads, with at most so many steps.
+-- The seat has made no calls except reads, with at most so many steps.
 pub record HasOnlyRead (m : MapOf) (before after : SeatOf) (most : ℕ) : Type 0 where
   pub made : List (Call × Reply)
   pub reads : All IsRead made
@@ -56,7 +56,7 @@ pub record HasOnlyRead (m : MapOf) (before after : SeatOf) (most : ℕ) : Type 0
   pub count : after.count ≡ before.count
   pub own : IsMine m after
 
--- The handle is of its map still, and its seat has made no calls but reads.
+-- The handle is of its map still, and its seat has made no calls except reads.
 pub record IsKept (before after : HandleOf) (most : ℕ) : Type 0 where
   pub map : IsSameMap before after
   pub read : HasOnlyRead before.map before.seat after.seat most

@@ -13,7 +13,7 @@ pub record HasListed (before after : SeatOf) (entries : List (ℕ × ℕ)) : Typ
   pub all : HasShownAll before after (reverse entries)
   pub reads : All IsRead all.made
 
--- The last of these handles has made no calls but reads, and the others none.
+-- The last of these handles has made no calls except reads, and the others none.
 pub record HaveRead (before after : List HandleOf) : Type 0 where
   pub others : List HandleOf
   pub last : HandleOf

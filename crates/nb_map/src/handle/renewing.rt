@@ -14,9 +14,10 @@ use std::alloc::Global;
 impl Handle {
     /// With all handles of a map: exchanges them for the handles of a new map of this shape, which
     /// has just the entries that the old one has. So the slots of removed keys are free again. The
-    /// old map ends with its handles. It takes memory for the entries and for the new map, while the
-    /// old one is still there. Where memory is refused, or the shape has too few slots, or a handle
-    /// is missing, the handles are those of the old map, and work on. It waits for nobody.
+    /// old map ends with its handles. It makes a walk, and a write for each entry. It takes memory
+    /// for the entries and for the new map, while the old one is still there. Where memory is
+    /// refused, or the shape has too few slots, or a handle is missing, the handles are those of the
+    /// old map, and work on. It waits for nobody.
     pub fn renew(alloc: Global, handles: &mut Vec<Handle>, shape: Shape) -> Result<(), RenewFault>
         requires one { AreOfOneMap handles.old.items }
         ensures all { All (λ handle. (result ≡ Err fault.NotAll)
