@@ -8,7 +8,7 @@ use super::rows::Call::{
 use super::rows::*;
 use super::settling::settles;
 use nb_core::{Change, Shape, VALUE_MAX, Want};
-use nb_map::{AddFault, Full, FullAfter, Handle, PutFault, SettleFault};
+use nb_map::{AddFault, Full, FullAfter, Handle, OpenFault, PutFault, RenewFault, SettleFault};
 use std::process::Abort;
 use std::sync::Wait;
 use std::test::Fail;
@@ -295,6 +295,24 @@ fn texts_of_many_and_of_settling(rt: HostRuntime) -> Result<(), Fail> {
     for (fault, text) in [
         (SettleFault::NotAll, "a seat is missing"),
         (SettleFault::OutOfMemory, "out of memory"),
+    ] {
+        assert_eq!(rt; fault.to_string(rt.alloc())?.as_str(), text);
+    }
+    Ok(())
+}
+
+#[test]
+fn texts_of_opening_and_of_renewing(rt: HostRuntime) -> Result<(), Fail> {
+    for (fault, text) in [
+        (OpenFault::Full, "the map is full"),
+        (OpenFault::OutOfMemory, "out of memory"),
+    ] {
+        assert_eq!(rt; fault.to_string(rt.alloc())?.as_str(), text);
+    }
+    for (fault, text) in [
+        (RenewFault::Full, "the new map is full"),
+        (RenewFault::NotAll, "a seat is missing"),
+        (RenewFault::OutOfMemory, "out of memory"),
     ] {
         assert_eq!(rt; fault.to_string(rt.alloc())?.as_str(), text);
     }
