@@ -28,7 +28,7 @@ struct Puts {
 }
 
 impl Job for Puts {
-    fn work<R: Wait + Clock>(
+    fn work<R: Wait + Clock + Eprint>(
         &self,
         rt: &R,
         map: &Map,
@@ -128,7 +128,7 @@ struct Adds {
 }
 
 impl Job for Adds {
-    fn work<R: Wait + Clock>(
+    fn work<R: Wait + Clock + Eprint>(
         &self,
         rt: &R,
         map: &Map,
@@ -174,7 +174,7 @@ fn add_drawn<R: Wait>(
 }
 
 /// Makes the puts.
-pub(crate) fn do_puts<R: Threads + Sync + Wait + Clock>(
+pub(crate) fn do_puts<R: Threads + Sync + Wait + Clock + Eprint>(
     rt: &R,
     alloc: Global,
     options: &Options,
@@ -214,7 +214,7 @@ pub(crate) fn are_told_once(alloc: Global, options: &Options, done: Done) -> Res
 }
 
 /// Makes the adds.
-pub(crate) fn do_adds<R: Threads + Sync + Wait + Clock>(
+pub(crate) fn do_adds<R: Threads + Sync + Wait + Clock + Eprint>(
     rt: &R,
     alloc: Global,
     options: &Options,

@@ -55,7 +55,7 @@ pub(crate) struct Worker {
 /// What each worker of a crew does, in a thread of its own.
 pub(crate) trait Job {
     /// Does the part of the worker with this number.
-    fn work<R: Wait + Clock>(
+    fn work<R: Wait + Clock + Eprint>(
         &self,
         rt: &R,
         map: &Map,
@@ -136,7 +136,13 @@ fn hired(alloc: Global, map: &Map, seats: Vec<Seat>) -> Result<Vec<Worker>, OutO
 }
 
 /// Does a worker's part of a job, and keeps why it stopped early.
-fn works<R: Wait + Clock, J: Job>(rt: &R, map: &Map, job: &J, worker: &mut Worker, number: usize)
+fn works<R: Wait + Clock + Eprint, J: Job>(
+    rt: &R,
+    map: &Map,
+    job: &J,
+    worker: &mut Worker,
+    number: usize,
+)
     requires own { IsMine map.now worker.old.seat }
     ensures own { IsMine map.now worker.new.seat }
 {
@@ -146,7 +152,7 @@ fn works<R: Wait + Clock, J: Job>(rt: &R, map: &Map, job: &J, worker: &mut Worke
 }
 
 /// All workers work at the same time, each in a thread of its own.
-fn all_work<R: Threads + Sync + Wait + Clock, J: Job + Sync>(
+fn all_work<R: Threads + Sync + Wait + Clock + Eprint, J: Job + Sync>(
     rt: &R,
     map: &Map,
     job: &J,
@@ -207,7 +213,7 @@ fn parted(
 }
 
 /// Does a job on a new map, which has numbers at the keys with these places from the start.
-pub(crate) fn do_job<R: Threads + Sync + Wait + Clock, J: Job + Sync>(
+pub(crate) fn do_job<R: Threads + Sync + Wait + Clock + Eprint, J: Job + Sync>(
     rt: &R,
     alloc: Global,
     shape: Shape,

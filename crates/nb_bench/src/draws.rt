@@ -7,6 +7,7 @@ use crate::keys::{KEY_COUNT, Spacing, number};
 use crate::random::Random;
 use crate::workloads::Mix;
 use nb_core::Num;
+use nb_lines::{Progress, Seconds};
 use nb_map::{Map, Seat};
 use std::rt::Clock;
 use std::sync::Wait;
@@ -34,22 +35,35 @@ pub(crate) struct Draws {
     pub(crate) spacing: Spacing,
     pub(crate) time: Duration,
     pub(crate) batches: u64,
+    pub(crate) progress: Progress,
 }
 
 impl Draws {
     /// A tenth of this job, by which workers warm up.
     fn tenth(&self) -> Draws {
         Draws {
-            calls: self.calls,
-            spacing: self.spacing,
             time: self.time.checked_div(10).unwrap_or(self.time),
             batches: self.batches / 10,
+            ..self.quiet()
         }
+    }
+
+    /// The same job, of which no progress is told.
+    fn quiet(&self) -> Draws {
+        Draws {
+            progress: Progress::NONE,
+            ..*self
+        }
+    }
+
+    /// The job of the worker with this number: the first one tells progress.
+    fn part(&self, number: usize) -> Draws {
+        if number == 0 { *self } else { self.quiet() }
     }
 }
 
 impl Job for Draws {
-    fn work<R: Wait + Clock>(
+    fn work<R: Wait + Clock + Eprint>(
         &self,
         rt: &R,
         map: &Map,
@@ -61,13 +75,13 @@ impl Job for Draws {
     {
         let mut random = Random::new(number as u64);
         call_on(rt, map, worker, &mut random, &self.tenth())?;
-        call_on(rt, map, worker, &mut random, self)
+        call_on(rt, map, worker, &mut random, &self.part(number))
     }
 }
 
 /// Makes calls until the job's time is up, or its batches are made, and counts them in place of
 /// what was counted before.
-fn call_on<R: Wait + Clock>(
+fn call_on<R: Wait + Clock + Eprint>(
     rt: &R,
     map: &Map,
     worker: &mut Worker,
@@ -81,6 +95,7 @@ fn call_on<R: Wait + Clock>(
     let mut calls = 0u64;
     let mut sum = 0u64;
     let mut spent = Duration::ZERO;
+    let mut seconds = Seconds::new(job.progress, job.time);
     for _round in 0..job.batches {
         let read = match job.calls {
             Calls::Mixed(mix) => draw_batch(rt, map, &mut worker.seat, random, job.spacing, mix)?,
@@ -89,6 +104,7 @@ fn call_on<R: Wait + Clock>(
         sum = sum.wrapping_add(read);
         calls = calls.wrapping_add(BATCH);
         spent = start.elapsed(rt)?;
+        seconds.tell(rt, spent);
         if spent >= job.time {
             break;
         }

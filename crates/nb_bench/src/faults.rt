@@ -1,6 +1,7 @@
 //! Why the program ends early, and what is said of it.
 
-use nb_core::{OutOfMemory, RangeFault};
+use nb_core::{OutOfMemory, RangeFault, ShapeFault};
+use nb_lines::WordsFault;
 use std::alloc::AllocFailed;
 use std::io;
 use thiserror::Error;
@@ -50,11 +51,11 @@ pub(crate) enum Wrong {
 /// Why nothing was measured.
 #[derive(Debug, Drop, Error)]
 pub(crate) enum Fault {
-    #[error("bad usage; --help tells more")]
-    Usage,
-    /// The words ask for help, and this is its text.
     #[error("{0}")]
-    Help(String),
+    Words(WordsFault),
+    /// There is no such map. What words ask for one is seen before.
+    #[error("{0}")]
+    Shape(ShapeFault),
     #[error("{0}")]
     Work(WorkFault),
     #[error("{0}")]
@@ -67,12 +68,24 @@ impl Fault {
     /// The exit status.
     pub(crate) fn status(&self) -> u8 {
         match self {
-            Fault::Help(_) => 0,
+            Fault::Words(fault) => fault.status(),
             Fault::Write => 1,
             Fault::Wrong(_) => 2,
-            Fault::Usage => 3,
+            Fault::Shape(_) => 3,
             Fault::Work(_) => 4,
         }
+    }
+}
+
+impl From<WordsFault> for Fault {
+    fn from(fault: WordsFault) -> Fault {
+        Fault::Words(fault)
+    }
+}
+
+impl From<ShapeFault> for Fault {
+    fn from(fault: ShapeFault) -> Fault {
+        Fault::Shape(fault)
     }
 }
 

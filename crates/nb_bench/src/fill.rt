@@ -6,6 +6,7 @@ use crate::faults::{Fault, WorkFault, Wrong};
 use crate::growth::{Growth, Pass};
 use crate::keys::shuffled;
 use crate::options::Options;
+use nb_lines::Seconds;
 use nb_map::Map;
 use std::alloc::Global;
 use std::rt::Clock;
@@ -65,7 +66,7 @@ fn time_make<R: Clock>(rt: &R, alloc: Global, options: &Options) -> Result<u64, 
 
 /// Makes a pass on a new map that has numbers at the keys with these places from the start, and
 /// answers its time.
-fn time_pass<R: Threads + Sync + Wait + Clock>(
+fn time_pass<R: Threads + Sync + Wait + Clock + Eprint>(
     rt: &R,
     alloc: Global,
     options: &Options,
@@ -85,7 +86,7 @@ fn time_pass<R: Threads + Sync + Wait + Clock>(
 }
 
 /// Measures each once.
-fn time_once<R: Threads + Sync + Wait + Clock>(
+fn time_once<R: Threads + Sync + Wait + Clock + Eprint>(
     rt: &R,
     alloc: Global,
     options: &Options,
@@ -101,7 +102,7 @@ fn time_once<R: Threads + Sync + Wait + Clock>(
 
 /// Measures each on maps made anew, again and again until the time is up, and answers the shortest
 /// of its times.
-pub(crate) fn measure<R: Threads + Sync + Wait + Clock>(
+pub(crate) fn measure<R: Threads + Sync + Wait + Clock + Eprint>(
     rt: &R,
     alloc: Global,
     options: &Options,
@@ -109,9 +110,11 @@ pub(crate) fn measure<R: Threads + Sync + Wait + Clock>(
     let places = shuffled(alloc, options.keys)?;
     let start = Instant::now(rt).map_err(WorkFault::from)?;
     let mut times = Times::NONE;
+    let mut seconds = Seconds::new(options.progress, options.time);
     for _round in 0..u64::MAX {
         times = times.min(time_once(rt, alloc, options, places.as_slice())?);
         let spent = start.elapsed(rt).map_err(WorkFault::from)?;
+        seconds.tell(rt, spent);
         if spent >= options.time {
             break;
         }

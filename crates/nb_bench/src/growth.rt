@@ -9,6 +9,7 @@ use crate::keys::{Spacing, number, shuffled};
 use crate::kinds::get_all;
 use crate::options::Options;
 use crate::runs::Measured;
+use nb_lines::Seconds;
 use nb_map::{Map, Seat};
 use std::alloc::Global;
 use std::rt::Clock;
@@ -85,7 +86,7 @@ impl<'a> Growth<'a> {
 }
 
 impl Job for Growth<'_> {
-    fn work<R: Wait + Clock>(
+    fn work<R: Wait + Clock + Eprint>(
         &self,
         rt: &R,
         map: &Map,
@@ -151,7 +152,7 @@ fn timed_put<R: Wait + Clock>(
 }
 
 /// Puts all keys in a new map, and answers how long that took.
-fn put_once<R: Threads + Sync + Wait + Clock>(
+fn put_once<R: Threads + Sync + Wait + Clock + Eprint>(
     rt: &R,
     alloc: Global,
     options: &Options,
@@ -167,7 +168,7 @@ fn put_once<R: Threads + Sync + Wait + Clock>(
 
 /// Puts all keys in new maps, again and again until the time is up or so many rounds are made. It
 /// answers the puts of one round and the middle one of the rounds' times.
-pub(crate) fn measure<R: Threads + Sync + Wait + Clock>(
+pub(crate) fn measure<R: Threads + Sync + Wait + Clock + Eprint>(
     rt: &R,
     alloc: Global,
     options: &Options,
@@ -175,10 +176,12 @@ pub(crate) fn measure<R: Threads + Sync + Wait + Clock>(
     let places = shuffled(alloc, PUT_COUNT)?;
     let start = Instant::now(rt).map_err(WorkFault::from)?;
     let mut times = Vec::new(alloc);
+    let mut seconds = Seconds::new(options.progress, options.time);
     let rounds = options.calls.div_ceil(u64::from(PUT_COUNT)).max(1);
     for _round in 0..rounds {
         times.push(put_once(rt, alloc, options, places.as_slice())?)?;
         let spent = start.elapsed(rt).map_err(WorkFault::from)?;
+        seconds.tell(rt, spent);
         if spent >= options.time {
             break;
         }

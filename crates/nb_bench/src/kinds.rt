@@ -8,6 +8,7 @@ use crate::faults::{Fault, WorkFault, Wrong};
 use crate::keys::{KEY_COUNT, Spacing, number, shuffled};
 use crate::options::Options;
 use nb_core::Num;
+use nb_lines::Seconds;
 use nb_map::{Map, Seat};
 use std::alloc::Global;
 use std::rt::Clock;
@@ -208,7 +209,7 @@ fn time_by_one<R: Wait + Clock>(
 
 /// Makes calls of all kinds at all keys in new maps, again and again until the time is up. It
 /// answers the shortest time of each kind.
-pub(crate) fn measure<R: Wait + Clock>(
+pub(crate) fn measure<R: Wait + Clock + Eprint>(
     rt: &R,
     alloc: Global,
     options: &Options,
@@ -216,9 +217,11 @@ pub(crate) fn measure<R: Wait + Clock>(
     let places = shuffled(alloc, KEY_COUNT)?;
     let start = Instant::now(rt).map_err(WorkFault::from)?;
     let mut times = [u64::MAX; 6];
+    let mut seconds = Seconds::new(options.progress, options.time);
     for _round in 0..u64::MAX {
         time_once(rt, alloc, options, places.as_slice(), &mut times)?;
         let spent = start.elapsed(rt).map_err(WorkFault::from)?;
+        seconds.tell(rt, spent);
         if spent >= options.time {
             break;
         }

@@ -17,10 +17,13 @@ pub(crate) mod runs;
 pub(crate) mod serve;
 pub(crate) mod workloads;
 
+use nb_lines::Progress;
+use std::io::IsTerminal;
 use std::process::ExitCode;
 
 fn main(rt: HostRuntime) -> ExitCode {
-    ExitCode::from(serve::serve(&rt))
+    let progress = Progress::new(rt.stderr().is_terminal(), None);
+    ExitCode::from(serve::serve(&rt, progress))
 }
 
 #[cfg(test)]

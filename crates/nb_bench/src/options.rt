@@ -1,11 +1,10 @@
 //! The words of the command line.
 
-use crate::faults::Fault;
 use crate::keys::Spacing;
 use crate::workloads::Workload;
-use clap::error::ErrorKind;
-use clap::{Arg, ArgAction, ArgMatches, Command, value_parser};
-use nb_core::{OutOfMemory, Shape};
+use clap::{Arg, ArgAction, ArgMatches, Command};
+use nb_core::{Shape, ShapeFault};
+use nb_lines::{NumberWord, Progress, WordsFault, command_named, matches_of, option, wrong_word};
 use std::alloc::{AllocError, Global};
 use std::time::Duration;
 
@@ -34,31 +33,71 @@ pub(crate) struct Options {
     pub(crate) puts: u32,
     /// How many adds all threads make together in the check.
     pub(crate) adds: u64,
+    /// How progress is told.
+    pub(crate) progress: Progress,
 }
 
 impl Options {
     /// The shape of the map.
-    pub(crate) fn shape(&self) -> Result<Shape, Fault> {
+    pub(crate) fn shape(&self) -> Result<Shape, ShapeFault> {
         if self.exponents.is_empty() {
-            return Shape::for_many_keys(self.keys as usize, self.threads).map_err(|_| Fault::Usage);
+            return Shape::for_many_keys(self.keys as usize, self.threads);
         }
         Shape::large(self.exponents.as_slice())
             .and_then(|shape| shape.with_seats(self.threads))
             .and_then(|shape| shape.with_stripes(self.stripes))
             .and_then(|shape| shape.with_reprobe_limit(self.reprobes))
             .and_then(|shape| shape.with_chunk(self.chunk))
-            .map_err(|_| Fault::Usage)
     }
 }
 
-/// `--NAME VALUE`.
-fn option<'a>(alloc: Global, name: &'a str, value: &'a str, help: &'a str) -> Arg<'a> {
-    Arg::new(alloc, name)
-        .long(name)
-        .action(ArgAction::Set)
-        .value_name(value)
-        .help(help)
-}
+const THREADS: NumberWord = NumberWord {
+    name: "THREADS",
+    low: 1,
+    high: 256,
+};
+
+const STRIPES: NumberWord = NumberWord {
+    name: "--stripes",
+    low: 1,
+    high: 256,
+};
+
+const REPROBES: NumberWord = NumberWord {
+    name: "--reprobes",
+    low: 1,
+    high: 4_294_967_295,
+};
+
+const CHUNK: NumberWord = NumberWord {
+    name: "--chunk",
+    low: 4,
+    high: 1024,
+};
+
+const CALLS: NumberWord = NumberWord {
+    name: "--calls",
+    low: 0,
+    high: u64::MAX,
+};
+
+const PUTS: NumberWord = NumberWord {
+    name: "--puts",
+    low: 0,
+    high: 1_000_000,
+};
+
+const ADDS: NumberWord = NumberWord {
+    name: "--adds",
+    low: 0,
+    high: 4_294_967_295,
+};
+
+const LIVE: NumberWord = NumberWord {
+    name: "--live",
+    low: 1,
+    high: 178_956_970,
+};
 
 const WORKLOADS: &str = "A: gets; B: 90% gets; C: 50% gets; D: puts that make the map grow; \
     E: puts at one key; F: many keys are put, and read; kinds: one kind of call after another; \
@@ -72,7 +111,6 @@ fn with_words<'a>(alloc: Global, command: Command<'a>) -> Result<Command<'a>, Al
         .help(WORKLOADS);
     let threads = Arg::new(alloc, "THREADS")
         .action(ArgAction::Set)
-        .value_parser(value_parser!(u32).range(1..=256))
         .default_value("1")
         .help("How many threads run at once, each with its own seat; 1 to 256");
     let seconds = Arg::new(alloc, "SECONDS")
@@ -82,36 +120,36 @@ fn with_words<'a>(alloc: Global, command: Command<'a>) -> Result<Command<'a>, Al
     command.arg(workload)?.arg(threads)?.arg(seconds)
 }
 
-/// The command line.
-fn command<'a>(alloc: Global) -> Result<Command<'a>, AllocError> {
+/// The options of the map.
+fn with_shape<'a>(alloc: Global, command: Command<'a>) -> Result<Command<'a>, AllocError> {
     let plan = option(
         alloc,
         "plan",
         "E,E,..",
-        "Tables of 2^E slots, one for each E",
+        "Tables of 2^E slots, one for each E; 1 to 16 numbers from 2 to 28",
     );
-    let stripes = option(
+    let stripes = STRIPES.option(
         alloc,
-        "stripes",
         "P",
-        "How many words the count of keys is spread over",
-    )
-    .value_parser(value_parser!(u32).range(1..=256));
-    let reprobes = option(
+        "How many words the count of keys is spread over; 1 to 256",
+    );
+    let reprobes = REPROBES.option(
         alloc,
-        "reprobes",
         "N",
-        "How many slots a new key may try before a table grows",
-    )
-    .value_parser(value_parser!(u32));
-    let chunk = option(
-        alloc,
-        "chunk",
-        "C",
-        "How many slots a thread copies at a time",
-    )
-    .value_parser(value_parser!(u32))
-    .default_value("8");
+        "How many slots a new key may try before a table grows; 1 to 4294967295",
+    );
+    let chunk = CHUNK
+        .option(
+            alloc,
+            "C",
+            "How many slots a thread copies at a time; a power of two from 4 to 1024",
+        )
+        .default_value("8");
+    command.arg(plan)?.arg(stripes)?.arg(reprobes)?.arg(chunk)
+}
+
+/// The options of what is done with it.
+fn with_work<'a>(alloc: Global, command: Command<'a>) -> Result<Command<'a>, AllocError> {
     let keys = option(
         alloc,
         "keys",
@@ -119,40 +157,25 @@ fn command<'a>(alloc: Global) -> Result<Command<'a>, AllocError> {
         "dense (0, 1, 2 and so on) or spread (over the whole range)",
     )
     .default_value("dense");
-    let calls = option(
-        alloc,
-        "calls",
-        "N",
-        "How many calls each thread makes at most",
-    )
-    .value_parser(value_parser!(u64));
-    let puts = option(
-        alloc,
-        "puts",
-        "N",
-        "In check: how many puts each thread makes",
-    )
-    .value_parser(value_parser!(u32).range(0..=1_000_000))
-    .default_value("150000");
-    let adds = option(
-        alloc,
-        "adds",
-        "N",
-        "In check: how many adds all threads make together",
-    )
-    .value_parser(value_parser!(u32))
-    .default_value("10000000");
-    let live = option(alloc, "live", "N", "In F: how many keys there are")
-        .value_parser(value_parser!(u32).range(1..=178_956_970))
+    let calls = CALLS.option(alloc, "N", "How many calls each thread makes at most");
+    let puts = PUTS
+        .option(
+            alloc,
+            "N",
+            "In check: how many puts each thread makes; 0 to 1000000",
+        )
+        .default_value("150000");
+    let adds = ADDS
+        .option(
+            alloc,
+            "N",
+            "In check: how many adds all threads make together; 0 to 4294967295",
+        )
+        .default_value("10000000");
+    let live = LIVE
+        .option(alloc, "N", "In F: how many keys there are; 1 to 178956970")
         .default_value("1000000");
-    let command = Command::new(alloc, "nb_bench").about(
-        "Measures a map of whole numbers and prints 'nb WORKLOAD THREADS OPS NANOSECONDS'",
-    );
-    with_words(alloc, command)?
-        .arg(plan)?
-        .arg(stripes)?
-        .arg(reprobes)?
-        .arg(chunk)?
+    command
         .arg(keys)?
         .arg(calls)?
         .arg(puts)?
@@ -160,24 +183,28 @@ fn command<'a>(alloc: Global) -> Result<Command<'a>, AllocError> {
         .arg(live)
 }
 
-/// What clap's error comes to.
-fn option_fault(alloc: Global, error: &clap::Error) -> Fault {
-    match error.kind() {
-        ErrorKind::OutOfMemory => Fault::from(OutOfMemory),
-        ErrorKind::DisplayHelp => match error.to_string(alloc) {
-            Ok(text) => Fault::Help(text),
-            Err(_) => Fault::from(OutOfMemory),
-        },
-        _ => Fault::Usage,
-    }
+/// The command line.
+fn command<'a>(alloc: Global) -> Result<Command<'a>, AllocError> {
+    let command = command_named(
+        alloc,
+        "nb_bench",
+        "Measures a map of whole numbers and prints 'nb WORKLOAD THREADS OPS NANOSECONDS'",
+    );
+    let command = with_words(alloc, command)?;
+    let command = with_shape(alloc, command)?;
+    with_work(alloc, command)
 }
 
+/// What a plan has to be.
+const NO_PLAN: &str = "not 1 to 16 numbers from 2 to 28, none below the one before, of 2^30 slots \
+    in all at most";
+
 /// The exponents that a plan's text writes.
-fn read_plan(alloc: Global, text: &str) -> Result<Vec<u32>, Fault> {
+fn read_plan(alloc: Global, text: &str) -> Result<Vec<u32>, WordsFault> {
     let mut exponents = Vec::new(alloc);
     for part in text.split(',') {
         let Ok(exponent) = part.parse::<u32>() else {
-            return Err(Fault::Usage);
+            return Err(wrong_word(alloc, "--plan", text, NO_PLAN));
         };
         exponents.push(exponent)?;
     }
@@ -185,7 +212,11 @@ fn read_plan(alloc: Global, text: &str) -> Result<Vec<u32>, Fault> {
 }
 
 /// The exponents that are asked for, or those of the workload.
-fn plan_of(alloc: Global, workload: Workload, matches: &ArgMatches<'_>) -> Result<Vec<u32>, Fault> {
+fn plan_of(
+    alloc: Global,
+    workload: Workload,
+    matches: &ArgMatches<'_>,
+) -> Result<Vec<u32>, WordsFault> {
     if let Some(text) = matches.get_str("plan") {
         return read_plan(alloc, text);
     }
@@ -196,52 +227,75 @@ fn plan_of(alloc: Global, workload: Workload, matches: &ArgMatches<'_>) -> Resul
     Ok(exponents)
 }
 
+const NO_WORKLOAD: &str = "none of A, B, C, D, E, F, kinds and check";
+
+/// The workload that is asked for.
+fn read_workload(alloc: Global, name: &str) -> Result<Workload, WordsFault> {
+    match Workload::named(name) {
+        Some(workload) => Ok(workload),
+        None => Err(wrong_word(alloc, "WORKLOAD", name, NO_WORKLOAD)),
+    }
+}
+
 /// The keys that are asked for.
-fn read_spacing(name: &str) -> Result<Spacing, Fault> {
+fn read_spacing(alloc: Global, name: &str) -> Result<Spacing, WordsFault> {
     match name {
         "dense" => Ok(Spacing::Dense),
         "spread" => Ok(Spacing::Spread),
-        _ => Err(Fault::Usage),
+        _ => Err(wrong_word(alloc, "--keys", name, "neither dense nor spread")),
     }
 }
 
 /// A time in seconds, which may have a fraction.
-fn read_time(text: &str) -> Result<Duration, Fault> {
-    let Ok(seconds) = text.parse::<f64>() else {
-        return Err(Fault::Usage);
+fn read_time(alloc: Global, text: &str) -> Result<Duration, WordsFault> {
+    let time = match text.parse::<f64>() {
+        Ok(seconds) => Duration::try_from_secs_f64(seconds).ok(),
+        Err(_) => None,
     };
-    Duration::try_from_secs_f64(seconds).map_err(|_| Fault::Usage)
+    match time {
+        Some(time) => Ok(time),
+        None => Err(wrong_word(alloc, "SECONDS", text, "not a time in seconds")),
+    }
 }
 
 /// The options of clap's matches.
-fn options_of(alloc: Global, matches: &ArgMatches<'_>) -> Result<Options, Fault> {
-    let workload = matches.get_str("WORKLOAD").and_then(Workload::named);
-    let workload = workload.ok_or(Fault::Usage)?;
-    let threads = matches.get_one::<u32>("THREADS").unwrap_or(1) as usize;
-    let options = Options {
+fn options_of(alloc: Global, matches: &ArgMatches<'_>) -> Result<Options, WordsFault> {
+    let workload = read_workload(alloc, matches.get_str("WORKLOAD").unwrap_or(""))?;
+    let threads = THREADS.find(alloc, matches)?.unwrap_or(1) as usize;
+    let stripes = STRIPES.find(alloc, matches)?;
+    let reprobes = REPROBES.find(alloc, matches)?;
+    Ok(Options {
         workload,
         threads,
-        time: read_time(matches.get_str("SECONDS").unwrap_or("1"))?,
+        time: read_time(alloc, matches.get_str("SECONDS").unwrap_or("1"))?,
         exponents: plan_of(alloc, workload, matches)?,
-        keys: matches.get_one::<u32>("live").unwrap_or(1),
-        stripes: matches
-            .get_one::<u32>("stripes")
-            .map_or(threads, |stripes| stripes as usize),
-        reprobes: matches.get_one::<u32>("reprobes").unwrap_or(u32::MAX),
-        chunk: matches.get_one::<u32>("chunk").unwrap_or(8),
-        spacing: read_spacing(matches.get_str("keys").unwrap_or("dense"))?,
-        calls: matches.get_one::<u64>("calls").unwrap_or(u64::MAX),
-        puts: matches.get_one::<u32>("puts").unwrap_or(0),
-        adds: u64::from(matches.get_one::<u32>("adds").unwrap_or(0)),
+        keys: LIVE.find(alloc, matches)?.unwrap_or(1) as u32,
+        stripes: stripes.map_or(threads, |stripes| stripes as usize),
+        reprobes: reprobes.map_or(u32::MAX, |reprobes| reprobes as u32),
+        chunk: CHUNK.find(alloc, matches)?.unwrap_or(8) as u32,
+        spacing: read_spacing(alloc, matches.get_str("keys").unwrap_or("dense"))?,
+        calls: CALLS.find(alloc, matches)?.unwrap_or(u64::MAX),
+        puts: PUTS.find(alloc, matches)?.unwrap_or(0) as u32,
+        adds: ADDS.find(alloc, matches)?.unwrap_or(0),
+        progress: Progress::NONE,
+    })
+}
+
+/// The word of the command line for which there is no shape.
+fn fault_of_shape(alloc: Global, fault: ShapeFault, matches: &ArgMatches<'_>) -> WordsFault {
+    let (name, id, complaint) = match fault {
+        ShapeFault::Chunk => ("--chunk", "chunk", "not a power of two from 4 to 1024"),
+        _ => ("--plan", "plan", NO_PLAN),
     };
-    let _ = options.shape()?;
-    Ok(options)
+    wrong_word(alloc, name, matches.get_str(id).unwrap_or(""), complaint)
 }
 
 /// The options that the words give, of which the first is the program's name.
-pub(crate) fn read_options(alloc: Global, words: &[String]) -> Result<Options, Fault> {
-    match command(alloc)?.try_get_matches_from(words) {
-        Ok(matches) => options_of(alloc, &matches),
-        Err(error) => Err(option_fault(alloc, &error)),
+pub(crate) fn read_options(alloc: Global, words: &[String]) -> Result<Options, WordsFault> {
+    let matches = matches_of(alloc, command(alloc), words)?;
+    let options = options_of(alloc, &matches)?;
+    match options.shape() {
+        Ok(_) => Ok(options),
+        Err(fault) => Err(fault_of_shape(alloc, fault, &matches)),
     }
 }

@@ -32,7 +32,7 @@ fn calls_of(workload: Workload) -> Calls {
 }
 
 /// Makes the calls of a workload on a map that has half of the keys.
-fn measure_calls<R: Threads + Sync + Wait + Clock>(
+fn measure_calls<R: Threads + Sync + Wait + Clock + Eprint>(
     rt: &R,
     alloc: Global,
     options: &Options,
@@ -44,6 +44,7 @@ fn measure_calls<R: Threads + Sync + Wait + Clock>(
         spacing: options.spacing,
         time: options.time,
         batches: options.calls.div_ceil(BATCH),
+        progress: options.progress,
     };
     let done = do_job(rt, alloc, options.shape()?, options.spacing, half, &job)?;
     Ok(Measured {
@@ -53,7 +54,7 @@ fn measure_calls<R: Threads + Sync + Wait + Clock>(
 }
 
 /// Runs a workload that is no check.
-pub(crate) fn measure<R: Threads + Sync + Wait + Clock>(
+pub(crate) fn measure<R: Threads + Sync + Wait + Clock + Eprint>(
     rt: &R,
     alloc: Global,
     options: &Options,

@@ -8,36 +8,30 @@ use crate::options::{Options, read_options};
 use crate::runs::{Measured, measure};
 use crate::workloads::Workload;
 use crate::{fill, kinds};
+use nb_lines::{Progress, WordsFault, answer, complain, words};
 use std::alloc::Global;
-use std::env;
 use std::rt::{Clock, Env};
 use std::sync::Wait;
 use std::thread::Threads;
 
-/// The words of the command line.
-fn words<R: Env + AllocGlobal>(rt: &R) -> Result<Vec<String>, Fault> {
-    let given = env::args(rt).map_err(|_| Fault::Usage)?;
-    let mut words = Vec::new(rt.alloc());
-    for word in given {
-        words.push(word)?;
-    }
-    Ok(words)
-}
+/// What it is called in messages.
+const NAME: &str = "nb_bench";
 
 /// Runs the checks, and prints their line.
-fn run_checks<R: Threads + Sync + Wait + Clock + Print>(
+fn run_checks<R: Threads + Sync + Wait + Clock + Print + Eprint>(
     rt: &R,
     alloc: Global,
     options: &Options,
 ) -> Result<(), Fault> {
     let threads = options.threads;
     let puts = are_told_once(alloc, options, do_puts(rt, alloc, options)?)?;
+    options.progress.tell_part(rt, 1, 2, "parts");
     let adds = are_summed(alloc, &do_adds(rt, alloc, options)?)?;
     println!(rt; "nb check {threads} {puts} puts {adds} adds ok").map_err(|_| Fault::Write)
 }
 
 /// Times calls of each kind, and prints a line for each.
-fn run_kinds<R: Wait + Clock + Print>(
+fn run_kinds<R: Wait + Clock + Print + Eprint>(
     rt: &R,
     alloc: Global,
     options: &Options,
@@ -51,7 +45,7 @@ fn run_kinds<R: Wait + Clock + Print>(
 }
 
 /// Fills and reads maps of many keys, and prints a line for each time.
-fn run_fill<R: Threads + Sync + Wait + Clock + Print>(
+fn run_fill<R: Threads + Sync + Wait + Clock + Print + Eprint>(
     rt: &R,
     alloc: Global,
     options: &Options,
@@ -65,7 +59,7 @@ fn run_fill<R: Threads + Sync + Wait + Clock + Print>(
 }
 
 /// Runs a workload for its time, and prints its line.
-fn run_timed<R: Threads + Sync + Wait + Clock + Print>(
+fn run_timed<R: Threads + Sync + Wait + Clock + Print + Eprint>(
     rt: &R,
     alloc: Global,
     options: &Options,
@@ -77,7 +71,7 @@ fn run_timed<R: Threads + Sync + Wait + Clock + Print>(
 }
 
 /// Runs what the options ask for.
-fn run<R: Threads + Sync + Wait + Clock + Print>(
+fn run<R: Threads + Sync + Wait + Clock + Print + Eprint>(
     rt: &R,
     alloc: Global,
     options: &Options,
@@ -91,30 +85,31 @@ fn run<R: Threads + Sync + Wait + Clock + Print>(
 }
 
 /// Reads the options and runs what they ask for.
-fn attend<R: Env + Threads + Sync + Wait + Clock + Print + AllocGlobal>(
-    rt: &R,
-) -> Result<(), Fault> {
-    let words = words(rt)?;
-    let options = read_options(rt.alloc(), words.as_slice())?;
-    run(rt, rt.alloc(), &options)
-}
-
-/// Serves a process, and answers its exit status: 0 where it ran well or help was asked for, 1
-/// where nothing could be written, 2 where a check found something wrong, 3 for wrong words, 4
-/// where a worker stopped early.
-pub(crate) fn serve<R>(rt: &R) -> u8
+fn attend<R>(rt: &R, progress: Progress) -> Result<(), Fault>
 where
     R: Env + Threads + Sync + Wait + Clock + Print + Eprint + AllocGlobal,
 {
-    match attend(rt) {
+    let words = words(rt)?;
+    let mut options = read_options(rt.alloc(), words.as_slice())?;
+    options.progress = progress;
+    let ran = run(rt, rt.alloc(), &options);
+    progress.end(rt);
+    ran
+}
+
+/// Serves a process, and answers its exit status: 0 where it ran well or help or the version was
+/// asked for, 1 where nothing could be written, 2 where a check found something wrong, 3 for wrong
+/// words, 4 where a worker stopped early.
+pub(crate) fn serve<R>(rt: &R, progress: Progress) -> u8
+where
+    R: Env + Threads + Sync + Wait + Clock + Print + Eprint + AllocGlobal,
+{
+    match attend(rt, progress) {
         Ok(()) => 0,
+        Err(Fault::Words(WordsFault::Answered(text))) => answer(rt, NAME, text.as_str()),
         Err(fault) => {
             let status = fault.status();
-            let _ = match fault {
-                Fault::Help(text) => println!(rt; "{text}"),
-                other => eprintln!(rt; "nb_bench: {other}"),
-            };
-            status
+            complain(rt, NAME, &fault, status)
         }
     }
 }

@@ -7,6 +7,8 @@ use crate::options::{Options, read_options};
 use crate::runs::{Measured, measure};
 use crate::workloads::Workload;
 use crate::{fill, kinds};
+use nb_core::ShapeFault;
+use nb_lines::{VERSION, WordsFault};
 use std::alloc::Global;
 use std::fmt::Display;
 use std::process::Abort;
@@ -17,7 +19,7 @@ use std::thread::Threads;
 use std::time::Duration;
 
 /// The options that these words give after the program's name.
-fn options(alloc: Global, words: &[&str]) -> Result<Options, Fault> {
+fn options(alloc: Global, words: &[&str]) -> Result<Options, WordsFault> {
     let mut texts = Vec::new(alloc);
     for word in ["nb_bench"].iter().chain(words) {
         texts.push(String::from_str(alloc, *word)?)?;
@@ -26,7 +28,7 @@ fn options(alloc: Global, words: &[&str]) -> Result<Options, Fault> {
 }
 
 /// Runs a workload for a short time.
-fn run_short<R: Threads + Sync + Wait + Clock>(
+fn run_short<R: Threads + Sync + Wait + Clock + Eprint>(
     rt: &R,
     alloc: Global,
     name: &str,
@@ -72,11 +74,11 @@ fn each_kind_is_timed(rt: HostRuntime) -> Result<(), Fail> {
 /// The options of checks with few calls.
 fn few(alloc: Global, threads: &str) -> Result<Options, Fault> {
     let words = ["check", threads, "--puts", "2000", "--adds", "10001"];
-    options(alloc, words.as_slice())
+    Ok(options(alloc, words.as_slice())?)
 }
 
 /// Makes few puts and adds with these threads, and checks them.
-fn check_few<R: Threads + Sync + Wait + Clock>(
+fn check_few<R: Threads + Sync + Wait + Clock + Eprint>(
     rt: &R,
     alloc: Global,
     threads: &str,
@@ -97,7 +99,10 @@ fn checks_find_nothing_wrong(rt: HostRuntime) -> Result<(), Fail> {
 }
 
 /// What a check says where a put was told the number 1 once more than it was.
-fn check_told_twice<R: Threads + Sync + Wait + Clock>(rt: &R, alloc: Global) -> Result<u64, Fault> {
+fn check_told_twice<R: Threads + Sync + Wait + Clock + Eprint>(
+    rt: &R,
+    alloc: Global,
+) -> Result<u64, Fault> {
     let options = few(alloc, "2")?;
     let mut done = do_puts(rt, alloc, &options)?;
     let _ = done.told.pop();
@@ -106,7 +111,10 @@ fn check_told_twice<R: Threads + Sync + Wait + Clock>(rt: &R, alloc: Global) -> 
 }
 
 /// What a check says where one more was added than there is.
-fn check_lost<R: Threads + Sync + Wait + Clock>(rt: &R, alloc: Global) -> Result<u64, Fault> {
+fn check_lost<R: Threads + Sync + Wait + Clock + Eprint>(
+    rt: &R,
+    alloc: Global,
+) -> Result<u64, Fault> {
     let options = few(alloc, "2")?;
     let mut done = do_adds(rt, alloc, &options)?;
     done.tally.sum = done.tally.sum.wrapping_add(1);
@@ -171,26 +179,79 @@ fn words_give_options(rt: HostRuntime) -> Result<(), Fail> {
     Ok(())
 }
 
-#[test]
-fn refuses_other_words(rt: HostRuntime) {
-    let refused: [&[&str]; 12] = [
-        &[],
-        &["G"],
-        &["A", "0"],
-        &["A", "257"],
-        &["A", "1", "soon"],
-        &["A", "1", "-1"],
-        &["A", "1", "1", "1"],
-        &["A", "--plan", "3,2"],
-        &["A", "--plan", "2,"],
-        &["A", "--keys", "few"],
-        &["A", "--reprobes", "0"],
-        &["A", "--chunk", "3"],
-    ];
-    for words in refused {
-        let result = options(rt.alloc(), words);
-        assert!(rt; matches!(&result, Err(Fault::Usage)), "{words:?}");
+/// What is said of these words.
+fn said_of(alloc: Global, words: &[&str]) -> Result<String, WordsFault> {
+    match options(alloc, words) {
+        Ok(_) => Ok(String::new(alloc)),
+        Err(fault) => Ok(fault.to_string(alloc)?),
     }
+}
+
+/// Sees that each of these words is refused with these words.
+fn assert_refused<R: Abort + AllocGlobal>(rt: &R, refused: &[(&[&str], &str)]) -> Result<(), Fail> {
+    for (words, said) in refused {
+        let said = format!(in rt.alloc(); "{said}; --help tells more")?;
+        assert_eq!(rt; said_of(rt.alloc(), *words)?.as_str(), said.as_str());
+    }
+    Ok(())
+}
+
+#[test]
+fn wrong_words_are_named(rt: HostRuntime) -> Result<(), Fail> {
+    let refused: [(&[&str], &str); 9] = [
+        (
+            &[],
+            "the following required arguments were not provided: <WORKLOAD>",
+        ),
+        (
+            &["G"],
+            "WORKLOAD G: none of A, B, C, D, E, F, kinds and check",
+        ),
+        (&["A", "0"], "THREADS 0: not from 1 to 256"),
+        (&["A", "257"], "THREADS 257: not from 1 to 256"),
+        (&["A", "1", "soon"], "SECONDS soon: not a time in seconds"),
+        (&["A", "1", "1", "1"], "unexpected argument '1' found"),
+        (
+            &["A", "--keys", "few"],
+            "--keys few: neither dense nor spread",
+        ),
+        (
+            &["A", "--reprobes", "0"],
+            "--reprobes 0: not from 1 to 4294967295",
+        ),
+        (
+            &["A", "--puts", "1000001"],
+            "--puts 1000001: not from 0 to 1000000",
+        ),
+    ];
+    assert_refused(&rt, refused.as_slice())
+}
+
+#[test]
+fn wrong_shapes_are_named(rt: HostRuntime) -> Result<(), Fail> {
+    let refused: [(&[&str], &str); 5] = [
+        (
+            &["A", "--plan", "3,2"],
+            "--plan 3,2: not 1 to 16 numbers from 2 to 28, none below the one before, \
+of 2^30 slots in all at most",
+        ),
+        (
+            &["A", "--plan", "2,"],
+            "--plan 2,: not 1 to 16 numbers from 2 to 28, none below the one before, \
+of 2^30 slots in all at most",
+        ),
+        (
+            &["A", "--plan", "28,28,28,28,28"],
+            "--plan 28,28,28,28,28: not 1 to 16 numbers from 2 to 28, none below the one before, \
+of 2^30 slots in all at most",
+        ),
+        (&["A", "--chunk", "2"], "--chunk 2: not from 4 to 1024"),
+        (
+            &["A", "--chunk", "12"],
+            "--chunk 12: not a power of two from 4 to 1024",
+        ),
+    ];
+    assert_refused(&rt, refused.as_slice())
 }
 
 /// Sees what is said of a fault.
@@ -226,9 +287,12 @@ fn fault_texts(rt: HostRuntime) -> Result<(), Fail> {
         assert_says(&rt, &wrong, text)?;
         assert_says(&rt, &Fault::Wrong(wrong), text)?;
     }
-    let help = String::from_str(rt.alloc(), "a help\n")?;
-    assert_says(&rt, &Fault::Help(help), "a help\n")?;
-    assert_says(&rt, &Fault::Usage, "bad usage; --help tells more")?;
+    assert_says(
+        &rt,
+        &Fault::Words(WordsFault::NoText),
+        "a word isn't text; --help tells more",
+    )?;
+    assert_says(&rt, &Fault::Shape(ShapeFault::Slots), "too many slots")?;
     assert_says(&rt, &Fault::Write, "write failed")
 }
 
@@ -246,22 +310,28 @@ check: a test under load
   [SECONDS]   How many seconds to measure, such as 0.5 [default: 1]
 
 Options:
-      --plan <E,E,..>  Tables of 2^E slots, one for each E
-      --stripes <P>    How many words the count of keys is spread over
-      --reprobes <N>   How many slots a new key may try before a table grows
-      --chunk <C>      How many slots a thread copies at a time [default: 8]
+      --plan <E,E,..>  Tables of 2^E slots, one for each E; 1 to 16 numbers from 2 to 28
+      --stripes <P>    How many words the count of keys is spread over; 1 to 256
+      --reprobes <N>   How many slots a new key may try before a table grows; 1 to 4294967295
+      --chunk <C>      How many slots a thread copies at a time; a power of two from 4 to 1024 \
+[default: 8]
       --keys <WHICH>   dense (0, 1, 2 and so on) or spread (over the whole range) [default: dense]
       --calls <N>      How many calls each thread makes at most
-      --puts <N>       In check: how many puts each thread makes [default: 150000]
-      --adds <N>       In check: how many adds all threads make together [default: 10000000]
-      --live <N>       In F: how many keys there are [default: 1000000]
+      --puts <N>       In check: how many puts each thread makes; 0 to 1000000 [default: 150000]
+      --adds <N>       In check: how many adds all threads make together; 0 to 4294967295 \
+[default: 10000000]
+      --live <N>       In F: how many keys there are; 1 to 178956970 [default: 1000000]
   -h, --help           Print help
+  -V, --version        Print version
 ";
 
 #[test]
-fn helps(rt: HostRuntime) {
-    let Err(Fault::Help(text)) = options(rt.alloc(), &["--help"]) else {
-        panic!(rt; "--help asks for help")
-    };
-    assert_eq!(rt; text.as_str(), HELP);
+fn words_ask_for_texts(rt: HostRuntime) -> Result<(), Fail> {
+    assert_eq!(rt; said_of(rt.alloc(), &["--help"])?.as_str(), HELP);
+    let version = format!(in rt.alloc(); "nb_bench {VERSION}\n")?;
+    assert_eq!(rt;
+        said_of(rt.alloc(), &["--version"])?.as_str(),
+        version.as_str()
+    );
+    Ok(())
 }

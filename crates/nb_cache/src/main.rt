@@ -6,20 +6,24 @@
 //! for it. A value that was put stays until the map is dropped, also where its key was put again:
 //! the program tells how many there are.
 //!
-//! Each key is one worker's, so the trace's order holds for each key, and what is printed is the
-//! same whatever the schedule.
+//! Each line is parsed once, by one of the workers. Each key is one worker's, so the trace's order
+//! holds for each key, and what is printed is the same whatever the schedule.
 #![tactic(auto)]
 
 pub(crate) mod options;
+pub(crate) mod parsing;
 pub(crate) mod printing;
 pub(crate) mod replaying;
 pub(crate) mod serve;
 pub(crate) mod trace;
 
+use nb_lines::{Progress, size_of_input};
+use std::io::IsTerminal;
 use std::process::ExitCode;
 
 fn main(rt: HostRuntime) -> ExitCode {
-    ExitCode::from(serve::serve(&rt, rt.stdin()))
+    let progress = Progress::new(rt.stderr().is_terminal(), size_of_input(&rt));
+    ExitCode::from(serve::serve(&rt, rt.stdin(), progress))
 }
 
 #[cfg(test)]

@@ -1,8 +1,8 @@
 //! The words of the command line.
 
-use clap::{Arg, ArgAction, ArgMatches, Command, value_parser};
+use clap::{Arg, ArgAction, ArgMatches, Command};
 use nb_core::Shape;
-use nb_lines::{Fault, fault_of_words, keys_option, option};
+use nb_lines::{Fault, MANY_KEYS, WORKERS, WordsFault, command_named, matches_of};
 use std::alloc::{AllocError, Global};
 
 /// How a trace is to be replayed.
@@ -27,9 +27,10 @@ impl Options {
 /// What `--help` tells behind the options.
 const MORE: &str = "\
 Each line of the trace is 'get KEY' or 'put KEY TEXT', with one space between the
-words. TEXT is the rest of the line. Keys go from 0 to 18446744073709551613. One
-worker replays all lines of a key, in their order. Each text that was put stays
-in memory to the end. 'stale' is the number of texts that no get finds any more.
+words. TEXT is the rest of the line, which ends with a newline, or with a carriage
+return and a newline. Keys go from 0 to 18446744073709551613. One worker replays
+all lines of a key, in their order. Each text that was put stays in memory to the
+end. 'stale' is the number of texts that no get finds any more.
 
 Exit status: 0 done; 1 a read or a write failed; 2 a line is not of this form;
 3 bad usage; 4 out of memory; 5 more different keys than there is room for;
@@ -47,43 +48,42 @@ stale 0";
 
 /// The command line.
 fn command<'a>(alloc: Global) -> Result<Command<'a>, AllocError> {
-    let workers = option(
-        alloc,
-        "workers",
-        "N",
-        "How many threads replay the trace; 1 to 8",
-    )
-    .value_parser(value_parser!(u32).range(1..=8))
-    .default_value("4");
+    let workers = WORKERS
+        .option(alloc, "N", "How many threads replay the trace; 1 to 8")
+        .default_value("4");
     let replies = Arg::new(alloc, "replies")
         .long("replies")
         .action(ArgAction::SetTrue)
         .help("Also print what each get found, worker by worker");
-    let keys = keys_option(
+    let keys = MANY_KEYS
+        .option(
+            alloc,
+            "N",
+            "Make room for at least N different keys; 1 to 178956970",
+        )
+        .default_value("349525");
+    command_named(
         alloc,
-        "Make room for at least N different keys; 1 to 178956970",
-    );
-    Command::new(alloc, "nb_cache")
-        .about("Replays a trace of gets and puts on a cache of texts")
-        .after_help(MORE)
-        .arg(workers)?
-        .arg(replies)?
-        .arg(keys)
+        "nb_cache",
+        "Replays a trace of gets and puts on a cache of texts",
+    )
+    .after_help(MORE)
+    .arg(workers)?
+    .arg(replies)?
+    .arg(keys)
 }
 
 /// The options of clap's matches.
-fn options_of(matches: &ArgMatches<'_>) -> Option<Options> {
-    Some(Options {
-        workers: matches.get_one::<u32>("workers")? as usize,
+fn options_of(alloc: Global, matches: &ArgMatches<'_>) -> Result<Options, WordsFault> {
+    Ok(Options {
+        workers: WORKERS.find(alloc, matches)?.unwrap_or(1) as usize,
         tells_replies: matches.get_flag("replies"),
-        keys: matches.get_one::<u32>("keys")? as usize,
+        keys: MANY_KEYS.find(alloc, matches)?.unwrap_or(1) as usize,
     })
 }
 
 /// The options that the words give, of which the first is the program's name.
-pub(crate) fn read_options(alloc: Global, words: &[String]) -> Result<Options, Fault> {
-    match command(alloc)?.try_get_matches_from(words) {
-        Ok(matches) => options_of(&matches).ok_or(Fault::Usage),
-        Err(error) => Err(fault_of_words(alloc, &error)),
-    }
+pub(crate) fn read_options(alloc: Global, words: &[String]) -> Result<Options, WordsFault> {
+    let matches = matches_of(alloc, command(alloc), words)?;
+    options_of(alloc, &matches)
 }

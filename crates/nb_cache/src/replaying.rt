@@ -5,15 +5,20 @@ ghost use Rattle.nb_core.specs.declared.calls.Call.TheVariants as map_call;
 ghost use Rattle.nb_map.specs.Logs.{HasReplied};
 
 use crate::options::Options;
-use crate::trace::{Action, read_request};
+use crate::parsing::{Trace, parsed};
+use crate::trace::{Action, Request};
 use itoa::Buffer;
 use nb_core::{Key, MAX_SEATS, Num, OutOfMemory, Shape};
-use nb_lines::{Fault, Lines, key_of, number_of};
+use nb_lines::{Fault, Progress, key_of, number_of};
 use nb_long::{Handle, LongFault, Shown};
 use std::alloc::Global;
 use std::sync::Wait;
+use std::sync::atomic::{AtomicU64, Ordering};
 use std::thread;
 use std::thread::Threads;
+
+/// How many lines a worker does from one word on progress to the next.
+const TOLD: u64 = 1 << 15;
 
 /// What a put stores.
 #[derive(Debug, Drop)]
@@ -69,15 +74,33 @@ struct Worker {
     fault: Option<Fault>,
 }
 
+/// What all workers share.
+#[derive(Drop)]
+struct Run<'a> {
+    trace: Trace<'a>,
+    tells_replies: bool,
+    /// How many lines are done, as far as workers have told it.
+    done: AtomicU64,
+    progress: Progress,
+}
+
 /// Replays a trace on a new cache.
-pub(crate) fn replay<R: Threads + Sync + Wait>(
+pub(crate) fn replay<R: Threads + Sync + Wait + Eprint>(
     rt: &R,
     alloc: Global,
     options: &Options,
-    trace: &[u8],
+    text: &[u8],
+    progress: Progress,
 ) -> Result<Replayed, Fault> {
+    let run = Run {
+        trace: parsed(rt, alloc, text, options.workers)?,
+        tells_replies: options.tells_replies,
+        done: AtomicU64::new(0),
+        progress,
+    };
     let mut workers = hired(alloc, options.shape()?)?;
-    all_work(rt, alloc, options, trace, workers.as_mut_slice());
+    all_work(rt, alloc, &run, workers.as_mut_slice());
+    progress.end(rt);
     gathered(alloc, workers)
 }
 
@@ -99,69 +122,89 @@ fn hired(alloc: Global, shape: Shape) -> Result<Vec<Worker>, OutOfMemory> {
 }
 
 /// All workers replay their parts at the same time, each in a thread of its own.
-fn all_work<R: Threads + Sync + Wait>(
+fn all_work<R: Threads + Sync + Wait + Eprint>(
     rt: &R,
     alloc: Global,
-    options: &Options,
-    trace: &[u8],
+    run: &Run<'_>,
     workers: &mut [Worker],
 ) {
     thread::for_each_mut(
         rt,
         workers,
         MAX_SEATS,
-        &|number: usize, worker: &mut Worker| { work(rt, alloc, options, trace, worker, number) },
+        &|number: usize, worker: &mut Worker| { work(rt, alloc, run, worker, number) },
     );
 }
 
 /// Replays the part of the worker with this number, and keeps why it stopped early.
-fn work<R: Wait>(
+fn work<R: Wait + Eprint>(
     rt: &R,
     alloc: Global,
-    options: &Options,
-    trace: &[u8],
+    run: &Run<'_>,
     worker: &mut Worker,
     number: usize,
 ) {
-    if let Err(fault) = replay_part(rt, alloc, options, trace, worker, number) {
+    if let Err(fault) = replay_part(rt, alloc, run, worker, number) {
         worker.fault = Some(fault);
     }
 }
 
-/// Makes the calls of the lines whose keys are this worker's: those whose numbers leave its own
-/// when they are divided by the number of workers. Each worker reads all lines, so each stops at
-/// the first broken one.
-fn replay_part<R: Wait>(
+/// Makes the calls of the lines whose keys are this worker's, in the order of the lines.
+fn replay_part<R: Wait + Eprint>(
     rt: &R,
     alloc: Global,
-    options: &Options,
-    trace: &[u8],
+    run: &Run<'_>,
     worker: &mut Worker,
     number: usize,
 ) -> Result<(), Fault> {
-    let mut lines = 1u64;
-    for line in Lines::new(trace) {
-        let request = read_request(line).map_err(|cause| Fault::Line(lines, cause))?;
-        let key = key_of(request.number).map_err(|fault| Fault::Line(lines, fault.into()))?;
-        if request.number % options.workers.max(1) as u64 == number as u64 {
-            call(rt, alloc, options, worker, key, request.action)?;
+    for part in run.trace.parts.iter() {
+        if let Some(requests) = part.requests.get(number) {
+            replay_requests(rt, alloc, run, worker, requests.as_slice())?;
         }
-        lines = lines.wrapping_add(1);
     }
     Ok(())
+}
+
+/// Makes the calls that are asked for, and tells now and then how many were made.
+fn replay_requests<R: Wait + Eprint>(
+    rt: &R,
+    alloc: Global,
+    run: &Run<'_>,
+    worker: &mut Worker,
+    requests: &[Request<'_>],
+) -> Result<(), Fault> {
+    let mut lines = 0u64;
+    for request in requests {
+        let key = key_of(request.number).unwrap();
+        call(rt, alloc, worker, key, request.action, run.tells_replies)?;
+        lines = lines.wrapping_add(1);
+        if lines % TOLD == 0 {
+            tell(rt, run);
+        }
+    }
+    Ok(())
+}
+
+/// Tells that a worker has done so many more lines.
+fn tell<R: Eprint>(rt: &R, run: &Run<'_>) {
+    if run.progress.is_told() {
+        let before = run.done.fetch_add(TOLD, Ordering::SeqCst);
+        let done = before.wrapping_add(TOLD);
+        run.progress.tell_part(rt, done, run.trace.lines, "lines");
+    }
 }
 
 /// Does what is asked for at a key.
 fn call<R: Wait>(
     rt: &R,
     alloc: Global,
-    options: &Options,
     worker: &mut Worker,
     key: Key,
     action: Action<'_>,
+    tells_replies: bool,
 ) -> Result<(), Fault> {
     match action {
-        Action::Get => get(worker, key, options.tells_replies),
+        Action::Get => get(worker, key, tells_replies),
         Action::Put(text) => put(rt, alloc, worker, key, text),
     }
 }

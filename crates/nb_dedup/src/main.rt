@@ -1,5 +1,5 @@
 //! `nb_dedup` prints each number of standard input once, as `sort -nu` does: the jobs that workers
-//! take from a list in which jobs come again, each by whoever comes first.
+//! take from a list in which jobs come again, each by the worker that comes first.
 //!
 //! It shows how threads share a set. `LongSet::add` answers whether the key came by this call, and
 //! of all calls at the same time one alone is told so: its worker takes the job. What a worker
@@ -11,10 +11,13 @@ pub(crate) mod printing;
 pub(crate) mod serve;
 pub(crate) mod taking;
 
+use nb_lines::{Progress, size_of_input};
+use std::io::IsTerminal;
 use std::process::ExitCode;
 
 fn main(rt: HostRuntime) -> ExitCode {
-    ExitCode::from(serve::serve(&rt, rt.stdin()))
+    let progress = Progress::new(rt.stderr().is_terminal(), size_of_input(&rt));
+    ExitCode::from(serve::serve(&rt, rt.stdin(), progress))
 }
 
 #[cfg(test)]

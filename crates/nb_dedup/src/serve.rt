@@ -3,7 +3,7 @@
 use crate::options::read_options;
 use crate::printing::print;
 use crate::taking::take_all;
-use nb_lines::{Fault, end_of, words};
+use nb_lines::{Fault, Progress, end_of, words};
 use std::io;
 use std::io::Read;
 use std::rt::Env;
@@ -11,14 +11,14 @@ use std::sync::Wait;
 use std::thread::Threads;
 
 /// Does what the words ask for.
-fn attend<R, I>(rt: &R, reader: I) -> Result<(), Fault>
+fn attend<R, I>(rt: &R, reader: I, progress: Progress) -> Result<(), Fault>
 where
-    R: Env + Threads + Sync + Wait + Print + AllocGlobal,
+    R: Env + Threads + Sync + Wait + Print + Eprint + AllocGlobal,
     I: Read + Send + Drop,
 {
     let words = words(rt)?;
     let options = read_options(rt.alloc(), words.as_slice())?;
-    let jobs = take_all(rt, rt.alloc(), &options, reader)?;
+    let jobs = take_all(rt, rt.alloc(), &options, reader, progress)?;
     print(
         rt.alloc(),
         io::writer(rt),
@@ -28,10 +28,10 @@ where
 }
 
 /// Serves a process, and answers its exit status.
-pub(crate) fn serve<R, I>(rt: &R, reader: I) -> u8
+pub(crate) fn serve<R, I>(rt: &R, reader: I, progress: Progress) -> u8
 where
     R: Env + Threads + Sync + Wait + Print + Eprint + AllocGlobal,
     I: Read + Send + Drop,
 {
-    end_of(rt, "nb_dedup", attend(rt, reader))
+    end_of(rt, "nb_dedup", attend(rt, reader, progress))
 }

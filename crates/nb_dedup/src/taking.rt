@@ -6,7 +6,7 @@ ghost use Rattle.nb_set.specs.Sets.{HasReplied};
 
 use crate::options::Options;
 use nb_core::{Key, MAX_SEATS, OutOfMemory, Shape};
-use nb_lines::{Block, Fault, Input, Stop, number_of, read_key};
+use nb_lines::{Block, Fault, Input, Progress, Stop, number_of, read_key};
 use nb_set::{Full, Handle};
 use std::alloc::Global;
 use std::io::Read;
@@ -35,14 +35,16 @@ pub(crate) fn take_all<R, I>(
     alloc: Global,
     options: &Options,
     reader: I,
+    progress: Progress,
 ) -> Result<Vec<Job>, Fault>
 where
-    R: Threads + Sync + Wait,
+    R: Threads + Sync + Wait + Eprint,
     I: Read + Send + Drop,
 {
     let mut workers = hired(alloc, options.shape()?)?;
     let input = Mutex::new(Input::new(alloc, reader));
-    all_work(rt, alloc, &input, workers.as_mut_slice());
+    all_work(rt, alloc, &input, progress, workers.as_mut_slice());
+    progress.end(rt);
     let _lines = input.into_inner().finish()?;
     jobs_of(alloc, workers.as_slice())
 }
@@ -58,37 +60,40 @@ fn hired(alloc: Global, shape: Shape) -> Result<Vec<Worker>, OutOfMemory> {
 }
 
 /// All workers take jobs at the same time, each in a thread of its own.
-fn all_work<R: Threads + Sync + Wait, I: Read + Send + Drop>(
+fn all_work<R: Threads + Sync + Wait + Eprint, I: Read + Send + Drop>(
     rt: &R,
     alloc: Global,
     input: &Mutex<Input<I>>,
+    progress: Progress,
     workers: &mut [Worker],
 ) {
     thread::for_each_mut(
         rt,
         workers,
         MAX_SEATS,
-        &|_number: usize, worker: &mut Worker| { work(rt, alloc, input, worker) },
+        &|_number: usize, worker: &mut Worker| { work(rt, alloc, input, progress, worker) },
     );
 }
 
 /// A worker's part.
-fn work<R: Wait, I: Read + Drop>(
+fn work<R: Wait + Eprint, I: Read + Drop>(
     rt: &R,
     alloc: Global,
     input: &Mutex<Input<I>>,
+    progress: Progress,
     worker: &mut Worker,
 ) {
-    if let Err(stop) = take_blocks(rt, alloc, input, worker) {
+    if let Err(stop) = take_blocks(rt, alloc, input, progress, worker) {
         input.lock(rt).stop(stop);
     }
 }
 
 /// Takes jobs of block after block, until no more come.
-fn take_blocks<R: Wait, I: Read + Drop>(
+fn take_blocks<R: Wait + Eprint, I: Read + Drop>(
     rt: &R,
     alloc: Global,
     input: &Mutex<Input<I>>,
+    progress: Progress,
     worker: &mut Worker,
 ) -> Result<(), Stop> {
     let mut block = Block::new(alloc)?;
@@ -97,6 +102,7 @@ fn take_blocks<R: Wait, I: Read + Drop>(
         if !has_lines {
             break;
         }
+        progress.tell_block(rt, &block);
         let lines = take_lines(rt, worker, &block)?;
         block.set_line_count(lines);
     }

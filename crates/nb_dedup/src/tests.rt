@@ -3,14 +3,14 @@
 use crate::options::{Options, read_options};
 use crate::printing::print;
 use crate::taking::take_all;
-use nb_lines::{Cause, Fault};
+use nb_lines::{Cause, Fault, Progress, VERSION, WordsFault};
 use std::alloc::Global;
 use std::sync::Wait;
 use std::test::Fail;
 use std::thread::Threads;
 
 /// The options that these words give after the program's name.
-fn options(alloc: Global, words: &[&str]) -> Result<Options, Fault> {
+fn options(alloc: Global, words: &[&str]) -> Result<Options, WordsFault> {
     let mut texts = Vec::new(alloc);
     for word in ["nb_dedup"].iter().chain(words) {
         texts.push(String::from_str(alloc, *word)?)?;
@@ -19,14 +19,14 @@ fn options(alloc: Global, words: &[&str]) -> Result<Options, Fault> {
 }
 
 /// What is printed of an input under these words.
-fn printed<R: Threads + Sync + Wait>(
+fn printed<R: Threads + Sync + Wait + Eprint>(
     rt: &R,
     alloc: Global,
     words: &[&str],
     input: &str,
 ) -> Result<Vec<u8>, Fault> {
     let options = options(alloc, words)?;
-    let jobs = take_all(rt, alloc, &options, input.as_bytes())?;
+    let jobs = take_all(rt, alloc, &options, input.as_bytes(), Progress::NONE)?;
     let mut output = Vec::new(alloc);
     print(alloc, &mut output, jobs.as_slice(), options.tells_who)?;
     Ok(output)
@@ -40,6 +40,8 @@ fn each_number_is_printed_once(rt: HostRuntime) -> Result<(), Fail> {
         let output = printed(&rt, rt.alloc(), &["--workers", workers], input)?;
         assert_eq!(rt; output.as_slice(), all.as_bytes());
     }
+    let output = printed(&rt, rt.alloc(), &[], "7\r\n3\n7\r\n")?;
+    assert_eq!(rt; output.as_slice(), b"3\n7\n".as_slice());
     let output = printed(&rt, rt.alloc(), &["--workers", "1", "--who"], "7\n3\n7")?;
     assert_eq!(rt; output.as_slice(), b"3 1\n7 1\n".as_slice());
     Ok(())
@@ -60,7 +62,8 @@ fn many(alloc: Global) -> Result<String, Fault> {
 #[test]
 fn no_job_is_taken_twice(rt: HostRuntime) -> Result<(), Fail> {
     let text = many(rt.alloc())?;
-    let jobs = take_all(&rt, rt.alloc(), &options(rt.alloc(), &[])?, text.as_bytes())?;
+    let options = options(rt.alloc(), &[])?;
+    let jobs = take_all(&rt, rt.alloc(), &options, text.as_bytes(), Progress::NONE)?;
     let numbers = jobs.iter().map(|job| job.number);
     assert!(rt; numbers.eq(0..20_000));
     Ok(())
@@ -72,6 +75,7 @@ fn broken_lines_are_refused(rt: HostRuntime) {
         ("1\n\n2\n", 2, Cause::NotANumber),
         ("1\n2\n-3\n4\nx", 3, Cause::NotANumber),
         ("18446744073709551614", 1, Cause::TooLarge),
+        ("1\r\n2\r", 2, Cause::NotANumber),
     ];
     for (input, wanted, cause) in broken {
         match printed(&rt, rt.alloc(), &[], input) {
@@ -92,11 +96,12 @@ Options:
       --who          Also print which worker took each number; workers are numbered from 1
       --keys <N>     Make room for at least N different numbers; 1 to 178956970 [default: 349525]
   -h, --help         Print help
+  -V, --version      Print version
 
-Each line is one number from 0 to 18446744073709551613, in digits only. They are
-printed in ascending order, so the output is the same in every run. Only the
-workers that --who prints can differ from run to run. With one worker, they are
-the same too.
+Each line is one number from 0 to 18446744073709551613, in digits only. It ends
+with a newline, or with a carriage return and a newline. The numbers are printed
+in ascending order, so the output is the same in every run. Only the workers that
+--who prints can differ from run to run. With one worker, they are the same too.
 
 Exit status: 0 done; 1 a read or a write failed; 2 a line is not such a number;
 3 bad usage; 4 out of memory; 5 more different numbers than there is room for.
@@ -106,24 +111,44 @@ Example: printf '7\\n3\\n7\\n' | nb_dedup
 7
 ";
 
-#[test]
-fn words_give_options(rt: HostRuntime) {
-    let refused: [&[&str]; 6] = [
-        &["x"],
-        &["--workers", "0"],
-        &["--workers", "9"],
-        &["--keys", "0"],
-        &["--keys", "178956971"],
-        &["--who", "1"],
-    ];
-    for words in refused {
-        assert!(rt;
-            matches!(&options(rt.alloc(), words), Err(Fault::Usage)),
-            "{words:?}"
-        );
+/// What is said of these words.
+fn said_of(alloc: Global, words: &[&str]) -> Result<String, WordsFault> {
+    match options(alloc, words) {
+        Ok(_) => Ok(String::new(alloc)),
+        Err(fault) => Ok(fault.to_string(alloc)?),
     }
-    let Err(Fault::Help(text)) = options(rt.alloc(), &["--help"]) else {
-        panic!(rt; "--help asks for help")
-    };
-    assert_eq!(rt; text.as_str(), HELP);
+}
+
+#[test]
+fn wrong_words_are_named(rt: HostRuntime) -> Result<(), Fail> {
+    let refused: [(&[&str], &str); 6] = [
+        (&["x"], "unexpected argument 'x' found"),
+        (
+            &["--who=1"],
+            "unexpected value '1' for '--who' found; no more were expected",
+        ),
+        (&["--workers", "0"], "--workers 0: not from 1 to 8"),
+        (&["--workers", "9"], "--workers 9: not from 1 to 8"),
+        (&["--keys", "0"], "--keys 0: not from 1 to 178956970"),
+        (
+            &["--keys", "178956971"],
+            "--keys 178956971: not from 1 to 178956970",
+        ),
+    ];
+    for (words, said) in refused {
+        let said = format!(in rt.alloc(); "{said}; --help tells more")?;
+        assert_eq!(rt; said_of(rt.alloc(), words)?.as_str(), said.as_str());
+    }
+    Ok(())
+}
+
+#[test]
+fn words_ask_for_texts(rt: HostRuntime) -> Result<(), Fail> {
+    assert_eq!(rt; said_of(rt.alloc(), &["--help"])?.as_str(), HELP);
+    let version = format!(in rt.alloc(); "nb_dedup {VERSION}\n")?;
+    assert_eq!(rt;
+        said_of(rt.alloc(), &["--version"])?.as_str(),
+        version.as_str()
+    );
+    Ok(())
 }

@@ -2,6 +2,7 @@
 
 use crate::faults::{Cause, Fault, Stop};
 use crate::lines::Lines;
+use crate::progress::Done;
 use nb_core::OutOfMemory;
 use std::alloc::Global;
 use std::io::Read;
@@ -28,8 +29,10 @@ impl Place {
 pub struct Block {
     bytes: Vec<u8>,
     number: usize,
-    /// How many lines it has, once its worker has read them.
-    lines: u64,
+    /// How many lines it has, once its worker has read them and until the next refill.
+    lines: Option<u64>,
+    /// What was done when it was handed out.
+    done: Done,
 }
 
 impl Block {
@@ -38,7 +41,8 @@ impl Block {
         Ok(Block {
             bytes: Vec::with_capacity(alloc, BLOCK)?,
             number: 0,
-            lines: 0,
+            lines: None,
+            done: Done::NOTHING,
         })
     }
 
@@ -51,6 +55,12 @@ impl Block {
         self.number
     }
 
+    /// How many lines workers had done when it was handed out, and how many bytes the blocks before
+    /// it have.
+    pub fn done(&self) -> Done {
+        self.done
+    }
+
     /// What is wrong with the line that so many lines of the block come before.
     pub fn stop_at(&self, line: u64, cause: Cause) -> Stop {
         let block = self.number;
@@ -59,7 +69,7 @@ impl Block {
 
     /// Keeps how many lines were read. The next lines' numbers are counted from it.
     pub fn set_line_count(&mut self, lines: u64) {
-        self.lines = lines;
+        self.lines = Some(lines);
     }
 }
 
@@ -71,6 +81,8 @@ pub struct Input<R> {
     rest: Vec<u8>,
     /// How many lines each block has, where its worker has read it.
     lines: Vec<u64>,
+    /// How many lines these are, and how many bytes were handed out.
+    done: Done,
     /// Whether no more blocks are handed out.
     has_ended: bool,
     /// The first line at fault, or why else a worker stopped.
@@ -83,6 +95,7 @@ impl<R: Read + Drop> Input<R> {
             reader,
             rest: Vec::new(alloc),
             lines: Vec::new(alloc),
+            done: Done::NOTHING,
             has_ended: false,
             stopped: None,
         }
@@ -91,18 +104,28 @@ impl<R: Read + Drop> Input<R> {
     /// Takes a block that was read, and fills it with the next lines. It answers whether there
     /// were any.
     pub fn refill(&mut self, block: &mut Block) -> Result<bool, Stop> {
-        if let Some(lines) = self.lines.get_mut(block.number) {
-            *lines = block.lines;
-        }
+        self.take_back(block);
         if self.has_ended {
             return Ok(false);
         }
         block.number = self.lines.len();
-        block.lines = 0;
+        block.done = self.done;
         self.lines.push(0)?;
         self.read_block(&mut block.bytes)?;
         self.cut(block)?;
+        self.done.bytes = self.done.bytes.wrapping_add(block.bytes.len() as u64);
         Ok(!block.bytes.is_empty())
+    }
+
+    /// Keeps how many lines a block had that was read. One that is new had none of the input's.
+    fn take_back(&mut self, block: &mut Block) {
+        let Some(lines) = block.lines.take() else {
+            return;
+        };
+        if let Some(count) = self.lines.get_mut(block.number) {
+            *count = lines;
+        }
+        self.done.lines = self.done.lines.wrapping_add(lines);
     }
 
     /// Reads as much as a block has room for, behind what is left of the last one.

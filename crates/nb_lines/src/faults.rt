@@ -19,6 +19,10 @@ pub enum Cause {
     TooLong,
     #[error("neither get nor put")]
     NoRequest,
+    #[error("get without a key")]
+    GetAlone,
+    #[error("put without a key")]
+    PutAlone,
 }
 
 impl From<DigitsFault> for Cause {
@@ -78,14 +82,53 @@ impl From<io::Error> for Stop {
     }
 }
 
-/// Why a program ends with another status than 0, or with its help.
+/// Why the words of the command line ask for no run.
+#[derive(Debug, Drop, Error)]
+pub enum WordsFault {
+    /// They ask for the help or the version, and this is its text.
+    #[error("{0}")]
+    Answered(String),
+    /// They are wrong, and this is how.
+    #[error("{0}; --help tells more")]
+    Wrong(String),
+    #[error("a word isn't text; --help tells more")]
+    NoText,
+    #[error("out of memory")]
+    OutOfMemory,
+}
+
+impl WordsFault {
+    /// The exit status.
+    pub fn status(&self) -> u8 {
+        match self {
+            WordsFault::Answered(_) => 0,
+            WordsFault::Wrong(_) | WordsFault::NoText => 3,
+            WordsFault::OutOfMemory => 4,
+        }
+    }
+}
+
+impl From<OutOfMemory> for WordsFault {
+    fn from(_fault: OutOfMemory) -> WordsFault {
+        WordsFault::OutOfMemory
+    }
+}
+
+impl<T: Drop> From<AllocFailed<T>> for WordsFault {
+    fn from(_refused: AllocFailed<T>) -> WordsFault {
+        WordsFault::OutOfMemory
+    }
+}
+
+/// Why a program ends with another status than 0, or with its help or its version.
 #[derive(Debug, Drop, Error)]
 pub enum Fault {
+    #[error("{0}")]
+    Words(WordsFault),
+    /// No map is of the sizes that are asked for. The ranges of the options see that this never
+    /// comes.
     #[error("bad usage; --help tells more")]
     Usage,
-    /// The words ask for help, and this is its text.
-    #[error("{0}")]
-    Help(String),
     #[error("read failed")]
     Read,
     #[error("write failed")]
@@ -108,7 +151,7 @@ impl Fault {
     /// The exit status.
     pub fn status(&self) -> u8 {
         match self {
-            Fault::Help(_) => 0,
+            Fault::Words(fault) => fault.status(),
             Fault::Read | Fault::Write => 1,
             Fault::Line(..) => 2,
             Fault::Usage => 3,
@@ -116,6 +159,12 @@ impl Fault {
             Fault::Full | Fault::TooOften => 5,
             Fault::Unshown => 6,
         }
+    }
+}
+
+impl From<WordsFault> for Fault {
+    fn from(fault: WordsFault) -> Fault {
+        Fault::Words(fault)
     }
 }
 

@@ -1,5 +1,6 @@
 //! What programs over lines share whose workers call one map: an input that they read in blocks of
-//! whole lines, numbers of lines, keys of numbers, and what is said of faults.
+//! whole lines, numbers of lines, keys of numbers, words of the command line, progress, and what is
+//! said of faults.
 #![tactic(auto)]
 
 mod blocks;
@@ -7,13 +8,20 @@ mod command_line;
 mod faults;
 mod keys;
 mod lines;
+mod numbers;
+mod progress;
 
 pub use blocks::{BLOCK, Block, Input, Place};
-pub use command_line::{end_of, fault_of_words, keys_option, option, words};
-pub use faults::{Cause, Fault, Stop};
+pub use command_line::{
+    MANY_KEYS, VERSION, WORKERS, answer, command_named, complain, end_of, matches_of, option,
+    words, wrong_word,
+};
+pub use faults::{Cause, Fault, Stop, WordsFault};
 pub use keys::{key_of, number_of, read_key};
 pub use lines::Lines;
 pub use nb_core::read_number;
+pub use numbers::NumberWord;
+pub use progress::{Done, Progress, Seconds, size_of_input};
 
 #[cfg(test)]
 mod tests;

@@ -1,9 +1,20 @@
 //! The lines of a text.
-ghost use Rattle.std.specs.Prelude.{length};
+ghost use Rattle.std.specs.Prelude.{◌≡◌, ◌≢◌, ◌++◌, ◌∷◌, [], ℕ, List, length};
 ghost use Rattle.std.specs.Iterator.{at_most};
 
-/// The lines of a text, each without its newline. A text that ends with a newline has no line
-/// behind it.
+/// A line without the carriage return that comes before its newline: it is part of the line's end.
+fn without_return(line: &[u8]) -> &[u8]
+    ensures cut { (text : List ℕ) → line.now ≡ text ++ 13 ∷ [] → result.now ≡ text }
+    ensures kept { ((text : List ℕ) → line.now ≢ text ++ 13 ∷ []) → result.now ≡ line.now }
+{
+    match line {
+        [text @ .., b'\r'] => text,
+        _ => line,
+    }
+}
+
+/// The lines of a text, each without its end: a newline, or a carriage return and a newline. A text
+/// that ends with a newline has no line behind it.
 #[derive(Drop)]
 pub struct Lines<'a> {
     rest: &'a [u8],
@@ -28,7 +39,7 @@ impl<'a> Iterator for Lines<'a> {
             Some(end) => {
                 let (line, rest) = self.rest.split_at(end);
                 self.rest = &rest[1..];
-                Some(line)
+                Some(without_return(line))
             }
             None => {
                 let line = self.rest;

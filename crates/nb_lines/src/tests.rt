@@ -1,7 +1,8 @@
 //! Lines and their numbers, keys, and blocks of an input.
 
 use crate::{
-    BLOCK, Block, Cause, Fault, Input, Lines, Stop, key_of, number_of, read_key, read_number,
+    BLOCK, Block, Cause, Done, Fault, Input, Lines, NumberWord, Stop, WordsFault, key_of,
+    number_of, read_key, read_number,
 };
 use nb_core::{KEY_MAX, Key, OutOfMemory};
 use std::alloc::Global;
@@ -21,6 +22,15 @@ fn lines_of_a_text(rt: HostRuntime) {
     for (text, count) in texts {
         assert_eq!(rt; Lines::new(text).count(), count, "{text:?}");
     }
+}
+
+/// A carriage return belongs to the line's end just where a newline follows.
+#[test]
+fn ends_of_lines(rt: HostRuntime) {
+    let text = b"7\r\n\r\n8\r\r\n\r9\n1\r";
+    let lines = [b"7".as_slice(), b"", b"8\r", b"\r9", b"1\r"];
+    assert!(rt; Lines::new(text).eq(lines));
+    assert!(rt; Lines::new(b"\r").eq([b"\r".as_slice()]));
 }
 
 #[test]
@@ -137,6 +147,25 @@ fn a_fault_tells_its_line(rt: HostRuntime) -> Result<(), Fail> {
     Ok(())
 }
 
+/// A worker that comes late, with a new block, changes nothing of what is known of the others'.
+#[test]
+fn a_late_worker_forgets_no_lines(rt: HostRuntime) -> Result<(), Fail> {
+    let text = ascending(rt.alloc())?;
+    let mut input = Input::new(rt.alloc(), text.as_bytes());
+    let (mut a, mut b) = (Block::new(rt.alloc())?, Block::new(rt.alloc())?);
+    assert_eq!(rt; input.refill(&mut a)?, true);
+    let lines = a.lines().count() as u64;
+    a.set_line_count(lines);
+    assert_eq!(rt; input.refill(&mut a)?, true);
+    assert_eq!(rt; a.done().lines, lines);
+    assert!(rt; a.done().bytes > lines);
+    assert_eq!(rt; input.refill(&mut b)?, true);
+    input.stop(a.stop_at(2, Cause::NotANumber));
+    let fault = input.finish();
+    assert!(rt; matches!(&fault, Err(Fault::Line(line, Cause::NotANumber)) if *line == lines + 3));
+    Ok(())
+}
+
 /// Of two workers' faults the earlier line's counts, whichever is told first.
 #[test]
 fn the_first_fault_counts(rt: HostRuntime) -> Result<(), Fail> {
@@ -192,6 +221,38 @@ fn a_read_fails(rt: HostRuntime) {
     assert!(rt; matches!(&fault, Err(Fault::Read)));
 }
 
+/// What is said of a word that is to give a number from 1 to 300.
+fn said_of(alloc: Global, word: &str) -> Result<String, WordsFault> {
+    let top = NumberWord {
+        name: "--top",
+        low: 1,
+        high: 300,
+    };
+    match top.read(alloc, word) {
+        Ok(number) => Ok(format!(in alloc; "{number}")?),
+        Err(fault) => Ok(fault.to_string(alloc)?),
+    }
+}
+
+#[test]
+fn numbers_of_words(rt: HostRuntime) -> Result<(), Fail> {
+    for (word, said) in [
+        ("1", "1"),
+        ("0300", "300"),
+        ("0", "--top 0: not from 1 to 300; --help tells more"),
+        ("301", "--top 301: not from 1 to 300; --help tells more"),
+        ("x", "--top x: not from 1 to 300; --help tells more"),
+        ("", "--top : not from 1 to 300; --help tells more"),
+        (
+            "99999999999999999999999",
+            "--top 99999999999999999999999: not from 1 to 300; --help tells more",
+        ),
+    ] {
+        assert_eq!(rt; said_of(rt.alloc(), word)?.as_str(), said);
+    }
+    Ok(())
+}
+
 #[test]
 fn fault_texts(rt: HostRuntime) -> Result<(), Fail> {
     for (cause, text) in [
@@ -199,13 +260,25 @@ fn fault_texts(rt: HostRuntime) -> Result<(), Fail> {
         (Cause::TooLarge, "number too large"),
         (Cause::TooLong, "line too long"),
         (Cause::NoRequest, "neither get nor put"),
+        (Cause::GetAlone, "get without a key"),
+        (Cause::PutAlone, "put without a key"),
     ] {
         assert_eq!(rt; cause.to_string(rt.alloc())?.as_str(), text);
     }
     let help = String::from_str(rt.alloc(), "a help\n")?;
+    let wrong = String::from_str(rt.alloc(), "--top 0: not from 1 to 9")?;
     for (fault, text) in [
+        (Fault::Words(WordsFault::Answered(help)), "a help\n"),
+        (
+            Fault::Words(WordsFault::Wrong(wrong)),
+            "--top 0: not from 1 to 9; --help tells more",
+        ),
+        (
+            Fault::Words(WordsFault::NoText),
+            "a word isn't text; --help tells more",
+        ),
+        (Fault::Words(WordsFault::OutOfMemory), "out of memory"),
         (Fault::Usage, "bad usage; --help tells more"),
-        (Fault::Help(help), "a help\n"),
         (Fault::Read, "read failed"),
         (Fault::Write, "write failed"),
         (Fault::Line(12, Cause::TooLong), "line 12: line too long"),

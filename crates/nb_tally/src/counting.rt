@@ -6,9 +6,8 @@ ghost use Rattle.nb_core.specs.declared.calls.Want.TheVariants as want;
 ghost use Rattle.nb_map.specs.Logs.{HasFound};
 
 use crate::options::Options;
-use crate::progress;
 use nb_core::{Key, MAX_SEATS, Num};
-use nb_lines::{Block, Fault, Input, Stop, number_of, read_key};
+use nb_lines::{Block, Fault, Input, Progress, Stop, number_of, read_key};
 use nb_map::{AddFault, Handle};
 use std::alloc::Global;
 use std::io::Read;
@@ -29,7 +28,7 @@ pub(crate) fn tally<R, I>(
     alloc: Global,
     options: &Options,
     reader: I,
-    shows_progress: bool,
+    progress: Progress,
 ) -> Result<Vec<Count>, Fault>
 where
     R: Threads + Sync + Wait + Eprint,
@@ -41,11 +40,9 @@ where
         rt,
         handles.as_mut_slice(),
         MAX_SEATS,
-        &|_, handle: &mut Handle| work(rt, alloc, &input, handle, shows_progress),
+        &|_, handle: &mut Handle| work(rt, alloc, &input, handle, progress),
     );
-    if shows_progress {
-        progress::end(rt);
-    }
+    progress.end(rt);
     let _lines = input.into_inner().finish()?;
     match handles.pop() {
         Some(handle) => counts_of(alloc, handle),
@@ -59,9 +56,9 @@ fn work<R: Wait + Eprint, I: Read + Drop>(
     alloc: Global,
     input: &Mutex<Input<I>>,
     handle: &mut Handle,
-    shows_progress: bool,
+    progress: Progress,
 ) {
-    if let Err(stop) = count_blocks(rt, alloc, input, handle, shows_progress) {
+    if let Err(stop) = count_blocks(rt, alloc, input, handle, progress) {
         input.lock(rt).stop(stop);
     }
 }
@@ -72,7 +69,7 @@ fn count_blocks<R: Wait + Eprint, I: Read + Drop>(
     alloc: Global,
     input: &Mutex<Input<I>>,
     handle: &mut Handle,
-    shows_progress: bool,
+    progress: Progress,
 ) -> Result<(), Stop> {
     let mut block = Block::new(alloc)?;
     for _ in 0..u64::MAX {
@@ -80,9 +77,7 @@ fn count_blocks<R: Wait + Eprint, I: Read + Drop>(
         if !has_lines {
             break;
         }
-        if shows_progress {
-            progress::tell(rt, block.number());
-        }
+        progress.tell_block(rt, &block);
         let lines = count_lines(rt, handle, &block)?;
         block.set_line_count(lines);
     }

@@ -8,15 +8,15 @@
 pub(crate) mod counting;
 pub(crate) mod options;
 pub(crate) mod printing;
-pub(crate) mod progress;
 pub(crate) mod serve;
 
+use nb_lines::{Progress, size_of_input};
 use std::io::IsTerminal;
 use std::process::ExitCode;
 
 fn main(rt: HostRuntime) -> ExitCode {
-    let shows_progress = rt.stderr().is_terminal();
-    ExitCode::from(serve::serve(&rt, rt.stdin(), shows_progress))
+    let progress = Progress::new(rt.stderr().is_terminal(), size_of_input(&rt));
+    ExitCode::from(serve::serve(&rt, rt.stdin(), progress))
 }
 
 #[cfg(test)]
