@@ -17,7 +17,7 @@ use crate::faults::{AddFault, PutFault};
 use crate::steps::claim::has_next;
 use crate::steps::climb::climb;
 use crate::steps::decide::{Decision, decide};
-use crate::steps::pause::{Pause, Rest};
+use crate::steps::pause::{NoPause, Pause, Rest};
 use crate::steps::rung::{Rung, Visit};
 use crate::steps::slot::call_at;
 use nb_core::{Call, Change, Key, KeyState, KeyWord, Reply, Slot, Want};
@@ -110,8 +110,8 @@ pub(crate) fn write_through<R: Wait>(
 {
     let call = Call::Write { key, want, change };
     let known = seat.known_top();
-    let mut left = u32::MAX;
-    match write_home(chain, seat, &call, known, &mut left, &mut Rest::new()) {
+    let mut left = 1;
+    match write_home(chain, seat, &call, known, &mut left, &mut NoPause) {
         Some(Ok(reply)) => return Ok(reply),
         Some(Err(PutFault::Full)) => return Err(AddFault::Full),
         Some(Err(PutFault::ValueRange)) => return Err(AddFault::ValueRange),

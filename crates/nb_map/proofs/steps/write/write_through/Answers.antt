@@ -1,4 +1,4 @@
-use Rattle.std.proofs.Common.{◌⊎◌, ◌^◌, ◌-◌, ◌+◌, ◌≤◌, [], inl, inr, arith}
+use Rattle.std.proofs.Common.{◌⊎◌, ◌-◌, ◌+◌, ◌≤◌, [], inl, inr, arith}
 use Rattle.nb_core.specs.declared.calls.Call.TheVariants as call
 use Rattle.nb_map.proofs.Made.{made-own}
 use Rattle.nb_map.proofs.Straight.{at-known, at-top, made-in-rounds, made-once, short-elsewhere, short-there}
@@ -54,7 +54,7 @@ home :
     (g : Over) (c : Joined-write_home g)
     → HasMade c.args.chain.now.shape (call.Write c.args.key c.args.want c.args.change)
     c.args.seat.now c.write_home.new.seat []
-    (home_steps c.args.chain.now.shape c.known_top-known.result + (2 ^ 32 - 1 - c.write_home.new.tries))
+    (home_steps c.args.chain.now.shape c.known_top-known.result + (1 - c.write_home.new.tries))
 home g c = elim c.match-write_home.branch [
   | in-Some-Err-Contended w ↦ rw w.in-Some-Err-Contended.field-0-is
       at w.in-Some-Err-Contended.ensures.made
@@ -71,7 +71,7 @@ away :
     ⊎ IsLastSeen c.args.chain.now.shape c.known_top-known.result c.write_home.new.seat → ⊥
 away g c alone way = elim c.match-write_home.branch [
   | in-Some-Err-Contended w ↦
-      let told : 4294967295
+      let told : 1
       ≤ passed_since (call.Write c.args.key c.args.want c.args.change)
       c.args.seat.now c.write_home.new.seat =
       rw (w.in-Some-Err-Contended.field-0-is, w.in-Some-Err-Contended.field-0-0-is)
