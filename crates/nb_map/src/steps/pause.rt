@@ -69,7 +69,7 @@ const TURNS: u32 = 200;
 
 /// Lets other threads go on for a while.
 #[inline(never)]
-fn spin() {
+pub(crate) fn spin() {
     for _ in 0..TURNS {
         spin_loop();
     }

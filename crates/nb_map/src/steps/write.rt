@@ -17,7 +17,7 @@ use crate::faults::{AddFault, PutFault};
 use crate::steps::claim::has_next;
 use crate::steps::climb::climb;
 use crate::steps::decide::{Decision, decide};
-use crate::steps::pause::{NoPause, Pause, Rest};
+use crate::steps::pause::{NoPause, Pause, Rest, spin};
 use crate::steps::rung::{Rung, Visit};
 use crate::steps::slot::call_at;
 use nb_core::{Call, Change, Key, KeyState, KeyWord, Reply, Slot, Want};
@@ -115,7 +115,7 @@ pub(crate) fn write_through<R: Wait>(
         Some(Ok(reply)) => return Ok(reply),
         Some(Err(PutFault::Full)) => return Err(AddFault::Full),
         Some(Err(PutFault::ValueRange)) => return Err(AddFault::ValueRange),
-        Some(Err(PutFault::Contended)) => {}
+        Some(Err(PutFault::Contended)) => spin(),
         None => {}
     }
     let top = chain.load_top(seat);
