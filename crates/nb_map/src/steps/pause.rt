@@ -69,8 +69,16 @@ const TURNS: u32 = 200;
 
 /// Lets other threads go on for a while.
 #[inline(never)]
-pub(crate) fn spin() {
+fn spin() {
     for _ in 0..TURNS {
         spin_loop();
+    }
+}
+
+/// Rests where a call has lost its only try.
+#[inline(always)]
+pub(crate) fn rest_if_lost(left: u32) {
+    if left == 0 {
+        spin();
     }
 }

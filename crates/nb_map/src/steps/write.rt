@@ -17,7 +17,7 @@ use crate::faults::{AddFault, PutFault};
 use crate::steps::claim::has_next;
 use crate::steps::climb::climb;
 use crate::steps::decide::{Decision, decide};
-use crate::steps::pause::{NoPause, Pause, Rest, spin};
+use crate::steps::pause::{NoPause, Pause, Rest, rest_if_lost};
 use crate::steps::rung::{Rung, Visit};
 use crate::steps::slot::call_at;
 use nb_core::{Call, Change, Key, KeyState, KeyWord, Reply, Slot, Want};
@@ -112,10 +112,13 @@ pub(crate) fn write_through<R: Wait>(
     let known = seat.known_top();
     let mut left = 1;
     match write_home(chain, seat, &call, known, &mut left, &mut NoPause) {
-        Some(Ok(reply)) => return Ok(reply),
+        Some(Ok(reply)) => {
+            rest_if_lost(left);
+            return Ok(reply);
+        }
         Some(Err(PutFault::Full)) => return Err(AddFault::Full),
         Some(Err(PutFault::ValueRange)) => return Err(AddFault::ValueRange),
-        Some(Err(PutFault::Contended)) => spin(),
+        Some(Err(PutFault::Contended)) => rest_if_lost(left),
         None => {}
     }
     let top = chain.load_top(seat);
