@@ -14,11 +14,11 @@ use Rattle.nb_set.specs.Walks.{HasShownAll, IsLater, WalkOf}
 
 -- ---- walks that show their keys to a function
 
--- The seat has begun a walk and taken it on, and nothing else, but that it has removed keys. It has
+-- The seat has begun a walk and taken it on, and made no other call except removals. It has
 -- made these calls, the newest first; the walk has shown these keys, the newest first; and the
 -- function is left as one call at each of them left it. Where the function said that the key is to
--- stay, no call was made for it but the walk's own; else just one, which removes it. Each call has
--- all that the set promises of it.
+-- stay, no call was made for it except the walk's own; else just one, which removes it. Each call
+-- has all that the set promises of it.
 pub data HasSwept {F : Type 0} (set : SetOf) (Step : F → (k : ℕ) → Bool → F → Type 0)
     (before : SeatOf) (first : F) :
     SeatOf → WalkOf → List (Call × Bool) → List ℕ → F → Type 0 where

@@ -33,10 +33,10 @@ impl Pause for NoPause {
     fn after_loss(&mut self, _chain: &Chain) {}
 }
 
-/// The pause of the calls that try again without a limit. After the first loss, the third and so
-/// on they leave the key to others for a while, which then needn't fetch its cache line anew for
-/// each call. The exchange after a rest mostly finds that the value has changed meanwhile, and the
-/// next one follows at once.
+/// The pause of the calls that try again without a limit, once they have left their straight way.
+/// After the first loss there, the third and so on they leave the key to others for a while, which
+/// then needn't fetch its cache line anew for each call. The exchange after a rest mostly finds that
+/// the value has changed meanwhile, and the next one follows at once.
 #[derive(Clone, Copy)]
 pub(crate) struct Rest {
     /// Whether it has rested after the last loss.

@@ -88,7 +88,8 @@ fn write_above<P: Pause>(
     (told, rest)
 }
 
-/// Makes a write on a chain of tables, and tries again for as long as other seats come first.
+/// Makes a write on a chain of tables, and tries again for as long as other seats come first. It has
+/// one try on its straight way, and rests where it loses that one.
 #[inline(always)]
 pub(crate) fn write_through<R: Wait>(
     rt: &R,
