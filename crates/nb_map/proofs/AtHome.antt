@@ -35,6 +35,15 @@ put-more p tries =
         → 8 * (t + tables) * (n + 8) + tries ≤ 8 * (t + tries + tables) * (n + 8)
     fits t tables n tries = omega arith
 
+-- a write of more tries has a greater bound
+pub put-rises : (p : Plan) (a b : ℕ) → a ≤ b → put_steps p a ≤ put_steps p b
+put-rises p a b less =
+    mul-le-mul_right (size_of p (generations_of p - 1) + 8)
+    (more (slots_below p (generations_of p)) (generations_of p) a b less)
+  where
+    more : (s g x y : ℕ) → x ≤ y → 8 * (s + x + g) ≤ 8 * (s + y + g)
+    more s g x y below = omega (arith, below)
+
 -- what a write does at its key's home slot, the load of the top word, and what it does from there
 -- on
 pub whole-bound :

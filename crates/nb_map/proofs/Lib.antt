@@ -1,5 +1,6 @@
 mod Alone
 mod AtHome
+mod Away
 mod Bounds
 mod Claimed
 mod Climbed

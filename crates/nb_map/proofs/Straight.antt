@@ -10,12 +10,13 @@ use Rattle.nb_map.proofs.Home.{home-before}
 use Rattle.nb_map.proofs.Made.{made-own, made-quiet, made-stays, made-within}
 use Rattle.nb_map.proofs.Searched.{made-then, others-none, reached-up-to, ready-up-to, table-within}
 use Rattle.nb_map.proofs.Spent.{passed-sum, spent-later, spent-more}
-use Rattle.nb_map.proofs.AtHome.{before-bound, last-before, whole-bound}
+use Rattle.nb_map.proofs.AtHome.{last-before, whole-bound}
 use Rattle.nb_map.specs.Calling.{HasMade}
 use Rattle.nb_map.specs.Progress.{IsAloneAtHome, IsKnownHome, IsLastSeen, IsShortAtHome, passed_since}
 use Rattle.nb_map.specs.Steps.{climb_steps, home_steps, put_steps}
 use Rattle.nb_map.specs.declared.faults.PutFault.{PutFault}
 use Rattle.nb_map.specs.inside.Climbing.{IsAt, IsSpent, rung_at}
+use Rattle.nb_map.specs.inside.Waiting.{HasLookedInVain}
 use Rattle.nb_map.specs.inside.Writing.{IsShortThere}
 
 -- any call may begin in any table up to the top
@@ -95,6 +96,25 @@ module _ (chain : ChainOf) {start : SeenBy} (known : ℕ) (own : IsOwn chain sta
             (subst (λ g. IsLastSeen p g after) (sym is) last)).1;
       }
 
+  -- a write with one try has looked at the home slot there in vain
+  pub in-vain :
+      {call : Call} {after : SeenBy} (left : ℕ)
+      → HasMade chain.shape call start after [] (home_steps chain.shape known + (1 - left))
+      → IsSpent call start after 1 left
+      → (IsAloneAtHome chain.shape known call start after
+      → IsKnownHome chain.shape known call start ⊎ IsLastSeen chain.shape known after → ⊥)
+      → HasLookedInVain chain call start after
+  in-vain {call} {after} left made spent away =
+      let p = chain.shape in
+      record {
+        own = own;
+        lost = 1 - left;
+        passed = omega (arith, spent.lost);
+        made = subst (λ g. HasMade p call start after [] (home_steps p g + (1 - left))) is made;
+        away = subst (λ g. IsAloneAtHome p g call start after
+            → IsKnownHome p g call start ⊎ IsLastSeen p g after → ⊥) is away;
+      }
+
   -- or else the top word is loaded
   module _ {call : Call} {then first : SeenBy} {most : ℕ}
       (home : HasMade chain.shape call start then [] most)
@@ -158,22 +178,5 @@ module _ (chain : ChainOf) {start : SeenBy} (known : ℕ) (own : IsOwn chain sta
           whole-bound chain.shape own.plan known (tries - left')
               (min tries (passed_since call start after + 1)) (at-known call).table
               (omega (arith, all.lost)),
-        ))
-        (made-then own (looked home load) made)
-
-    -- in a write that tries again for as long as it takes
-    pub made-in-rounds :
-        {after : SeenBy} {calls : List (Call × Reply)}
-        → HasMade chain.shape call first after calls
-        (put_steps chain.shape (passed_since call first after))
-        → HasMade chain.shape call start after calls
-        (put_steps chain.shape (passed_since call start after + 1))
-    made-in-rounds {after} made =
-        made-within _ _
-        (omega (
-          arith,
-          before-bound chain.shape own.plan known (tries - left) (passed_since call first after)
-              (passed_since call start after) (at-known call).table
-              (omega (arith, still.lost, passed-sum call (looked home load).grown made.grown)),
         ))
         (made-then own (looked home load) made)

@@ -156,16 +156,6 @@ stepped-more :
 stepped-more {m} mid after all mine fits a b =
     (b.0 ++ a.0, made-within _ all fits (made-more m.chain mine.chain a.1 b.1))
 
--- a write of more tries has a greater bound
-put-more : (p : Plan) (a b : ℕ) → a ≤ b → put_steps p a ≤ put_steps p b
-put-more p a b less =
-    let slots = slots_below p (generations_of p) in
-    let n = size_of p (generations_of p - 1) in
-    mul-le-mul_right (n + 8) (more slots (generations_of p) a b less)
-  where
-    more : (s g x y : ℕ) → x ≤ y → 8 * (s + x + g) ≤ 8 * (s + y + g)
-    more s g x y below = omega (arith, below)
-
 -- the bound of removals grows with what the seat sees
 removals-grow :
     {p : Plan} {before now after : SeenBy} {own own' : List Event} {count count' : ℕ}
@@ -190,7 +180,7 @@ removals-grow {p} {before} {now} {after} a b (made ∷ calls) =
     grows (Get k) = omega arith
     grows (Write k want change) =
         let sum = passed-sum (Get k) a b in
-        put-more p (passed_since (Get k) before now + 1) (passed_since (Get k) before after + 1)
+        put-rises p (passed_since (Get k) before now + 1) (passed_since (Get k) before after + 1)
         (omega (arith, sum))
 
 -- no more slots are ahead than there are
@@ -399,7 +389,7 @@ module _ {m : MapOf} {before : SeatOf} (mine : IsMine m before) where
           let a = (come.steps 0).1.grown in
           let b = wrote.lock_free.steps.1.grown in
           let sum = passed-sum (Get k) a b in
-          let one = put-more m.chain.shape
+          let one = put-rises m.chain.shape
           (passed_since (Get k) now.chain after.chain + 1)
           (passed_since (Get k) before.chain after.chain + 1) (omega (arith, sum)) in
           let rest = removals-grow a b calls in

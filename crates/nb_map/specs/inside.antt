@@ -7,3 +7,4 @@ pub mod Writing
 pub mod Walking
 pub mod Filling
 pub mod Listing
+pub mod Waiting

@@ -12,6 +12,7 @@ mod bulk;
 mod compound;
 mod ended;
 mod fullness;
+mod general;
 mod listing;
 mod opening;
 mod settling;

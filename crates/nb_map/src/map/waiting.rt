@@ -2,18 +2,18 @@
 //! seats' writes of the key come first, for as long as that may be, so they wait; but they are
 //! lock-free: only the success of others costs them anything. Each tells in the end just one call,
 //! or none if it is refused.
-ghost use Rattle.std.specs.Prelude.{None, false, true, ◌≡◌};
-ghost use Rattle.nb_core.specs.Calls.{leaves_alone, overflows};
-ghost use Rattle.nb_core.specs.Log.{Numbers};
+//!
+//! Each goes a straight way first, which stands in its own code, and needs neither a loop nor memory
+//! for a call and its reply. What comes after that is in `general.rt`.
 ghost use Rattle.nb_core.specs.declared.calls.Call.TheVariants as call;
-ghost use Rattle.nb_core.specs.declared.calls.Change.TheVariants as change;
 ghost use Rattle.nb_map.specs.Maps.{IsMine};
 ghost use Rattle.nb_map.specs.NamedCalls.{add_of, put_if_absent_of, put_of, remove_if_of, remove_of, replace_if_of, replace_of};
-ghost use Rattle.nb_map.specs.Promises.{Found, HasWritten, Matched, Replied, found_or_full, found_or_refused, replied_or_full, replied_or_refused};
+ghost use Rattle.nb_map.specs.Promises.{Found, HasWritten, Matched, found_or_full, found_or_refused};
+ghost use Rattle.nb_map.specs.inside.Waiting.{HasGoneStraight};
 
 use crate::faults::{AddFault, Full};
 use crate::map::{Map, Seat};
-use crate::steps::write::write_through;
+use crate::steps::write::write_straight;
 use nb_core::{Change, Key, Num, Reply, Want};
 use std::sync::Wait;
 
@@ -37,7 +37,12 @@ impl Map {
         requires own { IsMine self.now seat.old }
         ensures { HasWritten self.now (put_of key number) seat.old seat.new (found_or_full result) }
     {
-        Ok(self.put_where(rt, seat, key, Want::Any, number)?.before)
+        match self.write_straight(seat, key, Want::Any, Change::Put(number)) {
+            Some(Ok(reply)) => Ok(reply.before),
+            Some(Err(AddFault::Full)) => Err(Full),
+            Some(Err(AddFault::ValueRange)) => unreachable!(),
+            None => self.put_general(rt, seat, key, number),
+        }
     }
 
     /// Puts a number at a key that has none, and answers what was there.
@@ -53,7 +58,12 @@ impl Map {
         ensures { HasWritten self.now (put_if_absent_of key number) seat.old seat.new
             (found_or_full result) }
     {
-        Ok(self.put_where(rt, seat, key, Want::Absent, number)?.before)
+        match self.write_straight(seat, key, Want::Absent, Change::Put(number)) {
+            Some(Ok(reply)) => Ok(reply.before),
+            Some(Err(AddFault::Full)) => Err(Full),
+            Some(Err(AddFault::ValueRange)) => unreachable!(),
+            None => self.put_if_absent_general(rt, seat, key, number),
+        }
     }
 
     /// Puts a number in place of another, and answers what was there. `ConcurrentMap.replace` of
@@ -62,8 +72,11 @@ impl Map {
         requires own { IsMine self.now seat.old }
         ensures { HasWritten self.now (replace_of key number) seat.old seat.new (Found result) }
     {
-        self.change_where(rt, seat, key, Want::Present, Change::Put(number))
-            .before
+        match self.write_straight(seat, key, Want::Present, Change::Put(number)) {
+            Some(Ok(reply)) => reply.before,
+            Some(Err(_)) => unreachable!(),
+            None => self.replace_general(rt, seat, key, number),
+        }
     }
 
     /// Puts a number in place of this one, and answers whether it did. `ConcurrentMap.replace` of
@@ -73,8 +86,11 @@ impl Map {
         ensures { HasWritten self.now (replace_if_of key old new) seat.old seat.new
             (Matched result) }
     {
-        self.change_where(rt, seat, key, Want::Equal(old), Change::Put(new))
-            .matched
+        match self.write_straight(seat, key, Want::Equal(old), Change::Put(new)) {
+            Some(Ok(reply)) => reply.matched,
+            Some(Err(_)) => unreachable!(),
+            None => self.replace_if_general(rt, seat, key, old, new),
+        }
     }
 
     /// Takes out a key, and answers what was there. `ConcurrentMap.remove` of one argument.
@@ -83,8 +99,11 @@ impl Map {
         requires own { IsMine self.now seat.old }
         ensures { HasWritten self.now (remove_of key) seat.old seat.new (Found result) }
     {
-        self.change_where(rt, seat, key, Want::Any, Change::Remove)
-            .before
+        match self.write_straight(seat, key, Want::Any, Change::Remove) {
+            Some(Ok(reply)) => reply.before,
+            Some(Err(_)) => unreachable!(),
+            None => self.remove_general(rt, seat, key),
+        }
     }
 
     /// Takes out a key that has this number, and answers whether it did. `ConcurrentMap.remove` of
@@ -93,8 +112,11 @@ impl Map {
         requires own { IsMine self.now seat.old }
         ensures { HasWritten self.now (remove_if_of key number) seat.old seat.new (Matched result) }
     {
-        self.change_where(rt, seat, key, Want::Equal(number), Change::Remove)
-            .matched
+        match self.write_straight(seat, key, Want::Equal(number), Change::Remove) {
+            Some(Ok(reply)) => reply.matched,
+            Some(Err(_)) => unreachable!(),
+            None => self.remove_if_general(rt, seat, key, number),
+        }
     }
 
     /// Raises the number at a key, an absent one counting as 0, and answers what was there.
@@ -110,70 +132,34 @@ impl Map {
         ensures { HasWritten self.now (add_of key number) seat.old seat.new
             (found_or_refused result) }
     {
-        let reply = self.write(rt, seat, key, Want::Any, Change::Add(number))?;
-        Ok(reply.before)
-    }
-
-    /// Puts a number where the condition holds.
-    #[inline(always)]
-    fn put_where<R: Wait>(
-        &self,
-        rt: &R,
-        seat: &mut Seat,
-        key: Key,
-        want: Want,
-        number: Num,
-    ) -> Result<Reply, Full>
-        requires own { IsMine self.now seat.old }
-        ensures { HasWritten self.now (call.Write key want (change.Put number)) seat.old seat.new
-            (replied_or_full result) }
-    {
-        match self.write(rt, seat, key, want, Change::Put(number)) {
-            Ok(reply) => Ok(reply),
-            Err(AddFault::Full) => Err(Full),
-            Err(AddFault::ValueRange) => unreachable!(),
+        match self.write_straight(seat, key, Want::Any, Change::Add(number)) {
+            Some(Ok(reply)) => Ok(reply.before),
+            Some(Err(fault)) => Err(fault),
+            None => self.add_general(rt, seat, key, number),
         }
     }
 
-    /// Makes a write that leaves an absent key absent.
+    /// The straight way of a write, and the count of what it did to the number of keys. Its
+    /// condition and its change are known in each call that stands on it, and so what is left of it
+    /// there is short.
     #[inline(always)]
-    fn change_where<R: Wait>(
+    fn write_straight(
         &self,
-        rt: &R,
         seat: &mut Seat,
         key: Key,
         want: Want,
         change: Change,
-    ) -> Reply
+    ) -> Option<Result<Reply, AddFault>>
         requires own { IsMine self.now seat.old }
-        requires no_put { leaves_alone (call.Write key want change) None ≡ true }
-        requires in_range { (m : Numbers) → overflows (call.Write key want change) m ≡ false }
-        ensures { HasWritten self.now (call.Write key want change) seat.old seat.new
-            (Replied result) }
+        ensures { HasGoneStraight self.now (call.Write key want change) seat.old seat.new result }
     {
-        match self.write(rt, seat, key, want, change) {
-            Ok(reply) => reply,
-            Err(_) => unreachable!(),
+        match write_straight(&self.chain, &mut seat.chain, key, want, change) {
+            Some(Ok(reply)) => {
+                self.count(&mut seat.count, &change, &reply);
+                Some(Ok(reply))
+            }
+            Some(Err(fault)) => Some(Err(fault)),
+            None => None,
         }
-    }
-
-    /// Makes a write, and counts what it did to the number of keys. Its condition and its change
-    /// are known in each call that stands on it, and so what is left of it there is short.
-    #[inline(always)]
-    fn write<R: Wait>(
-        &self,
-        rt: &R,
-        seat: &mut Seat,
-        key: Key,
-        want: Want,
-        change: Change,
-    ) -> Result<Reply, AddFault>
-        requires own { IsMine self.now seat.old }
-        ensures { HasWritten self.now (call.Write key want change) seat.old seat.new
-            (replied_or_refused result) }
-    {
-        let reply = write_through(rt, &self.chain, &mut seat.chain, key, want, change)?;
-        self.count(&mut seat.count, &change, &reply);
-        Ok(reply)
     }
 }

@@ -11,6 +11,7 @@ ghost use Rattle.nb_map.specs.Progress.{IsAtHome, IsHomeSlot, IsLastSeen, IsShor
 ghost use Rattle.nb_map.specs.Refusals.{IsJust, IsJustAdd};
 ghost use Rattle.nb_map.specs.Steps.{climb_steps, home_steps, put_steps};
 ghost use Rattle.nb_map.specs.inside.Climbing.{IsAt, IsRefused, IsSpent, rung_at};
+ghost use Rattle.nb_map.specs.inside.Waiting.{HasClimbed, HasTriedAtHome};
 ghost use Rattle.nb_map.specs.inside.Writing.{IsHomeOf, IsShortThere, IsToldAtHome, made_at_home};
 
 use crate::faults::{AddFault, PutFault};
@@ -88,10 +89,42 @@ fn write_above<P: Pause>(
     (told, rest)
 }
 
-/// Makes a write on a chain of tables, and tries again for as long as other seats come first. It has
-/// one try on its straight way, and rests where it loses that one.
+/// The straight way of a write that tries again for as long as other seats come first: its only try
+/// at its key's home slot. It rests where it loses that one. `None` says that it has to go on by the
+/// general way.
 #[inline(always)]
-pub(crate) fn write_through<R: Wait>(
+pub(crate) fn write_straight(
+    chain: &Chain,
+    seat: &mut ChainSeat,
+    key: Key,
+    want: Want,
+    change: Change,
+) -> Option<Result<Reply, AddFault>>
+    requires own { IsOwn chain.now seat.old }
+    ensures { HasTriedAtHome chain.now (call.Write key want change) seat.old seat.new result }
+{
+    let call = Call::Write { key, want, change };
+    let known = seat.known_top();
+    let mut left = 1;
+    match write_home(chain, seat, &call, known, &mut left, &mut NoPause) {
+        Some(Ok(reply)) => {
+            rest_if_lost(left);
+            Some(Ok(reply))
+        }
+        Some(Err(PutFault::Full)) => Some(Err(AddFault::Full)),
+        Some(Err(PutFault::ValueRange)) => Some(Err(AddFault::ValueRange)),
+        Some(Err(PutFault::Contended)) => {
+            rest_if_lost(left);
+            None
+        }
+        None => None,
+    }
+}
+
+/// The general way of such a write: in the top table or above it, for as long as other seats come
+/// first.
+#[inline(always)]
+pub(crate) fn write_general<R: Wait>(
     rt: &R,
     chain: &Chain,
     seat: &mut ChainSeat,
@@ -100,34 +133,14 @@ pub(crate) fn write_through<R: Wait>(
     change: Change,
 ) -> Result<Reply, AddFault>
     requires own { IsOwn chain.now seat.old }
-    ensures made { HasMade chain.now.shape (call.Write key want change) seat.old seat.new
-        (made_in (call.Write key want change) result)
-        (put_steps chain.now.shape (passed_since (call.Write key want change) seat.old seat.new
-        + 1)) }
-    ensures refused { IfErr result (IsJustAdd chain.now.shape (call.Write key want change)
-        seat.new) }
-    ensures looked { seat.old.steps < seat.new.steps }
-    ensures short { IsShortAtHome chain.now.shape (call.Write key want change) seat.old seat.new }
+    ensures { HasClimbed chain.now.shape (call.Write key want change) seat.old seat.new result }
 {
-    let call = Call::Write { key, want, change };
-    let known = seat.known_top();
-    let mut left = 1;
-    match write_home(chain, seat, &call, known, &mut left, &mut NoPause) {
-        Some(Ok(reply)) => {
-            rest_if_lost(left);
-            return Ok(reply);
-        }
-        Some(Err(PutFault::Full)) => return Err(AddFault::Full),
-        Some(Err(PutFault::ValueRange)) => return Err(AddFault::ValueRange),
-        Some(Err(PutFault::Contended)) => rest_if_lost(left),
-        None => {}
-    }
     let top = chain.load_top(seat);
-    write_rounds(rt, chain, seat, call, top)
+    write_rounds(rt, chain, seat, Call::Write { key, want, change }, top)
 }
 
 /// Makes a write in the top table or above it, in rounds of as many tries as there can be.
-#[inline(never)]
+#[inline(always)]
 fn write_rounds<R: Wait>(
     rt: &R,
     chain: &Chain,

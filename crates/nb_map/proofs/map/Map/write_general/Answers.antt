@@ -5,18 +5,19 @@ use Rattle.nb_core.specs.declared.calls.Call.TheVariants as call
 use Rattle.nb_map.proofs.Counted.{kept-mine, uncounted-mine}
 use Rattle.nb_map.proofs.Logged.{logged, worked-uncounted}
 use Rattle.nb_map.specs.Maps.{IsMine, SeatOf}
-use Rattle.nb_map.specs.Promises.{HasWritten, Refused, Replied}
-use Rattle.nb_map.proofs.map.Map.write.Goals as goal
+use Rattle.nb_map.specs.Promises.{Refused, Replied}
+use Rattle.nb_map.specs.inside.Waiting.{HasGoneOn}
+use Rattle.nb_map.proofs.map.Map.write_general.Goals as goal
 
 pub returns-in_err-reply : goal.returns-in_err-reply
 returns-in_err-reply g c =
     let mine = subst₂ IsMine (sym c.self.view_is) (sym c.seat.view_is) c.requires.own in
-    let after : SeatOf = record { chain = c.write_through.new.seat; count = c.seat.inside.count } in
+    let after : SeatOf = record { chain = c.write_general.new.seat; count = c.seat.inside.count } in
     let write = call.Write c.args.key c.args.want c.args.change in
     let made = c.in_err-reply.ensures.made in
     let p = err_from_is_err_and c.from_residual.result c.from_residual.ensures.1 in
     rw (p.1, p.2)
-    (subst₂ (λ map before. HasWritten map write before after (Refused c.in_err-reply.field-0.0))
+    (subst₂ (λ map before. HasGoneOn map write before after (Refused c.in_err-reply.field-0.0))
     c.self.view_is c.seat.view_is
     (record {
       answered = record {
@@ -24,24 +25,22 @@ returns-in_err-reply g c =
         just = c.in_err-reply.ensures.refused;
         looked = c.in_err-reply.ensures.looked;
       };
-      lock_free = worked-uncounted {after = after} made refl;
-      short = c.in_err-reply.ensures.short;
+      worked = worked-uncounted {after = after} made refl;
       own = uncounted-mine {after = after} mine made refl refl;
     }))
 
 pub returns : goal.returns
 returns g c =
     let mine = subst₂ IsMine (sym c.self.view_is) (sym c.seat.view_is) c.requires.own in
-    let after : SeatOf = record { chain = c.write_through.new.seat; count = c.count.new.seat } in
+    let after : SeatOf = record { chain = c.write_general.new.seat; count = c.count.new.seat } in
     let write = call.Write c.args.key c.args.want c.args.change in
     let made = c.in_ok-reply.ensures.made in
     let added = ap (λ count. count.added) c.count.ensures in
-    subst₂ (λ map before. HasWritten map write before after (Replied c.in_ok-reply.reply))
+    subst₂ (λ map before. HasGoneOn map write before after (Replied c.in_ok-reply.reply))
     c.self.view_is c.seat.view_is
     (record {
       answered = logged {after = after} mine made;
-      lock_free = record { steps = (_, made); net = _; count = c.count.ensures };
-      short = c.in_ok-reply.ensures.short;
+      worked = record { steps = (_, made); net = _; count = c.count.ensures };
       own = kept-mine {after = after} mine made (ap (λ count. count.counter) c.count.ensures)
           (omega (arith, ints, added));
     })

@@ -1,0 +1,161 @@
+//! The general way of the calls of `ConcurrentMap`, where the straight one didn't do: up the tables,
+//! for as long as other seats come first. Each call has its own copy of it, in which its condition
+//! and its change are known.
+ghost use Rattle.nb_core.specs.declared.calls.Call.TheVariants as call;
+ghost use Rattle.nb_map.specs.Maps.{IsMine};
+ghost use Rattle.nb_map.specs.NamedCalls.{add_of, put_if_absent_of, put_of, remove_if_of, remove_of, replace_if_of, replace_of};
+ghost use Rattle.nb_map.specs.Promises.{Found, Matched, found_or_full, found_or_refused, replied_or_refused};
+ghost use Rattle.nb_map.specs.inside.Waiting.{HasGoneOn};
+
+use crate::faults::{AddFault, Full};
+use crate::map::{Map, Seat};
+use crate::steps::write::write_general;
+use nb_core::{Change, Key, Num, Reply, Want};
+use std::sync::Wait;
+
+impl Map {
+    /// Goes on with `put`.
+    #[inline(never)]
+    pub(super) fn put_general<R: Wait>(
+        &self,
+        rt: &R,
+        seat: &mut Seat,
+        key: Key,
+        number: Num,
+    ) -> Result<Option<Num>, Full>
+        requires own { IsMine self.now seat.old }
+        ensures { HasGoneOn self.now (put_of key number) seat.old seat.new (found_or_full result) }
+    {
+        match self.write_general(rt, seat, key, Want::Any, Change::Put(number)) {
+            Ok(reply) => Ok(reply.before),
+            Err(AddFault::Full) => Err(Full),
+            Err(AddFault::ValueRange) => unreachable!(),
+        }
+    }
+
+    /// Goes on with `put_if_absent`.
+    #[inline(never)]
+    pub(super) fn put_if_absent_general<R: Wait>(
+        &self,
+        rt: &R,
+        seat: &mut Seat,
+        key: Key,
+        number: Num,
+    ) -> Result<Option<Num>, Full>
+        requires own { IsMine self.now seat.old }
+        ensures { HasGoneOn self.now (put_if_absent_of key number) seat.old seat.new (found_or_full result) }
+    {
+        match self.write_general(rt, seat, key, Want::Absent, Change::Put(number)) {
+            Ok(reply) => Ok(reply.before),
+            Err(AddFault::Full) => Err(Full),
+            Err(AddFault::ValueRange) => unreachable!(),
+        }
+    }
+
+    /// Goes on with `replace`.
+    #[inline(never)]
+    pub(super) fn replace_general<R: Wait>(
+        &self,
+        rt: &R,
+        seat: &mut Seat,
+        key: Key,
+        number: Num,
+    ) -> Option<Num>
+        requires own { IsMine self.now seat.old }
+        ensures { HasGoneOn self.now (replace_of key number) seat.old seat.new (Found result) }
+    {
+        match self.write_general(rt, seat, key, Want::Present, Change::Put(number)) {
+            Ok(reply) => reply.before,
+            Err(_) => unreachable!(),
+        }
+    }
+
+    /// Goes on with `replace_if`.
+    #[inline(never)]
+    pub(super) fn replace_if_general<R: Wait>(
+        &self,
+        rt: &R,
+        seat: &mut Seat,
+        key: Key,
+        old: Num,
+        new: Num,
+    ) -> bool
+        requires own { IsMine self.now seat.old }
+        ensures { HasGoneOn self.now (replace_if_of key old new) seat.old seat.new (Matched result) }
+    {
+        match self.write_general(rt, seat, key, Want::Equal(old), Change::Put(new)) {
+            Ok(reply) => reply.matched,
+            Err(_) => unreachable!(),
+        }
+    }
+
+    /// Goes on with `remove`.
+    #[inline(never)]
+    pub(super) fn remove_general<R: Wait>(
+        &self,
+        rt: &R,
+        seat: &mut Seat,
+        key: Key,
+    ) -> Option<Num>
+        requires own { IsMine self.now seat.old }
+        ensures { HasGoneOn self.now (remove_of key) seat.old seat.new (Found result) }
+    {
+        match self.write_general(rt, seat, key, Want::Any, Change::Remove) {
+            Ok(reply) => reply.before,
+            Err(_) => unreachable!(),
+        }
+    }
+
+    /// Goes on with `remove_if`.
+    #[inline(never)]
+    pub(super) fn remove_if_general<R: Wait>(
+        &self,
+        rt: &R,
+        seat: &mut Seat,
+        key: Key,
+        number: Num,
+    ) -> bool
+        requires own { IsMine self.now seat.old }
+        ensures { HasGoneOn self.now (remove_if_of key number) seat.old seat.new (Matched result) }
+    {
+        match self.write_general(rt, seat, key, Want::Equal(number), Change::Remove) {
+            Ok(reply) => reply.matched,
+            Err(_) => unreachable!(),
+        }
+    }
+
+    /// Goes on with `add`.
+    #[inline(never)]
+    pub(super) fn add_general<R: Wait>(
+        &self,
+        rt: &R,
+        seat: &mut Seat,
+        key: Key,
+        number: Num,
+    ) -> Result<Option<Num>, AddFault>
+        requires own { IsMine self.now seat.old }
+        ensures { HasGoneOn self.now (add_of key number) seat.old seat.new (found_or_refused result) }
+    {
+        let reply = self.write_general(rt, seat, key, Want::Any, Change::Add(number))?;
+        Ok(reply.before)
+    }
+
+    /// Goes on with a write, and counts what it did to the number of keys.
+    #[inline(always)]
+    fn write_general<R: Wait>(
+        &self,
+        rt: &R,
+        seat: &mut Seat,
+        key: Key,
+        want: Want,
+        change: Change,
+    ) -> Result<Reply, AddFault>
+        requires own { IsMine self.now seat.old }
+        ensures { HasGoneOn self.now (call.Write key want change) seat.old seat.new
+            (replied_or_refused result) }
+    {
+        let reply = write_general(rt, &self.chain, &mut seat.chain, key, want, change)?;
+        self.count(&mut seat.count, &change, &reply);
+        Ok(reply)
+    }
+}
