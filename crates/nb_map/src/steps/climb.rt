@@ -106,6 +106,7 @@ fn find(chain: &Chain, seat: &mut ChainSeat, call: &Call, rung: Rung) -> Result<
 }
 
 /// The same for a call that leaves an absent key alone, with this reply. It claims nothing.
+#[inline]
 fn seek(
     chain: &Chain,
     seat: &mut ChainSeat,

@@ -26,6 +26,7 @@ pub(crate) enum PathEnd {
 
 /// Probes the path of a call's key in the table that the call has come to: one load for each slot.
 /// What the probe comes upon may be the call's read.
+#[inline]
 #[tactic(auto, using(nb_core::proofs::Theorems::linked))]
 pub(crate) fn probe(chain: &Chain, seat: &mut ChainSeat, call: &Call, rung: Rung) -> PathEnd
     requires at { IsAt chain.now call.now seat.old rung }
@@ -39,12 +40,12 @@ pub(crate) fn probe(chain: &Chain, seat: &mut ChainSeat, call: &Call, rung: Rung
     let path = chain.shape().path(rung.g, key);
     for distance in rung.from..chain.shape().size_of(rung.g) {
         let at = path.slot(distance);
-        match chain.load_key_word_at(seat, at, Some(*call)).state() {
-            KeyState::Claimed(other) => {
-                if other == key {
-                    return PathEnd::Slot(at.i);
-                }
-            }
+        let word = chain.load_key_word_at(seat, at, Some(*call));
+        if word.is(key) {
+            return PathEnd::Slot(at.i);
+        }
+        match word.state() {
+            KeyState::Claimed(_) => {}
             KeyState::Empty => return PathEnd::Empty(distance),
             KeyState::Dead => return PathEnd::Closed,
         }

@@ -1,5 +1,6 @@
 use Rattle.std.proofs.Common.{◌≡◌, ◌∙◌, ◌+◌, ◌-◌, ◌<◌, ◌≢◌, None, Some, ap, mod-lt, refl, sym, subst, arith, rules}
-use Rattle.std.proofs.lemmas.Bool.{eqb-false, eqb-true}
+use Rattle.std.proofs.lemmas.Bool.{eq-eqb}
+use Rattle.std.specs.Bool.{IsTrue}
 use Rattle.std.proofs.lemmas.Nat.{pow_pos}
 use Rattle.nb_core.specs.History.{key_of_call}
 use Rattle.nb_core.specs.Paths.{slot_on}
@@ -18,12 +19,12 @@ use Rattle.nb_map.proofs.Made.{made-none, made-own, made-within}
 use Rattle.nb_map.proofs.Rungs.{at-stays}
 use Rattle.nb_map.proofs.Searched.{dead-next, on-path, others-more, read-end, read-start, shown-own, walked, walked-on}
 use Rattle.nb_map.proofs.steps.search.probe.Goals as goal
-use Rattle.nb_map.proofs.steps.search.probe.Goals.{After-state}
+use Rattle.nb_map.proofs.steps.search.probe.Goals.{After-is}
 use Rattle.nb_table.proofs.Theorems.{steps_add_up}
 
 -- the slot that is looked at
 place :
-    (c : After-state)
+    (c : After-is)
     → c.slot-at.result ≡ slot_on c.args.chain.now.shape c.args.rung.g (key_of_call c.args.call.now)
     c.loop-distance.distance
 place c =
@@ -31,8 +32,8 @@ place c =
 
 -- what its load showed
 load :
-    (c : After-state) (s : KeyState) → c.state.result ≡ s
-    → Extended c.args.chain.now.shape c.loop-distance.seat c.load_key_word_at.new.seat
+    (c : After-is) (s : KeyState) → c.load_key_word_at-word.result ≡ s
+    → Extended c.args.chain.now.shape c.loop-distance.seat c.load_key_word_at-word.new.seat
     (read c.loop-distance.seat.number c.args.call.now
     (shown_by_key c.args.chain.now.shape c.args.rung.g
     (path_slot c.args.chain.now.shape c.args.rung.g (key_of_call c.args.call.now)
@@ -41,26 +42,26 @@ load :
 load c s is =
     let p = c.args.chain.now.shape in
     let k = key_of_call c.args.call.now in
-    subst (λ s. Extended p c.loop-distance.seat c.load_key_word_at.new.seat
+    subst (λ s. Extended p c.loop-distance.seat c.load_key_word_at-word.new.seat
     (read c.loop-distance.seat.number c.args.call.now
     (shown_by_key p c.args.rung.g (path_slot p c.args.rung.g k c.loop-distance.distance) s k)) 1)
-    (sym c.state.ensures ∙ is)
-    (subst (λ (at : Slot). Extended p c.loop-distance.seat c.load_key_word_at.new.seat
+    is
+    (subst (λ (at : Slot). Extended p c.loop-distance.seat c.load_key_word_at-word.new.seat
     (read c.loop-distance.seat.number c.args.call.now
-    (shown_by_key p at.g at.i c.load_key_word_at.result k)) 1)
-    (place c) c.load_key_word_at.ensures.grows)
+    (shown_by_key p at.g at.i c.load_key_word_at-word.result k)) 1)
+    (place c) c.load_key_word_at-word.ensures.grows)
 
 -- and what the seat has seen of it then
 found :
-    (c : After-state) (s : KeyState) → c.state.result ≡ s
-    → (seen_by c.args.chain.now.shape c.load_key_word_at.new.seat).key c.args.rung.g
+    (c : After-is) (s : KeyState) → c.load_key_word_at-word.result ≡ s
+    → (seen_by c.args.chain.now.shape c.load_key_word_at-word.new.seat).key c.args.rung.g
     (path_slot c.args.chain.now.shape c.args.rung.g (key_of_call c.args.call.now)
     c.loop-distance.distance)
     ≡ s
 found c s is =
-    subst (λ (at : Slot). (seen_by c.args.chain.now.shape c.load_key_word_at.new.seat).key at.g at.i
+    subst (λ (at : Slot). (seen_by c.args.chain.now.shape c.load_key_word_at-word.new.seat).key at.g at.i
     ≡ s) (place c)
-    (c.load_key_word_at.ensures.found ∙ sym c.state.ensures ∙ is)
+    (c.load_key_word_at-word.ensures.found ∙ is)
 
 pub loop-distance-init : goal.loop-distance-init
 loop-distance-init c =
@@ -73,24 +74,24 @@ loop-distance-init c =
       c.requires.at.others,
     )
 
-pub load_key_word_at-requires-clause-own : goal.load_key_word_at-requires-clause-own
-load_key_word_at-requires-clause-own c =
+pub load_key_word_at-word-requires-clause-own : goal.load_key_word_at-word-requires-clause-own
+load_key_word_at-word-requires-clause-own c =
     made-own c.args.chain.now c.requires.at.own c.loop-distance.invariant.0
 
-pub load_key_word_at-requires-clause-slot : goal.load_key_word_at-requires-clause-slot
-load_key_word_at-requires-clause-slot c =
+pub load_key_word_at-word-requires-clause-slot : goal.load_key_word_at-word-requires-clause-slot
+load_key_word_at-word-requires-clause-slot c =
     (slot-of_path c.shape.ensures c.key-key.ensures c.path-path.ensures c.slot-at.ensures).placed
 
-pub load_key_word_at-requires-clause-reached : goal.load_key_word_at-requires-clause-reached
-load_key_word_at-requires-clause-reached c =
+pub load_key_word_at-word-requires-clause-reached : goal.load_key_word_at-word-requires-clause-reached
+load_key_word_at-word-requires-clause-reached c =
     let chain = c.args.chain.now in
     let here = (at-stays chain c.requires.at c.loop-distance.invariant.0).reached in
     subst (λ (at : Slot). IsReached chain.shape (seen_by chain.shape c.loop-distance.seat) at.g
     (key_of_call c.args.call.now))
     (sym (slot-of_path c.shape.ensures c.key-key.ensures c.path-path.ensures c.slot-at.ensures).is) here
 
-pub load_key_word_at-requires-clause-on_path : goal.load_key_word_at-requires-clause-on_path
-load_key_word_at-requires-clause-on_path c =
+pub load_key_word_at-word-requires-clause-on_path : goal.load_key_word_at-word-requires-clause-on_path
+load_key_word_at-word-requires-clause-on_path c =
     let chain = c.args.chain.now in
     let so_far = c.loop-distance.invariant in
     let near : c.loop-distance.distance < size_of chain.shape c.args.rung.g = search rules in
@@ -102,37 +103,41 @@ load_key_word_at-requires-clause-on_path c =
 
 -- ---- at the key's own slot
 
-pub returns-then-eq-clause-made : goal.returns-then-eq-clause-made
-returns-then-eq-clause-made c =
+mine :
+    (c : After-is) → IsTrue c.is.result
+    → c.load_key_word_at-word.result ≡ Claimed (key_of_call c.args.call.now)
+mine c held = c.is.ensures.yes held ∙ ap Claimed c.key-key.ensures
+
+pub returns-then-is-clause-made : goal.returns-then-is-clause-made
+returns-then-is-clause-made c =
     let chain = c.args.chain.now in
     let p = chain.shape in
     let k = key_of_call c.args.call.now in
     let so_far = c.loop-distance.invariant in
     let table = c.requires.at.table in
+    let there = (goal.at.returns-then-is-clause-made c).After-is in
     let near : c.loop-distance.distance < size_of p c.args.rung.g = search rules in
-    let none = shown-own p c.args.rung.g (path_slot p c.args.rung.g k c.loop-distance.distance) k
-    c.key-key.result c.in-Claimed.other (sym c.key-key.ensures) c.if-eq.ensures in
+    let none = shown-own p c.args.rung.g (path_slot p c.args.rung.g k c.loop-distance.distance) k k k
+    refl (sym (eq-eqb k k refl)) in
     made-within (c.loop-distance.distance + 1 - c.args.rung.from)
     (size_of p c.args.rung.g - c.args.rung.from) (omega (arith, near))
     (walked chain c.args.rung.g table c.loop-distance.distance c.args.rung.from None near
     c.loop-distance.auto.distance
     c.requires.at.own so_far.0
-    (subst (λ shown. Extended p c.loop-distance.seat c.load_key_word_at.new.seat
+    (subst (λ shown. Extended p c.loop-distance.seat c.load_key_word_at-word.new.seat
     (read c.loop-distance.seat.number c.args.call.now shown) 1) none
-    (load (goal.at.returns-then-eq-clause-made c).After-state (Claimed c.in-Claimed.other)
-    c.in-Claimed.is)))
+    (load there (Claimed k) (mine there c.if-is.true))))
 
-pub returns-then-eq-clause-ends : goal.returns-then-eq-clause-ends
-returns-then-eq-clause-ends c =
+pub returns-then-is-clause-ends : goal.returns-then-is-clause-ends
+returns-then-is-clause-ends c =
     let p = c.args.chain.now.shape in
     let g = c.args.rung.g in
     let k = key_of_call c.args.call.now in
-    let there = (goal.at.returns-then-eq-clause-ends c).After-state in
-    let is = place there in
-    let same : c.in-Claimed.other ≡ k = eqb-true _ _ (sym c.if-eq.ensures) ∙ c.key-key.ensures in
-    subst (λ (at : Slot). IsSlotOf p (seen_by p c.load_key_word_at.new.seat) g at.i k) (sym is) (
+    let there = (goal.at.returns-then-is-clause-ends c).After-is in
+    subst (λ (at : Slot). IsSlotOf p (seen_by p c.load_key_word_at-word.new.seat) g at.i k)
+    (sym (place there)) (
       mod-lt (k + c.loop-distance.distance) (pow_pos _),
-      found there (Claimed c.in-Claimed.other) c.in-Claimed.is ∙ ap Claimed same,
+      found there (Claimed k) (mine there c.if-is.true),
     )
 
 -- ---- at an empty one
@@ -144,28 +149,28 @@ returns-in-Empty-clause-made c =
     walked chain c.args.rung.g c.requires.at.table c.loop-distance.distance c.args.rung.from
     (Some None) near c.loop-distance.auto.distance
     c.requires.at.own c.loop-distance.invariant.0
-    (load (goal.at.returns-in-Empty-clause-made c).After-state Empty c.in-Empty.is)
+    (load (goal.at.returns-in-Empty-clause-made c).After-is Empty (sym c.state.ensures ∙ c.in-Empty.is))
 
 -- what is known of the path after the load
 still :
-    (c : After-state)
+    (c : After-is)
     → AreOthers c.args.chain.now.shape
-    (seen_by c.args.chain.now.shape c.load_key_word_at.new.seat) c.args.rung.g
+    (seen_by c.args.chain.now.shape c.load_key_word_at-word.new.seat) c.args.rung.g
     (key_of_call c.args.call.now) c.loop-distance.distance
 still c =
     let chain = c.args.chain.now in
     let so_far = c.loop-distance.invariant in
     (steps_add_up.stays (made-own chain c.requires.at.own so_far.0)
-    (steps_add_up.one c.load_key_word_at.ensures.grows)).others
+    (steps_add_up.one c.load_key_word_at-word.ensures.grows)).others
     c.args.rung.g (key_of_call c.args.call.now) c.loop-distance.distance c.requires.at.table
     so_far.1
 
 pub returns-in-Empty-clause-ends : goal.returns-in-Empty-clause-ends
 returns-in-Empty-clause-ends c =
-    let there = (goal.at.returns-in-Empty-clause-ends c).After-state in
+    let there = (goal.at.returns-in-Empty-clause-ends c).After-is in
     let near : c.loop-distance.distance < size_of c.args.chain.now.shape c.args.rung.g
     = search rules in
-    (near, still there, found there Empty c.in-Empty.is)
+    (near, still there, found there Empty (sym c.state.ensures ∙ c.in-Empty.is))
 
 -- ---- at a closed one
 
@@ -178,7 +183,7 @@ returns-in-Dead-clause-made c =
     (walked chain c.args.rung.g c.requires.at.table c.loop-distance.distance c.args.rung.from None
     near c.loop-distance.auto.distance
     c.requires.at.own c.loop-distance.invariant.0
-    (load (goal.at.returns-in-Dead-clause-made c).After-state Dead c.in-Dead.is))
+    (load (goal.at.returns-in-Dead-clause-made c).After-is Dead (sym c.state.ensures ∙ c.in-Dead.is)))
 
 pub returns-in-Dead-clause-ends : goal.returns-in-Dead-clause-ends
 returns-in-Dead-clause-ends c =
@@ -186,13 +191,13 @@ returns-in-Dead-clause-ends c =
     let p = chain.shape in
     let g = c.args.rung.g in
     let k = key_of_call c.args.call.now in
-    let there = (goal.at.returns-in-Dead-clause-ends c).After-state in
+    let there = (goal.at.returns-in-Dead-clause-ends c).After-is in
     let near : c.loop-distance.distance < size_of p g = search rules in
     let own = made-own chain c.requires.at.own c.loop-distance.invariant.0 in
-    let is = found there Dead c.in-Dead.is in (
+    let is = found there Dead (sym c.state.ensures ∙ c.in-Dead.is) in (
       (c.loop-distance.distance, near, still there, is),
-      dead-next chain c.load_key_word_at.new.seat
-          (steps_add_up.own own (steps_add_up.one c.load_key_word_at.ensures.grows))
+      dead-next chain c.load_key_word_at-word.new.seat
+          (steps_add_up.own own (steps_add_up.one c.load_key_word_at-word.ensures.grows))
           g (path_slot p g k c.loop-distance.distance)
           (c.requires.at.table, mod-lt (k + c.loop-distance.distance) (pow_pos _)) is,
     )
@@ -207,20 +212,20 @@ loop-distance-preserved c =
     let k = key_of_call c.args.call.now in
     let so_far = c.loop-distance.invariant in
     let table = c.requires.at.table in
-    let there = (goal.at.loop-distance-preserved c).After-state in
+    let there = (goal.at.loop-distance-preserved c).After-is in
     let near : c.loop-distance.distance < size_of p g = search rules in
     let own = made-own chain c.requires.at.own so_far.0 in
-    let differs : c.in-Claimed.other ≢ k =
-    (λ same. eqb-false c.in-Claimed.other c.key-key.result (sym c.eq.ensures ∙ c.if-eq.false)
-    (same ∙ sym c.key-key.ensures)) in
-    let lasting = steps_add_up.stays own (steps_add_up.one c.load_key_word_at.ensures.grows) in (
+    let is = sym c.state.ensures ∙ c.in-Claimed.is in
+    let differs : c.in-Claimed.field-0 ≢ k =
+    (λ same. c.is.ensures.no c.if-is.false (is ∙ ap Claimed (same ∙ sym c.key-key.ensures))) in
+    let lasting = steps_add_up.stays own (steps_add_up.one c.load_key_word_at-word.ensures.grows) in (
       walked-on chain g table c.loop-distance.distance c.args.rung.from
           (path_slot p g k c.loop-distance.distance) k
-          c.in-Claimed.other near c.loop-distance.auto.distance c.requires.at.own refl refl
-          differs so_far.0 (load there (Claimed c.in-Claimed.other) c.in-Claimed.is),
+          c.in-Claimed.field-0 near c.loop-distance.auto.distance c.requires.at.own refl refl
+          differs so_far.0 (load there (Claimed c.in-Claimed.field-0) is),
       others-more p _ _ lasting g k c.loop-distance.distance _
-          c.in-Claimed.other table so_far.1 refl
-          (found there (Claimed c.in-Claimed.other) c.in-Claimed.is) differs,
+          c.in-Claimed.field-0 table so_far.1 refl
+          (found there (Claimed c.in-Claimed.field-0) is) differs,
     )
 
 pub returns-clause-made : goal.returns-clause-made
