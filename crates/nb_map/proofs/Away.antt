@@ -1,5 +1,5 @@
 -- A write that looked at its key's home slot in vain, and then goes the general way.
-use Rattle.std.proofs.Common.{◌≡◌, ◌∙◌, ◌⊎◌, ℕ, ◌+◌, ◌≤◌, List, [], inl, inr, ap, refl, arith}
+use Rattle.std.proofs.Common.{◌∙◌, ℕ, ◌+◌, List, [], inl, inr, ap, refl, arith}
 use Rattle.nb_core.specs.History.{key_of_call}
 use Rattle.nb_core.specs.declared.calls.Call.{Call}
 use Rattle.nb_core.specs.declared.calls.Reply.{Reply}
@@ -13,14 +13,13 @@ use Rattle.nb_map.proofs.Spent.{passed-sum}
 use Rattle.nb_map.proofs.Straight.{at-known}
 use Rattle.nb_map.specs.Calling.{HasMade}
 use Rattle.nb_map.specs.Logs.{HasLogged}
-use Rattle.nb_map.specs.Maps.{HasWorked, IsMine, MapOf, SeatOf, accounted}
-use Rattle.nb_map.specs.Progress.{IsAloneAtHome, IsLastSeen, IsShortAtHome, passed_since}
+use Rattle.nb_map.specs.Maps.{MapOf, SeatOf, accounted}
+use Rattle.nb_map.specs.Progress.{IsAloneAtHome, IsShortAtHome, passed_since}
 use Rattle.nb_map.specs.Promises.{Found, HasAnswered, HasWritten, Matched, Outcome, Refused, Replied}
 use Rattle.nb_map.specs.Refusals.{HasRefused}
-use Rattle.nb_map.specs.Steps.{home_steps, put_steps}
+use Rattle.nb_map.specs.Steps.{put_steps}
 use Rattle.nb_map.specs.declared.faults.AddFault.{AddFault}
 use Rattle.nb_map.specs.inside.Waiting.{HasGoneOn, HasLookedInVain, IsAway}
-use Rattle.nb_table.proofs.Theorems.{steps_add_up}
 
 -- ---- on the tables
 

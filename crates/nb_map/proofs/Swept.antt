@@ -12,7 +12,7 @@ use Rattle.std.proofs.lemmas.List.Elements.{All-cons, All-head, All-nil, All-tai
 use Rattle.nb_core.specs.Calls.{Fills}
 use Rattle.nb_core.specs.Log.{IsBeginning, reply_at}
 use Rattle.nb_core.specs.Meaning.{net_of, net_of_call}
-use Rattle.nb_core.specs.Plans.{Plan, generations_of, size_of}
+use Rattle.nb_core.specs.Plans.{Plan, generations_of}
 use Rattle.nb_core.specs.declared.calls.Call.{Call}
 use Rattle.nb_core.specs.declared.calls.Call.TheVariants.{Get, Write}
 use Rattle.nb_core.specs.declared.calls.Reply.{Reply}
@@ -32,6 +32,7 @@ use Rattle.nb_map.specs.Steps.{get_steps, passing_steps, put_steps, slots_ahead,
 use Rattle.nb_map.specs.Walks.{IsMiss, IsUnderway, IsWalkOf, Rested, WalkOf, hit, with_shown}
 use Rattle.nb_map.specs.declared.steps.walk.Place.{Place}
 use Rattle.nb_map.specs.declared.steps.walk.Place.TheVariants.{Slot, End}
+use Rattle.nb_map.proofs.AtHome.{put-rises}
 use Rattle.nb_map.proofs.Counted.{net-made}
 use Rattle.nb_map.proofs.Logged.{counted-none, logged-then}
 use Rattle.nb_map.proofs.Made.{made-more, made-quiet, made-within}

@@ -1,4 +1,4 @@
-use Rattle.std.proofs.Common.{◌⊎◌, ◌-◌, ◌+◌, ◌≤◌, [], inl, inr, arith}
+use Rattle.std.proofs.Common.{◌≤◌, inl, inr, arith}
 use Rattle.nb_core.specs.declared.calls.Call.TheVariants as call
 use Rattle.nb_map.proofs.Straight.{at-known, in-vain, made-once, short-there}
 use Rattle.nb_map.proofs.steps.write.write_straight.Goals as goal
