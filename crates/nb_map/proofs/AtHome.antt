@@ -7,7 +7,7 @@ use Rattle.nb_core.specs.declared.calls.Reply.{Reply}
 use Rattle.nb_core.specs.declared.events.Event.{Event}
 use Rattle.nb_table.proofs.Theorems.{steps_add_up}
 use Rattle.nb_table.specs.Chains.{ChainOf, Grown, IsOwn, SeenBy}
-use Rattle.nb_map.proofs.Bounds.{climb-bound, next-size}
+use Rattle.nb_map.proofs.Bounds.{climb-bound}
 use Rattle.nb_map.specs.Progress.{IsLastSeen}
 use Rattle.nb_map.specs.Refusals.{IsJust}
 use Rattle.nb_map.specs.declared.faults.PutFault.{PutFault}
@@ -48,24 +48,23 @@ put-rises p a b less =
 -- on
 pub whole-bound :
     (p : Plan) → IsPlan p → (g lost tries : ℕ) → g < generations_of p → lost ≤ tries
-    → 1 + (home_steps p g + climb_steps p + lost) ≤ put_steps p tries
+    → 1 + (home_steps + climb_steps p + lost) ≤ put_steps p tries
 whole-bound p plan g lost tries table few =
     omega (arith, climb-bound p plan g table, put-more p tries, few)
 
 -- the same, where rounds come after the look at the home slot
 pub before-bound :
-    (p : Plan) → IsPlan p → (g lost passed all : ℕ) → g < generations_of p → lost + passed ≤ all
-    → 1 + (home_steps p g + lost + put_steps p passed) ≤ put_steps p (all + 1)
-before-bound p plan g lost passed all table both =
+    (p : Plan) (lost passed all : ℕ) → lost + passed ≤ all
+    → 1 + (home_steps + lost + put_steps p passed) ≤ put_steps p (all + 1)
+before-bound p lost passed all both =
     let n = size_of p (generations_of p - 1) in
-    fits (slots_below p (generations_of p)) (generations_of p) n (size_of p (suc g)) lost passed
-    all (next-size p plan g table) (mul-le-mul_right (n + 8) both)
+    fits (slots_below p (generations_of p)) (generations_of p) n lost passed all
+    (mul-le-mul_right (n + 8) both)
   where
-    fits : (t tables n above lost passed all : ℕ) → above ≤ n
-        → (lost + passed) * (n + 8) ≤ all * (n + 8)
-        → 1 + (5 + (2 * above + 6 + 2) + lost + 8 * (t + passed + tables) * (n + 8))
+    fits : (t tables n lost passed all : ℕ) → (lost + passed) * (n + 8) ≤ all * (n + 8)
+        → 1 + (5 + lost + 8 * (t + passed + tables) * (n + 8))
         ≤ 8 * (t + (all + 1) + tables) * (n + 8)
-    fits t tables n above lost passed all next both = omega (arith, next, both)
+    fits t tables n lost passed all both = omega (arith, both)
 
 -- ---- refusals
 

@@ -36,8 +36,8 @@ module _ (chain : ChainOf) {call : Call} {before then : SeenBy}
       made-within _ _
       (omega (
         arith,
-        before-bound chain.shape away.own.plan before.top away.lost (passed_since call then after)
-            (passed_since call before after) (at-known chain before.top away.own refl call).table
+        before-bound chain.shape away.lost (passed_since call then after)
+            (passed_since call before after)
             (omega (arith, away.passed, passed-sum call away.made.grown made.grown)),
       ))
       (made-then away.own away.made made)
@@ -83,37 +83,37 @@ climbed chain {call} {start} {first} {after} own load made =
 -- ---- on the map
 
 module _ {map : MapOf} {call : Call} {before then : SeatOf} (away : IsAway map call before then)
-    where
-  -- the look in vain is no call
-  vain : HasLogged before then []
-  vain = logged away.mine away.looked.made
+  where
+    -- the look in vain is no call
+    vain : HasLogged before then []
+    vain = logged away.mine away.looked.made
 
-  answered-both :
-      (after : SeatOf) (outcome : Outcome AddFault)
-      → HasAnswered (HasRefused map call then after) call then after outcome
-      → HasAnswered (HasRefused map call before after) call before after outcome
-  answered-both after (Found number) (reply, is, made) = (reply, is, logged-then vain made)
-  answered-both after (Matched held) (reply, is, made) = (reply, is, logged-then vain made)
-  answered-both after (Replied reply) made = logged-then vain made
-  answered-both after (Refused fault) refused = record {
-    unmade = logged-then vain refused.unmade;
-    just = refused.just;
-    looked = omega (arith, away.looked.made.grown.steps, refused.looked);
-  }
+    answered-both :
+        (after : SeatOf) (outcome : Outcome AddFault)
+        → HasAnswered (HasRefused map call then after) call then after outcome
+        → HasAnswered (HasRefused map call before after) call before after outcome
+    answered-both after (Found number) (reply, is, made) = (reply, is, logged-then vain made)
+    answered-both after (Matched held) (reply, is, made) = (reply, is, logged-then vain made)
+    answered-both after (Replied reply) made = logged-then vain made
+    answered-both after (Refused fault) refused = record {
+      unmade = logged-then vain refused.unmade;
+      just = refused.just;
+      looked = omega (arith, away.looked.made.grown.steps, refused.looked);
+    }
 
-  -- so both together are the write
-  pub gone_on :
-      {after : SeatOf} (outcome : Outcome AddFault) → HasGoneOn map call then after outcome
-      → HasWritten map call before after outcome
-  gone_on {after} outcome on =
-      let (calls, made) = on.worked.steps in
-      record {
-        answered = answered-both after outcome on.answered;
-        lock_free = record {
-          steps = (calls, made-both map.chain away.looked made);
-          net = on.worked.net;
-          count = on.worked.count ∙ ap (accounted on.worked.net) away.count;
-        };
-        short = short-both map.chain away.looked made;
-        own = on.own;
-      }
+    -- so both together are the write
+    pub gone_on :
+        {after : SeatOf} (outcome : Outcome AddFault) → HasGoneOn map call then after outcome
+        → HasWritten map call before after outcome
+    gone_on {after} outcome on =
+        let (calls, made) = on.worked.steps in
+        record {
+          answered = answered-both after outcome on.answered;
+          lock_free = record {
+            steps = (calls, made-both map.chain away.looked made);
+            net = on.worked.net;
+            count = on.worked.count ∙ ap (accounted on.worked.net) away.count;
+          };
+          short = short-both map.chain away.looked made;
+          own = on.own;
+        }

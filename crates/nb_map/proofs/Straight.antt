@@ -51,7 +51,7 @@ module _ (chain : ChainOf) {start : SeenBy} (known : ℕ) (own : IsOwn chain sta
 
   module _ {call : Call} {after : SeenBy} {calls : List (Call × Reply)} {tries left : ℕ}
       (made : HasMade chain.shape call start after calls
-      (home_steps chain.shape known + (tries - left)))
+      (home_steps + (tries - left)))
       (spent : IsSpent call start after tries left) where
     -- where it ends at the home slot there
     pub made-there :
@@ -99,7 +99,7 @@ module _ (chain : ChainOf) {start : SeenBy} (known : ℕ) (own : IsOwn chain sta
   -- a write with one try has looked at the home slot there in vain
   pub in-vain :
       {call : Call} {after : SeenBy} (left : ℕ)
-      → HasMade chain.shape call start after [] (home_steps chain.shape known + (1 - left))
+      → HasMade chain.shape call start after [] (home_steps + (1 - left))
       → IsSpent call start after 1 left
       → (IsAloneAtHome chain.shape known call start after
       → IsKnownHome chain.shape known call start ⊎ IsLastSeen chain.shape known after → ⊥)
@@ -110,7 +110,7 @@ module _ (chain : ChainOf) {start : SeenBy} (known : ℕ) (own : IsOwn chain sta
         own = own;
         lost = 1 - left;
         passed = omega (arith, spent.lost);
-        made = subst (λ g. HasMade p call start after [] (home_steps p g + (1 - left))) is made;
+        made = made;
         away = subst (λ g. IsAloneAtHome p g call start after
             → IsKnownHome p g call start ⊎ IsLastSeen p g after → ⊥) is away;
       }
@@ -156,7 +156,7 @@ module _ (chain : ChainOf) {start : SeenBy} (known : ℕ) (own : IsOwn chain sta
 
   module _ {call : Call} {then first : SeenBy} {tries left : ℕ}
       (home : HasMade chain.shape call start then []
-      (home_steps chain.shape known + (tries - left)))
+      (home_steps + (tries - left)))
       (load : Extended chain.shape then first [] 1) (spent : IsSpent call start then tries left) where
     still : IsSpent call start first tries left
     still = spent-later spent home.grown (steps_add_up.one load)

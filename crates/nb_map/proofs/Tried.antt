@@ -32,7 +32,7 @@ use Rattle.nb_map.proofs.Searched.{made-then}
 use Rattle.nb_map.proofs.Spent.{no-read, passed-sum, spent-later, spent-none}
 use Rattle.nb_map.specs.Calling.{HasMade}
 use Rattle.nb_map.specs.inside.Reading.{read_of}
-use Rattle.nb_map.specs.inside.Climbing.{GoesOn, IsAbove, IsAtSlot, IsRefused, IsSpent, IsVisit, IsWithoutTries, made_by}
+use Rattle.nb_map.specs.inside.Climbing.{GoesOn, IsAbove, IsAtSlot, IsRefused, IsSpent, IsTried, IsVisit, IsWithoutTries, made_by}
 use Rattle.nb_map.specs.inside.Writing.{IsDecided}
 use Rattle.nb_map.specs.Progress.{passed_since}
 use Rattle.nb_map.specs.declared.steps.rung.Below.TheVariants.{HasKey}
@@ -367,34 +367,41 @@ module _ (chain : ChainOf) where
       (tried : HasTried p call start now slot tries left from (Some number)) where
     pub last-made :
         (visit : Visit) → IsWithoutTries call number visit
-        → HasMade p call start now (made_by call visit)
-        (slot_visit_steps p slot.g visit + (tries - left))
+        → HasMade p call start now (made_by call visit) (2 + (tries - left))
     last-made (Told reply) is =
         made-within _ _ (omega arith) (tried-left at tried reply is.0 is.1)
     last-made (Refused why) is = made-within _ _ (omega arith) (tried-none at tried is.0)
     last-made (Above below) is = absurd is
 
-    pub last-visit :
+    pub last-tried :
         (visit : Visit) → left ≡ 0 → IsWithoutTries call number visit
-        → IsVisit p call start now slot.g tries left visit
-    last-visit (Told reply) none is =
+        → IsTried p call start now slot tries left (Ok visit)
+    last-tried (Told reply) none is =
         reply-fits call number reply is.1
-    last-visit (Refused why) none is =
+    last-tried (Refused why) none is =
         subst (IsRefused p call start now tries) (sym is.1)
         (omega (arith, tried.spent.lost, none), no-read call number is.0)
-    last-visit (Above below) none is = absurd is
+    last-tried (Above below) none is = absurd is
+
+  -- what it comes to at the slot is what it comes to in the table
+  pub tried-visit :
+      (call : Call) (start now : SeenBy) (slot : Slot) (tries left : ℕ) (visit : Visit)
+      → IsTried p call start now slot tries left (Ok visit)
+      → IsVisit p call start now slot.g tries left visit × (2 ≤ slot_visit_steps p slot.g visit)
+  tried-visit call start now slot tries left (Told reply) is = (is, omega arith)
+  tried-visit call start now slot tries left (Refused why) is = (is, omega arith)
+  tried-visit call start now slot tries left (Above below) is = absurd is
 
   -- it goes on in the next table, once the slot is finished
   pub tried-above :
-      {call : Call} {start now after : SeenBy} {slot : Slot} {tries left pass : ℕ}
-      {from : ValueState} → IsAtSlot chain call start slot
-      → HasTried p call start now slot tries left from None
+      {call : Call} {start now after : SeenBy} {slot : Slot} {most pass : ℕ}
+      → IsAtSlot chain call start slot → HasMade p call start now [] most
       → HasMade p call now after [] pass
       → ((k : ℕ) → (seen_by p now).key slot.g slot.i ≡ Claimed k
       → IsAbove p (seen_by p after) slot.g k)
       → GoesOn p call after slot.g HasKey
   tried-above {call = call} {slot = slot} at tried made above =
-      let here = slot-stays chain at tried.made in
+      let here = slot-stays chain at tried in
       let still = slot-stays chain here made in (
         above (key_of_call call) here.claimed,
         record { slot = slot.i; in_table = still.slot.slot.1; is = still.claimed },

@@ -72,10 +72,10 @@ slot_visit_steps p g (Told reply) = 2
 slot_visit_steps p g (Refused fault) = 2
 slot_visit_steps p g (Above below) = 2 + pass_steps p g
 
--- The same of a write at its key's home slot: a load of the key comes before it, and, it may be, a
--- look at the next word and a claim.
-abbrev pub home_steps : Plan → ℕ → ℕ
-home_steps p g = 5 + pass_steps p g
+-- the most steps of a write at its key's home slot, besides one for each exchange that it lost: loads
+-- of the key, of the next word and of the value, a claim and an exchange
+abbrev pub home_steps : ℕ
+home_steps = 5
 
 -- the most steps of a call in table g, besides one for each exchange that it lost: the search for
 -- its key's slot, and the call at it

@@ -5,11 +5,12 @@ use Rattle.nb_core.specs.History.{key_of_call}
 use Rattle.nb_core.specs.Log.{reply_at}
 use Rattle.nb_core.specs.Paths.{IsPlaced}
 use Rattle.nb_core.specs.Plans.{Plan, generations_of, size_of}
-use Rattle.nb_core.specs.Tables.{AreOthers, HasSlotBelow, IsInstalled, IsPassed, IsReady, Tables}
+use Rattle.nb_core.specs.Tables.{AreOthers, HasSlotBelow, IsInstalled, IsPassed, IsReady, IsUnprimed, Tables}
 use Rattle.nb_core.specs.declared.calls.Call.{Call}
 use Rattle.nb_core.specs.declared.calls.Reply.{Reply}
 use Rattle.nb_core.specs.declared.slot_paths.Slot.{Slot}
 use Rattle.nb_core.specs.declared.states.KeyState.TheVariants.{Claimed}
+use Rattle.nb_core.specs.declared.states.ValueState.{ValueState}
 use Rattle.nb_table.specs.Chains.{ChainOf, IsOwn, SeenBy, seen_by}
 use Rattle.nb_table.specs.Conditions.{IsReached}
 use Rattle.nb_map.specs.Progress.{passed_since}
@@ -103,6 +104,19 @@ IsVisit p call before after g tries left (Told reply) = IsReplied call reply
 IsVisit p call before after g tries left (Refused why) = IsRefused p call before after tries why
 IsVisit p call before after g tries left (Above below) = GoesOn p call after g below × (1 ≤ left)
 
+-- what a call with so many tries, of which so many are left, has come to at its key's slot: it is
+-- made or refused there; or the slot is being copied, and holds the value of this word, primed or
+-- final
+abbrev pub IsTried :
+    Plan → Call → (before after : SeenBy) → Slot → (tries left : ℕ) → Result Visit ValueState
+    → Type 0
+IsTried p call before after at tries left (Ok (Told reply)) = IsReplied call reply
+IsTried p call before after at tries left (Ok (Refused why)) =
+    IsRefused p call before after tries why
+IsTried p call before after at tries left (Ok (Above below)) = ⊥
+IsTried p call before after at tries left (Err word) =
+    (IsUnprimed word → ⊥) × ((seen_by p after).value at.g at.i ≡ word) × (1 ≤ left)
+
 -- what a call without further tries comes to, which has found this number at its key, or none: it
 -- is made if it leaves that as it is
 abbrev pub IsWithoutTries : Call → Option ℕ → Visit → Type 0
@@ -117,6 +131,11 @@ abbrev pub made_by : Call → Visit → List (Call × Reply)
 made_by call (Told reply) = (call, reply) ∷ []
 made_by call (Refused why) = []
 made_by call (Above below) = []
+
+-- the same at its key's slot
+abbrev pub made_if_tried : Call → Result Visit ValueState → List (Call × Reply)
+made_if_tried call (Ok visit) = made_by call visit
+made_if_tried call (Err word) = []
 
 -- ---- the search for the key's slot
 

@@ -34,7 +34,7 @@ pub record HasLookedInVain (chain : ChainOf) (call : Call) (before after : SeenB
   pub own : IsOwn chain before
   pub lost : ℕ
   pub passed : lost ≤ passed_since call before after
-  pub made : HasMade chain.shape call before after [] (home_steps chain.shape before.top + lost)
+  pub made : HasMade chain.shape call before after [] (home_steps + lost)
   pub away :
       IsAloneAtHome chain.shape before.top call before after
       → IsKnownHome chain.shape before.top call before ⊎ IsLastSeen chain.shape before.top after

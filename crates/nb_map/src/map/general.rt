@@ -91,12 +91,7 @@ impl Map {
 
     /// Goes on with `remove`.
     #[inline(never)]
-    pub(super) fn remove_general<R: Wait>(
-        &self,
-        rt: &R,
-        seat: &mut Seat,
-        key: Key,
-    ) -> Option<Num>
+    pub(super) fn remove_general<R: Wait>(&self, rt: &R, seat: &mut Seat, key: Key) -> Option<Num>
         requires own { IsMine self.now seat.old }
         ensures { HasGoneOn self.now (remove_of key) seat.old seat.new (Found result) }
     {

@@ -67,8 +67,9 @@ impl Pause for Rest {
 /// For how many turns a call rests: some microseconds.
 const TURNS: u32 = 200;
 
-/// Lets other threads go on for a while.
-#[inline(never)]
+/// Lets other threads go on for a while. It stands in the code of its callers: a call of a function
+/// would have them keep what they need later in registers that they have to store first.
+#[inline(always)]
 fn spin() {
     for _ in 0..TURNS {
         spin_loop();

@@ -6,7 +6,7 @@ ghost use Rattle.nb_core.specs.declared.states.KeyState.TheVariants as key_is;
 ghost use Rattle.nb_table.specs.Chains.{IsOwn, seen_by};
 ghost use Rattle.nb_map.specs.Calling.{HasMade};
 ghost use Rattle.nb_map.specs.Steps.{pass_steps, slot_visit_steps};
-ghost use Rattle.nb_map.specs.inside.Climbing.{IsAbove, IsAtSlot, IsSpent, IsVisit, IsWithoutTries, made_by};
+ghost use Rattle.nb_map.specs.inside.Climbing.{IsAbove, IsAtSlot, IsSpent, IsTried, IsVisit, IsWithoutTries, made_by, made_if_tried};
 
 use crate::faults::PutFault;
 use crate::steps::decide::{Decision, decide};
@@ -16,10 +16,8 @@ use nb_copy::copy_and_count;
 use nb_core::{Call, Num, Reply, Slot, ValueWord};
 use nb_table::{Chain, ChainSeat};
 
-/// Makes a call at its key's slot. What the slot's value shows decides it, by a load or by an
-/// exchange that was lost; or it exchanges that value, and takes one from its tries for each
-/// exchange that it loses to another write. Where the slot is being copied, it goes on in the next
-/// table.
+/// Makes a call at its key's slot. Where the slot is being copied, it is finished, and the call goes
+/// on in the next table.
 #[inline(always)]
 pub(crate) fn call_at<P: Pause>(
     chain: &Chain,
@@ -39,23 +37,55 @@ pub(crate) fn call_at<P: Pause>(
     ensures spent { IsSpent call.now seat.old seat.new tries.old tries.new }
     ensures serves { P.serves pause.new chain.now }
 {
+    match try_at(chain, seat, call, slot, tries, pause) {
+        Ok(visit) => visit,
+        Err(word) => {
+            pass_slot(chain, seat, slot, word);
+            Visit::Above(Below::HasKey)
+        }
+    }
+}
+
+/// The same as far as the slot goes. What the slot's value shows decides the call, by a load or by
+/// an exchange that was lost; or the call exchanges that value, and takes one from its tries for
+/// each exchange that it loses to another write. `Err` has the value's word where the slot is being
+/// copied.
+#[inline(always)]
+pub(crate) fn try_at<P: Pause>(
+    chain: &Chain,
+    seat: &mut ChainSeat,
+    call: &Call,
+    slot: Slot,
+    tries: &mut u32,
+    pause: &mut P,
+) -> Result<Visit, ValueWord>
+    requires at { IsAtSlot chain.now call.now seat.old slot }
+    requires some { 1 ≤ tries.old }
+    requires serves { P.serves pause.old chain.now }
+    ensures made { HasMade chain.now.shape call.now seat.old seat.new
+        (made_if_tried call.now result) (2 + (tries.old - tries.new)) }
+    ensures tried { IsTried chain.now.shape call.now seat.old seat.new slot tries.old tries.new
+        result }
+    ensures spent { IsSpent call.now seat.old seat.new tries.old tries.new }
+    ensures serves { P.serves pause.new chain.now }
+{
     let mut from = chain.load_value_word_at(seat, slot, Some(*call));
     while let Some(number) = from.shows() {
         match decide(call, &number) {
-            Decision::Leave(reply) => return Visit::Told(reply),
-            Decision::Overflow => return Visit::Refused(PutFault::ValueRange),
+            Decision::Leave(reply) => return Ok(Visit::Told(reply)),
+            Decision::Overflow => return Ok(Visit::Refused(PutFault::ValueRange)),
             Decision::Exchange(to) => {
                 pause.before_exchange(chain);
                 let Err(found) = chain.win_value_at(seat, slot, *call, from, to) else {
-                    return Visit::Told(Reply {
+                    return Ok(Visit::Told(Reply {
                         before: number,
                         matched: true,
-                    });
+                    }));
                 };
                 if let Some(shown) = found.shows() {
                     *tries -= 1;
                     if *tries == 0 {
-                        return without_tries(call, &shown);
+                        return Ok(without_tries(call, &shown));
                     }
                     pause.after_loss(chain);
                 }
@@ -63,8 +93,7 @@ pub(crate) fn call_at<P: Pause>(
             }
         }
     }
-    pass_slot(chain, seat, slot, from);
-    Visit::Above(Below::HasKey)
+    Err(from)
 }
 
 /// What a call comes to that has lost its last try, and has found this number at its key, or none.

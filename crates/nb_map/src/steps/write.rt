@@ -20,7 +20,7 @@ use crate::steps::climb::climb;
 use crate::steps::decide::{Decision, decide};
 use crate::steps::pause::{NoPause, Pause, Rest, rest_if_lost};
 use crate::steps::rung::{Rung, Visit};
-use crate::steps::slot::call_at;
+use crate::steps::slot::try_at;
 use nb_core::{Call, Change, Key, KeyState, KeyWord, Reply, Slot, Want};
 use nb_table::{Chain, ChainSeat};
 use std::sync::Wait;
@@ -192,7 +192,7 @@ fn write_home<P: Pause>(
     requires serves { P.serves pause.old chain.now }
     ensures made { HasMade chain.now.shape call.now seat.old seat.new
         (made_at_home call.now result)
-        (home_steps chain.now.shape top + (tries.old - tries.new)) }
+        (home_steps + (tries.old - tries.new)) }
     ensures told { IsToldAtHome chain.now.shape call.now seat.old seat.new tries.old tries.new
         result }
     ensures spent { IsSpent call.now seat.old seat.new tries.old tries.new }
@@ -210,10 +210,11 @@ fn write_home<P: Pause>(
     if !has_home(chain, seat, call, home, word) {
         return None;
     }
-    match call_at(chain, seat, call, home, tries, pause) {
-        Visit::Told(reply) => Some(Ok(reply)),
-        Visit::Refused(fault) => Some(Err(fault)),
-        Visit::Above(_) => None,
+    match try_at(chain, seat, call, home, tries, pause) {
+        Ok(Visit::Told(reply)) => Some(Ok(reply)),
+        Ok(Visit::Refused(fault)) => Some(Err(fault)),
+        Ok(Visit::Above(_)) => unreachable!(),
+        Err(_) => None,
     }
 }
 

@@ -3,26 +3,25 @@ use Rattle.std.proofs.lemmas.Nat.{pow_pos}
 use Rattle.nb_core.specs.Calls.{Fills}
 use Rattle.nb_core.specs.History.{key_of_call}
 use Rattle.nb_core.specs.Paths.{IsOnPathAt}
-use Rattle.nb_core.specs.Tables.{IsInstalled, IsPassed, IsReady, path_slot}
+use Rattle.nb_core.specs.Tables.{IsInstalled, IsReady, IsUnprimed, path_slot}
 use Rattle.nb_core.specs.declared.calls.Call.{Call}
 use Rattle.nb_core.specs.declared.calls.Reply.{Reply}
 use Rattle.nb_core.specs.declared.slot_paths.Slot.{Slot}
-use Rattle.nb_core.specs.declared.states.KeyState.TheVariants.{Empty}
+use Rattle.nb_core.specs.declared.states.KeyState.TheVariants.{Claimed, Empty}
 use Rattle.nb_table.specs.Chains.{Extended, SeenBy, seen_by}
 use Rattle.nb_table.specs.Events.{read, shown_by_key}
 use Rattle.nb_map.specs.Logs.{as_replied}
 use Rattle.nb_map.specs.Calling.{HasMade}
 use Rattle.nb_map.specs.Progress.{IsAloneAtHome, IsAtHome, IsKnownHome, IsLastSeen}
-use Rattle.nb_map.specs.Steps.{pass_steps}
 use Rattle.nb_map.specs.declared.faults.PutFault.{PutFault}
 use Rattle.nb_map.specs.inside.Climbing.{rung_at}
 use Rattle.nb_map.specs.inside.Writing.{IsDecided, IsShortThere}
 use Rattle.nb_map.proofs.HomeSlot.{made-look, own-slot}
 use Rattle.nb_map.proofs.Tried.{acts-unless}
-use Rattle.nb_map.proofs.Home.{passed-away}
+use Rattle.nb_map.proofs.Home.{primed-away}
 use Rattle.nb_map.proofs.Made.{made-none, made-read, made-within}
 use Rattle.nb_map.proofs.OnPath.{at-home, found-on_path, load-on_path, slot-is, slot-of_path, slot-on_path, slot-reached}
-use Rattle.nb_map.proofs.Rungs.{at-stays}
+use Rattle.nb_map.proofs.Rungs.{at-stays, slot-stays}
 use Rattle.nb_map.proofs.Searched.{made-then}
 use Rattle.nb_map.proofs.Spent.{passed-sum, refused-longer, spent-none, spent-sooner}
 use Rattle.nb_map.proofs.steps.write.write_home.Given.{Over}
@@ -246,20 +245,21 @@ returns-then-not-has_home-clause-short g c =
 
 -- ---- the call there
 
-pub call_at-requires-clause-at : goal.call_at-requires-clause-at
-call_at-requires-clause-at g c =
-    let there = (goal.at.call_at-requires-clause-at g c).After-has_home in
+pub try_at-requires-clause-at : goal.try_at-requires-clause-at
+try_at-requires-clause-at g c =
+    let there = (goal.at.try_at-requires-clause-at g c).After-has_home in
     let chain = c.args.chain.now in
     let here = at-stays chain c.requires.at (looked g there) in
     at-home chain (place g there) here (c.has_home.ensures.claimed (search rules))
 
-pub returns-in-Told : goal.returns-in-Told
-returns-in-Told g c =
-    let there = (goal.at.returns-in-Told g c).After-has_home in
+pub returns-in-Ok-Told : goal.returns-in-Ok-Told
+returns-in-Ok-Told g c =
+    let there = (goal.at.returns-in-Ok-Told g c).After-has_home in
     let look = looked g there in
-    let visit = c.in-Told.ensures in
+    let visit = c.in-Ok-Told.ensures in
+    let made = rw c.in-Ok-Told.field-0-is at visit.made in
     record {
-      made = made-within _ _ (omega arith) (made-then c.requires.at.own look visit.made);
+      made = made-within _ _ (omega arith) (made-then c.requires.at.own look made);
       told = tt;
       spent = spent-sooner look.grown visit.made.grown visit.spent;
       looked = looked-on g there visit.made;
@@ -273,17 +273,18 @@ returns-in-Told g c =
       serves = visit.serves;
     }
 
-pub returns-in-Refused : goal.returns-in-Refused
-returns-in-Refused g c =
-    let there = (goal.at.returns-in-Refused g c).After-has_home in
+pub returns-in-Ok-Refused : goal.returns-in-Ok-Refused
+returns-in-Ok-Refused g c =
+    let there = (goal.at.returns-in-Ok-Refused g c).After-has_home in
     let call = c.args.call.now in
     let look = looked g there in
-    let visit = c.in-Refused.ensures in
+    let visit = c.in-Ok-Refused.ensures in
+    let made = rw c.in-Ok-Refused.field-0-is at visit.made in
     record {
-      made = made-within _ _ (omega arith) (made-then c.requires.at.own look visit.made);
+      made = made-within _ _ (omega arith) (made-then c.requires.at.own look made);
       told = (refused-longer look.grown visit.made.grown
           (spent-none call c.args.seat.now c.has_home.new.seat c.args.tries.now)
-          c.in-Refused.fault visit.visit).0;
+          c.in-Ok-Refused.fault (rw c.in-Ok-Refused.field-0-is at visit.tried)).0;
       spent = spent-sooner look.grown visit.made.grown visit.spent;
       looked = looked-on g there visit.made;
       short = slot-short g there _ visit.made (λ alone.
@@ -296,29 +297,32 @@ returns-in-Refused g c =
       serves = visit.serves;
     }
 
-pub returns-in-Above : goal.returns-in-Above
-returns-in-Above g c =
-    let there = (goal.at.returns-in-Above g c).After-has_home in
+pub returns-in-Err : goal.returns-in-Err
+returns-in-Err g c =
+    let there = (goal.at.returns-in-Err g c).After-has_home in
     let chain = c.args.chain.now in
     let p = chain.shape in
-    let k = key_of_call c.args.call.now in
     let look = looked g there in
-    let visit = c.in-Above.ensures in
-    let here = at-stays chain (at-stays chain c.requires.at look) visit.made in
+    let tried = c.in-Err.ensures in
+    let primed = tried.tried in
+    let k = key_of_call c.args.call.now in
+    let seen = seen_by p c.try_at.new.seat in
     let is = (place g there).is in
-    let same = ap (λ (home : Slot). pass_steps p home.g) is in
-    let passed = subst (λ (home : Slot). IsPassed p (seen_by p c.call_at.new.seat) home.g k) is
-    visit.visit.0.0.0 in
-    let away = passed-away chain c.call_at.new.seat here.own c.args.top k here.table passed in
+    let here = at-home chain (place g there) (at-stays chain c.requires.at look)
+    (c.has_home.ensures.claimed (search rules)) in
+    let away = primed-away p seen c.args.top k
+    (subst (λ (home : Slot). seen.key home.g home.i ≡ Claimed k) is
+    (slot-stays chain here tried.made).claimed)
+    (λ unprimed. primed.0 (subst IsUnprimed
+    (subst (λ (home : Slot). seen.value home.g home.i ≡ c.in-Err.field-0) is primed.1) unprimed)) in
     record {
-      made = made-within _ _ (omega (arith, same))
-          (made-then c.requires.at.own look visit.made);
-      told = visit.visit.1;
-      spent = spent-sooner look.grown visit.made.grown visit.spent;
-      looked = looked-on g there visit.made;
+      made = made-within _ _ (omega arith) (made-then c.requires.at.own look tried.made);
+      told = primed.2;
+      spent = spent-sooner look.grown tried.made.grown tried.spent;
+      looked = looked-on g there tried.made;
       short = record {
         known = λ alone known. absurd (away alone.home);
         claimed = λ alone last. absurd (away alone.home);
       };
-      serves = visit.serves;
+      serves = tried.serves;
     }

@@ -1,7 +1,7 @@
 use Rattle.std.proofs.Common.{◌≤◌}
 use Rattle.nb_core.specs.States.{shown_by_value}
 use Rattle.nb_map.proofs.Tried.{HasTried, tries_ahead}
-use Rattle.nb_map.proofs.steps.slot.call_at.Given as goal
+use Rattle.nb_map.proofs.steps.slot.try_at.Given as goal
 
 abbrev pub invariant-loop-number : goal.invariant-loop-number
 invariant-loop-number g l = record {
