@@ -1,6 +1,6 @@
 -- What a probe of a key's path comes to in a table, and what a glance at the home slot shows of the
 -- key.
-use Rattle.std.specs.Prelude.{ℕ, List, [], Option, if◌then◌else◌, suc, ◌≡◌, ◌+◌, ◌<◌, ◌==◌, None}
+use Rattle.std.specs.Prelude.{ℕ, List, [], Option, if◌then◌else◌, suc, ◌≡◌, ◌<◌, ◌==◌, None}
 use Rattle.nb_core.specs.Calls.{leaves_alone}
 use Rattle.nb_core.specs.Plans.{Plan, size_of, generations_of}
 use Rattle.nb_core.specs.Tables.{IsInstalled, Tables, AreOthers, path_slot}
@@ -46,11 +46,10 @@ read_at p g call ends.Whole = if suc g == generations_of p then read_of call Non
 -- ---- a glance at the home slot
 
 -- where a glance shows nothing, the key isn't at home, and the search goes on from a slot of its
--- path that isn't the last one, behind slots of other keys
+-- path, behind slots of other keys
 abbrev pub IsGlance : Plan → Tables → (g k : ℕ) → Glance → Type 0
 IsGlance p t g k (glance.Shows number) = Unit {0}
-IsGlance p t g k (glance.From d) =
-    (d + 1 < size_of p g) × AreOthers p t g k d × (IsAtHome p t g k → ⊥)
+IsGlance p t g k (glance.From d) = (d < size_of p g) × AreOthers p t g k d × (IsAtHome p t g k → ⊥)
 
 -- the read that the glance was, for a call that leaves alone what it shows
 abbrev pub glanced_by : Call → Glance → List (Call × Reply)

@@ -1,7 +1,6 @@
 //! Reading a key.
-ghost use Rattle.std.specs.Prelude.{IsTrue, None, Some, [], false, if◌then◌else◌, ℕ, ◌+◌, ◌-◌, ◌<◌, ◌≡◌, ◌≤◌};
+ghost use Rattle.std.specs.Prelude.{IsTrue, None, Some, [], false, if◌then◌else◌, ℕ, ◌+◌, ◌≡◌, ◌≤◌};
 ghost use Rattle.nb_core.specs.Paths.{IsPlaced};
-ghost use Rattle.nb_core.specs.Plans.{size_of};
 ghost use Rattle.nb_core.specs.Tables.{path_slot};
 ghost use Rattle.nb_core.specs.declared.calls.Call.TheVariants as call;
 ghost use Rattle.nb_core.specs.declared.states.KeyState.TheVariants as key_is;
@@ -55,19 +54,18 @@ pub fn get_in(chain: &Chain, seat: &mut ChainSeat, key: Key) -> Option<Num>
 fn get_on(chain: &Chain, seat: &mut ChainSeat, key: Key, known: u32, from: usize) -> Option<Num>
     requires at { IsAt chain.now (call.Get key) seat.old (rung_for_read known from) }
     requires away { IsAtHome chain.now.shape (seen_by chain.now.shape seat.old) known key → ⊥ }
-    requires near { from + 1 < size_of chain.now.shape known }
     ensures made { HasMade chain.now.shape (call.Get key) seat.old seat.new
-        (as_replied (call.Get key) result) (get_steps chain.now.shape - 2) }
+        (as_replied (call.Get key) result) (3 + climb_steps chain.now.shape) }
     ensures three_steps { IsSeenAtHome chain.now.shape seat.old seat.new key
         → seat.new.steps ≤ seat.old.steps + 3 }
 {
     let top = chain.load_top(seat);
     if top == known {
-        return get_next(chain, seat, key, known, from);
+        return get_from(chain, seat, key, known, from);
     }
     match glance_in(chain, seat, top, key) {
         Glance::Shows(number) => number,
-        Glance::From(from) => get_next(chain, seat, key, top, from),
+        Glance::From(from) => get_from(chain, seat, key, top, from),
     }
 }
 
@@ -148,27 +146,6 @@ fn shown_if(is_own: bool, number: Option<Num>) -> Option<Num>
     ensures { result ≡ (if is_own then number else None) }
 {
     if is_own { number } else { None }
-}
-
-/// What the map has at a key, from a distance of its path in table `g` on, with a look at the slot
-/// there first: many keys that aren't at home have the next slot. Its bound leaves room for what
-/// comes before.
-#[inline]
-fn get_next(chain: &Chain, seat: &mut ChainSeat, key: Key, g: u32, from: usize) -> Option<Num>
-    requires at { IsAt chain.now (call.Get key) seat.old (rung_for_read g from) }
-    requires near { from + 1 < size_of chain.now.shape g }
-    ensures made { HasMade chain.now.shape (call.Get key) seat.old seat.new
-        (as_replied (call.Get key) result) (get_steps chain.now.shape - 5) }
-{
-    let at = chain.shape().path(g, key).slot(from);
-    let word = chain.load_key_word_at(seat, at, Some(Call::Get { key }));
-    if word.is(key) {
-        return get_at(chain, seat, key, at);
-    }
-    if word.is_empty() {
-        return None;
-    }
-    get_from(chain, seat, key, g, from)
 }
 
 /// What the map has at a key, from a distance of its path in table `g` on: the general way of a

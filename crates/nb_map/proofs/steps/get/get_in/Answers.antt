@@ -44,12 +44,11 @@ get_on-requires c =
         table = here.table;
         reached = here.reached;
         within = omega (arith, glance.glance.0);
-        start = inl (omega (arith, glance.glance.0));
+        start = inl glance.glance.0;
         others = glance.glance.1;
         known = tt;
       };
       away = glance.glance.2;
-      near = glance.glance.0;
     }
 
 pub returns-in-From : goal.returns-in-From

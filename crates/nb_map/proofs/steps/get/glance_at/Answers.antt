@@ -1,4 +1,5 @@
 use Rattle.std.proofs.Common.{◌≡◌, ◌∙◌, None, Some, ap, cond, subst, sym}
+use Rattle.std.proofs.lemmas.Nat.{pow_pos}
 use Rattle.nb_core.specs.Tables.{IsUnprimed}
 use Rattle.nb_core.specs.declared.calls.Call.TheVariants as call
 use Rattle.nb_core.specs.declared.states.KeyState.TheVariants.{Claimed}
@@ -6,7 +7,7 @@ use Rattle.nb_table.specs.Chains.{seen_by}
 use Rattle.nb_map.proofs.Glanced.{made-glance, made-primed, made-untold}
 use Rattle.nb_map.proofs.Tried.{none-of, shown-none}
 use Rattle.nb_map.proofs.Home.{primed-away}
-use Rattle.nb_map.proofs.Searched.{others-none, two-slots}
+use Rattle.nb_map.proofs.Searched.{others-none}
 use Rattle.nb_map.proofs.steps.get.glance_at.Goals as goal
 use Rattle.nb_table.proofs.Theorems.{steps_add_up}
 
@@ -29,7 +30,7 @@ returns-then-is_own-clause-glance c own =
     (c.requires.claimed own) in
     let primed = shown-none c.load_value_word_at-word.result
     (sym c.shows.ensures ∙ none-of c.shows.result c.in_default.not-Some) in (
-      two-slots p c.requires.own.plan c.args.home.g c.requires.slot.slot.0,
+      pow_pos _,
       others-none p seen c.args.home.g c.args.key,
       primed-away p seen c.args.home.g c.args.key
           (subst (λ i. seen.key c.args.home.g i ≡ Claimed c.args.key) (sym c.requires.home) claimed)

@@ -15,7 +15,7 @@ use Rattle.nb_map.proofs.Glanced.{glance-either, made-looked, turned}
 use Rattle.nb_map.proofs.Home.{dead-away, others-away}
 use Rattle.nb_map.proofs.OnPath.{found-on_path, load-on_path, slot-is, slot-of_path, slot-on_path, slot-reached}
 use Rattle.nb_map.proofs.Made.{made-quiet, made-read, made-within}
-use Rattle.nb_map.proofs.Searched.{others-more, others-none, read-before, reached-lasts, shown-other, shown-own, three-slots, two-slots}
+use Rattle.nb_map.proofs.Searched.{others-more, others-none, read-before, reached-lasts, shown-other, shown-own, two-slots}
 use Rattle.nb_map.proofs.steps.get.glance_in.Goals as goal
 use Rattle.nb_table.proofs.Theorems.{steps_add_up}
 
@@ -79,7 +79,7 @@ returns-then-not-is_or_empty-clause-glance c =
     elim (c.is_or_empty.ensures.no c.if-not-is_or_empty.true) [
       | inl dead ↦
           subst (IsGlance p seen c.args.g c.args.key) (sym (c.away.ensures.dead dead)) (
-            two-slots p c.requires.at.own.plan c.args.g c.requires.at.table,
+            pow_pos _,
             others-none p seen c.args.g c.args.key,
             dead-away p seen c.args.g c.args.key
                 (found ∙ dead),
@@ -92,7 +92,7 @@ returns-then-not-is_or_empty-clause-glance c =
           (others-none p (seen_by p c.args.seat.now) c.args.g c.args.key) refl
           (found ∙ other.1) other.2 in
           subst (IsGlance p seen c.args.g c.args.key) (sym (c.away.ensures.other other.0 other.1))
-          (three-slots p c.requires.at.own.plan c.args.g table, others, others-away p seen c.args.g c.args.key 1 (omega arith) others)
+          (two-slots p c.requires.at.own.plan c.args.g table, others, others-away p seen c.args.g c.args.key 1 (omega arith) others)
     ]
 
 pub glance_at-requires-clause-slot : goal.glance_at-requires-clause-slot
