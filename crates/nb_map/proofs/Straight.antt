@@ -10,7 +10,7 @@ use Rattle.nb_map.proofs.Home.{home-before}
 use Rattle.nb_map.proofs.Made.{made-own, made-quiet, made-stays, made-within}
 use Rattle.nb_map.proofs.Searched.{made-then, others-none, reached-up-to, ready-up-to, table-within}
 use Rattle.nb_map.proofs.Spent.{passed-sum, spent-later, spent-more}
-use Rattle.nb_map.proofs.AtHome.{last-before, whole-bound}
+use Rattle.nb_map.proofs.AtHome.{last-before, put-rises, whole-bound}
 use Rattle.nb_map.specs.Calling.{HasMade}
 use Rattle.nb_map.specs.Progress.{IsAloneAtHome, IsKnownHome, IsLastSeen, IsShortAtHome, passed_since}
 use Rattle.nb_map.specs.Steps.{climb_steps, home_steps, put_steps}
@@ -67,6 +67,17 @@ module _ (chain : ChainOf) {start : SeenBy} (known : ℕ) (own : IsOwn chain sta
               (omega (arith, spent.lost)),
         ))
         made
+
+    -- the same of the first of so many tries
+    pub made-first :
+        (all : ℕ) → tries ≤ all → 1 ≤ tries
+        → HasMade chain.shape call start after calls
+        (put_steps chain.shape (min all (passed_since call start after + 1)))
+    made-first all more some =
+        made-within _ _
+        (put-rises chain.shape (min tries (passed_since call start after + 1))
+        (min all (passed_since call start after + 1)) (omega (arith, more)))
+        (made-there some)
 
     -- the same in a write that tries again for as long as it takes
     pub made-once :

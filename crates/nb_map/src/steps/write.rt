@@ -26,8 +26,8 @@ use nb_table::{Chain, ChainSeat};
 use std::sync::Wait;
 
 /// Changes what the map has at a key, where the condition holds of it, and replies what it had. An
-/// exchange that another seat came before is tried again, so many times in all; the pause is made
-/// before each. A write that leaves the map as it is makes no exchange. One conditional write
+/// exchange that another seat came before is tried again, so many times in all, the first at the key's
+/// home slot; the pause is made before each. A write that leaves the map as it is makes no exchange. One conditional write
 /// stands behind all writes of `ConcurrentMap`, as `putIfMatch` of high-scale-lib.
 #[inline(always)]
 pub fn put_if_match_in<P: Pause>(
@@ -54,14 +54,21 @@ pub fn put_if_match_in<P: Pause>(
 {
     let call = Call::Write { key, want, change };
     let known = seat.known_top();
-    let mut left = tries;
+    let mut left = 1;
     match write_home(chain, seat, &call, known, &mut left, pause) {
-        Some(told) => told,
-        None => {
-            let top = chain.load_top(seat);
-            write_above(chain, seat, call, top, left, pause).0
+        Some(Ok(reply)) => return Ok(reply),
+        Some(Err(PutFault::Full)) => return Err(PutFault::Full),
+        Some(Err(PutFault::ValueRange)) => return Err(PutFault::ValueRange),
+        Some(Err(PutFault::Contended)) => {
+            if tries == 1 {
+                return Err(PutFault::Contended);
+            }
+            pause.after_loss(chain);
         }
+        None => {}
     }
+    let top = chain.load_top(seat);
+    write_above(chain, seat, call, top, tries - (1 - left), pause).0
 }
 
 /// Makes a write in the top table or above it, with so many tries. It says how many are left. What
