@@ -26,9 +26,10 @@ use nb_table::{Chain, ChainSeat};
 use std::sync::Wait;
 
 /// Changes what the map has at a key, where the condition holds of it, and replies what it had. An
-/// exchange that another seat came before is tried again, so many times in all, the first at the key's
-/// home slot; the pause is made before each. A write that leaves the map as it is makes no exchange. One conditional write
-/// stands behind all writes of `ConcurrentMap`, as `putIfMatch` of high-scale-lib.
+/// exchange that another seat came before is tried again, so many times in all: first at the key's
+/// home slot, and then on the way up the tables. The pause is made before each. A write that leaves
+/// the map as it is makes no exchange. One conditional write stands behind all writes of
+/// `ConcurrentMap`, as `putIfMatch` of high-scale-lib.
 #[inline(always)]
 pub fn put_if_match_in<P: Pause>(
     chain: &Chain,
