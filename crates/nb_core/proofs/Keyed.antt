@@ -7,8 +7,8 @@ use Rattle.std.proofs.Math.Pow.{pow_mono}
 use Rattle.std.proofs.lemmas.Bool.{cases_lt, le-leb, lt-leb}
 use Rattle.nb_core.specs.declared.shapes.ShapeFault.{ShapeFault}
 use Rattle.nb_core.specs.declared.shapes.ShapeFault.TheVariants as fault
-use Rattle.nb_core.specs.declared.shapes.TheConstants.{MANY_KEYS, MAX_SEATS, MOST_KEYS}
-use Rattle.nb_core.specs.declared.shapes.wide.TheConstants.{MANY_CHUNK, MANY_REPROBES, SHARED_STRIPES}
+use Rattle.nb_core.specs.declared.shapes.TheConstants.{MANY_KEYS, MAX_SEATS, MOST_KEYS, SHARED_STRIPES}
+use Rattle.nb_core.specs.declared.shapes.wide.TheConstants.{MANY_CHUNK, MANY_REPROBES}
 use Rattle.nb_core.specs.Plans.{HasRoomFor, Plan, checked_chunk, checked_for_keys, checked_for_many_keys, checked_plan, checked_reprobes, exponent_for, first_exponent, is_within, never_falls, plan, plan_for_keys, plan_for_many_keys, seated, slots_for, steps_down, tables_for}
 use Rattle.nb_core.proofs.Checks.{checked_plan-rises, is_within-true}
 use Rattle.nb_core.proofs.Stepped.{steps_down-last}

@@ -1,4 +1,5 @@
 mod Checks
+mod Churned
 mod Codings
 pub mod Computed
 mod Counting

@@ -1,15 +1,16 @@
 -- The shape of a chain of tables: how many tables, how large each is, and where each word of it
 -- lies.
-use Rattle.std.specs.Prelude.{◌≡◌, ℕ, ◌+◌, ◌*◌, ◌/◌, ◌-◌, ◌^◌, ◌<◌, ◌≤◌, min, suc, zero, ◌==◌, ◌&&◌, Bool, true, not, nat_le, if◌then◌else◌, List, [], ◌∷◌, ◌++◌, length, take, sum_by, slice_index, Result, Ok, Err, All}
+use Rattle.std.specs.Prelude.{◌≡◌, ℕ, ◌+◌, ◌*◌, ◌/◌, ◌-◌, ◌^◌, ◌<◌, ◌≤◌, min, suc, zero, ◌==◌, ◌&&◌, Bool, true, not, nat_le, if◌then◌else◌, List, [], ◌∷◌, ◌++◌, length, replicate, take, sum_by, slice_index, Result, Ok, Err, All}
 use Rattle.std.specs.Int.{is_power_of_two}
 use Rattle.std.specs.List.{list_all}
 use Rattle.std.specs.List.Sorted.{IsNonDecreasing}
-use Rattle.nb_core.specs.declared.shapes.TheConstants.{FEW_SEATS, FEW_STRIPES, MANY_KEYS, MAX_EXPONENT, MAX_GENERATIONS, MAX_SEATS, MAX_SLOTS, MAX_STRIPES, MOST_KEYS, SMALL_EXPONENT}
+use Rattle.nb_core.specs.declared.shapes.TheConstants.{FEW_SEATS, FEW_STRIPES, MANY_KEYS, MAX_EXPONENT, MAX_GENERATIONS, MAX_SEATS, MAX_SLOTS, MAX_STRIPES, MOST_KEYS, SHARED_STRIPES, SMALL_EXPONENT}
 use Rattle.nb_core.specs.declared.shapes.HeaderWord.{HeaderWord}
 use Rattle.nb_core.specs.declared.shapes.HeaderWord.TheVariants as header
 use Rattle.nb_core.specs.declared.shapes.ShapeFault.{ShapeFault}
 use Rattle.nb_core.specs.declared.shapes.ShapeFault.TheVariants as fault
-use Rattle.nb_core.specs.declared.shapes.wide.TheConstants.{FIRST_EXPONENT, MANY_CHUNK, MANY_REPROBES, SHARED_STRIPES, STEP}
+use Rattle.nb_core.specs.declared.shapes.churn.TheConstants.{CHURN_GREATEST, CHURN_LEAST}
+use Rattle.nb_core.specs.declared.shapes.wide.TheConstants.{FIRST_EXPONENT, MANY_CHUNK, MANY_REPROBES, STEP}
 
 -- Table g has 2 to the power exponents[g] slots. There are seats for so many callers, and a size is
 -- counted over so many stripes. No table but the last takes a new key past so many slots of the
@@ -271,3 +272,63 @@ checked_for_many_keys most seats =
 -- the last table has room for so many keys and for half as many again
 abbrev pub HasRoomFor : Plan → ℕ → Type 0
 HasRoomFor p most = slots_for most ≤ size_of p (generations_of p - 1)
+
+-- how many slots new keys find in so many tables of one size, if each table is filled before the
+-- next: all of the first one, and in each later one those that the live keys leave
+abbrev pub room_for_churn : (tables size live : ℕ) → ℕ
+room_for_churn tables size live = size + (tables - 1) * (size - live)
+
+-- So many tables have room for half as many keys again as ever come.
+abbrev pub has_room_for_churn : (live ever size tables : ℕ) → Bool
+has_room_for_churn live ever size tables =
+    nat_le (slots_for ever) (room_for_churn tables size live)
+
+-- Tables of 2 to this power slots have twice as many as there are live keys, and as many such
+-- tables as there may be have room.
+abbrev pub suits_churn : (live ever exponent : ℕ) → Bool
+suits_churn live ever exponent =
+    nat_le (2 * live) (2 ^ exponent) && has_room_for_churn live ever (2 ^ exponent) MAX_GENERATIONS
+
+-- the first number from n on that passes a test, of so many that are tried, or else the one past
+-- these
+unfoldable pub first_passing : (test : ℕ → Bool) (tries n : ℕ) → ℕ
+first_passing test zero n = n
+first_passing test (suc tries) n = if test n then n else first_passing test tries (suc n)
+
+-- the exponent of the smallest tables that suit, or else one past the greatest
+abbrev pub exponent_for_churn : (live ever : ℕ) → ℕ
+exponent_for_churn live ever =
+    first_passing (suits_churn live ever) (CHURN_GREATEST + 1 - CHURN_LEAST) CHURN_LEAST
+
+-- the fewest tables of this size that have room
+abbrev pub tables_for_churn : (live ever size : ℕ) → ℕ
+tables_for_churn live ever size =
+    first_passing (has_room_for_churn live ever size) (MAX_GENERATIONS - 1) 1
+
+-- the plan for keys that come and go: the fewest of the smallest tables that suit, all of one size,
+-- with no reprobe limit beside that of their size; each seat has a stripe, up to so many
+abbrev pub plan_for_churn : (live ever seats : ℕ) → Plan
+plan_for_churn live ever seats =
+    record {
+      exponents =
+          replicate (tables_for_churn live ever (2 ^ exponent_for_churn live ever))
+          (exponent_for_churn live ever);
+      seats = seats;
+      stripes = min seats SHARED_STRIPES;
+      reprobes = 2 ^ 32 - 1;
+      chunk = 64;
+    }
+
+-- the plan for so many keys and seats, or the first thing that is wrong with these
+abbrev pub checked_for_churn : (live ever seats : ℕ) → Result Plan ShapeFault
+checked_for_churn live ever seats =
+    if not (nat_le (exponent_for_churn live ever) CHURN_GREATEST) then Err fault.Keys
+    else if not (is_within 1 MAX_SEATS seats) then Err fault.Seats
+    else Ok (plan_for_churn live ever seats)
+
+-- All tables have one size, which is twice as many slots as there are live keys, or more. Where
+-- each is filled before the next, new keys find slots for half as many again as ever come.
+pub record HasRoomForChurn (p : Plan) (live ever : ℕ) : Type 0 where
+  pub one_size : (g : ℕ) → g < generations_of p → size_of p g ≡ size_of p 0
+  pub twice : 2 * live ≤ size_of p 0
+  pub room : slots_for ever ≤ room_for_churn (generations_of p) (size_of p 0) live

@@ -26,6 +26,7 @@ ghost use Rattle.nb_core.specs.Plans.{
 ghost use Rattle.nb_core.specs.Paths.{IsPathIn};
 ghost use Rattle.nb_core.specs.Tables.{chunk_of, path_slot};
 
+mod churn;
 mod wide;
 
 use crate::numbers::Key;
@@ -95,6 +96,10 @@ const MAX_CHUNK: u32 = 1024;
 
 /// The fewest slots of the last of two tables, of which the first has an eighth.
 const SMALLEST_LAST: usize = 32;
+
+/// The most stripes of a shape for many seats. A size is the sum of all stripes, so more of them make
+/// it slower to tell.
+const SHARED_STRIPES: usize = 16;
 
 /// The reprobe limit of a shape for a number of keys.
 const SHORT_PATH: u32 = 18;

@@ -19,8 +19,8 @@ ghost use Rattle.nb_core.specs.Plans.{
 };
 
 use super::{
-    MANY_KEYS, MAX_EXPONENT, MAX_GENERATIONS, MAX_SEATS, MAX_SLOTS, MAX_STRIPES, SMALLEST_LAST,
-    Shape, ShapeFault,
+    MANY_KEYS, MAX_EXPONENT, MAX_GENERATIONS, MAX_SEATS, MAX_SLOTS, MAX_STRIPES, SHARED_STRIPES,
+    SMALLEST_LAST, Shape, ShapeFault,
 };
 
 /// The least exponent of the first table of a shape for many keys.
@@ -28,10 +28,6 @@ const FIRST_EXPONENT: u32 = 4;
 
 /// By how much each exponent of a shape for many keys is above the one before it.
 const STEP: u32 = 8;
-
-/// The most stripes of a shape for many keys. A size is the sum of all stripes, so more of them
-/// make it slower to tell.
-const SHARED_STRIPES: usize = 16;
 
 /// The reprobe limit of a shape for many keys.
 const MANY_REPROBES: u32 = 18;
