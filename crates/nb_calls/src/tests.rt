@@ -1,6 +1,7 @@
 //! Calls of the map with their replies, one after another and by several threads.
 mod bulk;
 mod calls;
+mod churn;
 mod compound;
 mod fullness;
 mod renewing;

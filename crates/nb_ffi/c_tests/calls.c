@@ -57,6 +57,18 @@ static void refuses_shapes(void)
     EXPECT(samvolip_open(&most, &seat) == SAMVOLIP_E_SEATS);
     most = samvolip_shape_for_many_keys(100, 257);
     EXPECT(samvolip_open(&most, &seat) == SAMVOLIP_E_SEATS);
+    most = samvolip_shape_for_churn(0, 715827884, 1);
+    EXPECT(samvolip_open(&most, &seat) == SAMVOLIP_E_TABLES);
+    most = samvolip_shape_for_churn((1 << 25) + 1, 0, 1);
+    EXPECT(samvolip_open(&most, &seat) == SAMVOLIP_E_TABLES);
+    most = samvolip_shape_for_churn(UINT64_MAX, 1, 1);
+    EXPECT(samvolip_open(&most, &seat) == SAMVOLIP_E_TABLES);
+    most = samvolip_shape_for_churn(1, UINT64_MAX, 1);
+    EXPECT(samvolip_open(&most, &seat) == SAMVOLIP_E_TABLES);
+    most = samvolip_shape_for_churn(100, 1000, 0);
+    EXPECT(samvolip_open(&most, &seat) == SAMVOLIP_E_SEATS);
+    most = samvolip_shape_for_churn(100, 1000, 257);
+    EXPECT(samvolip_open(&most, &seat) == SAMVOLIP_E_SEATS);
     EXPECT(seat.handle == NULL);
 }
 
@@ -84,6 +96,66 @@ static void makes_shapes_for_many_keys(void)
         samvolip_shape shape = samvolip_shape_for_many_keys(made[i].most, made[i].seats);
         EXPECT(memcmp(&shape, &made[i].shape, sizeof shape) == 0);
     }
+}
+
+/* The plans that `Shape::for_churn` of nb_core makes by its test. */
+static void makes_shapes_for_churn(void)
+{
+    static const struct {
+        uint64_t live, ever;
+        unsigned seats;
+        uint32_t tables, exponent, stripes;
+    } made[] = {
+        {0, 0, 1, 1, 9, 1},
+        {1, 341, 8, 1, 9, 8},
+        {1, 342, 8, 2, 9, 8},
+        {256, 512, 16, 2, 9, 16},
+        {256, 513, 16, 3, 9, 16},
+        {256, 2901, 17, 16, 9, 16},
+        {256, 2902, 17, 6, 10, 16},
+        {257, 683, 17, 1, 10, 16},
+        {257, 684, 17, 2, 10, 16},
+        {100, 1000, 64, 4, 9, 16},
+        {100, 10000, 64, 8, 11, 16},
+        {10000, 20000, 1, 1, 15, 1},
+        {10000, 1000000, 64, 13, 17, 16},
+        {1000000, 100000000, 64, 10, 24, 16},
+        {1 << 25, 0, 256, 1, 26, 16},
+        {1 << 25, 380283563, 256, 16, 26, 16},
+        {1, 715827873, 256, 16, 26, 16},
+        {0, 715827883, 256, 16, 26, 16},
+    };
+    for (size_t i = 0; i < sizeof made / sizeof *made; i++) {
+        samvolip_shape shape = samvolip_shape_for_churn(made[i].live, made[i].ever, made[i].seats);
+        samvolip_shape wanted = {
+            {0}, made[i].tables, made[i].seats, made[i].stripes, UINT32_MAX, 64,
+        };
+        for (uint32_t g = 0; g < wanted.tables; g++)
+            wanted.exponents[g] = made[i].exponent;
+        EXPECT(memcmp(&shape, &wanted, sizeof shape) == 0);
+    }
+}
+
+/* Mixed keys come one after another, and each goes when so many others have come. */
+static void come_and_go(uint64_t live, uint64_t ever)
+{
+    const samvolip_shape shape = samvolip_shape_for_churn(live, ever, 1);
+    samvolip_seat seat = SAMVOLIP_SEAT_INIT;
+    EXPECT(samvolip_open(&shape, &seat) == SAMVOLIP_OK);
+    for (uint64_t i = 0; i < ever; i++) {
+        if (i >= live)
+            EXPECT(samvolip_remove(&seat, samvolip_mix(i - live), NULL) == SAMVOLIP_PRESENT);
+        EXPECT(samvolip_put(&seat, samvolip_mix(i), i, NULL) == SAMVOLIP_ABSENT);
+    }
+    EXPECT(samvolip_size_estimate(&seat) == live);
+    samvolip_free(&seat);
+}
+
+static void keys_come_and_go(void)
+{
+    come_and_go(100, 1024);
+    come_and_go(256, 2901);
+    come_and_go(1000, 20000);
 }
 
 static void refuses_headers(void)
@@ -414,6 +486,8 @@ int main(void)
     refuses_headers();
     refuses_shapes();
     makes_shapes_for_many_keys();
+    makes_shapes_for_churn();
+    keys_come_and_go();
     has_room_for_keys();
     samvolip_shape shape = samvolip_shape_for_keys(1000, 1);
     samvolip_seat seat = SAMVOLIP_SEAT_INIT;

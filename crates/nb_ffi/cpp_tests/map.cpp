@@ -234,6 +234,9 @@ void opens_and_moves()
     EXPECT(samvolip::map::for_keys(SAMVOLIP_MOST_KEYS + 1, 1).error().why() == fault::tables);
     EXPECT(samvolip::map::for_many_keys(1000, 0).error().why() == fault::seats);
     EXPECT(samvolip::map::for_many_keys(1000, 257).error().message() == "number of seats out of range");
+    EXPECT(samvolip::map::for_churn(1, UINT64_MAX, 1).error().why() == fault::tables);
+    EXPECT(samvolip::map::for_churn(10, 100, 0).error().why() == fault::seats);
+    EXPECT(samvolip::map::for_churn(10, 100, 17, samvolip::mixed)->seats() == 17);
     samvolip::map map, other;
     is_empty(map);
     EXPECT(map.seats() == 0 && map.close().error().why() == fault::empty);

@@ -116,6 +116,10 @@ extern "C" {
 #define SAMVOLIP_MANY_REPROBES 18
 #define SAMVOLIP_MANY_CHUNK 256
 
+/* What samvolip_shape_for_churn goes by: the least and the greatest exponent. */
+#define SAMVOLIP_CHURN_LEAST 9
+#define SAMVOLIP_CHURN_GREATEST 26
+
 /* The result of a call. */
 enum samvolip_code {
     SAMVOLIP_OK = 0,      /* it was made */
@@ -291,6 +295,40 @@ static inline samvolip_shape samvolip_shape_for_many_keys(uint64_t most, unsigne
     shape.stripes = seats < SAMVOLIP_MANY_STRIPES ? seats : SAMVOLIP_MANY_STRIPES;
     shape.reprobes = SAMVOLIP_MANY_REPROBES;
     shape.chunk = SAMVOLIP_MANY_CHUNK;
+    return shape;
+}
+
+/*
+ * A shape for keys that come and go: at most `live` keys at a time, and `ever` of them in all. Each
+ * coming counts, also that of a key that was there before. All tables have one size, from 512 slots
+ * on, and at least two slots for each live key. When one is full the map grows into the next, and
+ * leaves the removed keys behind. So the first has n slots for new keys, and each one after it n
+ * minus `live`. Together they have room for half as many keys again as `ever`. That many come before
+ * a put is refused as full only if the keys' low bits are spread, as those of ids from a counter or
+ * of mixed keys are: this was measured and isn't proved. The size is the smallest of which 16 tables
+ * are enough. There is no reprobe limit, and a stripe for each seat, up to 16. The map takes 16
+ * bytes for each slot of all tables. If there are no such tables, samvolip_open refuses what this
+ * returns, with SAMVOLIP_E_TABLES: at most 2^25 keys are live, and at most 715 million come in all.
+ */
+static inline samvolip_shape samvolip_shape_for_churn(uint64_t live, uint64_t ever, unsigned seats)
+{
+    samvolip_shape shape = {{0}, 0, 0, 0, 0, 0};
+    uint64_t size = UINT64_C(1) << SAMVOLIP_CHURN_LEAST, wanted, room;
+    uint32_t exponent = SAMVOLIP_CHURN_LEAST;
+    if (live > SAMVOLIP_MAX_SLOTS || ever > SAMVOLIP_MAX_SLOTS)
+        return shape;
+    wanted = ever + ever / 2;
+    for (; size < 2 * live || size + (SAMVOLIP_MAX_TABLES - 1) * (size - live) < wanted; size *= 2)
+        exponent++;
+    if (exponent > SAMVOLIP_CHURN_GREATEST)
+        return shape;
+    shape.exponents[shape.tables++] = exponent;
+    for (room = size; room < wanted; room += size - live)
+        shape.exponents[shape.tables++] = exponent;
+    shape.seats = seats;
+    shape.stripes = seats < SAMVOLIP_MANY_STRIPES ? seats : SAMVOLIP_MANY_STRIPES;
+    shape.reprobes = UINT32_MAX;
+    shape.chunk = 64;
     return shape;
 }
 

@@ -1043,6 +1043,14 @@ public:
         return open(samvolip_shape_for_many_keys(most, seats), how);
     }
 
+    /* The same for keys that come and go, `live` of them at a time and `ever` in all, by
+       samvolip_shape_for_churn. */
+    static result<map> for_churn(std::uint64_t live, std::uint64_t ever, unsigned seats,
+                                 keys how = keys::plain)
+    {
+        return open(samvolip_shape_for_churn(live, ever, seats), how);
+    }
+
     /* Whether it has a map: an object that was moved from has none. */
     explicit operator bool() const noexcept { return pool_ != nullptr; }
 

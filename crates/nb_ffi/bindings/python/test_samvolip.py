@@ -29,6 +29,7 @@ from samvolip import (
     WalkCutOff,
     Want,
     exponents_for_keys,
+    exponents_for_churn,
     exponents_for_many_keys,
     mix,
     unmix,
@@ -148,6 +149,9 @@ def calls():
 def broken_shapes():
     assert refused(exponents_for_keys, 2**20) == Code.E_TABLES
     assert refused(exponents_for_many_keys, 2**28) == Code.E_TABLES
+    for live, ever in [(0, 715827884), (2**25, 380283564), (2**25 + 1, 0), (2**64 - 1, 1), (1, 2**64 - 1)]:
+        assert refused(exponents_for_churn, live, ever) == Code.E_TABLES
+    assert told(exponents_for_churn, -1, 1) == told(exponents_for_churn, 1, -1) == "-1 isn't from 0 to 2^64 - 1"
     for code, exponents, named in [
         (Code.E_TABLES, [], {}),
         (Code.E_TABLES, [4] * 17, {}),
@@ -221,6 +225,30 @@ def shapes():
         (178956970, [4, 12, 20, 28]),
     ]:
         assert exponents_for_many_keys(most) == exponents
+    for live, ever, exponents in [
+        (0, 0, [9]),
+        (1, 341, [9]),
+        (1, 342, [9] * 2),
+        (256, 2901, [9] * 16),
+        (256, 2902, [10] * 6),
+        (257, 682, [10]),
+        (10000, 1000000, [17] * 13),
+        (2**25, 380283563, [26] * 16),
+        (0, 715827883, [26] * 16),
+    ]:
+        assert exponents_for_churn(live, ever) == exponents
+
+
+def churns():
+    for opened in (Seat.for_churn(100, 1024), Map.for_churn(100, 1024, seats=17)):
+        for key in range(1024):
+            if key >= 100:
+                assert opened.remove(key - 100) == key - 100
+            assert opened.put(key, key) is None
+        assert opened.generation() > 0
+        opened.close()
+    for opened in (Seat.for_churn, Map.for_churn):
+        assert refused(opened, 10, 100, 0) == refused(opened, 10, 100, 257) == Code.E_SEATS
 
 
 def many_seats():
@@ -488,6 +516,7 @@ threads()
 one_seat()
 calls()
 shapes()
+churns()
 broken_shapes()
 grows()
 joins()

@@ -20,6 +20,9 @@ public record Shape(int[] exponents, int seats, int stripes, int reprobes, int c
     /** What forManyKeys makes: the least exponent, by how much each is above the one before it, the most stripes, the reprobe limit and the chunk. */
     private static final int MANY_FIRST_EXPONENT = 4, MANY_STEP = 8, MANY_STRIPES = 16, MANY_REPROBES = 18, MANY_CHUNK = 256;
 
+    /** The least and the greatest exponent of what forChurn makes, and the most slots of all tables together. */
+    private static final int CHURN_LEAST = 9, CHURN_GREATEST = 26, MAX_SLOTS = 1 << 30;
+
     public Shape {
         exponents = exponents.clone();
     }
@@ -41,6 +44,29 @@ public record Shape(int[] exponents, int seats, int stripes, int reprobes, int c
         int[] exponents = new int[(last - MANY_FIRST_EXPONENT) / MANY_STEP + 1];
         for (int g = 0; g < exponents.length; g++) exponents[g] = last - MANY_STEP * (exponents.length - 1 - g);
         return new Shape(exponents, seats, Math.min(seats, MANY_STRIPES), MANY_REPROBES, MANY_CHUNK);
+    }
+
+    /**
+     * Tables for keys that come and go: at most {@code live} keys at a time, and {@code ever} of them in all. Each coming counts, also that of
+     * a key that was there before. All tables have one size, from 512 slots on, and at least two slots for each live key. When one is full the
+     * map grows into the next, and leaves the removed keys behind: so the first has {@code size} slots for new keys, and each later one
+     * {@code size - live}. Together they have room for half as many keys again as {@code ever}.
+     *
+     * <p>That so many keys come before a map refuses one as full was measured and isn't proved. It holds where keys are spread, as mixed ones
+     * are. There is no reprobe limit, and no more than 16 stripes. Refused as {@link Code#E_TABLES} where 16 tables of 2^26 slots are too few:
+     * there may be 2^25 live keys, and with few at a time 715 million in all.
+     */
+    public static Shape forChurn(long live, long ever, int seats) {
+        if (live < 0 || live > MAX_SLOTS || ever < 0 || ever > MAX_SLOTS) throw new Refused(Code.E_TABLES);
+        long wanted = ever + ever / 2;
+        int last = CHURN_LEAST;
+        while (1L << last < 2 * live || roomForChurn(live, 1L << last, 16) < wanted) last++;
+        if (last > CHURN_GREATEST) throw new Refused(Code.E_TABLES);
+        int tables = 1;
+        while (roomForChurn(live, 1L << last, tables) < wanted) tables++;
+        int[] exponents = new int[tables];
+        Arrays.fill(exponents, last);
+        return new Shape(exponents, seats, Math.min(seats, MANY_STRIPES), Integer.MAX_VALUE, 64);
     }
 
     /** Tables of these sizes, with a stripe for each seat. */
@@ -82,6 +108,11 @@ public record Shape(int[] exponents, int seats, int stripes, int reprobes, int c
     @Override
     public String toString() {
         return "Shape[exponents=" + Arrays.toString(exponents) + ", seats=" + seats + ", stripes=" + stripes + ", reprobes=" + reprobes + ", chunk=" + chunk + "]";
+    }
+
+    /** How many new keys so many tables of one size take, each filled before the next. */
+    private static long roomForChurn(long live, long size, int tables) {
+        return size + (tables - 1) * (size - live);
     }
 
     /** The exponent of the smallest table that has half as many slots again as there are keys, of 32 slots at least. */

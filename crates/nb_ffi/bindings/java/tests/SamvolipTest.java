@@ -266,6 +266,17 @@ public final class SamvolipTest {
         expect(refused(() -> Shape.forKeys(1 << 20, 1)), Code.E_TABLES);
         expect(refused(() -> Shape.forKeys(-1, 1)), Code.E_TABLES);
         expect(refused(() -> Shape.forManyKeys(1 << 28, 1)), Code.E_TABLES);
+        long[][] churn = {
+            {0, 0, 9, 1}, {1, 341, 9, 1}, {1, 342, 9, 2}, {256, 2901, 9, 16}, {256, 2902, 10, 6}, {257, 682, 10, 1}, {10000, 1000000, 17, 13},
+            {1 << 25, 380283563, 26, 16}, {0, 715827883, 26, 16},
+        };
+        for (long[] row : churn) {
+            int[] exponents = new int[(int) row[3]];
+            Arrays.fill(exponents, (int) row[2]);
+            expect(Shape.forChurn(row[0], row[1], 17), new Shape(exponents, 17, 16, Integer.MAX_VALUE, 64));
+        }
+        long[][] much = {{0, 715827884}, {1 << 25, 380283564}, {(1 << 25) + 1, 0}, {Long.MAX_VALUE, 1}, {1, Long.MAX_VALUE}, {-1, 1}, {1, -1}};
+        for (long[] row : much) expect(refused(() -> Shape.forChurn(row[0], row[1], 1)), Code.E_TABLES);
         expect(refused(() -> SamvolipMap.forKeys(Long.MAX_VALUE, 1)), Code.E_TABLES);
         expect(refused(() -> SamvolipMap.forKeys(Long.MIN_VALUE, 1)), Code.E_TABLES);
         Shape good = Shape.of(1, 4, 5);
@@ -274,11 +285,22 @@ public final class SamvolipTest {
             {Shape.of(1, -1), Code.E_EXPONENTS}, {Shape.of(1, 5, 4), Code.E_FALLING}, {Shape.of(1, 2, 28, 28, 28, 28), Code.E_SLOTS},
             {Shape.of(0, 4), Code.E_SEATS}, {Shape.of(257, 4), Code.E_SEATS}, {Shape.of(-1, 4), Code.E_SEATS},
             {Shape.forManyKeys(10, Integer.MIN_VALUE), Code.E_SEATS}, {good.withStripes(0), Code.E_STRIPES}, {good.withStripes(-1), Code.E_STRIPES},
+            {Shape.forChurn(10, 100, 257), Code.E_SEATS},
             {good.withReprobes(0), Code.E_REPROBES}, {good.withChunk(5), Code.E_CHUNK}, {good.withChunk(-4), Code.E_CHUNK},
         };
         for (Object[] pair : wrong) {
             expect(refused(() -> Seat.open((Shape) pair[0])), pair[1]);
             expect(refused(() -> SamvolipMap.open((Shape) pair[0])), pair[1]);
+        }
+    }
+
+    private static void churn() {
+        try (SamvolipMap map = SamvolipMap.open(Shape.forChurn(100, 1024, 1))) {
+            for (long key = 0; key < 1024; key++) {
+                if (key >= 100) expect(map.remove(key - 100), of(key - 100));
+                expect(map.put(key, key), NONE);
+            }
+            expect(map.generation() > 0);
         }
     }
 
@@ -420,6 +442,7 @@ public final class SamvolipTest {
             eachCall(seat);
         }
         shapes();
+        churn();
         mixing();
         seats();
         oneSeat();

@@ -29,7 +29,7 @@ from .maps import SEATS, Map
 from .numbers import mix, unmix
 from .occupancy import Occupancy
 from .seats import Ended, Seat
-from .shapes import exponents_for_keys, exponents_for_many_keys
+from .shapes import exponents_for_churn, exponents_for_keys, exponents_for_many_keys
 
 __all__ = [
     "KEY_MAX",
@@ -50,6 +50,7 @@ __all__ = [
     "Seat",
     "WalkCutOff",
     "Want",
+    "exponents_for_churn",
     "exponents_for_keys",
     "exponents_for_many_keys",
     "mix",

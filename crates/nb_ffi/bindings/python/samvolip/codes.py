@@ -18,6 +18,10 @@ MANY_STRIPES = 16
 MANY_REPROBES = 18
 MANY_CHUNK = 256
 
+# the least and the greatest exponent of a shape for keys that come and go
+CHURN_LEAST = 9
+CHURN_GREATEST = 26
+
 
 class Code(enum.IntEnum):
     """Why a call is refused."""

@@ -6,7 +6,19 @@ from collections.abc import Iterable
 from typing import SupportsIndex
 
 from . import library
-from .codes import MANY_CHUNK, MANY_FIRST_EXPONENT, MANY_KEYS, MANY_REPROBES, MANY_STEP, MANY_STRIPES, MOST_KEYS, Code, Refused
+from .codes import (
+    CHURN_GREATEST,
+    CHURN_LEAST,
+    MANY_CHUNK,
+    MANY_FIRST_EXPONENT,
+    MANY_KEYS,
+    MANY_REPROBES,
+    MANY_STEP,
+    MANY_STRIPES,
+    MOST_KEYS,
+    Code,
+    Refused,
+)
 from .numbers import word
 
 
@@ -31,6 +43,24 @@ def exponents_for_many_keys(most: SupportsIndex) -> list[int]:
         raise Refused(Code.E_TABLES, f"no such shape for more than {MANY_KEYS} keys")
     last = _last_exponent(most)
     return list(range(last, MANY_FIRST_EXPONENT - 1, -MANY_STEP))[::-1]
+
+
+def exponents_for_churn(live: SupportsIndex, ever: SupportsIndex) -> list[int]:
+    """Tables of one size for keys that come and go: at most `live` keys at a time, and `ever` of them in all.
+
+    Each coming counts, also that of a key that was there before. A table has at least two slots for each live key. When one is
+    full the map grows into the next, and leaves the removed keys behind: so the first has `size` slots for new keys, and each
+    later one `size - live`. Together they have room for half as many keys again as `ever`. That so many come before a map is
+    full was measured and isn't proved. It holds where keys are spread, as mixed ones are.
+    """
+    live, wanted = word(live), word(ever) * 3 // 2
+    for exponent in range(CHURN_LEAST, CHURN_GREATEST + 1):
+        size = 2**exponent
+        if size >= 2 * live:
+            tables = 1 + max(0, -((size - wanted) // (size - live)))
+            if tables <= 16:
+                return [exponent] * tables
+    raise Refused(Code.E_TABLES, f"no such shape for {live} keys at a time, {ever} in all")
 
 
 def shape_of(
@@ -60,3 +90,9 @@ def plan_for_many_keys(most: SupportsIndex, seats: SupportsIndex) -> dict:
     """What a map for so many keys, MANY_KEYS at most, is opened with."""
     stripes = min(word(seats, 32), MANY_STRIPES)
     return {"exponents": exponents_for_many_keys(most), "stripes": stripes, "reprobes": MANY_REPROBES, "chunk": MANY_CHUNK}
+
+
+def plan_for_churn(live: SupportsIndex, ever: SupportsIndex, seats: SupportsIndex) -> dict:
+    """What a map for keys that come and go is opened with."""
+    stripes = min(word(seats, 32), MANY_STRIPES)
+    return {"exponents": exponents_for_churn(live, ever), "stripes": stripes, "reprobes": 2**32 - 1, "chunk": 64}

@@ -62,6 +62,32 @@ impl Shape {
         })
     }
 
+    /// Tables for keys that come and go: at most `live` keys at a time, and `ever` of them in all. Each coming counts, also
+    /// that of a key that was there before. All tables have one size, from 512 slots on, and at least two slots for each
+    /// live key. When one is full the map grows into the next, and leaves the removed keys behind: so the first has `size`
+    /// slots for new keys, and each later one `size - live`. Together they have room for half as many keys again as `ever`.
+    ///
+    /// That so many keys come before a map refuses one as full was measured and isn't proved. It holds where keys are spread,
+    /// as mixed ones are. There is no reprobe limit, and no more than 16 stripes. `None` where 16 tables of 2^26 slots are
+    /// too few: there may be 2^25 live keys, and with few at a time 715 million in all.
+    pub fn for_churn(live: u64, ever: u64, seats: u32) -> Option<Shape> {
+        if live.max(ever) > sys::MAX_SLOTS {
+            return None;
+        }
+        let wanted = ever + ever / 2;
+        let room = |size: u64, tables: usize| size + (tables as u64 - 1) * (size - live);
+        let suits = |size: u64| size >= 2 * live && room(size, sys::MAX_TABLES) >= wanted;
+        let exponent = (sys::CHURN_LEAST..=sys::CHURN_GREATEST).find(|e| suits(1 << e))?;
+        let tables = (1..sys::MAX_TABLES).find(|n| room(1 << exponent, *n) >= wanted);
+        Some(Shape {
+            exponents: vec![exponent; tables.unwrap_or(sys::MAX_TABLES)],
+            seats,
+            stripes: seats.min(sys::MANY_STRIPES),
+            reprobes: u32::MAX,
+            chunk: 64,
+        })
+    }
+
     pub(crate) fn in_c(&self) -> Result<sys::Shape, Fault> {
         if self.exponents.len() > sys::MAX_TABLES {
             return Err(Fault::Tables);

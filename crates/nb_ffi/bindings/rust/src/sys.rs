@@ -27,6 +27,13 @@ pub const MANY_STRIPES: u32 = 16;
 pub const MANY_REPROBES: u32 = 18;
 pub const MANY_CHUNK: u32 = 256;
 
+/// The least and the greatest exponent of [`Shape::for_churn`](crate::Shape::for_churn).
+pub const CHURN_LEAST: u32 = 9;
+pub const CHURN_GREATEST: u32 = 26;
+
+/// The most slots of all tables together.
+pub const MAX_SLOTS: u64 = 1 << 30;
+
 pub const MAX_TABLES: usize = 16;
 pub const PRESENT: i32 = 1;
 

@@ -68,6 +68,9 @@ fn calls_and_refusals() {
     assert_eq!(refused.seat.close().unwrap().size(), 0);
     assert!(Shape::for_keys(1 << 20, 1).is_none());
     assert!(Shape::for_many_keys(1 << 28, 1).is_none());
+    assert!(Shape::for_churn((1 << 25) + 1, 0, 1).is_none());
+    assert!(Shape::for_churn(0, 715_827_884, 1).is_none());
+    assert!(Shape::for_churn(u64::MAX, u64::MAX, 1).is_none());
     let falling = Shape { exponents: vec![5, 4], ..Shape::for_keys(10, 1).unwrap() };
     assert_eq!(Seat::open(&falling).err(), Some(Fault::Falling));
     let too_large = Shape { exponents: vec![2, 28, 28, 28, 28], ..falling };
@@ -99,6 +102,35 @@ fn shapes_for_keys() {
         assert_eq!((shape.seats, shape.stripes), (17, 16));
         assert_eq!((shape.reprobes, shape.chunk), (18, 256));
     }
+}
+
+#[test]
+fn shapes_for_churn() {
+    for (live, ever, exponents) in [
+        (0, 0, vec![9]),
+        (1, 341, vec![9]),
+        (1, 342, vec![9; 2]),
+        (256, 2901, vec![9; 16]),
+        (256, 2902, vec![10; 6]),
+        (257, 682, vec![10]),
+        (10_000, 1_000_000, vec![17; 13]),
+        (1 << 25, 380_283_563, vec![26; 16]),
+        (0, 715_827_883, vec![26; 16]),
+    ] {
+        let shape = Shape::for_churn(live, ever, 17).unwrap();
+        assert_eq!(shape.exponents, exponents, "for {live} of {ever} keys");
+        assert_eq!((shape.seats, shape.stripes), (17, 16));
+        assert_eq!((shape.reprobes, shape.chunk), (u32::MAX, 64));
+    }
+    let shape = Shape::for_churn(100, 1024, 1).unwrap();
+    let mut seat = Seat::open_with(&shape, Keys::Mixed).unwrap();
+    for key in 0..1024 {
+        if key >= 100 {
+            assert_eq!(seat.remove(key - 100), Ok(Some(key - 100)));
+        }
+        assert_eq!(seat.put(key, key), Ok(None), "key {key}");
+    }
+    assert!(seat.generation() > 0);
 }
 
 #[test]
