@@ -4,7 +4,7 @@ from __future__ import annotations
 
 import itertools
 import threading
-from collections.abc import Iterable, Iterator
+from collections.abc import Callable, Iterable, Iterator
 from ctypes import byref, c_uint64, c_void_p
 from typing import Any, SupportsIndex, overload
 
@@ -63,7 +63,7 @@ class Seat(Calls):
         """A new map with room to spare for so many keys, MANY_KEYS at most. It begins with a small table."""
         return cls.open(seats=seats, mixed=mixed, **plan_for_many_keys(most, seats))
 
-    def _reach(self, function: Any, *words: Any) -> int:
+    def _reach(self, function: Callable[..., int], *words: Any) -> int:
         with self._lock:
             if not self._handle:
                 raise ValueError("the seat is empty")
@@ -160,7 +160,7 @@ class Ended:
         self._mixed = mixed
         self._thread = threading.get_ident()
 
-    def _reach(self, function: Any, *words: Any) -> int:
+    def _reach(self, function: Callable[..., int], *words: Any) -> int:
         if threading.get_ident() != self._thread:
             raise ValueError("an ended map stays on its thread")
         if not self._handle:
