@@ -31,9 +31,10 @@ if [ -n "$old" ]; then
     "${old#* }/bin/javac" --add-modules jdk.incubator.foreign -nowarn -d "$made/base" "$here"/samvolip/*.java "$here"/java17/samvolip/*.java \
         2> "$made/told" || { cat "$made/told" >&2; exit 1; }
     if [ -n "$new" ]; then
+        # all of it against Java 22's API, although Native alone is another class than Java 17's
         mkdir "$made/new"
-        "${new#* }/bin/javac" --release 22 -cp "$made/base" -d "$made/new" "$here"/java22/samvolip/*.java
-        more=(--release 22 -C "$made/new" .)
+        "${new#* }/bin/javac" --release 22 -d "$made/new" "$here"/samvolip/*.java "$here"/java22/samvolip/*.java
+        more=(--release 22 -C "$made/new" samvolip/Native.class)
     fi
 else
     "${new#* }/bin/javac" --release 22 -d "$made/base" "$here"/samvolip/*.java "$here"/java22/samvolip/*.java

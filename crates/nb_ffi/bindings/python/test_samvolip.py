@@ -2,7 +2,11 @@
 
 The four are want of memory, a contended write, an array that is too small, and a map that was given up while it was closed: no
 call of the package brings one of them about for sure. The programs of docs/python.md run, too.
+
+Where a call is wrong on purpose, a comment says what mypy calls it: mypy has to refuse it there.
 """
+
+from __future__ import annotations
 
 import gc
 import os
@@ -109,7 +113,7 @@ def adds(seat, found):
 def one_seat():
     """Two threads call with one seat at once: each call has the seat to itself, and the sum is right."""
     seat = Seat.open(exponents_for_keys(10))
-    found = [], []
+    found: tuple[list[int], list[int]] = [], []
     library = samvolip.library.put_if_match
     samvolip.library.put_if_match = alone(library)
     run_all([threading.Thread(target=adds, args=(seat, mine)) for mine in found])
@@ -139,7 +143,12 @@ def calls():
     assert told(seat.get, -1) == "-1 isn't from 0 to 2^64 - 1"
     assert told(seat.put, 1, 2**64) == "18446744073709551616 isn't from 0 to 2^64 - 1"
     assert told(seat.put_if_match, 1, Want.ANY, Change.PUT, 0, 0, -1) == "-1 isn't from 0 to 2^32 - 1"
-    for call in (lambda: seat.get("a"), lambda: seat.put(1, 1.5), lambda: seat.put_if_match(1, None, 0), lambda: seat.add(None, 1)):
+    for call in (
+        lambda: seat.get("a"),  # type: ignore[call-overload]
+        lambda: seat.put(1, 1.5),  # type: ignore[arg-type]
+        lambda: seat.put_if_match(1, None, 0),  # type: ignore[arg-type]
+        lambda: seat.add(None, 1),  # type: ignore[arg-type]
+    ):
         assert "integer" in told(call)
     seat.free()
     seat.free()
@@ -152,7 +161,7 @@ def broken_shapes():
     for live, ever in [(0, 715827884), (2**25, 380283564), (2**25 + 1, 0), (2**64 - 1, 1), (1, 2**64 - 1)]:
         assert refused(exponents_for_churn, live, ever) == Code.E_TABLES
     assert told(exponents_for_churn, -1, 1) == told(exponents_for_churn, 1, -1) == "-1 isn't from 0 to 2^64 - 1"
-    for code, exponents, named in [
+    broken: list[tuple[Code, list[int], dict[str, int]]] = [
         (Code.E_TABLES, [], {}),
         (Code.E_TABLES, [4] * 17, {}),
         (Code.E_EXPONENTS, [1], {}),
@@ -162,7 +171,8 @@ def broken_shapes():
         (Code.E_STRIPES, [4], {"stripes": 257}),
         (Code.E_REPROBES, [4], {"reprobes": 0}),
         (Code.E_CHUNK, [4], {"chunk": 2}),
-    ]:
+    ]
+    for code, exponents, named in broken:
         assert refused(Seat.open, exponents, **named) == code
     samvolip.library.HEADER.version += 1
     assert refused(Seat.open, [4]) == Code.E_VERSION
@@ -171,14 +181,13 @@ def broken_shapes():
         wrong = "4294967297 isn't from 0 to 2^32 - 1"
         assert told(opened, [2**32 + 1]) == told(opened, [4], 2**32 + 1) == told(opened, [4], 1, 2**32 + 1) == wrong
         assert told(opened, [4], 1, 1, 2**32 + 1) == told(opened, [4], 1, 1, 1, 2**32 + 1) == wrong
-    for kind in (Seat, Map):
-        for opened in (kind.for_keys, kind.for_many_keys):
-            assert told(opened, -1) == "-1 isn't from 0 to 2^64 - 1"
-            assert told(opened, 10, -1) == "-1 isn't from 0 to 2^32 - 1"
-            assert told(opened, 10, 2**32 + 1) == "4294967297 isn't from 0 to 2^32 - 1"
-            assert "integer" in told(opened, 10.0)
-            assert refused(opened, 2**30) == Code.E_TABLES
-            assert refused(opened, 10, 0) == Code.E_SEATS
+    for planned in (Seat.for_keys, Seat.for_many_keys, Map.for_keys, Map.for_many_keys):
+        assert told(planned, -1) == "-1 isn't from 0 to 2^64 - 1"
+        assert told(planned, 10, -1) == "-1 isn't from 0 to 2^32 - 1"
+        assert told(planned, 10, 2**32 + 1) == "4294967297 isn't from 0 to 2^32 - 1"
+        assert "integer" in told(planned, 10.0)
+        assert refused(planned, 2**30) == Code.E_TABLES
+        assert refused(planned, 10, 0) == Code.E_SEATS
 
 
 def grows():
@@ -291,7 +300,7 @@ def like_a_dict():
         del one[1]
         assert 1 not in one and told(one.__delitem__, 1) == "1"
         assert told(one.pop, 1, 2, 3) == "pop takes one default at most"
-        assert one.compute(3, lambda number: number + 1) == 5 and one.compute(3, lambda number: None) is None and 3 not in one
+        assert one.compute(3, lambda number: (number or 0) + 1) == 5 and one.compute(3, lambda number: None) is None and 3 not in one
         assert one.compute(3, lambda number: 1 if number is None else 0) == 1 and one.compute(4, lambda number: None) is None
     with Seat.for_keys(10) as seat:
         assert re.fullmatch(r"<samvolip.Seat of map \d+, about 0 keys, mixed>", repr(seat))
@@ -331,7 +340,8 @@ def mixing():
     assert told(mix, 2**64) == told(unmix, 2**64) == "18446744073709551616 isn't from 0 to 2^64 - 1"
     numbers = [0, 1, 2, 131072, 1504646209777642070, 5863696168926310861, KEY_MAX]
     for mixed in (True, False):
-        for one in (Seat.for_keys(100, mixed=mixed), Map.for_keys(100, mixed=mixed)):
+        both: list[Seat | Map] = [Seat.for_keys(100, mixed=mixed), Map.for_keys(100, mixed=mixed)]
+        for one in both:
             for number in numbers:
                 assert one.put(number, 5) is None and one.get(number) == 5
             assert sorted(one) == numbers

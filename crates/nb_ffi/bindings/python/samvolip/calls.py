@@ -30,10 +30,12 @@ class Calls:
     def __init__(self, mixed: bool) -> None:
         """With keys that are mixed, or with keys as they are."""
         self.mixed = bool(mixed)
-        self._key = key_of if mixed else word
-        self._number = number_of if mixed else same
+        self._key: Callable[[SupportsIndex], int] = word
+        self._number: Callable[[int], int] = same
+        if mixed:
+            self._key, self._number = key_of, number_of
 
-    def _reach(self, function: Any, *words: Any) -> int:
+    def _reach(self, function: Callable[..., int], *words: Any) -> int:
         """Makes a call of the library with the handle."""
         raise NotImplementedError
 
@@ -129,7 +131,7 @@ class Calls:
                 made(code)
                 return reply
 
-    def _tried(self, function: Any, key: SupportsIndex, *numbers: int) -> int | None:
+    def _tried(self, function: Callable[..., int], key: SupportsIndex, *numbers: int) -> int | None:
         """What a write by its name found. It is made again as long as it is contended."""
         before = c_uint64()
         key = self._key(key)
@@ -189,7 +191,7 @@ class Calls:
         found = self.put_if_absent(key, number)
         return word(number) if found is None else found
 
-    def update(self, pairs: Mapping[int, int] | Iterable[tuple[int, int]]) -> None:
+    def update(self, pairs: Mapping[int, int] | Calls | Iterable[tuple[int, int]]) -> None:
         """Puts the numbers of another mapping, or of pairs, one after another. Each put is a call of its own."""
         for key, number in pairs.items() if isinstance(pairs, (Mapping, Calls)) else pairs:
             self.put(key, number)

@@ -4,7 +4,7 @@ from __future__ import annotations
 
 import collections
 import threading
-from collections.abc import Iterable, Iterator
+from collections.abc import Callable, Iterable, Iterator
 from ctypes import c_uint64
 from typing import Any, SupportsIndex
 
@@ -159,7 +159,7 @@ class Map(Calls):
         lease = self._local.lease = _Lease(self._pool.take())
         return lease
 
-    def _reach(self, function: Any, *words: Any) -> int:
+    def _reach(self, function: Callable[..., int], *words: Any) -> int:
         return function((self._local.lease or self._begin()).handle, *words)
 
     @property

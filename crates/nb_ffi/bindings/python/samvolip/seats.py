@@ -4,7 +4,7 @@ from __future__ import annotations
 
 import itertools
 import threading
-from collections.abc import Iterable, Iterator
+from collections.abc import Callable, Iterable, Iterator
 from ctypes import byref, c_uint64, c_void_p
 from typing import Any, SupportsIndex, overload
 
@@ -68,7 +68,7 @@ class Seat(Calls):
         """A new map for keys that come and go: at most `live` keys at a time, and `ever` of them in all."""
         return cls.open(seats=seats, mixed=mixed, **plan_for_churn(live, ever, seats))
 
-    def _reach(self, function: Any, *words: Any) -> int:
+    def _reach(self, function: Callable[..., int], *words: Any) -> int:
         with self._lock:
             if not self._handle:
                 raise ValueError("the seat is empty")
@@ -165,7 +165,7 @@ class Ended:
         self._mixed = mixed
         self._thread = threading.get_ident()
 
-    def _reach(self, function: Any, *words: Any) -> int:
+    def _reach(self, function: Callable[..., int], *words: Any) -> int:
         if threading.get_ident() != self._thread:
             raise ValueError("an ended map stays on its thread")
         if not self._handle:

@@ -3,7 +3,7 @@
 from __future__ import annotations
 
 from collections.abc import Iterable
-from typing import SupportsIndex
+from typing import Any, SupportsIndex
 
 from . import library
 from .codes import (
@@ -81,12 +81,12 @@ def shape_of(
     return shape
 
 
-def plan_for_keys(most: SupportsIndex) -> dict:
+def plan_for_keys(most: SupportsIndex) -> dict[str, Any]:
     """What a map for so many keys, MOST_KEYS at most, is opened with."""
     return {"exponents": exponents_for_keys(most), "reprobes": 18, "chunk": 64}
 
 
-def plan_for_many_keys(most: SupportsIndex, seats: SupportsIndex) -> dict:
+def plan_for_many_keys(most: SupportsIndex, seats: SupportsIndex) -> dict[str, Any]:
     """What a map for so many keys, MANY_KEYS at most, is opened with."""
     stripes = min(word(seats, 32), MANY_STRIPES)
     return {"exponents": exponents_for_many_keys(most), "stripes": stripes, "reprobes": MANY_REPROBES, "chunk": MANY_CHUNK}

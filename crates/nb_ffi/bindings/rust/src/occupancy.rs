@@ -6,7 +6,9 @@
 pub struct Occupancy {
     /// Whether the table is the map's last one. If not, the map grows in time.
     pub is_last: bool,
+    /// How many slots were looked at.
     pub looked: u32,
+    /// How many of these are taken.
     pub taken: u32,
 }
 

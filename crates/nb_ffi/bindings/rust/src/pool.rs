@@ -105,8 +105,23 @@ impl Pool {
         &self.slots[index]
     }
 
+    #[cfg(not(samvolip_tsan))]
     fn lock(&self) -> MutexGuard<'_, State> {
         self.state.lock().unwrap_or_else(PoisonError::into_inner)
+    }
+
+    /// The same by turns of `try_lock`, all of which is compiled here. Who waits in `lock` gets the lock in compiled code of
+    /// std, where the thread sanitizer sees nothing.
+    #[cfg(samvolip_tsan)]
+    fn lock(&self) -> MutexGuard<'_, State> {
+        use std::sync::TryLockError;
+        loop {
+            match self.state.try_lock() {
+                Ok(state) => return state,
+                Err(TryLockError::Poisoned(poisoned)) => return PoisonError::into_inner(poisoned),
+                Err(TryLockError::WouldBlock) => std::thread::yield_now(),
+            }
+        }
     }
 
     /// Claims a slot with a seat: one that was freed, or a new one.
@@ -255,6 +270,15 @@ impl Pool {
             self.free(own.index);
         }
         Ok(())
+    }
+}
+
+/// Who drops the last `Arc` of a pool comes after all who had one, by a fence. The thread sanitizer sees no fences, so for it
+/// they come in turn by the lock, too.
+#[cfg(samvolip_tsan)]
+impl Drop for Pool {
+    fn drop(&mut self) {
+        drop(self.lock());
     }
 }
 

@@ -1,6 +1,6 @@
 //! A map that any thread may call: eight threads and growth, seats that come and go with threads, and each call.
 
-use samvolip::{Change, Fault, Keys, Map, Seat, Shape, Want, KEY_MAX, MANY_KEYS, VALUE_MAX};
+use samvolip::{Change, Ended, Fault, Keys, Map, Seat, Shape, Want, KEY_MAX, MANY_KEYS, VALUE_MAX};
 use std::collections::BTreeMap;
 use std::error::Error;
 use std::mem;
@@ -24,6 +24,15 @@ fn caller(map: &Arc<Map>) -> (Sender<()>, JoinHandle<Result<Option<u64>, Fault>>
     (end, thread)
 }
 
+/// Runs this in so many threads at once, with a number for each, and waits until they have ended.
+fn in_threads(count: u64, work: impl Fn(u64) + Sync) {
+    let work = &work;
+    thread::scope(|scope| {
+        let threads: Vec<_> = (0..count).map(|number| scope.spawn(move || work(number))).collect();
+        threads.into_iter().for_each(|thread| thread.join().unwrap());
+    });
+}
+
 #[test]
 fn eight_threads_and_growth() {
     // plain keys that share their low bits would be slow
@@ -31,21 +40,16 @@ fn eight_threads_and_growth() {
         let shape = Shape { exponents: vec![3, 5, 7, 9, 11, 13], ..Shape::for_keys(5000, 8).unwrap() };
         let map = Map::open_with(&shape, keys).unwrap();
         let start = Barrier::new(8);
-        thread::scope(|scope| {
-            for number in 0..8 {
-                let (map, start) = (&map, &start);
-                scope.spawn(move || {
-                    start.wait();
-                    for i in 0..40_000 {
-                        let key = (i * 7 + number * 625) % 5000 * step;
-                        map.add(key, 1).unwrap();
-                        assert!(map.get(key).unwrap().is_some());
-                        if i % 10_000 == 0 {
-                            let shown: BTreeMap<_, _> = map.iter().unwrap().collect();
-                            assert!(shown.keys().all(|key| key % step == 0 && *key < 5000 * step));
-                        }
-                    }
-                });
+        in_threads(8, |number| {
+            start.wait();
+            for i in 0..40_000 {
+                let key = (i * 7 + number * 625) % 5000 * step;
+                map.add(key, 1).unwrap();
+                assert!(map.get(key).unwrap().is_some());
+                if i % 10_000 == 0 {
+                    let shown: BTreeMap<_, _> = map.iter().unwrap().collect();
+                    assert!(shown.keys().all(|key| key % step == 0 && *key < 5000 * step));
+                }
             }
         });
         let ended = map.close().unwrap();
@@ -87,14 +91,15 @@ fn all_seats_taken() {
     drop(first.0);
     assert_eq!(first.1.join().unwrap(), Ok(None));
     assert_eq!(map.put(1, 2), Ok(None));
-    drop(second);
+    drop(second.0);
+    assert_eq!(second.1.join().unwrap(), Ok(None));
 }
 
 /// Sixteen threads at four seats: each takes one, calls and gives it back, again and again.
 #[test]
 fn more_threads_than_seats() {
     let map = Map::for_keys(100, 4).unwrap();
-    let adds = || {
+    in_threads(16, |_| {
         let mut made = 0;
         while made < 500 {
             match map.add(7, 1) {
@@ -107,11 +112,6 @@ fn more_threads_than_seats() {
                     thread::yield_now();
                 }
             }
-        }
-    };
-    thread::scope(|scope| {
-        for _ in 0..16 {
-            scope.spawn(adds);
         }
     });
     assert_eq!(map.try_close().unwrap().get(7), Ok(Some(8000)));
@@ -168,6 +168,46 @@ fn close_by_its_owner() {
     assert_eq!(ended.entries().unwrap(), [(1, 5)]);
     drop(end);
     assert_eq!(thread.join().unwrap(), Ok(Some(5)));
+}
+
+/// Threads give their seats back while the map is closed, by its owner or by one who shares it.
+#[test]
+fn close_while_threads_end() {
+    for round in 0..200 {
+        let map = Arc::new(Map::for_keys(100, 4).unwrap());
+        let (done, calls_done) = channel();
+        let threads: Vec<_> = (0..4)
+            .map(|key| {
+                let (map, done) = (Arc::clone(&map), done.clone());
+                thread::spawn(move || {
+                    map.add(key, 1).unwrap();
+                    drop(map);
+                    done.send(()).unwrap(); // its seat goes back after this
+                })
+            })
+            .collect();
+        assert_eq!(calls_done.iter().take(4).count(), 4);
+        let ended = if round % 2 == 0 {
+            Arc::into_inner(map).unwrap().close().unwrap()
+        } else {
+            close_in_time(&map)
+        };
+        assert_eq!(ended.entries().unwrap(), [(0, 1), (1, 1), (2, 1), (3, 1)]);
+        for thread in threads {
+            thread.join().unwrap();
+        }
+    }
+}
+
+/// What is left of a map, as soon as no other thread has a seat.
+fn close_in_time(map: &Map) -> Ended {
+    loop {
+        match map.try_close() {
+            Ok(ended) => return ended,
+            Err(fault) => assert!(matches!(fault, Fault::SeatsOut { .. }), "{fault}"),
+        }
+        thread::yield_now();
+    }
 }
 
 /// A map may go before the threads that called it, and a thread may call many.
@@ -234,9 +274,7 @@ fn walks() {
     for &(key, number) in &shown {
         assert_eq!(map.get(key), Ok(Some(number)));
     }
-    thread::scope(|scope| {
-        scope.spawn(|| assert_eq!(map.iter().unwrap().count(), 1000));
-    });
+    in_threads(1, |_| assert_eq!(map.iter().unwrap().count(), 1000));
     shown.extend(&mut walk);
     assert_eq!(walk.next(), None);
     shown.sort();
@@ -302,7 +340,7 @@ fn seats_beside() {
     assert_eq!(seat.walk().collect::<Vec<_>>(), [(1, 6)]);
     thread::scope(|scope| {
         let mut other = map.seat().unwrap();
-        scope.spawn(move || assert_eq!(other.add(1, 1), Ok(Some(6))));
+        scope.spawn(move || assert_eq!(other.add(1, 1), Ok(Some(6)))).join().unwrap();
     });
     assert_eq!(map.get(1), Ok(Some(7)));
     drop(seat);
