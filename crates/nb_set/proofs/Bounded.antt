@@ -3,7 +3,6 @@
 use Rattle.std.proofs.Common.{◌≡◌, ◌∙◌, ℕ, ◌+◌, ◌-◌, ◌*◌, ◌≤◌, Bool, true, List, [], ◌∷◌, ◌++◌, Ok, Option, Some, None, length, sum_by, ap, refl, sym, subst, subst₂, arith}
 use Rattle.std.specs.List.{All}
 use Rattle.std.proofs.Math.Nat.{mul-le-mul_right}
-use Rattle.std.proofs.lemmas.List.{append_assoc}
 use Rattle.std.proofs.lemmas.List.Sums.{sum_by-cons}
 use Rattle.std.proofs.lemmas.List.Elements.{All-head, All-tail}
 use Rattle.nb_core.proofs.Theorems.{passed_over_adds}
@@ -12,7 +11,6 @@ use Rattle.nb_core.specs.Meaning.{passed_over}
 use Rattle.nb_core.specs.Plans.{Plan, generations_of, size_of}
 use Rattle.nb_core.specs.declared.calls.Call as map_call
 use Rattle.nb_core.specs.declared.events.Event.{Event}
-use Rattle.nb_map.specs.Bulk.{walk_steps}
 use Rattle.nb_map.specs.Progress.{passed_since}
 use Rattle.nb_map.specs.Steps.{get_steps, put_steps, slots_ahead, slots_below}
 use Rattle.nb_map.specs.declared.steps.walk.Place.{Place}
@@ -22,15 +20,15 @@ use Rattle.nb_set.specs.Log.{Add, Call, Contains, Remove}
 use Rattle.nb_set.specs.OfMap.{call_for}
 use Rattle.nb_set.specs.Promises.{HasBegunWalk, HasWalkedOn, HasWritten}
 use Rattle.nb_set.specs.Sets.{HasWorked, SeatOf, SetOf, shape_of, steps_of}
-use Rattle.nb_set.specs.Walks.{IsLater, IsMiss, WalkOf, slots_before, walking_steps}
+use Rattle.nb_set.specs.Walks.{IsLater, IsMiss, WalkOf, slots_before}
 
 -- ---- one call
 
 -- it has made no more steps than it may
 worked-steps :
-    {set : SetOf} {call : Call} {before after : SeatOf} {most : ℕ}
+    (set : SetOf) (call : Call) {before after : SeatOf} {most : ℕ}
     → HasWorked set call before after most → steps_of after ≤ steps_of before + most
-worked-steps worked =
+worked-steps set call worked =
     let made = worked.steps.1 in
     omega (arith, made.grown.steps, made.few)
 
@@ -155,16 +153,16 @@ module _ (set : SetOf) (before : SeatOf) where
 
   -- it goes on
   far-walked :
-      {now after : SeatOf} {walk walk' : WalkOf} {next : Option ℕ} {calls : List (Call × Bool)}
+      {now after : SeatOf} {walk walk' : WalkOf} {next : Option ℕ} (calls : List (Call × Bool))
       → IsLater before now → IsLater now after → slots_before set walk' ≤ slots_before set walk
       → (on : HasWalkedOn set now after walk walk' next)
       → steps_of now ≤ steps_of before + far_steps now walk calls
       → steps_of after ≤ steps_of before + far_steps after walk' (on.asked.misses ++ calls)
-  far-walked {now} {after} {walk} {walk'} {calls = calls} a b down on short =
+  far-walked {now} {after} {walk} {walk'} calls a b down on short =
       omega (
         arith,
         short,
-        worked-steps (on.worked 0),
+        worked-steps set (Contains 0) (on.worked 0),
         way slots (slots_before set walk) (slots_before set walk') each down
             (ahead-within (shape_of set) walk.map.place),
         removals-grow a b calls,
@@ -173,32 +171,32 @@ module _ (set : SetOf) (before : SeatOf) where
 
   -- it has shown a key,
   pub far-shown :
-      {now after : SeatOf} {walk walk' : WalkOf} {k : ℕ} {calls : List (Call × Bool)}
+      {now after : SeatOf} {walk walk' : WalkOf} {k : ℕ} (calls : List (Call × Bool))
       → IsLater before now → IsLater now after
       → (on : HasWalkedOn set now after walk walk' (Some k))
       → steps_of now ≤ steps_of before + far_steps now walk calls
       → steps_of after
       ≤ steps_of before + far_steps after walk' ((Contains k, true) ∷ (on.asked.misses ++ calls))
-  far-shown {after = after} {walk = walk} {walk'} {k} {calls} a b on short =
+  far-shown {after = after} {walk = walk} {walk'} {k} calls a b on short =
       let down : slots_before set walk' ≤ slots_before set walk = omega (arith, on.ahead) in
       omega (
         arith,
-        far-walked a b down on short,
+        far-walked calls a b down on short,
         removals-more after (Contains k, true) (on.asked.misses ++ calls),
       )
 
   -- and taken it out
   pub far-removed :
-      {now after : SeatOf} {walk : WalkOf} {k : ℕ} {went : Bool} {calls : List (Call × Bool)}
+      {now after : SeatOf} {k : ℕ} {went : Bool} (walk : WalkOf) (calls : List (Call × Bool))
       → IsLater before now → IsLater now after → HasWritten set (Remove k) now after (Ok went)
       → steps_of now ≤ steps_of before + far_steps now walk calls
       → steps_of after ≤ steps_of before + far_steps after walk ((Remove k, went) ∷ calls)
-  far-removed {now} {after} {walk} {k} {went} {calls} a b wrote short =
+  far-removed {now} {after} {k} {went} walk calls a b wrote short =
       let sum = passed-sum (call_for (Remove k)) a b in
       omega (
         arith,
         short,
-        worked-steps wrote.lock_free,
+        worked-steps set (Remove k) wrote.lock_free,
         put-more (shape_of set)
             (passed_since (call_for (Remove k)) now.map.chain after.map.chain + 1)
             (passed_since (call_for (Remove k)) before.map.chain after.map.chain + 1)
@@ -209,14 +207,15 @@ module _ (set : SetOf) (before : SeatOf) where
 
   -- it is at its end
   pub far-ended :
-      {now after : SeatOf} {walk walk' : WalkOf} {calls : List (Call × Bool)}
+      {now after : SeatOf} {walk walk' : WalkOf} (calls : List (Call × Bool))
       → IsLater before now → IsLater now after
       → (on : HasWalkedOn set now after walk walk' None)
       → steps_of now ≤ steps_of before + far_steps now walk calls
       → steps_of after
       ≤ steps_of before + sweep_steps set before after (on.asked.misses ++ calls)
-  far-ended {now} {after} {walk} {walk'} {calls} a b on short =
+  far-ended {now} {after} {walk} {walk'} calls a b on short =
       let end : slots_before set walk' ≡ 0 = ap (slots_ahead (shape_of set)) (on.ended refl) in
-      let all : (slots - slots_before set walk') * each ≡ slots * each =
-      ap (λ n. n * each) (omega (arith, end)) in
-      omega (arith, far-walked a b (omega (arith, end)) on short, all)
+      let same : slots - slots_before set walk' ≡ slots = omega (arith, end) in
+      let all : (slots - slots_before set walk') * each ≡ slots * each = ap (λ n. n * each) same in
+      let down : slots_before set walk' ≤ slots_before set walk = omega (arith, end) in
+      omega (arith, far-walked calls a b down on short, all)

@@ -1,5 +1,5 @@
 -- A map that has entries from the start, as a set that has keys from the start.
-use Rattle.std.proofs.Common.{◌≡◌, ◌∙◌, ℕ, ◌+◌, ◌≤◌, ◌||◌, Bool, true, false, List, [], ◌∷◌, ◌++◌, length, map, reverse, All, is_some, ap, sym, subst, refl, inl, inr, ◌⊎◌, arith}
+use Rattle.std.proofs.Common.{◌≡◌, ◌∙◌, ℕ, ◌≤◌, ◌||◌, Bool, true, false, List, [], ◌∷◌, length, map, reverse, All, is_some, ap, sym, subst, refl, inl, inr, arith}
 use Rattle.std.specs.FinMap as numbers
 use Rattle.std.specs.FinMap.{contains_key, from_entries, get-empty}
 use Rattle.std.specs.List.{list_any}
@@ -9,9 +9,8 @@ use Rattle.std.proofs.lemmas.List.Elements.{All-map, All-weaker}
 use Rattle.std.proofs.lemmas.List.Folds.{list_any-append}
 use Rattle.std.proofs.lemmas.List.FromFn.{length-range_with_len}
 use mathlib.Core.List.{map-map}
-use Rattle.nb_core.specs.History.{key_of_call}
-use Rattle.nb_core.specs.Log.{Numbers, map_of_log}
-use Rattle.nb_core.specs.Plans.{Plan, generations_of, size_of}
+use Rattle.nb_core.specs.Log.{Numbers}
+use Rattle.nb_core.specs.Plans.{Plan}
 use Rattle.nb_core.specs.Tables.{tables_at}
 use Rattle.nb_core.specs.declared.calls.Call as map_call
 use Rattle.nb_core.specs.declared.events.Event.{Event}
@@ -77,6 +76,14 @@ pub too-small :
     (p : Plan) (keys : Keys) (m : Numbers) → AreKeys keys m → of_map.IsTooSmallFor p m
     → IsTooSmallFor p keys
 too-small p keys m are small = omega (arith, small, len-is keys m are)
+
+-- the same, of keys and their entries
+pub too-many :
+    (p : Plan) (ks : List ℕ) (es : List (ℕ × ℕ)) → es ≡ map entry_of ks
+    → of_map.IsTooSmallFor p (map_of_entries es) → IsTooSmallFor p (set_of_keys ks)
+too-many p ks es are small =
+    too-small p (set_of_keys ks) (map_of_entries (map entry_of ks)) (keys-as ks)
+    (subst (λ es. of_map.IsTooSmallFor p (map_of_entries es)) are small)
 
 -- ---- what its seats have claimed
 

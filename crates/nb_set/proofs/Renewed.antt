@@ -1,7 +1,6 @@
 -- A map made anew, as a set made anew.
-use Rattle.std.proofs.Common.{◌≡◌, ◌∙◌, ℕ, ◌+◌, ◌≤◌, Bool, List, [], ◌∷◌, Result, Ok, Err, IfErr, IfOk, length, map, All, is_some, ap, sym, subst, refl, inl, inr, ◌⊎◌, arith}
+use Rattle.std.proofs.Common.{◌≡◌, ◌∙◌, ℕ, ◌≤◌, List, [], ◌∷◌, Result, Ok, Err, IfErr, IfOk, length, map, All, is_some, ap, sym, subst, inl, inr, arith}
 use Rattle.std.specs.List.{AllZip}
-use Rattle.std.proofs.lemmas.List.{length-map}
 use Rattle.std.proofs.lemmas.List.Elements.{All-cons, All-head, All-map, All-nil, All-tail, All-weaker, length_all_zip}
 use Rattle.nb_core.specs.Plans.{Plan}
 use Rattle.nb_core.specs.declared.calls.Call as map_call
@@ -145,14 +144,14 @@ all-fit p most before after (Err fault) fits few small renewed kept =
       | inl same ↦
           subst (λ xs. (length xs ≤ most) × All (IsSmall most) xs) (sym same) (few, small)
       | inr each ↦ (
-          omega (
-            arith,
-            few,
-            length_all_zip (λ old new. of_map.IsKept old new (walk_steps old.map.chain.shape)) before
-                after each,
-          ),
-          small-kept most before after small each,
-        )
+        omega (
+          arith,
+          few,
+          length_all_zip (λ old new. of_map.IsKept old new (walk_steps old.map.chain.shape)) before
+              after each,
+        ),
+        small-kept most before after small each,
+      )
     ]
 
 -- the handles of a set of which all are there are of a map with as many seats

@@ -71,11 +71,12 @@ module _ {F : Type 0} {set : SetOf} {Step : F → (k : ℕ) → Bool → F → T
       → HasSwept set Step before first now walk calls shown f
       → steps_of now ≤ steps_of before + far_steps set before now walk calls
   swept-short (Begun began) = far-begun set before began
-  swept-short (Kept swept k g on step) =
-      far-shown set before (swept-later swept) (walked-later on) on (swept-short swept)
-  swept-short (Unwanted swept k g on step went wrote) =
-      far-removed set before (later-more (swept-later swept) (walked-later on)) (removed-later wrote)
-      wrote (far-shown set before (swept-later swept) (walked-later on) on (swept-short swept))
+  swept-short (Kept {calls = calls} swept k g on step) =
+      far-shown set before calls (swept-later swept) (walked-later on) on (swept-short swept)
+  swept-short (Unwanted {walk' = walk'} {calls} swept k g on step went wrote) =
+      far-removed set before walk' ((Contains k, true) ∷ (on.asked.misses ++ calls))
+      (later-more (swept-later swept) (walked-later on)) (removed-later wrote) wrote
+      (far-shown set before calls (swept-later swept) (walked-later on) on (swept-short swept))
 
   -- from the seat's log as it was
   swept-begun :
@@ -197,7 +198,7 @@ module _ {F : Type 0} {set : SetOf} {Step : F → (k : ℕ) → Bool → F → T
           }) till);
         };
         made = refl;
-        short = far-ended set before (swept-later sweep.swept)
+        short = far-ended set before sweep.calls (swept-later sweep.swept)
             (walk_lasts.later set (Contains 0) (on.worked 0)) on (swept-short sweep.swept);
         later = later-more (swept-later sweep.swept)
             (walk_lasts.later set (Contains 0) (on.worked 0));

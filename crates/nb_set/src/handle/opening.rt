@@ -73,9 +73,7 @@ impl Reserved {
         requires seats { All (λ handle. handle.map.chain.shape.seats ≤ self) maps.items }
         ensures { result.items ≡ map as_handle maps.items }
     {
-        let Reserved {
-            handles, rooms, ..
-        } = self;
+        let Reserved { handles, rooms, .. } = self;
         let mut handles = handles;
         let mut rooms = rooms;
         for map in maps {

@@ -81,7 +81,8 @@ fn opened_with_too_many(rt: HostRuntime) -> Result<(), Fail> {
 fn opened_with_what_is_left(rt: HostRuntime) -> Result<(), Fail> {
     let shape = Shape::new(2, 2, 2, 1)?;
     let left = closed(&rt, opened(&rt, rt.alloc(), shape, &[5, 3]));
-    let handles = Handle::open_with(rt.alloc(), shape, left.entries(rt.alloc())?.as_slice())?;
+    let keys = left.entries(rt.alloc())?;
+    let handles = Handle::open_with(rt.alloc(), shape, keys.as_slice())?;
     leave(&rt, rt.alloc(), handles, &[3, 5])
 }
 

@@ -1,4 +1,4 @@
-use Rattle.std.proofs.Common.{◌≡◌, ◌∙◌, ◌≤◌, All, ap, arith, length, map}
+use Rattle.std.proofs.Common.{◌∙◌, ◌≤◌, ap, arith, length, map}
 use Rattle.std.proofs.lemmas.List.Elements.{All-map, All-same, All-weaker}
 use Rattle.nb_map.specs.Maps as maps
 use Rattle.nb_set.specs.Handles.{as_handle}

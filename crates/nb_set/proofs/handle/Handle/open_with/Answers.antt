@@ -1,10 +1,11 @@
-use Rattle.std.proofs.Common.{◌≡◌, ◌∙◌, All, Err, ap, arith, length, map, subst, sym}
+use Rattle.std.proofs.Common.{◌≡◌, ◌∙◌, All, Err, arith, map, rules, subst, sym}
+use Rattle.std.proofs.lemmas.Grind.{common_steps}
 use Rattle.nb_map.specs.Opening as of_map
-use Rattle.nb_set.specs.Handles.{as_handle}
+use Rattle.nb_map.specs.declared.faults.OpenFault.TheVariants as fault
 use Rattle.nb_set.specs.OfMap.{entry_of}
 use Rattle.nb_set.specs.Opening.{BeginWith, set_of_keys}
 use Rattle.nb_set.specs.Sets.{SetOf}
-use Rattle.nb_set.proofs.Opened.{begin-as, handles-made, handles-shaped, keys-as, one-as, too-small}
+use Rattle.nb_set.proofs.Opened.{begin-as, handles-made, handles-shaped, keys-as, one-as, too-many}
 use Rattle.nb_set.proofs.handle.Handle.open_with.Goals as goal
 
 -- there is memory for as many handles as there are
@@ -42,3 +43,11 @@ returns-clause-one c =
       subst (All (λ handle. handle.set ≡ set)) (sym c.filled.ensures)
           (one-as c.in_ok-maps.maps.items m c.in_ok-maps.ensures.one.1),
     )
+
+pub returns-in_err-maps-clause-full : goal.returns-in_err-maps-clause-full
+returns-in_err-maps-clause-full c =
+    let small : c.from_residual-in_err-maps.result ≡ Err fault.Full
+    → of_map.IsTooSmallFor c.args.shape (of_map.map_of_entries c.as_slice.result.now)
+    = first_of (search rules, grind (arith, common_steps)) in
+    λ full. too-many c.args.shape c.args.keys.now c.as_slice.result.now
+    (c.as_slice.ensures.value ∙ c.in_ok-entries.ensures) (small full)

@@ -56,7 +56,7 @@ returns-clause-all c =
 pub returns-clause-renewed : goal.returns-clause-renewed
 returns-clause-renewed c =
     let before = c.args.handles.now.items in
-    let after = c.renew-renewed.new.maps.items in
+    let after = c.renew-renewed.new.handles.items in
     let p = c.args.shape in
     let maps = c.maps_in-maps.ensures ∙ ap (λ v. map on_map v.items) c.replace-given.ensures.value in
     IfOk-weaker c.renew-renewed.result _ (λ done. HaveRenewed p before c.filled.result.items)
@@ -70,7 +70,7 @@ returns-clause-one c =
     let set : SetOf = record { map = m } in (
       set,
       subst (All (λ handle. handle.set ≡ set)) (sym c.filled.ensures)
-          (one-as c.renew-renewed.new.maps.items m c.renew-renewed.ensures.one.1),
+          (one-as c.renew-renewed.new.handles.items m c.renew-renewed.ensures.one.1),
     )
 
 pub returns-clause-full : goal.returns-clause-full
@@ -82,7 +82,7 @@ returns-clause-full c = λ full.
 pub returns-clause-kept : goal.returns-clause-kept
 returns-clause-kept c =
     let before = c.args.handles.now.items in
-    let after = c.renew-renewed.new.maps.items in
+    let after = c.renew-renewed.new.handles.items in
     let maps = c.maps_in-maps.ensures ∙ ap (λ v. map on_map v.items) c.replace-given.ensures.value in
     IfErr-weaker c.renew-renewed.result _ (λ fault. AreKept before c.filled.result.items)
     (λ fault kept. subst (AreKept before) (sym c.filled.ensures)
@@ -100,7 +100,7 @@ returns-clause-back c = λ all.
 pub filled-requires : goal.filled-requires
 filled-requires c =
     let before = c.args.handles.now.items in
-    let after = c.renew-renewed.new.maps.items in
+    let after = c.renew-renewed.new.handles.items in
     let p = c.args.shape in
     let most = c.in-Ok.reserved in
     let at : Some c.in-Some.first.now ≡ slice_get before 0

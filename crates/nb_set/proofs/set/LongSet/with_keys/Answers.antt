@@ -1,10 +1,12 @@
-use Rattle.std.proofs.Common.{◌≡◌, ◌∙◌, ap, arith, length, map, subst, sym}
+use Rattle.std.proofs.Common.{◌≡◌, ◌∙◌, Err, arith, map, rules, subst, sym}
+use Rattle.std.proofs.lemmas.Grind.{common_steps}
 use Rattle.nb_map.specs.Opening as of_map
+use Rattle.nb_map.specs.declared.faults.OpenFault.TheVariants as fault
 use Rattle.nb_set.specs.OfMap.{entry_of}
 use Rattle.nb_set.specs.Opening.{HaveBegunWith, set_of_keys}
-use Rattle.nb_set.specs.Sets.{AreMine, SetOf, seat_on}
+use Rattle.nb_set.specs.Sets.{AreMine, SetOf}
 use Rattle.nb_set.proofs.Dealt.{mine-as}
-use Rattle.nb_set.proofs.Opened.{begun-as, keys-as, seats-made, too-small}
+use Rattle.nb_set.proofs.Opened.{begun-as, keys-as, seats-made, too-many}
 use Rattle.nb_set.proofs.set.LongSet.with_keys.Goals as goal
 
 -- the map's entries are those of the keys
@@ -33,3 +35,11 @@ pub returns-clause-own : goal.returns-clause-own
 returns-clause-own c =
     subst (AreMine (record { map = c.in_ok-map.map })) (sym c.put_on_set.ensures)
     (mine-as (record { map = c.in_ok-map.map }) c.in_ok-map.map_seats.items c.in_ok-map.ensures.own)
+
+pub returns-in_err-map-clause-full : goal.returns-in_err-map-clause-full
+returns-in_err-map-clause-full c =
+    let small : c.from_residual-in_err-map.result ≡ Err fault.Full
+    → of_map.IsTooSmallFor c.args.shape (of_map.map_of_entries c.as_slice.result.now)
+    = first_of (search rules, grind (arith, common_steps)) in
+    λ full. too-many c.args.shape c.args.keys.now c.as_slice.result.now
+    (c.as_slice.ensures.value ∙ c.in_ok-entries.ensures) (small full)

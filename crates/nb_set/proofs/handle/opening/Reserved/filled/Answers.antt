@@ -1,7 +1,7 @@
-use Rattle.std.proofs.Common.{◌≡◌, ◌∙◌, ◌≤◌, ℕ, All, Some, ap, arith, length, map, subst, sym}
+use Rattle.std.proofs.Common.{◌≡◌, ◌≤◌, ℕ, [], ◌∷◌, All, Some, ap, arith, length, length-append, map, refl, subst, sym}
 use Rattle.std.proofs.lemmas.List.{length-map}
 use Rattle.std.proofs.lemmas.List.Elements.{All-head, All-pop, All-same, All-tail}
-use Rattle.nb_core.proofs.Seating.{all-moved, moved-count, moved-more, none-moved}
+use Rattle.nb_core.proofs.Seating.{all-moved, moved-count, moved-more, none-left, none-moved}
 use Rattle.nb_map.specs.Handles as handles
 use Rattle.nb_set.specs.Handles.{as_handle}
 use Rattle.nb_set.specs.Inside.{IsRoom}
@@ -25,12 +25,14 @@ loop-map-init c =
 
 pub unreachable-requires : goal.unreachable-requires
 unreachable-requires c =
+    let none : c.loop-map.rooms.items ≡ []
+    = none-left c.loop-map.rooms.items
+    (λ some. c.in_default.ensures.variant.1 (omega (arith, some, c.loop-map.rooms.ok))) in
     omega (
       arith,
       c.loop-map.invariant.4,
       ap length c.in-Some.ensures.steps.0,
-      c.pop.ensures.len,
-      c.in_default.ensures.items,
+      ap length none,
     )
 
 pub push_reserved-requires : goal.push_reserved-requires
@@ -46,8 +48,8 @@ push_reserved-requires c =
 
 pub invariant_of-push_reserved : goal.invariant_of-push_reserved
 invariant_of-push_reserved c =
-    let room = (All-pop (IsRoom c.args.self) c.loop-map.rooms.items c.pop.new.rooms.items
-    (Some c.in-Some-2.room) c.in-Some-2.ensures.items c.loop-map.invariant.5).1 in
+    let room = (All-pop (IsRoom c.args.self) c.loop-map.rooms.items c.pop.new.self.items
+    (Some c.in-Some-pop.room) c.in-Some-pop.ensures.items c.loop-map.invariant.5).1 in
     let small = All-head (IsSmall c.args.self) _ _
     (subst (All (IsSmall c.args.self)) c.in-Some.ensures.steps.0 c.loop-map.invariant.6) in
     record { empty = room.empty; room = omega (arith, room.fits, small) }
@@ -58,9 +60,15 @@ loop-map-preserved c = (
   tt,
   moved-more c.loop-map.invariant.2 c.in-Some.ensures.steps.0 refl c.push_reserved.ensures.items,
   omega (arith, c.loop-map.invariant.3, c.push_reserved.ensures.capacity),
-  omega (arith, c.loop-map.invariant.4, ap length c.in-Some.ensures.steps.0, c.in-Some-2.ensures.len),
-  (All-pop (IsRoom c.args.self) c.loop-map.rooms.items c.pop.new.rooms.items
-      (Some c.in-Some-2.room) c.in-Some-2.ensures.items c.loop-map.invariant.5).0,
+  omega (
+    arith,
+    c.loop-map.invariant.4,
+    ap length c.in-Some.ensures.steps.0,
+    ap length c.in-Some-pop.ensures.items,
+    length-append c.pop.new.self.items (c.in-Some-pop.room ∷ []),
+  ),
+  (All-pop (IsRoom c.args.self) c.loop-map.rooms.items c.pop.new.self.items
+      (Some c.in-Some-pop.room) c.in-Some-pop.ensures.items c.loop-map.invariant.5).0,
   All-tail (IsSmall c.args.self) _ _
       (subst (All (IsSmall c.args.self)) c.in-Some.ensures.steps.0 c.loop-map.invariant.6),
 )

@@ -1,10 +1,10 @@
-use Rattle.std.proofs.Common.{ap, arith, length, subst, sym}
+use Rattle.std.proofs.Common.{[], ap, arith, length}
 use Rattle.std.proofs.lemmas.List.Elements.{All-nil, All-push, All-same}
 use Rattle.nb_set.specs.Inside.{IsRoom}
 use Rattle.nb_set.proofs.handle.opening.Reserved.new.Goals as goal
 
-pub loop-rooms-init : goal.loop-rooms-init
-loop-rooms-init c =
+pub loop-alloc-init : goal.loop-alloc-init
+loop-alloc-init c =
     let none = c.in_ok-rooms.ensures.items in (
       omega (arith, ap length none),
       omega (arith, c.in_ok-rooms.ensures.exact),
@@ -12,13 +12,13 @@ loop-rooms-init c =
           (All-nil (IsRoom c.args.seats)),
     )
 
-pub loop-rooms-preserved : goal.loop-rooms-preserved
-loop-rooms-preserved c = (
-  omega (arith, c.loop-rooms.invariant, ap length c.push_reserved.ensures.items),
-  omega (arith, c.loop-rooms.invariant, c.push_reserved.ensures.capacity),
-  All-same (IsRoom c.args.seats) c.push_reserved.new.rooms.items _ c.push_reserved.ensures.items
-      (All-push (IsRoom c.args.seats) c.loop-rooms.rooms.items c.in_ok-room.room
-      c.loop-rooms.invariant.2 (record {
+pub loop-alloc-preserved : goal.loop-alloc-preserved
+loop-alloc-preserved c = (
+  omega (arith, c.loop-alloc.invariant, ap length c.push_reserved.ensures.items),
+  omega (arith, c.loop-alloc.invariant, c.push_reserved.ensures.capacity),
+  All-same (IsRoom c.args.seats) c.push_reserved.new.self.items _ c.push_reserved.ensures.items
+      (All-push (IsRoom c.args.seats) c.loop-alloc.rooms.items c.in_ok-room.room
+      c.loop-alloc.invariant.2 (record {
         empty = c.in_ok-room.ensures.items;
         fits = omega (arith, c.in_ok-room.ensures.exact);
       })),
@@ -30,6 +30,6 @@ invariant_of-result c = record {
     empty = c.in_ok-handles.ensures.items;
     fits = omega (arith, c.in_ok-handles.ensures.exact);
   };
-  count = omega (arith, c.loop-rooms.invariant);
-  rooms = c.loop-rooms.invariant.2;
+  count = omega (arith, c.loop-alloc.invariant);
+  rooms = c.loop-alloc.invariant.2;
 }
