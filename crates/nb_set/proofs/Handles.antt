@@ -1,8 +1,8 @@
 -- Handles of one set.
-use Rattle.std.proofs.Common.{◌≡◌, ◌∙◌, ℕ, List, [], ◌∷◌, ◌++◌, ap, length, map, refl, subst, sym}
+use Rattle.std.proofs.Common.{◌≡◌, ◌∙◌, ℕ, List, [], ◌∷◌, ◌++◌, None, Some, ap, length, map, refl, slice_get, subst, sym}
 use Rattle.std.specs.List.{All, range_with_len}
 use Rattle.std.proofs.lemmas.List.{length-map, map-append}
-use Rattle.std.proofs.lemmas.List.Elements.{All-map, All-same}
+use Rattle.std.proofs.lemmas.List.Elements.{All-head, All-map, All-same, All-weaker}
 use Rattle.std.proofs.lemmas.List.FromFn.{length-map-range_with_len}
 use mathlib.Core.List.{map-map}
 use Rattle.nb_core.proofs.Seating.{All-unmap}
@@ -10,14 +10,14 @@ use Rattle.nb_map.specs.Ending as of_map
 use Rattle.nb_map.specs.Handles as handles
 use Rattle.nb_map.specs.Maps as maps
 use Rattle.nb_set.specs.Ending.{EndedOf, HasTablesLeft}
-use Rattle.nb_set.specs.Handles.{AreOfOneSet, HandleOf, handle_on, new_handles, on_map, seats_of}
+use Rattle.nb_set.specs.Handles.{AreOfOneSet, HandleOf, as_handle, handle_on, new_handles, on_map, seats_of}
 use Rattle.nb_set.specs.Sets.{SetOf, log, new_seat, new_seats, shape_of}
 use Rattle.nb_set.proofs.Dealt.{in-map}
 
--- a handle of a map as one of the set
-abbrev pub as_handle : handles.HandleOf → HandleOf
-as_handle handle =
-    record { set = record { map = handle.map }; seat = record { map = handle.seat } }
+-- a set's handles, by those of its map
+pub there-and-back : (these : List HandleOf) → map as_handle (map on_map these) ≡ these
+there-and-back [] = refl
+there-and-back (handle ∷ these) = ap (λ rest. handle ∷ rest) (there-and-back these)
 
 -- the new handles of a map are those of the set
 pub handles-dealt :
@@ -63,6 +63,25 @@ on-one-map these (set, all) = (
   All-map (λ handle. handle.map ≡ set.map) on_map these
       (λ k d lt. ap (λ set. set.map) (all k d lt)),
 )
+
+-- the first of handles of one set is of it
+pub of-first :
+    (set : SetOf) (these : List HandleOf) (first : HandleOf) → Some first ≡ slice_get these 0
+    → All (λ handle. handle.set ≡ set) these → first.set ≡ set
+of-first set [] first at one = absurd (let e : Some first ≡ None = at in cc)
+of-first set (handle ∷ these) first at one =
+    let same : first ≡ handle = let e : Some first ≡ Some handle = at in cc in
+    ap (λ h. h.set) same ∙ All-head (λ h. h.set ≡ set) handle these one
+
+-- where there are so many as the first one's set has seats, there are so many as each one's has
+pub as-many :
+    (set : SetOf) (these : List HandleOf) (first : HandleOf) → Some first ≡ slice_get these 0
+    → All (λ handle. handle.set ≡ set) these → length these ≡ (shape_of first.set).seats
+    → All (λ handle. length these ≡ (shape_of handle.set).seats) these
+as-many set these first at one count =
+    All-weaker (λ handle. handle.set ≡ set) (λ handle. length these ≡ (shape_of handle.set).seats)
+    (λ handle is. count ∙ ap (λ s. (shape_of s).seats) (of-first set these first at one ∙ sym is))
+    these one
 
 -- their seats are those of the map's handles
 pub seats-on-map :

@@ -60,7 +60,7 @@ marks-itself : (at : Option (Unit {0})) → at ≡ cond (is_some at) (Some tt) N
 marks-itself None = refl
 marks-itself (Some u) = refl
 
-same-keys :
+pub same-keys :
     (keys others : Keys) → ((k : ℕ) → numbers.contains_key keys k ≡ numbers.contains_key others k)
     → keys ≡ others
 same-keys keys others same =

@@ -1,10 +1,13 @@
 mod Added
+mod Bounded
 mod Dealt
 mod Handles
 mod Items
 mod Logged
+mod Opened
 mod Promised
 mod Read
+mod Renewed
 mod Sampled
 mod Settled
 mod Swept

@@ -13,12 +13,12 @@ use Rattle.nb_map.specs.declared.faults.SettleFault.{SettleFault}
 use Rattle.nb_table.specs.Chains.{SeenBy}
 use Rattle.nb_table.specs.Settling.{caught_up}
 use Rattle.nb_table.specs.Views.{HasSeen}
-use Rattle.nb_set.specs.Handles.{HandleOf, IsSameSet, on_map, seats_of}
+use Rattle.nb_set.specs.Handles.{HandleOf, IsSameSet, as_handle, on_map, seats_of}
 use Rattle.nb_set.specs.OfMap.{log_as}
 use Rattle.nb_set.specs.Sets.{SeatOf, SetOf, shape_of}
 use Rattle.nb_set.specs.Settling.{HandlesHaveSettled, HasCaughtUp, HaveSettled, as_left}
 use Rattle.nb_set.proofs.Dealt.{ended-with, in-map}
-use Rattle.nb_set.proofs.Handles.{as_handle, gathered-all, seats-on-map}
+use Rattle.nb_set.proofs.Handles.{gathered-all, seats-on-map, there-and-back}
 use Rattle.nb_set.proofs.Items.{len-left}
 use Rattle.nb_set.proofs.Logged.{logged-as}
 
@@ -147,11 +147,7 @@ same-sets (h ∷ before) (h' ∷ after) each =
 pub same-handles :
     (before after : List HandleOf) → map on_map after ≡ map on_map before → after ≡ before
 same-handles before after same =
-    sym (there after) ∙ ap (map as_handle) same ∙ there before
-  where
-    there : (these : List HandleOf) → map as_handle (map on_map these) ≡ these
-    there [] = refl
-    there (handle ∷ these) = ap (λ rest. handle ∷ rest) (there these)
+    sym (there-and-back after) ∙ ap (map as_handle) same ∙ there-and-back before
 
 -- what the map's handles promise, as those of the set
 pub handles-settled :

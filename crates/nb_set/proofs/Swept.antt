@@ -1,5 +1,5 @@
 -- Walks that show their keys to a function, and take out what it refuses; and adds of many keys.
-use Rattle.std.proofs.Common.{◌≡◌, ◌∙◌, ℕ, ◌+◌, Bool, true, false, List, [], ◌∷◌, ◌++◌, Result, Ok, Err, Some, None, is_err, length, length-append, ap, arith, refl, subst, sym, append_assoc}
+use Rattle.std.proofs.Common.{◌≡◌, ◌∙◌, ℕ, ◌+◌, ◌≤◌, Bool, true, false, List, [], ◌∷◌, ◌++◌, Result, Ok, Err, Some, None, is_err, length, length-append, ap, arith, refl, subst, sym, append_assoc}
 use Rattle.std.specs.List.{All}
 use Rattle.std.specs.List as std
 use Rattle.std.proofs.lemmas.List.Elements.{All-cons, All-nil, All-weaker, Contains-append_right}
@@ -8,8 +8,9 @@ use Rattle.nb_map.specs.declared.faults.Full.{Full}
 use Rattle.nb_set.specs.Bulk.{Again, Begun, HasAddedAll, HasSwept, HasSweptAll, Kept, Unwanted}
 use Rattle.nb_set.specs.Log.{Add, Call, Contains, Remove}
 use Rattle.nb_set.specs.Promises.{HasBegunWalk, HasWalkedOn, HasWritten}
-use Rattle.nb_set.specs.Sets.{HasLogged, IsMine, SeatOf, SetOf, log}
+use Rattle.nb_set.specs.Sets.{HasLogged, IsMine, SeatOf, SetOf, log, steps_of}
 use Rattle.nb_set.specs.Walks.{HasShown, IsLater, IsWalkOf, WalkOf, begun}
+use Rattle.nb_set.proofs.Bounded.{far-begun, far-ended, far-removed, far-shown, far_steps}
 use Rattle.nb_set.proofs.Logged.{logs_add_up}
 use Rattle.nb_set.proofs.Walked.{walk_lasts, whole_walk}
 
@@ -63,6 +64,19 @@ module _ {F : Type 0} {set : SetOf} {Step : F → (k : ℕ) → Bool → F → T
   swept-shown (Kept {shown = shown} swept k g on step) = on.shown shown (swept-shown swept)
   swept-shown (Unwanted {shown = shown} swept k g on step went wrote) =
       walk_lasts.shown (on.shown shown (swept-shown swept)) wrote.own (removed-later wrote)
+
+  -- with no more steps than a walk to its place and the removals take
+  swept-short :
+      {now : SeatOf} {walk : WalkOf} {calls : List (Call × Bool)} {shown : List ℕ} {f : F}
+      → HasSwept set Step before first now walk calls shown f
+      → steps_of now ≤ steps_of before + far_steps set before now walk calls
+  swept-short (Begun began) = far-begun set before began
+  swept-short (Kept {calls = calls} swept k g on step) =
+      far-shown set before calls (swept-later swept) (walked-later on) on (swept-short swept)
+  swept-short (Unwanted {walk' = walk'} {calls} swept k g on step went wrote) =
+      far-removed set before walk' ((Contains k, true) ∷ (on.asked.misses ++ calls))
+      (later-more (swept-later swept) (walked-later on)) (removed-later wrote) wrote
+      (far-shown set before calls (swept-later swept) (walked-later on) on (swept-short swept))
 
   -- from the seat's log as it was
   swept-begun :
@@ -184,6 +198,8 @@ module _ {F : Type 0} {set : SetOf} {Step : F → (k : ℕ) → Bool → F → T
           }) till);
         };
         made = refl;
+        short = far-ended set before sweep.calls (swept-later sweep.swept)
+            (walk_lasts.later set (Contains 0) (on.worked 0)) on (swept-short sweep.swept);
         later = later-more (swept-later sweep.swept)
             (walk_lasts.later set (Contains 0) (on.worked 0));
         own = on.own;
@@ -221,6 +237,7 @@ module _ {F G : Type 0} {Step : F → (k : ℕ) → Bool → F → Type 0}
     ended = sweep.ended;
     all = sweep.all;
     made = sweep.made;
+    short = sweep.short;
     later = sweep.later;
     own = sweep.own;
   }

@@ -4,12 +4,16 @@
 -- A function that may change as it is called is told by its steps: `Step f k keep g` says that a
 -- call of `f` at the key `k` may answer `keep`, whether the key is to stay, and leave the function
 -- as `g`.
-use Rattle.std.specs.Prelude.{◌≡◌, ℕ, Bool, true, false, List, [], ◌∷◌, ◌++◌, length, Some, None, Result, Ok, Err}
+use Rattle.std.specs.Prelude.{◌≡◌, ◌≤◌, ◌+◌, ℕ, Bool, true, false, List, [], ◌∷◌, ◌++◌, length, sum_by, Some, None, Result, Ok, Err}
+use Rattle.nb_map.specs.Bulk.{walk_steps}
+use Rattle.nb_map.specs.Progress.{passed_since}
+use Rattle.nb_map.specs.Steps.{put_steps}
 use Rattle.nb_map.specs.declared.faults.FullAfter.{FullAfter}
 use Rattle.nb_map.specs.declared.faults.Full.{Full}
 use Rattle.nb_set.specs.Log.{Add, Call, Contains, Remove}
+use Rattle.nb_set.specs.OfMap.{call_for}
 use Rattle.nb_set.specs.Promises.{HasBegunWalk, HasWalkedOn, HasWritten}
-use Rattle.nb_set.specs.Sets.{IsMine, SeatOf, SetOf}
+use Rattle.nb_set.specs.Sets.{IsMine, SeatOf, SetOf, shape_of, steps_of}
 use Rattle.nb_set.specs.Walks.{HasShownAll, IsLater, WalkOf}
 
 -- ---- walks that show their keys to a function
@@ -50,6 +54,26 @@ Keeps Step f k keep g = (keep ≡ true) × Step f k tt g
 abbrev pub KeepsNone : Unit {0} → (k : ℕ) → Bool → Unit {0} → Type 0
 KeepsNone f k keep g = keep ≡ false
 
+-- ---- their steps
+
+-- the most steps of such a call, besides those of the walk: none of a `contains`; and of a removal
+-- those of a write with as many tries as others have won exchanges on its key meanwhile, and one
+-- more
+abbrev pub removal_steps : SetOf → (before after : SeatOf) → Call → ℕ
+removal_steps set before after (Add k) = 0
+removal_steps set before after (Remove k) =
+    let passed = passed_since (call_for (Remove k)) before.map.chain after.map.chain in
+    put_steps (shape_of set) (passed + 1)
+removal_steps set before after (Contains k) = 0
+
+-- and of all these calls together, with those of a whole walk
+abbrev pub sweep_steps : SetOf → (before after : SeatOf) → List (Call × Bool) → ℕ
+sweep_steps set before after calls =
+    walk_steps (shape_of set)
+    + sum_by (λ (made : Call × Bool). removal_steps set before after made.0) calls
+
+-- ---- what they promise
+
 -- what a walk promises that shows each key to a function, and takes out what this refuses
 pub record HasSweptAll {F : Type 0} (set : SetOf) (Step : F → (k : ℕ) → Bool → F → Type 0) (f : F)
     (before after : SeatOf) : Type 0 where
@@ -66,6 +90,8 @@ pub record HasSweptAll {F : Type 0} (set : SetOf) (Step : F → (k : ℕ) → Bo
   pub all : HasShownAll before after shown
   -- its calls in the log were just those
   pub made : all.made ≡ ended.asked.misses ++ calls
+  -- together they took at most the steps of a walk and of the removals
+  pub short : steps_of after ≤ steps_of before + sweep_steps set before after all.made
   -- the seat has forgotten nothing, so its other walks go on, and is still the set's
   pub later : IsLater before after
   pub own : IsMine set after

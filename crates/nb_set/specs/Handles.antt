@@ -17,6 +17,11 @@ handle_on set seat = record { set = set; seat = seat }
 abbrev pub on_map : HandleOf → handles.HandleOf
 on_map handle = record { map = handle.set.map; seat = handle.seat.map }
 
+-- a handle of a map as one of the set
+abbrev pub as_handle : handles.HandleOf → HandleOf
+as_handle handle =
+    record { set = record { map = handle.map }; seat = record { map = handle.seat } }
+
 -- so many handles of a set, whose seats have seen nothing, numbered by their places
 abbrev pub new_handles : SetOf → ℕ → List HandleOf
 new_handles set count = map (handle_on set) (new_seats set count)

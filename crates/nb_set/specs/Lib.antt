@@ -10,3 +10,5 @@ pub mod Promises
 pub mod Fullness
 pub mod Bulk
 pub mod Settling
+pub mod Opening
+pub mod Renewing

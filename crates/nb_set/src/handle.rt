@@ -8,12 +8,15 @@ ghost use Rattle.nb_set.specs.Sets.{IsMadeFor, IsMine, SetOf, log, shape_of};
 
 mod bulk;
 mod fullness;
+mod opening;
+mod renewing;
 mod settling;
 
 use crate::ended::SetEnded;
 use crate::set::present;
 use nb_core::{Key, OutOfMemory, Shape};
 use nb_map::Full;
+use opening::Reserved;
 use std::alloc::Global;
 use std::marker::Model;
 use std::sync::Wait;
@@ -49,12 +52,9 @@ impl Handle {
             handles.items) }
         ensures one { IfOk result (λ handles. AreOfOneSet handles.items) }
     {
-        let mut handles = Vec::with_capacity(alloc, shape.seats())?;
-        for map in nb_map::Handle::open(alloc, shape)? {
-            let room = Vec::with_capacity(alloc, shape.seats())?;
-            handles.push_reserved(Handle { map, room });
-        }
-        Ok(handles)
+        let reserved = Reserved::new(alloc, shape.seats())?;
+        let maps = nb_map::Handle::open(alloc, shape)?;
+        Ok(reserved.filled(maps))
     }
 
     /// Reminds a proof that the seat is the set's own, as the laws of a set ask. It does nothing.

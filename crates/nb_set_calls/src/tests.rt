@@ -2,7 +2,9 @@
 mod bulk;
 mod calls;
 mod handles;
+mod on_handles;
 mod on_set;
+mod renewing;
 mod settling;
 mod threads;
 mod walks;

@@ -2,6 +2,7 @@
 ghost use Rattle.nb_set.specs.Sets.{IsMine};
 
 use super::on_set::*;
+use super::renewing::renews;
 use super::settling::{handles_settle, settles};
 use nb_core::{NotAll, OutOfMemory, Shape};
 use nb_set::{Full, Handle, LongSet, Seat};
@@ -59,7 +60,7 @@ fn refused_memory(rt: HostRuntime) -> Result<(), Fail> {
     };
     assert_eq!(rt; entries.len(), 1);
     opens(&rt, rt.alloc(), Shape::new(2, 2, 3, 1)?)?;
-    Ok(())
+    renews(&rt, rt.alloc())
 }
 
 /// Other keys have all slots of the only table, also that of a key that was removed. A key that is

@@ -14,7 +14,7 @@ use std::thread;
 use std::thread::Threads;
 
 /// Each handle adds a key in a thread of its own.
-fn all_add<R: Threads + Sync + Wait>(rt: &R, handles: &mut [Handle], key: Key)
+pub(super) fn all_add<R: Threads + Sync + Wait>(rt: &R, handles: &mut [Handle], key: Key)
     requires { AreOfOneSet handles.old }
     ensures { AreOfOneSet handles.new }
 {

@@ -92,7 +92,7 @@ def plan_for_many_keys(most: SupportsIndex, seats: SupportsIndex) -> dict[str, A
     return {"exponents": exponents_for_many_keys(most), "stripes": stripes, "reprobes": MANY_REPROBES, "chunk": MANY_CHUNK}
 
 
-def plan_for_churn(live: SupportsIndex, ever: SupportsIndex, seats: SupportsIndex) -> dict:
+def plan_for_churn(live: SupportsIndex, ever: SupportsIndex, seats: SupportsIndex) -> dict[str, Any]:
     """What a map for keys that come and go is opened with."""
     stripes = min(word(seats, 32), MANY_STRIPES)
     return {"exponents": exponents_for_churn(live, ever), "stripes": stripes, "reprobes": 2**32 - 1, "chunk": 64}

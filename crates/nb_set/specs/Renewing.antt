@@ -1,0 +1,58 @@
+-- A set is made anew: what its handles know then, and what a refused renewal leaves.
+use Rattle.std.specs.List.{AllZip}
+use Rattle.std.specs.Prelude.{◌≡◌, ◌≤◌, ◌+◌, ◌⊎◌, ℕ, Bool, List, All}
+use Rattle.nb_core.specs.Plans.{Plan}
+use Rattle.nb_map.specs.Bulk.{walk_steps}
+use Rattle.nb_set.specs.Ending.{EndedOf, EndedWith, set_left}
+use Rattle.nb_set.specs.Handles.{HandleOf, IsSameSet, seats_of}
+use Rattle.nb_set.specs.Log.{Call, Contains}
+use Rattle.nb_set.specs.Opening.{BeginWith, HasAskedFor, IsTooSmallFor}
+use Rattle.nb_set.specs.Sets.{HasLogged, IsMine, SeatOf, SetOf, shape_of, steps_of}
+use Rattle.nb_set.specs.Walks.{IsLater}
+
+-- ---- a set made anew
+
+-- The old set ends with these handles: there is one log of all its calls, as if it had been closed.
+-- The new set, of this shape, begins as this log leaves the old one.
+pub record HaveRenewed (p : Plan) (before after : List HandleOf) : Type 0 where
+  pub ended : EndedOf
+  pub left : EndedWith (seats_of before) ended
+  pub begun : BeginWith p (set_left ended) after
+
+-- The set that these handles' calls leave has more keys than the last table of the shape has slots.
+pub record HaveTooMany (p : Plan) (before : List HandleOf) : Type 0 where
+  pub ended : EndedOf
+  pub left : EndedWith (seats_of before) ended
+  pub small : IsTooSmallFor p (set_left ended)
+
+-- ---- a renewal that is refused
+
+-- the call asked whether a key is there
+abbrev pub IsAsk : Call × Bool → Type 0
+IsAsk made = (k : ℕ) × (found : Bool) × (made ≡ (Contains k, found))
+
+-- The seat has only asked for keys, with at most so many steps.
+pub record HasOnlyAsked (set : SetOf) (before after : SeatOf) (most : ℕ) : Type 0 where
+  pub made : List (Call × Bool)
+  pub asks : All IsAsk made
+  pub logged : HasLogged before after made
+  -- so a walk of the seat goes on past them
+  pub later : IsLater before after
+  -- for them it has claimed no slot
+  pub claims : (calls : List Call) → HasAskedFor set calls before → HasAskedFor set calls after
+  -- it made no step on the counter
+  pub short : steps_of after ≤ steps_of before + most
+  pub count : after.map.count ≡ before.map.count
+  pub own : IsMine set after
+
+-- The handle is of its set still, and its seat has only asked for keys.
+pub record IsKept (before after : HandleOf) (most : ℕ) : Type 0 where
+  pub set : IsSameSet before after
+  pub asked : HasOnlyAsked before.set before.seat after.seat most
+
+-- The handles are as they were; or each is of its set still, and has made at most the calls of a
+-- walk.
+abbrev pub AreKept : (before after : List HandleOf) → Type 0
+AreKept before after =
+    (after ≡ before)
+    ⊎ AllZip (λ old new. IsKept old new (walk_steps (shape_of old.set))) before after
