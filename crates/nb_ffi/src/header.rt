@@ -9,8 +9,8 @@ use crate::map_shape::MapShape;
 use crate::seat_handle::SeatHandle;
 use std::mem::size_of;
 
-/// Version 0.6.0, as one number: that of the header that fits the library.
-pub const VERSION: u32 = 0x000600;
+/// Version 0.7.0, as one number: that of the header that fits the library.
+pub const VERSION: u32 = 0x000700;
 /// The size of a `samvolip_shape`.
 pub const SHAPE_SIZE: usize = size_of::<MapShape>();
 /// The size of a `samvolip_reply`.
