@@ -1,8 +1,8 @@
 //! A key's path in a table, and slots with the place of their words. Both are worked out once, and
 //! serve for many steps.
-ghost use Rattle.std.specs.Prelude.{ℕ};
+ghost use Rattle.std.specs.Prelude.{ℕ, ◌≡◌};
 ghost use Rattle.nb_core.specs.Paths.{IsOnPathAt, IsPathIn};
-ghost use Rattle.nb_core.specs.Plans.{Plan};
+ghost use Rattle.nb_core.specs.Plans.{Plan, size_of};
 
 use crate::numbers::Key;
 
@@ -39,5 +39,13 @@ impl Path {
             i,
             value: self.base as usize + 4 + 2 * i,
         }
+    }
+
+    /// How many slots the path has: all those of the table.
+    #[inline]
+    pub fn slots(&self) -> usize
+        ensures { (p : Plan) (g k : ℕ) → IsPathIn p g k self.now → result ≡ size_of p g }
+    {
+        self.last as usize + 1
     }
 }

@@ -24,6 +24,13 @@ pub slot-of_path :
 slot-of_path {p} {k = k} {g = g} {path = path} shape key is slot =
     slot p g k (subst₂ (λ q j. IsPathIn q g j path) shape key is)
 
+-- and how many it has
+pub slots-of_path :
+    {p q : Plan} {k j g n : ℕ} {path : Path} → q ≡ p → j ≡ k → IsPathIn q g j path
+    → ((p : Plan) (g k : ℕ) → IsPathIn p g k path → n ≡ size_of p g) → n ≡ size_of p g
+slots-of_path {p} {k = k} {g = g} {path = path} shape key is slots =
+    slots p g k (subst₂ (λ q j. IsPathIn q g j path) shape key is)
+
 -- a slot of a path is where the path has it
 pub slot-is :
     {p : Plan} {g k d : ℕ} {at : Slot} → IsOnPathAt p g k d at → path_slot p at.g k d ≡ at.i

@@ -38,7 +38,7 @@ pub(crate) fn probe(chain: &Chain, seat: &mut ChainSeat, call: &Call, rung: Rung
 {
     let key = call.key();
     let path = chain.shape().path(rung.g, key);
-    for distance in rung.from..chain.shape().size_of(rung.g) {
+    for distance in rung.from..path.slots() {
         let at = path.slot(distance);
         let word = chain.load_key_word_at(seat, at, Some(*call));
         if word.is(key) {
