@@ -12,7 +12,7 @@ use std::path::{Path, PathBuf};
 use std::process::Command;
 
 fn main() {
-    // set to run the tests under the thread sanitizer: docs/rust.md
+    // set for the thread sanitizer, which src/pool.rs has to make allowance for
     println!("cargo:rustc-check-cfg=cfg(samvolip_tsan)");
     for name in ["SAMVOLIP_LIB", "PKG_CONFIG", "PKG_CONFIG_PATH"] {
         println!("cargo:rerun-if-env-changed={name}");
