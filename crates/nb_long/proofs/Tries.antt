@@ -621,3 +621,12 @@ module _ {F V : Type 0} {m : LongMapOf} {Step : F → Option (Bor V) → Option 
         (free-exchange tried)
     come-end (Err fault.Unshown) (n, last, (unshown, got)) =
         updated-so (Err fault.Unshown) (n, last-past last, (unshown, got)) tt (free-read got.got)
+
+-- the same, of the map and the seat by other names
+pub updated-on :
+    {F V : Type 0} {m m' : LongMapOf} {Step : F → Option (Bor V) → Option V → F → Type 0} {first : F}
+    {key : ℕ} {before before' after : SeatOf} {result : Result (Updated V) (UpdateFault V)}
+    → m ≡ m' → before ≡ before' → HasUpdated m Step first key before after result
+    → HasUpdated m' Step first key before' after result
+updated-on {Step = Step} {first} {key} {after = after} {result} map seat updated =
+    subst₂ (λ m before. HasUpdated m Step first key before after result) map seat updated
