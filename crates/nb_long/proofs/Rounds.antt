@@ -1,5 +1,5 @@
 -- The rounds of a call that compares: what their steps add up to, and what they count.
-use Rattle.std.proofs.Common.{◌≡◌, ◌∙◌, ◌+◌, ◌*◌, ◌≤◌, ◌<◌, ℕ, suc, zero, true, false, min, pos, List, [], ◌∷◌, ◌++◌, length, Ok, Some, ap, ap₂, refl, subst, subst₂, sym, inl, inr, arith}
+use Rattle.std.proofs.Common.{◌≡◌, ◌∙◌, ◌+◌, ◌*◌, ◌≤◌, ◌<◌, ℕ, suc, zero, false, min, pos, List, [], ◌∷◌, ◌++◌, length, Ok, Some, ap, ap₂, refl, subst, subst₂, sym, inl, inr, arith}
 use Rattle.std.specs.List.{All}
 use Rattle.std.proofs.Math.IntN.{◌+ℤ◌}
 use Rattle.std.proofs.Math.Nat.{add-mul, mul-le-mul_right}

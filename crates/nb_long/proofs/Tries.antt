@@ -1,5 +1,5 @@
 -- What the tries of an update add up to.
-use Rattle.std.proofs.Common.{◌≡◌, ◌∙◌, ◌+◌, ◌*◌, ◌≤◌, ◌<◌, ◌⊎◌, ℕ, suc, Bool, true, false, min, pos, List, [], ◌∷◌, ◌++◌, length, Option, Some, None, Result, Ok, Err, Bor, ap, ap₂, refl, subst, subst₂, sym, inl, inr, option_map, IfSome, if◌then◌else◌, nat_lt, arith}
+use Rattle.std.proofs.Common.{◌≡◌, ◌∙◌, ◌+◌, ◌*◌, ◌≤◌, ◌⊎◌, ℕ, Bool, true, false, min, pos, List, [], ◌∷◌, ◌++◌, length, Option, Some, None, Result, Ok, Err, Bor, ap, ap₂, refl, subst, subst₂, sym, inl, inr, IfSome, if◌then◌else◌, nat_lt, arith}
 use Rattle.std.specs.List.{All, Contains}
 use Rattle.std.proofs.Math.Nat.{add-mul}
 use Rattle.std.proofs.lemmas.Bool.Decides.{nat_tests}
@@ -20,7 +20,7 @@ use Rattle.nb_core.specs.declared.numbers.TheConstants.{VALUE_MAX}
 use Rattle.nb_map.proofs.Theorems.{logs_add_up, replies_fit}
 use Rattle.nb_map.specs.Calling.{HasStepped}
 use Rattle.nb_map.specs.Logs.{HasLogged, HasReplied}
-use Rattle.nb_map.specs.Maps.{IsMine, MapOf, SeatOf, accounted}
+use Rattle.nb_map.specs.Maps.{IsMine, SeatOf, accounted}
 use Rattle.nb_map.specs.NamedCalls.{change_to, exchange_of, want_of}
 use Rattle.nb_map.specs.Progress.{passed_since}
 use Rattle.nb_map.specs.Promises.{Found, HasGot, HasTriedToWrite, Matched, Outcome, Refused, Replied}
@@ -33,7 +33,7 @@ use Rattle.nb_long.proofs.Rounds.{passed-sum, stepped-as, stepped-none, stepped-
 use Rattle.nb_long.specs.Promises.{HasGotValue}
 use Rattle.nb_long.specs.Stores.{GivesBack}
 use Rattle.nb_long.specs.Typed.{HasMadeLast, IsIdle, IsShown, LongMapOf, number_of, passed_on, read_of, round_steps}
-use Rattle.nb_long.specs.Updating.{AreShown, Begun, HasBegunTry, HasEndedTry, HasExchanged, HasLost, HasComputed, HasTriedOnce, HasUpdated, IsLastTry, IsLockFreeAs, IsLost, IsStored, Lost, as_update_fault, calls_asked, exchange_for, won_exchange}
+use Rattle.nb_long.specs.Updating.{AreShown, Begun, HasBegunTry, HasEndedTry, HasExchanged, HasLost, HasTriedOnce, HasUpdated, IsLastTry, IsLockFreeAs, IsLost, IsStored, Lost, as_update_fault, calls_asked, exchange_for}
 use Rattle.nb_long.specs.declared.map.Unshown.{Unshown}
 use Rattle.nb_long.specs.declared.map.updating.UpdateFault.{UpdateFault}
 use Rattle.nb_long.specs.declared.map.updating.UpdateFault.TheVariants as fault
