@@ -3,4 +3,5 @@ mod Held
 mod Passed
 mod Rounds
 mod Settled
+mod Tries
 mod Written

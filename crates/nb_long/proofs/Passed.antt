@@ -17,7 +17,7 @@ use Rattle.nb_core.specs.declared.calls.Call.{Call}
 use Rattle.nb_core.specs.declared.calls.Call.TheVariants as call
 use Rattle.nb_core.specs.declared.calls.Change.{Change}
 use Rattle.nb_core.specs.declared.calls.Reply.{Reply}
-use Rattle.nb_core.specs.declared.calls.Want.TheVariants as want
+use Rattle.nb_core.specs.declared.calls.Want.{Want}
 use Rattle.nb_core.specs.declared.events.Event.{Event}
 use Rattle.nb_core.specs.declared.events.Event.TheVariants.{Won, Read}
 use Rattle.nb_core.specs.declared.states.ValueState.{ValueState}
@@ -191,26 +191,28 @@ passed-is later h k s =
     omega (arith, length-append later h) in
     ap (wins k s) (ap (λ n. take n (later ++ h)) few ∙ take-append_seam later h)
 
--- A write on the number that the seat has read found another one: another seat has won an exchange
--- on the key meanwhile.
+-- A write whose condition holds of what the seat has read found that it doesn't hold: another seat
+-- has won an exchange on the key meanwhile.
 pub others-won :
-    {p : Plan} {key n : ℕ} {change : Change} {before after : SeatOf} {own : List Event}
-    {count : ℕ} {reply : Reply} → IsPlan p → Grown p before.chain after.chain own count
-    → HasLogged before after ((call.Write key (want.Equal n) change, reply)
-    ∷ (call.Get key, reply_at (call.Get key) (Some n)) ∷ [])
-    → reply ≡ reply_at (call.Write key (want.Equal n) change) reply.before
+    {p : Plan} {key : ℕ} {wanted : Want} {found : Option ℕ} {change : Change}
+    {before after : SeatOf} {own : List Event} {count : ℕ} {reply : Reply} → IsPlan p
+    → holds_of wanted found ≡ true → Grown p before.chain after.chain own count
+    → HasLogged before after ((call.Write key wanted change, reply)
+    ∷ (call.Get key, reply_at (call.Get key) found) ∷ [])
+    → reply ≡ reply_at (call.Write key wanted change) reply.before
     → reply.matched ≡ false → 1 ≤ passed_on key before after
-others-won {p} {key} {n} {change} {before} {after} {reply = reply} plan grown logged fits missed =
+others-won {p} {key} {wanted} {found} {change} {before} {after} {reply = reply} plan holds grown logged
+    fits missed =
     subst (λ h. 1 ≤ passed_over h (length before.chain.seen) key before.chain.number)
     (sym grown.seen)
     (subst (λ t. 1 ≤ t) (sym (passed-is grown.later before.chain.seen key before.chain.number))
     some)
   where
     write : Call
-    write = call.Write key (want.Equal n) change
+    write = call.Write key wanted change
 
     read : Call × Reply
-    read = (call.Get key, reply_at (call.Get key) (Some n))
+    read = (call.Get key, reply_at (call.Get key) found)
 
     made : List (Call × Reply)
     made = (write, reply) ∷ read ∷ []
@@ -236,11 +238,11 @@ others-won {p} {key} {n} {change} {before} {after} {reply = reply} plan grown lo
         before.chain.number (subst (All (IsIdle key)) (sym calls) idle) none) in
         let here : reply.before ≡ get (map_of h) key =
         All-head Same (write, reply) (read ∷ []) all in
-        let there : Some n ≡ get (map_of h) key =
+        let there : found ≡ get (map_of h) key =
         All-head Same read [] (All-tail Same (write, reply) (read ∷ []) all) in
-        let matched : reply.matched ≡ (n == n) = ap (λ (r : Reply). r.matched) fits
-        ∙ ap (holds_of (want.Equal n)) (here ∙ sym there) in
-        let never : false ≡ true = sym missed ∙ matched ∙ eq-eqb n n refl in
+        let matched : reply.matched ≡ true = ap (λ (r : Reply). r.matched) fits
+        ∙ ap (holds_of wanted) (here ∙ sym there) ∙ holds in
+        let never : false ≡ true = sym missed ∙ matched in
         cc
 
     some : 1 ≤ wins key before.chain.number grown.later

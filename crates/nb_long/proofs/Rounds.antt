@@ -1,14 +1,18 @@
 -- The rounds of a call that compares: what their steps add up to, and what they count.
-use Rattle.std.proofs.Common.{◌≡◌, ◌∙◌, ◌+◌, ◌*◌, ◌≤◌, ◌<◌, ℕ, suc, zero, true, false, min, pos, List, [], ◌∷◌, ◌++◌, length, Ok, Some, ap, ap₂, refl, subst, subst₂, sym, inl, inr, arith}
+use Rattle.std.proofs.Common.{◌≡◌, ◌∙◌, ◌+◌, ◌*◌, ◌≤◌, ◌<◌, ℕ, suc, zero, false, min, pos, List, [], ◌∷◌, ◌++◌, length, Ok, Some, ap, ap₂, refl, subst, subst₂, sym, inl, inr, arith}
 use Rattle.std.specs.List.{All}
 use Rattle.std.proofs.Math.IntN.{◌+ℤ◌}
 use Rattle.std.proofs.Math.Nat.{add-mul, mul-le-mul_right}
+use Rattle.std.proofs.lemmas.Bool.{eq-eqb}
 use Rattle.std.proofs.lemmas.Int.{ints}
+use Rattle.std.proofs.lemmas.List.{append_assoc}
 use Rattle.std.proofs.lemmas.List.Elements.{All-append, All-cons, All-nil, All-weaker}
 use Rattle.boxcar.specs.Table.{Where}
 use Rattle.nb_core.proofs.Theorems.{calls_append, passed_over_adds}
+use Rattle.nb_core.specs.Calls.{Fills}
+use Rattle.nb_core.specs.History.{key_of_call}
 use Rattle.nb_core.specs.Laws.{Lasts}
-use Rattle.nb_core.specs.Log.{calls_of, reply_at}
+use Rattle.nb_core.specs.Log.{IsBeginning, calls_of, reply_at}
 use Rattle.nb_core.specs.Meaning.{net_of, passed_over}
 use Rattle.nb_core.specs.Plans.{Plan, generations_of}
 use Rattle.nb_core.specs.Tables.{HasSlotBelow, Tables, tables_at}
@@ -34,42 +38,48 @@ use Rattle.nb_long.proofs.Passed.{others-won}
 use Rattle.nb_long.specs.Promises.{HasGotValue}
 use Rattle.nb_long.specs.Typed.{HasIdled, IsIdle, IsLockFreeIf, LongMapOf, passed_on, round_steps}
 
--- ---- steps as of a read
+-- ---- steps as of another call of the key
 
--- what a write on a number may make, a read may make
-as-read :
-    (p : Plan) (before after : List Event) (key n : ℕ) (change : Change) (e : Event)
-    → MayMake p before after (call.Write key (want.Equal n) change) e
-    → MayMake p before after (call.Get key) e
-as-read p before after key n change (Claim s g i k) may = (
+-- a call may make what one of the same key may that fills no more
+may-as :
+    (p : Plan) (before after : List Event) (c c' : Call) → key_of_call c' ≡ key_of_call c
+    → (Fills c → Fills c') → (e : Event) → MayMake p before after c e
+    → MayMake p before after c' e
+may-as p before after c c' same fills (Claim s g i k) may = (
   may.0,
   elim may.1 [
     | inl below ↦ inl below
-    | inr own ↦ let never : true ≡ false = own.1 in cc
+    | inr own ↦ inr (own.0 ∙ sym same, fills own.1, own.2)
   ],
 )
-as-read p before after key n change (Install s g k) may = let never : true ≡ false = may.1 in cc
-as-read p before after key n change e may = tt
+may-as p before after c c' same fills (Install s g k) may = (may.0 ∙ sym same, fills may.1)
+may-as p before after c c' same fills e may = may
 
-pub stepped-as-read :
-    {p : Plan} {key n most : ℕ} {change : Change} {before after : SeenBy}
-    → HasStepped p (call.Write key (want.Equal n) change) before after most
-    → HasStepped p (call.Get key) before after most
-stepped-as-read {p} {key} {n} {change = change} {before} {after} (made, steps) = (
+pub stepped-as :
+    {p : Plan} {c : Call} {before after : SeenBy} {most : ℕ} (c' : Call)
+    → key_of_call c' ≡ key_of_call c → (Fills c → Fills c') → HasStepped p c before after most
+    → HasStepped p c' before after most
+stepped-as {p} {c} {before} {after} c' same fills (made, steps) = (
   made,
   record {
     own = steps.own;
     count = steps.count;
     grown = steps.grown;
     calls = steps.calls;
-    may = All-weaker
-        (MayMake p before.seen after.seen (call.Write key (want.Equal n) change))
-        (MayMake p before.seen after.seen (call.Get key))
-        (as-read p before.seen after.seen key n change) steps.own steps.may;
+    may = All-weaker (MayMake p before.seen after.seen c) (MayMake p before.seen after.seen c')
+        (may-as p before.seen after.seen c c' same fills) steps.own steps.may;
     counted = steps.counted;
     few = steps.few;
   },
 )
+
+-- what a write on a number may make, a read may make
+stepped-as-read :
+    {p : Plan} {key n most : ℕ} {change : Change} {before after : SeenBy}
+    → HasStepped p (call.Write key (want.Equal n) change) before after most
+    → HasStepped p (call.Get key) before after most
+stepped-as-read {key = key} {n} {change = change} steps =
+    stepped-as {c = call.Write key (want.Equal n) change} (call.Get key) refl (λ fills. fills) steps
 
 -- more steps may be allowed than were made
 pub stepped-within :
@@ -112,34 +122,60 @@ slot-below-lasts p t u lasting zero k table below = below
 slot-below-lasts p t u lasting (suc g) k table below =
     lasting.has_slot g k (omega (arith, table)) below
 
--- what a read may make, it may make in more steps
-read-lasts :
-    (p : Plan) (before begun after ended : List Event) (key : ℕ)
-    → Lasts p (tables_at p after) (tables_at p ended) → (e : Event)
-    → MayMake p begun after (call.Get key) e → MayMake p before ended (call.Get key) e
-read-lasts p before begun after ended key lasting (Claim s g i k) may = (
+-- beginnings of a history
+begins-itself : {A : Type 0} (h : List A) → IsBeginning h h
+begins-itself h = record { later = []; is = refl }
+
+begins-more :
+    {A : Type 0} {x y z : List A} → IsBeginning x y → IsBeginning y z → IsBeginning x z
+begins-more {x = x} a b = record {
+  later = b.later ++ a.later;
+  is = b.is ∙ ap (λ h. b.later ++ h) a.is ∙ sym (append_assoc b.later a.later x);
+}
+
+begins :
+    {p : Plan} {before after : SeenBy} {own : List Event} {count : ℕ}
+    → Grown p before after own count → IsBeginning before.seen after.seen
+begins grown = record { later = grown.later; is = grown.seen }
+
+-- what a call may make, it may make in more steps
+may-lasts :
+    (p : Plan) (before begun after ended : List Event) (c : Call) → IsBeginning before begun
+    → IsBeginning after ended → Lasts p (tables_at p after) (tables_at p ended) → (e : Event)
+    → MayMake p begun after c e → MayMake p before ended c e
+may-lasts p before begun after ended c more later lasting (Claim s g i k) may = (
   may.0,
   elim may.1 [
     | inl below ↦ inl (slot-below-lasts p (tables_at p after) (tables_at p ended) lasting g k
         may.0 below)
-    | inr own ↦ let never : true ≡ false = own.1 in cc
+    | inr own ↦ inr (
+      own.0,
+      own.1,
+      record {
+        seen = own.2.seen;
+        begun = begins-more more own.2.begun;
+        no_next = own.2.no_next;
+        met = own.2.met;
+        rested = own.2.rested;
+        claimed = begins-more own.2.claimed later;
+      },
+    )
   ],
 )
-read-lasts p before begun after ended key lasting (Install s g k) may =
-    let never : true ≡ false = may.1 in cc
-read-lasts p before begun after ended key lasting e may = tt
+may-lasts p before begun after ended c more later lasting (Install s g k) may = may
+may-lasts p before begun after ended c more later lasting e may = tt
 
 -- some steps after others
 pub stepped-then :
-    (chain : ChainOf) {key most most' : ℕ} {before then' after : SeenBy} → IsOwn chain before
-    → HasStepped chain.shape (call.Get key) before then' most
-    → HasStepped chain.shape (call.Get key) then' after most'
-    → HasStepped chain.shape (call.Get key) before after (most + most')
-stepped-then chain {key} {before = before} {then'} {after} own (_, a) (_, b) =
+    (chain : ChainOf) {c : Call} {most most' : ℕ} {before then' after : SeenBy}
+    → IsOwn chain before → HasStepped chain.shape c before then' most
+    → HasStepped chain.shape c then' after most'
+    → HasStepped chain.shape c before after (most + most')
+stepped-then chain {c} {before = before} {then'} {after} own (_, a) (_, b) =
     let p = chain.shape in
     let own' = steps_add_up.own own a.grown in
     let last = steps_add_up.own own' b.grown in
-    let May = λ (first last : List Event). MayMake p first last (call.Get key) in (
+    let May = λ (first last : List Event). MayMake p first last c in (
       _,
       record {
         own = b.own ++ a.own;
@@ -148,10 +184,12 @@ stepped-then chain {key} {before = before} {then'} {after} own (_, a) (_, b) =
         calls = refl;
         may = All-append (May before.seen after.seen) b.own a.own
             (All-weaker (May then'.seen after.seen) (May before.seen after.seen)
-            (read-lasts p before.seen then'.seen after.seen after.seen key
+            (may-lasts p before.seen then'.seen after.seen after.seen c (begins a.grown)
+            (begins-itself after.seen)
             (steps_add_up.stays last (steps_add_up.none last))) b.own b.may)
             (All-weaker (May before.seen then'.seen) (May before.seen after.seen)
-            (read-lasts p before.seen before.seen then'.seen after.seen key
+            (may-lasts p before.seen before.seen then'.seen after.seen c
+            (begins-itself before.seen) (begins b.grown)
             (steps_add_up.stays own' b.grown)) a.own a.may);
         counted = counted-then p before.number before.seen then'.seen after.seen a.counted
             (subst (λ n. HasCountedTurned p n then'.seen after.seen) a.grown.number b.counted);
@@ -172,7 +210,7 @@ net-append [] b = omega (arith, ints)
 net-append (c ∷ a) b = let rest = net-append a b in omega (arith, ints, rest)
 
 -- the same seat of the counter, where nothing is counted
-counted-none : (count : CountSeatOf) → accounted (pos 0) count ≡ count
+pub counted-none : (count : CountSeatOf) → accounted (pos 0) count ≡ count
 counted-none count =
     let same : (n : ℕ) → n + 0 ≡ n = λ n. omega arith in
     ap₂ (λ added adds. record count { added = added; adds = adds; steps = count.steps + 0 })
@@ -225,7 +263,7 @@ passed-sum key start mid after a b =
         (sym (is' ∙ ap (λ h. later' ++ h) is)) (passed_over_adds later' later start.chain.seen k s)
 
 -- rounds that are fewer take fewer steps
-times : (a b most : ℕ) → a ≤ b → a * most ≤ b * most
+pub times : (a b most : ℕ) → a ≤ b → a * most ≤ b * most
 times a b most below = mul-le-mul_right most below
 
 one-round : (passed most : ℕ) → most ≤ (passed + 1) * most
@@ -318,7 +356,7 @@ module _
         (All-cons (IsIdle key) asked [] refl (All-nil (IsIdle key)))) both
         (uncounted round.got.own round.wrote.own replied (none reply missed)
         round.wrote.wait_free)
-        (others-won round.own.chain.plan all-steps.1.grown both
+        (others-won round.own.chain.plan (eq-eqb n n refl) all-steps.1.grown both
         (replies_fit then' after write reply replied) missed)
       where
         none : (reply : Reply) → reply.matched ≡ false → net_of ((write, reply) ∷ []) ≡ pos 0

@@ -2,3 +2,4 @@ pub mod Stores
 pub mod Typed
 pub mod Promises
 pub mod Handles
+pub mod Updating

@@ -15,6 +15,7 @@ ghost use Rattle.nb_long.specs.Typed.{LongMapOf};
 
 mod fullness;
 mod settling;
+mod updating;
 
 use crate::map::{Compared, LongFault, LongMap, Stored, Unshown};
 use crate::store::{Shown, Store};

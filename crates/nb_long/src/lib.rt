@@ -10,6 +10,6 @@ mod map;
 mod store;
 
 pub use handle::Handle;
-pub use map::{Compared, LongFault, LongMap, Stored, Unshown};
+pub use map::{Compared, LongFault, LongMap, Stored, Unshown, UpdateFault, Updated};
 pub use nb_map::SettleFault;
 pub use store::{Placed, Receipt, Shown, Store, StoreFault};

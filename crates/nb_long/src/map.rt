@@ -16,6 +16,7 @@ ghost use Rattle.nb_long.specs.Typed.{number_of};
 
 mod fullness;
 mod settling;
+mod updating;
 
 use crate::store::{Placed, Receipt, Shown, Store, StoreFault};
 use nb_core::{Change, Key, NotAll, Num, OutOfMemory, Shape, Want};
@@ -24,6 +25,7 @@ use std::alloc::Global;
 use std::marker::Model;
 use std::sync::Wait;
 use thiserror::Error;
+pub use updating::{UpdateFault, Updated};
 
 /// A map from keys to values of any type, which many threads share. Each value is stored once, and
 /// the map has its number.

@@ -6,4 +6,5 @@ mod refused;
 mod settling;
 mod texts;
 mod threads;
+mod updating;
 mod values;

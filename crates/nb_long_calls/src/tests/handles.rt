@@ -7,7 +7,7 @@ use std::test::Fail;
 use std::thread;
 
 /// Takes a handle out of these.
-fn one_of<R: Abort>(rt: &R, handles: &mut Vec<Handle<u64>>) -> Handle<u64> {
+pub(super) fn one_of<R: Abort>(rt: &R, handles: &mut Vec<Handle<u64>>) -> Handle<u64> {
     let Some(handle) = handles.pop() else {
         panic!(rt; "there is a handle")
     };
@@ -15,7 +15,7 @@ fn one_of<R: Abort>(rt: &R, handles: &mut Vec<Handle<u64>>) -> Handle<u64> {
 }
 
 /// The value at a key, by a handle.
-fn value_at<R: Abort>(rt: &R, handle: &mut Handle<u64>, key: Key) -> Option<u64> {
+pub(super) fn value_at<R: Abort>(rt: &R, handle: &mut Handle<u64>, key: Key) -> Option<u64> {
     let number = handle.number_at(key)?;
     let Some(found) = handle.show(number) else {
         panic!(rt; "the value is shown")

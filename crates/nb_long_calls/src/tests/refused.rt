@@ -4,7 +4,7 @@ ghost use Rattle.nb_map.specs.Maps.{IsMine};
 
 use super::on_map::*;
 use nb_core::{OutOfMemory, Shape};
-use nb_long::{Handle, LongFault, LongMap, Stored};
+use nb_long::{Handle, LongFault, LongMap, Stored, UpdateFault};
 use nb_map::Seat;
 use std::alloc::Global;
 use std::process::Abort;
@@ -90,6 +90,37 @@ fn replaces_if<R: Wait + Abort>(rt: &R, map: &LongMap<u64>, seat: &mut Seat)
     assert!(rt; !done);
 }
 
+/// Updates key 1, and sees that a value that wasn't stored came back. It answers whether the key was
+/// absent.
+fn update_once<R: Wait + Abort>(
+    rt: &R,
+    map: &LongMap<u64>,
+    seat: &mut Seat,
+) -> Result<bool, OutOfMemory>
+    requires own { IsMine map.now.map seat.old }
+    ensures own { IsMine map.now.map seat.new }
+{
+    match map.update(rt, seat, key(rt, 1), |_was| Some(VALUE)) {
+        Ok(updated) => Ok(updated.found.is_none()),
+        Err(UpdateFault::OutOfMemory(value)) => {
+            assert_eq!(rt; value, VALUE);
+            Err(OutOfMemory)
+        }
+        Err(_) => panic!(rt; "memory alone was refused"),
+    }
+}
+
+fn updates<R: Wait + Abort>(rt: &R, map: &LongMap<u64>, seat: &mut Seat)
+    requires own { IsMine map.now.map seat.old }
+    ensures own { IsMine map.now.map seat.new }
+{
+    let came = match update_once(rt, map, seat) {
+        Ok(came) => came,
+        Err(_) => update_once(rt, map, seat).expect(rt, "memory"),
+    };
+    assert!(rt; came);
+}
+
 /// A refused map of handles is asked for again. Then each seat has its handle, and all of them close
 /// the map.
 fn opens<R: Wait + Abort>(rt: &R, alloc: Global, shape: Shape) -> Result<(), OutOfMemory> {
@@ -121,12 +152,19 @@ fn stores_in_vain<R: Wait + Abort>(rt: &R, alloc: Global) {
     replaces_if(rt, &map, &mut seat);
 }
 
+/// An update, in a map that has stored nothing yet.
+fn stores_by_function<R: Wait + Abort>(rt: &R, alloc: Global) {
+    let (map, mut seat) = fresh(rt, alloc);
+    updates(rt, &map, &mut seat);
+}
+
 /// What takes memory is called again where it was refused, and then it has it: so this passes
 /// whichever one request is refused.
 #[test]
 fn refused_memory(rt: HostRuntime) -> Result<(), Fail> {
     stores(&rt, rt.alloc());
     stores_in_vain(&rt, rt.alloc());
+    stores_by_function(&rt, rt.alloc());
     let shape = Shape::new(2, 2, 3, 1)?;
     opens(&rt, rt.alloc(), shape)?;
     Ok(())

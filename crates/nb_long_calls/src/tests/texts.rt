@@ -1,6 +1,6 @@
 //! The texts of faults, except that of a number too large: only a store that is full of numbers
 //! makes that fault, and no test stores so many values.
-use nb_long::{LongFault, Receipt, Store, StoreFault, Unshown};
+use nb_long::{LongFault, Receipt, Store, StoreFault, Unshown, UpdateFault};
 use std::fmt::Display;
 use std::process::Abort;
 use std::sync::Wait;
@@ -31,4 +31,15 @@ fn fault_texts(rt: HostRuntime) -> Result<(), Fail> {
     let unshown = LongFault::Unshown(receipt(&rt, &store));
     assert_says(&rt, &unshown, "a value isn't shown")?;
     assert_says(&rt, &Unshown, "a value isn't shown")
+}
+
+#[test]
+fn update_fault_texts(rt: HostRuntime) -> Result<(), Fail> {
+    let store = Store::new(rt.alloc())?;
+    let refused = StoreFault::OutOfMemory(7);
+    assert_says(&rt, &UpdateFault::from(refused), "out of memory")?;
+    let full = UpdateFault::Full(receipt(&rt, &store));
+    assert_says(&rt, &full, "the map is full")?;
+    let unshown: UpdateFault<u64> = UpdateFault::from(Unshown);
+    assert_says(&rt, &unshown, "a value isn't shown")
 }
