@@ -13,25 +13,29 @@ struct Limit {
     }
     ~Limit() { free(slots); }
 
+    // The key's slot, or none.
     Slot *find(uint64_t key) {
         uint64_t word = key + 2;
-        for (uint64_t i = key & mask;; i = (i + 1) & mask) {
+        for (uint64_t i = key & mask, tried = 0; tried <= mask; i = (i + 1) & mask, tried++) {
             uint64_t found = slots[i].key.load();
             if (found == word) return &slots[i];
             if (found == EMPTY) return nullptr;
         }
+        return nullptr;
     }
+    // The key's slot, claimed where it had none; none where other keys have all slots.
     Slot *claim(uint64_t key) {
         uint64_t word = key + 2;
-        for (uint64_t i = key & mask;; i = (i + 1) & mask) {
+        for (uint64_t i = key & mask, tried = 0; tried <= mask; i = (i + 1) & mask, tried++) {
             uint64_t found = slots[i].key.load();
             if (found == word) return &slots[i];
             if (found == EMPTY && slots[i].key.compare_exchange_strong(found, word)) return &slots[i];
             if (found == word) return &slots[i];
         }
+        return nullptr;
     }
-    // 0 where the key is absent; a number is kept as 4 n + 4. At home it has no branch between a hit and a miss: the least of
-    // the two is 0 just where one of them is, and a compiler makes no branch of that.
+    // 0 where the key is absent; a number n is kept as 4 n + 4, and answered as n + 1. At home it has no branch between a hit and a
+    // miss: the least of the two is 0 just where one of them is, and a compiler makes no branch of that.
     uint64_t get(uint64_t key) {
         uint64_t word = key + 2;
         Slot &home = slots[key & mask];
@@ -47,11 +51,16 @@ struct Limit {
         while (!slot->number.compare_exchange_strong(before, wanted)) {}
         return before;
     }
-    uint64_t put(uint64_t key, uint64_t number) { return exchange(claim(key), 4 * number + 4); }
+    bool put(uint64_t key, uint64_t number) {
+        Slot *slot = claim(key);
+        if (!slot) return false;
+        exchange(slot, 4 * number + 4);
+        return true;
+    }
     uint64_t remove(uint64_t key) {
         Slot *slot = find(key);
         return slot ? exchange(slot, ABSENT) : ABSENT;
     }
 };
 
-int main(int argc, char **argv) { return load::run<Limit>("limit", argc, argv, 131072); }
+int main(int argc, char **argv) { return load::run<Limit>("limit", argc, argv, 131072, load::Removed::keeps_its_slot); }

@@ -1,4 +1,4 @@
-// oneTBB's concurrent_hash_map: a lock for each element and for buckets, reads and writes by accessors.
+// oneTBB's concurrent_hash_map: a lock for each element and for buckets, reads and writes by accessors. The key is its hash.
 #include "workloads.h"
 #include <tbb/concurrent_hash_map.h>
 

@@ -21,6 +21,8 @@ pub(crate) struct Tally {
     pub(crate) nanoseconds: u64,
     /// The sum of what was read or added, modulo 2^64.
     pub(crate) sum: u64,
+    /// A new key was refused, since the map is full, and the job goes on without it.
+    pub(crate) is_full: bool,
 }
 
 impl Tally {
@@ -29,6 +31,7 @@ impl Tally {
         calls: 0,
         nanoseconds: 0,
         sum: 0,
+        is_full: false,
     };
 
     /// What two workers counted who worked at the same time.
@@ -37,6 +40,7 @@ impl Tally {
             calls: self.calls.wrapping_add(other.calls),
             nanoseconds: self.nanoseconds.max(other.nanoseconds),
             sum: self.sum.wrapping_add(other.sum),
+            is_full: self.is_full || other.is_full,
         }
     }
 }
@@ -46,7 +50,7 @@ impl Tally {
 pub(crate) struct Worker {
     pub(crate) seat: Seat,
     pub(crate) tally: Tally,
-    /// Numbers that it was told, where its job is to keep them.
+    /// Numbers that it was told, or times of its calls, where its job is to keep them.
     pub(crate) told: Vec<u64>,
     /// Why it stopped early.
     pub(crate) fault: Option<WorkFault>,
@@ -96,7 +100,7 @@ pub(crate) fn put_all<R: Wait>(
 }
 
 /// Puts numbers at the keys with these places, by the last of the seats.
-fn filled<R: Wait>(
+pub(crate) fn filled<R: Wait>(
     rt: &R,
     map: &Map,
     seats: Vec<Seat>,

@@ -76,7 +76,7 @@ fn time_pass<R: Threads + Sync + Wait + Clock + Eprint>(
     let job = Growth::new(pass, options, places);
     let before = match pass {
         Pass::Gets => places,
-        Pass::Puts | Pass::LongestPut => &[],
+        _ => &[],
     };
     let done = do_job(rt, alloc, options.shape()?, options.spacing, before, &job)?;
     if done.ended.size() != places.len() as u64 {

@@ -1,32 +1,20 @@
-//! Calls of distinct keys by several threads, above all puts while the map grows from its smallest
-//! table.
+//! Calls of distinct keys by several threads, above all puts while the map grows.
 ghost use Rattle.nb_map.specs.Maps.{IsMine};
 
-use crate::crew::{Job, Worker, do_job, put_all};
+use crate::crew::{Done, Job, Worker, do_job, put_all};
 use crate::draws::nanoseconds_of;
 use crate::faults::{Fault, WorkFault, Wrong};
 use crate::keys::{Spacing, number, shuffled};
 use crate::kinds::get_all;
+use crate::meeting::Meeting;
 use crate::options::Options;
-use crate::runs::Measured;
 use nb_lines::Seconds;
 use nb_map::{Map, Seat};
 use std::alloc::Global;
 use std::rt::Clock;
 use std::sync::Wait;
-use std::sync::atomic::{AtomicU64, Ordering};
-use std::thread::{Threads, yield_now};
+use std::thread::Threads;
 use std::time::Instant;
-
-/// How many keys are put.
-const PUT_COUNT: u32 = 32_768;
-
-/// How often a worker looks whether the others have come, before it begins without them.
-const MAX_LOOKS: u64 = 1_000_000;
-
-/// After how many looks it lets others run, as is needed where there are fewer processors than
-/// threads.
-const BUSY_LOOKS: u64 = 2000;
 
 /// What each worker does at its keys, and what is measured of it.
 #[derive(Clone, Copy, Debug, PartialEq, Eq)]
@@ -37,6 +25,8 @@ pub(crate) enum Pass {
     Gets,
     /// Puts: how long the longest of them takes.
     LongestPut,
+    /// Puts: how long each of them takes.
+    TimedPuts,
 }
 
 /// The job of a pass at the keys with these places, each worker at a part of them.
@@ -46,8 +36,7 @@ pub(crate) struct Growth<'a> {
     places: &'a [u32],
     spacing: Spacing,
     threads: usize,
-    /// How many workers have come.
-    arrived: AtomicU64,
+    meeting: Meeting,
 }
 
 impl<'a> Growth<'a> {
@@ -57,7 +46,7 @@ impl<'a> Growth<'a> {
             places,
             spacing: options.spacing,
             threads: options.threads,
-            arrived: AtomicU64::new(0),
+            meeting: Meeting::new(options.threads),
         }
     }
 
@@ -68,19 +57,6 @@ impl<'a> Growth<'a> {
         match parts.nth(number) {
             Some(part) => part,
             None => &[],
-        }
-    }
-
-    /// Waits for the others, so that all begin at the same time.
-    fn meet(&self) {
-        self.arrived.fetch_add(1, Ordering::SeqCst);
-        for look in 0..MAX_LOOKS {
-            if self.arrived.load(Ordering::SeqCst) >= self.threads as u64 {
-                return;
-            }
-            if look >= BUSY_LOOKS {
-                yield_now();
-            }
         }
     }
 }
@@ -97,7 +73,7 @@ impl Job for Growth<'_> {
         ensures own { IsMine map.now worker.new.seat }
     {
         let part = self.part(number);
-        self.meet();
+        self.meeting.meet();
         let start = Instant::now(rt)?;
         let mut longest = None;
         match self.pass {
@@ -106,6 +82,7 @@ impl Job for Growth<'_> {
             Pass::LongestPut => {
                 longest = Some(longest_put(rt, map, &mut worker.seat, self.spacing, part)?);
             }
+            Pass::TimedPuts => time_puts(rt, map, worker, self.spacing, part)?,
         }
         worker.tally.calls = part.len() as u64;
         let spent = nanoseconds_of(start.elapsed(rt)?);
@@ -132,6 +109,24 @@ fn longest_put<R: Wait + Clock>(
     Ok(longest)
 }
 
+/// Puts numbers at the keys with these places, and keeps how long each put took.
+fn time_puts<R: Wait + Clock>(
+    rt: &R,
+    map: &Map,
+    worker: &mut Worker,
+    spacing: Spacing,
+    places: &[u32],
+) -> Result<(), WorkFault>
+    requires own { IsMine map.now worker.old.seat }
+    ensures own { IsMine map.now worker.new.seat }
+{
+    for place in places {
+        let spent = timed_put(rt, map, &mut worker.seat, spacing, *place)?;
+        worker.told.push(spent)?;
+    }
+    Ok(())
+}
+
 /// Puts a number at the key with this place, and answers how long that took.
 fn timed_put<R: Wait + Clock>(
     rt: &R,
@@ -151,45 +146,146 @@ fn timed_put<R: Wait + Clock>(
     Ok(nanoseconds_of(start.elapsed(rt)?))
 }
 
-/// Puts all keys in a new map, and answers how long that took.
+/// Puts all keys in a new map.
 fn put_once<R: Threads + Sync + Wait + Clock + Eprint>(
     rt: &R,
     alloc: Global,
     options: &Options,
+    pass: Pass,
     places: &[u32],
-) -> Result<u64, Fault> {
-    let job = Growth::new(Pass::Puts, options, places);
+) -> Result<Done, Fault> {
+    let job = Growth::new(pass, options, places);
     let done = do_job(rt, alloc, options.shape()?, options.spacing, &[], &job)?;
     if done.ended.size() != places.len() as u64 {
         return Err(Fault::Wrong(Wrong::Size));
     }
-    Ok(done.tally.nanoseconds)
+    Ok(done)
 }
 
-/// Puts all keys in new maps, again and again until the time is up or so many rounds are made. It
-/// answers the puts of one round and the middle one of the rounds' times.
+/// What a round measures, in nanoseconds.
+#[derive(Clone, Copy, Debug, PartialEq, Eq)]
+pub(crate) struct Times {
+    /// How long all puts take.
+    pub(crate) whole: u64,
+    /// Within which time half of the puts are.
+    pub(crate) p50: u64,
+    /// Within which time 99 of a hundred puts are.
+    pub(crate) p99: u64,
+    /// Within which time 999 of a thousand puts are.
+    pub(crate) p999: u64,
+    /// How long the longest put takes.
+    pub(crate) max: u64,
+}
+
+impl Times {
+    /// The times by name, each with the calls that it is of.
+    pub(crate) fn lines(self, keys: u32) -> [(&'static str, u32, u64); 5] {
+        [
+            ("D", keys, self.whole),
+            ("p50", 1, self.p50),
+            ("p99", 1, self.p99),
+            ("p99.9", 1, self.p999),
+            ("max", 1, self.max),
+        ]
+    }
+}
+
+/// The time that so many thousandths of these sorted times are within.
+pub(crate) fn within(times: &[u64], thousandths: usize) -> u64 {
+    let at = times.len().wrapping_mul(thousandths) / 1000;
+    let last = times.len().saturating_sub(1);
+    times.get(at.min(last)).copied().unwrap_or(0)
+}
+
+/// The middle one of these times.
+pub(crate) fn middle_of(times: Vec<u64>) -> Result<u64, Fault> {
+    let mut times = times;
+    times.sort()?;
+    Ok(within(times.as_slice(), 500))
+}
+
+/// A round: how long all puts take in a new map, and in another one how long a put takes.
+fn time_round<R: Threads + Sync + Wait + Clock + Eprint>(
+    rt: &R,
+    alloc: Global,
+    options: &Options,
+    places: &[u32],
+) -> Result<Times, Fault> {
+    let whole = put_once(rt, alloc, options, Pass::Puts, places)?;
+    let mut timed = put_once(rt, alloc, options, Pass::TimedPuts, places)?;
+    timed.told.sort()?;
+    let times = timed.told.as_slice();
+    Ok(Times {
+        whole: whole.tally.nanoseconds,
+        p50: within(times, 500),
+        p99: within(times, 990),
+        p999: within(times, 999),
+        max: within(times, 1000),
+    })
+}
+
+/// The times of all rounds, for each thing that is measured.
+#[derive(Drop)]
+struct Rounds {
+    whole: Vec<u64>,
+    p50: Vec<u64>,
+    p99: Vec<u64>,
+    p999: Vec<u64>,
+    max: Vec<u64>,
+}
+
+impl Rounds {
+    fn new(alloc: Global) -> Rounds {
+        Rounds {
+            whole: Vec::new(alloc),
+            p50: Vec::new(alloc),
+            p99: Vec::new(alloc),
+            p999: Vec::new(alloc),
+            max: Vec::new(alloc),
+        }
+    }
+
+    /// Adds a round.
+    fn push(&mut self, times: Times) -> Result<(), Fault> {
+        self.whole.push(times.whole)?;
+        self.p50.push(times.p50)?;
+        self.p99.push(times.p99)?;
+        self.p999.push(times.p999)?;
+        self.max.push(times.max)?;
+        Ok(())
+    }
+
+    /// The middle one of each.
+    fn middle(self) -> Result<Times, Fault> {
+        Ok(Times {
+            whole: middle_of(self.whole)?,
+            p50: middle_of(self.p50)?,
+            p99: middle_of(self.p99)?,
+            p999: middle_of(self.p999)?,
+            max: middle_of(self.max)?,
+        })
+    }
+}
+
+/// Makes rounds until the time is up or each thread has made so many calls, and answers the middle
+/// one of each of their times.
 pub(crate) fn measure<R: Threads + Sync + Wait + Clock + Eprint>(
     rt: &R,
     alloc: Global,
     options: &Options,
-) -> Result<Measured, Fault> {
-    let places = shuffled(alloc, PUT_COUNT)?;
+) -> Result<Times, Fault> {
+    let places = shuffled(alloc, options.keys)?;
     let start = Instant::now(rt).map_err(WorkFault::from)?;
-    let mut times = Vec::new(alloc);
+    let mut times = Rounds::new(alloc);
     let mut seconds = Seconds::new(options.progress, options.time);
-    let rounds = options.calls.div_ceil(u64::from(PUT_COUNT)).max(1);
-    for _round in 0..rounds {
-        times.push(put_once(rt, alloc, options, places.as_slice())?)?;
+    let rounds = options.calls.div_ceil(u64::from(options.keys.max(1)));
+    for _round in 0..rounds.max(1) {
+        times.push(time_round(rt, alloc, options, places.as_slice())?)?;
         let spent = start.elapsed(rt).map_err(WorkFault::from)?;
         seconds.tell(rt, spent);
         if spent >= options.time {
             break;
         }
     }
-    times.sort()?;
-    let middle = times.get(times.len() / 2).copied().unwrap_or(0);
-    Ok(Measured {
-        calls: u64::from(PUT_COUNT),
-        nanoseconds: middle,
-    })
+    times.middle()
 }

@@ -4,6 +4,7 @@
 #![tactic(auto)]
 
 pub(crate) mod checks;
+pub(crate) mod churn;
 pub(crate) mod crew;
 pub(crate) mod draws;
 pub(crate) mod faults;
@@ -11,6 +12,8 @@ pub(crate) mod fill;
 pub(crate) mod growth;
 pub(crate) mod keys;
 pub(crate) mod kinds;
+pub(crate) mod meeting;
+pub(crate) mod memory;
 pub(crate) mod options;
 pub(crate) mod random;
 pub(crate) mod runs;

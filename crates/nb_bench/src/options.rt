@@ -1,9 +1,10 @@
 //! The words of the command line.
 
-use crate::keys::Spacing;
-use crate::workloads::Workload;
+use crate::churn::keys_ever;
+use crate::keys::{Law, Spacing};
+use crate::workloads::{Plan, Workload};
 use clap::{Arg, ArgAction, ArgMatches, Command};
-use nb_core::{Shape, ShapeFault};
+use nb_core::{FEW_SEATS, MAX_EXPONENT, MOST_KEYS, Shape, ShapeFault};
 use nb_lines::{NumberWord, Progress, WordsFault, command_named, matches_of, option, wrong_word};
 use std::alloc::{AllocError, Global};
 use std::time::Duration;
@@ -18,7 +19,7 @@ pub(crate) struct Options {
     pub(crate) time: Duration,
     /// The exponents of the tables' sizes; none, where the number of keys decides.
     pub(crate) exponents: Vec<u32>,
-    /// How many keys are put in `F`.
+    /// How many keys there are.
     pub(crate) keys: u32,
     /// Over how many words the size is counted.
     pub(crate) stripes: usize,
@@ -27,7 +28,10 @@ pub(crate) struct Options {
     /// How many slots are handed out at once when a table is copied.
     pub(crate) chunk: u32,
     pub(crate) spacing: Spacing,
-    /// How many calls each thread makes at most, rounded up to whole batches or rounds.
+    /// How often each key is drawn, in `A`, `B` and `C`.
+    pub(crate) law: Law,
+    /// How many calls each thread makes at most, rounded up to whole batches or rounds; in `G`, how
+    /// many in a round, if not `u64::MAX`.
     pub(crate) calls: u64,
     /// How many puts each thread makes in the check.
     pub(crate) puts: u32,
@@ -41,13 +45,33 @@ impl Options {
     /// The shape of the map.
     pub(crate) fn shape(&self) -> Result<Shape, ShapeFault> {
         if self.exponents.is_empty() {
-            return Shape::for_many_keys(self.keys as usize, self.threads);
+            return self.shape_by_keys();
         }
         Shape::large(self.exponents.as_slice())
             .and_then(|shape| shape.with_seats(self.threads))
             .and_then(|shape| shape.with_stripes(self.stripes))
             .and_then(|shape| shape.with_reprobe_limit(self.reprobes))
             .and_then(|shape| shape.with_chunk(self.chunk))
+    }
+
+    /// The shape for the workload's keys, in `G` for all that ever come.
+    fn shape_by_keys(&self) -> Result<Shape, ShapeFault> {
+        let keys = self.keys as usize;
+        match self.workload {
+            Workload::Growth => self.shape_to_grow(keys),
+            Workload::Churn => Shape::for_many_keys(keys_ever(self.keys), self.threads),
+            _ => Shape::for_many_keys(keys, self.threads),
+        }
+    }
+
+    /// The shape of `Shape::for_keys`, with more seats if there are more threads; that of
+    /// `Shape::for_many_keys`, if there are more keys.
+    fn shape_to_grow(&self, keys: usize) -> Result<Shape, ShapeFault> {
+        if keys > MOST_KEYS {
+            return Shape::for_many_keys(keys, self.threads);
+        }
+        Shape::for_keys(keys, self.threads.min(FEW_SEATS))
+            .and_then(|shape| shape.with_seats(self.threads))
     }
 }
 
@@ -100,8 +124,8 @@ const LIVE: NumberWord = NumberWord {
 };
 
 const WORKLOADS: &str = "A: gets; B: 90% gets; C: 50% gets; D: puts that make the map grow; \
-    E: puts at one key; F: many keys are put, and read; kinds: one kind of call after another; \
-    check: a test under load";
+    E: puts at one key; F: many keys are put, and read; G: keys come and go; \
+    kinds: one kind of call after another; check: a test under load";
 
 /// The words that each run is given.
 fn with_words<'a>(alloc: Global, command: Command<'a>) -> Result<Command<'a>, AllocError> {
@@ -154,10 +178,15 @@ fn with_work<'a>(alloc: Global, command: Command<'a>) -> Result<Command<'a>, All
         alloc,
         "keys",
         "WHICH",
-        "dense (0, 1, 2 and so on) or spread (over the whole range)",
+        "dense (0, 1, 2 and so on), spread (over the whole range) or \
+        zipf (dense, and in A to C some much more often)",
     )
     .default_value("dense");
-    let calls = CALLS.option(alloc, "N", "How many calls each thread makes at most");
+    let calls = CALLS.option(
+        alloc,
+        "N",
+        "How many calls each thread makes at most; in G, how many in a round",
+    );
     let puts = PUTS
         .option(
             alloc,
@@ -172,9 +201,12 @@ fn with_work<'a>(alloc: Global, command: Command<'a>) -> Result<Command<'a>, All
             "In check: how many adds all threads make together; 0 to 4294967295",
         )
         .default_value("10000000");
-    let live = LIVE
-        .option(alloc, "N", "In F: how many keys there are; 1 to 178956970")
-        .default_value("1000000");
+    let live = LIVE.option(
+        alloc,
+        "N",
+        "In A to G: how many keys there are; 1 to 178956970; by default 65536, in D 32768, \
+        in F 1000000",
+    );
     command
         .arg(keys)?
         .arg(calls)?
@@ -211,23 +243,40 @@ fn read_plan(alloc: Global, text: &str) -> Result<Vec<u32>, WordsFault> {
     Ok(exponents)
 }
 
-/// The exponents that are asked for, or those of the workload.
+/// The exponent of the smallest table that has two slots for each of so many keys, if any has.
+fn exponent_for(keys: u32) -> u32 {
+    for exponent in 2..MAX_EXPONENT {
+        if 1u64 << exponent >= 2 * u64::from(keys) {
+            return exponent;
+        }
+    }
+    MAX_EXPONENT
+}
+
+/// The exponents that are asked for, or those of the workload; none, where the keys decide.
 fn plan_of(
     alloc: Global,
     workload: Workload,
+    keys: u32,
     matches: &ArgMatches<'_>,
 ) -> Result<Vec<u32>, WordsFault> {
     if let Some(text) = matches.get_str("plan") {
         return read_plan(alloc, text);
     }
     let mut exponents = Vec::new(alloc);
-    for exponent in workload.plan() {
-        exponents.push(*exponent)?;
+    match workload.plan() {
+        Plan::OneTable => exponents.push(exponent_for(keys))?,
+        Plan::Doubling => {
+            for exponent in 2..=17 {
+                exponents.push(exponent)?;
+            }
+        }
+        Plan::ByKeys => {}
     }
     Ok(exponents)
 }
 
-const NO_WORKLOAD: &str = "none of A, B, C, D, E, F, kinds and check";
+const NO_WORKLOAD: &str = "none of A, B, C, D, E, F, G, kinds and check";
 
 /// The workload that is asked for.
 fn read_workload(alloc: Global, name: &str) -> Result<Workload, WordsFault> {
@@ -237,12 +286,15 @@ fn read_workload(alloc: Global, name: &str) -> Result<Workload, WordsFault> {
     }
 }
 
-/// The keys that are asked for.
-fn read_spacing(alloc: Global, name: &str) -> Result<Spacing, WordsFault> {
+const NO_KEYS: &str = "none of dense, spread and zipf";
+
+/// The keys that are asked for, and how often each is drawn.
+fn read_keys(alloc: Global, name: &str) -> Result<(Spacing, Law), WordsFault> {
     match name {
-        "dense" => Ok(Spacing::Dense),
-        "spread" => Ok(Spacing::Spread),
-        _ => Err(wrong_word(alloc, "--keys", name, "neither dense nor spread")),
+        "dense" => Ok((Spacing::Dense, Law::Even)),
+        "spread" => Ok((Spacing::Spread, Law::Even)),
+        "zipf" => Ok((Spacing::Dense, Law::Zipf)),
+        _ => Err(wrong_word(alloc, "--keys", name, NO_KEYS)),
     }
 }
 
@@ -264,16 +316,20 @@ fn options_of(alloc: Global, matches: &ArgMatches<'_>) -> Result<Options, WordsF
     let threads = THREADS.find(alloc, matches)?.unwrap_or(1) as usize;
     let stripes = STRIPES.find(alloc, matches)?;
     let reprobes = REPROBES.find(alloc, matches)?;
+    let live = LIVE.find(alloc, matches)?;
+    let keys = workload.keys(live.map(|live| live as u32));
+    let (spacing, law) = read_keys(alloc, matches.get_str("keys").unwrap_or("dense"))?;
     Ok(Options {
         workload,
         threads,
         time: read_time(alloc, matches.get_str("SECONDS").unwrap_or("1"))?,
-        exponents: plan_of(alloc, workload, matches)?,
-        keys: LIVE.find(alloc, matches)?.unwrap_or(1) as u32,
+        exponents: plan_of(alloc, workload, keys, matches)?,
+        keys,
         stripes: stripes.map_or(threads, |stripes| stripes as usize),
         reprobes: reprobes.map_or(u32::MAX, |reprobes| reprobes as u32),
         chunk: CHUNK.find(alloc, matches)?.unwrap_or(8) as u32,
-        spacing: read_spacing(alloc, matches.get_str("keys").unwrap_or("dense"))?,
+        spacing,
+        law,
         calls: CALLS.find(alloc, matches)?.unwrap_or(u64::MAX),
         puts: PUTS.find(alloc, matches)?.unwrap_or(0) as u32,
         adds: ADDS.find(alloc, matches)?.unwrap_or(0),

@@ -1,12 +1,12 @@
-//! Runs of workloads.
+//! Runs of the workloads whose calls are drawn.
 
 use crate::crew::do_job;
 use crate::draws::{BATCH, Calls, Draws};
 use crate::faults::Fault;
-use crate::growth;
-use crate::keys::{KEY_COUNT, shuffled};
+use crate::keys::{Law, samples_of, shuffled};
 use crate::options::Options;
 use crate::workloads::{Mix, Workload};
+use nb_core::OutOfMemory;
 use std::alloc::Global;
 use std::rt::Clock;
 use std::sync::Wait;
@@ -21,27 +21,47 @@ pub(crate) struct Measured {
     pub(crate) nanoseconds: u64,
 }
 
-/// The calls of a workload, but of one on growing maps.
-fn calls_of(workload: Workload) -> Calls {
+/// Of a hundred calls of a workload, how many are gets and puts.
+fn mix_of(workload: Workload) -> Mix {
     match workload {
-        Workload::Reads => Calls::Mixed(Mix { gets: 90, puts: 9 }),
-        Workload::Changes => Calls::Mixed(Mix { gets: 50, puts: 25 }),
-        Workload::OneKey => Calls::OneKey,
-        _ => Calls::Mixed(Mix { gets: 100, puts: 0 }),
+        Workload::Reads => Mix { gets: 90, puts: 9 },
+        Workload::Changes => Mix { gets: 50, puts: 25 },
+        _ => Mix { gets: 100, puts: 0 },
     }
 }
 
-/// Makes the calls of a workload on a map that has half of the keys.
-fn measure_calls<R: Threads + Sync + Wait + Clock + Eprint>(
+/// The calls that the options ask for; by zipf's law at the keys with these places.
+fn calls_of<'a>(options: &Options, samples: &'a [u32]) -> Calls<'a> {
+    match (options.workload, options.law) {
+        (Workload::OneKey, _) => Calls::OneKey,
+        (_, Law::Even) => Calls::Mixed,
+        (_, Law::Zipf) => Calls::Sampled(samples),
+    }
+}
+
+/// The draws from these places by zipf's law, where the options ask for them.
+fn draws_of(alloc: Global, options: &Options, places: &[u32]) -> Result<Vec<u32>, OutOfMemory> {
+    match options.law {
+        Law::Even => Ok(Vec::new(alloc)),
+        Law::Zipf => samples_of(alloc, places),
+    }
+}
+
+/// Makes the calls of `A`, `B`, `C` or `E` on a map where half of the keys have a number.
+pub(crate) fn measure<R: Threads + Sync + Wait + Clock + Eprint>(
     rt: &R,
     alloc: Global,
     options: &Options,
 ) -> Result<Measured, Fault> {
-    let places = shuffled(alloc, KEY_COUNT)?;
+    let places = shuffled(alloc, options.keys)?;
     let (half, _) = places.as_slice().split_at(places.len() / 2);
+    let samples = draws_of(alloc, options, places.as_slice())?;
     let job = Draws {
-        calls: calls_of(options.workload),
+        calls: calls_of(options, samples.as_slice()),
+        mix: mix_of(options.workload),
+        keys: options.keys,
         spacing: options.spacing,
+        threads: options.threads,
         time: options.time,
         batches: options.calls.div_ceil(BATCH),
         progress: options.progress,
@@ -51,16 +71,4 @@ fn measure_calls<R: Threads + Sync + Wait + Clock + Eprint>(
         calls: done.tally.calls,
         nanoseconds: done.tally.nanoseconds,
     })
-}
-
-/// Runs a workload that is no check.
-pub(crate) fn measure<R: Threads + Sync + Wait + Clock + Eprint>(
-    rt: &R,
-    alloc: Global,
-    options: &Options,
-) -> Result<Measured, Fault> {
-    match options.workload {
-        Workload::Growth => growth::measure(rt, alloc, options),
-        _ => measure_calls(rt, alloc, options),
-    }
 }

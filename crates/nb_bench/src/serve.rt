@@ -7,10 +7,10 @@ use crate::kinds::Kind;
 use crate::options::{Options, read_options};
 use crate::runs::{Measured, measure};
 use crate::workloads::Workload;
-use crate::{fill, kinds};
+use crate::{churn, fill, growth, kinds, memory};
 use nb_lines::{Progress, WordsFault, answer, complain, words};
 use std::alloc::Global;
-use std::rt::{Clock, Env};
+use std::rt::{Clock, Env, Files};
 use std::sync::Wait;
 use std::thread::Threads;
 
@@ -44,18 +44,53 @@ fn run_kinds<R: Wait + Clock + Print + Eprint>(
     Ok(())
 }
 
-/// Fills and reads maps of many keys, and prints a line for each time.
-fn run_fill<R: Threads + Sync + Wait + Clock + Print + Eprint>(
+/// Prints a line for each of these, which are a name, how many calls it is of, and a number.
+fn print_lines<R: Print>(
+    rt: &R,
+    threads: usize,
+    lines: &[(&'static str, u32, u64)],
+) -> Result<(), Fault> {
+    for (name, calls, number) in lines.iter() {
+        println!(rt; "nb {name} {threads} {calls} {number}").map_err(|_| Fault::Write)?;
+    }
+    Ok(())
+}
+
+/// Puts keys in maps that grow, and prints a line for each time.
+fn run_growth<R: Threads + Sync + Wait + Clock + Print + Eprint>(
+    rt: &R,
+    alloc: Global,
+    options: &Options,
+) -> Result<(), Fault> {
+    let lines = growth::measure(rt, alloc, options)?.lines(options.keys);
+    print_lines(rt, options.threads, lines.as_slice())
+}
+
+/// Fills and reads maps of many keys, and prints a line for each time, and one for the memory.
+fn run_fill<R>(rt: &R, alloc: Global, options: &Options) -> Result<(), Fault>
+where
+    R: Threads + Sync + Wait + Clock + Print + Eprint + Files + AllocGlobal,
+{
+    let memory = memory::measure(rt, alloc, options)?;
+    let lines = fill::measure(rt, alloc, options)?.lines(options.keys);
+    print_lines(rt, options.threads, lines.as_slice())?;
+    match memory {
+        Some(bytes) => print_lines(rt, options.threads, &[("memory", options.keys, bytes)]),
+        None => Ok(()),
+    }
+}
+
+/// Has keys come and go, and prints a line, with `full` at its end if a map was full.
+fn run_churn<R: Threads + Sync + Wait + Clock + Print + Eprint>(
     rt: &R,
     alloc: Global,
     options: &Options,
 ) -> Result<(), Fault> {
     let threads = options.threads;
-    let times = fill::measure(rt, alloc, options)?;
-    for (name, calls, nanoseconds) in times.lines(options.keys) {
-        println!(rt; "nb {name} {threads} {calls} {nanoseconds}").map_err(|_| Fault::Write)?;
-    }
-    Ok(())
+    let churned = churn::measure(rt, alloc, options)?;
+    let (calls, nanoseconds) = (churned.calls, churned.nanoseconds);
+    let full = if churned.is_full { " full" } else { "" };
+    println!(rt; "nb G {threads} {calls} {nanoseconds}{full}").map_err(|_| Fault::Write)
 }
 
 /// Runs a workload for its time, and prints its line.
@@ -71,15 +106,16 @@ fn run_timed<R: Threads + Sync + Wait + Clock + Print + Eprint>(
 }
 
 /// Runs what the options ask for.
-fn run<R: Threads + Sync + Wait + Clock + Print + Eprint>(
-    rt: &R,
-    alloc: Global,
-    options: &Options,
-) -> Result<(), Fault> {
+fn run<R>(rt: &R, alloc: Global, options: &Options) -> Result<(), Fault>
+where
+    R: Threads + Sync + Wait + Clock + Print + Eprint + Files + AllocGlobal,
+{
     match options.workload {
         Workload::Check => run_checks(rt, alloc, options),
         Workload::Kinds => run_kinds(rt, alloc, options),
+        Workload::Growth => run_growth(rt, alloc, options),
         Workload::Fill => run_fill(rt, alloc, options),
+        Workload::Churn => run_churn(rt, alloc, options),
         _ => run_timed(rt, alloc, options),
     }
 }
@@ -87,7 +123,7 @@ fn run<R: Threads + Sync + Wait + Clock + Print + Eprint>(
 /// Reads the options and runs what they ask for.
 fn attend<R>(rt: &R, progress: Progress) -> Result<(), Fault>
 where
-    R: Env + Threads + Sync + Wait + Clock + Print + Eprint + AllocGlobal,
+    R: Env + Files + Threads + Sync + Wait + Clock + Print + Eprint + AllocGlobal,
 {
     let words = words(rt)?;
     let mut options = read_options(rt.alloc(), words.as_slice())?;
@@ -102,7 +138,7 @@ where
 /// words, 4 where a worker stopped early.
 pub(crate) fn serve<R>(rt: &R, progress: Progress) -> u8
 where
-    R: Env + Threads + Sync + Wait + Clock + Print + Eprint + AllocGlobal,
+    R: Env + Files + Threads + Sync + Wait + Clock + Print + Eprint + AllocGlobal,
 {
     match attend(rt, progress) {
         Ok(()) => 0,

@@ -2,12 +2,14 @@
 
 use crate::checks::{are_summed, are_told_once, do_adds, do_puts};
 use crate::faults::{Fault, WorkFault, Wrong};
-use crate::keys::{KEY_COUNT, Spacing, shuffled};
+use crate::growth::within;
+use crate::keys::{KEY_COUNT, Law, SAMPLE_COUNT, Spacing, in_order, samples_of, shuffled};
+use crate::memory::bytes_of;
 use crate::options::{Options, read_options};
 use crate::runs::{Measured, measure};
 use crate::workloads::Workload;
-use crate::{fill, kinds};
-use nb_core::ShapeFault;
+use crate::{churn, fill, growth, kinds, memory};
+use nb_core::{Shape, ShapeFault};
 use nb_lines::{VERSION, WordsFault};
 use std::alloc::Global;
 use std::fmt::Display;
@@ -33,21 +35,80 @@ fn run_short<R: Threads + Sync + Wait + Clock + Eprint>(
     alloc: Global,
     name: &str,
     threads: &str,
+    keys: &str,
 ) -> Result<Measured, Fault> {
-    let words = [name, threads, "5", "--calls", "40000", "--keys", "spread"];
+    let words = [
+        name, threads, "5", "--calls", "40000", "--keys", keys, "--live", "5001",
+    ];
     let options = options(alloc, words.as_slice())?;
     measure(rt, alloc, &options)
 }
 
 #[test]
 fn each_workload_runs(rt: HostRuntime) -> Result<(), Fail> {
-    for name in ["A", "B", "C", "D", "E"] {
-        for threads in ["1", "3"] {
-            let measured = run_short(&rt, rt.alloc(), name, threads)?;
-            assert!(rt; measured.calls >= 32_768, "{name}");
+    for name in ["A", "B", "C", "E"] {
+        for (threads, keys) in [("1", "spread"), ("3", "spread"), ("3", "zipf")] {
+            let measured = run_short(&rt, rt.alloc(), name, threads, keys)?;
+            assert!(rt; measured.calls >= 40_000, "{name}");
             assert!(rt; measured.nanoseconds > 0, "{name}");
         }
     }
+    Ok(())
+}
+
+#[test]
+fn maps_grow(rt: HostRuntime) -> Result<(), Fail> {
+    for words in [
+        ["D", "1", "0", "--keys", "spread"],
+        ["D", "3", "0", "--live", "5001"],
+        ["D", "9", "0", "--plan", "4,10,16"],
+    ] {
+        let options = options(rt.alloc(), words.as_slice())?;
+        let times = growth::measure(&rt, rt.alloc(), &options)?;
+        assert!(rt; times.whole > 0 && times.max > 0 && times.p50 <= times.p99);
+        assert!(rt; times.p99 <= times.p999 && times.p999 <= times.max);
+    }
+    Ok(())
+}
+
+#[test]
+fn times_within(rt: HostRuntime) {
+    let times = [1, 2, 3, 4, 5, 6, 7, 8, 9, 10];
+    assert_eq!(rt; within(times.as_slice(), 500), 6);
+    assert_eq!(rt; within(times.as_slice(), 990), 10);
+    assert_eq!(rt; within(times.as_slice(), 1000), 10);
+    assert_eq!(rt; within(&[], 500), 0);
+}
+
+#[test]
+fn keys_come_and_go(rt: HostRuntime) -> Result<(), Fail> {
+    // Three threads have 100 keys each, and each key's place is taken by eight new ones.
+    let going_on = options(rt.alloc(), &["G", "3", "0", "--live", "300"])?;
+    let churned = churn::measure(&rt, rt.alloc(), &going_on)?;
+    assert!(rt; churned.calls == 4800 && churned.nanoseconds > 0 && !churned.is_full);
+    let longer = options(rt.alloc(), &["G", "3", "0", "--live", "300", "--calls", "99"])?;
+    let churned = churn::measure(&rt, rt.alloc(), &longer)?;
+    assert!(rt; churned.calls == 300 && !churned.is_full);
+    Ok(())
+}
+
+#[test]
+fn a_full_map_is_told(rt: HostRuntime) -> Result<(), Fail> {
+    // Of 256 slots 100 are taken from the start. A step takes one, and is two calls.
+    let words = ["G", "2", "0", "--live", "100", "--plan", "8"];
+    let options = options(rt.alloc(), words.as_slice())?;
+    let churned = churn::measure(&rt, rt.alloc(), &options)?;
+    assert!(rt; churned.calls == 312 && churned.is_full);
+    Ok(())
+}
+
+#[test]
+fn memory_is_told(rt: HostRuntime) -> Result<(), Fail> {
+    assert_eq!(rt; bytes_of("1000 25 3 4 0 5 0\n"), Some(102_400));
+    assert_eq!(rt; bytes_of("1000"), None);
+    assert_eq!(rt; bytes_of("1000 few 3"), None);
+    let options = options(rt.alloc(), &["F", "2", "0", "--live", "20000"])?;
+    assert!(rt; memory::measure(&rt, rt.alloc(), &options)?.is_some());
     Ok(())
 }
 
@@ -145,6 +206,50 @@ fn keys_are_distinct(rt: HostRuntime) -> Result<(), Fail> {
     Ok(())
 }
 
+/// How often a place is in these.
+fn count_of(samples: &[u32], wanted: u32) -> u64 {
+    let mut count = 0u64;
+    for place in samples {
+        count = count.wrapping_add(u64::from(*place == wanted));
+    }
+    count
+}
+
+#[test]
+fn samples_are_by_zipf(rt: HostRuntime) -> Result<(), Fail> {
+    let places = in_order(rt.alloc(), 100)?;
+    let samples = samples_of(rt.alloc(), places.as_slice())?;
+    assert_eq!(rt; samples.len() as u64, SAMPLE_COUNT);
+    // The sum of 1 / r for r from 1 to 100 is 5.187378, so the key of rank r is there 202,140 / r
+    // times. The first ranks are at the front and at the end by turns, the last in the middle.
+    for (place, wanted) in [(0, 202_140), (99, 101_070), (1, 67_380), (98, 50_535), (50, 2021)] {
+        let count = count_of(samples.as_slice(), place);
+        assert!(rt; count.abs_diff(wanted) <= 1, "{place}");
+    }
+    Ok(())
+}
+
+#[test]
+fn keys_give_shapes(rt: HostRuntime) -> Result<(), Fail> {
+    let shapes: [(&[&str], Result<Shape, ShapeFault>); 6] = [
+        (&["D", "4"], Shape::for_keys(32_768, 4)),
+        (&["D", "9", "1", "--live", "1000"], Shape::for_keys(1000, 8).and_then(|s| s.with_seats(9))),
+        (&["D", "9", "1", "--live", "349526"], Shape::for_many_keys(349_526, 9)),
+        (&["F", "4"], Shape::for_many_keys(1_000_000, 4)),
+        (&["G", "4"], Shape::for_many_keys(589_824, 4)),
+        (&["G", "4", "1", "--live", "178956970"], Shape::for_many_keys(178_956_970, 4)),
+    ];
+    for (words, wanted) in shapes {
+        let given = options(rt.alloc(), words)?;
+        assert_eq!(rt; given.shape(), wanted);
+    }
+    for (live, exponent) in [("1", 2), ("2", 2), ("3", 3), ("65537", 18), ("178956970", 28)] {
+        let given = options(rt.alloc(), &["C", "1", "1", "--live", live])?;
+        assert_eq!(rt; given.exponents.as_slice(), [exponent].as_slice());
+    }
+    Ok(())
+}
+
 #[test]
 fn words_give_options(rt: HostRuntime) -> Result<(), Fail> {
     let plain = options(rt.alloc(), &["A"])?;
@@ -153,7 +258,8 @@ fn words_give_options(rt: HostRuntime) -> Result<(), Fail> {
     assert_eq!(rt; (plain.reprobes, plain.chunk), (u32::MAX, 8));
     assert_eq!(rt; plain.time, Duration::from_millis(1000));
     assert_eq!(rt; plain.exponents.as_slice(), [17].as_slice());
-    assert_eq!(rt; plain.spacing, Spacing::Dense);
+    assert_eq!(rt; (plain.spacing, plain.law), (Spacing::Dense, Law::Even));
+    assert_eq!(rt; plain.keys, 65_536);
     let words = [
         "D",
         "4",
@@ -175,7 +281,9 @@ fn words_give_options(rt: HostRuntime) -> Result<(), Fail> {
     assert_eq!(rt; (given.reprobes, given.chunk), (18, 64));
     assert_eq!(rt; given.time, Duration::from_millis(250));
     assert_eq!(rt; given.exponents.as_slice(), [3, 5].as_slice());
-    assert_eq!(rt; given.spacing, Spacing::Spread);
+    assert_eq!(rt; (given.spacing, given.law), (Spacing::Spread, Law::Even));
+    let drawn = options(rt.alloc(), &["B", "--keys", "zipf"])?;
+    assert_eq!(rt; (drawn.spacing, drawn.law), (Spacing::Dense, Law::Zipf));
     Ok(())
 }
 
@@ -204,8 +312,8 @@ fn wrong_words_are_named(rt: HostRuntime) -> Result<(), Fail> {
             "the following required arguments were not provided: <WORKLOAD>",
         ),
         (
-            &["G"],
-            "WORKLOAD G: none of A, B, C, D, E, F, kinds and check",
+            &["H"],
+            "WORKLOAD H: none of A, B, C, D, E, F, G, kinds and check",
         ),
         (&["A", "0"], "THREADS 0: not from 1 to 256"),
         (&["A", "257"], "THREADS 257: not from 1 to 256"),
@@ -213,7 +321,7 @@ fn wrong_words_are_named(rt: HostRuntime) -> Result<(), Fail> {
         (&["A", "1", "1", "1"], "unexpected argument '1' found"),
         (
             &["A", "--keys", "few"],
-            "--keys few: neither dense nor spread",
+            "--keys few: none of dense, spread and zipf",
         ),
         (
             &["A", "--reprobes", "0"],
@@ -304,8 +412,8 @@ Usage: nb_bench [OPTIONS] <WORKLOAD> [THREADS] [SECONDS]
 
 Arguments:
   <WORKLOAD>  A: gets; B: 90% gets; C: 50% gets; D: puts that make the map grow; \
-E: puts at one key; F: many keys are put, and read; kinds: one kind of call after another; \
-check: a test under load
+E: puts at one key; F: many keys are put, and read; G: keys come and go; \
+kinds: one kind of call after another; check: a test under load
   [THREADS]   How many threads run at once, each with its own seat; 1 to 256 [default: 1]
   [SECONDS]   How many seconds to measure, such as 0.5 [default: 1]
 
@@ -315,12 +423,14 @@ Options:
       --reprobes <N>   How many slots a new key may try before a table grows; 1 to 4294967295
       --chunk <C>      How many slots a thread copies at a time; a power of two from 4 to 1024 \
 [default: 8]
-      --keys <WHICH>   dense (0, 1, 2 and so on) or spread (over the whole range) [default: dense]
-      --calls <N>      How many calls each thread makes at most
+      --keys <WHICH>   dense (0, 1, 2 and so on), spread (over the whole range) or \
+zipf (dense, and in A to C some much more often) [default: dense]
+      --calls <N>      How many calls each thread makes at most; in G, how many in a round
       --puts <N>       In check: how many puts each thread makes; 0 to 1000000 [default: 150000]
       --adds <N>       In check: how many adds all threads make together; 0 to 4294967295 \
 [default: 10000000]
-      --live <N>       In F: how many keys there are; 1 to 178956970 [default: 1000000]
+      --live <N>       In A to G: how many keys there are; 1 to 178956970; by default 65536, \
+in D 32768, in F 1000000
   -h, --help           Print help
   -V, --version        Print version
 ";

@@ -1,5 +1,7 @@
 //! What is measured.
 
+use crate::keys::KEY_COUNT;
+
 /// What the threads do.
 #[derive(Clone, Copy, Debug, PartialEq, Eq)]
 pub(crate) enum Workload {
@@ -15,6 +17,8 @@ pub(crate) enum Workload {
     OneKey,
     /// `F`: a map with room for many keys is made, filled and read.
     Fill,
+    /// `G`: keys come and go.
+    Churn,
     /// `kinds`: calls of one kind after another, by one thread.
     Kinds,
     /// `check`: what is told under load is compared with what there is in the end.
@@ -31,6 +35,7 @@ impl Workload {
             "D" => Some(Workload::Growth),
             "E" => Some(Workload::OneKey),
             "F" => Some(Workload::Fill),
+            "G" => Some(Workload::Churn),
             "kinds" => Some(Workload::Kinds),
             "check" => Some(Workload::Check),
             _ => None,
@@ -46,27 +51,42 @@ impl Workload {
             Workload::Growth => "D",
             Workload::OneKey => "E",
             Workload::Fill => "F",
+            Workload::Churn => "G",
             Workload::Kinds => "kinds",
             Workload::Check => "check",
         }
     }
 
-    /// The exponents of the tables that it runs on, where the options name none: from the smallest
-    /// table up where the map is to grow, and else one table of twice as many slots as there are
-    /// keys. Where the number of keys is an option, it decides: there are none here.
-    pub(crate) fn plan(self) -> &'static [u32] {
+    /// How many keys there are, where the options ask for so many, if they do.
+    pub(crate) fn keys(self, live: Option<u32>) -> u32 {
         match self {
-            Workload::Growth | Workload::Check => &DOUBLED,
-            Workload::Fill => &[],
-            _ => &ONE_TABLE,
+            Workload::Kinds | Workload::Check => KEY_COUNT,
+            Workload::Growth => live.unwrap_or(32_768),
+            Workload::Fill => live.unwrap_or(1_000_000),
+            _ => live.unwrap_or(KEY_COUNT),
+        }
+    }
+
+    /// The tables that it runs on, where the options name none.
+    pub(crate) fn plan(self) -> Plan {
+        match self {
+            Workload::Growth | Workload::Fill | Workload::Churn => Plan::ByKeys,
+            Workload::Check => Plan::Doubling,
+            _ => Plan::OneTable,
         }
     }
 }
 
-/// Sixteen tables, each twice the last.
-static DOUBLED: [u32; 16] = [2, 3, 4, 5, 6, 7, 8, 9, 10, 11, 12, 13, 14, 15, 16, 17];
-
-static ONE_TABLE: [u32; 1] = [17];
+/// Which tables a map has, where the options name none.
+#[derive(Clone, Copy, Debug, PartialEq, Eq)]
+pub(crate) enum Plan {
+    /// One table, of twice as many slots as there are keys.
+    OneTable,
+    /// Sixteen tables, each twice the last, from the smallest one up.
+    Doubling,
+    /// The tables of a shape for so many keys.
+    ByKeys,
+}
 
 /// Of a hundred calls that are drawn, how many are gets and how many puts. The others are removals.
 #[derive(Clone, Copy, Debug, PartialEq, Eq)]

@@ -1,6 +1,7 @@
 // The workloads of nb_bench driven from C++, through the functions of samvolip.h: what a call through the library's boundary
 // costs, beside the same call inside (crates/nb_bench).
-//   PROG WORKLOAD THREADS SECONDS [spread]      prints   c WORKLOAD THREADS OPS NANOSECONDS
+//   PROG WORKLOAD THREADS SECONDS [--keys dense|spread|zipf]      prints lines   c WHAT THREADS OPS NANOSECONDS
+// WORKLOAD is A, B, C, D or E.
 #include "../../nb_bench/peers/workloads.h"
 #include "samvolip.h"
 

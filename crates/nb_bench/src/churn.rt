@@ -1,0 +1,188 @@
+//! Keys that come and go: each worker puts new keys, and takes out its oldest ones.
+ghost use Rattle.nb_map.specs.Maps.{IsMine};
+
+use crate::crew::{Job, Worker, do_job};
+use crate::draws::nanoseconds_of;
+use crate::faults::{Fault, WorkFault, Wrong};
+use crate::growth::middle_of;
+use crate::keys::{Spacing, in_order, number};
+use crate::meeting::Meeting;
+use crate::options::Options;
+use nb_core::{Key, MANY_KEYS};
+use nb_lines::Seconds;
+use nb_map::Map;
+use std::alloc::Global;
+use std::rt::Clock;
+use std::sync::Wait;
+use std::thread::Threads;
+use std::time::Instant;
+
+/// How often each key's place in the map is taken by a new key in a round, if the options don't say
+/// how many calls there are.
+const TURNS: u64 = 8;
+
+/// How many keys ever come to a map that has so many at any time, in a round of that length; no
+/// more than a shape can be asked for.
+pub(crate) fn keys_ever(keys: u32) -> usize {
+    (u64::from(keys).wrapping_mul(TURNS + 1) as usize).min(MANY_KEYS)
+}
+
+/// The job to make steps. The keys with numbers from the start are the first ones; of `threads`
+/// workers each has every `threads`-th key, from that of its own number on. In a step it puts the
+/// next one of its keys, and takes out the oldest.
+#[derive(Drop)]
+struct Churn {
+    spacing: Spacing,
+    threads: u64,
+    /// How many keys each worker has at any time.
+    part: u64,
+    /// How many steps each worker makes.
+    steps: u64,
+    meeting: Meeting,
+}
+
+impl Churn {
+    fn new(options: &Options) -> Churn {
+        let threads = (options.threads as u64).max(1);
+        let part = (u64::from(options.keys) / threads).max(1);
+        let steps = if options.calls == u64::MAX {
+            part.wrapping_mul(TURNS)
+        } else {
+            options.calls.div_ceil(2)
+        };
+        Churn {
+            spacing: options.spacing,
+            threads,
+            part,
+            steps,
+            meeting: Meeting::new(options.threads),
+        }
+    }
+
+    /// How many keys have a number from the start.
+    fn start_count(&self) -> u32 {
+        (self.part.wrapping_mul(self.threads) % (1 << 32)) as u32
+    }
+
+    /// The place of a worker's key of a turn. After 2^32 keys the first ones come again.
+    fn place(&self, turn: u64, worker: usize) -> u32 {
+        let place = turn.wrapping_mul(self.threads).wrapping_add(worker as u64);
+        (place % (1 << 32)) as u32
+    }
+
+    /// The key that comes in a step of a worker.
+    fn newest(&self, step: u64, worker: usize) -> u32 {
+        self.place(self.part.wrapping_add(step), worker)
+    }
+
+    /// The key that goes in a step of a worker.
+    fn oldest(&self, step: u64, worker: usize) -> Key {
+        self.spacing.key(self.place(step, worker))
+    }
+}
+
+impl Job for Churn {
+    fn work<R: Wait + Clock + Eprint>(
+        &self,
+        rt: &R,
+        map: &Map,
+        worker: &mut Worker,
+        number: usize,
+    ) -> Result<(), WorkFault>
+        requires own { IsMine map.now worker.old.seat }
+        ensures own { IsMine map.now worker.new.seat }
+    {
+        self.meeting.meet();
+        let start = Instant::now(rt)?;
+        let made = make_steps(rt, map, worker, self, number);
+        worker.tally.nanoseconds = nanoseconds_of(start.elapsed(rt)?);
+        worker.tally.calls = made.wrapping_mul(2);
+        worker.tally.is_full = made < self.steps;
+        Ok(())
+    }
+}
+
+/// Makes the steps of the worker with this number, until a new key is refused. It answers how many
+/// it made.
+fn make_steps<R: Wait>(
+    rt: &R,
+    map: &Map,
+    worker: &mut Worker,
+    job: &Churn,
+    owner: usize,
+) -> u64
+    requires own { IsMine map.now worker.old.seat }
+    ensures own { IsMine map.now worker.new.seat }
+{
+    for step in 0..job.steps {
+        let place = job.newest(step, owner);
+        let key = job.spacing.key(place);
+        if map.put(rt, &mut worker.seat, key, number(place)).is_err() {
+            return step;
+        }
+        map.remove(rt, &mut worker.seat, job.oldest(step, owner));
+    }
+    job.steps
+}
+
+/// What is measured.
+#[derive(Clone, Copy, Debug, PartialEq, Eq)]
+pub(crate) struct Churned {
+    /// The calls of a round, two for each step.
+    pub(crate) calls: u64,
+    /// How long they took.
+    pub(crate) nanoseconds: u64,
+    /// The map refused a new key, and so the round ended early.
+    pub(crate) is_full: bool,
+}
+
+/// Makes a round on a new map, whose keys with these places have numbers from the start.
+fn churn_once<R: Threads + Sync + Wait + Clock + Eprint>(
+    rt: &R,
+    alloc: Global,
+    options: &Options,
+    places: &[u32],
+) -> Result<Churned, Fault> {
+    let job = Churn::new(options);
+    let done = do_job(rt, alloc, options.shape()?, options.spacing, places, &job)?;
+    if done.ended.size() != places.len() as u64 {
+        return Err(Fault::Wrong(Wrong::Size));
+    }
+    Ok(Churned {
+        calls: done.tally.calls,
+        nanoseconds: done.tally.nanoseconds,
+        is_full: done.tally.is_full,
+    })
+}
+
+/// Makes rounds until the time is up, and answers the one with the middle time; or until a map is
+/// full, and answers that round.
+pub(crate) fn measure<R: Threads + Sync + Wait + Clock + Eprint>(
+    rt: &R,
+    alloc: Global,
+    options: &Options,
+) -> Result<Churned, Fault> {
+    let places = in_order(alloc, Churn::new(options).start_count())?;
+    let start = Instant::now(rt).map_err(WorkFault::from)?;
+    let mut times = Vec::new(alloc);
+    let mut calls = 0;
+    let mut seconds = Seconds::new(options.progress, options.time);
+    for _round in 0..u64::MAX {
+        let churned = churn_once(rt, alloc, options, places.as_slice())?;
+        if churned.is_full {
+            return Ok(churned);
+        }
+        calls = churned.calls;
+        times.push(churned.nanoseconds)?;
+        let spent = start.elapsed(rt).map_err(WorkFault::from)?;
+        seconds.tell(rt, spent);
+        if spent >= options.time {
+            break;
+        }
+    }
+    Ok(Churned {
+        calls,
+        nanoseconds: middle_of(times)?,
+        is_full: false,
+    })
+}

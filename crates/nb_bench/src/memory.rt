@@ -1,0 +1,49 @@
+//! What memory a map takes that has all keys.
+
+use crate::crew::filled;
+use crate::faults::Fault;
+use crate::keys::shuffled;
+use crate::options::Options;
+use nb_map::Map;
+use std::alloc::Global;
+use std::fs;
+use std::rt::Files;
+use std::sync::Wait;
+
+/// The bytes of a page of memory.
+const PAGE: u64 = 4096;
+
+/// The bytes that Linux tells by this text, whose second number is how many pages are in memory.
+pub(crate) fn bytes_of(text: &str) -> Option<u64> {
+    let word = text.split(' ').nth(1)?;
+    match word.parse::<u64>() {
+        Ok(pages) => pages.checked_mul(PAGE),
+        Err(_) => None,
+    }
+}
+
+/// The bytes of this process that are in memory, if Linux tells.
+fn resident<R: Files + AllocGlobal>(rt: &R) -> Option<u64> {
+    match fs::read_to_string(rt, "/proc/self/statm") {
+        Ok(text) => bytes_of(text.as_str()),
+        Err(_) => None,
+    }
+}
+
+/// Makes a map that has all keys, and answers how many bytes more of this process are in memory
+/// then, if Linux tells. It measures something only before other maps were made: their memory may
+/// be taken again.
+pub(crate) fn measure<R: Wait + Files + AllocGlobal>(
+    rt: &R,
+    alloc: Global,
+    options: &Options,
+) -> Result<Option<u64>, Fault> {
+    let places = shuffled(alloc, options.keys)?;
+    let before = resident(rt);
+    let (map, seats) = Map::new(alloc, options.shape()?)?;
+    let _seats = filled(rt, &map, seats, options.spacing, places.as_slice())?;
+    let Some(before) = before else {
+        return Ok(None);
+    };
+    Ok(resident(rt).map(|after| after.saturating_sub(before)))
+}
