@@ -56,7 +56,11 @@ pub(super) fn last_sees<R: Wait + Abort>(rt: &R, handles: &mut Vec<Handle>, rows
 }
 
 /// Keys of plain numbers.
-pub(super) fn keys<R: Abort>(rt: &R, alloc: Global, numbers: &[u64]) -> Result<Vec<Key>, OutOfMemory> {
+pub(super) fn keys<R: Abort>(
+    rt: &R,
+    alloc: Global,
+    numbers: &[u64],
+) -> Result<Vec<Key>, OutOfMemory> {
     let mut keys = Vec::with_capacity(alloc, numbers.len())?;
     for k in numbers {
         keys.push(key(rt, *k))?;

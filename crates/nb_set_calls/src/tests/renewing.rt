@@ -214,11 +214,7 @@ fn renewed_again(alloc: Global, handles: &mut Vec<Handle>, shape: Shape) -> Resu
 }
 
 /// A set and its seats that has these keys, also where one request for memory is refused.
-fn made_again(
-    alloc: Global,
-    shape: Shape,
-    keys: &[Key],
-) -> Result<(LongSet, Vec<Seat>), OpenFault>
+fn made_again(alloc: Global, shape: Shape, keys: &[Key]) -> Result<(LongSet, Vec<Seat>), OpenFault>
     ensures { IfOk result (λ made. AreMine made.0 made.1.items) }
 {
     match LongSet::with_keys(alloc, shape, keys) {
