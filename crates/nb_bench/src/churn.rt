@@ -104,13 +104,7 @@ impl Job for Churn {
 
 /// Makes the steps of the worker with this number, until a new key is refused. It answers how many
 /// it made.
-fn make_steps<R: Wait>(
-    rt: &R,
-    map: &Map,
-    worker: &mut Worker,
-    job: &Churn,
-    owner: usize,
-) -> u64
+fn make_steps<R: Wait>(rt: &R, map: &Map, worker: &mut Worker, job: &Churn, owner: usize) -> u64
     requires own { IsMine map.now worker.old.seat }
     ensures own { IsMine map.now worker.new.seat }
 {

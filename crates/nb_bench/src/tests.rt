@@ -86,7 +86,10 @@ fn keys_come_and_go(rt: HostRuntime) -> Result<(), Fail> {
     let going_on = options(rt.alloc(), &["G", "3", "0", "--live", "300"])?;
     let churned = churn::measure(&rt, rt.alloc(), &going_on)?;
     assert!(rt; churned.calls == 4800 && churned.nanoseconds > 0 && !churned.is_full);
-    let longer = options(rt.alloc(), &["G", "3", "0", "--live", "300", "--calls", "99"])?;
+    let longer = options(
+        rt.alloc(),
+        &["G", "3", "0", "--live", "300", "--calls", "99"],
+    )?;
     let churned = churn::measure(&rt, rt.alloc(), &longer)?;
     assert!(rt; churned.calls == 300 && !churned.is_full);
     Ok(())
@@ -222,7 +225,13 @@ fn samples_are_by_zipf(rt: HostRuntime) -> Result<(), Fail> {
     assert_eq!(rt; samples.len() as u64, SAMPLE_COUNT);
     // The sum of 1 / r for r from 1 to 100 is 5.187378, so the key of rank r is there 202,140 / r
     // times. The first ranks are at the front and at the end by turns, the last in the middle.
-    for (place, wanted) in [(0, 202_140), (99, 101_070), (1, 67_380), (98, 50_535), (50, 2021)] {
+    for (place, wanted) in [
+        (0, 202_140),
+        (99, 101_070),
+        (1, 67_380),
+        (98, 50_535),
+        (50, 2021),
+    ] {
         let count = count_of(samples.as_slice(), place);
         assert!(rt; count.abs_diff(wanted) <= 1, "{place}");
     }
@@ -233,17 +242,32 @@ fn samples_are_by_zipf(rt: HostRuntime) -> Result<(), Fail> {
 fn keys_give_shapes(rt: HostRuntime) -> Result<(), Fail> {
     let shapes: [(&[&str], Result<Shape, ShapeFault>); 6] = [
         (&["D", "4"], Shape::for_keys(32_768, 4)),
-        (&["D", "9", "1", "--live", "1000"], Shape::for_keys(1000, 8).and_then(|s| s.with_seats(9))),
-        (&["D", "9", "1", "--live", "349526"], Shape::for_many_keys(349_526, 9)),
+        (
+            &["D", "9", "1", "--live", "1000"],
+            Shape::for_keys(1000, 8).and_then(|s| s.with_seats(9)),
+        ),
+        (
+            &["D", "9", "1", "--live", "349526"],
+            Shape::for_many_keys(349_526, 9),
+        ),
         (&["F", "4"], Shape::for_many_keys(1_000_000, 4)),
         (&["G", "4"], Shape::for_many_keys(589_824, 4)),
-        (&["G", "4", "1", "--live", "178956970"], Shape::for_many_keys(178_956_970, 4)),
+        (
+            &["G", "4", "1", "--live", "178956970"],
+            Shape::for_many_keys(178_956_970, 4),
+        ),
     ];
     for (words, wanted) in shapes {
         let given = options(rt.alloc(), words)?;
         assert_eq!(rt; given.shape(), wanted);
     }
-    for (live, exponent) in [("1", 2), ("2", 2), ("3", 3), ("65537", 18), ("178956970", 28)] {
+    for (live, exponent) in [
+        ("1", 2),
+        ("2", 2),
+        ("3", 3),
+        ("65537", 18),
+        ("178956970", 28),
+    ] {
         let given = options(rt.alloc(), &["C", "1", "1", "--live", live])?;
         assert_eq!(rt; given.exponents.as_slice(), [exponent].as_slice());
     }
