@@ -70,9 +70,8 @@ impl Options {
         if keys > MOST_KEYS {
             return Shape::for_many_keys(keys, self.threads);
         }
-        Shape::for_keys(keys, self.threads.min(FEW_SEATS)).and_then(|shape| shape.with_seats(
-            self.threads,
-        ))
+        let few = self.threads.min(FEW_SEATS);
+        Shape::for_keys(keys, few).and_then(|shape| shape.with_seats(self.threads))
     }
 }
 
