@@ -94,10 +94,10 @@ pub load_key_word_at-word-requires-clause-on_path : goal.load_key_word_at-word-r
 load_key_word_at-word-requires-clause-on_path c =
     let chain = c.args.chain.now in
     let so_far = c.loop-distance.invariant in
-    let below : c.loop-distance.distance < c.slots.result = search rules in
+    let below : c.loop-distance.distance < c.slots-distance-end.result = search rules in
     let near : c.loop-distance.distance < size_of chain.shape c.args.rung.g =
     subst (λ n. c.loop-distance.distance < n)
-    (slots-of_path c.shape.ensures c.key-key.ensures c.path-path.ensures c.slots.ensures) below in
+    (slots-of_path c.shape.ensures c.key-key.ensures c.path-path.ensures c.slots-distance-end.ensures) below in
     subst (λ (at : Slot). IsOnPath chain.shape (seen_by chain.shape c.loop-distance.seat) at.g at.i
     (key_of_call c.args.call.now))
     (sym (slot-of_path c.shape.ensures c.key-key.ensures c.path-path.ensures c.slot-at.ensures).is)
@@ -119,10 +119,10 @@ returns-then-is-clause-made c =
     let so_far = c.loop-distance.invariant in
     let table = c.requires.at.table in
     let there = (goal.at.returns-then-is-clause-made c).After-is in
-    let below : c.loop-distance.distance < c.slots.result = search rules in
+    let below : c.loop-distance.distance < c.slots-distance-end.result = search rules in
     let near : c.loop-distance.distance < size_of p c.args.rung.g =
     subst (λ n. c.loop-distance.distance < n)
-    (slots-of_path c.shape.ensures c.key-key.ensures c.path-path.ensures c.slots.ensures) below in
+    (slots-of_path c.shape.ensures c.key-key.ensures c.path-path.ensures c.slots-distance-end.ensures) below in
     let none = shown-own p c.args.rung.g (path_slot p c.args.rung.g k c.loop-distance.distance) k k k
     refl (sym (eq-eqb k k refl)) in
     made-within (c.loop-distance.distance + 1 - c.args.rung.from)
@@ -151,10 +151,10 @@ returns-then-is-clause-ends c =
 pub returns-in-Empty-clause-made : goal.returns-in-Empty-clause-made
 returns-in-Empty-clause-made c =
     let chain = c.args.chain.now in
-    let below : c.loop-distance.distance < c.slots.result = search rules in
+    let below : c.loop-distance.distance < c.slots-distance-end.result = search rules in
     let near : c.loop-distance.distance < size_of chain.shape c.args.rung.g =
     subst (λ n. c.loop-distance.distance < n)
-    (slots-of_path c.shape.ensures c.key-key.ensures c.path-path.ensures c.slots.ensures) below in
+    (slots-of_path c.shape.ensures c.key-key.ensures c.path-path.ensures c.slots-distance-end.ensures) below in
     walked chain c.args.rung.g c.requires.at.table c.loop-distance.distance c.args.rung.from
     (Some None) near c.loop-distance.auto.distance
     c.requires.at.own c.loop-distance.invariant.0
@@ -177,10 +177,10 @@ still c =
 pub returns-in-Empty-clause-ends : goal.returns-in-Empty-clause-ends
 returns-in-Empty-clause-ends c =
     let there = (goal.at.returns-in-Empty-clause-ends c).After-is in
-    let below : c.loop-distance.distance < c.slots.result = search rules in
+    let below : c.loop-distance.distance < c.slots-distance-end.result = search rules in
     let near : c.loop-distance.distance < size_of c.args.chain.now.shape c.args.rung.g =
     subst (λ n. c.loop-distance.distance < n)
-    (slots-of_path c.shape.ensures c.key-key.ensures c.path-path.ensures c.slots.ensures) below in
+    (slots-of_path c.shape.ensures c.key-key.ensures c.path-path.ensures c.slots-distance-end.ensures) below in
     (near, still there, found there Empty (sym c.state.ensures ∙ c.in-Empty.is))
 
 -- ---- at a closed one
@@ -188,10 +188,10 @@ returns-in-Empty-clause-ends c =
 pub returns-in-Dead-clause-made : goal.returns-in-Dead-clause-made
 returns-in-Dead-clause-made c =
     let chain = c.args.chain.now in
-    let below : c.loop-distance.distance < c.slots.result = search rules in
+    let below : c.loop-distance.distance < c.slots-distance-end.result = search rules in
     let near : c.loop-distance.distance < size_of chain.shape c.args.rung.g =
     subst (λ n. c.loop-distance.distance < n)
-    (slots-of_path c.shape.ensures c.key-key.ensures c.path-path.ensures c.slots.ensures) below in
+    (slots-of_path c.shape.ensures c.key-key.ensures c.path-path.ensures c.slots-distance-end.ensures) below in
     made-within (c.loop-distance.distance + 1 - c.args.rung.from)
     (size_of chain.shape c.args.rung.g - c.args.rung.from) (omega (arith, near))
     (walked chain c.args.rung.g c.requires.at.table c.loop-distance.distance c.args.rung.from None
@@ -206,10 +206,10 @@ returns-in-Dead-clause-ends c =
     let g = c.args.rung.g in
     let k = key_of_call c.args.call.now in
     let there = (goal.at.returns-in-Dead-clause-ends c).After-is in
-    let below : c.loop-distance.distance < c.slots.result = search rules in
+    let below : c.loop-distance.distance < c.slots-distance-end.result = search rules in
     let near : c.loop-distance.distance < size_of p g =
     subst (λ n. c.loop-distance.distance < n)
-    (slots-of_path c.shape.ensures c.key-key.ensures c.path-path.ensures c.slots.ensures) below in
+    (slots-of_path c.shape.ensures c.key-key.ensures c.path-path.ensures c.slots-distance-end.ensures) below in
     let own = made-own chain c.requires.at.own c.loop-distance.invariant.0 in
     let is = found there Dead (sym c.state.ensures ∙ c.in-Dead.is) in (
       (c.loop-distance.distance, near, still there, is),
@@ -230,10 +230,10 @@ loop-distance-preserved c =
     let so_far = c.loop-distance.invariant in
     let table = c.requires.at.table in
     let there = (goal.at.loop-distance-preserved c).After-is in
-    let below : c.loop-distance.distance < c.slots.result = search rules in
+    let below : c.loop-distance.distance < c.slots-distance-end.result = search rules in
     let near : c.loop-distance.distance < size_of p g =
     subst (λ n. c.loop-distance.distance < n)
-    (slots-of_path c.shape.ensures c.key-key.ensures c.path-path.ensures c.slots.ensures) below in
+    (slots-of_path c.shape.ensures c.key-key.ensures c.path-path.ensures c.slots-distance-end.ensures) below in
     let own = made-own chain c.requires.at.own so_far.0 in
     let is = sym c.state.ensures ∙ c.in-Claimed.is in
     let differs : c.in-Claimed.field-0 ≢ k =
@@ -252,9 +252,9 @@ pub returns-clause-made : goal.returns-clause-made
 returns-clause-made c =
     let chain = c.args.chain.now in
     let so_far = c.loop-distance.invariant in
-    let over : c.loop-distance.distance ≡ c.slots.result = search rules in
+    let over : c.loop-distance.distance ≡ c.slots-distance-end.result = search rules in
     let end : c.loop-distance.distance ≡ size_of chain.shape c.args.rung.g =
-    over ∙ slots-of_path c.shape.ensures c.key-key.ensures c.path-path.ensures c.slots.ensures in
+    over ∙ slots-of_path c.shape.ensures c.key-key.ensures c.path-path.ensures c.slots-distance-end.ensures in
     made-within (c.loop-distance.distance - c.args.rung.from)
     (size_of chain.shape c.args.rung.g - c.args.rung.from) (omega (arith, end))
     (subst (λ made. HasMade chain.shape c.args.call.now c.args.seat.now c.loop-distance.seat made
@@ -265,8 +265,8 @@ pub returns-clause-ends : goal.returns-clause-ends
 returns-clause-ends c =
     let chain = c.args.chain.now in
     let so_far = c.loop-distance.invariant in
-    let over : c.loop-distance.distance ≡ c.slots.result = search rules in
+    let over : c.loop-distance.distance ≡ c.slots-distance-end.result = search rules in
     let end : c.loop-distance.distance ≡ size_of chain.shape c.args.rung.g =
-    over ∙ slots-of_path c.shape.ensures c.key-key.ensures c.path-path.ensures c.slots.ensures in
+    over ∙ slots-of_path c.shape.ensures c.key-key.ensures c.path-path.ensures c.slots-distance-end.ensures in
     subst (λ d. AreOthers chain.shape (seen_by c.args.chain.now.shape c.loop-distance.seat)
     c.args.rung.g (key_of_call c.args.call.now) d) end so_far.1
