@@ -249,15 +249,18 @@ def shapes():
 
 
 def churns():
-    for opened in (Seat.for_churn(100, 1024), Map.for_churn(100, 1024, seats=17)):
+    shared = Map.for_churn(100, 1024, seats=17)
+    seat = Seat.for_churn(100, 1024)
+    for opened in (seat, shared):
         for key in range(1024):
             if key >= 100:
                 assert opened.remove(key - 100) == key - 100
             assert opened.put(key, key) is None
         assert opened.generation() > 0
-        opened.close()
-    for opened in (Seat.for_churn, Map.for_churn):
-        assert refused(opened, 10, 100, 0) == refused(opened, 10, 100, 257) == Code.E_SEATS
+    seat.close()
+    shared.close()
+    assert refused(Seat.for_churn, 10, 100, 0) == refused(Seat.for_churn, 10, 100, 257) == Code.E_SEATS
+    assert refused(Map.for_churn, 10, 100, 0) == refused(Map.for_churn, 10, 100, 257) == Code.E_SEATS
 
 
 def many_seats():
