@@ -1,17 +1,12 @@
 -- What a write does at its key's home slot, and after it.
-use Rattle.std.proofs.Common.{ℕ, suc, ◌+◌, ◌-◌, ◌*◌, ◌<◌, ◌≤◌, List, Some, Result, Ok, Err, IfErr, arith}
+use Rattle.std.proofs.Common.{ℕ, suc, ◌+◌, ◌-◌, ◌*◌, ◌<◌, ◌≤◌, List, arith}
 use Rattle.std.proofs.Math.Nat.{mul-le-mul_right}
 use Rattle.nb_core.specs.Plans.{IsPlan, Plan, generations_of, size_of}
-use Rattle.nb_core.specs.declared.calls.Call.{Call}
-use Rattle.nb_core.specs.declared.calls.Reply.{Reply}
 use Rattle.nb_core.specs.declared.events.Event.{Event}
 use Rattle.nb_table.proofs.Theorems.{steps_add_up}
 use Rattle.nb_table.specs.Chains.{ChainOf, Grown, IsOwn, SeenBy}
 use Rattle.nb_map.proofs.Bounds.{climb-bound}
 use Rattle.nb_map.specs.Progress.{IsLastSeen}
-use Rattle.nb_map.specs.Refusals.{IsJust}
-use Rattle.nb_map.specs.declared.faults.PutFault.{PutFault}
-use Rattle.nb_map.specs.inside.Writing.{IsToldAtHome}
 use Rattle.nb_map.specs.Steps.{climb_steps, get_steps, home_steps, put_steps, slots_below}
 
 -- of a table above, who doesn't know it in the end didn't know it before
@@ -65,13 +60,3 @@ before-bound p lost passed all both =
         → 1 + (5 + lost + 8 * (t + passed + tables) * (n + 8))
         ≤ 8 * (t + (all + 1) + tables) * (n + 8)
     fits t tables n lost passed all both = omega (arith, both)
-
--- ---- refusals
-
--- what it is told there says why it is refused, if it is
-pub told-just :
-    (p : Plan) (call : Call) (start after : SeenBy) (tries left : ℕ) (told : Result Reply PutFault)
-    → IsToldAtHome p call start after tries left (Some told)
-    → IfErr told (IsJust p call start after tries)
-told-just p call start after tries left (Ok reply) is = tt
-told-just p call start after tries left (Err fault) is = is

@@ -1,8 +1,6 @@
 -- What is so where a key is at home in a table.
-use Rattle.std.proofs.Common.{◌≡◌, ◌≢◌, ◌∙◌, ℕ, zero, suc, ◌+◌, ◌<◌, ap, subst, sym, inl, inr, refl, arith}
+use Rattle.std.proofs.Common.{◌≡◌, ◌≢◌, ◌∙◌, ℕ, ◌+◌, ◌<◌, ap, subst, sym, inl, inr, refl}
 use Rattle.std.proofs.lemmas.Nat.{mod_below, pow_pos}
-use Rattle.nb_core.proofs.Theorems.{on_path}
-use Rattle.nb_core.specs.Tables.{AtSlot, IsPassed, UpToDead, Whole}
 use Rattle.nb_core.specs.Laws.{Lasts}
 use Rattle.nb_core.specs.Plans.{Plan, generations_of, size_of}
 use Rattle.nb_core.specs.Tables.{AreOthers, IsFinishedValue, IsSlot, IsUnprimed, Tables, path_slot}
@@ -10,7 +8,6 @@ use Rattle.nb_core.specs.declared.states.KeyState.{KeyState}
 use Rattle.nb_core.specs.declared.states.KeyState.TheVariants.{Claimed, Dead, Empty}
 use Rattle.nb_core.specs.declared.states.ValueState.{ValueState}
 use Rattle.nb_core.specs.declared.states.ValueState.TheVariants.{Null, Tombstone, Live, PrimedNull, PrimedTombstone, Primed, Finished}
-use Rattle.nb_table.specs.Chains.{ChainOf, IsOwn, SeenBy, seen_by}
 use Rattle.nb_map.specs.Progress.{IsAtHome, IsHomeSlot}
 
 -- a table has a home slot for each key
@@ -101,48 +98,3 @@ home-before p t u lasting g k table home = was (t.key g (path_slot p g k 0)) ref
               let same : j ≡ k = (let both : Claimed j ≡ Claimed k = sym still ∙ own.0 in cc) in
               inr (is ∙ ap Claimed same, unprimed-before p t u lasting g _ slot _ refl own.1)
         ]
-
--- ---- the key's slot
-
-module _ (chain : ChainOf) (seat : SeenBy) where
-  abbrev p : Plan
-  p = chain.shape
-
-  abbrev t : Tables
-  t = seen_by chain.shape seat
-
-  -- it is the home slot, and its value isn't primed
-  home-slot :
-      IsOwn chain seat → (g i k : ℕ) → IsSlot p g i → t.key g i ≡ Claimed k → IsAtHome p t g k
-      → IsUnprimed (t.value g i)
-  home-slot own g i k slot claimed home =
-      let path = on_path p own.plan seat.seen own.legal g i k slot claimed in
-      at path.distance path.at path.passed
-    where
-      at : (d : ℕ) → path_slot p g k d ≡ i → AreOthers p t g k d → IsUnprimed (t.value g i)
-      at zero is others = elim home [
-        | inl empty ↦ absurd (let both : Empty ≡ Claimed k = sym empty ∙ ap (t.key g) is
-            ∙ claimed in cc)
-        | inr own ↦ subst (λ j. IsUnprimed (t.value g j)) is own.1
-      ]
-      at (suc d) is others = absurd (others-away p t g k (suc d) (omega arith) others home)
-
-  -- so the key isn't passed
-  pub passed-away : IsOwn chain seat → (g k : ℕ) → g < generations_of p → IsPassed p t g k
-      → IsAtHome p t g k → ⊥
-  passed-away own g k table (AtSlot i in_table claimed final) home =
-      both _ (home-slot own g i k (table, in_table) claimed home) final
-    where
-      both : (v : ValueState) → IsUnprimed v → IsFinishedValue v → ⊥
-      both Null unprimed final = cc
-      both Tombstone unprimed final = cc
-      both (Live n) unprimed final = cc
-      both PrimedNull unprimed final = unprimed
-      both PrimedTombstone unprimed final = unprimed
-      both (Primed n) unprimed final = unprimed
-      both (Finished n) unprimed final = unprimed
-  passed-away own g k table (UpToDead zero in_table others dead) home = dead-away p t g k dead home
-  passed-away own g k table (UpToDead (suc d) in_table others dead) home =
-      others-away p t g k (suc d) (omega arith) others home
-  passed-away own g k table (Whole others) home =
-      others-away p t g k (size_of p g) (pow_pos _) others home

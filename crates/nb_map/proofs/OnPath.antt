@@ -8,7 +8,6 @@ use Rattle.nb_core.specs.declared.calls.Call.{Call}
 use Rattle.nb_core.specs.declared.slot_paths.Path.{Path}
 use Rattle.nb_core.specs.declared.slot_paths.Slot.{Slot}
 use Rattle.nb_core.specs.declared.states.KeyState.{KeyState}
-use Rattle.nb_core.specs.declared.states.KeyState.TheVariants.{Claimed}
 use Rattle.nb_table.specs.Chains.{ChainOf, Extended, SeenBy, seen_by}
 use Rattle.nb_table.specs.Conditions.{IsReached}
 use Rattle.nb_table.specs.Events.{read, shown_by_key}
@@ -91,14 +90,3 @@ module _ (chain : ChainOf) {call : Call} {rung : Rung} {seat : SeenBy} {slot : S
         at = refl;
         passed = at.others;
       })
-
-  -- and is at its key's slot, where that is the key's
-  pub at-own :
-      (seen_by chain.shape seat).key slot.g slot.i ≡ Claimed (key_of_call call)
-      → IsAtSlot chain call seat slot
-  at-own claimed = record {
-    own = at.own;
-    slot = place.placed;
-    claimed = claimed;
-    reached = slot-reached;
-  }

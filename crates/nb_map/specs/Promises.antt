@@ -42,10 +42,6 @@ abbrev pub found_or_full : Result (Option ℕ) Full → Outcome AddFault
 found_or_full (Ok number) = Found number
 found_or_full (Err full) = Refused add_fault.Full
 
-abbrev pub replied_or_full : Result Reply Full → Outcome AddFault
-replied_or_full (Ok reply) = Replied reply
-replied_or_full (Err full) = Refused add_fault.Full
-
 -- The seat has made the one call, and the answer tells its reply. Or the call is refused, and then
 -- this holds of the refusal.
 abbrev pub HasAnswered :

@@ -40,8 +40,8 @@ pub record HasOnlyAsked (set : SetOf) (before after : SeatOf) (most : ℕ) : Typ
   pub later : IsLater before after
   -- for them it has claimed no slot
   pub claims : (calls : List Call) → HasAskedFor set calls before → HasAskedFor set calls after
-  -- it made no step on the counter
   pub short : steps_of after ≤ steps_of before + most
+  -- it made no step on the counter
   pub count : after.map.count ≡ before.map.count
   pub own : IsMine set after
 

@@ -3,8 +3,8 @@
 //! lock-free: only the success of others costs them anything. Each tells in the end just one call,
 //! or none if it is refused.
 //!
-//! Each goes a straight way first, which stands in its own code, and needs neither a loop nor memory
-//! for a call and its reply. What comes after that is in `general.rt`.
+//! Each goes a straight way first, which stands in its own code, with one try, and needs no memory for
+//! a call and its reply. What comes after that is in `general.rt`.
 ghost use Rattle.nb_core.specs.declared.calls.Call.TheVariants as call;
 ghost use Rattle.nb_map.specs.Maps.{IsMine};
 ghost use Rattle.nb_map.specs.NamedCalls.{add_of, put_if_absent_of, put_of, remove_if_of, remove_of, replace_if_of, replace_of};
