@@ -1,14 +1,13 @@
 -- What the tries of an update add up to.
-use Rattle.std.proofs.Common.{◌≡◌, ◌∙◌, ◌+◌, ◌*◌, ◌≤◌, ◌⊎◌, ℕ, Bool, true, false, min, pos, List, [], ◌∷◌, ◌++◌, length, Option, Some, None, Result, Ok, Err, Bor, ap, ap₂, refl, subst, subst₂, sym, inl, inr, IfSome, if◌then◌else◌, nat_lt, arith}
+use Rattle.std.proofs.Common.{◌≡◌, ◌∙◌, ◌+◌, ◌*◌, ◌≤◌, ◌⊎◌, ℕ, Bool, true, false, min, pos, List, [], ◌∷◌, ◌++◌, length, Option, Some, None, Result, Ok, Err, Bor, ap, ap₂, refl, subst, subst₂, sym, inl, inr, IfSome, arith}
 use Rattle.std.specs.List.{All, Contains}
 use Rattle.std.proofs.Math.Nat.{add-mul}
-use Rattle.std.proofs.lemmas.Bool.Decides.{nat_tests}
 use Rattle.std.proofs.lemmas.Bool.{eq-eqb, eqb-true}
 use Rattle.std.proofs.lemmas.List.Elements.{All-append, All-cons, All-nil, Contains-append_right}
 use Rattle.boxcar.specs.Table.{Shelves, Shows, Where}
-use Rattle.nb_core.specs.Calls.{Fills, is_past_max, leaves_alone}
+use Rattle.nb_core.specs.Calls.{Fills, leaves_alone}
 use Rattle.nb_core.specs.History.{key_of_call}
-use Rattle.nb_core.specs.Log.{changed, holds_of, reply_at}
+use Rattle.nb_core.specs.Log.{holds_of, reply_at}
 use Rattle.nb_core.specs.Meaning.{net_of}
 use Rattle.nb_core.specs.Plans.{Plan}
 use Rattle.nb_core.specs.declared.calls.Call.{Call}
@@ -16,7 +15,6 @@ use Rattle.nb_core.specs.declared.calls.Call.TheVariants.{Get, Write}
 use Rattle.nb_core.specs.declared.calls.Change.{Change}
 use Rattle.nb_core.specs.declared.calls.Reply.{Reply}
 use Rattle.nb_core.specs.declared.calls.Want.{Want}
-use Rattle.nb_core.specs.declared.numbers.TheConstants.{VALUE_MAX}
 use Rattle.nb_map.proofs.Theorems.{logs_add_up, replies_fit}
 use Rattle.nb_map.specs.Calling.{HasStepped}
 use Rattle.nb_map.specs.Logs.{HasLogged, HasReplied}
@@ -31,15 +29,11 @@ use Rattle.nb_map.specs.declared.faults.PutFault.TheVariants as put_fault
 use Rattle.nb_long.proofs.Passed.{others-won}
 use Rattle.nb_long.proofs.Rounds.{passed-sum, stepped-as, stepped-none, stepped-then, stepped-within, times, uncounted}
 use Rattle.nb_long.specs.Promises.{HasGotValue}
-use Rattle.nb_long.specs.Stores.{GivesBack}
 use Rattle.nb_long.specs.Typed.{HasMadeLast, IsIdle, IsShown, LongMapOf, number_of, passed_on, read_of, round_steps}
-use Rattle.nb_long.specs.Updating.{AreShown, Begun, HasBegunTry, HasEndedTry, HasExchanged, HasLost, HasTriedOnce, HasUpdated, IsLastTry, IsLockFreeAs, IsLost, IsStored, Lost, as_update_fault, calls_asked, exchange_for}
-use Rattle.nb_long.specs.declared.map.Unshown.{Unshown}
+use Rattle.nb_long.specs.Updating.{AreShown, Begun, HasBegunTry, HasEndedTry, HasExchanged, HasLost, HasTriedOnce, HasUpdated, IsLastTry, IsLockFreeAs, IsLost, IsStored, Lost, calls_asked, exchange_for}
 use Rattle.nb_long.specs.declared.map.updating.UpdateFault.{UpdateFault}
 use Rattle.nb_long.specs.declared.map.updating.UpdateFault.TheVariants as fault
 use Rattle.nb_long.specs.declared.map.updating.Updated.{Updated}
-use Rattle.nb_long.specs.declared.store.StoreFault.{StoreFault}
-use Rattle.nb_long.specs.declared.store.StoreFault.TheVariants as store_fault
 
 -- ---- small facts
 
@@ -194,31 +188,6 @@ passes (Matched held) mine tried lost = absurd lost
 
 -- ---- the exchange of a try
 
--- only a put at an absent key is refused as full
-full-found :
-    {V : Type 0} (key : ℕ) (found new : Option (Where V)) → Fills (exchange_for key found new)
-    → found ≡ None
-full-found key None new fills = refl
-full-found key (Some token) new fills = absurd (let never : true ≡ false = fills in cc)
-
-full-new :
-    {V : Type 0} (key : ℕ) (found new : Option (Where V)) → Fills (exchange_for key found new)
-    → new ≡ None → ⊥
-full-new key None None fills none = let never : true ≡ false = fills in cc
-full-new key None (Some token) fills none = cc
-full-new key (Some token) new fills none = let never : true ≡ false = fills in cc
-
--- and a number that is one is never past the range
-not-past : (most n : ℕ) → nat_lt most n ≡ true → n ≤ most → ⊥
-not-past most n past range = grind (arith, nat_tests)
-
-no-overflow :
-    (holds : Bool) (number was : Option ℕ) → IfSome number (λ n. n ≤ VALUE_MAX)
-    → (if holds then is_past_max (changed (change_to number) was) else false) ≡ true → ⊥
-no-overflow false number was range past = cc
-no-overflow true None was range past = cc
-no-overflow true (Some n) was range past = not-past VALUE_MAX n past range
-
 module _
     {V : Type 0} {m m' : LongMapOf} (key : ℕ) {before after : SeatOf}
     (found new : Option (Where V)) {was number : Option ℕ} (same : m' ≡ m)
@@ -261,48 +230,6 @@ module _
         is : reply ≡ record { before = number_of found; matched = true }
         is = ap₂ (λ b m. record { before = b; matched = m }) there matched
 
-    -- it found something else
-    pub exchange-missed :
-        (reply : Reply)
-        → HasTriedToWrite m'.map (exchange_of key was number) before after 1 (Replied reply)
-        → reply.matched ≡ false → HasExchanged m key found new before after (Ok None)
-    exchange-missed reply wrote missed = (Replied reply, as-exchanged wrote, missed)
-
-    -- others came first
-    pub exchange-late :
-        HasTriedToWrite m'.map (exchange_of key was number) before after 1
-        (Refused put_fault.Contended)
-        → HasExchanged m key found new before after (Ok None)
-    exchange-late wrote = (Refused put_fault.Contended, as-exchanged wrote, refl)
-
-    -- what it is refused for as full
-    filled :
-        HasTriedToWrite m'.map (exchange_of key was number) before after 1
-        (Refused put_fault.Full)
-        → Fills (exchange_for key found new)
-    filled wrote = (as-exchanged wrote).answered.just.0
-
-    pub exchange-full :
-        (receipt : Where V)
-        → HasTriedToWrite m'.map (exchange_of key was number) before after 1
-        (Refused put_fault.Full)
-        → new ≡ Some receipt
-        → HasExchanged m key found new before after (Err (fault.Full receipt))
-    exchange-full receipt wrote some =
-        (full-found key found new (filled wrote), some, as-exchanged wrote)
-
-    pub never-full :
-        HasTriedToWrite m'.map (exchange_of key was number) before after 1
-        (Refused put_fault.Full)
-        → new ≡ None → ⊥
-    never-full wrote none = full-new key found new (filled wrote) none
-
-    pub never-past :
-        HasTriedToWrite m'.map (exchange_of key was number) before after 1
-        (Refused put_fault.ValueRange)
-        → IfSome number (λ n. n ≤ VALUE_MAX) → ⊥
-    never-past wrote range = no-overflow _ number _ range wrote.answered.just
-
 -- ---- the end of a try
 
 module _
@@ -310,34 +237,6 @@ module _
     {before read : SeatOf} {function left : F} {found : Option (Where V)} {value : Option V}
     (asked : HasBegunTry m Step key before function found value read left)
   where
-    -- the read is the last call
-    read-last : HasMadeLast key (read_of key (number_of found)) before read
-    read-last = record {
-      earlier = [];
-      idle = All-nil (IsIdle key);
-      logged = (got-of asked.got).replied;
-    }
-
-    -- what the function answers isn't stored
-    pub unstored :
-        (refusal : StoreFault V)
-        → ((v : V) × (value ≡ Some v) × GivesBack m.store v refusal)
-        → HasEndedTry m Step key before function read left (Err (as_update_fault refusal))
-    unstored (store_fault.OutOfMemory back) (v, is, same) = (
-      found,
-      read-last,
-      subst (λ value. HasBegunTry m Step key before function found value read left)
-          (is ∙ ap Some (sym same)) asked,
-    )
-    unstored (store_fault.ValueRange placed) (v, is, (held, past)) = (
-      found,
-      read-last,
-      subst (λ value. HasBegunTry m Step key before function found value read left)
-          (is ∙ ap Some (sym held.1)) asked,
-      held.0,
-      past,
-    )
-
     -- it is stored, and exchanged for what was found
     module _ (after : SeatOf) (new : Option (Where V)) (stored : IsStored m.store value new) where
       once :
@@ -375,22 +274,6 @@ module _
       exchanged-so (Err (fault.OutOfMemory back)) never = absurd never
       exchanged-so (Err (fault.ValueRange placed)) never = absurd never
       exchanged-so (Err fault.Unshown) never = absurd never
-
--- the store didn't show what was read
-pub unshown-so :
-    {V : Type 0} {m : LongMapOf} {key : ℕ} {before after : SeatOf} (unshown : Unshown)
-    → HasGotValue {V = V} m key before after (Err unshown)
-    → (n : ℕ) × HasMadeLast key (read_of key (Some n)) before after
-    × ((unshown : Unshown) × HasGotValue {V = V} m key before after (Err unshown))
-unshown-so {m = m} {key} {before} {after} unshown got = (
-  got.shown.0,
-  record {
-    earlier = [];
-    idle = All-nil (IsIdle key);
-    logged = (subst (HasGot m.map key before after) got.shown.1 got.got).replied;
-  },
-  (unshown, got),
-)
 
 -- ---- tries one after another
 
