@@ -19,8 +19,9 @@
  * Threads. Any thread may call a map, many at the same time. At its first call a thread gets a seat
  * of the map, and when the thread ends it gives the seat back; so does leave(). A map has as many
  * seats as its shape says, 256 at most. If all are out, a call is refused with fault::no_seat, and
- * the refusal says how many there are. A lock is taken at these moments alone. At all other calls
- * the thread finds its seat by a look at a thread-local word.
+ * the refusal says how many there are. A lock is taken at these moments, by close() and settle(),
+ * and when the map is destroyed. At all other calls the thread finds its seat by a look at a
+ * thread-local word.
  *
  * Seats. take_seat() gives a seat that isn't a thread's own. A call with it needs no such look. A
  * seat is in one call at a time, and goes from thread to thread as samvolip.h says of handles. It

@@ -106,9 +106,11 @@ Script:
 #[test]
 fn helps(rt: HostRuntime) -> Result<(), Fail> {
     for word in ["--help", "-h"] {
-        let Err(OptionFault::Help(text)) = read(rt.alloc(), &[word]) else {
+        let Err(fault) = read(rt.alloc(), &[word]) else {
             return Err("no help".into());
         };
+        assert!(rt; matches!(&fault, OptionFault::Help(_)));
+        let text = fault.to_string(rt.alloc())?;
         let text = text.as_str();
         assert!(rt; text.starts_with(OPTIONS), "{text}");
         for part in [

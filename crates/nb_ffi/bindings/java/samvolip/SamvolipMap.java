@@ -9,7 +9,7 @@ import java.util.OptionalLong;
  * A map that any thread may call.
  *
  * <p>A thread takes one of the map's seats at its first call. The seat is free again when the thread has ended, or by {@link #giveBack}, which
- * is for threads of a pool; {@link #givingBack} makes a task that gives it back. Only when a seat is taken or given back a lock is taken. While
+ * is for threads of a pool; {@link #givingBack} makes a task that gives it back. Only when a seat is taken or given back, and at the map's end, a lock is taken. While
  * all seats are taken, the first call of one more thread is refused as {@link Code#ALL_SEATS_TAKEN}. A virtual thread is a thread, too.
  *
  * <p>The map mixes its keys, unless it is opened with {@link Keys#PLAIN}.

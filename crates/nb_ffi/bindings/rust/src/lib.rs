@@ -20,7 +20,7 @@
 //! A *seat* is the right of one thread at a time to call. A map has 1 to 256, as its [`Shape`] says.
 //!
 //! - Any thread may call a [`Map`]. At its first call a thread takes a seat, and it gives it back when it ends, or by
-//!   [`Map::give_back`]. Only these two moments take a lock.
+//!   [`Map::give_back`]. Only these two moments, and the map's end, take a lock.
 //! - A [`Seat`] is one that the program holds itself. [`Seat::open`] makes a map with all its seats in one;
 //!   [`Seat::split`] gives one to another thread. It saves a call the look at the thread's words.
 //!

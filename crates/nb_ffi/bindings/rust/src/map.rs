@@ -14,7 +14,7 @@ use std::thread;
 /// A map that any thread may call, by `&`.
 ///
 /// A thread takes one of the map's seats at its first call, and gives it back when it ends, or by
-/// [`give_back`](Map::give_back). Only then a lock is taken. While all seats are taken, the first call of one more thread is
+/// [`give_back`](Map::give_back). Only then, and at the map's end, a lock is taken. While all seats are taken, the first call of one more thread is
 /// refused as [`Fault::AllSeatsTaken`]. So each call may be refused so, besides what is said there.
 ///
 /// The map mixes its keys, unless it is opened with [`Keys::Plain`].

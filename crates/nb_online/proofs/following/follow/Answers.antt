@@ -6,4 +6,4 @@ pub loop-init : goal.loop-init
 loop-init g c =
     let new = c.in_ok-handles.ensures.new in
     opened-all new.0 c.args.shape c.in_ok-handles.handles.items
-    (omega (arith, c.seats.ensures.plan.seats.0)) new.1.0 new.1.1
+    (omega (arith, c.seats.ensures.plan.seats.0)) new.1 new.2
