@@ -23,6 +23,12 @@ pub enum Cause {
     GetAlone,
     #[error("put without a key")]
     PutAlone,
+    #[error("neither on, off nor count")]
+    NoMove,
+    #[error("on without a key")]
+    OnAlone,
+    #[error("off without a key")]
+    OffAlone,
 }
 
 impl From<DigitsFault> for Cause {
@@ -138,6 +144,8 @@ pub enum Fault {
     Line(u64, Cause),
     #[error("more different numbers than there is room for")]
     Full,
+    #[error("more keys online than there is room for")]
+    Crowded,
     #[error("a number comes too often")]
     TooOften,
     /// A stored value wasn't shown. Tests show that this never comes.
@@ -156,7 +164,7 @@ impl Fault {
             Fault::Line(..) => 2,
             Fault::Usage => 3,
             Fault::OutOfMemory => 4,
-            Fault::Full | Fault::TooOften => 5,
+            Fault::Full | Fault::Crowded | Fault::TooOften => 5,
             Fault::Unshown => 6,
         }
     }

@@ -1,0 +1,3 @@
+-- Lemmas.
+pub mod CrewLemmas
+pub mod RoomLemmas

@@ -1,0 +1,4 @@
+-- The definitions that the contracts cite.
+pub mod Crews
+pub mod Fullness
+pub mod Lines

@@ -1,0 +1,131 @@
+//! What a run has beside the handles of its set: the workers' parts, what was counted, and the
+//! output.
+ghost use Rattle.std.specs.Prelude.{◌≡◌};
+ghost use Rattle.nb_online.specs.Crews.{AreAll};
+ghost use Rattle.nb_set.specs.Handles.{IsSameSet};
+
+use crate::part::{Action, Counts, Part, Request};
+use nb_core::{Key, MAX_SEATS, OutOfMemory};
+use nb_lines::Fault;
+use nb_set::Handle;
+use std::alloc::Global;
+use std::io::{BufWriter, Write};
+use std::sync::{Mutex, Wait};
+use std::thread::Threads;
+use std::{io, thread};
+
+/// The state of a run.
+#[derive(Drop)]
+pub(crate) struct Run<W: Write + Drop> {
+    /// A part for each worker. Its worker alone takes the lock, and the program where no worker is at
+    /// work.
+    parts: Vec<Mutex<Part>>,
+    writer: BufWriter<W>,
+    /// How many lines were read.
+    pub(crate) lines: u64,
+    /// How often the set was made anew.
+    pub(crate) renewed: u64,
+}
+
+impl<W: Write + Drop> Run<W> {
+    pub(crate) fn new(alloc: Global, workers: usize, writer: W) -> Result<Run<W>, Fault> {
+        let mut parts = Vec::with_capacity(alloc, workers)?;
+        for _worker in 0..workers {
+            parts.push(Mutex::new(Part::new(alloc)))?;
+        }
+        Ok(Run {
+            parts,
+            writer: BufWriter::new(alloc, writer).map_err(|_| Fault::OutOfMemory)?,
+            lines: 0,
+            renewed: 0,
+        })
+    }
+
+    /// Keeps a request for the worker whose key it is at: the one whose number is left when the
+    /// key's is divided by the number of workers.
+    pub(crate) fn keep(&mut self, key: Key, action: Action) -> Result<(), OutOfMemory> {
+        let workers = self.parts.len().max(1) as u64;
+        let owner = (key.get() % workers) as usize;
+        if let Some(part) = self.parts.get_mut(owner) {
+            part.get_mut().push(Request { key, action })?;
+        }
+        Ok(())
+    }
+
+    /// All workers make the calls of their parts at the same time, each in a thread of its own. It
+    /// answers whether all are done: if not, a key found no slot.
+    pub(crate) fn work<R: Threads + Sync + Wait>(&mut self, rt: &R, handles: &mut [Handle]) -> bool
+        requires all { AreAll handles.old }
+        ensures all { AreAll handles.new }
+    {
+        work_at(rt, self.parts.as_slice(), handles);
+        let mut is_done = true;
+        for part in self.parts.iter_mut() {
+            is_done = is_done && part.get_mut().is_done();
+        }
+        is_done
+    }
+
+    /// Forgets the requests, which are done.
+    pub(crate) fn clear(&mut self) {
+        for part in self.parts.iter_mut() {
+            part.get_mut().clear();
+        }
+    }
+
+    /// What all workers counted.
+    fn counts(&mut self) -> Counts {
+        let mut counts = Counts::NOTHING;
+        for part in self.parts.iter_mut() {
+            counts = counts.with(part.get_mut().counts());
+        }
+        counts
+    }
+
+    /// Prints how many keys are online, at once.
+    pub(crate) fn print_count(&mut self, online: u64) -> Result<(), Fault> {
+        let written = writeln!(self.writer, "{online}");
+        self.flushed(written)
+    }
+
+    /// Prints what came of the run.
+    pub(crate) fn print_end(&mut self, online: u64) -> Result<(), Fault> {
+        let Counts { came, went } = self.counts();
+        let renewed = self.renewed;
+        let written = writeln!(
+            self.writer,
+            "came {came}\nwent {went}\nonline {online}\nrenewed {renewed}"
+        );
+        self.flushed(written)
+    }
+
+    /// Sends off what was written.
+    fn flushed(&mut self, written: io::Result<()>) -> Result<(), Fault> {
+        written.map_err(|_| Fault::Write)?;
+        self.writer.flush().map_err(|_| Fault::Write)
+    }
+}
+
+/// Each worker makes the calls of its part.
+fn work_at<R: Threads + Sync + Wait>(rt: &R, parts: &[Mutex<Part>], handles: &mut [Handle])
+    requires all { AreAll handles.old }
+    ensures all { AreAll handles.new }
+{
+    thread::for_each_mut(
+        rt,
+        handles,
+        MAX_SEATS,
+        &|number: usize, handle: &mut Handle|
+            ensures { IsSameSet handle.entry.now handle.exit.now }
+        { work(rt, parts, handle, number) },
+    );
+}
+
+/// The worker with this number makes the calls of its part.
+fn work<R: Wait>(rt: &R, parts: &[Mutex<Part>], handle: &mut Handle, number: usize)
+    ensures same { IsSameSet handle.old handle.new }
+{
+    if let Some(part) = parts.get(number) {
+        let _ = part.lock(rt).work(rt, handle);
+    }
+}
