@@ -1,5 +1,5 @@
 //! Where a write begins: at its key's home slot in the table that the seat remembers.
-ghost use Rattle.std.specs.Prelude.{IfErr, IsTrue, [], false, min, ◌+◌, ◌-◌, ◌<◌, ◌≡◌, ◌≤◌};
+ghost use Rattle.std.specs.Prelude.{IfErr, IsTrue, [], false, min, ◌+◌, ◌-◌, ◌<◌, ◌≡◌, ◌≢◌, ◌≤◌};
 ghost use Rattle.nb_core.specs.Calls.{Fills};
 ghost use Rattle.nb_core.specs.History.{key_of_call};
 ghost use Rattle.nb_core.specs.declared.calls.Call.TheVariants as call;
@@ -210,8 +210,8 @@ fn write_home<P: Pause>(
 {
     let home = chain.shape().path(top, call.key()).slot(0);
     let word = chain.load_key_word_at(seat, home, Some(*call));
-    if word.is_empty() {
-        if let Decision::Leave(reply) = decide(call, &None) {
+    if is_free(word, call.key()) {
+        if let Decision::Leave(reply) = decide(call, &None, &None) {
             return Some(Ok(reply));
         }
     }
@@ -224,6 +224,15 @@ fn write_home<P: Pause>(
         Ok(Visit::Above(_)) => unreachable!(),
         Err(_) => None,
     }
+}
+
+/// Whether the slot is empty. It is first asked whether it is the key's, as it is mostly.
+#[inline(always)]
+fn is_free(word: KeyWord, key: Key) -> bool
+    ensures yes { IsTrue result → word ≡ key_is.Empty }
+    ensures no { result ≡ false → word ≢ key_is.Empty }
+{
+    !word.is(key) && word.is_empty()
 }
 
 /// Whether the key has its home slot, which was seen with this key word: it had it then, or the
