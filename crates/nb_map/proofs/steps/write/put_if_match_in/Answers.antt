@@ -7,18 +7,12 @@ use Rattle.nb_map.proofs.steps.write.put_if_match_in.Goals as goal
 
 -- ---- at home
 
-pub returns-in-Some-Ok : goal.returns-in-Some-Ok
-returns-in-Some-Ok g c =
-    let told = c.in-Some-Ok.ensures.tried in
-    record {
-      made = made-within _ _
-          (put-rises c.args.chain.now.shape 1 _ (omega (arith, c.requires.some)))
-          (rw c.in-Some-Ok.field-0-is at told.made);
-      refused = tt;
-      looked = told.looked;
-      short = told.short;
-      serves = c.in-Some-Ok.ensures.serves;
-    }
+pub returns-in-Some-Ok-clause-made : goal.returns-in-Some-Ok-clause-made
+returns-in-Some-Ok-clause-made g c =
+    let made = rw c.in-Some-Ok.field-0-is at c.in-Some-Ok.ensures.tried.made in
+    rw c.in-Some-Ok.field-0-is
+    (made-within _ _
+    (put-rises c.args.chain.now.shape 1 _ (omega (arith, c.requires.some))) made)
 
 pub returns-in-Some-Err-clause-made : goal.returns-in-Some-Err-clause-made
 returns-in-Some-Err-clause-made g c =
