@@ -1,30 +1,35 @@
 -- A write that looked at its key's home slot in vain, and then goes the general way.
-use Rattle.std.proofs.Common.{◌∙◌, ℕ, ◌+◌, List, [], inl, inr, ap, refl, arith}
+use Rattle.std.proofs.Common.{◌≡◌, ◌∙◌, ℕ, ◌+◌, ◌-◌, min, List, [], Result, Ok, Err, inl, inr, ap, refl, arith}
+use Rattle.nb_core.specs.Plans.{Plan}
 use Rattle.nb_core.specs.History.{key_of_call}
 use Rattle.nb_core.specs.declared.calls.Call.{Call}
 use Rattle.nb_core.specs.declared.calls.Reply.{Reply}
-use Rattle.nb_table.specs.Chains.{ChainOf, Extended, IsOwn, SeenBy}
-use Rattle.nb_map.proofs.AtHome.{before-bound, last-before, put-rises}
+use Rattle.nb_core.specs.declared.events.Event.{Event}
+use Rattle.nb_table.specs.Chains.{ChainOf, Extended, Grown, IsOwn, SeenBy}
+use Rattle.nb_map.proofs.AtHome.{before-bound, last-before, put-rises, whole-bound}
 use Rattle.nb_map.proofs.Home.{home-before}
 use Rattle.nb_map.proofs.Logged.{logged, logged-then}
 use Rattle.nb_map.proofs.Made.{made-own, made-quiet, made-stays, made-within}
 use Rattle.nb_map.proofs.Searched.{made-then}
-use Rattle.nb_map.proofs.Spent.{passed-sum}
+use Rattle.nb_map.proofs.Spent.{just-longer, passed-sum}
 use Rattle.nb_map.proofs.Straight.{at-known}
 use Rattle.nb_map.specs.Calling.{HasMade}
 use Rattle.nb_map.specs.Logs.{HasLogged}
 use Rattle.nb_map.specs.Maps.{MapOf, SeatOf, accounted}
 use Rattle.nb_map.specs.Progress.{IsAloneAtHome, IsShortAtHome, passed_since}
-use Rattle.nb_map.specs.Promises.{Found, HasAnswered, HasWritten, Matched, Outcome, Refused, Replied}
-use Rattle.nb_map.specs.Refusals.{HasRefused}
-use Rattle.nb_map.specs.Steps.{put_steps}
+use Rattle.nb_map.specs.Promises.{Found, HasAnswered, HasTriedToWrite, HasWritten, Matched, Outcome, Refused, Replied, replied_or_refused}
+use Rattle.nb_map.specs.Refusals.{HasGivenUp, HasRefused, IsJust, IsJustAdd, as_put_fault}
+use Rattle.nb_map.specs.Steps.{climb_steps, put_steps}
 use Rattle.nb_map.specs.declared.faults.AddFault.{AddFault}
-use Rattle.nb_map.specs.inside.Waiting.{HasGoneOn, HasLookedInVain, IsAway}
+use Rattle.nb_map.specs.declared.faults.AddFault.TheVariants.{Full, ValueRange}
+use Rattle.nb_map.specs.declared.faults.PutFault.{PutFault}
+use Rattle.nb_map.specs.inside.Waiting.{HasGoneOn, HasGoneOnWith, HasLookedInVain, IsAway, IsAwayWith, IsStopped, before_or_refused}
+use Rattle.nb_map.specs.inside.Climbing.{IsSpent}
 
 -- ---- on the tables
 
-module _ (chain : ChainOf) {call : Call} {before then : SeenBy}
-    (away : HasLookedInVain chain call before then) where
+module _ (chain : ChainOf) {call : Call} {before then : SeenBy} {lost : ℕ}
+    (away : HasLookedInVain chain call before then lost) where
   -- both ways together take no more steps than a write may
   pub made-both :
       {after : SeenBy} {calls : List (Call × Reply)}
@@ -36,11 +41,40 @@ module _ (chain : ChainOf) {call : Call} {before then : SeenBy}
       made-within _ _
       (omega (
         arith,
-        before-bound chain.shape away.lost (passed_since call then after)
+        before-bound chain.shape lost (passed_since call then after)
             (passed_since call before after)
             (omega (arith, away.passed, passed-sum call away.made.grown made.grown)),
       ))
       (made-then away.own away.made made)
+
+  -- the same of a write with so many tries, of which so many are left
+  module _ (tries left : ℕ) (all : left + lost ≡ tries) where
+    pub made-above :
+        {after : SeenBy} {calls : List (Call × Reply)}
+        → HasMade chain.shape call then after calls
+        (1 + (climb_steps chain.shape + min left (passed_since call then after)))
+        → HasMade chain.shape call before after calls
+        (put_steps chain.shape (min tries (passed_since call before after + 1)))
+    made-above {after} made =
+        made-within _ _
+        (omega (
+          arith,
+          whole-bound chain.shape away.own.plan before.top
+              (lost + min left (passed_since call then after))
+              (min tries (passed_since call before after + 1))
+              (at-known chain before.top away.own refl call).table
+              (omega (arith, all, away.passed, passed-sum call away.made.grown made.grown)),
+        ))
+        (made-then away.own away.made made)
+
+    -- what is just for those that are left is just for all
+    pub just-above :
+        {after : SeenBy} {own : List Event} {count : ℕ} → Grown chain.shape then after own count
+        → (fault : PutFault)
+        → IsJust chain.shape call then after left fault → IsJust chain.shape call before after tries fault
+    just-above grown =
+        just-longer chain.shape call tries left away.made.grown grown
+        (omega (arith, all, away.passed))
 
   -- and it wasn't alone at home
   pub short-both :
@@ -80,6 +114,28 @@ climbed chain {call} {start} {first} {after} own load made =
     ))
     (made-then own quiet made)
 
+-- the general way of a write with tries: the load of the top word, and the way up
+pub climbed-with :
+    (chain : ChainOf) {call : Call} {start first after : SeenBy} {calls : List (Call × Reply)}
+    (tries left : ℕ)
+    → IsOwn chain start → Extended chain.shape start first [] 1
+    → HasMade chain.shape call first after calls (climb_steps chain.shape + (tries - left))
+    → IsSpent call first after tries left
+    → HasMade chain.shape call start after calls
+    (1 + (climb_steps chain.shape + min tries (passed_since call start after)))
+climbed-with chain {call} tries left own load made spent =
+    let quiet = made-quiet chain.shape call load in
+    made-within _ _
+    (omega (arith, spent.lost, passed-sum call quiet.grown made.grown))
+    (made-then own quiet made)
+
+-- a reason that is just where it may wait is so of any number of tries
+pub just-told :
+    (p : Plan) (call : Call) (before after : SeenBy) (tries : ℕ) (refusal : AddFault)
+    → IsJustAdd p call after refusal → IsJust p call before after tries (as_put_fault refusal)
+just-told p call before after tries Full just = just
+just-told p call before after tries ValueRange just = just
+
 -- ---- on the map
 
 module _ {map : MapOf} {call : Call} {before then : SeatOf} (away : IsAway map call before then)
@@ -117,3 +173,60 @@ module _ {map : MapOf} {call : Call} {before then : SeatOf} (away : IsAway map c
           short = short-both map.chain away.looked made;
           own = on.own;
         }
+
+module _ {map : MapOf} {call : Call} {before then : SeatOf} {tries left : ℕ}
+    (aside : IsAwayWith map call before then tries left) where
+  answered-with :
+      (after : SeatOf) {calls : List (Call × Reply)} {most : ℕ}
+      → HasMade map.chain.shape call then.chain after.chain calls most
+      → (outcome : Outcome PutFault)
+      → HasAnswered (IsStopped map call then after left) call then after outcome
+      → HasAnswered (HasGivenUp map call before after tries) call before after outcome
+  answered-with after made (Found number) (reply, is, told) =
+      (reply, is, logged-then (vain aside.away) told)
+  answered-with after made (Matched held) (reply, is, told) =
+      (reply, is, logged-then (vain aside.away) told)
+  answered-with after made (Replied reply) told = logged-then (vain aside.away) told
+  answered-with after made (Refused fault) refused = record {
+    unmade = logged-then (vain aside.away) refused.unmade;
+    just = just-above map.chain aside.away.looked tries left aside.all made.grown fault
+        refused.just;
+    looked = omega (arith, aside.away.looked.looked, made.grown.steps);
+  }
+
+  -- so it is with a write that has so many tries
+  pub tried_on :
+      {after : SeatOf} (outcome : Outcome PutFault)
+      → HasGoneOnWith map call then after left outcome
+      → HasTriedToWrite map call before after tries outcome
+  tried_on {after} outcome on =
+      let (calls, made) = on.worked.steps in
+      record {
+        answered = answered-with after made outcome on.answered;
+        wait_free = record {
+          steps = (calls, made-above map.chain aside.away.looked tries left aside.all made);
+          net = on.worked.net;
+          count = on.worked.count ∙ ap (accounted on.worked.net) aside.away.count;
+        };
+        short = short-both map.chain aside.away.looked made;
+        own = on.own;
+      }
+
+-- ---- what a reply found
+
+module _ {map : MapOf} {call : Call} {before after : SeatOf} where
+  pub found-on :
+      (answer : Result Reply AddFault)
+      → HasGoneOn map call before after (replied_or_refused answer)
+      → HasGoneOn map call before after (before_or_refused answer)
+  found-on (Ok reply) on =
+      record { answered = (reply, refl, on.answered); worked = on.worked; own = on.own }
+  found-on (Err refusal) on = on
+
+  pub found-with :
+      {tries : ℕ} (answer : Result Reply PutFault)
+      → HasGoneOnWith map call before after tries (replied_or_refused answer)
+      → HasGoneOnWith map call before after tries (before_or_refused answer)
+  found-with (Ok reply) on =
+      record { answered = (reply, refl, on.answered); worked = on.worked; own = on.own }
+  found-with (Err refusal) on = on

@@ -1,5 +1,5 @@
 -- A write that looks at its key's home slot first, in the table that its seat remembers.
-use Rattle.std.proofs.Common.{◌≡◌, ◌⊎◌, ℕ, ◌+◌, ◌-◌, ◌≤◌, min, List, [], Option, Result, inl, inr, subst, sym, arith}
+use Rattle.std.proofs.Common.{◌≡◌, ◌⊎◌, ℕ, ◌+◌, ◌-◌, ◌<◌, ◌≤◌, List, [], Option, Result, inl, inr, subst, sym, arith}
 use Rattle.std.proofs.lemmas.Nat.{pow_pos}
 use Rattle.nb_core.specs.History.{key_of_call}
 use Rattle.nb_core.specs.declared.calls.Call.{Call}
@@ -54,41 +54,13 @@ module _ (chain : ChainOf) {start : SeenBy} (known : ℕ) (own : IsOwn chain sta
       (home_steps + (tries - left)))
       (spent : IsSpent call start after tries left) where
     -- where it ends at the home slot there
-    pub made-there :
-        1 ≤ tries
-        → HasMade chain.shape call start after calls
-        (put_steps chain.shape (min tries (passed_since call start after + 1)))
-    made-there some =
+    pub made-there : HasMade chain.shape call start after calls (put_steps chain.shape tries)
+    made-there =
         made-within _ _
         (omega (
           arith,
-          whole-bound chain.shape own.plan known (tries - left)
-              (min tries (passed_since call start after + 1)) (at-known call).table
-              (omega (arith, spent.lost)),
-        ))
-        made
-
-    -- the same of the first of so many tries
-    pub made-first :
-        (all : ℕ) → tries ≤ all → 1 ≤ tries
-        → HasMade chain.shape call start after calls
-        (put_steps chain.shape (min all (passed_since call start after + 1)))
-    made-first all more some =
-        made-within _ _
-        (put-rises chain.shape (min tries (passed_since call start after + 1))
-        (min all (passed_since call start after + 1)) (omega (arith, more)))
-        (made-there some)
-
-    -- the same in a write that tries again for as long as it takes
-    pub made-once :
-        HasMade chain.shape call start after calls
-        (put_steps chain.shape (passed_since call start after + 1))
-    made-once =
-        made-within _ _
-        (omega (
-          arith,
-          whole-bound chain.shape own.plan known (tries - left) (passed_since call start after + 1)
-              (at-known call).table (omega (arith, spent.lost)),
+          whole-bound chain.shape own.plan known (tries - left) tries (at-known call).table
+              (omega arith),
         ))
         made
 
@@ -111,83 +83,17 @@ module _ (chain : ChainOf) {start : SeenBy} (known : ℕ) (own : IsOwn chain sta
   pub in-vain :
       {call : Call} {after : SeenBy} (left : ℕ)
       → HasMade chain.shape call start after [] (home_steps + (1 - left))
-      → IsSpent call start after 1 left
+      → IsSpent call start after 1 left → start.steps < after.steps
       → (IsAloneAtHome chain.shape known call start after
       → IsKnownHome chain.shape known call start ⊎ IsLastSeen chain.shape known after → ⊥)
-      → HasLookedInVain chain call start after
-  in-vain {call} {after} left made spent away =
+      → HasLookedInVain chain call start after (1 - left)
+  in-vain {call} {after} left made spent looked away =
       let p = chain.shape in
       record {
         own = own;
-        lost = 1 - left;
         passed = omega (arith, spent.lost);
+        looked = looked;
         made = made;
         away = subst (λ g. IsAloneAtHome p g call start after
             → IsKnownHome p g call start ⊎ IsLastSeen p g after → ⊥) is away;
       }
-
-  -- or else the top word is loaded
-  module _ {call : Call} {then first : SeenBy} {most : ℕ}
-      (home : HasMade chain.shape call start then [] most)
-      (load : Extended chain.shape then first [] 1) where
-    looked : HasMade chain.shape call start first [] (most + 1)
-    looked = made-then own home (made-quiet chain.shape call load)
-
-    pub at-top :
-        (top : ℕ) → (seen_by chain.shape first).top ≡ top → IsAt chain call first (rung_at top)
-    at-top top found = at-there chain top (made-own chain own home) load found call
-
-    -- which is no step of a write that is alone with its key at home
-    pub short-elsewhere :
-        {after : SeenBy} {calls : List (Call × Reply)} {most : ℕ}
-        → (IsAloneAtHome chain.shape known call start then
-        → IsKnownHome chain.shape known call start ⊎ IsLastSeen chain.shape known then → ⊥)
-        → HasMade chain.shape call first after calls most
-        → IsShortAtHome chain.shape call start after
-    short-elsewhere {after} away made =
-        let p = chain.shape in
-        let mine = made-own chain own home in
-        let rest = made-then mine (made-quiet p call load) made in
-        let here : IsAloneAtHome p start.top call start after → IsAloneAtHome p known call start then
-        = λ alone.
-        let there = subst (λ g. IsAloneAtHome p g call start after) (sym is) alone in
-        record {
-          home = home-before p _ _ (made-stays chain mine rest) known (key_of_call call)
-              (at-known call).table there.home;
-          alone = omega (arith, there.alone, passed-sum call home.grown rest.grown);
-        } in
-        record {
-          three_steps = λ alone way.
-              absurd (away (here alone)
-              (inl (subst (λ g. IsKnownHome p g call start) (sym is) way)));
-          five_steps = λ alone last.
-              absurd (away (here alone) (inr (last-before known mine rest.grown
-              (subst (λ g. IsLastSeen p g after) (sym is) last))));
-        }
-
-  module _ {call : Call} {then first : SeenBy} {tries left : ℕ}
-      (home : HasMade chain.shape call start then []
-      (home_steps + (tries - left)))
-      (load : Extended chain.shape then first [] 1) (spent : IsSpent call start then tries left) where
-    still : IsSpent call start first tries left
-    still = spent-later spent home.grown (steps_add_up.one load)
-
-    -- with what the write does from there on
-    pub made-elsewhere :
-        {after : SeenBy} {calls : List (Call × Reply)} {left' : ℕ} → 1 ≤ tries
-        → HasMade chain.shape call first after calls (climb_steps chain.shape + (left - left'))
-        → IsSpent call first after left left'
-        → HasMade chain.shape call start after calls
-        (put_steps chain.shape (min tries (passed_since call start after + 1)))
-    made-elsewhere {after} {left' = left'} some made spent' =
-        let all = spent-more (looked home load).grown made.grown still spent' in
-        made-within _ _
-        (omega (
-          arith,
-          spent.fewer,
-          spent'.fewer,
-          whole-bound chain.shape own.plan known (tries - left')
-              (min tries (passed_since call start after + 1)) (at-known call).table
-              (omega (arith, all.lost)),
-        ))
-        (made-then own (looked home load) made)

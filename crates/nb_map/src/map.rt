@@ -8,6 +8,7 @@ ghost use Rattle.nb_map.specs.Logs.{HaveEmptyLogs};
 ghost use Rattle.nb_map.specs.Maps.{AreMine, IsMine, accounted, new_seats};
 ghost use Rattle.nb_map.specs.Promises.{HasEstimated, HasGot, HasMet, HasSeenTop, HasTriedToWrite, replied_or_refused};
 
+mod answers;
 mod bulk;
 mod compound;
 mod ended;
@@ -17,14 +18,13 @@ mod listing;
 mod opening;
 mod settling;
 mod trying;
+mod trying_on;
 mod updating;
 mod waiting;
 mod walks;
 
 use crate::faults::PutFault;
 use crate::steps::get::get_in;
-use crate::steps::pause::NoPause;
-use crate::steps::write::put_if_match_in;
 pub use ended::Ended;
 use nb_core::{Change, Key, Num, OutOfMemory, Reply, SeatRoom, Shape, Want};
 use nb_count::{CountSeat, Counter};
@@ -134,7 +134,7 @@ impl Map {
     }
 
     /// Changes what the map has at a key, where the condition holds of it, and replies what it had:
-    /// `steps::put_if_match_in` on the map's tables. An exchange that another seat came before is
+    /// the two ways of `steps::put_if_match_in` on the map's tables. An exchange that another seat came before is
     /// tried again, `tries` times in all, so this waits for nobody: it takes at most 8 (T + `tries`
     /// + G) (N + 8) steps on the chain, whose G tables have T slots and the last of them N; and
     /// however many tries it has, at most 8 (T + w + 1 + G) (N + 8) where other seats have won `w`
@@ -158,17 +158,12 @@ impl Map {
         ensures { HasTriedToWrite self.now (call.Write key want change) seat.old seat.new tries
             (replied_or_refused result) }
     {
-        let reply = put_if_match_in(
-            &self.chain,
-            &mut seat.chain,
-            key,
-            want,
-            change,
-            tries,
-            &mut NoPause,
-        )?;
-        self.count(&mut seat.count, &change, &reply);
-        Ok(reply)
+        let (asked, made) = (&want, &change);
+        match self.try_straight(seat, key, *asked, *made, tries) {
+            Ok(Ok(reply)) => Ok(reply),
+            Ok(Err(fault)) => Err(fault),
+            Err(left) => self.put_if_match_general(seat, key, *asked, *made, left),
+        }
     }
 
     /// Counts what a write with this change and reply did to the number of keys.

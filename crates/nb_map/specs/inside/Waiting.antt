@@ -1,50 +1,57 @@
--- The writes that wait come in two parts: a straight way, at the key's home slot, and a general one.
-use Rattle.std.specs.Prelude.{ℕ, [], ◌≡◌, ◌⊎◌, ◌+◌, ◌<◌, ◌≤◌, IfErr, Option, None, Some, Result}
+-- Writes come in two parts: a straight way, at the key's home slot, and a general one.
+use Rattle.std.specs.Prelude.{ℕ, [], ◌≡◌, ◌⊎◌, ◌+◌, ◌-◌, ◌<◌, ◌≤◌, min, IfErr, Option, None, Some, Result, Ok, Err}
 use Rattle.nb_core.specs.Plans.{Plan}
 use Rattle.nb_core.specs.declared.calls.Call.{Call}
 use Rattle.nb_core.specs.declared.calls.Reply.{Reply}
 use Rattle.nb_table.specs.Chains.{ChainOf, IsOwn, SeenBy}
 use Rattle.nb_map.specs.Calling.{HasMade}
-use Rattle.nb_map.specs.Logs.{made_in}
+use Rattle.nb_map.specs.Logs.{HasLogged, made_in}
 use Rattle.nb_map.specs.Maps.{HasWorked, IsMine, MapOf, SeatOf}
 use Rattle.nb_map.specs.Progress.{IsAloneAtHome, IsKnownHome, IsLastSeen, IsShortAtHome, passed_since}
-use Rattle.nb_map.specs.Promises.{HasAnswered, HasWritten, Outcome, replied_or_refused}
-use Rattle.nb_map.specs.Refusals.{HasRefused, IsJustAdd}
-use Rattle.nb_map.specs.Steps.{home_steps, put_steps}
+use Rattle.nb_map.specs.Promises.{Found, HasAnswered, HasTriedToWrite, HasWritten, Outcome, Refused, replied_or_refused}
+use Rattle.nb_map.specs.Refusals.{HasRefused, IsJust, IsJustAdd}
+use Rattle.nb_map.specs.Steps.{climb_steps, home_steps, put_steps}
+use Rattle.nb_map.specs.declared.faults.AddFault.TheVariants as add_fault
 use Rattle.nb_map.specs.declared.faults.AddFault.{AddFault}
+use Rattle.nb_map.specs.declared.faults.PutFault.TheVariants as fault
+use Rattle.nb_map.specs.declared.faults.PutFault.{PutFault}
+use Rattle.nb_map.specs.declared.map.answers.Gone.TheVariants as gone
+use Rattle.nb_map.specs.declared.map.answers.Gone.{Gone}
+use Rattle.nb_map.specs.declared.map.answers.Tried.TheVariants as tried
+use Rattle.nb_map.specs.declared.map.answers.Tried.{Tried}
 
 -- ---- on the tables
 
 -- The write is told this: it is made with this reply, or refused for a just reason. It has made no
--- more steps than exchanges that others won on its key allow, and few where it was alone at home.
+-- more steps than one try takes, and few where it was alone at home.
 pub record HasBeenTold (p : Plan) (call : Call) (before after : SeenBy)
     (told : Result Reply AddFault) : Type 0 where
-  pub made :
-      HasMade p call before after (made_in call told)
-      (put_steps p (passed_since call before after + 1))
+  pub made : HasMade p call before after (made_in call told) (put_steps p 1)
   pub refused : IfErr told (IsJustAdd p call after)
   pub looked : before.steps < after.steps
   pub short : IsShortAtHome p call before after
 
 -- The write has looked at its key's home slot in vain, in the table that its seat remembered. It is
--- neither made nor refused. It has lost no more exchanges than others won on its key, and wasn't
--- alone there.
-pub record HasLookedInVain (chain : ChainOf) (call : Call) (before after : SeenBy) :
+-- neither made nor refused. It has lost so many exchanges, no more than others won on its key, and
+-- wasn't alone there.
+pub record HasLookedInVain (chain : ChainOf) (call : Call) (before after : SeenBy) (lost : ℕ) :
     Type 0 where
   pub own : IsOwn chain before
-  pub lost : ℕ
   pub passed : lost ≤ passed_since call before after
+  pub looked : before.steps < after.steps
   pub made : HasMade chain.shape call before after [] (home_steps + lost)
   pub away :
       IsAloneAtHome chain.shape before.top call before after
       → IsKnownHome chain.shape before.top call before ⊎ IsLastSeen chain.shape before.top after
       → ⊥
 
--- what the straight way comes to
+-- what the straight way comes to, which begins with one try and has so many left
 abbrev pub HasTriedAtHome :
-    ChainOf → Call → (before after : SeenBy) → Option (Result Reply AddFault) → Type 0
-HasTriedAtHome chain call before after (Some told) = HasBeenTold chain.shape call before after told
-HasTriedAtHome chain call before after None = HasLookedInVain chain call before after
+    ChainOf → Call → (before after : SeenBy) → (left : ℕ) → Option (Result Reply AddFault) → Type 0
+HasTriedAtHome chain call before after left (Some told) =
+    HasBeenTold chain.shape call before after told
+HasTriedAtHome chain call before after left None =
+    HasLookedInVain chain call before after (1 - left)
 
 -- what the general way comes to: the same as the straight one, after a look at the top word
 pub record HasClimbed (p : Plan) (call : Call) (before after : SeenBy)
@@ -55,12 +62,22 @@ pub record HasClimbed (p : Plan) (call : Call) (before after : SeenBy)
   pub refused : IfErr told (IsJustAdd p call after)
   pub looked : before.steps < after.steps
 
+-- What the general way comes to of a write with so many tries, maybe none: after a look at the top
+-- word, the way up. Without a try it is refused.
+pub record HasClimbedWith (p : Plan) (call : Call) (before after : SeenBy) (tries : ℕ)
+    (told : Result Reply PutFault) : Type 0 where
+  pub made :
+      HasMade p call before after (made_in call told)
+      (1 + (climb_steps p + min tries (passed_since call before after)))
+  pub refused : IfErr told (IsJust p call before after tries)
+
 -- ---- on the map
 
--- the seat has looked in vain, and has counted nothing
+-- the seat has looked in vain, has lost so many exchanges, and has counted nothing
 pub record IsAway (map : MapOf) (call : Call) (before after : SeatOf) : Type 0 where
   pub mine : IsMine map before
-  pub looked : HasLookedInVain map.chain call before.chain after.chain
+  pub lost : ℕ
+  pub looked : HasLookedInVain map.chain call before.chain after.chain lost
   pub count : after.count ≡ before.count
   pub own : IsMine map after
 
@@ -71,6 +88,21 @@ HasGoneStraight map call before after (Some told) =
     HasWritten map call before after (replied_or_refused told)
 HasGoneStraight map call before after None = IsAway map call before after
 
+-- the same of a write with so many tries, of which so many are left
+pub record IsAwayWith (map : MapOf) (call : Call) (before after : SeatOf) (tries left : ℕ) :
+    Type 0 where
+  pub away : IsAway map call before after
+  pub all : left + away.lost ≡ tries
+
+-- what the straight way comes to of such a write
+abbrev pub HasTriedStraight :
+    MapOf → Call → (before after : SeatOf) → (tries : ℕ) → Result (Result Reply PutFault) ℕ
+    → Type 0
+HasTriedStraight map call before after tries (Ok told) =
+    HasTriedToWrite map call before after tries (replied_or_refused told)
+HasTriedStraight map call before after tries (Err left) =
+    IsAwayWith map call before after tries left
+
 -- what the general way promises of a write, from the look in vain on
 pub record HasGoneOn (map : MapOf) (call : Call) (before after : SeatOf)
     (outcome : Outcome AddFault) : Type 0 where
@@ -79,3 +111,41 @@ pub record HasGoneOn (map : MapOf) (call : Call) (before after : SeatOf)
       HasWorked map call before after
       (1 + put_steps map.chain.shape (passed_since call before.chain after.chain))
   pub own : IsMine map after
+
+-- it is refused for a reason that is just for so many tries
+pub record IsStopped (map : MapOf) (call : Call) (before after : SeatOf) (tries : ℕ)
+    (fault : PutFault) : Type 0 where
+  pub unmade : HasLogged before after []
+  pub just : IsJust map.chain.shape call before.chain after.chain tries fault
+
+-- what the general way promises of a write with so many tries, maybe none, from the look in vain on
+pub record HasGoneOnWith (map : MapOf) (call : Call) (before after : SeatOf) (tries : ℕ)
+    (outcome : Outcome PutFault) : Type 0 where
+  pub answered : HasAnswered (IsStopped map call before after tries) call before after outcome
+  pub worked :
+      HasWorked map call before after
+      (1
+      + (climb_steps map.chain.shape + min tries (passed_since call before.chain after.chain)))
+  pub own : IsMine map after
+
+-- ---- what the general way answers
+
+-- what a write that waits found, or why it is refused
+abbrev pub outcome_of_gone : Gone → Outcome AddFault
+outcome_of_gone (gone.Found number) = Found (Some number)
+outcome_of_gone gone.Nothing = Found None
+outcome_of_gone gone.Full = Refused add_fault.Full
+outcome_of_gone gone.ValueRange = Refused add_fault.ValueRange
+
+-- the same of a write with tries
+abbrev pub outcome_of_tried : Tried → Outcome PutFault
+outcome_of_tried (tried.Found number) = Found (Some number)
+outcome_of_tried tried.Nothing = Found None
+outcome_of_tried tried.Full = Refused fault.Full
+outcome_of_tried tried.Contended = Refused fault.Contended
+outcome_of_tried tried.ValueRange = Refused fault.ValueRange
+
+-- what a reply found, or the refusal
+abbrev pub before_or_refused : {Fault : Type 0} → Result Reply Fault → Outcome Fault
+before_or_refused (Ok reply) = Found reply.before
+before_or_refused (Err refusal) = Refused refusal

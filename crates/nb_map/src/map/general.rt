@@ -4,10 +4,11 @@
 ghost use Rattle.nb_core.specs.declared.calls.Call.TheVariants as call;
 ghost use Rattle.nb_map.specs.Maps.{IsMine};
 ghost use Rattle.nb_map.specs.NamedCalls.{add_of, put_if_absent_of, put_of, remove_if_of, remove_of, replace_if_of, replace_of};
-ghost use Rattle.nb_map.specs.Promises.{Found, Matched, found_or_full, found_or_refused, replied_or_refused};
-ghost use Rattle.nb_map.specs.inside.Waiting.{HasGoneOn};
+ghost use Rattle.nb_map.specs.Promises.{Found, Matched, replied_or_refused};
+ghost use Rattle.nb_map.specs.inside.Waiting.{HasGoneOn, outcome_of_gone};
 
-use crate::faults::{AddFault, Full};
+use crate::faults::AddFault;
+use crate::map::answers::Gone;
 use crate::map::{Map, Seat};
 use crate::steps::write::write_general;
 use nb_core::{Change, Key, Num, Reply, Want};
@@ -15,6 +16,7 @@ use std::sync::Wait;
 
 impl Map {
     /// Goes on with `put`.
+    #[cold]
     #[inline(never)]
     pub(super) fn put_general<R: Wait>(
         &self,
@@ -22,18 +24,15 @@ impl Map {
         seat: &mut Seat,
         key: Key,
         number: Num,
-    ) -> Result<Option<Num>, Full>
+    ) -> Gone
         requires own { IsMine self.now seat.old }
-        ensures { HasGoneOn self.now (put_of key number) seat.old seat.new (found_or_full result) }
+        ensures { HasGoneOn self.now (put_of key number) seat.old seat.new (outcome_of_gone result) }
     {
-        match self.write_general(rt, seat, key, Want::Any, Change::Put(number)) {
-            Ok(reply) => Ok(reply.before),
-            Err(AddFault::Full) => Err(Full),
-            Err(AddFault::ValueRange) => unreachable!(),
-        }
+        Gone::of(self.write_general(rt, seat, key, Want::Any, Change::Put(number)))
     }
 
     /// Goes on with `put_if_absent`.
+    #[cold]
     #[inline(never)]
     pub(super) fn put_if_absent_general<R: Wait>(
         &self,
@@ -41,18 +40,15 @@ impl Map {
         seat: &mut Seat,
         key: Key,
         number: Num,
-    ) -> Result<Option<Num>, Full>
+    ) -> Gone
         requires own { IsMine self.now seat.old }
-        ensures { HasGoneOn self.now (put_if_absent_of key number) seat.old seat.new (found_or_full result) }
+        ensures { HasGoneOn self.now (put_if_absent_of key number) seat.old seat.new (outcome_of_gone result) }
     {
-        match self.write_general(rt, seat, key, Want::Absent, Change::Put(number)) {
-            Ok(reply) => Ok(reply.before),
-            Err(AddFault::Full) => Err(Full),
-            Err(AddFault::ValueRange) => unreachable!(),
-        }
+        Gone::of(self.write_general(rt, seat, key, Want::Absent, Change::Put(number)))
     }
 
     /// Goes on with `replace`.
+    #[cold]
     #[inline(never)]
     pub(super) fn replace_general<R: Wait>(
         &self,
@@ -71,6 +67,7 @@ impl Map {
     }
 
     /// Goes on with `replace_if`.
+    #[cold]
     #[inline(never)]
     pub(super) fn replace_if_general<R: Wait>(
         &self,
@@ -90,6 +87,7 @@ impl Map {
     }
 
     /// Goes on with `remove`.
+    #[cold]
     #[inline(never)]
     pub(super) fn remove_general<R: Wait>(&self, rt: &R, seat: &mut Seat, key: Key) -> Option<Num>
         requires own { IsMine self.now seat.old }
@@ -102,6 +100,7 @@ impl Map {
     }
 
     /// Goes on with `remove_if`.
+    #[cold]
     #[inline(never)]
     pub(super) fn remove_if_general<R: Wait>(
         &self,
@@ -120,6 +119,7 @@ impl Map {
     }
 
     /// Goes on with `add`.
+    #[cold]
     #[inline(never)]
     pub(super) fn add_general<R: Wait>(
         &self,
@@ -127,12 +127,11 @@ impl Map {
         seat: &mut Seat,
         key: Key,
         number: Num,
-    ) -> Result<Option<Num>, AddFault>
+    ) -> Gone
         requires own { IsMine self.now seat.old }
-        ensures { HasGoneOn self.now (add_of key number) seat.old seat.new (found_or_refused result) }
+        ensures { HasGoneOn self.now (add_of key number) seat.old seat.new (outcome_of_gone result) }
     {
-        let reply = self.write_general(rt, seat, key, Want::Any, Change::Add(number))?;
-        Ok(reply.before)
+        Gone::of(self.write_general(rt, seat, key, Want::Any, Change::Add(number)))
     }
 
     /// Goes on with a write, and counts what it did to the number of keys.

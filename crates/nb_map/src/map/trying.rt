@@ -1,14 +1,20 @@
 //! The writes of `ConcurrentMap` that wait for nobody. Each is one `put_if_match` with as many
 //! tries as its caller gives it, and is refused as contended where other seats' writes of the key
 //! came first so often. So its steps are bounded whatever other threads do, and it takes no memory.
+//! Each goes a straight way first, with its first try, which stands in its own code. What comes after
+//! that is in `trying_on.rt`.
 ghost use Rattle.std.specs.Prelude.{◌≤◌};
+ghost use Rattle.nb_core.specs.declared.calls.Call.TheVariants as call;
 ghost use Rattle.nb_map.specs.Maps.{IsMine};
 ghost use Rattle.nb_map.specs.NamedCalls.{add_of, exchange_of, put_if_absent_of, put_of, remove_of};
 ghost use Rattle.nb_map.specs.Promises.{HasTriedToWrite, found_or_refused, replied_or_refused};
+ghost use Rattle.nb_map.specs.inside.Waiting.{HasTriedStraight};
 
 use crate::faults::PutFault;
 use crate::map::{Map, Seat};
-use nb_core::{Change, Key, Num, Reply, Want};
+use crate::steps::pause::NoPause;
+use crate::steps::write::write_straight;
+use nb_core::{Call, Change, Key, Num, Reply, Want};
 
 impl Map {
     /// Puts a number at a key, and answers what was there: `put` without a wait. It costs what
@@ -26,8 +32,11 @@ impl Map {
         ensures { HasTriedToWrite self.now (put_of key number) seat.old seat.new tries
             (found_or_refused result) }
     {
-        let reply = self.put_if_match(seat, key, Want::Any, Change::Put(number), tries)?;
-        Ok(reply.before)
+        match self.try_straight(seat, key, Want::Any, Change::Put(number), tries) {
+            Ok(Ok(reply)) => Ok(reply.before),
+            Ok(Err(fault)) => Err(fault),
+            Err(left) => self.try_put_general(seat, key, number, left).answer(),
+        }
     }
 
     /// Puts a number at a key that has none, and answers what was there: `put_if_absent` without a
@@ -45,8 +54,13 @@ impl Map {
         ensures { HasTriedToWrite self.now (put_if_absent_of key number) seat.old seat.new tries
             (found_or_refused result) }
     {
-        let reply = self.put_if_match(seat, key, Want::Absent, Change::Put(number), tries)?;
-        Ok(reply.before)
+        match self.try_straight(seat, key, Want::Absent, Change::Put(number), tries) {
+            Ok(Ok(reply)) => Ok(reply.before),
+            Ok(Err(fault)) => Err(fault),
+            Err(left) => self
+                .try_put_if_absent_general(seat, key, number, left)
+                .answer(),
+        }
     }
 
     /// Raises the number at a key, an absent one counting as 0, and answers what was there: `add`
@@ -64,8 +78,11 @@ impl Map {
         ensures { HasTriedToWrite self.now (add_of key number) seat.old seat.new tries
             (found_or_refused result) }
     {
-        let reply = self.put_if_match(seat, key, Want::Any, Change::Add(number), tries)?;
-        Ok(reply.before)
+        match self.try_straight(seat, key, Want::Any, Change::Add(number), tries) {
+            Ok(Ok(reply)) => Ok(reply.before),
+            Ok(Err(fault)) => Err(fault),
+            Err(left) => self.try_add_general(seat, key, number, left).answer(),
+        }
     }
 
     /// Takes out a key, and answers what was there: `remove` without a wait. It is refused only as
@@ -77,8 +94,11 @@ impl Map {
         ensures { HasTriedToWrite self.now (remove_of key) seat.old seat.new tries
             (found_or_refused result) }
     {
-        let reply = self.put_if_match(seat, key, Want::Any, Change::Remove, tries)?;
-        Ok(reply.before)
+        match self.try_straight(seat, key, Want::Any, Change::Remove, tries) {
+            Ok(Ok(reply)) => Ok(reply.before),
+            Ok(Err(fault)) => Err(fault),
+            Err(left) => self.try_remove_general(seat, key, left).answer(),
+        }
     }
 
     /// Sets a key to `new` where it is at `old`, `None` being absent, and replies what was there
@@ -107,5 +127,34 @@ impl Map {
             None => Change::Remove,
         };
         self.put_if_match(seat, key, want, change, tries)
+    }
+
+    /// The straight way of a write with so many tries, its first one, and the count of what it did to
+    /// the number of keys. `Err` says that it has to go on by the general way, and how many tries it
+    /// has left for that, maybe none.
+    #[inline(always)]
+    pub(super) fn try_straight(
+        &self,
+        seat: &mut Seat,
+        key: Key,
+        want: Want,
+        change: Change,
+        tries: u32,
+    ) -> Result<Result<Reply, PutFault>, u32>
+        requires own { IsMine self.now seat.old }
+        requires some { 1 ≤ tries }
+        ensures { HasTriedStraight self.now (call.Write key want change) seat.old seat.new tries
+            result }
+    {
+        let call = Call::Write { key, want, change };
+        let mut left = 1;
+        match write_straight(&self.chain, &mut seat.chain, &call, &mut left, &mut NoPause) {
+            Some(Ok(reply)) => {
+                self.count(&mut seat.count, &change, &reply);
+                Ok(Ok(reply))
+            }
+            Some(Err(fault)) => Ok(Err(PutFault::from(fault))),
+            None => Err(tries - (1 - left)),
+        }
     }
 }

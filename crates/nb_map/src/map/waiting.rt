@@ -13,8 +13,9 @@ ghost use Rattle.nb_map.specs.inside.Waiting.{HasGoneStraight};
 
 use crate::faults::{AddFault, Full};
 use crate::map::{Map, Seat};
+use crate::steps::pause::{NoPause, rest_if_lost};
 use crate::steps::write::write_straight;
-use nb_core::{Change, Key, Num, Reply, Want};
+use nb_core::{Call, Change, Key, Num, Reply, Want};
 use std::sync::Wait;
 
 impl Map {
@@ -41,7 +42,11 @@ impl Map {
             Some(Ok(reply)) => Ok(reply.before),
             Some(Err(AddFault::Full)) => Err(Full),
             Some(Err(AddFault::ValueRange)) => unreachable!(),
-            None => self.put_general(rt, seat, key, number),
+            None => match self.put_general(rt, seat, key, number).answer() {
+                Ok(found) => Ok(found),
+                Err(AddFault::Full) => Err(Full),
+                Err(AddFault::ValueRange) => unreachable!(),
+            },
         }
     }
 
@@ -62,7 +67,11 @@ impl Map {
             Some(Ok(reply)) => Ok(reply.before),
             Some(Err(AddFault::Full)) => Err(Full),
             Some(Err(AddFault::ValueRange)) => unreachable!(),
-            None => self.put_if_absent_general(rt, seat, key, number),
+            None => match self.put_if_absent_general(rt, seat, key, number).answer() {
+                Ok(found) => Ok(found),
+                Err(AddFault::Full) => Err(Full),
+                Err(AddFault::ValueRange) => unreachable!(),
+            },
         }
     }
 
@@ -135,11 +144,12 @@ impl Map {
         match self.write_straight(seat, key, Want::Any, Change::Add(number)) {
             Some(Ok(reply)) => Ok(reply.before),
             Some(Err(fault)) => Err(fault),
-            None => self.add_general(rt, seat, key, number),
+            None => self.add_general(rt, seat, key, number).answer(),
         }
     }
 
-    /// The straight way of a write, and the count of what it did to the number of keys. Its
+    /// The straight way of a write, which rests where it loses its try, and the count of what it did
+    /// to the number of keys. Its
     /// condition and its change are known in each call that stands on it, and so what is left of it
     /// there is short.
     #[inline(always)]
@@ -153,13 +163,19 @@ impl Map {
         requires own { IsMine self.now seat.old }
         ensures { HasGoneStraight self.now (call.Write key want change) seat.old seat.new result }
     {
-        match write_straight(&self.chain, &mut seat.chain, key, want, change) {
+        let call = Call::Write { key, want, change };
+        let mut left = 1;
+        match write_straight(&self.chain, &mut seat.chain, &call, &mut left, &mut NoPause) {
             Some(Ok(reply)) => {
+                rest_if_lost(left);
                 self.count(&mut seat.count, &change, &reply);
                 Some(Ok(reply))
             }
             Some(Err(fault)) => Some(Err(fault)),
-            None => None,
+            None => {
+                rest_if_lost(left);
+                None
+            }
         }
     }
 }

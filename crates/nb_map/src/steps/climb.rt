@@ -99,7 +99,7 @@ fn find(chain: &Chain, seat: &mut ChainSeat, call: &Call, rung: Rung) -> Result<
         (made_if_not_found call.now result) (search_steps chain.now.shape rung.g) }
     ensures found { IsFound chain.now.shape call.now seat.new rung.g result }
 {
-    match decide(call, &None) {
+    match decide(call, &None, &None) {
         Decision::Leave(reply) => seek(chain, seat, call, rung, reply),
         _ => find_or_claim(chain, seat, call, rung),
     }

@@ -71,7 +71,7 @@ pub(crate) fn try_at<P: Pause>(
 {
     let mut from = chain.load_value_word_at(seat, slot, Some(*call));
     while let Some(number) = from.shows() {
-        match decide(call, &number) {
+        match decide(call, &number, &Some(from)) {
             Decision::Leave(reply) => return Ok(Visit::Told(reply)),
             Decision::Overflow => return Ok(Visit::Refused(PutFault::ValueRange)),
             Decision::Exchange(to) => {
@@ -97,10 +97,11 @@ pub(crate) fn try_at<P: Pause>(
 }
 
 /// What a call comes to that has lost its last try, and has found this number at its key, or none.
+#[inline(always)]
 fn without_tries(call: &Call, found: &Option<Num>) -> Visit
     ensures { IsWithoutTries call.now found.now result }
 {
-    match decide(call, found) {
+    match decide(call, found, &None) {
         Decision::Leave(reply) => Visit::Told(reply),
         _ => Visit::Refused(PutFault::Contended),
     }

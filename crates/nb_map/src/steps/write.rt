@@ -1,5 +1,5 @@
 //! Where a write begins: at its key's home slot in the table that the seat remembers.
-ghost use Rattle.std.specs.Prelude.{IfErr, IsTrue, [], false, min, ◌+◌, ◌-◌, ◌<◌, ◌≡◌, ◌≤◌};
+ghost use Rattle.std.specs.Prelude.{IfErr, IsTrue, [], false, min, ◌+◌, ◌-◌, ◌<◌, ◌≡◌, ◌≢◌, ◌≤◌};
 ghost use Rattle.nb_core.specs.Calls.{Fills};
 ghost use Rattle.nb_core.specs.History.{key_of_call};
 ghost use Rattle.nb_core.specs.declared.calls.Call.TheVariants as call;
@@ -9,16 +9,16 @@ ghost use Rattle.nb_map.specs.Calling.{HasMade};
 ghost use Rattle.nb_map.specs.Logs.{made_in};
 ghost use Rattle.nb_map.specs.Progress.{IsAtHome, IsHomeSlot, IsLastSeen, IsShortAtHome, passed_since};
 ghost use Rattle.nb_map.specs.Refusals.{IsJust, IsJustAdd};
-ghost use Rattle.nb_map.specs.Steps.{climb_steps, home_steps, put_steps};
-ghost use Rattle.nb_map.specs.inside.Climbing.{IsAt, IsRefused, IsSpent, rung_at};
-ghost use Rattle.nb_map.specs.inside.Waiting.{HasClimbed, HasTriedAtHome};
+ghost use Rattle.nb_map.specs.Steps.{home_steps, put_steps};
+ghost use Rattle.nb_map.specs.inside.Climbing.{IsAt, IsSpent, rung_at};
+ghost use Rattle.nb_map.specs.inside.Waiting.{HasClimbed, HasClimbedWith, HasTriedAtHome};
 ghost use Rattle.nb_map.specs.inside.Writing.{IsHomeOf, IsShortThere, IsToldAtHome, made_at_home};
 
 use crate::faults::{AddFault, PutFault};
 use crate::steps::claim::has_next;
 use crate::steps::climb::climb;
 use crate::steps::decide::{Decision, decide};
-use crate::steps::pause::{NoPause, Pause, Rest, rest_if_lost};
+use crate::steps::pause::{Pause, Rest};
 use crate::steps::rung::{Rung, Visit};
 use crate::steps::slot::try_at;
 use nb_core::{Call, Change, Key, KeyState, KeyWord, Reply, Slot, Want};
@@ -54,83 +54,71 @@ pub fn put_if_match_in<P: Pause>(
     ensures serves { P.serves pause.new chain.now }
 {
     let call = Call::Write { key, want, change };
-    let known = seat.known_top();
     let mut left = 1;
-    match write_home(chain, seat, &call, known, &mut left, pause) {
-        Some(Ok(reply)) => return Ok(reply),
-        Some(Err(PutFault::Full)) => return Err(PutFault::Full),
-        Some(Err(PutFault::ValueRange)) => return Err(PutFault::ValueRange),
-        Some(Err(PutFault::Contended)) => {
-            if tries == 1 {
-                return Err(PutFault::Contended);
+    match write_straight(chain, seat, &call, &mut left, pause) {
+        Some(Ok(reply)) => Ok(reply),
+        Some(Err(fault)) => Err(PutFault::from(fault)),
+        None => {
+            if left == 0 && 1 < tries {
+                pause.after_loss(chain);
             }
-            pause.after_loss(chain);
+            write_above(chain, seat, &call, tries - (1 - left), pause)
         }
-        None => {}
     }
-    let top = chain.load_top(seat);
-    write_above(chain, seat, call, top, tries - (1 - left), pause).0
 }
 
-/// Makes a write in the top table or above it, with so many tries. It says how many are left. What
-/// it takes by value stays out of memory on the straight way.
-#[inline(never)]
-fn write_above<P: Pause>(
-    chain: &Chain,
-    seat: &mut ChainSeat,
-    call: Call,
-    top: u32,
-    tries: u32,
-    pause: &mut P,
-) -> (Result<Reply, PutFault>, u32)
-    requires at { IsAt chain.now call seat.old (rung_at top) }
-    requires some { 1 ≤ tries }
-    requires serves { P.serves pause.old chain.now }
-    ensures made { HasMade chain.now.shape call seat.old seat.new (made_in call result.0)
-        (climb_steps chain.now.shape + (tries - result.1)) }
-    ensures refused { IfErr result.0 (IsRefused chain.now.shape call seat.old seat.new tries) }
-    ensures spent { IsSpent call seat.old seat.new tries result.1 }
-    ensures serves { P.serves pause.new chain.now }
-{
-    let mut rest = tries;
-    let told = climb(chain, seat, &call, Rung::at(top), &mut rest, pause);
-    (told, rest)
-}
-
-/// The straight way of a write that tries again for as long as other seats come first: its only try
-/// at its key's home slot. It rests where it loses that one. `None` says that it has to go on by the
-/// general way.
+/// The straight way of a write: its first try, at its key's home slot, and whether that is left.
+/// `None` says that it has to go on by the general way.
 #[inline(always)]
-pub(crate) fn write_straight(
+pub(crate) fn write_straight<P: Pause>(
     chain: &Chain,
     seat: &mut ChainSeat,
-    key: Key,
-    want: Want,
-    change: Change,
+    call: &Call,
+    left: &mut u32,
+    pause: &mut P,
 ) -> Option<Result<Reply, AddFault>>
     requires own { IsOwn chain.now seat.old }
-    ensures { HasTriedAtHome chain.now (call.Write key want change) seat.old seat.new result }
+    requires serves { P.serves pause.old chain.now }
+    ensures tried { HasTriedAtHome chain.now call.now seat.old seat.new left.new result }
+    ensures left { left.new ≤ 1 }
+    ensures serves { P.serves pause.new chain.now }
 {
-    let call = Call::Write { key, want, change };
     let known = seat.known_top();
-    let mut left = 1;
-    match write_home(chain, seat, &call, known, &mut left, &mut NoPause) {
-        Some(Ok(reply)) => {
-            rest_if_lost(left);
-            Some(Ok(reply))
-        }
+    *left = 1;
+    match write_home(chain, seat, call, known, left, pause) {
+        Some(Ok(reply)) => Some(Ok(reply)),
         Some(Err(PutFault::Full)) => Some(Err(AddFault::Full)),
         Some(Err(PutFault::ValueRange)) => Some(Err(AddFault::ValueRange)),
-        Some(Err(PutFault::Contended)) => {
-            rest_if_lost(left);
-            None
-        }
+        Some(Err(PutFault::Contended)) => None,
         None => None,
     }
 }
 
-/// The general way of such a write: in the top table or above it, for as long as other seats come
-/// first.
+/// The general way of a write with so many tries, in the top table or above it. Without a try it is
+/// refused.
+#[inline(always)]
+pub(crate) fn write_above<P: Pause>(
+    chain: &Chain,
+    seat: &mut ChainSeat,
+    call: &Call,
+    tries: u32,
+    pause: &mut P,
+) -> Result<Reply, PutFault>
+    requires own { IsOwn chain.now seat.old }
+    requires serves { P.serves pause.old chain.now }
+    ensures climbed { HasClimbedWith chain.now.shape call.now seat.old seat.new tries result }
+    ensures serves { P.serves pause.new chain.now }
+{
+    if tries == 0 {
+        return Err(PutFault::Contended);
+    }
+    let top = chain.load_top(seat);
+    let mut left = tries;
+    climb(chain, seat, call, Rung::at(top), &mut left, pause)
+}
+
+/// The general way of a write that tries again for as long as other seats come first: in the top
+/// table or above it.
 #[inline(always)]
 pub(crate) fn write_general<R: Wait>(
     rt: &R,
@@ -210,8 +198,8 @@ fn write_home<P: Pause>(
 {
     let home = chain.shape().path(top, call.key()).slot(0);
     let word = chain.load_key_word_at(seat, home, Some(*call));
-    if word.is_empty() {
-        if let Decision::Leave(reply) = decide(call, &None) {
+    if is_free(word, call.key()) {
+        if let Decision::Leave(reply) = decide(call, &None, &None) {
             return Some(Ok(reply));
         }
     }
@@ -224,6 +212,15 @@ fn write_home<P: Pause>(
         Ok(Visit::Above(_)) => unreachable!(),
         Err(_) => None,
     }
+}
+
+/// Whether the slot is empty. It is first asked whether it is the key's, as it is mostly.
+#[inline(always)]
+fn is_free(word: KeyWord, key: Key) -> bool
+    ensures yes { IsTrue result → word ≡ key_is.Empty }
+    ensures no { result ≡ false → word ≢ key_is.Empty }
+{
+    !word.is(key) && word.is_empty()
 }
 
 /// Whether the key has its home slot, which was seen with this key word: it had it then, or the

@@ -2,4 +2,4 @@ use Rattle.nb_map.proofs.Away.{gone_on}
 use Rattle.nb_map.proofs.map.Map.add.Goals as goal
 
 pub returns-in-None : goal.returns-in-None
-returns-in-None g c = gone_on c.in-None.ensures _ c.add_general.ensures
+returns-in-None g c = gone_on c.in-None.ensures _ (rw c.answer.ensures c.add_general.ensures)

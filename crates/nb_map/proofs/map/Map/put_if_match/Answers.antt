@@ -1,52 +1,5 @@
-use Rattle.std.proofs.Common.{ap, arith, refl, subst₂, sym}
-use Rattle.std.proofs.lemmas.Int.{ints}
-use Rattle.std.proofs.lemmas.Result.{err_from_is_err_and}
-use Rattle.nb_core.specs.declared.calls.Call.TheVariants as call
-use Rattle.nb_map.proofs.Counted.{kept-mine, uncounted-mine}
-use Rattle.nb_map.proofs.Logged.{logged, worked-uncounted}
-use Rattle.nb_map.specs.Maps.{IsMine, SeatOf}
-use Rattle.nb_map.specs.Promises.{HasTriedToWrite, Refused, Replied}
+use Rattle.nb_map.proofs.Away.{tried_on}
 use Rattle.nb_map.proofs.map.Map.put_if_match.Goals as goal
 
-pub returns-in_err-reply : goal.returns-in_err-reply
-returns-in_err-reply c =
-    let mine = subst₂ IsMine (sym c.self.view_is) (sym c.seat.view_is) c.requires.own in
-    let after : SeatOf = record {
-      chain = c.put_if_match_in.new.seat;
-      count = c.seat.inside.count;
-    } in
-    let write = call.Write c.args.key c.args.want c.args.change in
-    let made = c.in_err-reply.ensures.made in
-    let p = err_from_is_err_and c.from_residual.result c.from_residual.ensures.1 in
-    rw (p.1, p.2)
-    (subst₂ (λ map before. HasTriedToWrite map write before after c.args.tries
-    (Refused c.in_err-reply.field-0.0))
-    c.self.view_is c.seat.view_is
-    (record {
-      answered = record {
-        unmade = logged {after = after} mine made;
-        just = c.in_err-reply.ensures.refused;
-        looked = c.in_err-reply.ensures.looked;
-      };
-      wait_free = worked-uncounted {after = after} made refl;
-      short = c.in_err-reply.ensures.short;
-      own = uncounted-mine {after = after} mine made refl refl;
-    }))
-
-pub returns : goal.returns
-returns c =
-    let mine = subst₂ IsMine (sym c.self.view_is) (sym c.seat.view_is) c.requires.own in
-    let after : SeatOf = record { chain = c.put_if_match_in.new.seat; count = c.count.new.seat } in
-    let write = call.Write c.args.key c.args.want c.args.change in
-    let made = c.in_ok-reply.ensures.made in
-    let added = ap (λ count. count.added) c.count.ensures in
-    subst₂ (λ map before. HasTriedToWrite map write before after c.args.tries
-    (Replied c.in_ok-reply.reply))
-    c.self.view_is c.seat.view_is
-    (record {
-      answered = logged {after = after} mine made;
-      wait_free = record { steps = (_, made); net = _; count = c.count.ensures };
-      short = c.in_ok-reply.ensures.short;
-      own = kept-mine {after = after} mine made (ap (λ count. count.counter) c.count.ensures)
-          (omega (arith, ints, added));
-    })
+pub returns-in-Err : goal.returns-in-Err
+returns-in-Err c = tried_on c.in-Err.ensures _ c.put_if_match_general.ensures
