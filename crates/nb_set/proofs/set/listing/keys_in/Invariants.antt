@@ -1,7 +1,7 @@
 use Rattle.std.proofs.Common.{◌≤◌, ℕ, length, map, vec_capacity}
 use Rattle.std.specs.Vec.Iter.{into_iter_items}
 use Rattle.nb_core.proofs.Seating.{AreMoved}
-use Rattle.nb_set.proofs.ended.SetEnded.entries.Given as goal
+use Rattle.nb_set.proofs.set.listing.keys_in.Given as goal
 
 abbrev pub invariant-loop-key : goal.invariant-loop-key
 invariant-loop-key l =
