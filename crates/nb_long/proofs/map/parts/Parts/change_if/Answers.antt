@@ -2,7 +2,7 @@ use Rattle.std.proofs.Common.{Err, Ok}
 use Rattle.std.proofs.lemmas.Result.{err_from_is_err_and}
 use Rattle.nb_long.proofs.Comparing.{changed-then}
 use Rattle.nb_long.proofs.Rounds.{idled-none, idled-then}
-use Rattle.nb_long.proofs.map.LongMap.change_if.Goals as goal
+use Rattle.nb_long.proofs.map.parts.Parts.change_if.Goals as goal
 
 pub loop-init : goal.loop-init
 loop-init g c = record {

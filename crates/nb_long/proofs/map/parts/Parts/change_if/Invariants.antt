@@ -1,6 +1,6 @@
 use Rattle.nb_map.specs.Maps.{IsMine}
 use Rattle.nb_long.specs.Typed.{HasIdled}
-use Rattle.nb_long.proofs.map.LongMap.change_if.Given as goal
+use Rattle.nb_long.proofs.map.parts.Parts.change_if.Given as goal
 
 abbrev pub invariant-loop : goal.invariant-loop
 invariant-loop g l = record {

@@ -2,7 +2,7 @@ use Rattle.std.proofs.Common.{◌∙◌, Ok, Some, ap, subst, sym, true}
 use Rattle.nb_long.proofs.Comparing.{comes-late, matches, misses, never-full}
 use Rattle.nb_long.proofs.Rounds.{round-of}
 use Rattle.nb_long.specs.Promises.{HasMadeRound}
-use Rattle.nb_long.proofs.map.LongMap.change_once.Goals as goal
+use Rattle.nb_long.proofs.map.parts.Parts.change_once.Goals as goal
 
 pub returns-in-Ok : goal.returns-in-Ok
 returns-in-Ok g c =

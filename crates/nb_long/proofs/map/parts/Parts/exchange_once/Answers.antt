@@ -1,5 +1,5 @@
 use Rattle.nb_long.proofs.Tries.{exchange-won}
-use Rattle.nb_long.proofs.map.LongMap.exchange_once.Goals as goal
+use Rattle.nb_long.proofs.map.parts.Parts.exchange_once.Goals as goal
 
 pub returns-in-Ok : goal.returns-in-Ok
 returns-in-Ok g c =

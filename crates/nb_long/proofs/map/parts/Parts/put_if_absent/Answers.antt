@@ -4,11 +4,11 @@ use Rattle.nb_long.specs.Promises.{HasPutValue}
 use Rattle.nb_long.specs.Typed.{LongMapOf}
 use Rattle.nb_long.specs.declared.map.Stored.{Stored}
 use Rattle.nb_long.proofs.Written.{is-new, put-value}
-use Rattle.nb_long.proofs.map.LongMap.put_if_absent.Goals as goal
+use Rattle.nb_long.proofs.map.parts.Parts.put_if_absent.Goals as goal
 
 pub returns-in-Ok : goal.returns-in-Ok
 returns-in-Ok g c =
-    let m : LongMapOf = record { map = c.self.inside.map; store = c.self.inside.store } in
+    let m : LongMapOf = record { map = c.self.inside.map.now; store = c.self.inside.store.now } in
     let stored : Stored g.row.V.Denot = record {
       before = c.in-Ok.before;
       done = c.is_none.result;

@@ -1,6 +1,6 @@
 use Rattle.std.proofs.Common.{rules}
 use Rattle.nb_long.proofs.Rounds.{free-none}
-use Rattle.nb_long.proofs.map.LongMap.replace_if.Goals as goal
+use Rattle.nb_long.proofs.map.parts.Parts.replace_if.Goals as goal
 
 pub returns-in_err-receipt : goal.returns-in_err-receipt
 returns-in_err-receipt g c = record {

@@ -1,7 +1,7 @@
 use Rattle.std.proofs.Common.{Err, Ok}
 use Rattle.std.proofs.lemmas.Result.{err_from_is_err_and}
 use Rattle.nb_long.proofs.Tries.{come-end, come-more, come-none}
-use Rattle.nb_long.proofs.map.LongMap.update.Goals as goal
+use Rattle.nb_long.proofs.map.parts.Parts.update.Goals as goal
 
 pub loop-init : goal.loop-init
 loop-init g c = record {

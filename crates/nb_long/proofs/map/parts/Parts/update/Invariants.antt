@@ -1,5 +1,5 @@
 use Rattle.nb_long.proofs.Tries.{HasCome}
-use Rattle.nb_long.proofs.map.LongMap.update.Given as goal
+use Rattle.nb_long.proofs.map.parts.Parts.update.Given as goal
 
 abbrev pub invariant-loop : goal.invariant-loop
 invariant-loop g l = record {

@@ -1,7 +1,7 @@
 use Rattle.std.proofs.Common.{subst}
 use Rattle.nb_long.proofs.Tries.{exchanged-so}
 use Rattle.nb_long.specs.Updating.{HasExchanged}
-use Rattle.nb_long.proofs.map.LongMap.update_once.Goals as goal
+use Rattle.nb_long.proofs.map.parts.Parts.update_once.Goals as goal
 
 pub returns-clause-ended : goal.returns-clause-ended
 returns-clause-ended g c =
