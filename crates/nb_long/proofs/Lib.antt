@@ -1,6 +1,7 @@
 mod Comparing
 mod Held
 mod Passed
+mod Renewed
 mod Rounds
 mod Settled
 mod Tries

@@ -1,6 +1,7 @@
 -- How contracts see a handle of a typed map, and what is in it.
 use Rattle.std.specs.Prelude.{◌≡◌, ◌≤◌, ℕ, List, [], map, All}
-use Rattle.nb_map.specs.Maps.{IsMine, SeatOf, new_seats}
+use Rattle.boxcar.specs.Table.{Shelves}
+use Rattle.nb_map.specs.Maps.{IsMine, MapOf, SeatOf, new_seats}
 use Rattle.nb_long.specs.Typed.{LongMapOf}
 
 -- a handle: the typed map that it is of, and its seat
@@ -11,6 +12,10 @@ pub record HandleOf : Type 0 where
 -- the map's handle with this seat
 abbrev pub handle_on : LongMapOf → SeatOf → HandleOf
 handle_on m seat = record { map = m; seat = seat }
+
+-- the handle with this seat of a map of numbers, over a store
+abbrev pub handle_sharing : MapOf → Shelves → SeatOf → HandleOf
+handle_sharing m store seat = record { map = record { map = m; store = store }; seat = seat }
 
 -- so many handles of a map, whose seats have seen and counted nothing, numbered by their places
 abbrev pub new_handles : LongMapOf → ℕ → List HandleOf
@@ -29,8 +34,7 @@ abbrev pub AreOfOneMap : List HandleOf → Type 0
 AreOfOneMap handles = (m : LongMapOf) × All (λ handle. handle.map ≡ m) handles
 
 -- the seat is the map's, and there is room for so many seats that all have it
-pub record IsHeld (m : LongMapOf) (seat : SeatOf) (room : List SeatOf) (capacity : ℕ) :
-    Type 0 where
-  pub own : IsMine m.map seat
+pub record IsHeld (m : MapOf) (seat : SeatOf) (room : List SeatOf) (capacity : ℕ) : Type 0 where
+  pub own : IsMine m seat
   pub empty : room ≡ []
-  pub room_for_all : m.map.chain.shape.seats ≤ capacity
+  pub room_for_all : m.chain.shape.seats ≤ capacity

@@ -3,3 +3,4 @@ pub mod Typed
 pub mod Promises
 pub mod Handles
 pub mod Updating
+pub mod Renewing

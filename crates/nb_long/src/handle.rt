@@ -1,34 +1,39 @@
 //! Handles: the ways of threads to a typed map that they share.
 ghost use Rattle.std.specs.Arc.{arc_value};
-ghost use Rattle.std.specs.Prelude.{All, IfErr, IfOk, IfSome, Option, [], false, is_ok, length, true, vec_capacity, ◌++◌, ◌+◌, ◌<◌, ◌↔◌, ◌∷◌, ◌≡◌};
+ghost use Rattle.std.specs.Prelude.{All, IfErr, IfOk, IfSome, Option, [], false, is_ok, length, map, true, vec_capacity, ◌++◌, ◌+◌, ◌<◌, ◌↔◌, ◌∷◌, ◌≡◌};
 ghost use Rattle.boxcar.specs.Table.{Shows, Where};
 ghost use Rattle.nb_core.specs.declared.calls.Change.TheVariants as change;
 ghost use Rattle.nb_core.specs.declared.calls.Want.TheVariants as want;
 ghost use Rattle.nb_map.specs.Ending.{EndedWith, HasTablesLeft};
 ghost use Rattle.nb_map.specs.Logs.{HaveEmptyLogs};
-ghost use Rattle.nb_map.specs.Maps.{AreMine, IsMadeFor, IsMine};
+ghost use Rattle.nb_map.specs.Maps.{AreMine, IsMadeFor, IsMine, MapOf};
 ghost use Rattle.nb_map.specs.NamedCalls.{remove_of};
 ghost use Rattle.nb_map.specs.Promises.{Found, HasGot, HasMet, HasWritten};
-ghost use Rattle.nb_long.specs.Handles.{AreOfOneMap, IsSameMap, new_handles, seats_of};
+ghost use Rattle.nb_long.specs.Handles.{AreOfOneMap, IsSameMap, handle_sharing, new_handles, seats_of};
 ghost use Rattle.nb_long.specs.Promises.{HasChangedIf, HasPutValue, HasReplacedIf, with_token};
 ghost use Rattle.nb_long.specs.Typed.{LongMapOf};
 
 mod fullness;
+mod listing;
+mod renewing;
 mod settling;
 mod updating;
 
-use crate::map::{Compared, LongFault, LongMap, Stored, Unshown};
+use crate::map::parts::Parts;
+use crate::map::{Compared, LongFault, Stored, Unshown};
 use crate::store::{Shown, Store};
 use nb_core::{Key, Num, OutOfMemory, Shape};
-use nb_map::{Ended, Seat};
+use nb_map::{Ended, Map, Seat};
 use std::alloc::Global;
 use std::marker::Model;
 use std::sync::{Arc, Wait};
 
-/// One thread's way to a typed map that others share: a seat, and a counted reference to the map.
+/// One thread's way to a typed map that others share: a seat, and counted references to the map of
+/// numbers and to the store.
 #[derive(Drop)]
 pub struct Handle<V> {
-    map: Arc<LongMap<V>, Global>,
+    map: Arc<Map, Global>,
+    store: Arc<Store<V>, Global>,
     seat: Seat,
     /// Room in which `close` gathers the seats, so that it takes no memory.
     room: Vec<Seat>,
@@ -37,11 +42,11 @@ pub struct Handle<V> {
 impl<V> Model for Handle<V> {
     ghost use Rattle.std.specs.Prelude.{vec_capacity};
     ghost use Rattle.std.specs.Arc.{arc_value};
-    ghost use Rattle.nb_long.specs.Handles.{HandleOf, IsHeld};
+    ghost use Rattle.nb_long.specs.Handles.{HandleOf, IsHeld, handle_sharing};
 
     ghost Value = { HandleOf };
 
-    ghost view = { λ h. record { map = arc_value h.map; seat = h.seat } };
+    ghost view = { λ h. handle_sharing (arc_value h.map) (arc_value h.store) h.seat };
 
     ghost invariant = { λ h. IsHeld (arc_value h.map) h.seat h.room.items (vec_capacity h.room) };
 }
@@ -56,19 +61,12 @@ impl<V: Drop> Handle<V> {
         ensures empty { IfOk result (λ handles. HaveEmptyLogs (seats_of handles.items)) }
         ensures one { IfOk result (λ handles. AreOfOneMap handles.items) }
     {
-        let mut handles = Vec::with_capacity(alloc, shape.seats())?;
-        let (map, seats) = LongMap::new(alloc, shape)?;
-        let Ok(map) = Arc::new(alloc, map) else {
+        let store = Store::new(alloc)?;
+        let Ok(store) = Arc::new(alloc, store) else {
             return Err(OutOfMemory);
         };
-        for seat in seats {
-            handles.push_reserved(Handle {
-                map: Arc::try_clone(&map)?,
-                seat,
-                room: Vec::with_capacity(alloc, shape.seats())?,
-            });
-        }
-        Ok(handles)
+        let (map, seats) = Map::new(alloc, shape)?;
+        sharing(alloc, map, &store, seats)
     }
 
     /// What every handle is: its seat is a seat of its map. Nothing runs. A proof over several
@@ -85,7 +83,7 @@ impl<V: Drop> Handle<V> {
         ensures got { HasGot self.old.map.map key self.old.seat self.new.seat result }
         ensures map { IsSameMap self.old self.new }
     {
-        self.map.number_at(&mut self.seat, key)
+        self.map.get(&mut self.seat, key)
     }
 
     /// What the store has under a number, if it shows anything: `Store::show`.
@@ -93,7 +91,7 @@ impl<V: Drop> Handle<V> {
         ensures { IfSome result (λ shown. Shows self.now.map.store shown
             × (shown.index ≡ number)) }
     {
-        self.map.store().show(number)
+        self.store.show(number)
     }
 
     /// Stores a value and puts its number at a key: `LongMap::put`.
@@ -102,7 +100,7 @@ impl<V: Drop> Handle<V> {
             result }
         ensures map { IsSameMap self.old self.new }
     {
-        self.map.put(rt, &mut self.seat, key, value)
+        Parts::new(&self.map, &self.store).put(rt, &mut self.seat, key, value)
     }
 
     /// The same at a key that has none: `LongMap::put_if_absent`.
@@ -116,7 +114,7 @@ impl<V: Drop> Handle<V> {
             result }
         ensures map { IsSameMap self.old self.new }
     {
-        self.map.put_if_absent(rt, &mut self.seat, key, value)
+        Parts::new(&self.map, &self.store).put_if_absent(rt, &mut self.seat, key, value)
     }
 
     /// The same in place of another number: `LongMap::replace`.
@@ -130,7 +128,7 @@ impl<V: Drop> Handle<V> {
             result }
         ensures map { IsSameMap self.old self.new }
     {
-        self.map.replace(rt, &mut self.seat, key, value)
+        Parts::new(&self.map, &self.store).replace(rt, &mut self.seat, key, value)
     }
 
     /// The same where the key has a value equal to `old`: `LongMap::replace_if`.
@@ -147,7 +145,7 @@ impl<V: Drop> Handle<V> {
             result }
         ensures map { IsSameMap self.old self.new }
     {
-        self.map.replace_if(rt, &mut self.seat, key, old, new)
+        Parts::new(&self.map, &self.store).replace_if(rt, &mut self.seat, key, old, new)
     }
 
     /// Takes out a key, and answers the number that was there: `LongMap::remove`.
@@ -168,7 +166,8 @@ impl<V: Drop> Handle<V> {
             change.Remove self.old.seat self.new.seat (with_token found result) }
         ensures map { IsSameMap self.old self.new }
     {
-        self.map.remove_if(rt, &mut self.seat, key, value)
+        let compared = self.take_if(rt, key, value)?;
+        Ok(compared.done)
     }
 
     /// The same, and answers what reads the value that was compared, too: `LongMap::take_if`.
@@ -179,7 +178,7 @@ impl<V: Drop> Handle<V> {
             self.old.seat self.new.seat result }
         ensures map { IsSameMap self.old self.new }
     {
-        self.map.take_if(rt, &mut self.seat, key, value)
+        Parts::new(&self.map, &self.store).take_if(rt, &mut self.seat, key, value)
     }
 
     /// Lets each of two handles of a map see all that the other has seen. Where they are of one map
@@ -197,7 +196,7 @@ impl<V: Drop> Handle<V> {
     pub fn store(&self) -> &Store<V>
         ensures { result.now ≡ self.now.map.store }
     {
-        self.map.store()
+        &self.store
     }
 
     /// The shape that the map was made with.
@@ -232,13 +231,45 @@ impl<V: Drop> Handle<V> {
             handles.push_reserved(last);
             return Err(handles);
         }
-        let Handle { map, seat, room } = last;
+        let Handle {
+            map,
+            store,
+            seat,
+            room,
+        } = last;
         let seats = gathered(handles, seat, room);
-        let Ok(left) = sole(rt, map).finish(seats) else {
+        let Ok(ended) = sole(rt, map).finish(seats) else {
             unreachable!();
         };
-        Ok(left)
+        Ok((ended, sole(rt, store)))
     }
+}
+
+/// The handles of a map that they share, over a store: one for each of its seats, in their order.
+fn sharing<V: Drop>(
+    alloc: Global,
+    shared: Map,
+    store: &Arc<Store<V>, Global>,
+    seats: Vec<Seat>,
+) -> Result<Vec<Handle<V>>, OutOfMemory>
+    requires own { AreMine shared seats.items }
+    ensures { IfOk result (λ handles. handles.items
+        ≡ map (handle_sharing shared (arc_value store.now)) seats.items) }
+{
+    let count = shared.shape().seats();
+    let mut handles = Vec::with_capacity(alloc, seats.len())?;
+    let Ok(shared) = Arc::new(alloc, shared) else {
+        return Err(OutOfMemory);
+    };
+    for seat in seats {
+        handles.push_reserved(Handle {
+            map: Arc::try_clone(&shared)?,
+            store: Arc::try_clone(store)?,
+            seat,
+            room: Vec::with_capacity(alloc, count)?,
+        });
+    }
+    Ok(handles)
 }
 
 /// The seats of handles, and one more at their end.
@@ -247,8 +278,8 @@ fn gathered<V: Drop>(handles: Vec<Handle<V>>, last: Seat, room: Vec<Seat>) -> Ve
     requires room { length handles.items < vec_capacity room }
     ensures seats { result.items ≡ seats_of handles.items ++ last ∷ [] }
     ensures count { length result.items ≡ length handles.items + 1 }
-    ensures own { (m : LongMapOf) → All (λ handle. handle.map ≡ m) handles.items
-        → IsMine m.map last → AreMine m.map result.items }
+    ensures own { (m : MapOf) → All (λ handle. handle.map.map ≡ m) handles.items → IsMine m last
+        → AreMine m result.items }
 {
     let mut seats = room;
     for handle in handles {
@@ -259,15 +290,15 @@ fn gathered<V: Drop>(handles: Vec<Handle<V>>, last: Seat, room: Vec<Seat>) -> Ve
     seats
 }
 
-/// The map, once no other reference to it is left. Where that is so already, it doesn't wait.
-fn sole<V: Drop, R: Wait>(rt: &R, map: Arc<LongMap<V>, Global>) -> LongMap<V>
-    ensures { result ≡ arc_value map }
+/// What is shared, once no other reference to it is left. Where that is so already, it doesn't wait.
+fn sole<T: Drop, R: Wait>(rt: &R, shared: Arc<T, Global>) -> T
+    ensures { result ≡ arc_value shared }
 {
-    let mut map = map;
+    let mut shared = shared;
     for _ in rt.forever() {
-        match Arc::try_unwrap(map) {
-            Ok(map) => return map,
-            Err(shared) => map = shared,
+        match Arc::try_unwrap(shared) {
+            Ok(sole) => return sole,
+            Err(others) => shared = others,
         }
     }
     unreachable!()

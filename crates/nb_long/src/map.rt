@@ -1,26 +1,25 @@
 //! The typed map, and its calls.
-ghost use Rattle.std.specs.Prelude.{IfErr, IfOk, Option, false, is_ok, length, true, ℕ, ◌↔◌, ◌≡◌};
+ghost use Rattle.std.specs.Prelude.{IfErr, IfOk, Option, is_ok, length, true, ◌↔◌, ◌≡◌};
 ghost use Rattle.boxcar.specs.Table.{Where};
-ghost use Rattle.nb_core.specs.Calls.{overflows};
-ghost use Rattle.nb_core.specs.Log.{Numbers};
-ghost use Rattle.nb_core.specs.declared.calls.Call.TheVariants as call;
 ghost use Rattle.nb_core.specs.declared.calls.Change.TheVariants as change;
 ghost use Rattle.nb_core.specs.declared.calls.Want.TheVariants as want;
 ghost use Rattle.nb_map.specs.Ending.{EndedWith, HasTablesLeft};
 ghost use Rattle.nb_map.specs.Logs.{HaveEmptyLogs};
 ghost use Rattle.nb_map.specs.Maps.{AreMine, IsMadeFor, IsMine, new_seats};
 ghost use Rattle.nb_map.specs.NamedCalls.{remove_of};
-ghost use Rattle.nb_map.specs.Promises.{Found, HasGot, HasMet, HasWritten};
-ghost use Rattle.nb_long.specs.Promises.{HasChangedIf, HasGotValue, HasMadeRound, HasPutValue, HasReplacedIf, with_token};
-ghost use Rattle.nb_long.specs.Typed.{number_of};
+ghost use Rattle.nb_map.specs.Promises.{Found, HasMet, HasWritten};
+ghost use Rattle.nb_long.specs.Promises.{HasChangedIf, HasGotValue, HasPutValue, HasReplacedIf, with_token};
 
 mod fullness;
+mod listing;
+pub(crate) mod parts;
 mod settling;
 mod updating;
 
 use crate::store::{Placed, Receipt, Shown, Store, StoreFault};
-use nb_core::{Change, Key, NotAll, Num, OutOfMemory, Shape, Want};
-use nb_map::{Ended, Full, Map, PutFault, Seat};
+use nb_core::{Key, NotAll, Num, OutOfMemory, Shape};
+use nb_map::{Ended, Map, Seat};
+use parts::Parts;
 use std::alloc::Global;
 use std::marker::Model;
 use std::sync::Wait;
@@ -129,16 +128,7 @@ impl<V: Drop> LongMap<V> {
         requires own { IsMine self.now.map seat.old }
         ensures { HasPutValue self.now key want.Any value seat.old seat.new result }
     {
-        let receipt = self.store.push(rt, value)?;
-        match self.map.put(rt, seat, key, receipt.number()) {
-            Ok(before) => Ok(Stored {
-                before,
-                done: true,
-                receipt,
-                compared: None,
-            }),
-            Err(Full) => Err(LongFault::Full(receipt)),
-        }
+        self.parts().put(rt, seat, key, value)
     }
 
     /// Stores a value and puts its number at a key that has none. `ConcurrentMap.putIfAbsent`. As
@@ -153,16 +143,7 @@ impl<V: Drop> LongMap<V> {
         requires own { IsMine self.now.map seat.old }
         ensures { HasPutValue self.now key want.Absent value seat.old seat.new result }
     {
-        let receipt = self.store.push(rt, value)?;
-        match self.map.put_if_absent(rt, seat, key, receipt.number()) {
-            Ok(before) => Ok(Stored {
-                before,
-                done: before.is_none(),
-                receipt,
-                compared: None,
-            }),
-            Err(Full) => Err(LongFault::Full(receipt)),
-        }
+        self.parts().put_if_absent(rt, seat, key, value)
     }
 
     /// Stores a value and puts its number in place of another. `ConcurrentMap.replace` of two
@@ -177,14 +158,7 @@ impl<V: Drop> LongMap<V> {
         requires own { IsMine self.now.map seat.old }
         ensures { HasPutValue self.now key want.Present value seat.old seat.new result }
     {
-        let receipt = self.store.push(rt, value)?;
-        let before = self.map.replace(rt, seat, key, receipt.number());
-        Ok(Stored {
-            before,
-            done: before.is_some(),
-            receipt,
-            compared: None,
-        })
+        self.parts().replace(rt, seat, key, value)
     }
 
     /// Stores a value and puts its number where the key has a value equal to `old`.
@@ -208,27 +182,7 @@ impl<V: Drop> LongMap<V> {
         requires own { IsMine self.now.map seat.old }
         ensures { HasReplacedIf V.eq self.now key old.now new seat.old seat.new result }
     {
-        let receipt = self.store.push(rt, new)?;
-        let change = Change::Put(receipt.number());
-        match self.change_if(rt, seat, key, old, &change) {
-            Ok(Compared { found, done }) => Ok(Stored {
-                before: number_in(&found),
-                done,
-                receipt,
-                compared: found,
-            }),
-            Err(Unshown) => Err(LongFault::Unshown(receipt)),
-        }
-    }
-}
-
-/// The number of a receipt, if there is one.
-fn number_in<V>(found: &Option<Receipt<V>>) -> Option<Num>
-    ensures { result ≡ number_of found.now }
-{
-    match found {
-        Some(receipt) => Some(receipt.number()),
-        None => None,
+        self.parts().replace_if(rt, seat, key, old, new)
     }
 }
 
@@ -253,21 +207,7 @@ impl<V> LongMap<V> {
         requires own { IsMine self.now.map seat.old }
         ensures { HasGotValue self.now key seat.old seat.new result }
     {
-        let Some(number) = self.map.get(seat, key) else {
-            return Ok(None);
-        };
-        match self.store.show(number) {
-            Some(shown) => Ok(Some(shown)),
-            None => Err(Unshown),
-        }
-    }
-
-    /// The number of the value that the map has at a key: a `get` without the look at the store.
-    pub(crate) fn number_at(&self, seat: &mut Seat, key: Key) -> Option<Num>
-        requires own { IsMine self.now.map seat.old }
-        ensures { HasGot self.now.map key seat.old seat.new result }
-    {
-        self.map.get(seat, key)
+        self.parts().get(seat, key)
     }
 
     /// Takes out a key, and answers the number that was there. `ConcurrentMap.remove`. The value
@@ -314,70 +254,14 @@ impl<V> LongMap<V> {
         requires own { IsMine self.now.map seat.old }
         ensures { HasChangedIf V.eq self.now key value.now change.Remove seat.old seat.new result }
     {
-        self.change_if(rt, seat, key, value, &Change::Remove)
+        self.parts().take_if(rt, seat, key, value)
     }
 
-    /// Changes what a key has, where that is a value equal to this one.
-    fn change_if<R: Wait>(
-        &self,
-        rt: &R,
-        seat: &mut Seat,
-        key: Key,
-        value: &V,
-        change: &Change,
-    ) -> Result<Compared<V>, Unshown>
-    where
-        V: PartialEq,
-        requires own { IsMine self.now.map seat.old }
-        requires in_range { (n : ℕ) (m : Numbers)
-            → overflows (call.Write key (want.Equal n) change.now) m ≡ false }
-        ensures { HasChangedIf V.eq self.now key value.now change.now seat.old seat.new result }
+    /// The map of numbers and the store, borrowed.
+    fn parts(&self) -> Parts<'_, V>
+        ensures { result ≡ self.now }
     {
-        for _ in rt.forever() {
-            if let Some(compared) = self.change_once(seat, key, value, change)? {
-                return Ok(compared);
-            }
-        }
-        unreachable!()
-    }
-
-    /// The same, or none where another seat has written the key since it was read.
-    fn change_once(
-        &self,
-        seat: &mut Seat,
-        key: Key,
-        value: &V,
-        change: &Change,
-    ) -> Result<Option<Compared<V>>, Unshown>
-    where
-        V: PartialEq,
-        requires own { IsMine self.now.map seat.old }
-        requires in_range { (n : ℕ) (m : Numbers)
-            → overflows (call.Write key (want.Equal n) change.now) m ≡ false }
-        ensures { HasMadeRound V.eq self.now key value.now change.now seat.old seat.new result }
-    {
-        let Some(found) = self.get(seat, key)? else {
-            return Ok(Some(Compared {
-                found: None,
-                done: false,
-            }));
-        };
-        let number = found.number();
-        let equal = found.value() == value;
-        let found = Some(found.into_receipt());
-        if !equal {
-            return Ok(Some(Compared { found, done: false }));
-        }
-        match self
-            .map
-            .put_if_match(seat, key, Want::Equal(number), *change, 1)
-        {
-            Ok(reply) if reply.matched => Ok(Some(Compared { found, done: true })),
-            Ok(_) => Ok(None),
-            Err(PutFault::Contended) => Ok(None),
-            Err(PutFault::Full) => unreachable!(),
-            Err(PutFault::ValueRange) => unreachable!(),
-        }
+        Parts::new(&self.map, &self.store)
     }
 
     /// Lets each of two seats see all that the other has seen. Each makes one step, as in

@@ -8,6 +8,7 @@ mod Compound
 mod Counted
 mod Crowding
 mod Earlier
+mod Entries
 mod Extended
 mod Filled
 mod Glanced
@@ -24,7 +25,6 @@ mod Opened
 mod Paired
 mod Passed
 mod Passing
-mod Renewed
 mod Replied
 mod Rested
 mod Rounds

@@ -13,9 +13,8 @@ use Rattle.nb_map.proofs.WholeWalk.{whole_walk}
 use Rattle.nb_map.specs.Bulk.{Begun, HasSwept, Kept, Missed, Unwanted, read_as, walk_steps}
 use Rattle.nb_map.specs.Maps.{IsMine, MapOf, SeatOf}
 use Rattle.nb_map.specs.Promises.{HasWalkedOn}
-use Rattle.nb_map.specs.Renewing.{HasOnlyRead, IsRead}
+use Rattle.nb_map.specs.Entries.{HasListed, HasOnlyRead, IsRead}
 use Rattle.nb_map.specs.Walks.{HasShownAll, WalkOf}
-use Rattle.nb_map.specs.inside.Listing.{HasListed}
 
 -- the entries so far are left with this one more, which stays
 abbrev pub Lists : List (ℕ × ℕ) → (k n : ℕ) → Bool → List (ℕ × ℕ) → Type 0

@@ -27,7 +27,7 @@ use Rattle.nb_map.specs.Maps.{IsMine, MapOf, SeatOf, accounted}
 use Rattle.nb_map.specs.NamedCalls.{remove_if_of}
 use Rattle.nb_map.specs.Progress.{passed_since}
 use Rattle.nb_map.specs.Promises.{HasBegunWalk, HasWalkedOn, HasWritten, Matched}
-use Rattle.nb_map.specs.Renewing.{IsRead}
+use Rattle.nb_map.specs.Entries.{IsRead}
 use Rattle.nb_map.specs.Steps.{get_steps, passing_steps, put_steps, slots_ahead, slots_below}
 use Rattle.nb_map.specs.Walks.{IsMiss, IsUnderway, IsWalkOf, Rested, WalkOf, hit, with_shown}
 use Rattle.nb_map.specs.declared.steps.walk.Place.{Place}

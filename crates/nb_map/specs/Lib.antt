@@ -18,5 +18,6 @@ pub mod Laws
 pub mod Calling
 pub mod Crowding
 pub mod Opening
+pub mod Entries
 pub mod Renewing
 pub mod inside

@@ -1,17 +1,12 @@
 -- A map is made anew: what its handles know then, and what a refused renewal leaves.
 use Rattle.std.specs.List.{AllZip}
-use Rattle.std.specs.Prelude.{◌≡◌, ◌≤◌, ◌+◌, ◌⊎◌, ℕ, List, Option, All}
+use Rattle.std.specs.Prelude.{◌≡◌, ◌⊎◌, ℕ, List}
 use Rattle.nb_core.specs.Plans.{Plan}
-use Rattle.nb_core.specs.declared.calls.Call.{Call}
-use Rattle.nb_core.specs.declared.calls.Reply.{Reply}
-use Rattle.nb_map.specs.Bulk.{read_as, walk_steps}
-use Rattle.nb_map.specs.Crowding.{HasAskedFor}
+use Rattle.nb_map.specs.Bulk.{walk_steps}
 use Rattle.nb_map.specs.Ending.{EndedOf, EndedWith, map_left}
+use Rattle.nb_map.specs.Entries.{HasOnlyRead}
 use Rattle.nb_map.specs.Handles.{HandleOf, IsSameMap, seats_of}
-use Rattle.nb_map.specs.Logs.{HasLogged}
-use Rattle.nb_map.specs.Maps.{IsMine, MapOf, SeatOf}
 use Rattle.nb_map.specs.Opening.{BeginWith, IsTooSmallFor}
-use Rattle.nb_map.specs.Walks.{IsLater}
 use Rattle.nb_map.specs.declared.faults.OpenFault.TheVariants as open_fault
 use Rattle.nb_map.specs.declared.faults.OpenFault.{OpenFault}
 use Rattle.nb_map.specs.declared.faults.RenewFault.TheVariants as fault
@@ -35,26 +30,6 @@ pub record HaveTooMany (p : Plan) (before : List HandleOf) : Type 0 where
   pub small : IsTooSmallFor p (map_left ended)
 
 -- ---- a renewal that is refused
-
--- the call is a read, with its reply
-abbrev pub IsRead : Call × Reply → Type 0
-IsRead made = (k : ℕ) × (number : Option ℕ) × (made ≡ read_as k number)
-
--- The seat has made no calls except reads, with at most so many steps.
-pub record HasOnlyRead (m : MapOf) (before after : SeatOf) (most : ℕ) : Type 0 where
-  pub made : List (Call × Reply)
-  pub reads : All IsRead made
-  pub logged : HasLogged before after made
-  -- so a walk of the seat goes on past them
-  pub later : IsLater before after
-  -- for them it has claimed no slot
-  pub claims :
-      (calls : List Call) → HasAskedFor m.chain.shape calls before.chain
-      → HasAskedFor m.chain.shape calls after.chain
-  -- it made no step on the counter
-  pub short : after.chain.steps ≤ before.chain.steps + most
-  pub count : after.count ≡ before.count
-  pub own : IsMine m after
 
 -- The handle is of its map still, and its seat has made no calls except reads.
 pub record IsKept (before after : HandleOf) (most : ℕ) : Type 0 where

@@ -6,5 +6,4 @@ pub mod Reading
 pub mod Writing
 pub mod Walking
 pub mod Filling
-pub mod Listing
 pub mod Waiting

@@ -46,7 +46,7 @@ pub enum PutFault {
     ValueRange,
 }
 
-/// Why seats weren't settled. They are as they were, and so is the map.
+/// Why seats weren't settled, or the entries of their map weren't listed. The map is as it was.
 #[derive(Clone, Copy, Debug, PartialEq, Eq, Error)]
 pub enum SettleFault {
     /// Some of the map's seats aren't there.
@@ -55,6 +55,16 @@ pub enum SettleFault {
     /// Memory to put the seats together was refused.
     #[error("out of memory")]
     OutOfMemory,
+}
+
+impl From<OutOfMemory> for SettleFault {
+    ghost use Rattle.nb_map.specs.declared.faults.SettleFault.TheVariants.{OutOfMemory};
+
+    ghost from_gives = { λ _ fault. fault ≡ OutOfMemory };
+
+    fn from(_refused: OutOfMemory) -> SettleFault {
+        SettleFault::OutOfMemory
+    }
 }
 
 /// Why a map wasn't opened with entries.

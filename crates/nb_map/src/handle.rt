@@ -9,6 +9,7 @@ mod bulk;
 mod closing;
 mod compound;
 mod fullness;
+mod listing;
 mod opening;
 mod renewing;
 mod settling;

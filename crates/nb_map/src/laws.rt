@@ -2,6 +2,7 @@
 //! carries a law as its contract, so that the gate guards it; nobody calls it. A crate above takes
 //! the laws as theorems, from `proofs/Theorems.antt`.
 ghost use Rattle.nb_map.specs.Crowding.{AsksAddUp, CrowdedByCalls};
+ghost use Rattle.nb_map.specs.Entries.{EntriesAtRest};
 ghost use Rattle.nb_map.specs.Fullness.{SampleIsSpread};
 ghost use Rattle.nb_map.specs.Laws.{LogsAddUp, RepliesFit};
 ghost use Rattle.nb_map.specs.OneSeat.{OneSeat};
@@ -59,4 +60,10 @@ pub fn settled_twice()
 /// Where all seats settle and then finish the map, what is left is what they knew.
 pub fn settled_is_ended()
     ensures { SettledIsEnded }
+{}
+
+/// Where all seats settle, one of them walks, and all settle again, the walk has shown all entries
+/// of the map.
+pub fn entries_at_rest()
+    ensures { EntriesAtRest }
 {}

@@ -19,6 +19,11 @@ pub there-and-back : (these : List HandleOf) → map as_handle (map on_map these
 there-and-back [] = refl
 there-and-back (handle ∷ these) = ap (λ rest. handle ∷ rest) (there-and-back these)
 
+-- and a map's handles, by those of the set
+pub back-again : (maps : List handles.HandleOf) → maps ≡ map on_map (map as_handle maps)
+back-again [] = refl
+back-again (handle ∷ maps) = ap (λ rest. handle ∷ rest) (back-again maps)
+
 -- the new handles of a map are those of the set
 pub handles-dealt :
     (set : SetOf) (count : ℕ)

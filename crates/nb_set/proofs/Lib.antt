@@ -3,6 +3,7 @@ mod Bounded
 mod Dealt
 mod Handles
 mod Items
+mod Listed
 mod Logged
 mod Opened
 mod Promised

@@ -39,7 +39,7 @@ or-swap true false = refl
 or-swap false true = refl
 or-swap false false = refl
 
-any-reverse :
+pub any-reverse :
     {X : Type 0} (p : X → Bool) (xs : List X) → list_any p (reverse xs) ≡ list_any p xs
 any-reverse p [] = refl
 any-reverse p (x ∷ xs) =
@@ -48,16 +48,16 @@ any-reverse p (x ∷ xs) =
     ∙ or-swap (list_any p xs) (p x)
 
 -- whether the entry is of this key
-abbrev is_of : ℕ → ℕ × ℕ → Bool
+abbrev pub is_of : ℕ → ℕ × ℕ → Bool
 is_of q entry = eq_by_cmp nat_cmp q entry.0
 
-set-has :
+pub set-has :
     (ks : List ℕ) (q : ℕ) → contains_key (set_of_keys ks) q ≡ list_any (is_of q) (map entry_of ks)
 set-has [] q = ap is_some (get-empty nat_cmp q)
 set-has (k ∷ ks) q =
     keys-put (set_of_keys ks) k tt q ∙ ap (λ b. eq_by_cmp nat_cmp q k || b) (set-has ks q)
 
-entries-have :
+pub entries-have :
     (es : List (ℕ × ℕ)) (q : ℕ)
     → contains_key (from_entries {R = nat_cmp} es) q ≡ list_any (is_of q) es
 entries-have [] q = ap is_some (get-empty nat_cmp q)

@@ -9,6 +9,7 @@ use Rattle.nb_map.specs.Bulk.{walk_steps}
 use Rattle.nb_map.specs.Ending as ending
 use Rattle.nb_map.specs.Handles as handles
 use Rattle.nb_map.specs.Maps.{MapOf}
+use Rattle.nb_map.specs.Entries.{HasOnlyRead, IsRead}
 use Rattle.nb_map.specs.Renewing as of_map
 use Rattle.nb_map.specs.declared.faults.RenewFault.{RenewFault}
 use Rattle.nb_set.specs.Ending.{EndedOf, EndedWith, set_left}
@@ -60,16 +61,16 @@ too-many-as p before many =
 -- ---- a renewal that is refused
 
 asks-as :
-    (made : List (map_call.Call × Reply)) → All of_map.IsRead made → All IsAsk (map call_as made)
+    (made : List (map_call.Call × Reply)) → All IsRead made → All IsAsk (map call_as made)
 asks-as [] reads = All-nil IsAsk
 asks-as (call ∷ made) reads =
-    let read = All-head of_map.IsRead call made reads in
+    let read = All-head IsRead call made reads in
     All-cons IsAsk (call_as call) (map call_as made) (read.0, is_some read.1, ap call_as read.2)
-    (asks-as made (All-tail of_map.IsRead call made reads))
+    (asks-as made (All-tail IsRead call made reads))
 
-only-asked :
+pub only-asked :
     {set : SetOf} {before after : SeatOf} {most : ℕ}
-    → of_map.HasOnlyRead set.map before.map after.map most → HasOnlyAsked set before after most
+    → HasOnlyRead set.map before.map after.map most → HasOnlyAsked set before after most
 only-asked read = record {
   made = map call_as read.made;
   asks = asks-as read.made read.reads;

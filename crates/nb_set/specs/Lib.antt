@@ -12,3 +12,4 @@ pub mod Bulk
 pub mod Settling
 pub mod Opening
 pub mod Renewing
+pub mod Listing

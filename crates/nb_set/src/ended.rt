@@ -4,6 +4,7 @@ ghost use Rattle.std.specs.FinMap.{contains_key, keys, len};
 ghost use Rattle.nb_set.specs.Ending.{log_left, set_left};
 ghost use Rattle.nb_set.specs.Log.{IsReplayed};
 
+use crate::set::listing::keys_in;
 use nb_core::{Key, OutOfMemory};
 use nb_map::Ended;
 use std::alloc::Global;
@@ -56,11 +57,6 @@ impl SetEnded {
         ensures { IfOk result (λ found. found.items ≡ keys (set_left self.now)) }
     {
         self.map.known();
-        let entries = self.map.entries(alloc)?;
-        let mut keys = Vec::with_capacity(alloc, entries.len())?;
-        for (key, _) in entries {
-            keys.push_reserved(key);
-        }
-        Ok(keys)
+        keys_in(alloc, self.map.entries(alloc)?)
     }
 }

@@ -8,6 +8,7 @@ ghost use Rattle.nb_set.specs.Sets.{IsMadeFor, IsMine, SetOf, log, shape_of};
 
 mod bulk;
 mod fullness;
+mod listing;
 mod opening;
 mod renewing;
 mod settling;

@@ -8,6 +8,7 @@ ghost use Rattle.nb_set.specs.Walks.{IsWalkOf};
 
 pub(crate) mod bulk;
 mod fullness;
+pub(crate) mod listing;
 pub(crate) mod opening;
 mod settling;
 

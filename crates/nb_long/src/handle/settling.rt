@@ -7,8 +7,7 @@ ghost use Rattle.nb_map.specs.declared.faults.SettleFault.TheVariants as fault;
 ghost use Rattle.nb_long.specs.Handles.{AreOfOneMap, IsSameMap, seats_of};
 
 use crate::handle::Handle;
-use crate::map::LongMap;
-use nb_map::{Seat, SettleFault};
+use nb_map::{Map, Seat, SettleFault};
 use std::alloc::Global;
 use std::sync::Arc;
 
@@ -49,24 +48,24 @@ impl<V: Drop> Handle<V> {
 /// handle's seat goes to them, and is put back afterwards.
 fn settle_with<V: Drop>(
     alloc: Global,
-    map: &LongMap<V>,
+    map: &Map,
     handles: &mut Vec<Handle<V>>,
     seats: &mut Vec<Seat>,
 ) -> Result<u64, SettleFault>
-    requires one { All (λ handle. handle.map ≡ map.now) handles.old.items }
-    requires own { AreMine map.now.map seats.old.items }
+    requires one { All (λ handle. handle.map.map ≡ map.now) handles.old.items }
+    requires own { AreMine map.now seats.old.items }
     requires all { length handles.old.items + length seats.old.items
-        ≡ map.now.map.chain.shape.seats }
+        ≡ map.now.chain.shape.seats }
     requires room { length handles.old.items + length seats.old.items
         ≤ vec_capacity seats.old }
     ensures all { result ≢ Err fault.NotAll }
-    ensures settled { IfOk result (λ size. HaveSettled map.now.map
+    ensures settled { IfOk result (λ size. HaveSettled map.now
         (seats_of handles.old.items ++ reverse seats.old.items)
         (seats_of handles.new.items ++ reverse seats.new.items) size) }
     ensures back { IfErr result (λ _. (handles.new.items ≡ handles.old.items)
         × (seats.new.items ≡ seats.old.items)) }
     ensures map { AllZip IsSameMap handles.old.items handles.new.items }
-    ensures own { AreMine map.now.map seats.new.items }
+    ensures own { AreMine map.now seats.new.items }
     ensures count { length seats.new.items ≡ length seats.old.items }
     ensures room { vec_capacity handles.new ≡ vec_capacity handles.old }
 {
@@ -78,6 +77,7 @@ fn settle_with<V: Drop>(
     };
     let Handle {
         map: shared,
+        store,
         seat,
         room,
     } = last;
@@ -86,6 +86,7 @@ fn settle_with<V: Drop>(
     let seat = seats.pop().unwrap();
     handles.push_reserved(Handle {
         map: shared,
+        store,
         seat,
         room,
     });

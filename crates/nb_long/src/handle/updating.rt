@@ -3,6 +3,7 @@ ghost use Rattle.nb_long.specs.Handles.{IsSameMap};
 ghost use Rattle.nb_long.specs.Updating.{HasUpdated};
 
 use crate::handle::Handle;
+use crate::map::parts::Parts;
 use crate::map::{UpdateFault, Updated};
 use nb_core::Key;
 use std::sync::Wait;
@@ -20,6 +21,6 @@ impl<V: Drop> Handle<V> {
             result }
         ensures map { IsSameMap self.old self.new }
     {
-        self.map.update(rt, &mut self.seat, key, new_of)
+        Parts::new(&self.map, &self.store).update(rt, &mut self.seat, key, new_of)
     }
 }

@@ -6,7 +6,8 @@ ghost use Rattle.nb_map.specs.Maps.{IsMine};
 ghost use Rattle.nb_long.specs.Stores.{GivesBack};
 ghost use Rattle.nb_long.specs.Updating.{HasEndedTry, HasExchanged, HasUpdated, IsStored};
 
-use crate::map::{LongMap, Unshown, number_in};
+use crate::map::parts::{Parts, number_in};
+use crate::map::{LongMap, Unshown};
 use crate::store::{Placed, Receipt, Shown, StoreFault};
 use nb_core::Key;
 use nb_map::{PutFault, Seat};
@@ -80,6 +81,23 @@ impl<V: Drop> LongMap<V> {
     /// 1` such rounds, and the function is called at most `w + 1` times. The function should be
     /// short, since others may write the key while it runs.
     pub fn update<R: Wait, F: FnMut(Option<&V>) -> Option<V>>(
+        &self,
+        rt: &R,
+        seat: &mut Seat,
+        key: Key,
+        new_of: F,
+    ) -> Result<Updated<V>, UpdateFault<V>>
+        requires own { IsMine self.now.map seat.old }
+        requires callable { F.IsAlwaysCallable new_of }
+        ensures { HasUpdated self.now F.step new_of key seat.old seat.new result }
+    {
+        self.parts().update(rt, seat, key, new_of)
+    }
+}
+
+impl<V: Drop> Parts<'_, V> {
+    /// `LongMap::update`.
+    pub(crate) fn update<R: Wait, F: FnMut(Option<&V>) -> Option<V>>(
         &self,
         rt: &R,
         seat: &mut Seat,

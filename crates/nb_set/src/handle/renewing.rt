@@ -50,7 +50,7 @@ impl Handle {
 }
 
 /// The map's handles in all handles of a set, in the room that the last one keeps.
-fn maps_in(handles: Vec<Handle>) -> Vec<nb_map::Handle>
+pub(super) fn maps_in(handles: Vec<Handle>) -> Vec<nb_map::Handle>
     requires some { handles.items ≢ [] }
     requires room { All (λ handle. length handles.items ≤ (shape_of handle.set).seats)
         handles.items }

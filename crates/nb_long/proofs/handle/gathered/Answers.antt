@@ -4,7 +4,6 @@ use Rattle.std.proofs.lemmas.List.Elements.{All-head, All-nil, All-same, All-tai
 use Rattle.nb_core.proofs.Seating.{moved-count, moved-more, none-moved}
 use Rattle.nb_long.proofs.Held.{mine-more}
 use Rattle.nb_map.specs.Maps.{IsMine}
-use Rattle.nb_long.specs.Typed.{LongMapOf}
 use Rattle.nb_long.proofs.handle.gathered.Goals as goal
 
 pub push_reserved-requires : goal.push_reserved-requires
@@ -26,9 +25,9 @@ loop-handle-init g c = (
       (sym c.into_iter-handle-iterator.ensures.into_iter_gives.0)) c.requires.empty,
   c.requires.room,
   λ m are. (
-    All-same (λ handle. handle.map ≡ m) _ _
+    All-same (λ handle. handle.map.map ≡ m) _ _
         c.into_iter-handle-iterator.ensures.into_iter_gives.0 are,
-    All-same (IsMine m.map) _ [] c.requires.empty (All-nil (IsMine m.map)),
+    All-same (IsMine m) _ [] c.requires.empty (All-nil (IsMine m)),
   ),
 )
 
@@ -41,17 +40,16 @@ loop-handle-preserved g c =
           c.push_reserved.ensures.items,
       omega (arith, c.loop-handle.invariant.3, c.push_reserved.ensures.capacity),
       λ m are.
-          let here = subst (All (λ handle. handle.map ≡ m)) next
+          let here = subst (All (λ handle. handle.map.map ≡ m)) next
           (c.loop-handle.invariant.4 m are).0 in
-          let this = ap (λ handle. handle.map) c.handle.view_is
-          ∙ All-head (λ handle. handle.map ≡ m) _ _ here in (
-            All-tail (λ handle. handle.map ≡ m) _ _ here,
-            mine-more m.map _ _ _ c.push_reserved.ensures.items (c.loop-handle.invariant.4 m are).1
-                (subst (λ (n : LongMapOf). IsMine n.map c.handle.inside.seat) this
-                c.handle.invariant.own),
+          let this = ap (λ handle. handle.map.map) c.handle.view_is
+          ∙ All-head (λ handle. handle.map.map ≡ m) _ _ here in (
+            All-tail (λ handle. handle.map.map ≡ m) _ _ here,
+            mine-more m _ _ _ c.push_reserved.ensures.items (c.loop-handle.invariant.4 m are).1
+                (subst (λ n. IsMine n c.handle.inside.seat) this c.handle.invariant.own),
           ),
     )
 
 pub returns-clause-own : goal.returns-clause-own
 returns-clause-own g c = λ m are last.
-    mine-more m.map _ _ _ c.push_reserved-2.ensures.items (c.loop-handle.invariant.4 m are).1 last
+    mine-more m _ _ _ c.push_reserved-2.ensures.items (c.loop-handle.invariant.4 m are).1 last

@@ -2,8 +2,7 @@ use Rattle.std.proofs.Common.{◌≡◌, ◌<◌, All, length, vec_capacity}
 use Rattle.std.specs.Vec.Iter.{into_iter_items}
 use Rattle.nb_core.proofs.Seating.{AreMoved}
 use Rattle.nb_long.specs.Handles.{seats_of}
-use Rattle.nb_map.specs.Maps.{AreMine}
-use Rattle.nb_long.specs.Typed.{LongMapOf}
+use Rattle.nb_map.specs.Maps.{AreMine, MapOf}
 use Rattle.nb_long.proofs.handle.gathered.Given as goal
 
 abbrev pub invariant-loop-handle : goal.invariant-loop-handle
@@ -13,6 +12,6 @@ invariant-loop-handle g l =
     × AreMoved (λ handle. handle.seat) (seats_of l.fn.handles.items) l.seats.items
     (into_iter_items l.handle-iterator)
     × (length l.fn.handles.items < vec_capacity l.seats)
-    × ((m : LongMapOf) → All (λ handle. handle.map ≡ m) l.fn.handles.items
-    → All (λ handle. handle.map ≡ m) (into_iter_items l.handle-iterator)
-    × AreMine m.map l.seats.items)
+    × ((m : MapOf) → All (λ handle. handle.map.map ≡ m) l.fn.handles.items
+    → All (λ handle. handle.map.map ≡ m) (into_iter_items l.handle-iterator)
+    × AreMine m l.seats.items)

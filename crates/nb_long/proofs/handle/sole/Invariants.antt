@@ -6,4 +6,4 @@ abbrev pub invariant-loop : goal.invariant-loop
 invariant-loop g l =
     (goal.iterator-loop g).can_next l.iterator'
     × (goal.iterator-loop g).is_finite l.iterator'
-    × (arc_value l.map ≡ arc_value l.fn.map)
+    × (arc_value l.shared ≡ arc_value l.fn.shared)

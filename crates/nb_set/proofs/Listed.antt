@@ -1,0 +1,76 @@
+-- All entries of a map at rest, as all keys of the set.
+use Rattle.std.proofs.Common.{◌≡◌, ◌∙◌, ℕ, ◌||◌, List, [], ◌∷◌, All, Ok, Result, ap, inl, inr, map, refl, reverse, subst, sym, arith}
+use Rattle.std.specs.FinMap.{contains_key}
+use Rattle.std.specs.List.{AllZip, list_any}
+use Rattle.std.specs.Ordering.{eq_by_cmp, nat_cmp}
+use Rattle.std.proofs.lemmas.List.Elements.{All-weaker}
+use Rattle.nb_core.proofs.Seating.{All-unmap}
+use Rattle.nb_map.specs.Bulk.{walk_steps}
+use Rattle.nb_map.specs.Entries as of_map
+use Rattle.nb_map.specs.Logs as map_logs
+use Rattle.nb_map.specs.Opening.{map_of_entries}
+use Rattle.nb_set.specs.Ending.{EndedOf, set_left}
+use Rattle.nb_set.specs.Listing.{HaveListed}
+use Rattle.nb_set.specs.Log.{set_of_log}
+use Rattle.nb_set.specs.OfMap.{entry_of, log_as}
+use Rattle.nb_set.specs.Opening.{set_of_keys}
+use Rattle.nb_set.specs.Renewing.{HasOnlyAsked}
+use Rattle.nb_set.specs.Sets.{SeatOf, SetOf, log, shape_of}
+use Rattle.nb_set.proofs.Dealt.{ended-with, in-map}
+use Rattle.nb_set.proofs.Items.{left, same-keys}
+use Rattle.nb_set.proofs.Opened.{any-reverse, entries-have, is_of, set-has}
+use Rattle.nb_set.proofs.Read.{AreKeys, read}
+use Rattle.nb_set.proofs.Renewed.{only-asked}
+
+abbrev keys_of : List (ℕ × ℕ) → List ℕ
+keys_of entries = map (λ entry. entry.0) entries
+
+any-entries :
+    (q : ℕ) (entries : List (ℕ × ℕ))
+    → list_any (is_of q) (map entry_of (keys_of entries)) ≡ list_any (is_of q) entries
+any-entries q [] = refl
+any-entries q (entry ∷ entries) =
+    ap (λ b. eq_by_cmp nat_cmp q entry.0 || b) (any-entries q entries)
+
+-- the set of the keys of entries has the keys of their map
+keys-of-entries :
+    (entries : List (ℕ × ℕ)) → AreKeys (set_of_keys (keys_of entries)) (map_of_entries entries)
+keys-of-entries entries q =
+    set-has (keys_of entries) q ∙ any-entries q entries ∙ sym (any-reverse (is_of q) entries)
+    ∙ sym (entries-have (reverse entries) q)
+
+pub listed-as :
+    (before after : List SeatOf) (entries : List (ℕ × ℕ)) (keys : List ℕ) → keys ≡ keys_of entries
+    → of_map.HaveListed (in-map before) (in-map after) entries → HaveListed before after keys
+listed-as before after entries keys are listed =
+    let ended : EndedOf = record { map = listed.ended } in
+    let content = left ended listed.left.replayed in
+    let whole = read listed.whole listed.replayed in
+    subst (HaveListed before after) (sym are) (record {
+      ended = ended;
+      left = ended-with before ended listed.left;
+      all = record {
+        once = listed.all.once;
+        are = same-keys (set_of_keys (keys_of entries)) (set_left ended)
+            (λ q. keys-of-entries entries q ∙ ap (λ m. contains_key m q) listed.all.are
+            ∙ sym (content q));
+      };
+      whole = log_as listed.whole;
+      replayed = whole.0;
+      logs = All-weaker (λ seat. map_logs.log seat.map ≡ listed.whole)
+          (λ seat. log seat ≡ log_as listed.whole) (λ seat is. ap log_as is) after
+          (All-unmap (λ seat. map_logs.log seat ≡ listed.whole) (λ seat. seat.map) after listed.logs);
+      leaves = same-keys (set_of_log (log_as listed.whole)) (set_left ended)
+          (λ q. whole.1 q ∙ ap (λ m. contains_key m q) listed.leaves ∙ sym (content q));
+    })
+
+-- the seats have only asked for keys
+pub asked-as :
+    (set : SetOf) (before after : List SeatOf)
+    → of_map.HaveOnlyRead set.map (in-map before) (in-map after)
+    → AllZip (λ old new. HasOnlyAsked set old new (walk_steps (shape_of set))) before after
+asked-as set [] [] each = tt
+asked-as set [] (new ∷ after) each = absurd each
+asked-as set (old ∷ before) [] each = absurd each
+asked-as set (old ∷ before) (new ∷ after) each =
+    (only-asked {set = set} {before = old} {after = new} each.0, asked-as set before after each.1)

@@ -1,0 +1,32 @@
+-- All keys of a set at rest: what all its seats know once the keys are listed.
+use Rattle.std.specs.List.{AllZip, IsDistinct}
+use Rattle.std.specs.Prelude.{◌≡◌, ◌⊎◌, ◌==◌, ℕ, List, All}
+use Rattle.nb_map.specs.Bulk.{walk_steps}
+use Rattle.nb_set.specs.Ending.{EndedOf, EndedWith, set_left}
+use Rattle.nb_set.specs.Log.{Entry, IsReplayed, Keys, set_of_log}
+use Rattle.nb_set.specs.Opening.{set_of_keys}
+use Rattle.nb_set.specs.Renewing.{HasOnlyAsked}
+use Rattle.nb_set.specs.Sets.{SeatOf, SetOf, log, shape_of}
+
+-- These are the keys of the set, each once.
+pub record AreKeysOf (content : Keys) (keys : List ℕ) : Type 0 where
+  pub once : IsDistinct (λ a b. a == b) keys
+  pub are : set_of_keys keys ≡ content
+
+-- All keys of the set are listed. There was one log of all calls, as if the set had been finished
+-- then, and the keys are those of the set that it leaves. Now each seat's log is one and the same,
+-- is replayed, and leaves that set.
+pub record HaveListed (before after : List SeatOf) (keys : List ℕ) : Type 0 where
+  pub ended : EndedOf
+  pub left : EndedWith before ended
+  pub all : AreKeysOf (set_left ended) keys
+  pub whole : List Entry
+  pub replayed : IsReplayed whole
+  pub logs : All (λ seat. log seat ≡ whole) after
+  pub leaves : set_of_log whole ≡ set_left ended
+
+-- The seats are as they were; or each has only asked for keys, in at most the steps of a walk.
+abbrev pub HaveOnlyAsked : SetOf → (before after : List SeatOf) → Type 0
+HaveOnlyAsked set before after =
+    (after ≡ before)
+    ⊎ AllZip (λ old new. HasOnlyAsked set old new (walk_steps (shape_of set))) before after
