@@ -23,6 +23,7 @@ public class Bench {
     static final class Random {
         long state;
         Random(long seed) { state = scattered(seed + 1); }
+        Random(Random other) { state = other.state; }
         long draw() { state += 0x9e3779b97f4a7c15L; return scattered(state); }
     }
 
@@ -62,7 +63,8 @@ public class Bench {
         }
     }
 
-    static long key(long place) { return spread ? scattered(place) >>> 1 : place; }
+    static long spreadKey(long place) { return scattered(place) >>> 1; }
+    static long key(long place) { return spread ? spreadKey(place) : place; }
 
     /** The slots of a table that has two for each key, and more by the next power of two. */
     static int room() { return (int) Math.min(1 << 30, Long.highestOneBit(2L * live - 1) << 1); }
@@ -141,18 +143,37 @@ public class Bench {
         return 0;
     }
 
-    static long drawBatch(Peer map, Random random, int gets, int puts) {
+    static long placeOf(long drawn) { return (drawn & 0xffffffffL) * live >>> 32; }
+
+    // Each spacing has a loop of its own, which doesn't ask for it.
+
+    static long denseBatch(Peer map, Random random, int gets, int puts) {
         long sum = 0;
+        Random own = new Random(random);
         for (int i = 0; i < BATCH; i++) {
-            long drawn = random.draw();
-            sum += callDrawn(map, key((drawn & 0xffffffffL) * live >>> 32), drawn, gets, puts);
+            long drawn = own.draw();
+            sum += callDrawn(map, placeOf(drawn), drawn, gets, puts);
         }
+        random.state = own.state;
+        return sum;
+    }
+
+    static long spreadBatch(Peer map, Random random, int gets, int puts) {
+        long sum = 0;
+        Random own = new Random(random);
+        for (int i = 0; i < BATCH; i++) {
+            long drawn = own.draw();
+            sum += callDrawn(map, spreadKey(placeOf(drawn)), drawn, gets, puts);
+        }
+        random.state = own.state;
         return sum;
     }
 
     static long sampleBatch(Peer map, Random random, int gets, int puts, int[] samples, int first) {
         long sum = 0;
-        for (int i = first; i < first + BATCH; i++) sum += callDrawn(map, key(samples[i]), random.draw(), gets, puts);
+        Random own = new Random(random);
+        for (int i = first; i < first + BATCH; i++) sum += callDrawn(map, samples[i], own.draw(), gets, puts);
+        random.state = own.state;
         return sum;
     }
 
@@ -179,7 +200,8 @@ public class Bench {
                 else if (zipf) {
                     sum += sampleBatch(map, random, gets, puts, samples, sample);
                     sample = (sample + BATCH) % SAMPLES;
-                } else sum += drawBatch(map, random, gets, puts);
+                } else if (spread) sum += spreadBatch(map, random, gets, puts);
+                else sum += denseBatch(map, random, gets, puts);
                 calls += BATCH;
                 spent = System.nanoTime() - start;
                 if (spent >= time) break;

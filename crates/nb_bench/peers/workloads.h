@@ -44,7 +44,8 @@ struct Random {
 };
 
 inline bool spread = false;
-inline uint64_t key_of(uint64_t place) { return spread ? scattered(place) >> 1 : place; }
+inline uint64_t spread_key(uint64_t place) { return scattered(place) >> 1; }
+inline uint64_t key_of(uint64_t place) { return spread ? spread_key(place) : place; }
 
 // What is to be run.
 struct Options {
@@ -168,20 +169,25 @@ template <class Map> inline uint64_t call_drawn(Map &map, uint64_t key, uint64_t
     return 0;
 }
 
-// A batch of calls at keys of which each is as likely.
-template <class Map> __attribute__((noinline)) uint64_t draw_batch(Map &map, Random &random, Mix mix, uint64_t live) {
+// A batch of calls at keys of which each is as likely. Each spacing has a loop of its own, which doesn't ask for it.
+template <bool SPREAD, class Map>
+__attribute__((noinline)) uint64_t draw_batch(Map &map, Random &random, Mix mix, uint64_t live) {
     uint64_t sum = 0;
+    Random own = random;
     for (uint64_t i = 0; i < BATCH; i++) {
-        uint64_t drawn = random.draw();
-        sum += call_drawn(map, key_of((drawn & UINT32_MAX) * live >> 32), drawn, mix);
+        uint64_t drawn = own.draw(), place = (drawn & UINT32_MAX) * live >> 32;
+        sum += call_drawn(map, SPREAD ? spread_key(place) : place, drawn, mix);
     }
+    random = own;
     return sum;
 }
 
-// A batch of calls at keys that were drawn before.
+// A batch of calls at dense keys that were drawn before.
 template <class Map> __attribute__((noinline)) uint64_t sample_batch(Map &map, Random &random, Mix mix, const uint32_t *sample) {
     uint64_t sum = 0;
-    for (uint64_t i = 0; i < BATCH; i++) sum += call_drawn(map, key_of(sample[i]), random.draw(), mix);
+    Random own = random;
+    for (uint64_t i = 0; i < BATCH; i++) sum += call_drawn(map, sample[i], own.draw(), mix);
+    random = own;
     return sum;
 }
 
@@ -206,7 +212,8 @@ Tally call_on(Map &map, const Options &given, const std::vector<uint32_t> &sampl
         else if (given.zipf) {
             tally.sum += sample_batch(map, draws.random, mix, &samples[draws.sample]);
             draws.sample = (draws.sample + BATCH) % SAMPLES;
-        } else tally.sum += draw_batch(map, draws.random, mix, given.live);
+        } else if (spread) tally.sum += draw_batch<true>(map, draws.random, mix, given.live);
+        else tally.sum += draw_batch<false>(map, draws.random, mix, given.live);
         tally.calls += BATCH;
         tally.nanoseconds = since(start);
         if (tally.nanoseconds >= time) break;

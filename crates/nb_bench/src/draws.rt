@@ -24,7 +24,8 @@ const ONE_PLACE: u32 = 4242;
 pub(crate) enum Calls<'a> {
     /// A mix of calls at any of the keys, each as often as the others.
     Mixed,
-    /// A mix of calls at the keys with these places, one after another, and again from the start.
+    /// A mix of calls at the dense keys with these places, one after another, and again from the
+    /// start.
     Sampled(&'a [u32]),
     /// Puts at one key.
     OneKey,
@@ -161,88 +162,105 @@ fn call_batch<R: Wait>(
     requires own { IsMine map.now seat.old }
     ensures own { IsMine map.now seat.new }
 {
-    match job.calls {
-        Calls::Mixed => draw_batch(rt, map, seat, &mut source.random, job),
-        Calls::Sampled(samples) => {
-            let batch = source.next_batch(samples);
-            sample_batch(rt, map, seat, &mut source.random, job, batch)
+    let mix = job.mix;
+    let count = u64::from(job.keys);
+    let random = &mut source.random;
+    match (job.calls, job.spacing) {
+        (Calls::Mixed, Spacing::Dense) => draw_batch(rt, map, seat, random, mix, &Dense { count }),
+        (Calls::Mixed, Spacing::Spread) => {
+            draw_batch(rt, map, seat, random, mix, &Spread { count })
         }
-        Calls::OneKey => put_batch(rt, map, seat, job.spacing),
+        (Calls::Sampled(samples), _) => {
+            let places = source.next_batch(samples);
+            draw_batch(rt, map, seat, &mut source.random, mix, &Listed { places })
+        }
+        (Calls::OneKey, _) => put_batch(rt, map, seat, job.spacing),
     }
 }
 
-/// Makes the call that was drawn, at a key, and answers what it read.
-#[inline(always)]
-fn call_drawn<R: Wait>(
+/// Which keys a batch calls at.
+trait Pick {
+    /// The key of the call of a turn, from 0 on, for which this number was drawn.
+    fn key(&self, turn: u64, drawn: u64) -> Key;
+}
+
+/// One of so many places, each as likely, by the lower half of a drawn number: a product is cheaper
+/// than the rest of a division.
+fn place_of(drawn: u64, count: u64) -> u32 {
+    ((drawn & 0xffff_ffff).wrapping_mul(count) >> 32) as u32
+}
+
+/// So many dense keys, each as likely.
+#[derive(Clone, Copy, Debug)]
+struct Dense {
+    count: u64,
+}
+
+impl Pick for Dense {
+    fn key(&self, _turn: u64, drawn: u64) -> Key {
+        Spacing::Dense.key(place_of(drawn, self.count))
+    }
+}
+
+/// So many spread keys, each as likely.
+#[derive(Clone, Copy, Debug)]
+struct Spread {
+    count: u64,
+}
+
+impl Pick for Spread {
+    fn key(&self, _turn: u64, drawn: u64) -> Key {
+        Spacing::Spread.key(place_of(drawn, self.count))
+    }
+}
+
+/// The dense keys with these places, one after another.
+#[derive(Clone, Copy, Debug)]
+struct Listed<'a> {
+    places: &'a [u32],
+}
+
+impl Pick for Listed<'_> {
+    fn key(&self, turn: u64, _drawn: u64) -> Key {
+        let place = self.places.get(turn as usize).copied().unwrap_or(0);
+        Spacing::Dense.key(place)
+    }
+}
+
+/// Makes a batch of calls at the keys that `pick` picks. It answers the sum of what the gets read.
+/// Each kind of keys has a loop of its own, which doesn't ask for the kind. The calls stand in the
+/// loop: a function around them that may wait would cost a get some instructions.
+fn draw_batch<R: Wait, P: Pick>(
     rt: &R,
     map: &Map,
     seat: &mut Seat,
-    key: Key,
-    drawn: u64,
+    random: &mut Random,
     mix: Mix,
+    pick: &P,
 ) -> Result<u64, WorkFault>
     requires own { IsMine map.now seat.old }
     ensures own { IsMine map.now seat.new }
 {
-    // From 0 to 99, by the upper half of what was drawn.
-    let percent = (drawn >> 32).wrapping_mul(100) >> 32;
-    if percent < mix.gets {
-        return Ok(map.get(seat, key).map_or(0, Num::get));
-    }
-    if percent < mix.gets.wrapping_add(mix.puts) {
-        let before = map.put(rt, seat, key, number((drawn >> 32) as u32));
-        if before.is_err() {
-            return Err(WorkFault::Full);
+    let removals_from = mix.gets.wrapping_add(mix.puts);
+    let mut row = *random;
+    let mut sum = 0u64;
+    for turn in 0..BATCH {
+        let drawn = row.draw();
+        let key = pick.key(turn, drawn);
+        // From 0 to 99, by the upper half of what was drawn.
+        let percent = (drawn >> 32).wrapping_mul(100) >> 32;
+        if percent < mix.gets {
+            sum = sum.wrapping_add(map.get(seat, key).map_or(0, Num::get));
+        } else if percent < removals_from {
+            let before = map.put(rt, seat, key, number((drawn >> 32) as u32));
+            if before.is_err() {
+                return Err(WorkFault::Full);
+            }
+        } else {
+            map.remove(rt, seat, key);
         }
-    } else {
-        map.remove(rt, seat, key);
     }
-    Ok(0)
-}
-
-/// Makes a batch of calls at keys of which each is drawn as often as the others. It answers the sum
-/// of what the gets read.
-fn draw_batch<R: Wait>(
-    rt: &R,
-    map: &Map,
-    seat: &mut Seat,
-    random: &mut Random,
-    job: &Draws<'_>,
-) -> Result<u64, WorkFault>
-    requires own { IsMine map.now seat.old }
-    ensures own { IsMine map.now seat.new }
-{
-    let (spacing, mix) = (job.spacing, job.mix);
-    let keys = u64::from(job.keys);
-    let mut sum = 0u64;
-    for _round in 0..BATCH {
-        let drawn = random.draw();
-        // By the lower half: a product is cheaper than the rest of a division.
-        let place = ((drawn & 0xffff_ffff).wrapping_mul(keys) >> 32) as u32;
-        let read = call_drawn(rt, map, seat, spacing.key(place), drawn, mix)?;
-        sum = sum.wrapping_add(read);
-    }
-    Ok(sum)
-}
-
-/// Makes a batch of calls at the keys with these places. It answers the sum of what the gets read.
-fn sample_batch<R: Wait>(
-    rt: &R,
-    map: &Map,
-    seat: &mut Seat,
-    random: &mut Random,
-    job: &Draws<'_>,
-    batch: &[u32],
-) -> Result<u64, WorkFault>
-    requires own { IsMine map.now seat.old }
-    ensures own { IsMine map.now seat.new }
-{
-    let (spacing, mix) = (job.spacing, job.mix);
-    let mut sum = 0u64;
-    for place in batch {
-        let read = call_drawn(rt, map, seat, spacing.key(*place), random.draw(), mix)?;
-        sum = sum.wrapping_add(read);
-    }
+    *random = row;
     Ok(sum)
 }
 

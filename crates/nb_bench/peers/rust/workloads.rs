@@ -33,6 +33,12 @@ fn scattered(z: u64) -> u64 {
     z ^ (z >> 31)
 }
 
+/// The key with this place, where keys are from all over the range.
+fn spread_key(place: u64) -> u64 {
+    scattered(place) >> 1
+}
+
+#[derive(Clone, Copy)]
 struct Random(u64);
 
 impl Random {
@@ -71,7 +77,7 @@ impl Options {
     #[inline(always)]
     fn key(&self, place: u64) -> u64 {
         match self.keys {
-            Keys::Spread => scattered(place) >> 1,
+            Keys::Spread => spread_key(place),
             _ => place,
         }
     }
@@ -163,25 +169,30 @@ fn call_drawn<P: Peer>(map: &P, key: u64, drawn: u64, mix: Mix) -> u64 {
     0
 }
 
-/// A batch of calls at keys of which each is as likely.
+/// A batch of calls at keys of which each is as likely. Each spacing has a loop of its own, which doesn't ask for it.
 #[inline(never)]
-fn draw_batch<P: Peer>(map: &P, given: &Options, random: &mut Random, mix: Mix) -> u64 {
+fn draw_batch<P: Peer, const SPREAD: bool>(map: &P, live: u64, random: &mut Random, mix: Mix) -> u64 {
     let mut sum = 0u64;
+    let mut own = *random;
     for _ in 0..BATCH {
-        let drawn = random.draw();
-        let place = (drawn & 0xffff_ffff) * given.live >> 32;
-        sum = sum.wrapping_add(call_drawn(map, given.key(place), drawn, mix));
+        let drawn = own.draw();
+        let place = (drawn & 0xffff_ffff) * live >> 32;
+        let key = if SPREAD { spread_key(place) } else { place };
+        sum = sum.wrapping_add(call_drawn(map, key, drawn, mix));
     }
+    *random = own;
     sum
 }
 
-/// A batch of calls at keys that were drawn before.
+/// A batch of calls at dense keys that were drawn before.
 #[inline(never)]
-fn sample_batch<P: Peer>(map: &P, given: &Options, random: &mut Random, mix: Mix, samples: &[u32]) -> u64 {
+fn sample_batch<P: Peer>(map: &P, random: &mut Random, mix: Mix, samples: &[u32]) -> u64 {
     let mut sum = 0u64;
+    let mut own = *random;
     for &place in samples {
-        sum = sum.wrapping_add(call_drawn(map, given.key(place.into()), random.draw(), mix));
+        sum = sum.wrapping_add(call_drawn(map, place.into(), own.draw(), mix));
     }
+    *random = own;
     sum
 }
 
@@ -227,8 +238,9 @@ fn timed<P: Peer>(given: &Options) {
         let mut chunks = chunks.cycle().skip(SAMPLES as usize / BATCH as usize * number / given.threads);
         let mut batch = || match (given.workload, given.keys) {
             ('E', _) => put_batch(&map, given),
-            (_, Keys::Zipf) => sample_batch(&map, given, &mut random, mix, chunks.next().unwrap()),
-            _ => draw_batch(&map, given, &mut random, mix),
+            (_, Keys::Zipf) => sample_batch(&map, &mut random, mix, chunks.next().unwrap()),
+            (_, Keys::Spread) => draw_batch::<P, true>(&map, given.live, &mut random, mix),
+            (_, Keys::Dense) => draw_batch::<P, false>(&map, given.live, &mut random, mix),
         };
         call_on(&mut batch, given.time / 10, batches / 10);
         call_on(&mut batch, given.time, batches)
