@@ -4,6 +4,7 @@ mod calls;
 mod churn;
 mod compound;
 mod fullness;
+mod listing;
 mod renewing;
 mod rows;
 mod seats;

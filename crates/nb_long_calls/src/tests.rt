@@ -3,6 +3,7 @@ mod cache;
 mod handles;
 mod on_map;
 mod refused;
+mod renewing;
 mod settling;
 mod texts;
 mod threads;

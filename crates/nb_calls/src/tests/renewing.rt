@@ -2,6 +2,7 @@
 ghost use Rattle.std.specs.Prelude.{IfOk};
 ghost use Rattle.nb_map.specs.Handles.{AreOfOneMap};
 
+use super::listing::lists;
 use super::rows::Answer::{Nothing, Was};
 use super::rows::Call::{Get, Put, Remove};
 use super::rows::{ended, has_just, key, last_sees, number};
@@ -214,7 +215,7 @@ fn renewed_again(alloc: Global, handles: &mut Vec<Handle>, shape: Shape) -> Resu
     renewed
 }
 
-/// Opens a map with entries and makes it anew, also where one request for memory is refused: then the
+/// Opens a map with entries, makes it anew and lists it, also where one request for memory is refused: then the
 /// old handles have lost nothing.
 pub(super) fn renews<R: Wait + Abort>(rt: &R, alloc: Global) -> Result<(), Fail> {
     let shape = Shape::new(2, 2, 2, 1)?;
@@ -222,6 +223,7 @@ pub(super) fn renews<R: Wait + Abort>(rt: &R, alloc: Global) -> Result<(), Fail>
     let mut handles = opened_again(alloc, shape, &pairs)?;
     renewed_again(alloc, &mut handles, shape)?;
     assert_eq!(rt; handles.len(), 2);
+    lists(rt, alloc, &mut handles, &[(1, 10), (2, 20)]);
     let ended = ended(rt, handles);
     assert_eq!(rt; ended.size(), 2);
     assert_eq!(rt; ended.get(key(rt, 1)), Some(number(rt, 10)));

@@ -7,7 +7,6 @@ use nb_map::{Handle, SettleFault};
 use std::alloc::Global;
 use std::process::Abort;
 use std::sync::Wait;
-use std::sync::atomic::{AtomicU64, Ordering};
 use std::test::Fail;
 use std::thread;
 use std::thread::Threads;
@@ -65,42 +64,4 @@ pub(super) fn settles<R: Abort>(rt: &R, alloc: Global, handles: &mut Vec<Handle>
     if Handle::settle(alloc, handles) != Ok(size) {
         assert_eq!(rt; Handle::settle(alloc, handles), Ok(size));
     }
-}
-
-/// The first handle counts the entries that it is shown, and the others rest.
-fn first_counts<R: Threads + Sync + Wait>(rt: &R, handles: &mut [Handle], shown: &AtomicU64)
-    requires { AreOfOneMap handles.old }
-    ensures { AreOfOneMap handles.new }
-{
-    thread::for_each_mut(
-        rt,
-        handles,
-        4,
-        &|thread: usize, handle: &mut Handle|
-            ensures { handle.exit.now.map ≡ handle.entry.now.map }
-        {
-            if thread == 0 {
-                handle.for_each(|_, _| {
-                    let _ = shown.fetch_add(1, Ordering::SeqCst);
-                });
-            }
-        },
-    );
-}
-
-/// The entries of a map at rest: between two settles that answer one size, a walk by one handle
-/// shows as many entries. It shows no key twice, and each key that the map had all the while, so
-/// these are all.
-#[test]
-fn entries_at_rest(rt: HostRuntime) -> Result<(), Fail> {
-    let once = Num::new(1)?;
-    let mut handles = Handle::open(rt.alloc(), Shape::new(4, 4, 4, 1)?)?;
-    all_add(&rt, handles.as_mut_slice(), Key::new(7)?, once);
-    all_add(&rt, handles.as_mut_slice(), Key::new(9)?, once);
-    settles(&rt, rt.alloc(), &mut handles, 2);
-    let shown = AtomicU64::new(0);
-    first_counts(&rt, handles.as_mut_slice(), &shown);
-    assert_eq!(rt; shown.load(Ordering::SeqCst), 2);
-    settles(&rt, rt.alloc(), &mut handles, 2);
-    Ok(())
 }

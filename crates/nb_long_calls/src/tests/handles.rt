@@ -1,4 +1,6 @@
 //! Threads read and write one typed map by handles.
+ghost use Rattle.std.specs.Prelude.{◌≡◌};
+
 use nb_core::{Key, Shape};
 use nb_long::Handle;
 use std::process::Abort;
@@ -15,7 +17,9 @@ pub(super) fn one_of<R: Abort>(rt: &R, handles: &mut Vec<Handle<u64>>) -> Handle
 }
 
 /// The value at a key, by a handle.
-pub(super) fn value_at<R: Abort>(rt: &R, handle: &mut Handle<u64>, key: Key) -> Option<u64> {
+pub(super) fn value_at<R: Abort>(rt: &R, handle: &mut Handle<u64>, key: Key) -> Option<u64>
+    ensures { handle.new.map ≡ handle.old.map }
+{
     let number = handle.number_at(key)?;
     let Some(found) = handle.show(number) else {
         panic!(rt; "the value is shown")

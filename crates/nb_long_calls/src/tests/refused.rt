@@ -3,6 +3,7 @@
 ghost use Rattle.nb_map.specs.Maps.{IsMine};
 
 use super::on_map::*;
+use super::renewing::renews;
 use nb_core::{OutOfMemory, Shape};
 use nb_long::{Handle, LongFault, LongMap, Stored, UpdateFault};
 use nb_map::Seat;
@@ -167,5 +168,5 @@ fn refused_memory(rt: HostRuntime) -> Result<(), Fail> {
     stores_by_function(&rt, rt.alloc());
     let shape = Shape::new(2, 2, 3, 1)?;
     opens(&rt, rt.alloc(), shape)?;
-    Ok(())
+    renews(&rt, rt.alloc())
 }

@@ -10,7 +10,7 @@ use std::thread;
 use std::thread::Threads;
 
 /// Each handle puts a value at a key, in a thread of its own.
-fn all_put<R: Threads + Sync + Wait>(rt: &R, handles: &mut [Handle<u64>], key: Key)
+pub(super) fn all_put<R: Threads + Sync + Wait>(rt: &R, handles: &mut [Handle<u64>], key: Key)
     requires { AreOfOneMap handles.old }
     ensures { AreOfOneMap handles.new }
 {
