@@ -1,19 +1,17 @@
 -- A write that looks at its key's home slot first, in the table that its seat remembers.
-use Rattle.std.proofs.Common.{◌≡◌, ◌⊎◌, ℕ, ◌+◌, ◌-◌, ◌<◌, ◌≤◌, List, [], Option, Result, inl, inr, subst, sym, arith}
+use Rattle.std.proofs.Common.{◌≡◌, ◌⊎◌, ℕ, ◌+◌, ◌-◌, ◌<◌, ◌≤◌, List, [], Option, Result, inl, subst, sym, arith}
 use Rattle.std.proofs.lemmas.Nat.{pow_pos}
 use Rattle.nb_core.specs.History.{key_of_call}
 use Rattle.nb_core.specs.declared.calls.Call.{Call}
 use Rattle.nb_core.specs.declared.calls.Reply.{Reply}
 use Rattle.nb_table.proofs.Theorems.{steps_add_up}
 use Rattle.nb_table.specs.Chains.{ChainOf, Extended, IsOwn, SeenBy, seen_by}
-use Rattle.nb_map.proofs.Home.{home-before}
-use Rattle.nb_map.proofs.Made.{made-own, made-quiet, made-stays, made-within}
-use Rattle.nb_map.proofs.Searched.{made-then, others-none, reached-up-to, ready-up-to, table-within}
-use Rattle.nb_map.proofs.Spent.{passed-sum, spent-later, spent-more}
-use Rattle.nb_map.proofs.AtHome.{last-before, put-rises, whole-bound}
+use Rattle.nb_map.proofs.Made.{made-within}
+use Rattle.nb_map.proofs.Searched.{others-none, reached-up-to, ready-up-to, table-within}
+use Rattle.nb_map.proofs.AtHome.{whole-bound}
 use Rattle.nb_map.specs.Calling.{HasMade}
-use Rattle.nb_map.specs.Progress.{IsAloneAtHome, IsKnownHome, IsLastSeen, IsShortAtHome, passed_since}
-use Rattle.nb_map.specs.Steps.{climb_steps, home_steps, put_steps}
+use Rattle.nb_map.specs.Progress.{IsAloneAtHome, IsKnownHome, IsLastSeen, IsShortAtHome}
+use Rattle.nb_map.specs.Steps.{home_steps, put_steps}
 use Rattle.nb_map.specs.declared.faults.PutFault.{PutFault}
 use Rattle.nb_map.specs.inside.Climbing.{IsAt, IsSpent, rung_at}
 use Rattle.nb_map.specs.inside.Waiting.{HasLookedInVain}

@@ -1,6 +1,6 @@
 -- All entries of a map at rest: what all its seats know once the entries are listed.
 use Rattle.std.specs.List.{AllZip, IsDistinct}
-use Rattle.std.specs.Prelude.{◌≡◌, ◌≤◌, ◌+◌, ◌==◌, ◌++◌, ◌∷◌, [], ℕ, List, Option, All, map, reverse}
+use Rattle.std.specs.Prelude.{◌≡◌, ◌≤◌, ◌+◌, ◌==◌, ◌++◌, ◌∷◌, ℕ, List, Option, All, map, reverse}
 use Rattle.nb_core.specs.Log.{Entry, IsReplayed, Numbers, map_of_log}
 use Rattle.nb_core.specs.declared.calls.Call.{Call}
 use Rattle.nb_core.specs.declared.calls.Reply.{Reply}

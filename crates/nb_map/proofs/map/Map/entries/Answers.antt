@@ -1,9 +1,8 @@
-use Rattle.std.proofs.Common.{◌∙◌, ◌++◌, ◌∷◌, [], Some, subst, sym}
+use Rattle.std.proofs.Common.{◌∙◌, [], Some, subst, sym}
 use Rattle.std.proofs.lemmas.List.Elements.{All-pop}
 use Rattle.nb_map.proofs.Entries.{again-read, entries_at_rest, have-none, read-mine, settled-read, walked-read}
-use Rattle.nb_map.proofs.Settled.{each-mine}
 use Rattle.nb_map.specs.Entries.{HaveOnlyRead}
-use Rattle.nb_map.specs.Maps.{AreMine, IsMine}
+use Rattle.nb_map.specs.Maps.{IsMine}
 use Rattle.nb_map.specs.Settling.{HaveSettled}
 use Rattle.nb_map.proofs.map.Map.entries.Goals as goal
 
