@@ -326,13 +326,26 @@ fn lists_two<R: Abort>(rt: &R, alloc: Global, handles: &mut Vec<Handle<u64>>)
     assert_eq!(rt; entries.len(), 2);
 }
 
-/// Makes a map anew, and lists it, also where one request for memory is refused: then the old
-/// handles have lost nothing.
+/// Counts two keys, also where one request for memory is refused.
+fn counts_two<R: Abort>(rt: &R, alloc: Global, handles: &mut Vec<Handle<u64>>)
+    requires { AreOfOneMap handles.old.items }
+    ensures { AreOfOneMap handles.new.items }
+{
+    let size = match Handle::settle(alloc, handles) {
+        Ok(size) => size,
+        Err(_) => Handle::settle(alloc, handles).expect(rt, "memory"),
+    };
+    assert_eq!(rt; size, 2);
+}
+
+/// Settles a map, makes it anew, and lists it, also where one request for memory is refused: then
+/// the old handles have lost nothing.
 pub(super) fn renews<R: Wait + Abort>(rt: &R, alloc: Global) -> Result<(), Fail> {
     let shape = Shape::new(2, 2, 2, 1)?;
     let mut handles = opened_again(alloc, shape)?;
     put_again(rt, &mut handles, 1, 10);
     put_again(rt, &mut handles, 2, 20);
+    counts_two(rt, alloc, &mut handles);
     renewed_again(alloc, &mut handles, shape)?;
     lists_two(rt, alloc, &mut handles);
     last_makes(rt, &mut handles, &[(1, Has(10)), (2, Has(20))]);
