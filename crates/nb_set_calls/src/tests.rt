@@ -2,6 +2,7 @@
 mod bulk;
 mod calls;
 mod handles;
+mod listing;
 mod on_handles;
 mod on_set;
 mod renewing;

@@ -3,6 +3,7 @@ ghost use Rattle.std.specs.Prelude.{IfOk};
 ghost use Rattle.nb_set.specs.Handles.{AreOfOneSet};
 ghost use Rattle.nb_set.specs.Sets.{AreMine};
 
+use super::listing::{lists, seats_list};
 use super::on_handles::Call::{Add, Contains, Refuse, Remove};
 use super::on_handles::{closed, keys, last_sees, leave};
 use super::on_set::{ended, has_left, key};
@@ -229,7 +230,7 @@ fn two_left<R: Abort>(rt: &R, ended: &SetEnded, keys: &[Key; 2]) {
     assert!(rt; ended.contains(keys[0]) && ended.contains(keys[1]));
 }
 
-/// Makes sets that have keys, and one of them anew, also where one request for memory is refused:
+/// Makes sets that have keys, and one of them anew, and lists them, also where one request for memory is refused:
 /// then the old handles have lost nothing.
 pub(super) fn renews<R: Wait + Abort>(rt: &R, alloc: Global) -> Result<(), Fail> {
     let shape = Shape::new(2, 2, 2, 1)?;
@@ -237,8 +238,10 @@ pub(super) fn renews<R: Wait + Abort>(rt: &R, alloc: Global) -> Result<(), Fail>
     let mut handles = opened_again(alloc, shape, &keys)?;
     renewed_again(alloc, &mut handles, shape)?;
     assert_eq!(rt; handles.len(), 2);
+    lists(rt, alloc, &mut handles, &[1, 2]);
     two_left(rt, &closed(rt, handles), &keys);
-    let (set, seats) = made_again(alloc, shape, &keys)?;
+    let (set, mut seats) = made_again(alloc, shape, &keys)?;
+    seats_list(rt, alloc, &set, &mut seats);
     two_left(rt, &ended(rt, set, seats), &keys);
     Ok(())
 }
