@@ -76,8 +76,8 @@ impl Model for Seat {
 
 impl Map {
     /// An empty map, and its seats. It takes memory for the words of its tables and its counter,
-    /// for the seats, and for room to gather them: nothing that comes later but `Ended::entries`
-    /// takes any.
+    /// for the seats, and for room to gather them. Later only `settle`, `entries` and
+    /// `Ended::entries` take any.
     pub fn new(alloc: Global, shape: Shape) -> Result<(Map, Vec<Seat>), OutOfMemory>
         ensures map { IfOk result (λ made. made.0.chain.shape ≡ shape) }
         ensures plan { IfOk result (λ made. IsPlan made.0.chain.shape) }

@@ -76,8 +76,8 @@ impl Model for Walk {
 
 impl LongSet {
     /// An empty set, and its seats. It takes memory for the words of its tables and its counter,
-    /// for the seats, and for room to gather them: nothing that comes later takes any, except
-    /// `SetEnded::entries`.
+    /// for the seats, and for room to gather them. Later only `settle`, `keys` and
+    /// `SetEnded::entries` take any.
     pub fn new(alloc: Global, shape: Shape) -> Result<(LongSet, Vec<Seat>), OutOfMemory>
         ensures made { IfOk result (λ made. IsMadeFor made.0 shape) }
         ensures seats { IfOk result (λ made. made.1.items ≡ new_seats made.0 shape.seats) }
