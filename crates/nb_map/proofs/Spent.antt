@@ -1,5 +1,5 @@
 -- The tries that a call loses, and the exchanges that others won meanwhile.
-use Rattle.std.proofs.Common.{◌≡◌, ◌∙◌, ℕ, ◌+◌, ◌-◌, ◌≤◌, List, ◌++◌, length, Option, ap, false, refl, sym, subst, subst₂, arith}
+use Rattle.std.proofs.Common.{◌≡◌, ◌∙◌, ℕ, ◌+◌, ◌≤◌, List, ◌++◌, length, Option, ap, false, refl, sym, subst, subst₂, arith}
 use Rattle.nb_core.proofs.Theorems.{passed_over_adds}
 use Rattle.nb_core.specs.Calls.{leaves_alone}
 use Rattle.nb_core.specs.History.{key_of_call}
@@ -80,16 +80,6 @@ pub spent-sooner :
     → IsSpent call mid after tries left → IsSpent call start after tries left
 spent-sooner {call = call} {start} {mid} {tries = tries} a b spent =
     spent-more a b (spent-none call start mid tries) spent
-
--- one try of so many
-pub spent-of :
-    {call : Call} {start after : SeenBy} {left : ℕ} (tries : ℕ) → 1 ≤ tries
-    → IsSpent call start after 1 left → IsSpent call start after tries (tries - (1 - left))
-spent-of tries some spent = record {
-  fewer = omega arith;
-  lost = omega (arith, spent.lost, some);
-  read = λ read. let none = spent.read read in omega (arith, none);
-}
 
 -- ---- refusals
 

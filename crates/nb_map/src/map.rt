@@ -134,8 +134,8 @@ impl Map {
     }
 
     /// Changes what the map has at a key, where the condition holds of it, and replies what it had:
-    /// the two ways of `steps::put_if_match_in` on the map's tables. An exchange that another seat came before is
-    /// tried again, `tries` times in all, so this waits for nobody: it takes at most 8 (T + `tries`
+    /// a straight way, and a general one. An exchange that another seat came before is tried again,
+    /// `tries` times in all, so this waits for nobody: it takes at most 8 (T + `tries`
     /// + G) (N + 8) steps on the chain, whose G tables have T slots and the last of them N; and
     /// however many tries it has, at most 8 (T + w + 1 + G) (N + 8) where other seats have won `w`
     /// exchanges on the key since this seat's last step. Where they have won none and the key is at
@@ -158,6 +158,7 @@ impl Map {
         ensures { HasTriedToWrite self.now (call.Write key want change) seat.old seat.new tries
             (replied_or_refused result) }
     {
+        // By reference, since Rattle's borrow checker covers no second move of these two.
         let (asked, made) = (&want, &change);
         match self.try_straight(seat, key, *asked, *made, tries) {
             Ok(Ok(reply)) => Ok(reply),

@@ -1,9 +1,10 @@
 //! When the set is made anew, and how.
-ghost use Rattle.std.specs.Prelude.{◌≡◌, ◌+◌, ◌-◌, ◌*◌, ◌^◌, ◌<◌, ◌≤◌, ◌↔◌, ℕ, All, IfErr, IfOk, IsTrue, List, false};
+ghost use Rattle.std.specs.Prelude.{◌≡◌, ◌+◌, ◌-◌, ◌*◌, ◌^◌, ◌<◌, ◌≤◌, ◌↔◌, ◌∷◌, ℕ, All, IfErr, IfOk, IsTrue, List, false};
 ghost use Rattle.nb_core.specs.Plans.{Plan, generations_of, size_of};
 ghost use Rattle.nb_online.specs.Crews.{AreAll};
 ghost use Rattle.nb_online.specs.Fullness.{IsWithinASixth};
 ghost use Rattle.nb_online.specs.declared.stream.TheConstants.{LINES};
+ghost use Rattle.nb_set.specs.Fullness.{HasSampled};
 ghost use Rattle.nb_set.specs.Handles.{HandleOf, seats_of};
 ghost use Rattle.nb_set.specs.Renewing.{HaveRenewed};
 ghost use Rattle.nb_set.specs.Settling.{HaveSettled};
@@ -44,6 +45,9 @@ pub(crate) fn online(alloc: Global, handles: &mut Vec<Handle>) -> Result<u64, Fa
 pub(crate) fn fullness(handles: &mut [Handle]) -> Occupancy
     requires all { AreAll handles.old }
     ensures all { AreAll handles.new }
+    ensures told { (first after : HandleOf) × (others : List HandleOf)
+        × (handles.old ≡ first ∷ others) × (handles.new ≡ after ∷ others)
+        × HasSampled first.set first.seat after.seat result }
 {
     handles[0].occupancy()
 }

@@ -1,6 +1,6 @@
-//! What the general way of a call answers that finds a number: so much as two registers hold. A result
-//! of three words would have a place in memory, which is cleared where the call begins, on the straight
-//! way, too.
+//! What the general way of a call answers that finds a number: so much as two registers hold. A
+//! result of three words would have a place in memory, which is cleared where the call begins, on
+//! the straight way, too.
 ghost use Rattle.std.specs.Prelude.{◌≡◌};
 ghost use Rattle.nb_map.specs.Promises.{found_or_refused};
 ghost use Rattle.nb_map.specs.inside.Waiting.{before_or_refused, outcome_of_gone, outcome_of_tried};

@@ -42,7 +42,8 @@ impl Map {
         number: Num,
     ) -> Gone
         requires own { IsMine self.now seat.old }
-        ensures { HasGoneOn self.now (put_if_absent_of key number) seat.old seat.new (outcome_of_gone result) }
+        ensures { HasGoneOn self.now (put_if_absent_of key number) seat.old seat.new
+            (outcome_of_gone result) }
     {
         Gone::of(self.write_general(rt, seat, key, Want::Absent, Change::Put(number)))
     }

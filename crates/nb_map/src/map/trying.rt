@@ -1,8 +1,8 @@
 //! The writes of `ConcurrentMap` that wait for nobody. Each is one `put_if_match` with as many
 //! tries as its caller gives it, and is refused as contended where other seats' writes of the key
 //! came first so often. So its steps are bounded whatever other threads do, and it takes no memory.
-//! Each goes a straight way first, with its first try, which stands in its own code. What comes after
-//! that is in `trying_on.rt`.
+//! Each goes a straight way first, with its first try, which stands in its own code. What comes
+//! after that is in `trying_on.rt`.
 ghost use Rattle.std.specs.Prelude.{◌≤◌};
 ghost use Rattle.nb_core.specs.declared.calls.Call.TheVariants as call;
 ghost use Rattle.nb_map.specs.Maps.{IsMine};
@@ -129,9 +129,9 @@ impl Map {
         self.put_if_match(seat, key, want, change, tries)
     }
 
-    /// The straight way of a write with so many tries, its first one, and the count of what it did to
-    /// the number of keys. `Err` says that it has to go on by the general way, and how many tries it
-    /// has left for that, maybe none.
+    /// The straight way of a write with so many tries, its first one, and the count of what it did
+    /// to the number of keys. `Err` says that it has to go on by the general way, and how many tries
+    /// it has left for that, maybe none.
     #[inline(always)]
     pub(super) fn try_straight(
         &self,

@@ -1,6 +1,6 @@
-//! The general way of the writes with tries, where the straight one didn't do: up the tables, with the
-//! tries that are left. Each call has its own copy of it, in which its condition and its change are
-//! known.
+//! The general way of the writes with tries, where the straight one didn't do: up the tables, with
+//! the tries that are left. Each call has its own copy of it, in which its condition and its change
+//! are known.
 ghost use Rattle.nb_core.specs.declared.calls.Call.TheVariants as call;
 ghost use Rattle.nb_map.specs.Maps.{IsMine};
 ghost use Rattle.nb_map.specs.NamedCalls.{add_of, put_if_absent_of, put_of, remove_of};
