@@ -148,7 +148,7 @@ pub enum Fault {
     Crowded,
     #[error("a number comes too often")]
     TooOften,
-    /// A stored value wasn't shown. Tests show that this never comes.
+    /// A stored value wasn't shown. No test has seen this.
     #[error("a value isn't shown")]
     Unshown,
     #[error("out of memory")]

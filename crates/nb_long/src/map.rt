@@ -47,7 +47,7 @@ impl<V> Model for LongMap<V> {
 pub struct Stored<V> {
     /// The number that the key had before, or none.
     pub before: Option<Num>,
-    /// Whether the key has the value's number now.
+    /// Whether the write was made, so that the key got the value's number.
     pub done: bool,
     /// What reads the value, written or not, for as long as the store lasts.
     pub receipt: Receipt<V>,
@@ -64,7 +64,7 @@ pub struct Compared<V> {
     pub done: bool,
 }
 
-/// The store didn't show a number that the map gave. Tests show that this never comes.
+/// The store didn't show a number that the map gave. No test has seen this.
 #[derive(Clone, Copy, Debug, PartialEq, Eq, Error)]
 #[error("a value isn't shown")]
 pub struct Unshown;

@@ -52,7 +52,7 @@ pub enum SettleFault {
     /// Some of the map's seats aren't there.
     #[error("a seat is missing")]
     NotAll,
-    /// Memory to put the seats together was refused.
+    /// Memory to put the seats together, or for the entries, was refused.
     #[error("out of memory")]
     OutOfMemory,
 }

@@ -102,7 +102,7 @@ impl Handle {
         self.map.size_estimate(&mut self.seat)
     }
 
-    /// Lets each of two handles of a map see all that the other has seen. Where they are of one map
+    /// Lets each of two handles of a map see all that the other has seen. Whether they are of one map
     /// can't be told when it runs, so it is asked for.
     pub fn meet(&mut self, other: &mut Handle)
         requires one { self.old.map ≡ other.old.map }

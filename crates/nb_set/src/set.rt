@@ -103,7 +103,8 @@ impl LongSet {
     /// It is lock-free, as `remove` is: where other seats have won `w` exchanges on the key since
     /// this seat's last step, it takes at most 8 (T + w + 1 + G) (N + 8) steps on the tables, of
     /// which there are G with T slots, N of them in the last. It is refused only where other keys
-    /// have all of these, and the set is then unchanged; a removed key keeps its slot.
+    /// have all slots of the last table, and the set is then unchanged; a removed key keeps its
+    /// slot.
     pub fn add<R: Wait>(&self, rt: &R, seat: &mut Seat, key: Key) -> Result<bool, Full>
         requires own { IsMine self.now seat.old }
         ensures { HasWritten self.now (call.Add key) seat.old seat.new result }
@@ -121,8 +122,9 @@ impl LongSet {
         self.map.remove(rt, &mut seat.map, key).is_some()
     }
 
-    /// Whether the set has a key. `Set.contains`. Three steps where the key is at home in the top
-    /// table, as mostly.
+    /// Whether the set has a key. `Set.contains`. At most two steps where the key is at home in the
+    /// table that the seat remembers, as mostly; and at most five where it is so in the top table,
+    /// and the seat learns of no new one.
     #[inline]
     pub fn contains(&self, seat: &mut Seat, key: Key) -> bool
         requires own { IsMine self.now seat.old }
@@ -165,7 +167,7 @@ impl LongSet {
     /// (`laws::whole_walk`). A key that comes or goes meanwhile may be shown or not; each that is
     /// shown was seen in the set. After `None` it answers `None` for ever.
     ///
-    /// Where no table is being copied, a slot costs one step and a key one more.
+    /// As long as the walk's first table has no next one, a slot costs one step and a key one more.
     pub fn next_key(&self, seat: &mut Seat, walk: &mut Walk) -> Option<Key>
         requires own { IsMine self.now seat.old }
         requires walk { IsWalkOf self.now seat.old walk.old }

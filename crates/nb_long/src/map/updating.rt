@@ -20,7 +20,7 @@ pub struct Updated<V> {
     /// What reads the value that the key had, which the function was called with at last; none
     /// where it had none.
     pub found: Option<Receipt<V>>,
-    /// What reads the value that the function then answered, which the key has now; none where it
+    /// What reads the value that the function then answered, which the key got; none where it
     /// answered none, and the key was taken out.
     pub new: Option<Receipt<V>>,
 }

@@ -24,8 +24,8 @@ impl Map {
     /// of it; where something else has come there it goes on from that, with so many exchanges in
     /// all, each of so many tries. So the function is called once for each exchange, and not for
     /// the read. `ConcurrentMap.compute`, except that it waits for nobody: it is refused as
-    /// contended only where others won, since the seat's last step before it, as many exchanges on
-    /// the key.
+    /// contended only where others won, since the seat's last step before it, at least as many
+    /// exchanges on the key as it has tries.
     pub fn update<F: FnMut(Option<Num>) -> Option<Num>>(
         &self,
         seat: &mut Seat,

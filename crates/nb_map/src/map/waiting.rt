@@ -26,8 +26,8 @@ impl Map {
     /// chain, whose G tables have T slots and the last of them N. So only the success of others
     /// costs it anything, and no seat that stops, wherever that is, can hold it up. Where others
     /// have won none and the key is at home in the table that the seat remembers, these are at most
-    /// three steps, or five where the seat didn't know the key's slot before, as of a new key
-    /// (`IsShortAtHome`).
+    /// three steps, or five where the seat didn't know the key's slot before, as of a new key, and
+    /// knows of no table above (`IsShortAtHome`).
     pub fn put<R: Wait>(
         &self,
         rt: &R,

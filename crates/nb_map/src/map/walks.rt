@@ -54,9 +54,9 @@ impl Map {
     /// is shown (`laws::whole_walk`). A key that comes or goes meanwhile may be shown or not. After
     /// `None` it answers `None` for ever.
     ///
-    /// Where no table is being copied, a slot costs one load and a key one more. All calls of a
-    /// walk together make at most T (T + B + 4) steps on the chain, whose tables have T slots and a
-    /// `get` at most B steps.
+    /// As long as the walk's first table has no next one, a slot costs one load and a key one more.
+    /// All calls of a walk together make at most T (T + B + 4) steps on the chain, whose tables have
+    /// T slots and a `get` at most B steps.
     pub fn next_key(&self, seat: &mut Seat, walk: &mut Walk) -> Option<(Key, Num)>
         requires own { IsMine self.now seat.old }
         requires walk { IsWalkOf self.now seat.old walk.old }
