@@ -61,6 +61,7 @@ static void ends(samvolip_seat *mine, samvolip_seat *yours)
     EXPECT(samvolip_ended_size(&ended) == KEYS);
     EXPECT(samvolip_ended_get(&ended, 7, &number) == SAMVOLIP_PRESENT && number == 70);
     EXPECT(samvolip_ended_get(&ended, KEYS, &number) == SAMVOLIP_ABSENT && number == 0);
+    EXPECT(samvolip_ended_entries(&ended, NULL, KEYS) == SAMVOLIP_E_ROOM); /* no room, whatever is said */
     EXPECT(samvolip_ended_entries(&ended, entries, KEYS) == SAMVOLIP_OK);
     for (uint64_t key = 0; key < KEYS; key++)
         EXPECT(entries[key].key == key && entries[key].number == (key == 7 ? 70 : key + 1));

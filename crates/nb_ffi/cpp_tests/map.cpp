@@ -50,6 +50,9 @@ template <class Caller> void exchanges(Caller &caller)
     EXPECT(caller.compare_exchange(8, expected, 1).value() && caller.get(8).value() == 1u);
 }
 
+// a plain function as the one that makes the number
+found next_of(found number) { return number.value_or(0) + 1; }
+
 template <class Caller> void updates(Caller &caller)
 {
     unsigned times = 0;
@@ -71,6 +74,8 @@ template <class Caller> void updates(Caller &caller)
     calls = 0;
     EXPECT(caller.update(9, disturbed, 3).value() == 42u && calls == 3);
     EXPECT(caller.get(9).value() == 43u);
+    EXPECT(caller.update(9, next_of).value() == 43u && caller.update(9, &next_of).value() == 44u);
+    EXPECT(caller.put(9, 43).value() == 45u);
     EXPECT(caller.update(9, [](found) { return found(SAMVOLIP_VALUE_MAX + 1); }).error().why() == fault::value_range);
     EXPECT(caller.update(9, [](found) { return found(); }).value() == 43u && !caller.contains(9).value());
 #ifdef __cpp_exceptions

@@ -420,7 +420,7 @@ static inline void samvolip_free(samvolip_seat *seat)
  * Cost: wait-free. In the common case two loads. For a key that isn't there the search ends at the
  * first slot that no key has ever taken. In the last table, which keys may fill to the end, it gets
  * long: at 2^19 slots it takes 0.14 microseconds if half of them are taken, 1 to 2 if 95 % are, and
- * 2000 to 3500 if all are. Removed keys count, too.
+ * 1700 to 3400 if all are. Removed keys count, too.
  * Refused: SAMVOLIP_E_KEY_RANGE.
  */
 int samvolip_get(samvolip_seat *seat, uint64_t key, uint64_t *number);
@@ -837,8 +837,8 @@ typedef int samvolip_updater(void *context, const uint64_t *found, uint64_t *nex
 /*
  * Reads a key, and exchanges what it finds for what `updater` makes of that. If other writes of the
  * key come first, it goes on from what they left, with `tries` exchanges in all; 0 counts as one.
- * The updater is called once for each exchange. It may make other calls with the seat. Less than 0,
- * if it returns that, is what samvolip_update returns.
+ * The updater is called once for each exchange. It may make other calls with the seat, but doesn't
+ * join, close or free it. Less than 0, if it returns that, is what samvolip_update returns.
  *
  * Cost: that of samvolip_get and of each exchange; and the updater's.
  * Refused: E_KEY_RANGE, E_VALUE_RANGE, E_FULL; E_CONTENDED, if others came first at each try.

@@ -260,7 +260,7 @@ struct place {
     samvolip_seat handle = SAMVOLIP_SEAT_INIT;
     pool *of = nullptr;
     place *next = nullptr;   /* in the list of the pool or of the thread that has it */
-    std::uint64_t walks = 0; /* how many walks were begun with it or cut off */
+    std::atomic<std::uint64_t> walks{0}; /* how many walks were begun with it or cut off */
     holder who = holder::nobody;
 };
 
@@ -426,7 +426,7 @@ private:
     void keep(place *one)
     {
         one->who = holder::nobody;
-        one->walks++; /* which cuts off the walk that was under way */
+        one->walks.fetch_add(1, std::memory_order_relaxed); /* which cuts off the walk under way */
         out_--;
         if (is_open())
             push(idle_, one);
@@ -559,7 +559,10 @@ public:
 
     /* Whether another walk of the same seat has begun since, or the seat was given back. Then keys
        may be missing. */
-    bool is_cut_off() const noexcept { return at_ && at_->walks != number_; }
+    bool is_cut_off() const noexcept
+    {
+        return at_ && at_->walks.load(std::memory_order_relaxed) != number_;
+    }
 
     class iterator {
     public:
@@ -606,10 +609,12 @@ private:
     template <class T> friend class result;
 
     walk() noexcept = default;
-    walk(inside::place *at, keys how) : at_(at), number_(at ? ++at->walks : 0), how_(how)
+    walk(inside::place *at, keys how) : at_(at), how_(how)
     {
-        if (at)
-            samvolip_walk(&at->handle);
+        if (!at)
+            return;
+        number_ = at->walks.fetch_add(1, std::memory_order_relaxed) + 1;
+        samvolip_walk(&at->handle);
     }
 
     inside::place *at_ = nullptr;
@@ -749,20 +754,20 @@ public:
 
     /* Exchanges what is at a key for what a function makes of it: a function from found to found,
        which is called once for each of at most `tries` exchanges. Answers what was there before.
-       What the function throws goes through, and the key is as it was. */
+       The function may call the map, except for leave, settle and close. What it throws goes
+       through, and the key is as it was. */
     template <class Function>
     result<found> update(std::uint64_t key, Function &&function, std::uint32_t tries = UINT32_MAX)
     {
-        using stored = std::remove_reference_t<Function>;
-        const void *context = std::addressof(function);
+        auto *pointer = std::addressof(function);
+        using stored = decltype(pointer);
         samvolip_updater *updater = [](void *given, const std::uint64_t *at, std::uint64_t *next) {
-            const found to = (*static_cast<stored *>(given))(at ? found(*at) : found());
+            const found to = (**static_cast<stored *>(given))(at ? found(*at) : found());
             *next = to.value_or(0);
             return to.has_value() ? 1 : 0;
         };
-        return told(key, [=](samvolip_seat *seat, std::uint64_t in_map, std::uint64_t *before) {
-            return samvolip_update(seat, in_map, updater, const_cast<void *>(context), tries,
-                                   before);
+        return told(key, [&](samvolip_seat *seat, std::uint64_t in_map, std::uint64_t *before) {
+            return samvolip_update(seat, in_map, updater, &pointer, tries, before);
         });
     }
 
@@ -1015,7 +1020,7 @@ public:
      * A new map of a shape, which says how many threads may have called it and not have ended or
      * left: its seats.
      *
-     * Cost: that of samvolip_open, and some 50 bytes for each seat.
+     * Cost: that of samvolip_open, and 56 bytes for each seat.
      * Refused: for what is wrong with the shape, out_of_memory, version.
      */
     static result<map> open(const shape &of, keys how = keys::plain)

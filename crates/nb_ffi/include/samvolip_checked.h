@@ -279,7 +279,6 @@ static inline int samvolip_checked_ended_get(const samvolip_ended *ended, uint64
 static inline int samvolip_checked_ended_entries(const samvolip_ended *ended,
                                                  samvolip_entry *entries, size_t room)
 {
-    samvolip_check(entries != NULL || room == 0, "samvolip_ended_entries", "the array is NULL");
     samvolip_check_ended(ended, "samvolip_ended_entries");
     return samvolip_ended_entries(ended, entries, room);
 }

@@ -5,7 +5,7 @@
 //! use samvolip::Map;
 //! use std::thread;
 //!
-//! let map = Map::for_keys(10_000, 8)?; // room for 10,000 keys, and for 8 threads at a time
+//! let map = Map::for_keys(10_000, 9)?; // room for 10,000 keys, and for 8 threads and this one
 //! thread::scope(|scope| {
 //!     for _ in 0..8 {
 //!         scope.spawn(|| map.add(7, 1).unwrap());
@@ -20,7 +20,8 @@
 //! A *seat* is the right of one thread at a time to call. A map has 1 to 256, as its [`Shape`] says.
 //!
 //! - Any thread may call a [`Map`]. At its first call a thread takes a seat, and it gives it back when it ends, or by
-//!   [`Map::give_back`]. Only these two moments, and the map's end, take a lock.
+//!   [`Map::give_back`]. Only these two moments, and the map's end, take a lock. The end of `thread::scope` doesn't wait
+//!   until the seats of its threads are back; `join` of a handle does.
 //! - A [`Seat`] is one that the program holds itself. [`Seat::open`] makes a map with all its seats in one;
 //!   [`Seat::split`] gives one to another thread. It saves a call the look at the thread's words.
 //!

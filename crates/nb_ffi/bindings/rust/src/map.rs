@@ -271,7 +271,8 @@ impl Map {
     /// Ends the map: what is left of it. Who has the map itself shares it with nobody, so no call is under way. The seats
     /// that other threads have taken are taken back.
     ///
-    /// Refused as [`Fault::OutOfMemory`], with the map given back.
+    /// Refused as [`Fault::OutOfMemory`]; as [`Fault::NotAllSeats`], if a seat was taken out of its guard; or as
+    /// [`Fault::Closed`], after `try_close`. The map is given back then.
     pub fn close(self) -> Result<Ended, Unclosed> {
         // SAFETY: the map is here, so nobody else can call it. Where it is refused, a new pool takes this one's place.
         match unsafe { self.pool.close_all() } {
