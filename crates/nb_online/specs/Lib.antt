@@ -2,3 +2,4 @@
 pub mod Crews
 pub mod Fullness
 pub mod Lines
+pub mod Working

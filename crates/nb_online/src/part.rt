@@ -1,5 +1,5 @@
 //! A worker's part of a block: the calls that it makes, and what it counts.
-ghost use Rattle.std.specs.Prelude.{◌≡◌, ◌+◌, ◌%◌, ◌^◌, Bool, OnErr, OnOk, if◌then◌else◌};
+ghost use Rattle.std.specs.Prelude.{◌≡◌, ◌≤◌, ◌+◌, ◌%◌, ◌^◌, [], ◌∷◌, Bool, OnErr, OnOk, if◌then◌else◌, length};
 ghost use Rattle.nb_set.specs.Handles.{IsSameSet};
 ghost use Rattle.nb_set.specs.Log as call;
 ghost use Rattle.nb_set.specs.Sets.{HasNoRoom, HasReplied};
@@ -51,9 +51,12 @@ pub(crate) struct Part {
     /// How many of the requests are done.
     done: usize,
     counts: Counts,
+    ghost in_range: { done ≤ length requests.items },
 }
 
 impl Part {
+    ghost use Rattle.nb_online.specs.Working.{HasDoneRequests, HasStopped};
+
     /// A part with nothing to do.
     pub(crate) fn new(alloc: Global) -> Part {
         Part {
@@ -79,22 +82,48 @@ impl Part {
 
     /// Forgets the requests.
     pub(crate) fn clear(&mut self) {
-        self.requests.clear();
         self.done = 0;
+        self.requests.clear();
     }
 
-    /// Makes the calls that are asked for, from the first one on that isn't done. It ends at a key for
-    /// which there is no slot.
+    /// Makes the calls that are asked for, in their order, from the first one on that isn't done.
+    /// It ends at a key that comes and for which there is no slot.
     pub(crate) fn work<R: Wait>(&mut self, rt: &R, handle: &mut Handle) -> Result<(), Full>
         ensures same { IsSameSet handle.old handle.new }
+        ensures done { OnOk result (HasDoneRequests self.old self.new
+            handle.old.seat handle.new.seat) }
+        ensures all { OnOk result (self.new.done ≡ length self.new.requests.items) }
+        ensures stopped { OnErr result (HasStopped handle.old.set self.old self.new
+            handle.old.seat handle.new.seat) }
     {
+        handle.known();
         while let Some(request) = self.requests.get(self.done) {
-            let Request { key, action } = *request;
-            match action {
-                Action::Come => come(rt, handle, &mut self.counts, key)?,
-                Action::Go => go(rt, handle, &mut self.counts, key),
-            }
+            let request = *request;
+            request.make(rt, handle, &mut self.counts)?;
             self.done += 1;
+        }
+        Ok(())
+    }
+}
+
+impl Request {
+    ghost use Rattle.nb_online.specs.Working.{AreCounted, call_of_request};
+    ghost use Rattle.nb_online.specs.declared.part.Action.TheVariants.{Come};
+
+    /// Makes the call that is asked for, and counts it.
+    fn make<R: Wait>(self, rt: &R, handle: &mut Handle, counts: &mut Counts) -> Result<(), Full>
+        ensures same { IsSameSet handle.old handle.new }
+        ensures made { OnOk result ((reply : Bool)
+            × HasReplied (call_of_request self) handle.old.seat handle.new.seat reply
+            × AreCounted ((call_of_request self, reply) ∷ []) counts.old counts.new) }
+        ensures refused { OnErr result ((self.action ≡ Come)
+            × HasNoRoom handle.old.set self.key handle.old.seat handle.new.seat
+            × (counts.new ≡ counts.old)) }
+    {
+        let Request { key, action } = self;
+        match action {
+            Action::Come => come(rt, handle, counts, key)?,
+            Action::Go => go(rt, handle, counts, key),
         }
         Ok(())
     }
