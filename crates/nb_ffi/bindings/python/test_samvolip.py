@@ -462,6 +462,23 @@ def walks_stay():
     assert counts.close().entries() == [(1, 2), (3, 4)]
 
 
+def empty():
+    """A map without keys is false, as an empty dict, and its seats count all the same."""
+    for keys in ((), (1, 2)):
+        with Map.for_keys(10, seats=3) as counts:
+            assert repr(counts) == "<samvolip.Map, 0 of 3 seats out, mixed>"
+            counts.update((key, 0) for key in keys)
+            for key in keys:
+                del counts[key]
+            assert not counts and len(counts) == 0
+            with counts.seat() as seat:
+                assert not seat and repr(counts) == "<samvolip.Map, 2 of 3 seats out, mixed>"
+            counts.give_back()
+            assert repr(counts) == "<samvolip.Map, 0 of 3 seats out, mixed>"
+        assert repr(counts) == "<samvolip.Map, closed>"
+    assert len(Map.for_keys(10).close()) == 0
+
+
 def ends():
     """A map is closed by `with`, or given up where an exception is under way or others have seats."""
     with Map.for_keys(10) as counts:
@@ -542,6 +559,7 @@ without_seats()
 seats_run_out()
 many_short_threads()
 walks_stay()
+empty()
 ends()
 interrupted()
 page()

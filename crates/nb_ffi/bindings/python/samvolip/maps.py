@@ -74,7 +74,7 @@ class _Pool:
         """How many seats are out."""
         with self._lock:
             idle = self._gather()
-            return self.seats - (idle.count if idle else 0)
+            return self.seats - (idle.count if idle is not None else 0)
 
     def close(self) -> Ended:
         """Ends the map, if all seats are here."""
