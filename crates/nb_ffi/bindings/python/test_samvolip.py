@@ -90,13 +90,17 @@ def threads():
     assert ended.get(1000) is None
 
 
-def alone(function):
-    """A function of the library that takes one call at a time, and ends a thread that comes while another one is in it."""
+def alone(function, entered):
+    """A function of the library that takes one call at a time, and ends a thread that comes while another one is in it.
+
+    Each call that comes in adds its words to a list.
+    """
     inside = threading.Lock()
 
     def call(*words):
         assert inside.acquire(blocking=False), "two calls are in one seat"
         try:
+            entered.append(words)
             time.sleep(0)  # the other thread may go on
             return function(*words)
         finally:
@@ -114,10 +118,12 @@ def one_seat():
     """Two threads call with one seat at once: each call has the seat to itself, and the sum is right."""
     seat = Seat.open(exponents_for_keys(10))
     found: tuple[list[int], list[int]] = [], []
-    library = samvolip.library.put_if_match
-    samvolip.library.put_if_match = alone(library)
+    entered: list[tuple[object, ...]] = []
+    library = samvolip.library.try_add
+    samvolip.library.try_add = alone(library, entered)
     run_all([threading.Thread(target=adds, args=(seat, mine)) for mine in found])
-    samvolip.library.put_if_match = library
+    samvolip.library.try_add = library
+    assert len(entered) == 10000
     assert seat.get(7) == 10000
     assert sorted(found[0] + found[1]) == list(range(10000))
 
