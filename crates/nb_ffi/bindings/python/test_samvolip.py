@@ -293,6 +293,12 @@ def walks():
             nested = opened.walk()
             next(nested)
             assert list(opened) and told(next, nested)
+    seat = Seat.for_keys(10)
+    seat.update({1: 2, 3: 4})
+    walk = seat.walk()
+    next(walk)
+    seat.free()
+    assert told(next, walk) == "the seat is empty"
 
 
 def like_a_dict():
@@ -485,6 +491,28 @@ def empty():
     assert len(Map.for_keys(10).close()) == 0
 
 
+def goes_on():
+    """A map was given up: another thread that has a seat goes on, and so does an explicit seat."""
+    counts = Map.for_keys(10)
+    explicit = counts.seat()
+    called, freed, found = threading.Event(), threading.Event(), []
+
+    def work():
+        counts.add(1, 1)
+        called.set()
+        freed.wait()
+        found.append(counts.add(1, 1))
+
+    thread = threading.Thread(target=work)
+    thread.start()
+    called.wait()
+    counts.free()
+    freed.set()
+    thread.join()
+    assert found == [1] and explicit.get(1) == 2
+    assert told(counts.get, 1) == told(counts.seat) == "the map is closed"
+
+
 def ends():
     """A map is closed by `with`, or given up where an exception is under way or others have seats."""
     with Map.for_keys(10) as counts:
@@ -509,6 +537,7 @@ def ends():
         pass
     assert told(counts.get, 1) == "the map is closed"
     holder.end()
+    goes_on()
     counts = Map([2])
     counts.update((key, 0) for key in range(4))
     try:
