@@ -218,6 +218,15 @@ public final class SamvolipTest {
                 expect(map.put(key, key), NONE);
                 mine.remove();
             }
+            try {
+                map.forEach((key, number) -> {
+                    mine.remove();
+                    throw new ArithmeticException();
+                });
+                throw new AssertionError();
+            } catch (ArithmeticException thrown) {
+                expect(map.removeIf((key, number) -> number >= 10), 0L);
+            }
             long[] shown = new long[1];
             for (int walk = 0; walk < 2; walk++) {
                 map.forEach((key, number) -> {
