@@ -17,6 +17,13 @@ while read -r version home; do
     "$home/bin/java" "${flags[@]}" -Dsamvolip="$(dirname "$library")" Visits > "$made/told" 2> "$made/errors" || { cat "$made/errors"; fail "the example of Java $version fails"; }
     diff "$here/examples/Visits.out" "$made/told" || fail "the example of Java $version prints something else"
 
+    # the same with the jar as a module
+    modules=(-p "$made/samvolip.jar" --add-modules samvolip -cp "$made/$version" -Dsamvolip="$library")
+    more=(--enable-native-access=samvolip)
+    [ "$version" != 17 ] || more+=(--add-modules jdk.incubator.foreign)
+    "$home/bin/java" "${modules[@]}" "${more[@]}" Visits > "$made/told" 2> "$made/errors" || { cat "$made/errors"; fail "the example of Java $version fails with a module"; }
+    diff "$here/examples/Visits.out" "$made/told" || fail "the example of Java $version prints something else with a module"
+
     # what is told where something is missing: the library, a file that isn't one, the flags of Java 17
     told() {
         local line="$1"
@@ -30,6 +37,7 @@ while read -r version home; do
         told "Java 17 has to be started with --add-modules" -cp "$made/samvolip.jar:$made/$version" -Dsamvolip="$library"
         told "Java 17 has to be started with --add-modules" -cp "$made/samvolip.jar:$made/$version" --add-modules jdk.incubator.foreign \
             --enable-native-access=java.logging -Dsamvolip="$library"
+        told "--add-modules jdk.incubator.foreign --enable-native-access=samvolip" "${modules[@]}"
     fi
     echo "the test of Java $version runs"
 done < "$made/javas"

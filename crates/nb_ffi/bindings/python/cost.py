@@ -116,7 +116,7 @@ def once(calls, function):
 
 def letting_go():
     """A map whose calls let go of the interpreter's lock."""
-    names = {"get": "get", "put_if_match": "put_if_match", "next_pair": "next"}
+    names = {"get": "get", "try_put": "try_put", "try_add": "try_add", "next_pair": "next"}
     keeping = {name: getattr(library, name) for name in names}
     for name, exported in names.items():
         setattr(library, name, library._function(library._lets_go, exported, c_int, *keeping[name].argtypes))

@@ -90,13 +90,17 @@ def threads():
     assert ended.get(1000) is None
 
 
-def alone(function):
-    """A function of the library that takes one call at a time, and ends a thread that comes while another one is in it."""
+def alone(function, entered):
+    """A function of the library that takes one call at a time, and ends a thread that comes while another one is in it.
+
+    Each call that comes in adds its words to a list.
+    """
     inside = threading.Lock()
 
     def call(*words):
         assert inside.acquire(blocking=False), "two calls are in one seat"
         try:
+            entered.append(words)
             time.sleep(0)  # the other thread may go on
             return function(*words)
         finally:
@@ -114,10 +118,12 @@ def one_seat():
     """Two threads call with one seat at once: each call has the seat to itself, and the sum is right."""
     seat = Seat.open(exponents_for_keys(10))
     found: tuple[list[int], list[int]] = [], []
-    library = samvolip.library.put_if_match
-    samvolip.library.put_if_match = alone(library)
+    entered: list[tuple[object, ...]] = []
+    library = samvolip.library.try_add
+    samvolip.library.try_add = alone(library, entered)
     run_all([threading.Thread(target=adds, args=(seat, mine)) for mine in found])
-    samvolip.library.put_if_match = library
+    samvolip.library.try_add = library
+    assert len(entered) == 10000
     assert seat.get(7) == 10000
     assert sorted(found[0] + found[1]) == list(range(10000))
 
@@ -287,6 +293,12 @@ def walks():
             nested = opened.walk()
             next(nested)
             assert list(opened) and told(next, nested)
+    seat = Seat.for_keys(10)
+    seat.update({1: 2, 3: 4})
+    walk = seat.walk()
+    next(walk)
+    seat.free()
+    assert told(next, walk) == "the seat is empty"
 
 
 def like_a_dict():
@@ -462,6 +474,45 @@ def walks_stay():
     assert counts.close().entries() == [(1, 2), (3, 4)]
 
 
+def empty():
+    """A map without keys is false, as an empty dict, and its seats count all the same."""
+    for keys in ((), (1, 2)):
+        with Map.for_keys(10, seats=3) as counts:
+            assert repr(counts) == "<samvolip.Map, 0 of 3 seats out, mixed>"
+            counts.update((key, 0) for key in keys)
+            for key in keys:
+                del counts[key]
+            assert not counts and len(counts) == 0
+            with counts.seat() as seat:
+                assert not seat and repr(counts) == "<samvolip.Map, 2 of 3 seats out, mixed>"
+            counts.give_back()
+            assert repr(counts) == "<samvolip.Map, 0 of 3 seats out, mixed>"
+        assert repr(counts) == "<samvolip.Map, closed>"
+    assert len(Map.for_keys(10).close()) == 0
+
+
+def goes_on():
+    """A map was given up: another thread that has a seat goes on, and so does an explicit seat."""
+    counts = Map.for_keys(10)
+    explicit = counts.seat()
+    called, freed, found = threading.Event(), threading.Event(), []
+
+    def work():
+        counts.add(1, 1)
+        called.set()
+        freed.wait()
+        found.append(counts.add(1, 1))
+
+    thread = threading.Thread(target=work)
+    thread.start()
+    called.wait()
+    counts.free()
+    freed.set()
+    thread.join()
+    assert found == [1] and explicit.get(1) == 2
+    assert told(counts.get, 1) == told(counts.seat) == "the map is closed"
+
+
 def ends():
     """A map is closed by `with`, or given up where an exception is under way or others have seats."""
     with Map.for_keys(10) as counts:
@@ -486,6 +537,7 @@ def ends():
         pass
     assert told(counts.get, 1) == "the map is closed"
     holder.end()
+    goes_on()
     counts = Map([2])
     counts.update((key, 0) for key in range(4))
     try:
@@ -542,6 +594,7 @@ without_seats()
 seats_run_out()
 many_short_threads()
 walks_stay()
+empty()
 ends()
 interrupted()
 page()

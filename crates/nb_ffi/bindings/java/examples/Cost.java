@@ -21,6 +21,7 @@ public final class Cost {
                 for (long key = 0; key < CALLS; key++) map.put(key, key);
                 tell("get by the map, " + keys, key -> sum += map.getOrDefault(key, 0));
                 tell("add by the map, " + keys, key -> map.add(key, 1));
+                tell("replace by the map, " + keys, key -> map.replace(key, 1));
                 try (Seat seat = map.seat()) {
                     tell("get by a seat, " + keys, key -> sum += seat.getOrDefault(key, 0));
                     tell("add by a seat, " + keys, key -> seat.add(key, 1));

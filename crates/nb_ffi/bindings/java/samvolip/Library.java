@@ -49,9 +49,11 @@ final class Library {
 
     private static String linker() {
         int version = Runtime.version().feature();
-        if (version == 17) return "Java 17 has to be started with --add-modules jdk.incubator.foreign --enable-native-access=ALL-UNNAMED";
+        Module module = Library.class.getModule();
+        String access = "--enable-native-access=" + (module.isNamed() ? module.getName() : "ALL-UNNAMED");
+        if (version == 17) return "Java 17 has to be started with --add-modules jdk.incubator.foreign " + access;
         if (version < 22) return "this is Java " + version + ": the package samvolip runs on Java 17, and on 22 and later";
-        return "the foreign linker can't be used: the package samvolip has to be built for Java 22 and later, and started with --enable-native-access=ALL-UNNAMED";
+        return "the foreign linker can't be used: the package samvolip has to be built for Java 22 and later, and started with " + access;
     }
 
     private static UnsatisfiedLinkError wrong(String text, Throwable cause) {

@@ -8,15 +8,15 @@ import java.util.Map;
 import java.util.stream.Collectors;
 
 /**
- * The seats of a map that any thread may call. Its methods take its lock; no call of the map does, but for a thread's first one. It has no
- * reference to the map, so that a map that was lost can be found to be.
+ * The seats of a map that any thread may call. Its methods take its lock; no call of the map does, but for a thread's first one, and its first
+ * one after its ThreadLocals were taken away. It has no reference to the map, so that a map that was lost can be found to be.
  */
 final class Pool {
     private final int seats;
     /** Seats that nobody has had yet, each with those that it has in reserve. */
-    private final ArrayDeque<Lane> reserve = new ArrayDeque<>();
-    /** Seats that were given back. */
-    private final ArrayDeque<Lane> free = new ArrayDeque<>();
+    private final ArrayDeque<Lane> reserve;
+    /** Seats that were given back. Both have room for all seats from the start, so that none is lost for want of memory. */
+    private final ArrayDeque<Lane> free;
     /** The threads that have a seat. */
     private final Map<Thread, Lane> taken = new IdentityHashMap<>();
     /** The seats that the program holds itself. */
@@ -25,6 +25,8 @@ final class Pool {
 
     Pool(int seats, Lane first) {
         this.seats = seats;
+        reserve = new ArrayDeque<>(seats);
+        free = new ArrayDeque<>(seats);
         reserve.add(first);
     }
 
@@ -32,20 +34,27 @@ final class Pool {
         return seats;
     }
 
-    /** A seat for the calling thread. */
+    /** The calling thread's seat, or null. */
+    synchronized Lane mine() {
+        return taken.get(Thread.currentThread());
+    }
+
+    /** A seat for the calling thread: the one that it has, if only its ThreadLocal is gone. */
     synchronized Lane take() {
-        Lane lane = any();
+        Lane lane = mine();
+        if (lane != null) return lane;
+        lane = any();
         taken.put(Thread.currentThread(), lane);
-        return lane;
+        return free.pop();
     }
 
     /** A seat that the program holds itself. */
     synchronized Lane lend() {
-        Lane lane = any();
-        lent.add(lane);
-        return lane;
+        lent.add(any());
+        return free.pop();
     }
 
+    /** The first free seat. It is free still, so that it isn't lost if there is no memory to note who takes it. */
     private Lane any() {
         if (closed) throw new IllegalStateException("the map was closed");
         if (free.isEmpty()) split();
@@ -54,7 +63,7 @@ final class Pool {
             String text = seats == 1 ? "the one seat of the map is taken" : "all " + seats + " seats of the map are taken";
             throw new Refused(Code.ALL_SEATS_TAKEN, text);
         }
-        return free.pop();
+        return free.peek();
     }
 
     /** Frees a seat that nobody has had, if there is one. */

@@ -67,6 +67,12 @@ public final class SamvolipMap extends LongMap implements AutoCloseable {
         return lane;
     }
 
+    /** The calling thread's seat, or null. A thread's ThreadLocals may be taken away while it lives: the pool knows its seat still. */
+    private Lane held() {
+        Lane lane = mine.get();
+        return lane != null ? lane : pool.mine();
+    }
+
     // the fences: as long as a call is under way the map isn't lost, so the cleaner doesn't free it
 
     @Override
@@ -130,7 +136,7 @@ public final class SamvolipMap extends LongMap implements AutoCloseable {
 
     @Override
     void endWalk() {
-        Lane lane = mine.get();
+        Lane lane = held();
         if (lane != null) lane.walking = false;
         Reference.reachabilityFence(this);
     }
@@ -172,7 +178,7 @@ public final class SamvolipMap extends LongMap implements AutoCloseable {
 
     /** Gives the calling thread's seat back before the thread ends. Its next call takes a seat again. */
     public void giveBack() {
-        Lane lane = mine.get();
+        Lane lane = held();
         if (lane == null) return;
         if (lane.walking) throw new IllegalStateException("this thread's walk over the map is under way");
         mine.remove();
@@ -197,8 +203,12 @@ public final class SamvolipMap extends LongMap implements AutoCloseable {
      * refused as {@link Code#SEATS_OUT}, and the message says how many.
      */
     public Ended end() {
-        giveBack();
-        return new Ended(pool.end(), keys);
+        try {
+            giveBack();
+            return new Ended(pool.end(), keys);
+        } finally {
+            Reference.reachabilityFence(this);
+        }
     }
 
     /** Frees the map, if it wasn't ended. Refused as {@link #end}. */

@@ -1,13 +1,16 @@
 import java.io.IOException;
+import java.lang.reflect.Field;
 import java.nio.file.Files;
 import java.nio.file.Path;
 import java.util.ArrayList;
 import java.util.Arrays;
 import java.util.List;
 import java.util.OptionalLong;
+import java.util.concurrent.CompletableFuture;
 import java.util.concurrent.CountDownLatch;
 import java.util.concurrent.ExecutorService;
 import java.util.concurrent.Executors;
+import java.util.concurrent.ForkJoinPool;
 import java.util.concurrent.Future;
 import java.util.concurrent.atomic.AtomicReference;
 import samvolip.Code;
@@ -195,6 +198,55 @@ public final class SamvolipTest {
             }
         } finally {
             pool.shutdown();
+        }
+    }
+
+    /** The common pool takes its threads' ThreadLocals away between tasks. A thread has its seat still, and takes no other one. */
+    private static void threadsOfTheCommonPool() throws Exception {
+        SamvolipMap map = SamvolipMap.forKeys(100, 256); // the cleaner frees it, since the threads live on
+        for (int i = 0; i < 2000; i++) CompletableFuture.runAsync(() -> map.add(7, 1), ForkJoinPool.commonPool()).get();
+        expect(map.get(7), of(2000));
+    }
+
+    /** The same where the map has one seat alone: for calls, in a walk, and at the end. */
+    private static void lostThreadLocals() throws Exception {
+        Field field = SamvolipMap.class.getDeclaredField("mine");
+        field.setAccessible(true);
+        try (SamvolipMap map = SamvolipMap.forKeys(100, 1)) {
+            ThreadLocal<?> mine = (ThreadLocal<?>) field.get(map);
+            for (long key = 0; key < 10; key++) {
+                expect(map.put(key, key), NONE);
+                mine.remove();
+            }
+            try {
+                map.forEach((key, number) -> {
+                    mine.remove();
+                    throw new ArithmeticException();
+                });
+                throw new AssertionError();
+            } catch (ArithmeticException thrown) {
+                expect(map.removeIf((key, number) -> number >= 10), 0L);
+            }
+            long[] shown = new long[1];
+            for (int walk = 0; walk < 2; walk++) {
+                map.forEach((key, number) -> {
+                    mine.remove();
+                    expect(illegal(map::giveBack), "this thread's walk over the map is under way");
+                    expect(map.get(key), of(number));
+                    mine.remove();
+                    shown[0]++;
+                });
+            }
+            expect(shown[0], 20L);
+            map.giveBack();
+            try (Seat seat = map.seat()) {
+                expect(seat.get(3), of(3));
+            }
+            expect(map.get(3), of(3));
+            mine.remove();
+            try (Ended ended = map.end()) {
+                expect(ended.size(), 10L);
+            }
         }
     }
 
@@ -429,6 +481,8 @@ public final class SamvolipTest {
         moreThreadsThanSeats();
         seatsRunOut();
         threadsOfAPool();
+        threadsOfTheCommonPool();
+        lostThreadLocals();
         try (SamvolipMap map = SamvolipMap.forKeys(100, 1)) {
             walks(map, "this thread's walk over the map is under way");
         }

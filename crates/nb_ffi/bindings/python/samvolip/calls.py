@@ -43,7 +43,8 @@ class Calls:
         """The keys with their numbers, in no order, while others write the map.
 
         No key comes twice. Each key that the map has all the while comes. A new walk of the seat cuts off the one before, which
-        raises WalkCutOff when it is asked for more.
+        raises WalkCutOff when it is asked for more. A signal's handler and a finalizer don't walk: a walk that they came in between may
+        end too early.
         """
         raise NotImplementedError
 

@@ -107,7 +107,7 @@ class Full(Refused):
 
 
 class NoSeat(Refused):
-    """All seats are out."""
+    """All seats are out, or a seat has none in reserve to split."""
 
 
 class NotAllSeats(Refused):
@@ -115,7 +115,10 @@ class NotAllSeats(Refused):
 
 
 class WalkCutOff(RuntimeError):
-    """A walk goes no further: its seat has begun another one, or was given back."""
+    """A walk goes no further: its seat has begun another one, or, of a Map, isn't the calling thread's any more.
+
+    The walk of an explicit seat that was freed raises ValueError.
+    """
 
 
 _CLASSES = {Code.E_FULL: Full, Code.E_NO_SEAT: NoSeat, Code.E_NOT_ALL_SEATS: NotAllSeats}

@@ -74,7 +74,7 @@ class _Pool:
         """How many seats are out."""
         with self._lock:
             idle = self._gather()
-            return self.seats - (idle.count if idle else 0)
+            return self.seats - (idle.count if idle is not None else 0)
 
     def close(self) -> Ended:
         """Ends the map, if all seats are here."""
@@ -206,7 +206,8 @@ class Map(Calls):
         """The keys with their numbers, in no order, while others write the map.
 
         No key comes twice. Each key that the map has all the while comes. A walk stays on its thread. Each thread has one at a time:
-        a new one cuts off the one before, which raises WalkCutOff when it is asked for more.
+        a new one cuts off the one before, which raises WalkCutOff when it is asked for more. A signal's handler and a finalizer don't
+        walk: a walk that they came in between may end too early.
         """
         lease = self._local.lease or self._begin()
         library.walk(lease.handle)
