@@ -86,8 +86,8 @@
 extern "C" {
 #endif
 
-/* Version 0.8.0, as one number. samvolip_version returns that of the library. */
-#define SAMVOLIP_VERSION 0x000800u
+/* Version 0.8.1, as one number. samvolip_version returns that of the library. */
+#define SAMVOLIP_VERSION 0x000801u
 
 /* The greatest key and the greatest number. */
 #define SAMVOLIP_KEY_MAX (UINT64_MAX - 2)

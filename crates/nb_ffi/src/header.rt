@@ -9,8 +9,8 @@ use crate::map_shape::MapShape;
 use crate::seat_handle::SeatHandle;
 use std::mem::size_of;
 
-/// Version 0.8.0, as one number: that of the header that fits the library.
-pub const VERSION: u32 = 0x000800;
+/// Version 0.8.1, as one number: that of the header that fits the library.
+pub const VERSION: u32 = 0x000801;
 /// The size of a `samvolip_shape`.
 pub const SHAPE_SIZE: usize = size_of::<MapShape>();
 /// The size of a `samvolip_reply`.

@@ -11,7 +11,7 @@ use std::rt::Env;
 use std::{env, io};
 
 /// The version of the programs, as the file VERSION has it.
-pub const VERSION: &str = "0.8.0";
+pub const VERSION: &str = "0.8.1";
 
 /// The words of the command line. Words that aren't text are wrong ones.
 pub fn words<R: Env + AllocGlobal>(rt: &R) -> Result<Vec<String>, WordsFault> {

@@ -7,7 +7,7 @@ final class Functions {
     private Functions() {}
 
     /** The version of the samvolip.h that this package tells of, and the sizes of its structs. */
-    static final int VERSION = 0x000800, SHAPE_SIZE = 84, HANDLE_SIZE = 8, REPLY_SIZE = 16, ENTRY_SIZE = 16;
+    static final int VERSION = 0x000801, SHAPE_SIZE = 84, HANDLE_SIZE = 8, REPLY_SIZE = 16, ENTRY_SIZE = 16;
 
     static final int PRESENT = 1;
 

@@ -4,7 +4,7 @@ from __future__ import annotations
 
 import enum
 
-VERSION = 0x000800  # that of the samvolip.h that this package tells of
+VERSION = 0x000801  # that of the samvolip.h that this package tells of
 KEY_MAX = 2**64 - 3
 VALUE_MAX = 2**60 - 1
 MOST_KEYS = 349525  # that exponents_for_keys makes room for

@@ -7,7 +7,7 @@ use std::mem::size_of;
 use std::ptr::NonNull;
 
 /// The version of `samvolip.h` that this file tells of.
-pub const VERSION: u32 = 0x000800;
+pub const VERSION: u32 = 0x000801;
 
 /// The greatest key.
 pub const KEY_MAX: u64 = u64::MAX - 2;
