@@ -12,7 +12,7 @@ ghost use Rattle.nb_map.specs.inside.Waiting.{HasTriedStraight};
 
 use crate::faults::PutFault;
 use crate::map::{Map, Seat};
-use crate::steps::pause::NoPause;
+use crate::steps::pause::{NoPause, rest_if_lost};
 use crate::steps::write::write_straight;
 use nb_core::{Call, Change, Key, Num, Reply, Want};
 
@@ -130,8 +130,9 @@ impl Map {
     }
 
     /// The straight way of a write with so many tries, its first one, and the count of what it did
-    /// to the number of keys. `Err` says that it has to go on by the general way, and how many tries
-    /// it has left for that, maybe none.
+    /// to the number of keys. It rests where the loss of its try has shown that there is nothing
+    /// left to do, as of a put of the number that the other write has put. `Err` says that it has to
+    /// go on by the general way, and how many tries it has left for that, maybe none.
     #[inline(always)]
     pub(super) fn try_straight(
         &self,
@@ -150,6 +151,7 @@ impl Map {
         let mut left = 1;
         match write_straight(&self.chain, &mut seat.chain, &call, &mut left, &mut NoPause) {
             Some(Ok(reply)) => {
+                rest_if_lost(left);
                 self.count(&mut seat.count, &change, &reply);
                 Ok(Ok(reply))
             }
