@@ -21,7 +21,7 @@ pub(crate) struct Tally {
     pub(crate) nanoseconds: u64,
     /// The sum of what was read or added, modulo 2^64.
     pub(crate) sum: u64,
-    /// A new key was refused, since the map is full, and the job goes on without it.
+    /// A new key was refused, since the map is full: the worker's job ended there, without a fault.
     pub(crate) is_full: bool,
 }
 

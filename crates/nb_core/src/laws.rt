@@ -214,8 +214,9 @@ pub fn passed_above()
     ensures { PassedAbove }
 {}
 
-/// Where a seat has made no call since a moment, and another unprimed value stands in a key's slot
-/// than then, another seat has won an exchange on the key since.
+/// Where a key had no unfinished slot in the table below at a moment, a seat has made no call
+/// since, and another unprimed value stands in the key's slot than then, another seat has won an
+/// exchange on the key since.
 pub fn lost_exchange()
     ensures { LostExchange }
 {}

@@ -13,8 +13,8 @@ const AHEAD: usize = 1 << 16;
 pub(crate) const LINES: usize = 1 + AHEAD / 5;
 
 /// An input that is read in blocks. A block has the next line, for which the stream waits, and those
-/// behind it that are there already. So who writes a line is answered, and an input without an end
-/// never takes more than twice so many bytes of memory.
+/// behind it that are there already. So who writes a line is answered, and of an input without an
+/// end never more than twice `AHEAD` bytes are kept, in three times `AHEAD` bytes of memory.
 #[derive(Drop)]
 pub(crate) struct Stream<I> {
     reader: BufReader<I>,

@@ -113,7 +113,7 @@ pub(crate) const NOTHING: ForProof = ForProof {
 
 impl Chain {
     /// A chain with all words 0, and its seats. It takes memory for the words and for the vector of
-    /// seats.
+    /// seats; for a moment it takes twice as much for the words.
     pub fn new(alloc: Global, shape: Shape) -> Result<(Chain, Vec<ChainSeat>), OutOfMemory>
         ensures chain { IfOk result (λ made. made.0.shape ≡ shape) }
         ensures seats { IfOk result (λ made. made.1.items ≡ new_seats made.0.id shape.seats) }

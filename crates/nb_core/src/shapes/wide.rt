@@ -39,7 +39,8 @@ impl Shape {
     /// A table of `2^e` slots for each exponent, with one seat and one stripe: 1 to 16 exponents
     /// from 2 to 28, none below the one before it, and at most [`MAX_SLOTS`] slots in all. The
     /// first of these that is wrong is the fault: [`ShapeFault::Generations`], `Bits`, `Plan` or
-    /// `Slots`. A map takes 16 bytes for each slot, all when it is made.
+    /// `Slots`. A map takes 16 bytes for each slot, all when it is made, and twice as much while it
+    /// is made.
     pub fn large(exponents: &[u32]) -> Result<Shape, ShapeFault>
         ensures { result ≡ checked_large exponents.now }
     {

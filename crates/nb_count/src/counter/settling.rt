@@ -10,9 +10,9 @@ use std::marker::Brand;
 
 impl Counter {
     /// With all seats: the sum of all that they have added, modulo 2^64. Each seat is as it was, and
-    /// the counter goes on. Each stripe is loaded once, and a word twice for each seat, by which
-    /// `atomic_table` passes on what is known. These loads count as nobody's steps. It takes no
-    /// memory.
+    /// the counter goes on. Each stripe is loaded once, and a word twice for each seat but the
+    /// last, by which `atomic_table` passes on what is known. These loads count as nobody's steps.
+    /// It takes no memory.
     pub fn settle(&self, seats: &mut Vec<CountSeat>) -> u64
         requires own { AreOwn self.now seats.old.items }
         requires all { length seats.old.items ≡ self.now.seats }
