@@ -9,8 +9,8 @@ pub(crate) const SEATS: &str = "How many workers run the script at the same time
 
 pub(crate) const STRIPES: &str = "How many words the count of keys is spread over; 1 to 8";
 
-pub(crate) const REPROBES: &str =
-    "How many slots a new key may try before the map grows; 1 or more, by default without limit";
+pub(crate) const REPROBES: &str = "How many slots a new key may try before the map grows; \
+    1 to 4294967295, by default without limit";
 
 pub(crate) const CHUNK: &str =
     "How many slots a worker copies at a time when the map grows; a power of two from 4 to 1024";
@@ -36,9 +36,9 @@ Ops, with the reply and what each does:
   remove K           the old value; removes K
   removeif K V       whether K has V: true or false; if true, removes K
   add K N            the old value; adds N to it, or to 0 if K has no value
-  The reply is - if K had no value. It is full if there is no room for a new key,
-  and range if a sum would exceed the greatest value. After full or range, nothing
-  has changed.
+  A reply that is a value is - if K had none. The reply is full if there is no room
+  for a new key, and range if a sum would exceed the greatest value. After full or
+  range, nothing has changed.
 
 Output:
   First the replies, phase by phase and worker by worker. Each comes after its

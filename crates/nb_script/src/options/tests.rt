@@ -93,7 +93,7 @@ Options:
       --seats <S>        How many workers run the script at the same time; 1 to 8 [default: 1]
       --stripes <P>      How many words the count of keys is spread over; 1 to 8 [default: 1]
       --reprobes <N>     How many slots a new key may try before the map grows; \
-1 or more, by default without limit [default: 4294967295]
+1 to 4294967295, by default without limit [default: 4294967295]
       --chunk <C>        How many slots a worker copies at a time when the map grows; \
 a power of two from 4 to 1024 [default: 8]
       --plan <E,E,..>    Tables of 2^E slots, one for each E, instead of --bits and --generations; \
