@@ -21,10 +21,11 @@ use std::time::Instant;
 /// how many calls there are.
 const TURNS: u64 = 8;
 
-/// How many keys ever come to a map that has so many at any time, in a round of that length; no
-/// more than a shape can be asked for.
-pub(crate) fn keys_ever(keys: u32) -> usize {
-    (u64::from(keys).wrapping_mul(TURNS + 1) as usize).min(MANY_KEYS)
+/// How many keys ever come to a map that has so many at any time, one for each thread at least, in
+/// a round of that length; no more than a shape can be asked for.
+pub(crate) fn keys_ever(keys: u32, threads: usize) -> usize {
+    let live = u64::from(keys).max(threads as u64);
+    (live.wrapping_mul(TURNS + 1) as usize).min(MANY_KEYS)
 }
 
 /// The job to make steps. The keys with numbers from the start are the first ones; of `threads`

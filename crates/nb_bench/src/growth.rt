@@ -267,8 +267,8 @@ impl Rounds {
     }
 }
 
-/// Makes rounds until the time is up or each thread has made so many calls, and answers the middle
-/// one of each of their times.
+/// Makes rounds until the time is up or all threads together have made so many puts, without those
+/// that are timed one by one, and answers the middle one of each of their times.
 pub(crate) fn measure<R: Threads + Sync + Wait + Clock + Eprint>(
     rt: &R,
     alloc: Global,

@@ -30,8 +30,9 @@ pub(crate) struct Options {
     pub(crate) spacing: Spacing,
     /// How often each key is drawn, in `A`, `B` and `C`.
     pub(crate) law: Law,
-    /// How many calls each thread makes at most, rounded up to whole batches or rounds; in `G`, how
-    /// many in a round, if not `u64::MAX`.
+    /// In `A`, `B`, `C` and `E`, after how many calls a thread stops, rounded up to whole batches;
+    /// in `D`, after how many puts of all threads no more rounds begin; in `G`, how many calls each
+    /// thread makes in a round, if not `u64::MAX`.
     pub(crate) calls: u64,
     /// How many puts each thread makes in the check.
     pub(crate) puts: u32,
@@ -59,7 +60,10 @@ impl Options {
         let keys = self.keys as usize;
         match self.workload {
             Workload::Growth => self.shape_to_grow(keys),
-            Workload::Churn => Shape::for_many_keys(keys_ever(self.keys), self.threads),
+            Workload::Churn => Shape::for_many_keys(
+                keys_ever(self.keys, self.threads),
+                self.threads,
+            ),
             _ => Shape::for_many_keys(keys, self.threads),
         }
     }
@@ -150,7 +154,8 @@ fn with_shape<'a>(alloc: Global, command: Command<'a>) -> Result<Command<'a>, Al
         alloc,
         "plan",
         "E,E,..",
-        "Tables of 2^E slots, one for each E; 1 to 16 numbers from 2 to 28",
+        "Tables of 2^E slots, one for each E; 1 to 16 numbers from 2 to 28; \
+        without it D, F and G heed no --stripes, --reprobes or --chunk",
     );
     let stripes = STRIPES.option(
         alloc,
@@ -185,7 +190,9 @@ fn with_work<'a>(alloc: Global, command: Command<'a>) -> Result<Command<'a>, All
     let calls = CALLS.option(
         alloc,
         "N",
-        "How many calls each thread makes at most; in G, how many in a round",
+        "In A to C and E: how many calls each thread makes, rounded up to 1024s; \
+        in D: after how many puts of all threads it ends; \
+        in G: how many calls each thread makes in a round",
     );
     let puts = PUTS
         .option(

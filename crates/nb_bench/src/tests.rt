@@ -442,14 +442,16 @@ kinds: one kind of call after another; check: a test under load
   [SECONDS]   How many seconds to measure, such as 0.5 [default: 1]
 
 Options:
-      --plan <E,E,..>  Tables of 2^E slots, one for each E; 1 to 16 numbers from 2 to 28
+      --plan <E,E,..>  Tables of 2^E slots, one for each E; 1 to 16 numbers from 2 to 28; \
+without it D, F and G heed no --stripes, --reprobes or --chunk
       --stripes <P>    How many words the count of keys is spread over; 1 to 256
       --reprobes <N>   How many slots a new key may try before a table grows; 1 to 4294967295
       --chunk <C>      How many slots a thread copies at a time; a power of two from 4 to 1024 \
 [default: 8]
       --keys <WHICH>   dense (0, 1, 2 and so on), spread (over the whole range) or \
 zipf (dense, and in A to C some much more often) [default: dense]
-      --calls <N>      How many calls each thread makes at most; in G, how many in a round
+      --calls <N>      In A to C and E: how many calls each thread makes, rounded up to 1024s; \
+in D: after how many puts of all threads it ends; in G: how many calls each thread makes in a round
       --puts <N>       In check: how many puts each thread makes; 0 to 1000000 [default: 150000]
       --adds <N>       In check: how many adds all threads make together; 0 to 4294967295 \
 [default: 10000000]
