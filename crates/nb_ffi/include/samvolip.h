@@ -434,7 +434,8 @@ int samvolip_get(samvolip_seat *seat, uint64_t key, uint64_t *number);
  *
  * Cost: wait-free. In the common case two loads and an exchange (a compare-and-swap), and one more
  * step on the count if a key comes or goes. A key that has no slot takes one more load and one
- * more exchange. If a new key finds its table growing, the table is copied first.
+ * more exchange. If a new key finds its table growing, the table is copied first. If the first
+ * exchange is lost, and what it found decides the write, the call rests for some microseconds.
  * Refused: SAMVOLIP_E_KEY_RANGE, SAMVOLIP_E_VALUE_RANGE, SAMVOLIP_E_WANT, SAMVOLIP_E_CHANGE,
  * SAMVOLIP_E_FULL, SAMVOLIP_E_CONTENDED, SAMVOLIP_E_SUM_RANGE.
  */

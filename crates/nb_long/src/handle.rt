@@ -181,8 +181,8 @@ impl<V: Drop> Handle<V> {
         Parts::new(&self.map, &self.store).take_if(rt, &mut self.seat, key, value)
     }
 
-    /// Lets each of two handles of a map see all that the other has seen. Whether they are of one map
-    /// can't be told when it runs, so it is asked for.
+    /// Lets each of two handles of a map see all that the other has seen. Whether they are of one
+    /// map can't be told when it runs, so it is asked for.
     pub fn meet(&mut self, other: &mut Handle<V>)
         requires one { self.old.map ≡ other.old.map }
         ensures here { HasMet self.old.map.map other.old.seat self.old.seat self.new.seat }

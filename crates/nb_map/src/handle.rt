@@ -102,8 +102,8 @@ impl Handle {
         self.map.size_estimate(&mut self.seat)
     }
 
-    /// Lets each of two handles of a map see all that the other has seen. Whether they are of one map
-    /// can't be told when it runs, so it is asked for.
+    /// Lets each of two handles of a map see all that the other has seen. Whether they are of one
+    /// map can't be told when it runs, so it is asked for.
     pub fn meet(&mut self, other: &mut Handle)
         requires one { self.old.map ≡ other.old.map }
         ensures here { HasMet self.old.map other.old.seat self.old.seat self.new.seat }

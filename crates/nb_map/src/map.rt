@@ -144,6 +144,8 @@ impl Map {
     /// (`IsShortAtHome` says all that is asked). A key that came is counted afterwards, and one
     /// that went, by one step on the counter. A refused write leaves the map as it is; but tables
     /// may have been installed and copied for it, and its key may keep a slot without a number.
+    /// Where its first exchange is lost, and what that found decides the write, it rests for some
+    /// microseconds before it answers, so that others go on at the key.
     #[inline(always)]
     pub fn put_if_match(
         &self,

@@ -110,8 +110,8 @@ impl Handle {
         self.map.generation()
     }
 
-    /// Lets each of two handles of a set see all that the other has seen. Whether they are of one set
-    /// can't be told when it runs, so it is asked for.
+    /// Lets each of two handles of a set see all that the other has seen. Whether they are of one
+    /// set can't be told when it runs, so it is asked for.
     pub fn meet(&mut self, other: &mut Handle)
         requires one { self.old.set ≡ other.old.set }
         ensures here { HasMet self.old.set other.old.seat self.old.seat self.new.seat }

@@ -131,8 +131,8 @@ impl Map {
 
     /// The straight way of a write with so many tries, its first one, and the count of what it did
     /// to the number of keys. It rests where the loss of its try has shown that there is nothing
-    /// left to do, as of a put of the number that the other write has put. `Err` says that it has to
-    /// go on by the general way, and how many tries it has left for that, maybe none.
+    /// left to do, as of a put of the number that the other write has put. `Err` says that it has
+    /// to go on by the general way, and how many tries it has left for that, maybe none.
     #[inline(always)]
     pub(super) fn try_straight(
         &self,

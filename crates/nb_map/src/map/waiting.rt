@@ -148,8 +148,8 @@ impl Map {
         }
     }
 
-    /// The straight way of a write, which rests where it loses its try, and the count of what it did
-    /// to the number of keys. Its condition and its change are known in each call that stands on it,
+    /// The straight way of a write, which rests where it loses its try, and the count of what it
+    /// did to the number of keys. Its condition and its change are known in each call that uses it,
     /// and so what is left of it there is short.
     #[inline(always)]
     fn write_straight(

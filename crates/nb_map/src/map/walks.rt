@@ -55,8 +55,8 @@ impl Map {
     /// `None` it answers `None` for ever.
     ///
     /// As long as the walk's first table has no next one, a slot costs one load and a key one more.
-    /// All calls of a walk together make at most T (T + B + 4) steps on the chain, whose tables have
-    /// T slots and a `get` at most B steps.
+    /// All calls of a walk together make at most T (T + B + 4) steps on the chain, whose tables
+    /// have T slots and a `get` at most B steps.
     pub fn next_key(&self, seat: &mut Seat, walk: &mut Walk) -> Option<(Key, Num)>
         requires own { IsMine self.now seat.old }
         requires walk { IsWalkOf self.now seat.old walk.old }

@@ -76,7 +76,7 @@ fn spin() {
     }
 }
 
-/// Rests where a call has lost its only try.
+/// Rests where a call has lost the one try of its straight way.
 #[inline(always)]
 pub(crate) fn rest_if_lost(left: u32) {
     if left == 0 {

@@ -230,8 +230,8 @@ fn two_left<R: Abort>(rt: &R, ended: &SetEnded, keys: &[Key; 2]) {
     assert!(rt; ended.contains(keys[0]) && ended.contains(keys[1]));
 }
 
-/// Makes sets that have keys, and one of them anew, and lists them, also where one request for memory is refused:
-/// then the old handles have lost nothing.
+/// Makes sets that have keys, and one of them anew, and lists them, also where one request for
+/// memory is refused: then the old handles have lost nothing.
 pub(super) fn renews<R: Wait + Abort>(rt: &R, alloc: Global) -> Result<(), Fail> {
     let shape = Shape::new(2, 2, 2, 1)?;
     let keys = [key(rt, 1), key(rt, 2)];
