@@ -5,7 +5,7 @@
 
 A cell is the line's last number divided by its OPS: nanoseconds a call, where several threads work at once the machine's time for one
 call, not a thread's; in the line `memory` of F, bytes a key. `full` says that the map refused a new key in one of the runs. A run that
-hasn't ended after --limit seconds is stopped and left out, and standard error says so. With no peers named, all that are built take
+hasn't ended after --limit seconds, or that fails, is left out, and standard error says so. With no peers named, all that are built take
 part. A peer NAME=PATH is the program at this path, such as the `nb_bench` of another commit."""
 import argparse, os, statistics, subprocess, sys
 
@@ -41,6 +41,9 @@ def lines_of(peer, words):
         ran = subprocess.run(before + words + after, stdout=subprocess.PIPE, text=True, check=True, timeout=given.limit)
     except subprocess.TimeoutExpired:
         print(f'{peer} {" ".join(words)}: stopped after {given.limit:g} seconds', file=sys.stderr, flush=True)
+        return {}
+    except subprocess.CalledProcessError as error:
+        print(f'{peer} {" ".join(words)}: left out, {error}', file=sys.stderr, flush=True)
         return {}
     lines = {}
     for line in ran.stdout.splitlines():
