@@ -10,7 +10,7 @@ use crate::trace::{Action, Request};
 use itoa::Buffer;
 use nb_core::{Key, MAX_SEATS, Num, OutOfMemory, Shape};
 use nb_lines::{Fault, Progress, key_of, number_of};
-use nb_long::{Handle, LongFault, Shown};
+use nb_long::{Handle, LongFault, Found};
 use std::alloc::Global;
 use std::sync::Wait;
 use std::sync::atomic::{AtomicU64, Ordering};
@@ -251,7 +251,7 @@ fn read_page(
 }
 
 /// What the store shows under a number, if there is one.
-fn shown(cache: &Handle<Page>, number: Option<Num>) -> Result<Option<Shown<'_, Page>>, Fault> {
+fn shown(cache: &Handle<Page>, number: Option<Num>) -> Result<Option<Found<'_, Page>>, Fault> {
     let Some(number) = number else {
         return Ok(None);
     };

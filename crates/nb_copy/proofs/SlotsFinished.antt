@@ -1,6 +1,6 @@
 -- How a slot is finished.
 use Rattle.std.proofs.Common.{◌≡◌, ◌≢◌, ◌∙◌, ◌⊎◌, ℕ, suc, ◌+◌, ◌≤◌, ◌<◌, Bool, true, false, cond, List, [], ◌∷◌, Some, None, ap, sym, subst, refl, inl, inr, arith}
-use Rattle.std.proofs.lemmas.Bool.{cases_eq, eq-eqb}
+use Rattle.std.proofs.lemmas.Bool.{eq-eqb}
 use Rattle.nb_core.specs.Plans.{Plan, generations_of, size_of}
 use Rattle.nb_core.specs.Tables.{HasSlot, IsFinished, IsFinishedValue, IsInstalled, IsSlot, IsUnprimed, Tables, IsPassed, IsPrimedOrFinished}
 use Rattle.nb_core.specs.History.{is_finished_by_priming, slot_in}
@@ -55,9 +55,10 @@ pub number-copied :
     (p : Plan) (t u : Tables) → Lasts p t u → (g i j key n : ℕ) → IsSlot p g i
     → t.key g i ≡ Claimed key → IsPrimedOrFinished t g i n
     → j < size_of p (suc g) → u.key (suc g) j ≡ Claimed key → u.value (suc g) j ≢ Null
-    → IsCopied p u g i n
+    → IsCopied p u g i
 number-copied p t u lasting g i j key n slot claimed held near above some = record {
   key = key;
+  number = n;
   claimed = lasting.claimed g i key slot claimed;
   held = lasting.primed_or_finished g i n slot held;
   copied = record { slot = j; in_table = near; is = above; some = some };
@@ -68,14 +69,6 @@ number-copied p t u lasting g i j key n slot claimed held near above some = reco
 null-or-not : (v : ValueState) → (v ≡ Null) ⊎ (v ≢ Null)
 null-or-not Null = inl refl
 null-or-not _ = inr (λ e. cc)
-
--- a primed number is the only one that the slot may have
-primed-number :
-    (v : ValueState) (m n : ℕ) → v ≡ Primed m → (v ≢ Primed n → v ≡ Finished n) → v ≡ Primed n
-primed-number v m n is other = elim (cases_eq m n) [
-  | inl same ↦ is ∙ ap Primed same
-  | inr differs ↦ absurd (let finished : v ≡ Finished n = other (λ e. differs (cc)) in cc)
-]
 
 slot-of-table : (g i : ℕ) → slot_in g (Some (g, i)) ≡ i ∷ []
 slot-of-table g i = ap (λ b. cond b (i ∷ []) []) (eq-eqb g g refl)
@@ -113,14 +106,12 @@ module _ (chain : ChainOf) (g : ℕ) (table : g < generations_of chain.shape) wh
 
   -- a finish of a number that was primed
   pub finished-now :
-      {before after : SeenBy} (s i n m : ℕ) (v : ValueState) → v ≡ Primed m
-      → (v ≡ Primed n → Extended p before after (Finish s g i ∷ []) 1
-      × ((seen_by p after).value g i ≡ Finished n))
-      → (v ≢ Primed n → Extended p before after [] 1 × ((seen_by p after).value g i ≡ v)
-      × (v ≡ Finished n))
+      {before after : SeenBy} (s i n : ℕ) (v : ValueState) → v ≡ Primed n
+      → ((m : ℕ) → v ≡ Primed m → Extended p before after (Finish s g i ∷ []) 1
+      × ((seen_by p after).value g i ≡ Finished m))
       → HasCopied p g before after (i ∷ []) 0 0 1 × IsFinished (seen_by p after) g i
-  finished-now {before} {after} s i n m v is won lost =
-      let w = won (primed-number v m n is (λ differs. (lost differs).2)) in (
+  finished-now {before} {after} s i n v is won =
+      let w = won n is in (
         copied-one p g before after (Finish s g i) (i ∷ []) 0 0 w.0 refl (slot-of-table g i)
             refl refl,
         inr (subst IsFinishedValue (sym w.1) refl),
@@ -128,13 +119,17 @@ module _ (chain : ChainOf) (g : ℕ) (table : g < generations_of chain.shape) wh
 
   -- and of one that was finished already
   pub finished-before :
-      {before after : SeenBy} (i n : ℕ) (v : ValueState) → v ≢ Primed n
-      → (v ≢ Primed n → Extended p before after [] 1 × ((seen_by p after).value g i ≡ v)
-      × (v ≡ Finished n))
+      {before after : SeenBy} (i n : ℕ) (v : ValueState) → (v ≡ Primed n) ⊎ (v ≡ Finished n)
+      → v ≢ Primed n
+      → ((m : ℕ) → v ≡ Finished m → Extended p before after [] 1
+      × ((seen_by p after).value g i ≡ Finished m))
       → HasCopied p g before after [] 0 0 1 × IsFinished (seen_by p after) g i
-  finished-before {before} {after} i n v differs lost =
-      let l = lost differs in
-      (copied-quiet p g before after l.0, inr (subst IsFinishedValue (sym (l.1 ∙ l.2)) refl))
+  finished-before {before} {after} i n v held differs lost = elim held [
+    | inl is_primed ↦ absurd (differs is_primed)
+    | inr is_finished ↦
+        let l = lost n is_finished in
+        (copied-quiet p g before after l.0, inr (subst IsFinishedValue (sym l.1) refl))
+  ]
 
   -- a search, a copy, and a finish
   pub copied-three :

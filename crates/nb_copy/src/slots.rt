@@ -116,7 +116,7 @@ fn copy_number(chain: &Chain, seat: &mut ChainSeat, g: u32, i: usize, key: Key, 
         return false;
     };
     chain.copy_in(seat, g + 1, j, key, number);
-    matches!(chain.finish_slot(seat, g, i, number), ValueState::Primed(_))
+    matches!(chain.finish_slot(seat, g, i), ValueState::Primed(_))
 }
 
 /// The slot of a key of table `g` in the next table, which is claimed where the key has none yet.

@@ -4,7 +4,7 @@ use Rattle.std.proofs.Math.ListN.{get_or-eq_default}
 use Rattle.std.proofs.lemmas.Bool.{cases_lt, ne_eqb}
 use Rattle.std.proofs.lemmas.Bool.Decides.{nat_tests}
 use Rattle.std.specs.Option.{unwrap_or}
-use Rattle.nb_core.specs.Plans.{Plan, IsPlan, Header, Key, Value, generations_of, value_index}
+use Rattle.nb_core.specs.Plans.{Plan, IsPlan, Header, Key, Value, generations_of, value_place}
 use Rattle.nb_core.specs.States.{IsValueState, key_state, key_word, value_in_word, value_state, value_word, primed}
 use Rattle.nb_core.specs.Tables.{IsSlot, tables_at, words_of}
 use Rattle.nb_core.specs.History.{IsInRange, IsLegal}
@@ -107,7 +107,7 @@ says-itself x v w = subst (IsWordOf x) (sym (says x v w)) w
 
 -- the word of a slot's value
 abbrev value_word_at : Plan → List Event → ℕ → ℕ → ℕ
-value_word_at p h g i = slice_index (words_of p h) (value_index p g i)
+value_word_at p h g i = slice_index (words_of p h) (value_place p g i)
 
 -- each value word is a state's: the one that the tables say
 abbrev AreValueWords : Plan → List Event → Type 0

@@ -1,7 +1,7 @@
 -- The words of a legal history: what they may hold, and how they may change.
 use Rattle.std.proofs.Common.{◌≡◌, ◌≢◌, ◌∙◌, ℕ, ◌-◌, ◌+◌, ◌%◌, ◌^◌, ◌<◌, ◌≤◌, ◌⊎◌, zero, suc, cond, ◌||◌, List, [], ◌∷◌, slice_index, ap, sym, subst, subst₂, refl, inl, inr, arith}
 use Rattle.std.proofs.lemmas.Bool.{cond_both}
-use Rattle.nb_core.specs.Plans.{Plan, IsPlan, Header, generations_of, header_index, size_of}
+use Rattle.nb_core.specs.Plans.{Plan, IsPlan, Header, generations_of, header_place, size_of}
 use Rattle.nb_core.specs.States.{IsKeyState, value_state, primed}
 use Rattle.nb_core.specs.Tables.{IsSlot, IsUnprimed, chunk_of, Tables, is_finished_value, tables_at, words_of, finished_among, is_dead}
 use Rattle.nb_core.specs.History.{IsLegal}
@@ -98,7 +98,7 @@ last-counted p h plan legal =
 -- so the last table's header words are 0
 last-headers :
     (p : Plan) (h : List Event) → IsPlan p → IsLegal p h → (n : ℕ) → n < 3
-    → slice_index (words_of p h) (header_index p (generations_of p - 1) n) ≡ 0
+    → slice_index (words_of p h) (header_place p (generations_of p - 1) n) ≡ 0
 last-headers p h plan legal zero header = last-next p (tables_at p h) (sound p h plan legal)
 last-headers p h plan legal (suc zero) header = last-taken p h plan legal
 last-headers p h plan legal (suc (suc zero)) header = last-counted p h plan legal

@@ -3,7 +3,7 @@
 use Rattle.std.specs.Prelude.{◌≡◌, ◌≢◌, ℕ, suc, zero, ◌+◌, ◌-◌, ◌%◌, ◌<◌, ◌≤◌, ◌⊎◌, pos, true, if◌then◌else◌, List, [], ◌∷◌, ◌++◌, length, slice_index, bit_or, Option, Some, None, All}
 use Rattle.std.specs.FinMap as map
 use Rattle.nb_core.specs.Calls.{leaves_alone}
-use Rattle.nb_core.specs.Plans.{Plan, IsPlan, generations_of, header_index, size_of, value_index, word_count}
+use Rattle.nb_core.specs.Plans.{Plan, IsPlan, generations_of, header_place, size_of, value_place, word_count}
 use Rattle.nb_core.specs.States.{IsKeyState, IsValueState, IsValueWord, primed, value_state, value_word}
 use Rattle.nb_core.specs.Tables.{AreOthers, HasContent, HasSlot, IsComplete, IsFinished, IsFinishedValue, IsInstalled, IsOnPath, IsPassed, IsPrimedOrFinished, IsReady, IsSettledBelow, IsSlot, IsUnprimed, Tables, finished_among, path_slot, tables_at, tables_of, words_of}
 use Rattle.nb_core.specs.History.{HasValue, IsLegal, MayWin, Replies, number_in_value, counted_by, key_of_call, map_of, seat_of_event, turned_by, turns_slot}
@@ -25,13 +25,13 @@ use Rattle.nb_core.specs.declared.states.ValueState.TheVariants.{Null, Tombstone
 pub record AreLawful (p : Plan) (words : List ℕ) : Type 0 where
   pub length : length words ≡ word_count p
   pub keys : (g i : ℕ) → IsSlot p g i → IsKeyState ((tables_of p words).key g i)
-  pub values : (g i : ℕ) → IsSlot p g i → IsValueWord (slice_index words (value_index p g i))
+  pub values : (g i : ℕ) → IsSlot p g i → IsValueWord (slice_index words (value_place p g i))
   pub empty_is_null : (g i : ℕ) → IsSlot p g i → (tables_of p words).key g i ≡ Empty
       → (tables_of p words).value g i ≡ Null
   pub dead_is_null : (g i : ℕ) → IsSlot p g i → (tables_of p words).key g i ≡ Dead
       → (tables_of p words).value g i ≡ Null
   pub last_headers : (n : ℕ) → n < 3 → slice_index words
-      (header_index p (generations_of p - 1) n) ≡ 0
+      (header_place p (generations_of p - 1) n) ≡ 0
 
 abbrev pub LawfulWords : Type 0
 LawfulWords =

@@ -74,16 +74,16 @@ header_number header.Take = 1
 header_number header.Done = 2
 
 -- where header word h of table g lies
-abbrev pub header_index : Plan → ℕ → ℕ → ℕ
-header_index p g h = base_of p g + h
+abbrev pub header_place : Plan → ℕ → ℕ → ℕ
+header_place p g h = base_of p g + h
 
 -- where the key word of slot i of table g lies
-abbrev pub key_index : Plan → ℕ → ℕ → ℕ
-key_index p g i = base_of p g + 3 + 2 * i
+abbrev pub key_place : Plan → ℕ → ℕ → ℕ
+key_place p g i = base_of p g + 3 + 2 * i
 
 -- where the value word of slot i of table g lies, right behind its key word
-abbrev pub value_index : Plan → ℕ → ℕ → ℕ
-value_index p g i = key_index p g i + 1
+abbrev pub value_place : Plan → ℕ → ℕ → ℕ
+value_place p g i = key_place p g i + 1
 
 -- the words of a chain, by name
 pub data Word : Type 0 where
@@ -95,9 +95,9 @@ pub data Word : Type 0 where
 -- where a word lies
 abbrev pub index_of_word : Plan → Word → ℕ
 index_of_word p Top = 0
-index_of_word p (Header g h) = header_index p g h
-index_of_word p (Key g i) = key_index p g i
-index_of_word p (Value g i) = value_index p g i
+index_of_word p (Header g h) = header_place p g h
+index_of_word p (Key g i) = key_place p g i
+index_of_word p (Value g i) = value_place p g i
 
 -- the chain has this word
 abbrev pub IsWord : Plan → Word → Type 0

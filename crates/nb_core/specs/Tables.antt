@@ -1,6 +1,6 @@
 -- The words of a chain of tables after a history, and what they say of its slots.
 use Rattle.std.specs.Prelude.{◌≡◌, ◌≢◌, ℕ, suc, zero, ◌+◌, ◌%◌, ◌^◌, ◌<◌, ◌⊎◌, ◌||◌, min, max, bit_or, Bool, true, false, if◌then◌else◌, IsTrue, List, [], ◌∷◌, replicate, slice_index, slice_set}
-use Rattle.nb_core.specs.Plans.{Plan, generations_of, header_index, key_index, size_of, value_index, word_count}
+use Rattle.nb_core.specs.Plans.{Plan, generations_of, header_place, key_place, size_of, value_place, word_count}
 use Rattle.nb_core.specs.States.{key_state, key_word, value_in_word, value_word}
 use Rattle.nb_core.specs.declared.events.Event.{Event}
 use Rattle.nb_core.specs.declared.events.Event.TheVariants.{Claim, Kill, Won, CopyIn, Prime, Finish, Install, Take, Count, Promote, Read}
@@ -21,15 +21,15 @@ changed_at w index f = slice_set w index (f (slice_index w index))
 
 -- an event changes one word, or none
 abbrev pub word_step : Plan → Event → List ℕ → List ℕ
-word_step p (Claim s g i k) w = slice_set w (key_index p g i) (key_word (Claimed k))
-word_step p (Kill s g i) w = slice_set w (key_index p g i) (key_word Dead)
-word_step p (Won s g i a b c r) w = slice_set w (value_index p g i) (value_word b)
-word_step p (CopyIn s g i k n) w = slice_set w (value_index p g i) (value_word (Live n))
-word_step p (Prime s g i) w = changed_at w (value_index p g i) (λ x. bit_or x 1)
-word_step p (Finish s g i) w = changed_at w (value_index p g i) (λ x. bit_or x 2)
-word_step p (Install s g k) w = slice_set w (header_index p g 0) 1
-word_step p (Take s g) w = changed_at w (header_index p g 1) (λ x. (x + chunk_of p g) % 2 ^ 64)
-word_step p (Count s g c) w = changed_at w (header_index p g 2) (λ x. (x + c) % 2 ^ 64)
+word_step p (Claim s g i k) w = slice_set w (key_place p g i) (key_word (Claimed k))
+word_step p (Kill s g i) w = slice_set w (key_place p g i) (key_word Dead)
+word_step p (Won s g i a b c r) w = slice_set w (value_place p g i) (value_word b)
+word_step p (CopyIn s g i k n) w = slice_set w (value_place p g i) (value_word (Live n))
+word_step p (Prime s g i) w = changed_at w (value_place p g i) (λ x. bit_or x 1)
+word_step p (Finish s g i) w = changed_at w (value_place p g i) (λ x. bit_or x 2)
+word_step p (Install s g k) w = slice_set w (header_place p g 0) 1
+word_step p (Take s g) w = changed_at w (header_place p g 1) (λ x. (x + chunk_of p g) % 2 ^ 64)
+word_step p (Count s g c) w = changed_at w (header_place p g 2) (λ x. (x + c) % 2 ^ 64)
 word_step p (Promote s g) w = changed_at w 0 (λ x. max x (suc g))
 word_step p (Read s c r) w = w
 
@@ -53,11 +53,11 @@ pub record Tables : Type 0 where
 -- as null
 abbrev pub tables_of : Plan → List ℕ → Tables
 tables_of p w = record {
-  key = λ g i. key_state (slice_index w (key_index p g i));
-  value = λ g i. value_in_word (slice_index w (value_index p g i));
-  next = λ g. slice_index w (header_index p g 0);
-  taken = λ g. slice_index w (header_index p g 1);
-  counted = λ g. slice_index w (header_index p g 2);
+  key = λ g i. key_state (slice_index w (key_place p g i));
+  value = λ g i. value_in_word (slice_index w (value_place p g i));
+  next = λ g. slice_index w (header_place p g 0);
+  taken = λ g. slice_index w (header_place p g 1);
+  counted = λ g. slice_index w (header_place p g 2);
   top = slice_index w 0;
 }
 

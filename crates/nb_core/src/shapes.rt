@@ -12,15 +12,15 @@ ghost use Rattle.nb_core.specs.Plans.{
   checked_reprobes,
   checked_shape,
   generations_of,
-  header_index,
+  header_place,
   header_number,
-  key_index,
+  key_place,
   limit_of,
   plan,
   seated,
   size_of,
   slots_in,
-  value_index,
+  value_place,
   word_count,
 };
 ghost use Rattle.nb_core.specs.Paths.{IsPathIn};
@@ -400,28 +400,38 @@ impl Shape {
         }
     }
 
-    /// The index of a header word of table `g`.
-    pub fn header_index(&self, g: u32, word: HeaderWord) -> usize
-        requires { g < generations_of self.now }
-        ensures { result ≡ header_index self.now g (header_number word) }
+    /// The place of header word `h` of table `g` among the chain's words: 0 is next, 1 is take, 2 is
+    /// done.
+    pub fn header_place(&self, g: u32, h: usize) -> usize
+        requires table { g < generations_of self.now }
+        requires header { h < 3 }
+        ensures { result ≡ header_place self.now g h }
     {
-        self.bases[g as usize] as usize + word as usize
+        self.bases[g as usize] as usize + h
     }
 
-    /// The index of the key word of slot `i` of table `g`.
-    pub fn key_index(&self, g: u32, i: usize) -> usize
+    /// The same of a header word by its name.
+    pub fn header_word_place(&self, g: u32, word: HeaderWord) -> usize
+        requires { g < generations_of self.now }
+        ensures { result ≡ header_place self.now g (header_number word) }
+    {
+        self.header_place(g, word as usize)
+    }
+
+    /// The place of the key word of slot `i` of table `g`.
+    pub fn key_place(&self, g: u32, i: usize) -> usize
         requires table { g < generations_of self.now }
         requires slot { i < size_of self.now g }
-        ensures { result ≡ key_index self.now g i }
+        ensures { result ≡ key_place self.now g i }
     {
         self.bases[g as usize] as usize + 3 + 2 * i
     }
 
-    /// The index of the value word of slot `i` of table `g`, behind its key word.
-    pub fn value_index(&self, g: u32, i: usize) -> usize
+    /// The place of the value word of slot `i` of table `g`, behind its key word.
+    pub fn value_place(&self, g: u32, i: usize) -> usize
         requires table { g < generations_of self.now }
         requires slot { i < size_of self.now g }
-        ensures { result ≡ value_index self.now g i }
+        ensures { result ≡ value_place self.now g i }
     {
         self.bases[g as usize] as usize + 4 + 2 * i
     }

@@ -7,10 +7,10 @@ ghost use Rattle.std.specs.Prelude.{◌≡◌, pos, List, [], ◌∷◌, Some, N
 ghost use Rattle.nb_core.specs.Plans.{
   IsPlan,
   base_of,
-  key_index,
+  key_place,
   limit_of,
   plan,
-  value_index,
+  value_place,
   word_count,
 };
 ghost use Rattle.nb_core.specs.States.{key_word, value_state, value_word};
@@ -309,8 +309,8 @@ pub fn places()
     ensures tables { map (base_of (plan (2 ∷ 3 ∷ 4 ∷ []) 1 1)) (0 ∷ 1 ∷ 2 ∷ []) ≡ 1 ∷ 12 ∷ 31 ∷ [] }
     ensures two_of_one_size { map (base_of (plan (2 ∷ 2 ∷ 3 ∷ []) 1 1)) (0 ∷ 1 ∷ 2 ∷ [])
         ≡ 1 ∷ 12 ∷ 23 ∷ [] }
-    ensures key { key_index (plan (2 ∷ 3 ∷ 4 ∷ []) 1 1) 1 5 ≡ 25 }
-    ensures value { value_index (plan (2 ∷ 3 ∷ 4 ∷ []) 1 1) 1 5 ≡ 26 }
+    ensures key { key_place (plan (2 ∷ 3 ∷ 4 ∷ []) 1 1) 1 5 ≡ 25 }
+    ensures value { value_place (plan (2 ∷ 3 ∷ 4 ∷ []) 1 1) 1 5 ≡ 26 }
 {}
 
 /// How many slots of its path a fresh writer may claim, in a table with a next and in the last one,

@@ -8,7 +8,8 @@ ghost use Rattle.nb_map.specs.Ending.{EndedWith, HasTablesLeft};
 ghost use Rattle.nb_map.specs.Logs.{HaveEmptyLogs};
 ghost use Rattle.nb_map.specs.Maps.{AreMine, IsMadeFor, IsMine, MapOf};
 ghost use Rattle.nb_map.specs.NamedCalls.{remove_of};
-ghost use Rattle.nb_map.specs.Promises.{Found, HasGot, HasMet, HasWritten};
+ghost use Rattle.nb_map.specs.Promises.{HasGot, HasMet, HasWritten};
+ghost use Rattle.nb_map.specs.Promises as outcome;
 ghost use Rattle.nb_long.specs.Handles.{AreOfOneMap, IsSameMap, handle_sharing, new_handles, seats_of};
 ghost use Rattle.nb_long.specs.Promises.{HasChangedIf, HasPutValue, HasReplacedIf, with_token};
 ghost use Rattle.nb_long.specs.Typed.{LongMapOf};
@@ -21,7 +22,7 @@ mod updating;
 
 use crate::map::parts::Parts;
 use crate::map::{Compared, LongFault, Stored, Unshown};
-use crate::store::{Shown, Store};
+use crate::store::{Found, Store};
 use nb_core::{Key, Num, OutOfMemory, Shape};
 use nb_map::{Ended, Map, Seat};
 use std::alloc::Global;
@@ -87,7 +88,7 @@ impl<V: Drop> Handle<V> {
     }
 
     /// What the store has under a number, if it shows anything: `Store::show`.
-    pub fn show(&self, number: Num) -> Option<Shown<'_, V>>
+    pub fn show(&self, number: Num) -> Option<Found<'_, V>>
         ensures { IfSome result (λ shown. Shows self.now.map.store shown
             × (shown.index ≡ number)) }
     {
@@ -151,7 +152,7 @@ impl<V: Drop> Handle<V> {
     /// Takes out a key, and answers the number that was there: `LongMap::remove`.
     pub fn remove<R: Wait>(&mut self, rt: &R, key: Key) -> Option<Num>
         ensures wrote { HasWritten self.old.map.map (remove_of key) self.old.seat self.new.seat
-            (Found result) }
+            (outcome.Found result) }
         ensures map { IsSameMap self.old self.new }
     {
         self.map.remove(rt, &mut self.seat, key)

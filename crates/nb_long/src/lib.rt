@@ -12,4 +12,4 @@ mod store;
 pub use handle::Handle;
 pub use map::{Compared, LongFault, LongMap, Stored, Unshown, UpdateFault, Updated};
 pub use nb_map::{RenewFault, SettleFault};
-pub use store::{Placed, Receipt, Shown, Store, StoreFault};
+pub use store::{Found, Placed, Receipt, Store, StoreFault};

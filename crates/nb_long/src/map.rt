@@ -7,7 +7,8 @@ ghost use Rattle.nb_map.specs.Ending.{EndedWith, HasTablesLeft};
 ghost use Rattle.nb_map.specs.Logs.{HaveEmptyLogs};
 ghost use Rattle.nb_map.specs.Maps.{AreMine, IsMadeFor, IsMine, new_seats};
 ghost use Rattle.nb_map.specs.NamedCalls.{remove_of};
-ghost use Rattle.nb_map.specs.Promises.{Found, HasMet, HasWritten};
+ghost use Rattle.nb_map.specs.Promises.{HasMet, HasWritten};
+ghost use Rattle.nb_map.specs.Promises as outcome;
 ghost use Rattle.nb_long.specs.Promises.{HasChangedIf, HasGotValue, HasPutValue, HasReplacedIf, with_token};
 
 mod fullness;
@@ -16,7 +17,7 @@ pub(crate) mod parts;
 mod settling;
 mod updating;
 
-use crate::store::{Placed, Receipt, Shown, Store, StoreFault};
+use crate::store::{Found, Placed, Receipt, Store, StoreFault};
 use nb_core::{Key, NotAll, Num, OutOfMemory, Shape};
 use nb_map::{Ended, Map, Seat};
 use parts::Parts;
@@ -203,7 +204,7 @@ impl<V> LongMap<V> {
 
     /// What the map has at a key. It is a `get` of the map of numbers, and a look at the store; it
     /// waits for nobody.
-    pub fn get(&self, seat: &mut Seat, key: Key) -> Result<Option<Shown<'_, V>>, Unshown>
+    pub fn get(&self, seat: &mut Seat, key: Key) -> Result<Option<Found<'_, V>>, Unshown>
         requires own { IsMine self.now.map seat.old }
         ensures { HasGotValue self.now key seat.old seat.new result }
     {
@@ -214,7 +215,8 @@ impl<V> LongMap<V> {
     /// stays in the store.
     pub fn remove<R: Wait>(&self, rt: &R, seat: &mut Seat, key: Key) -> Option<Num>
         requires own { IsMine self.now.map seat.old }
-        ensures { HasWritten self.now.map (remove_of key) seat.old seat.new (Found result) }
+        ensures { HasWritten self.now.map (remove_of key) seat.old seat.new
+            (outcome.Found result) }
     {
         self.map.remove(rt, seat, key)
     }

@@ -81,13 +81,13 @@ impl<V> Receipt<V> {
 
 /// A value that a store shows under a number.
 #[derive(Drop)]
-pub struct Shown<'a, V> {
+pub struct Found<'a, V> {
     number: Num,
     pushed: Pushed<V>,
     value: &'a V,
 }
 
-impl<'a, V> Model for Shown<'a, V> {
+impl<'a, V> Model for Found<'a, V> {
     ghost use Rattle.std.specs.Prelude.{◌≡◌};
     ghost use Rattle.boxcar.specs.Table.{Where, where_coded};
 
@@ -100,7 +100,7 @@ impl<'a, V> Model for Shown<'a, V> {
     ghost invariant = { λ s. (s.number ≡ s.pushed.index) × (s.value.now ≡ s.pushed.value) };
 }
 
-impl<V> Deref for Shown<'_, V> {
+impl<V> Deref for Found<'_, V> {
     type Target = V;
 
     ghost deref_gives = { λ shown value. value ≡ shown.value };
@@ -110,7 +110,7 @@ impl<V> Deref for Shown<'_, V> {
     }
 }
 
-impl<'a, V> Shown<'a, V> {
+impl<'a, V> Found<'a, V> {
     /// The number under which the store holds the value, and which the map had.
     pub fn number(&self) -> Num
         ensures { result ≡ self.now.index }
@@ -129,7 +129,7 @@ impl<'a, V> Shown<'a, V> {
     pub fn into_receipt(self) -> Receipt<V>
         ensures { result ≡ self.entry }
     {
-        let Shown { pushed, .. } = self;
+        let Found { pushed, .. } = self;
         Receipt { pushed }
     }
 }
@@ -203,12 +203,12 @@ impl<V> Store<V> {
     }
 
     /// What is stored under a number, if there is anything now.
-    pub fn show(&self, number: Num) -> Option<Shown<'_, V>>
+    pub fn show(&self, number: Num) -> Option<Found<'_, V>>
         ensures { IfSome result (λ shown. Shows self.now shown × (shown.index ≡ number)) }
     {
         let pushed = self.values.witness(number.get() as usize)?;
         let value = self.values.value(&pushed);
-        Some(Shown {
+        Some(Found {
             number,
             pushed,
             value,
@@ -216,7 +216,7 @@ impl<V> Store<V> {
     }
 
     /// Whether both have one number; then they have one value.
-    pub fn agree(&self, receipt: &Receipt<V>, shown: &Shown<'_, V>) -> bool
+    pub fn agree(&self, receipt: &Receipt<V>, shown: &Found<'_, V>) -> bool
         requires receipt { Shows self.now receipt.now }
         requires shown { Shows self.now shown.now }
         ensures agrees { result ≡ (receipt.now.index == shown.now.index) }

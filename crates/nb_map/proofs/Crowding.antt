@@ -14,7 +14,7 @@ use Rattle.std.proofs.lemmas.Map.Views.{Contains-from_any}
 use Rattle.nb_core.specs.History.{IsLegal, key_of_call, seat_of_event}
 use Rattle.nb_core.specs.Laws.{IsKeyChange, Lasts}
 use Rattle.nb_core.specs.Meaning.{IsCrowded}
-use Rattle.nb_core.specs.Plans.{IsPlan, Plan, generations_of, key_index, size_of, word_count}
+use Rattle.nb_core.specs.Plans.{IsPlan, Plan, generations_of, key_place, size_of, word_count}
 use Rattle.nb_core.specs.States.{key_state}
 use Rattle.nb_core.specs.Tables.{HasSlot, IsSlot, Tables, tables_at, words_of}
 use Rattle.nb_core.specs.declared.calls.Call.{Call}
@@ -186,10 +186,10 @@ none-claimed : (p : Plan) (g i k : ℕ) → (tables_at p []).key g i ≡ Claimed
 none-claimed p g i k claimed =
     let none : ℕ = 0 in
     let long : length (words_of p []) ≡ word_count p = length-replicate (word_count p) none in
-    let zero : slice_index (words_of p []) (key_index p g i) ≡ 0 =
-    elim (cases_lt (key_index p g i) (word_count p)) [
-      | inl within ↦ get_or-replicate (word_count p) (key_index p g i) 0 0 within
-      | inr past ↦ get_or_past (words_of p []) (key_index p g i) 0 (omega (arith, past, long))
+    let zero : slice_index (words_of p []) (key_place p g i) ≡ 0 =
+    elim (cases_lt (key_place p g i) (word_count p)) [
+      | inl within ↦ get_or-replicate (word_count p) (key_place p g i) 0 0 within
+      | inr past ↦ get_or_past (words_of p []) (key_place p g i) 0 (omega (arith, past, long))
     ] in
     let empty : Empty ≡ Claimed k = sym (ap key_state zero) ∙ claimed in
     cc

@@ -3,7 +3,7 @@ use Rattle.std.proofs.Common.{◌≡◌, ℕ, suc, ◌+◌, ◌<◌, List, add-o
 use Rattle.std.proofs.lemmas.Nat.{pow_pos}
 use Rattle.nb_core.specs.History.{key_of_call}
 use Rattle.nb_core.specs.Laws.{Lasts}
-use Rattle.nb_core.specs.Plans.{Plan, generations_of, value_index}
+use Rattle.nb_core.specs.Plans.{Plan, generations_of, value_place}
 use Rattle.nb_core.specs.Tables.{Tables}
 use Rattle.nb_core.specs.declared.calls.Call.{Call}
 use Rattle.nb_core.specs.declared.calls.Reply.{Reply}
@@ -64,7 +64,7 @@ module _ (chain : ChainOf) where
 
   -- from a table a call comes to its key's slot there
   pub at-slot :
-      {call : Call} {rung : Rung} {seat : SeenBy} (i value : ℕ) → value ≡ value_index p rung.g i
+      {call : Call} {rung : Rung} {seat : SeenBy} (i value : ℕ) → value ≡ value_place p rung.g i
       → IsAt chain call seat rung → IsSlotOf p (seen_by p seat) rung.g i (key_of_call call)
       → IsAtSlot chain call seat (record { g = rung.g; i = i; value = value })
   at-slot i value there at is = record {

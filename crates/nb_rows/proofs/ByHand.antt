@@ -55,17 +55,12 @@ module _ {p : Plan} {before after : SeenBy} where
 
   -- a step that was to finish a number was one, whether or not it was finished already
   pub finished-step :
-      (v : ValueState) (n : ℕ) {own : List Event} {now stays found : Type 0}
-      → (v ≡ Primed n → Extended p before after own 1 × now)
-      → (v ≢ Primed n → Extended p before after [] 1 × stays × found)
+      (v : ValueState) (n : ℕ) {own : List Event} {now stays : ℕ → Type 0}
+      → (v ≡ Primed n) ⊎ (v ≡ Finished n)
+      → ((m : ℕ) → v ≡ Primed m → Extended p before after own 1 × now m)
+      → ((m : ℕ) → v ≡ Finished m → Extended p before after [] 1 × stays m)
       → (es : List Event) × Extended p before after es 1
-  finished-step (Primed m) n won lost = elim (eqb_tells m n) [
-    | inl same ↦ (_, (won (ap Primed same.1)).0)
-    | inr other ↦ (_, (lost (λ e. other.1 (cc))).0)
+  finished-step v n held won lost = elim held [
+    | inl is_primed ↦ (_, (won n is_primed).0)
+    | inr is_finished ↦ (_, (lost n is_finished).0)
   ]
-  finished-step Null n won lost = (_, (lost (λ e. cc)).0)
-  finished-step Tombstone n won lost = (_, (lost (λ e. cc)).0)
-  finished-step (Live m) n won lost = (_, (lost (λ e. cc)).0)
-  finished-step PrimedNull n won lost = (_, (lost (λ e. cc)).0)
-  finished-step PrimedTombstone n won lost = (_, (lost (λ e. cc)).0)
-  finished-step (Finished m) n won lost = (_, (lost (λ e. cc)).0)

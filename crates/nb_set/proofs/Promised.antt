@@ -28,6 +28,7 @@ pub added :
     → HasWritten set (Add k) before after (Ok came)
 added k number came is wrote = record {
   answered = replies.added k number came is wrote.answered;
+  on_map = (wrote.answered.0, wrote.answered.2);
   lock_free = wrote.lock_free;
   short = wrote.short;
   own = wrote.own;
@@ -39,6 +40,7 @@ pub refused :
     → HasWritten set (Add k) before after (Err full)
 refused k full wrote = record {
   answered = (logged-as wrote.answered.unmade, wrote.answered.just.1);
+  on_map = wrote.answered.unmade;
   lock_free = wrote.lock_free;
   short = wrote.short;
   own = wrote.own;
@@ -51,6 +53,7 @@ pub removed :
     → HasWritten set (Remove k) before after (Ok went)
 removed k number went is wrote = record {
   answered = replies.removed k number went is wrote.answered;
+  on_map = (wrote.answered.0, wrote.answered.2);
   lock_free = wrote.lock_free;
   short = wrote.short;
   own = wrote.own;

@@ -3,7 +3,9 @@
 use Rattle.std.specs.Prelude.{◌≡◌, ◌<◌, ◌+◌, ℕ, Bool, IfSome, List, [], None, Option, Result, Ok, Err}
 use Rattle.nb_core.specs.History.{key_of_call}
 use Rattle.nb_core.specs.Log.{IsBeginning}
+use Rattle.nb_core.specs.declared.calls.Reply.{Reply}
 use Rattle.nb_core.specs.Tables.{IsComplete, tables_at}
+use Rattle.nb_map.specs.Logs as of_map
 use Rattle.nb_map.specs.Steps.{get_steps}
 use Rattle.nb_map.specs.declared.faults.Full.{Full}
 use Rattle.nb_set.specs.Handles.{HandleWalkOf}
@@ -22,11 +24,21 @@ HasAnswered set call before after (Ok reply) = HasReplied call before after repl
 HasAnswered set call before after (Err full) =
     HasNoRoom set (key_of_call (call_for call)) before after
 
+-- Of the map that the set is kept in, the seat has made the one call that this call of the set is:
+-- `add` is the write that puts number 0 where the key is absent, `remove` the write that removes.
+-- Or the call is refused, and it has made none.
+abbrev pub HasCalledMap : Call → (before after : SeatOf) → Result Bool Full → Type 0
+HasCalledMap call before after (Ok answer) =
+    (reply : Reply) × of_map.HasReplied (call_for call) before.map after.map reply
+HasCalledMap call before after (Err full) = of_map.HasLogged before.map after.map []
+
 -- what `add` and `remove` promise, which try again for as long as it takes
 pub record HasWritten (set : SetOf) (call : Call) (before after : SeatOf)
     (answer : Result Bool Full) : Type 0 where
   -- it is in the log once, with its reply; or it isn't there, and is refused for want of room
   pub answered : HasAnswered set call before after answer
+  -- it is that one call of the map
+  pub on_map : HasCalledMap call before after answer
   -- its steps have a bound that grows only with the exchanges that others win on its key
   pub lock_free : IsLockFree set call before after
   -- at most three steps, or five, where it is alone with its key at home in the table that the seat

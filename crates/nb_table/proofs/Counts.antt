@@ -6,7 +6,7 @@ use Rattle.std.proofs.lemmas.Bool.Decides.{nat_tests}
 use Rattle.std.proofs.lemmas.List.{get_or-set_same}
 use Rattle.std.proofs.lemmas.List.Elements.{All-get_or}
 use Rattle.std.proofs.Math.Pow.{pow_mono}
-use Rattle.nb_core.specs.Plans.{IsPlan, Plan, Header, Top, generations_of, header_index, size_of, word_count}
+use Rattle.nb_core.specs.Plans.{IsPlan, Plan, Header, Top, generations_of, header_place, size_of, word_count}
 use Rattle.nb_core.specs.Tables.{IsComplete, IsInstalled, chunk_of, tables_at, words_of}
 use Rattle.nb_core.specs.History.{IsLegal, counted_by, turned_by}
 use Rattle.nb_core.specs.Laws.{over_seats}
@@ -25,30 +25,30 @@ use Rattle.nb_core.proofs.Theorems.{beginnings_are_legal, counted, lawful_words,
 
 -- the index of a header word is one of the chain's
 pub header-within : (p : Plan) → IsPlan p → (g n index : ℕ) → g < generations_of p → n < 3
-    → index ≡ header_index p g n → index < word_count p
+    → index ≡ header_place p g n → index < word_count p
 header-within p plan g n index table header at =
     subst (λ i. i < word_count p) (sym at)
     ((indices_are_distinct p plan).below (Header g n) (table, header))
 
 -- a chunk may be taken of a table that has a next one
 pub can-take : (p : Plan) (number g : ℕ) (seen : List Event) → g < generations_of p
-    → IsInstalled (tables_at p seen) (suc g) → (index chunk : ℕ) → index ≡ header_index p g 1
+    → IsInstalled (tables_at p seen) (suc g) → (index chunk : ℕ) → index ≡ header_place p g 1
     → chunk ≡ chunk_of p g
     → Can p (take_events number g) number seen index (λ found. (found + chunk) % 2 ^ 64)
 can-take p number g seen table growing index chunk at is =
     subst (λ i. Can p (take_events number g) number seen i (λ found. (found + chunk) % 2 ^ 64))
     (sym at)
-    (subst (λ n. Can p (take_events number g) number seen (header_index p g 1)
+    (subst (λ n. Can p (take_events number g) number seen (header_place p g 1)
     (λ found. (found + n) % 2 ^ 64)) (sym is)
     (λ plan seat others not_own legal.
-    one-follows p (Take number g) number (header_index p g 1) _ (others ++ seen)
+    one-follows p (Take number g) number (header_place p g 1) _ (others ++ seen)
     (legal, (seat, table), (later p number seen plan others legal).installed (suc g) growing, tt)
     refl refl))
 
 -- slots may be counted that the seat's own events turned, and that it hasn't counted
 pub can-count : (p : Plan) (number g c : ℕ) (seen : List Event) → g < generations_of p → 1 ≤ c
     → counted_by seen number g + c ≤ turned_by p seen number g → (index : ℕ)
-    → index ≡ header_index p g 2
+    → index ≡ header_place p g 2
     → Can p (count_events number g c) number seen index (λ found. (found + c) % 2 ^ 64)
 can-count p number g c seen table some turned index at =
     subst (λ i. Can p (count_events number g c) number seen i (λ found. (found + c) % 2 ^ 64))
@@ -58,7 +58,7 @@ can-count p number g c seen table some turned index at =
     let turned' : counted_by (others ++ seen) number g + c ≤ turned_by p (others ++ seen) number g
     = subst (λ n. counted_by (others ++ seen) number g + c ≤ n) (sym (still.turned g))
     (subst (λ n. n + c ≤ turned_by p seen number g) (sym (still.counted g)) turned) in
-    one-follows p (Count number g c) number (header_index p g 2) _ (others ++ seen)
+    one-follows p (Count number g c) number (header_place p g 2) _ (others ++ seen)
     (legal, (seat, table), record { some = some; own = turned' }, tt) refl refl)
 
 -- a table that is known to be complete is: by its slots, or as its count is its size
@@ -150,15 +150,15 @@ module _ (p : Plan) (events : ℕ → List Event) (index found : ℕ) (before af
 module _ (p : Plan) (plan : IsPlan p) where
   -- a header word that was just written
   written : (h : List Event) → IsLegal p h → (g n new : ℕ) → g < generations_of p → n < 3
-      → slice_index (slice_set (words_of p h) (header_index p g n) new) (header_index p g n) ≡ new
+      → slice_index (slice_set (words_of p h) (header_place p g n) new) (header_place p g n) ≡ new
   written h legal g n new table header =
-      get_or-set_same (words_of p h) (header_index p g n) new 0
-      (subst (λ m. header_index p g n < m) (sym (lawful_words p plan h legal).length)
+      get_or-set_same (words_of p h) (header_place p g n) new 0
+      (subst (λ m. header_place p g n < m) (sym (lawful_words p plan h legal).length)
       (header-within p plan g n _ table header refl))
 
   module _ (g index found : ℕ) (before after : SeenBy) (table : g < generations_of p) where
     -- the done word after a count
-    pub counts-sees : (c : ℕ) → index ≡ header_index p g 2
+    pub counts-sees : (c : ℕ) → index ≡ header_place p g 2
         → Stepped p (count_events before.number g c) index before found after
         → (seen_by p after).counted g ≡ found + c
     counts-sees c at step =
@@ -166,7 +166,7 @@ module _ (p : Plan) (plan : IsPlan p) where
         let legal = legal_now p (count_events before.number g c) index found before after step in
         let now = ap (λ t. t.counted g) (seen_now p (count_events before.number g c)
         index found before after step) in
-        let is_found : slice_index (words_of p h) (header_index p g 2) ≡ found
+        let is_found : slice_index (words_of p h) (header_place p g 2) ≡ found
         = ap (slice_index (words_of p h)) (sym at) ∙ step.word in
         let new = counted p plan (Count before.number g c ∷ h) legal g table in
         let share : c ≤ (tables_at p (Count before.number g c ∷ h)).counted g
@@ -175,7 +175,7 @@ module _ (p : Plan) (plan : IsPlan p) where
         (one-of-all (λ s. counted_by (Count before.number g c ∷ h) s g)
         p.seats before.number legal.1.0)) in
         now
-        ∙ written h legal.0 g 2 ((slice_index (words_of p h) (header_index p g 2) + c) % 2 ^ 64)
+        ∙ written h legal.0 g 2 ((slice_index (words_of p h) (header_place p g 2) + c) % 2 ^ 64)
         table (omega arith)
         ∙ ap (λ n. (n + c) % 2 ^ 64) is_found
         ∙ one-sum found c (size_of p g) (subst (λ n. n ≤ size_of p g) is_found
@@ -183,7 +183,7 @@ module _ (p : Plan) (plan : IsPlan p) where
         (le_trans share new.fits) (size-fits p plan g table)
 
 -- what a take tells of the take word before it
-pub taken : (p : Plan) (g index found : ℕ) (before after : SeenBy) → index ≡ header_index p g 1
+pub taken : (p : Plan) (g index found : ℕ) (before after : SeenBy) → index ≡ header_place p g 1
     → Stepped p (take_events before.number g) index before found after
     → (seen_before p after).taken g ≡ found
 taken p g index found before after at step =

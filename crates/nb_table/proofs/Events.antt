@@ -1,6 +1,6 @@
 -- The events of each step but a load, by the word that it finds: a step is one only where it
 -- changes its word.
-use Rattle.std.specs.Prelude.{ℕ, ◌%◌, ◌==◌, nat_le, true, if◌then◌else◌, List, [], ◌∷◌}
+use Rattle.std.specs.Prelude.{ℕ, ◌%◌, ◌==◌, nat_le, Bool, true, false, if◌then◌else◌, List, [], ◌∷◌}
 use Rattle.nb_core.specs.History.{number_in_value}
 use Rattle.nb_core.specs.States.{shown_by_value, value_in_word, value_word}
 use Rattle.nb_core.specs.declared.calls.Call.{Call}
@@ -40,9 +40,14 @@ copy_events number g i k n found = only (found == 0) (CopyIn number g i k n)
 abbrev pub prime_events : (number g i : ℕ) → ℕ → List Event
 prime_events number g i found = only (found % 2 == 0) (Prime number g i)
 
+-- the value is a number that is primed, and not finished
+abbrev pub is_primed_number : ValueState → Bool
+is_primed_number (Primed n) = true
+is_primed_number other = false
+
 -- a number is finished where it is still primed
-abbrev pub finish_events : (number g i n : ℕ) → ℕ → List Event
-finish_events number g i n found = only (found == value_word (Primed n)) (Finish number g i)
+abbrev pub finish_events : (number g i : ℕ) → ℕ → List Event
+finish_events number g i found = only (is_primed_number (value_in_word found)) (Finish number g i)
 
 -- ---- steps on headers
 

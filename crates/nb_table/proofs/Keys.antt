@@ -3,7 +3,7 @@ use Rattle.std.proofs.Common.{◌≡◌, ◌≢◌, ◌∙◌, ℕ, ◌+◌, ◌
 use Rattle.std.proofs.lemmas.Bool.{eq-eqb, eqb-true, ne_eqb}
 use Rattle.std.proofs.lemmas.Bool.Decides.{eqb_tells}
 use Rattle.std.proofs.lemmas.List.{get_or-set_same}
-use Rattle.nb_core.specs.Plans.{Plan, IsPlan, Header, Key, generations_of, header_index, key_index, limit_of, value_index, word_count}
+use Rattle.nb_core.specs.Plans.{Plan, IsPlan, Header, Key, generations_of, header_place, key_place, limit_of, value_place, word_count}
 use Rattle.nb_core.specs.States.{key_state, key_word}
 use Rattle.nb_core.specs.Tables.{AreOthers, HasSlotBelow, IsInstalled, IsReady, IsSlot, Tables, tables_at, words_of}
 use Rattle.nb_core.specs.History.{HasWay, IsLegal, seat_of_event}
@@ -22,7 +22,7 @@ use Rattle.nb_core.proofs.Theorems.{lawful_words, linked, indices_are_distinct}
 
 -- a slot's key word lies right before its value word
 pub before-value :
-    (p : Plan) (g i : ℕ) {value : ℕ} → value ≡ value_index p g i → value - 1 ≡ key_index p g i
+    (p : Plan) (g i : ℕ) {value : ℕ} → value ≡ value_place p g i → value - 1 ≡ key_place p g i
 before-value p g i is = omega (arith, is)
 
 -- ---- what may be exchanged
@@ -58,10 +58,10 @@ module _ (p : Plan) (number g : ℕ) (seen : List Event) where
   -- an empty slot may be closed to keys once there is a next table
   pub can-kill :
       (i : ℕ) → IsSlot p g i → IsInstalled (tables_at p seen) (suc g)
-      → Can p (kill_events number g i) number seen (key_index p g i)
+      → Can p (kill_events number g i) number seen (key_place p g i)
       (λ found. cond (eqb found 0) 1 found)
   can-kill i slot growing plan numbered others not_own legal =
-      exchange-follows p (Kill number g i) number (key_index p g i) 1 (others ++ seen)
+      exchange-follows p (Kill number g i) number (key_place p g i) 1 (others ++ seen)
       legal refl refl (λ zero_found. (
         legal,
         (numbered, slot),
@@ -77,12 +77,12 @@ module _ (p : Plan) (number g : ℕ) (seen : List Event) where
       (i k word : ℕ) → IsSlot p g i → IsInstalled (tables_at p seen) g
       → HasWay p (tables_at p seen) g i k → k ≤ KEY_MAX
       → word ≡ k + 2
-      → Can p (claim_events number g i k) number seen (key_index p g i)
+      → Can p (claim_events number g i k) number seen (key_place p g i)
       (λ found. cond (eqb found 0) word found)
   can-claim i k word slot installed way in_range word_is plan numbered others not_own legal =
       let lasting = later p number seen plan others legal in
-      let words = ap (slice_set (words_of p (others ++ seen)) (key_index p g i)) (sym word_is) in
-      exchange-follows p (Claim number g i k) number (key_index p g i) word (others ++ seen)
+      let words = ap (slice_set (words_of p (others ++ seen)) (key_place p g i)) (sym word_is) in
+      exchange-follows p (Claim number g i k) number (key_place p g i) word (others ++ seen)
       legal refl words (λ zero_found. (
         legal,
         (numbered, slot, in_range),
@@ -108,11 +108,11 @@ module _ (p : Plan) (number g : ℕ) (seen : List Event) where
       (k : ℕ) → suc g < generations_of p → IsReady p (tables_at p seen) g
       → AreOthers p (tables_at p seen) g k (limit_of p g)
       → k ≤ KEY_MAX
-      → Can p (install_events number g k) number seen (header_index p g 0)
+      → Can p (install_events number g k) number seen (header_place p g 0)
       (λ found. cond (eqb found 0) 1 found)
   can-install k room ready crowded in_range plan numbered others not_own legal =
       let lasting = later p number seen plan others legal in
-      exchange-follows p (Install number g k) number (header_index p g 0) 1 (others ++ seen)
+      exchange-follows p (Install number g k) number (header_place p g 0) 1 (others ++ seen)
       legal refl refl (λ zero_found. (
         legal,
         (numbered, omega arith, in_range),
@@ -183,20 +183,20 @@ module _
 -- the same of a key word, by the state that it stood for
 module _
     (p : Plan) (e : Event) (g i at found : ℕ) (before after : SeenBy)
-    (at_index : at ≡ key_index p g i)
+    (at_index : at ≡ key_place p g i)
     (told : Stepped p (λ word. only (eqb word 0) e) at before found after) (state : KeyState) where
   -- an empty slot has the new word's state
   pub key-won :
       (new : ℕ) → IsPlan p → IsSlot p g i
-      → ((h : List Event) → words_of p (e ∷ h) ≡ slice_set (words_of p h) (key_index p g i) new)
+      → ((h : List Event) → words_of p (e ∷ h) ≡ slice_set (words_of p h) (key_place p g i) new)
       → key_word state ≡ found → state ≡ Empty
       → Extended p before after (e ∷ []) 1 × ((seen_by p after).key g i ≡ key_state new)
   key-won new plan slot words back empty =
       let zero_found = sym back ∙ ap key_word empty in
       let within = (indices_are_distinct p plan).below (Key g i) slot in (
-        exchange-won p e (key_index p g i) at found before after at_index told zero_found,
+        exchange-won p e (key_place p g i) at found before after at_index told zero_found,
         ap key_state
-            (word-won p e (key_index p g i) at found before after at_index told new plan within
+            (word-won p e (key_place p g i) at found before after at_index told new plan within
             words
             zero_found),
       )
@@ -206,19 +206,19 @@ module _
       × ((seen_by p after).key g i ≡ state)
   key-lost decoded differs =
       let some_found : found ≢ 0 = λ zero_found. differs (decoded ∙ ap key_state zero_found) in (
-        exchange-lost p e (key_index p g i) at found before after at_index told some_found,
-        ap key_state (word-lost p e (key_index p g i)
+        exchange-lost p e (key_place p g i) at found before after at_index told some_found,
+        ap key_state (word-lost p e (key_place p g i)
             at found before after at_index told some_found) ∙ sym decoded,
       )
 
 -- after the exchange of a next word the next table is there, whoever installed it
 pub exchange-installs :
-    (p : Plan) (number g k at found : ℕ) (before after : SeenBy) → at ≡ header_index p g 0
+    (p : Plan) (number g k at found : ℕ) (before after : SeenBy) → at ≡ header_place p g 0
     → Stepped p (install_events number g k) at before found after → IsPlan p
     → g < generations_of p → IsInstalled (seen_by p after) (suc g)
 exchange-installs p number g k at found before after at_index told plan within =
     let e = Install number g k in
-    let index = header_index p g 0 in
+    let index = header_place p g 0 in
     let below = (indices_are_distinct p plan).below (Header g 0) (within, omega arith) in
     elim (eqb_tells found 0) [
       | inl zero_found ↦ word-won p e index at found before after at_index told 1 plan below

@@ -8,7 +8,7 @@ use Rattle.std.proofs.lemmas.List.{set-get_or}
 use Rattle.std.proofs.lemmas.Option.{IfSome_then}
 use Rattle.nb_core.specs.Calls.{leaves_alone}
 use Rattle.nb_core.specs.Log.{reply_at}
-use Rattle.nb_core.specs.Plans.{Plan, IsPlan, generations_of, header_index, key_index, size_of, value_index}
+use Rattle.nb_core.specs.Plans.{Plan, IsPlan, generations_of, header_place, key_place, size_of, value_place}
 use Rattle.nb_core.specs.States.{key_state, shown_by_value, value_in_word}
 use Rattle.nb_core.specs.Tables.{AreOthers, IsOnPath, IsSlot, IsUnprimed, Tables, path_slot, tables_at, tables_of, words_of}
 use Rattle.nb_core.specs.History.{IsCallInRange, IsLegal, number_in_value, key_of_call, map_of}
@@ -203,9 +203,9 @@ module _
       → IfSome call (λ c. IsReached p (tables_at p seen) g (key_of_call c))
       → IfSome call (λ c. IsOnPath p (tables_at p seen) g i (key_of_call c))
       → Can p (λ found. reads number call (shown_by_key p g i (key_state found))) number seen
-      (key_index p g i) (λ found. found)
+      (key_place p g i) (λ found. found)
   can-load_key i call slot ranges reached on_path =
-      can-read call (key_index p g i) (λ found. shown_by_key p g i (key_state found)) ranges reached
+      can-read call (key_place p g i) (λ found. shown_by_key p g i (key_state found)) ranges reached
       (IfSome_then call on_path (λ c path others legal lasting n is.
       key-shows p (tables_at p (others ++ seen)) g i (key_of_call c) _ n
       (record {
@@ -222,9 +222,9 @@ module _
       → IfSome call (λ c. (tables_at p seen).key g i ≡ Claimed (key_of_call c))
       → Can p (λ found. reads number call
       (λ k. shown_by_value (value_in_word found))) number seen
-      (value_index p g i) (λ found. found)
+      (value_place p g i) (λ found. found)
   can-load_value i call slot ranges reached claimed =
-      can-read call (value_index p g i) (λ found k. shown_by_value (value_in_word found)) ranges reached
+      can-read call (value_place p g i) (λ found k. shown_by_value (value_in_word found)) ranges reached
       (IfSome_then call claimed (λ c is_claimed others legal lasting n is.
       value-shows p (tables_at p (others ++ seen)) g i (key_of_call c) _ n slot
       (lasting.claimed g i (key_of_call c) slot is_claimed) refl is))
@@ -235,9 +235,9 @@ module _
       → IfSome call (λ c. IsReached p (tables_at p seen) g (key_of_call c))
       → IfSome call (λ c. AreOthers p (tables_at p seen) g (key_of_call c) (size_of p g))
       → Can p (λ found. reads number call (λ k. shown_by_next (eqb found 1))) number seen
-      (header_index p g 0) (λ found. found)
+      (header_place p g 0) (λ found. found)
   can-load_next call plan ranges reached crowded =
-      can-read call (header_index p g 0) (λ found k. shown_by_next (eqb found 1)) ranges reached
+      can-read call (header_place p g 0) (λ found k. shown_by_next (eqb found 1)) ranges reached
       (IfSome_then call crowded (λ c others_there others legal lasting n is.
       NoNext (lasting.others g (key_of_call c) (size_of p g) within others_there)
       (no-next _ n is ((linked p plan (others ++ seen) legal).next g)) (no-number _ n is)))

@@ -3,7 +3,7 @@ use Rattle.std.proofs.Common.{◌≡◌, ◌∙◌, ℕ, zero, suc, ◌%◌, ◌
 use Rattle.std.proofs.lemmas.Bool.{eq-eqb, eqb-true, eqb-false, ne_eqb}
 use Rattle.std.proofs.lemmas.List.{get_or-set_same}
 use Rattle.std.specs.Option.{unwrap_or}
-use Rattle.nb_core.specs.Plans.{Plan, IsPlan, Value, generations_of, value_index, word_count}
+use Rattle.nb_core.specs.Plans.{Plan, IsPlan, Value, generations_of, value_place, word_count}
 use Rattle.nb_core.specs.States.{IsKeyState, IsValueState, IsValueWord, primed, value_in_word, value_state, value_word}
 use Rattle.nb_core.specs.Tables.{IsInstalled, IsSlot, IsUnprimed, Tables, tables_at, words_of, IsPrimedOrFinished}
 use Rattle.nb_core.specs.History.{HasValue, IsLegal, IsPrimedBelow, MayPrime}
@@ -16,7 +16,7 @@ use Rattle.nb_core.specs.declared.states.ValueState.TheVariants.{Null, Tombstone
 use Rattle.nb_table.specs.Chains.{Extended, SeenBy, seen_before, seen_by}
 use Rattle.nb_table.specs.Conditions.{HasSource, IsCopied}
 use Rattle.nb_table.specs.Events.{only}
-use Rattle.nb_table.proofs.Events.{copy_events, finish_events, prime_events}
+use Rattle.nb_table.proofs.Events.{copy_events, finish_events, is_primed_number, prime_events}
 use Rattle.nb_table.specs.Steps.{Can, Stepped}
 use Rattle.nb_table.proofs.Following.{if-follows, none-follows, one-follows}
 use Rattle.nb_core.proofs.Theorems.{beginnings_are_legal, codings, lawful_words, linked, moved, one_slot, indices_are_distinct, seen_lasts}
@@ -82,25 +82,25 @@ module _ where
       codings.word_of_state x v (word.decodes
       ∙ ap Some (sym (ap (λ o. unwrap_or o Null) word.decodes) ∙ value))
 
-  -- a number that is seen primed or finished, in the word of a primed one, is primed
-  held-primed : (x n : ℕ) → Holds x n → IsValueWord x → x ≡ value_word (Primed n)
+  -- a number that is seen primed or finished, in a word of a primed one, is primed
+  held-primed : (x n : ℕ) → Holds x n → is_primed_number (value_in_word x) ≡ true
       → value_in_word x ≡ Primed n
-  held-primed x n held word is =
+  held-primed x n held is =
       elim held [
         | inl is_primed ↦ is_primed
-        | inr is_finished ↦ absurd (omega (
-          arith,
-          (word-seen x (Finished n) is_finished word).0,
-          is,
-        ))
+        | inr is_finished ↦
+            let e : false ≡ true = sym (ap is_primed_number is_finished) ∙ is in
+            absurd (cc)
       ]
 
   -- and in another word it is finished: to set the bit for that changes nothing
-  finished-kept : (x n : ℕ) → Holds x n → IsValueWord x → (x ≡ value_word (Primed n) → ⊥)
-      → bit_or x 2 ≡ x
+  finished-kept : (x n : ℕ) → Holds x n → IsValueWord x
+      → is_primed_number (value_in_word x) ≡ false → bit_or x 2 ≡ x
   finished-kept x n held word other =
       elim held [
-        | inl is_primed ↦ absurd (other (word-seen x (Primed n) is_primed word).0)
+        | inl is_primed ↦
+            let e : true ≡ false = sym (ap is_primed_number is_primed) ∙ other in
+            absurd (cc)
         | inr is_finished ↦
             let is = (word-seen x (Finished n) is_finished word).0 in
             ap (λ y. bit_or y 2) is ∙ codings.finish_again n ∙ sym is
@@ -168,10 +168,10 @@ module _ where
   pub can-prime :
       (p : Plan) → (number : ℕ) (seen : List Event) (g i : ℕ) → IsSlot p g i
       → IsInstalled (tables_at p seen) (suc g) → (k : ℕ) × ((tables_at p seen).key g i ≡ Claimed k)
-      → Can p (prime_events number g i) number seen (value_index p g i) (λ found. bit_or found 1)
+      → Can p (prime_events number g i) number seen (value_place p g i) (λ found. bit_or found 1)
   can-prime p number seen g i slot growing claimed plan seated others not_own legal =
       let h = others ++ seen in
-      let index = value_index p g i in
+      let index = value_place p g i in
       let found = slice_index (words_of p h) index in
       let still = seen_lasts p plan others seen legal in
       let word = (lawful_words p plan h legal).values g i slot in
@@ -190,35 +190,36 @@ module _ where
   -- A number that is seen primed or finished may be finished, once its key has a value in the next
   -- table.
   pub can-finish :
-      (p : Plan) → (number : ℕ) (seen : List Event) (g i n : ℕ) → IsSlot p g i
-      → IsCopied p (tables_at p seen) g i n
-      → Can p (finish_events number g i n) number seen (value_index p g i) (λ found. bit_or found 2)
-  can-finish p number seen g i n slot copied plan seated others not_own legal =
+      (p : Plan) → (number : ℕ) (seen : List Event) (g i : ℕ) → IsSlot p g i
+      → IsCopied p (tables_at p seen) g i
+      → Can p (finish_events number g i) number seen (value_place p g i) (λ found. bit_or found 2)
+  can-finish p number seen g i slot copied plan seated others not_own legal =
+      let n = copied.number in
       let h = others ++ seen in
       let t = tables_at p h in
-      let index = value_index p g i in
+      let index = value_place p g i in
       let found = slice_index (words_of p h) index in
       let still = seen_lasts p plan others seen legal in
       let link = linked p plan h legal in
       let word = (lawful_words p plan h legal).values g i slot in
       let held = still.primed_or_finished g i n slot copied.held in
       let above = link.within (suc g) (held-below p t g i n slot held (link.primed g i slot)) in
-      if-follows p (eqb found (value_word (Primed n))) (Finish number g i) number index
+      if-follows p (is_primed_number (value_in_word found)) (Finish number g i) number index
       (bit_or found 2) h
-      (λ same. one-follows p (Finish number g i) number index (bit_or found 2) h (
+      (λ is. one-follows p (Finish number g i) number index (bit_or found 2) h (
         legal,
         (seated, slot),
         record {
           key = copied.key;
           number = n;
           claimed = still.claimed g i copied.key slot copied.claimed;
-          primed = held-primed found n held word (eqb-true found (value_word (Primed n)) same);
+          primed = held-primed found n held is;
           copied = still.has_value (suc g) copied.key above copied.copied;
         },
         tt,
       ) refl refl)
       (λ other. none-follows p number index (bit_or found 2) h legal
-      (finished-kept found n held word (eqb-false found (value_word (Primed n)) other)))
+      (finished-kept found n held word other))
 
   -- A number that is seen primed or finished below may be copied to its key's slot, where the value
   -- is null.
@@ -226,12 +227,12 @@ module _ where
       (p : Plan) → (number : ℕ) (seen : List Event) (g i k n word : ℕ)
       → IsSlot p g i → value_state word ≡ Some (Live n) → (tables_at p seen).key g i ≡ Claimed k
       → HasSource p (tables_at p seen) g k n
-      → Can p (copy_events number g i k n) number seen (value_index p g i)
+      → Can p (copy_events number g i k n) number seen (value_place p g i)
       (λ found. cond (eqb found 0) word found)
   can-copy p number seen g i k n word slot says claimed source plan seated others not_own legal =
       let h = others ++ seen in
       let t = tables_at p h in
-      let index = value_index p g i in
+      let index = value_place p g i in
       let found = slice_index (words_of p h) index in
       let new = cond (eqb found 0) word found in
       let word_is = codings.word_of_state word (Live n) says in
@@ -264,14 +265,14 @@ module _ where
 
 -- the word of a slot's value is among the chain's
 pub value-within :
-    (p : Plan) → IsPlan p → (g i : ℕ) → IsSlot p g i → value_index p g i < word_count p
+    (p : Plan) → IsPlan p → (g i : ℕ) → IsSlot p g i → value_place p g i < word_count p
 value-within p plan g i slot = (indices_are_distinct p plan).below (Value g i) slot
 
 -- A step on a slot's value word that found this word.
 module _
     (p : Plan) (plan : IsPlan p) (events : ℕ → List Event)
     (before : SeenBy) (found : ℕ) (after : SeenBy) (g i : ℕ) (slot : IsSlot p g i)
-    (step : Stepped p events (value_index p g i) before found after) where
+    (step : Stepped p events (value_place p g i) before found after) where
   -- the history that it found is legal
   met-legal : IsLegal p (step.grows.others ++ before.seen)
   met-legal = beginnings_are_legal p (events found) (step.grows.others ++ before.seen)
@@ -286,12 +287,12 @@ module _
 module _
     (p : Plan) (plan : IsPlan p) (test : ℕ → Bool) (e : Event)
     (before : SeenBy) (found : ℕ) (after : SeenBy) (g i : ℕ) (slot : IsSlot p g i)
-    (step : Stepped p (λ x. only (test x) e) (value_index p g i) before found after) where
+    (step : Stepped p (λ x. only (test x) e) (value_place p g i) before found after) where
   -- what is seen of the value after the events that make this word
   then-value :
       (changed : Bool) → test found ≡ changed → (new : ℕ) (v : ValueState)
       → slice_index (words_of p (only changed e ++ (step.grows.others ++ before.seen)))
-      (value_index p g i) ≡ new
+      (value_place p g i) ≡ new
       → value_state new ≡ Some v → Extended p before after (only changed e) 1
       × ((seen_by p after).value g i ≡ v)
   then-value changed is new v word says = (
@@ -319,13 +320,13 @@ module _
   -- and the event made a word of the one found
   pub value-made :
       test found ≡ true → (f : ℕ → ℕ) (v : ValueState)
-      → let h = step.grows.others ++ before.seen in let index = value_index p g i in
+      → let h = step.grows.others ++ before.seen in let index = value_place p g i in
       words_of p (e ∷ h) ≡ slice_set (words_of p h) index (f (slice_index (words_of p h) index))
       → value_state (f found) ≡ Some v → Extended p before after (e ∷ []) 1
       × ((seen_by p after).value g i ≡ v)
   value-made holds f v words says =
       let h = step.grows.others ++ before.seen in
-      let index = value_index p g i in
+      let index = value_place p g i in
       let new = f (slice_index (words_of p h) index) in
       let legal = met-legal p plan (λ x. only (test x) e) before found after g i slot step in
       let within : index < length (words_of p h) =
@@ -339,7 +340,7 @@ module _
 module _
     (p : Plan) (plan : IsPlan p) (before : SeenBy)
     (found : ℕ) (after : SeenBy) (g i : ℕ) (slot : IsSlot p g i)
-    (step : Stepped p (prime_events before.number g i) (value_index p g i) before found after)
+    (step : Stepped p (prime_events before.number g i) (value_place p g i) before found after)
     (v : ValueState)
     (says : value_state found ≡ Some v) where
   pub prime-won :
@@ -362,41 +363,34 @@ module _
       before found after g i slot step
       (ne_eqb (found % 2) 0 (λ even. is_primed ((evens found v says).1 even))) v says
 
--- a finished or primed number that isn't primed is finished
-then-finished :
-    (v : ValueState) (n : ℕ) → (v ≡ Primed n) ⊎ (v ≡ Finished n) → (v ≡ Primed n → ⊥)
-    → v ≡ Finished n
-then-finished v n held other =
-    elim held [
-      | inl is_primed ↦ absurd (other is_primed)
-      | inr is_finished ↦ is_finished
-    ]
-
 -- What finishing a number tells.
 module _
     (p : Plan) (plan : IsPlan p) (before : SeenBy)
-    (found : ℕ) (after : SeenBy) (g i n : ℕ) (slot : IsSlot p g i)
-    (step : Stepped p (finish_events before.number g i n) (value_index p g i) before found after)
+    (found : ℕ) (after : SeenBy) (g i : ℕ) (slot : IsSlot p g i)
+    (step : Stepped p (finish_events before.number g i) (value_place p g i) before found after)
     (v : ValueState)
     (says : value_state found ≡ Some v) where
+  -- the test of the word that was found is one of the value
+  tested : is_primed_number (value_in_word found) ≡ is_primed_number v
+  tested = ap (λ o. is_primed_number (unwrap_or o Null)) says
+
   pub finish-won :
-      v ≡ Primed n
+      (n : ℕ) → v ≡ Primed n
       → Extended p before after (Finish before.number g i ∷ []) 1
       × ((seen_by p after).value g i ≡ Finished n)
-  finish-won is =
-      let says_primed = says ∙ ap Some is in
-      let word = (codings.word_of_state found (Primed n) says_primed).0 in
-      value-made p plan (λ x. eqb x (value_word (Primed n))) (Finish before.number g i)
+  finish-won n is =
+      value-made p plan (λ x. is_primed_number (value_in_word x)) (Finish before.number g i)
       before found after g i
-      slot step (eq-eqb found (value_word (Primed n)) word) (λ x. bit_or x 2) (Finished n) refl
-      (finished-says found n says_primed)
+      slot step (tested ∙ ap is_primed_number is) (λ x. bit_or x 2) (Finished n) refl
+      (finished-says found n (says ∙ ap Some is))
 
   -- the number is still primed or finished
-  still-held : IsPrimedOrFinished (tables_at p before.seen) g i n → (v ≡ Primed n)
+  pub finish-held :
+      (n : ℕ) → IsPrimedOrFinished (tables_at p before.seen) g i n → (v ≡ Primed n)
       ⊎ (v ≡ Finished n)
-  still-held held =
+  finish-held n held =
       let h = step.grows.others ++ before.seen in
-      let legal = met-legal p plan (finish_events before.number g i n)
+      let legal = met-legal p plan (finish_events before.number g i)
       before found after g i slot step in
       let value : (tables_at p h).value g i ≡ v = ap value_in_word step.word
       ∙ ap (λ o. unwrap_or o Null) says in
@@ -404,22 +398,19 @@ module _
       ((seen_lasts p plan step.grows.others before.seen legal).primed_or_finished g i n slot held)
 
   pub finish-lost :
-      IsPrimedOrFinished (tables_at p before.seen) g i n → (v ≡ Primed n → ⊥)
-      → Extended p before after [] 1 × ((seen_by p after).value g i ≡ v) × (v ≡ Finished n)
-  finish-lost held other =
-      let is = then-finished v n (still-held held) other in
-      let word = (codings.word_of_state found v says).0 ∙ ap value_word is in
-      let kept = value-kept p plan (λ x. eqb x (value_word (Primed n))) (Finish before.number g i)
-      before found
-      after g i slot step (ne_eqb found (value_word (Primed n)) (λ same. omega (arith, same, word)))
-      v says in
-      (kept.0, kept.1, is)
+      (n : ℕ) → v ≡ Finished n
+      → Extended p before after [] 1 × ((seen_by p after).value g i ≡ Finished n)
+  finish-lost n is =
+      let kept = value-kept p plan (λ x. is_primed_number (value_in_word x))
+      (Finish before.number g i) before found after g i slot step
+      (tested ∙ ap is_primed_number is) v says in
+      (kept.0, kept.1 ∙ is)
 
 -- What copying a number tells.
 module _
     (p : Plan) (plan : IsPlan p) (before : SeenBy) (found : ℕ)
     (after : SeenBy) (g i k n : ℕ) (slot : IsSlot p g i)
-    (step : Stepped p (copy_events before.number g i k n) (value_index p g i) before found after)
+    (step : Stepped p (copy_events before.number g i k n) (value_place p g i) before found after)
     (v : ValueState)
     (says : value_state found ≡ Some v) where
   pub copy-won :

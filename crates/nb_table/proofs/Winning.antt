@@ -2,7 +2,7 @@
 use Rattle.std.proofs.Common.{◌≡◌, ◌≢◌, ◌∙◌, ℕ, zero, suc, ◌<◌, Bool, true, false, cond, eqb, List, [], ◌∷◌, ◌++◌, slice_index, Some, ap, sym, subst, refl, arith}
 use Rattle.std.proofs.lemmas.Bool.{eq-eqb, eqb-true, ne_eqb}
 use Rattle.std.specs.Option.{unwrap_or}
-use Rattle.nb_core.specs.Plans.{Plan, IsPlan, generations_of, value_index}
+use Rattle.nb_core.specs.Plans.{Plan, IsPlan, generations_of, value_place}
 use Rattle.nb_core.specs.States.{IsValueState, shown_by_value, value_in_word, value_state, value_word}
 use Rattle.nb_core.specs.Tables.{IsSettledBelow, IsSlot, IsUnprimed, tables_at, words_of}
 use Rattle.nb_core.specs.History.{IsCallInRange, IsExchange, IsLegal, MayWin, number_in_value, key_of_call}
@@ -64,13 +64,13 @@ pub can-win :
     → (tables_at p seen).key g i ≡ Claimed (key_of_call call) → IsUnprimed from
     → IsReached p (tables_at p seen) g (key_of_call call)
     → IsExchange call (key_of_call call) from to
-    → Can p (win_events number g i from to call) number seen (value_index p g i)
+    → Can p (win_events number g i from to call) number seen (value_place p g i)
     (λ found. cond (eqb found (value_word from)) (value_word to) found)
 can-win p number seen g i from to call slot from_in to_in ranges claimed unprimed
     reached exchange plan seated others not_own legal =
     let h = others ++ seen in
     let k = key_of_call call in
-    let index = value_index p g i in
+    let index = value_place p g i in
     let found = slice_index (words_of p h) index in
     let still = seen_lasts p plan others seen legal in
     let come = reached-lasts p (tables_at p seen) (tables_at p h) g k slot.0 still reached in
@@ -118,7 +118,7 @@ module _
     (p : Plan) (plan : IsPlan p) (before : SeenBy)
     (found : ℕ) (after : SeenBy) (g i : ℕ) (from to : ValueState) (call : Call)
     (slot : IsSlot p g i)
-    (step : Stepped p (win_events before.number g i from to call) (value_index p g i)
+    (step : Stepped p (win_events before.number g i from to call) (value_place p g i)
     before found after) where
   pub win-won :
       IsValueState to → found ≡ value_word from
@@ -130,7 +130,7 @@ module _
       value-made p plan (λ x. eqb x (value_word from)) e before found after g i slot
       (as-found p (win_events before.number g i from to call)
       (λ x. cond (eqb x (value_word from)) (e ∷ []) [])
-      (value_index p g i) before found after
+      (value_place p g i) before found after
       (ap (λ b. cond b (e ∷ []) (read before.number call (shown_by_value (value_in_word found))))
       test ∙ sym (ap (λ b. cond b (e ∷ []) []) test)) step)
       test (λ x. value_word to) to refl (codings.state_of_word to to_in)
@@ -143,10 +143,10 @@ module _
       let shown = λ (word k : ℕ). shown_by_value (value_in_word word) in
       let e = win before.number g i from to call in
       let load = as-found p (win_events before.number g i from to call)
-      (λ word. reads before.number (Some call) (shown word)) (value_index p g i) before found after
+      (λ word. reads before.number (Some call) (shown word)) (value_place p g i) before found after
       (ap (λ b. cond b (e ∷ []) (read before.number call (shown_by_value (value_in_word found))))
       (ne_eqb found (value_word from) other)) step in (
         load.grows,
-        ap (λ t. t.value g i) (load-sees p before.number (Some call) shown (value_index p g i)
+        ap (λ t. t.value g i) (load-sees p before.number (Some call) shown (value_place p g i)
             found before after load) ∙ ap value_in_word load.word,
       )

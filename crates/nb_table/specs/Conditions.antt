@@ -12,12 +12,13 @@ HasSource p t zero k n = ⊥
 HasSource p t (suc g) k n =
     (i : ℕ) × (i < size_of p g) × (t.key g i ≡ Claimed k) × IsPrimedOrFinished t g i n
 
--- the slot holds this number, primed or finished, and in the next table its key has a slot whose
--- value isn't null
-pub record IsCopied (p : Plan) (t : Tables) (g i n : ℕ) : Type 0 where
+-- the slot holds a number, primed or finished, and in the next table its key has a slot whose value
+-- isn't null
+pub record IsCopied (p : Plan) (t : Tables) (g i : ℕ) : Type 0 where
   pub key : ℕ
+  pub number : ℕ
   pub claimed : t.key g i ≡ Claimed key
-  pub held : IsPrimedOrFinished t g i n
+  pub held : IsPrimedOrFinished t g i number
   pub copied : HasValue p t (suc g) key
 
 -- A search for the key may have come to this table: it is there, and in each table below it the key

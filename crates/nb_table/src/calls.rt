@@ -81,7 +81,8 @@ impl Chain {
         }
     }
 
-    /// The same at slot `i` of table `g`. `call` is for proofs alone.
+    /// The same at slot `i` of table `g`. Answers what the value was: `from` where this step won.
+    /// `call` is for proofs alone.
     #[inline]
     pub fn win_value(
         &self,
@@ -89,9 +90,9 @@ impl Chain {
         g: u32,
         i: usize,
         call: Call,
-        from: ValueWord,
+        from: ValueState,
         to: ValueState,
-    ) -> Result<(), ValueWord>
+    ) -> ValueState
         requires own { IsOwn self.now seat.old }
         requires slot { IsSlot self.now.shape g i }
         requires reached { IsReached self.now.shape (seen_by self.now.shape seat.old) g
@@ -100,16 +101,19 @@ impl Chain {
             ≡ key_is.Claimed (key_of_call call) }
         requires unprimed { IsUnprimed from }
         requires exchange { IsExchange call (key_of_call call) from to }
-        ensures won { OnOk result (Extended self.now.shape seat.old seat.new
+        ensures won { result ≡ from → Extended self.now.shape seat.old seat.new
             (event.Won seat.old.number g i from to call
             (record { before = number_in_value from; matched = true }) ∷ []) 1
-            × ((seen_by self.now.shape seat.new).value g i ≡ to)) }
-        ensures lost { IfErr result (λ found. (found ≢ from)
-            × Extended self.now.shape seat.old seat.new
-            (read seat.old.number call (shown_by_value found)) 1
-            × ((seen_by self.now.shape seat.new).value g i ≡ found)) }
+            × ((seen_by self.now.shape seat.new).value g i ≡ to) }
+        ensures lost { result ≢ from → Extended self.now.shape seat.old seat.new
+            (read seat.old.number call (shown_by_value result)) 1
+            × ((seen_by self.now.shape seat.new).value g i ≡ result) }
     {
-        let value = self.shape.value_index(g, i);
-        self.win_value_at(seat, Slot { g, i, value }, call, from, to)
+        let value = self.shape.value_place(g, i);
+        let from = ValueWord::of(from);
+        match self.win_value_at(seat, Slot { g, i, value }, call, from, to) {
+            Ok(()) => from.state(),
+            Err(found) => found.state(),
+        }
     }
 }

@@ -48,7 +48,7 @@ impl Chain {
         ensures lost { result ≢ key_is.Empty → Extended self.now.shape seat.old seat.new [] 1
             × ((seen_by self.now.shape seat.new).key g i ≡ result) }
     {
-        let value = self.shape.value_index(g, i);
+        let value = self.shape.value_place(g, i);
         self.claim_key_at(seat, Slot { g, i, value }, key)
     }
 
@@ -64,7 +64,7 @@ impl Chain {
         ensures lost { result ≢ key_is.Empty → Extended self.now.shape seat.old seat.new [] 1
             × ((seen_by self.now.shape seat.new).key g i ≡ result) }
     {
-        let index = self.shape.key_index(g, i);
+        let index = self.shape.key_place(g, i);
         let for_proof = ForProof { g, i, ..NOTHING };
         let found = self.exchanges::<Brand>(seat, index, EMPTY_KEY, DEAD_KEY, for_proof);
         KeyWord::new(found).state()

@@ -157,21 +157,21 @@ impl Closed {
         requires { g < generations_of self.now.shape }
         ensures { result ≡ is_installed (tables_left self.now) g }
     {
-        g == 0 || self.word(self.shape.header_index(g - 1, HeaderWord::Next)) == INSTALLED
+        g == 0 || self.word(self.shape.header_word_place(g - 1, HeaderWord::Next)) == INSTALLED
     }
 
     fn key_at(&self, g: u32, i: usize) -> KeyState
         requires { IsSlot self.now.shape g i }
         ensures { result ≡ (tables_left self.now).key g i }
     {
-        KeyWord::new(self.word(self.shape.key_index(g, i))).state()
+        KeyWord::new(self.word(self.shape.key_place(g, i))).state()
     }
 
     fn value_at(&self, g: u32, i: usize) -> ValueState
         requires { IsSlot self.now.shape g i }
         ensures { result ≡ (tables_left self.now).value g i }
     {
-        ValueWord::lawful(self.word(self.shape.value_index(g, i))).state()
+        ValueWord::lawful(self.word(self.shape.value_place(g, i))).state()
     }
 
     fn word(&self, index: usize) -> u64

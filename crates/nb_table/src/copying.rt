@@ -1,6 +1,6 @@
 //! The steps that copy the slots of a table.
-ghost use Rattle.std.specs.Prelude.{◌≡◌, ◌≢◌, ℕ, suc, [], ◌∷◌};
-ghost use Rattle.nb_core.specs.Tables.{IsInstalled, IsSlot, IsUnprimed};
+ghost use Rattle.std.specs.Prelude.{◌≡◌, ◌≢◌, ◌⊎◌, ℕ, suc, [], ◌∷◌};
+ghost use Rattle.nb_core.specs.Tables.{IsInstalled, IsPrimedOrFinished, IsSlot, IsUnprimed};
 ghost use Rattle.nb_core.specs.States.{primed};
 ghost use Rattle.nb_core.specs.declared.events.Event.TheVariants as event;
 ghost use Rattle.nb_core.specs.declared.states.KeyState.TheVariants as key_is;
@@ -28,7 +28,7 @@ impl Chain {
         ensures lost { (IsUnprimed result → ⊥) → Extended self.now.shape seat.old seat.new [] 1
             × ((seen_by self.now.shape seat.new).value g i ≡ result) }
     {
-        let index = self.shape.value_index(g, i);
+        let index = self.shape.value_place(g, i);
         let for_proof = ForProof { g, i, ..NOTHING };
         ValueWord::lawful(self.ors::<Brand>(seat, index, PRIMED_BIT, for_proof)).state()
     }
@@ -55,7 +55,7 @@ impl Chain {
         ensures lost { result ≢ value_is.Null → Extended self.now.shape seat.old seat.new [] 1
             × ((seen_by self.now.shape seat.new).value g i ≡ result) }
     {
-        let index = self.shape.value_index(g, i);
+        let index = self.shape.value_place(g, i);
         let word = ValueWord::of(ValueState::Live(number)).get();
         let for_proof = ForProof {
             g,
@@ -70,26 +70,21 @@ impl Chain {
 
     /// Marks the primed number in slot `i` of table `g` as copied, by one fetch-or of 2 on its
     /// value word, and answers what the value was: that number, primed, or finished already.
-    /// `number` is for proofs alone: the step doesn't read it.
-    pub fn finish_slot(&self, seat: &mut ChainSeat, g: u32, i: usize, number: Num) -> ValueState
+    pub fn finish_slot(&self, seat: &mut ChainSeat, g: u32, i: usize) -> ValueState
         requires own { IsOwn self.now seat.old }
         requires slot { IsSlot self.now.shape g i }
-        requires copied { IsCopied self.now.shape (seen_by self.now.shape seat.old) g i number }
-        ensures won { result ≡ value_is.Primed number
+        requires copied { IsCopied self.now.shape (seen_by self.now.shape seat.old) g i }
+        ensures held { (n : ℕ) → IsPrimedOrFinished (seen_by self.now.shape seat.old) g i n
+            → (result ≡ value_is.Primed n) ⊎ (result ≡ value_is.Finished n) }
+        ensures won { (n : ℕ) → result ≡ value_is.Primed n
             → Extended self.now.shape seat.old seat.new (event.Finish seat.old.number g i ∷ []) 1
-            × ((seen_by self.now.shape seat.new).value g i ≡ value_is.Finished number) }
-        ensures lost { result ≢ value_is.Primed number
+            × ((seen_by self.now.shape seat.new).value g i ≡ value_is.Finished n) }
+        ensures lost { (n : ℕ) → result ≡ value_is.Finished n
             → Extended self.now.shape seat.old seat.new [] 1
-            × ((seen_by self.now.shape seat.new).value g i ≡ result)
-            × (result ≡ value_is.Finished number) }
+            × ((seen_by self.now.shape seat.new).value g i ≡ value_is.Finished n) }
     {
-        let index = self.shape.value_index(g, i);
-        let for_proof = ForProof {
-            g,
-            i,
-            number: Some(number),
-            ..NOTHING
-        };
+        let index = self.shape.value_place(g, i);
+        let for_proof = ForProof { g, i, ..NOTHING };
         ValueWord::lawful(self.ors::<Brand>(seat, index, FINISHED_BIT, for_proof)).state()
     }
 }

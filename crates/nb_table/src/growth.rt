@@ -22,7 +22,7 @@ impl Chain {
             (event.Take seat.old.number g ∷ []) 1 }
         ensures found { (seen_before self.now.shape seat.new).taken g ≡ result }
     {
-        let index = self.shape.header_index(g, HeaderWord::Take);
+        let index = self.shape.header_word_place(g, HeaderWord::Take);
         let chunk = self.shape.chunk_of(g) as u64;
         let for_proof = ForProof { g, ..NOTHING };
         self.adds::<Brand>(seat, index, chunk, for_proof)
@@ -40,7 +40,7 @@ impl Chain {
             (event.Count seat.old.number g slots ∷ []) 1 }
         ensures found { (seen_by self.now.shape seat.new).counted g ≡ result + slots }
     {
-        let index = self.shape.header_index(g, HeaderWord::Done);
+        let index = self.shape.header_word_place(g, HeaderWord::Done);
         let for_proof = ForProof { g, ..NOTHING };
         self.adds::<Brand>(seat, index, slots, for_proof)
     }
@@ -82,7 +82,7 @@ impl Chain {
         ensures installed { IsInstalled (seen_by self.now.shape seat.new) (suc g) }
     {
         key.known();
-        let index = self.shape.header_index(g, HeaderWord::Next);
+        let index = self.shape.header_word_place(g, HeaderWord::Next);
         let for_proof = ForProof {
             g,
             key: Some(key),

@@ -72,7 +72,7 @@ impl Chain {
             (reads seat.old.number call (shown_by_key self.now.shape g i result)) 1 }
         ensures found { (seen_by self.now.shape seat.new).key g i ≡ result }
     {
-        let value = self.shape.value_index(g, i);
+        let value = self.shape.value_place(g, i);
         self.load_key_word_at(seat, Slot { g, i, value }, call)
     }
 
@@ -142,7 +142,7 @@ impl Chain {
             (reads seat.old.number call (λ k. shown_by_value result)) 1 }
         ensures found { (seen_by self.now.shape seat.new).value g i ≡ result }
     {
-        let value = self.shape.value_index(g, i);
+        let value = self.shape.value_place(g, i);
         self.load_value_word_at(seat, Slot { g, i, value }, call)
     }
 
@@ -185,7 +185,7 @@ impl Chain {
             ↔ IsInstalled (seen_by self.now.shape seat.new) (suc g) }
     {
         known_if_some(&call);
-        let index = self.shape.header_index(g, HeaderWord::Next);
+        let index = self.shape.header_word_place(g, HeaderWord::Next);
         let for_proof = ForProof { g, call, ..NOTHING };
         self.loads::<Brand>(seat, index, for_proof) == INSTALLED
     }

@@ -203,13 +203,23 @@ fn tuned_growth(rt: HostRuntime) -> Result<(), Fail> {
     one_leaves(&rt, rt.alloc(), handle, &left)
 }
 
+/// The second table is as crowded by four keys as the first, and the third takes them.
+#[test]
+fn plan_of_three(rt: HostRuntime) -> Result<(), Fail> {
+    let shape = Shape::with_plan(&[2, 2, 3], 1, 1)?;
+    let mut handle = one_of(&rt, Handle::open(rt.alloc(), shape)?);
+    puts(&rt, &mut handle, &CROWDED);
+    assert_eq!(rt; handle.generation(), 2);
+    one_leaves(&rt, rt.alloc(), handle, &CROWDED)
+}
+
 #[test]
 fn meeting_shows_growth(rt: HostRuntime) -> Result<(), Fail> {
     let (mut a, mut b) = two(&rt, Handle::open(rt.alloc(), Shape::new(2, 3, 2, 2)?)?);
     puts(&rt, &mut a, &CROWDED);
     sees(&rt, &mut a, &[(0, Generation, Was(1))]);
     a.meet(&mut b);
-    sees(&rt, &mut b, &[(0, Generation, Was(1)), (12, Get, Was(22))]);
+    sees(&rt, &mut b, &[(0, Generation, Was(1)), (8, Get, Was(18))]);
     two_leave(&rt, rt.alloc(), a, b, &CROWDED)
 }
 

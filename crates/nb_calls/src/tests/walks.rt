@@ -68,6 +68,20 @@ fn walk_gives_its_handle_back(rt: HostRuntime) -> Result<(), Fail> {
     Ok(())
 }
 
+/// A walk that leaves its handle where it is, and is taken on by it.
+#[test]
+fn walk_beside_its_handle(rt: HostRuntime) -> Result<(), Fail> {
+    let mut handle = alone(&rt, rt.alloc(), 1)?;
+    puts(&rt, &mut handle, &[(2, 12), (3, 13)]);
+    let mut walk = handle.begin_walk();
+    for (k, n) in [(2, 12), (3, 13)] {
+        let shown = handle.next_key(&mut walk);
+        assert_eq!(rt; shown, Some((key(&rt, k), number(&rt, n))));
+    }
+    assert_eq!(rt; handle.next_key(&mut walk), None);
+    Ok(())
+}
+
 /// The pairs of a handle's map. The loop takes the handle with it.
 fn pairs_of(alloc: Global, handle: Handle) -> Result<Vec<(u64, u64)>, OutOfMemory> {
     let mut pairs = Vec::new(alloc);

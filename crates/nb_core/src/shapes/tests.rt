@@ -6,7 +6,7 @@ fn assert_indices(rt: &impl Abort, shape: &Shape, bases: &[usize], words: usize)
     assert_eq!(rt; shape.generations() as usize, bases.len());
     for g in 0..shape.generations() {
         assert_eq!(rt;
-            shape.header_index(g, HeaderWord::Next),
+            shape.header_word_place(g, HeaderWord::Next),
             bases[g as usize],
             "of table {g}"
         );
@@ -27,12 +27,16 @@ fn plan_indices(rt: HostRuntime) -> Result<(), Fail> {
     let doubling = Shape::new(2, 3, 1, 1)?;
     assert_indices(&rt, &doubling, &[1, 12, 31], 66);
     assert_eq!(rt; doubling.size_of(1), 8);
-    assert_eq!(rt; doubling.key_index(1, 5), 25);
-    assert_eq!(rt; doubling.value_index(1, 5), 26);
+    for (h, word) in [HeaderWord::Next, HeaderWord::Take, HeaderWord::Done].iter().enumerate() {
+        assert_eq!(rt; doubling.header_place(1, h), 12 + h);
+        assert_eq!(rt; doubling.header_word_place(1, *word), 12 + h);
+    }
+    assert_eq!(rt; doubling.key_place(1, 5), 25);
+    assert_eq!(rt; doubling.value_place(1, 5), 26);
 
     let largest = Shape::new(12, 8, 8, 8)?;
     assert_eq!(rt; largest.generations(), 8);
-    assert_eq!(rt; largest.header_index(0, HeaderWord::Next), 1);
+    assert_eq!(rt; largest.header_word_place(0, HeaderWord::Next), 1);
     assert_eq!(rt; largest.words(), 2088985);
     assert_eq!(rt; (largest.seats(), largest.stripes()), (8, 8));
     Ok(())

@@ -10,7 +10,7 @@ ghost use Rattle.nb_long.specs.Promises.{HasChangedIf, HasGotValue, HasMadeRound
 ghost use Rattle.nb_long.specs.Typed.{number_of};
 
 use crate::map::{Compared, LongFault, Stored, Unshown};
-use crate::store::{Receipt, Shown, Store};
+use crate::store::{Found, Receipt, Store};
 use nb_core::{Change, Key, Num, Want};
 use nb_map::{Full, Map, PutFault, Seat};
 use std::marker::Model;
@@ -150,7 +150,7 @@ pub(super) fn number_in<V>(found: &Option<Receipt<V>>) -> Option<Num>
 
 impl<'a, V> Parts<'a, V> {
     /// `LongMap::get`.
-    pub(crate) fn get(&self, seat: &mut Seat, key: Key) -> Result<Option<Shown<'a, V>>, Unshown>
+    pub(crate) fn get(&self, seat: &mut Seat, key: Key) -> Result<Option<Found<'a, V>>, Unshown>
         requires own { IsMine self.now.map seat.old }
         ensures { HasGotValue self.now key seat.old seat.new result }
     {

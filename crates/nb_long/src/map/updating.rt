@@ -8,7 +8,7 @@ ghost use Rattle.nb_long.specs.Updating.{HasEndedTry, HasExchanged, HasUpdated, 
 
 use crate::map::parts::{Parts, number_in};
 use crate::map::{LongMap, Unshown};
-use crate::store::{Placed, Receipt, Shown, StoreFault};
+use crate::store::{Found, Placed, Receipt, StoreFault};
 use nb_core::Key;
 use nb_map::{PutFault, Seat};
 use std::sync::Wait;
@@ -183,7 +183,7 @@ impl<V: Drop> Parts<'_, V> {
 }
 
 /// The value that is shown, if there is one.
-fn value_in<'a, V>(found: &Option<Shown<'a, V>>) -> Option<&'a V>
+fn value_in<'a, V>(found: &Option<Found<'a, V>>) -> Option<&'a V>
     ensures { option_map (λ (value : Bor _). value.now) result
         ≡ option_map (λ (token : Where _). token.value) found.now }
 {
@@ -194,7 +194,7 @@ fn value_in<'a, V>(found: &Option<Shown<'a, V>>) -> Option<&'a V>
 }
 
 /// A receipt of what is shown, if there is something.
-fn receipt_in<V>(found: Option<Shown<'_, V>>) -> Option<Receipt<V>>
+fn receipt_in<V>(found: Option<Found<'_, V>>) -> Option<Receipt<V>>
     ensures { result ≡ found.entry }
 {
     match found {

@@ -59,6 +59,12 @@ fn keeps_another<R: Wait + Abort>(rt: &R, handle: &mut Handle<u64>, key: Key) {
     assert!(rt; matches!(handle.take_if(rt, key, &5), Ok(compared) if !compared.done));
 }
 
+/// A value that is equal to the one to compare with goes, and then there is none to compare.
+fn removes_equal<R: Wait + Abort>(rt: &R, handle: &mut Handle<u64>, key: Key) {
+    assert!(rt; matches!(handle.remove_if(rt, key, &6), Ok(true)));
+    assert!(rt; matches!(handle.remove_if(rt, key, &6), Ok(false)));
+}
+
 /// Where the key is taken out, there is nothing to replace.
 fn removes<R: Wait + Abort>(rt: &R, handle: &mut Handle<u64>, key: Key) {
     assert!(rt; handle.remove(rt, key).is_some());
@@ -83,6 +89,9 @@ fn calls_by_name(rt: HostRuntime) -> Result<(), Fail> {
     writes(&rt, &mut mine, &mut theirs, key);
     keeps_another(&rt, &mut theirs, key);
     assert_eq!(rt; value_at(&rt, &mut mine, key), Some(6));
+    removes_equal(&rt, &mut theirs, key);
+    assert_eq!(rt; value_at(&rt, &mut mine, key), None);
+    writes(&rt, &mut mine, &mut theirs, key);
     removes(&rt, &mut mine, key);
     is_hardly_full(&rt, &mut mine);
     Ok(())

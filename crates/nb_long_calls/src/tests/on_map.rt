@@ -4,7 +4,7 @@ ghost use Rattle.boxcar.specs.Table.{Shows};
 ghost use Rattle.nb_map.specs.Maps.{AreMine, IsMine};
 
 use nb_core::{Key, OutOfMemory, Shape};
-use nb_long::{LongMap, Shown};
+use nb_long::{LongMap, Found};
 use nb_map::Seat;
 use std::alloc::Global;
 use std::process::Abort;
@@ -68,7 +68,7 @@ pub(super) fn found<'a, R: Abort, V>(
     map: &'a LongMap<V>,
     seat: &mut Seat,
     k: u64,
-) -> Option<Shown<'a, V>>
+) -> Option<Found<'a, V>>
     requires own { IsMine map.now.map seat.old }
     ensures found { IfSome result (λ found. Shows map.now.store found) }
     ensures own { IsMine map.now.map seat.new }

@@ -160,6 +160,18 @@ fn keeps_other<R: Wait + Abort>(
     assert!(rt; map.store().value(found).as_slice() == text);
 }
 
+/// Reads what key 1 has by a receipt of it, which borrows nothing.
+fn reads_by_receipt<R: Abort>(rt: &R, map: &LongMap<Bytes>, seat: &mut Seat, text: &[u8])
+    requires own { IsMine map.now.map seat.old }
+    ensures own { IsMine map.now.map seat.new }
+{
+    let Some(found) = found(rt, map, seat, 1) else {
+        panic!(rt; "the key is there")
+    };
+    let receipt = found.into_receipt();
+    assert!(rt; map.store().value(&receipt).as_slice() == text);
+}
+
 /// Four keys fill the table.
 fn fills_up<R: Wait + Abort>(rt: &R, alloc: Global, map: &LongMap<Bytes>, seat: &mut Seat)
     requires own { IsMine map.now.map seat.old }
@@ -194,7 +206,10 @@ fn typed_values(rt: HostRuntime) -> Result<(), Fail> {
     has(&rt, &map, &mut seat, b"cd");
     replaces_if(&rt, rt.alloc(), &map, &mut seat, b"cd", b"ef", true);
     has(&rt, &map, &mut seat, b"ef");
+    reads_by_receipt(&rt, &map, &mut seat, b"ef");
     keeps_other(&rt, rt.alloc(), &map, &mut seat, b"cd", b"ef");
+    removes_if(&rt, rt.alloc(), &map, &mut seat, b"cd", false);
+    has(&rt, &map, &mut seat, b"ef");
     removes_if(&rt, rt.alloc(), &map, &mut seat, b"ef", true);
     removes_if(&rt, rt.alloc(), &map, &mut seat, b"ef", false);
     assert!(rt; number(&rt, &map, &mut seat).is_none());

@@ -77,7 +77,7 @@ fn visit<P: Pause>(
 {
     match find(chain, seat, call, rung) {
         Ok(i) => {
-            let value = chain.shape().value_index(rung.g, i);
+            let value = chain.shape().value_place(rung.g, i);
             let slot = Slot {
                 g: rung.g,
                 i,

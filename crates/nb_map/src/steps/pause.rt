@@ -15,10 +15,13 @@ pub trait Pause {
         requires serves { serves self.old chain.now }
         ensures serves { serves self.new chain.now };
 
-    /// Is called after each exchange that was lost to another write, if there are tries left.
-    fn after_loss(&mut self, chain: &Chain)
-        requires serves { serves self.old chain.now }
-        ensures serves { serves self.new chain.now };
+    /// Is called after each exchange that was lost to another write, if there are tries left. Unless
+    /// a pause says otherwise it does nothing.
+    fn after_loss(&mut self, _chain: &Chain)
+        requires serves { serves self.old _chain.now }
+        ensures serves { serves self.new _chain.now }
+    {
+    }
 }
 
 /// The pause that does nothing.
@@ -29,8 +32,6 @@ impl Pause for NoPause {
     ghost serves = { λ pause chain. Unit {0} };
 
     fn before_exchange(&mut self, _chain: &Chain) {}
-
-    fn after_loss(&mut self, _chain: &Chain) {}
 }
 
 /// The pause of the calls that try again without a limit, once they have left their straight way.

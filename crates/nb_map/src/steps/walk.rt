@@ -105,7 +105,7 @@ fn next_in(chain: &Chain, seat: &mut ChainSeat, first: u32, g: u32, from: usize)
     let size = chain.shape().size_of(g);
     for i in from..size {
         if let Some(key) = first_seen(chain, seat, first, g, i) {
-            let value = chain.shape().value_index(g, i);
+            let value = chain.shape().value_place(g, i);
             if let Some(number) = get_at(chain, seat, key, Slot { g, i, value }) {
                 return Stretch {
                     to: i + 1,

@@ -215,5 +215,5 @@ pub(super) fn finishes(chain: &Chain, seat: &mut ChainSeat, key: Key, number: Nu
     ensures claimed { (seen_by chain.now.shape seat.new).key 0 0 ≡ key_is.Claimed key }
     ensures held { IsPrimedOrFinished (seen_by chain.now.shape seat.new) 0 0 number }
 {
-    chain.finish_slot(seat, 0, 0, number)
+    chain.finish_slot(seat, 0, 0)
 }

@@ -26,7 +26,8 @@ fn begins<R: Abort>(rt: &R, chain: &Chain, seat: &mut ChainSeat)
     assert!(rt; installs(rt, chain, seat, 12));
 }
 
-/// A primes a slot, B copies it and reads its key, and A finds it copied, and table 1 installed.
+/// A primes a slot. B reads its key, and so copies it, and A finds it copied, and table 1 installed.
+/// Another slot is copied by a call for it.
 fn two_copy_one_slot<R: Abort>(rt: &R, chain: &Chain, a: &mut ChainSeat, b: &mut ChainSeat)
     requires a { IsOwn chain.now a.old }
     requires b { IsOwn chain.now b.old }
@@ -37,12 +38,12 @@ fn two_copy_one_slot<R: Abort>(rt: &R, chain: &Chain, a: &mut ChainSeat, b: &mut
     let ten = number(rt, 10);
     begins(rt, chain, a);
     primes(rt, chain, a, first, ValueState::Live(ten));
-    assert!(rt; copies(rt, chain, b, 0));
-    has_live(rt, chain, b, 1, &[(0, 0, 10)]);
     assert_eq!(rt; get(rt, chain, b, 0), Some(10));
-    primes(rt, chain, a, first, ValueState::Finished(ten));
     assert!(rt; !copies(rt, chain, a, 0));
+    has_live(rt, chain, b, 1, &[(0, 0, 10)]);
+    primes(rt, chain, a, first, ValueState::Finished(ten));
     assert!(rt; !installs(rt, chain, a, 12));
+    assert!(rt; copies(rt, chain, b, 1));
 }
 
 #[test]
@@ -140,8 +141,8 @@ fn comes_late<R: Abort>(
     assert_eq!(rt; below, ValueState::Finished(ten));
 }
 
-/// A stops after it primed a slot. It goes on once B has copied the table, and once more when B has
-/// copied the next one, too, and changes nothing any more.
+/// A stops after it primed a slot. It goes on once B has copied the table and the next one, and
+/// changes nothing any more. The key is gone.
 fn stops_and_goes_on<R: Abort>(rt: &R, chain: &Chain, a: &mut ChainSeat, b: &mut ChainSeat)
     requires a { IsOwn chain.now a.old }
     requires b { IsOwn chain.now b.old }
@@ -154,9 +155,36 @@ fn stops_and_goes_on<R: Abort>(rt: &R, chain: &Chain, a: &mut ChainSeat, b: &mut
     primes(rt, chain, a, first, ValueState::Live(ten));
     sees_source(rt, chain, a, first, ten);
     copies_table(rt, chain, b);
-    comes_late(rt, chain, a, first, ten, ValueState::Tombstone);
     crowds_next(rt, chain, b);
+    assert_eq!(rt; key_in(rt, chain, b, 1, 0), KeyState::Claimed(first));
     comes_late(rt, chain, a, first, ten, ValueState::PrimedTombstone);
+    assert_eq!(rt; get(rt, chain, a, 0), None);
+}
+
+/// The same, but A goes on while table 1 isn't copied yet.
+fn goes_on_between<R: Abort>(rt: &R, chain: &Chain, a: &mut ChainSeat, b: &mut ChainSeat)
+    requires a { IsOwn chain.now a.old }
+    requires b { IsOwn chain.now b.old }
+    ensures a { IsOwn chain.now a.new }
+    ensures b { IsOwn chain.now b.new }
+{
+    let first = key(rt, 0);
+    let ten = number(rt, 10);
+    begins(rt, chain, a);
+    primes(rt, chain, a, first, ValueState::Live(ten));
+    sees_source(rt, chain, a, first, ten);
+    copies_table(rt, chain, b);
+    comes_late(rt, chain, a, first, ten, ValueState::Tombstone);
+    assert_eq!(rt; get(rt, chain, a, 0), None);
+    crowds_next(rt, chain, b);
+}
+
+#[test]
+fn copier_between_two_copies(rt: HostRuntime) -> Result<(), Fail> {
+    let (chain, mut a, mut b) = with_two(&rt, rt.alloc(), Shape::new(2, 3, 2, 1))?;
+    goes_on_between(&rt, &chain, &mut a, &mut b);
+    two_leave(&rt, rt.alloc(), chain, a, b, &LEFT)?;
+    Ok(())
 }
 
 #[test]
@@ -211,6 +239,7 @@ fn stops_after<R: Abort>(rt: &R, chain: &Chain, a: &mut ChainSeat, b: &mut Chain
     copies_table(rt, chain, b);
     crowds_next(rt, chain, b);
     assert!(rt; !copies(rt, chain, a, 0));
+    assert_eq!(rt; get(rt, chain, a, 0), None);
 }
 
 #[test]

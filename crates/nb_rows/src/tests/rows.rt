@@ -125,8 +125,6 @@ impl Pause for PutsOnce {
             self.answer = Some(answer);
         }
     }
-
-    fn after_loss(&mut self, _chain: &Chain) {}
 }
 
 /// The answer of a write of key 7 with so many tries, before whose first exchange another seat puts

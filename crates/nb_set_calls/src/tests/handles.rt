@@ -66,6 +66,18 @@ fn calls_by_name(rt: HostRuntime) -> Result<(), Fail> {
     Ok(())
 }
 
+/// A walk that leaves its handle where it is, and is taken on by it.
+#[test]
+fn walk_beside_its_handle(rt: HostRuntime) -> Result<(), Fail> {
+    let mut handles = Handle::open(rt.alloc(), Shape::new(4, 4, 1, 1)?)?;
+    let mut mine = one_of(&rt, &mut handles);
+    assert_eq!(rt; mine.add(&rt, key(5)?)?, true);
+    let mut walk = mine.begin_walk();
+    assert_eq!(rt; mine.next_key(&mut walk).map(Key::get), Some(5));
+    assert!(rt; mine.next_key(&mut walk).is_none());
+    Ok(())
+}
+
 /// The keys of a handle's set. The loop takes the handle with it.
 fn keys_of(alloc: Global, handle: Handle) -> Result<Vec<u64>, OutOfMemory> {
     let mut keys = Vec::new(alloc);

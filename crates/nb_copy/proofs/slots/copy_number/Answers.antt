@@ -64,9 +64,8 @@ returns-in-Primed c =
     let chain = c.args.chain.now in
     let copy = copied-in chain c.args.g c.requires.slot.0 _ _ _ _ _ c.copy_in.result
     (add-one c.args.g) c.copy_in.ensures.won c.copy_in.ensures.lost in
-    let finish = finished-now chain c.args.g c.requires.slot.0 _ c.args.i c.args.number _
-    c.finish_slot.result c.in-Primed.is
-    c.finish_slot.ensures.won c.finish_slot.ensures.lost in
+    let finish = finished-now chain c.args.g c.requires.slot.0 _ c.args.i _
+    c.finish_slot.result c.in-Primed.is c.finish_slot.ensures.won in
     record {
       copied = copied-three chain c.args.g c.requires.slot.0
           (2 * size_of chain.shape (suc c.args.g)) c.requires.own
@@ -79,8 +78,13 @@ returns-in_default-matches c =
     let chain = c.args.chain.now in
     let copy = copied-in chain c.args.g c.requires.slot.0 _ _ _ _ _ c.copy_in.result
     (add-one c.args.g) c.copy_in.ensures.won c.copy_in.ensures.lost in
+    let own = copied-own chain c.args.g c.requires.slot.0 c.requires.own c.in-Some.ensures.copied in
+    let lasting = steps_add_up.stays c.requires.own
+    (copied-more chain c.args.g c.requires.slot.0 own c.in-Some.ensures.copied copy.0).grown in
+    let held = lasting.primed_or_finished c.args.g c.args.i c.args.number c.requires.slot
+    c.requires.held in
     let finish = finished-before chain c.args.g c.requires.slot.0 c.args.i c.args.number
-    c.finish_slot.result
+    c.finish_slot.result (c.finish_slot.ensures.held c.args.number held)
     (c.in_default-matches.not-Primed c.args.number) c.finish_slot.ensures.lost in
     record {
       copied = copied-three chain c.args.g c.requires.slot.0

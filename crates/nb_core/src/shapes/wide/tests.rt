@@ -27,11 +27,11 @@ fn as_many_slots_as_there_may_be(rt: HostRuntime) -> Result<(), Fail> {
     let four = Shape::large(&[28; 4])?;
     assert_eq!(rt; four.words(), 1 + 3 * 4 + 2 * MAX_SLOTS);
     assert_eq!(rt; four.size_of(3), 1 << 28);
-    assert_eq!(rt; four.value_index(3, (1 << 28) - 1), four.words() - 1);
+    assert_eq!(rt; four.value_place(3, (1 << 28) - 1), four.words() - 1);
     let sixteen = Shape::large(&[26; 16])?;
     assert_eq!(rt; sixteen.words(), 1 + 3 * 16 + 2 * MAX_SLOTS);
     assert_eq!(rt;
-        sixteen.header_index(15, HeaderWord::Next),
+        sixteen.header_word_place(15, HeaderWord::Next),
         1 + 15 * (3 + (2 << 26))
     );
     assert_eq!(rt; MAX_SLOTS, 1_073_741_824);

@@ -1,6 +1,6 @@
 use Rattle.std.proofs.Common.{ℕ, ◌≡◌, ◌∙◌, ◌+◌, ◌*◌, ◌<◌, ◌%◌, ◌^◌, ap, bit_and, mod-lt, subst, sym, arith}
 use Rattle.std.proofs.lemmas.Nat.{pow_pos}
-use Rattle.nb_core.specs.Plans.{base_of, size_of, value_index}
+use Rattle.nb_core.specs.Plans.{base_of, size_of, value_place}
 use Rattle.nb_core.specs.Tables.{IsSlot, path_slot}
 use Rattle.nb_core.specs.declared.slot_paths.Slot.{Slot}
 use Rattle.nb_core.proofs.Filled.{table-fits}
@@ -29,11 +29,11 @@ returns c p g k path =
     let within : bit_and x last < size_of p g =
     subst (λ i. i < size_of p g) (sym is) (mod-lt (k + distance) (pow_pos _)) in
     let value : c.args.self.now.base + 4 + 2 * bit_and x last
-    ≡ value_index p c.args.self.now.g (bit_and x last)
+    ≡ value_place p c.args.self.now.g (bit_and x last)
     = omega (arith, path.base, ap (base_of p) path.table) in
     record {
       is = slot-same path.table is (value
-          ∙ ap (λ f. value_index p f (bit_and x last)) path.table ∙ ap (value_index p g) is);
+          ∙ ap (λ f. value_place p f (bit_and x last)) path.table ∙ ap (value_place p g) is);
       placed = record {
         slot = subst (λ f. IsSlot p f (bit_and x last)) (sym path.table) (path.within, within);
         value = value;

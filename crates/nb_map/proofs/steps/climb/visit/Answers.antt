@@ -7,7 +7,7 @@ use Rattle.nb_map.proofs.steps.climb.visit.Goals as goal
 
 pub call_at-requires-clause-at : goal.call_at-requires-clause-at
 call_at-requires-clause-at g c =
-    at-slot c.args.chain.now c.in-Ok.i c.value_index-value.result (search rules)
+    at-slot c.args.chain.now c.in-Ok.i c.value_place-value.result (search rules)
     (at-stays c.args.chain.now c.requires.at c.in-Ok.ensures.made) c.in-Ok.ensures.found
 
 pub returns-in-Ok-clause-made : goal.returns-in-Ok-clause-made

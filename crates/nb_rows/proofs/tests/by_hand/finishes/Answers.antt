@@ -5,7 +5,8 @@ use Rattle.nb_rows.proofs.tests.by_hand.finishes.Goals as goal
 pub returns : goal.returns
 returns c =
     let met = c.finish_slot.ensures in
-    let finish = finished-step c.finish_slot.result c.args.number met.won met.lost in
+    let held = met.held c.args.number c.requires.held in
+    let finish = finished-step c.finish_slot.result c.args.number held met.won met.lost in
     let step = steps_add_up.one finish.1 in
     let lasting = steps_add_up.stays c.requires.own step in
     record {

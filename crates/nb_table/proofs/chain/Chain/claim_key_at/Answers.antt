@@ -1,5 +1,5 @@
 use Rattle.std.proofs.Common.{◌∙◌, ◌<◌, ap, cond, eqb, subst, sym, slice_set}
-use Rattle.nb_core.specs.Plans.{Key, key_index, word_count}
+use Rattle.nb_core.specs.Plans.{Key, key_place, word_count}
 use Rattle.nb_core.specs.States.{IsKeyState, key_word}
 use Rattle.nb_core.specs.Tables.{words_of}
 use Rattle.nb_core.specs.declared.events.Event.TheVariants.{Claim}
@@ -39,7 +39,7 @@ returns-clause-won c = λ empty.
     let won =
     key-won p e c.args.at.g c.args.at.i _ _ _ _ at_index c.exchanges-found.ensures c.state.result word
     c.requires.own.plan c.requires.slot.slot
-    (λ h. ap (slice_set (words_of p h) (key_index p c.args.at.g c.args.at.i))
+    (λ h. ap (slice_set (words_of p h) (key_place p c.args.at.g c.args.at.i))
     (sym (c.get-word.ensures.word ∙ ap key_word c.of.ensures)))
     (ap key_word c.state.ensures ∙ c.new.ensures.back) empty in
     (won.0, won.1 ∙ c.get-word.ensures.back ∙ c.of.ensures)

@@ -1,5 +1,5 @@
 use Rattle.std.proofs.Common.{◌∙◌, ◌<◌, ap, cond, eqb, refl, subst, sym}
-use Rattle.nb_core.specs.Plans.{Key, key_index, word_count}
+use Rattle.nb_core.specs.Plans.{Key, key_place, word_count}
 use Rattle.nb_core.specs.States.{key_word}
 use Rattle.nb_core.specs.declared.events.Event.TheVariants.{Kill}
 use Rattle.nb_core.proofs.Theorems.{indices_are_distinct}
@@ -12,8 +12,8 @@ pub exchanges-found-requires-clause-can : goal.exchanges-found-requires-clause-c
 exchanges-found-requires-clause-can c =
     let p = c.args.self.now.shape in
     let seat = c.args.seat.now in
-    let at_index = c.key_index-index.ensures
-    ∙ ap (λ v. key_index v.shape c.args.g c.args.i) c.self.view_is in
+    let at_index = c.key_place-index.ensures
+    ∙ ap (λ v. key_place v.shape c.args.g c.args.i) c.self.view_is in
     let events = kill_events seat.number c.args.g c.args.i in
     subst (λ index. Can p events seat.number seat.seen index (λ found. cond (eqb found 0) 1 found))
     (sym at_index)
@@ -23,8 +23,8 @@ pub returns-clause-won : goal.returns-clause-won
 returns-clause-won c =
     let p = c.args.self.now.shape in
     let e = Kill c.args.seat.now.number c.args.g c.args.i in
-    let at_index = c.key_index-index.ensures
-    ∙ ap (λ v. key_index v.shape c.args.g c.args.i) c.self.view_is in
+    let at_index = c.key_place-index.ensures
+    ∙ ap (λ v. key_place v.shape c.args.g c.args.i) c.self.view_is in
     key-won p e c.args.g c.args.i _ _ _ _ at_index c.exchanges-found.ensures c.state.result 1
     c.requires.own.plan c.requires.slot (λ h. refl) (ap key_word c.state.ensures ∙ c.new.ensures.back)
 
@@ -32,15 +32,15 @@ pub returns-clause-lost : goal.returns-clause-lost
 returns-clause-lost c =
     let p = c.args.self.now.shape in
     let e = Kill c.args.seat.now.number c.args.g c.args.i in
-    let at_index = c.key_index-index.ensures
-    ∙ ap (λ v. key_index v.shape c.args.g c.args.i) c.self.view_is in
+    let at_index = c.key_place-index.ensures
+    ∙ ap (λ v. key_place v.shape c.args.g c.args.i) c.self.view_is in
     key-lost p e c.args.g c.args.i _ _ _ _ at_index c.exchanges-found.ensures c.state.result
     (c.state.ensures ∙ c.new.ensures.state)
 
 pub exchanges-found-requires-clause-within : goal.exchanges-found-requires-clause-within
 exchanges-found-requires-clause-within c =
     let p = c.args.self.now.shape in
-    let at_index = c.key_index-index.ensures
-    ∙ ap (λ v. key_index v.shape c.args.g c.args.i) c.self.view_is in
+    let at_index = c.key_place-index.ensures
+    ∙ ap (λ v. key_place v.shape c.args.g c.args.i) c.self.view_is in
     subst (λ index. index < word_count p) (sym at_index)
     ((indices_are_distinct p c.requires.own.plan).below (Key c.args.g c.args.i) c.requires.slot)

@@ -1,5 +1,4 @@
 use Rattle.std.proofs.Common.{◌∙◌, ℕ, ap, slice_index, subst, sym}
-use Rattle.nb_core.specs.Plans.{value_index}
 use Rattle.nb_core.specs.States.{shown_by_value, value_in_word}
 use Rattle.nb_table.specs.Events.{reads}
 use Rattle.nb_table.specs.Steps.{Can, Stepped}

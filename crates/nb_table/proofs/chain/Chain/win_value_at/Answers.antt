@@ -1,5 +1,5 @@
 use Rattle.std.proofs.Common.{◌∙◌, ◌≡◌, ◌<◌, Some, cond, eqb, ap, sym, subst, subst₂}
-use Rattle.nb_core.specs.Plans.{value_index, word_count}
+use Rattle.nb_core.specs.Plans.{value_place, word_count}
 use Rattle.nb_core.specs.States.{shown_by_value, value_word}
 use Rattle.nb_table.proofs.Events.{win_events}
 use Rattle.nb_table.specs.Chains.{Extended, seen_by}
@@ -28,7 +28,7 @@ exchanges-found-requires-clause-can c =
     c.args.to c.args.call c.get-old.ensures.back back in
     let words = subst₂ (λ old new. Can p
     (win_events seat.number c.args.at.g c.args.at.i c.args.from c.args.to c.args.call) seat.number
-    seat.seen (value_index p c.args.at.g c.args.at.i) (λ found. cond (eqb found old) new found))
+    seat.seen (value_place p c.args.at.g c.args.at.i) (λ found. cond (eqb found old) new found))
     (sym c.get-old.ensures.word) (sym (c.get-new.ensures.word ∙ ap value_word c.of.ensures))
     (can-win p seat.number seat.seen c.args.at.g c.args.at.i c.args.from c.args.to c.args.call
     c.requires.slot.slot (codings.word_of_state c.get-old.result c.args.from c.get-old.ensures.back).1
@@ -42,7 +42,7 @@ step :
     (c : After-exchanges-found)
     → Stepped c.args.self.now.shape
     (win_events c.args.seat.now.number c.args.at.g c.args.at.i c.args.from c.args.to c.args.call)
-    (value_index c.args.self.now.shape c.args.at.g c.args.at.i) c.args.seat.now
+    (value_place c.args.self.now.shape c.args.at.g c.args.at.i) c.args.seat.now
     c.exchanges-found.result c.exchanges-found.new.seat
 step c =
     let p = c.args.self.now.shape in
