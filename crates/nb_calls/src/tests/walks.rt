@@ -72,12 +72,10 @@ fn walk_gives_its_handle_back(rt: HostRuntime) -> Result<(), Fail> {
 #[test]
 fn walk_beside_its_handle(rt: HostRuntime) -> Result<(), Fail> {
     let mut handle = alone(&rt, rt.alloc(), 1)?;
-    puts(&rt, &mut handle, &[(2, 12), (3, 13)]);
+    puts(&rt, &mut handle, &[(3, 13)]);
     let mut walk = handle.begin_walk();
-    for (k, n) in [(2, 12), (3, 13)] {
-        let shown = handle.next_key(&mut walk);
-        assert_eq!(rt; shown, Some((key(&rt, k), number(&rt, n))));
-    }
+    let shown = handle.next_key(&mut walk);
+    assert_eq!(rt; shown, Some((key(&rt, 3), number(&rt, 13))));
     assert_eq!(rt; handle.next_key(&mut walk), None);
     Ok(())
 }
