@@ -18,13 +18,13 @@ use std::time::Instant;
 #[derive(Clone, Copy, Debug, PartialEq, Eq)]
 pub(crate) struct Times {
     /// How long it takes to make the map.
-    pub(crate) make: u64,
+    make: u64,
     /// How long the puts of all keys take.
-    pub(crate) fill: u64,
+    fill: u64,
     /// How long the gets of all keys take.
-    pub(crate) read: u64,
+    read: u64,
     /// How long the longest put takes.
-    pub(crate) longest: u64,
+    longest: u64,
 }
 
 impl Times {

@@ -1,4 +1,5 @@
 //! Calls of distinct keys by several threads, above all puts while the map grows.
+ghost use Rattle.std.specs.Prelude.{◌≡◌, ◌*◌, ◌/◌, ◌-◌, ◌<◌, length, min, slice_index};
 ghost use Rattle.nb_map.specs.Maps.{IsMine};
 
 use crate::crew::{Done, Job, Worker, do_job, put_all};
@@ -166,15 +167,15 @@ fn put_once<R: Threads + Sync + Wait + Clock + Eprint>(
 #[derive(Clone, Copy, Debug, PartialEq, Eq)]
 pub(crate) struct Times {
     /// How long all puts take.
-    pub(crate) whole: u64,
+    whole: u64,
     /// Within which time half of the puts are.
-    pub(crate) p50: u64,
+    p50: u64,
     /// Within which time 99 of a hundred puts are.
-    pub(crate) p99: u64,
+    p99: u64,
     /// Within which time 999 of a thousand puts are.
-    pub(crate) p999: u64,
+    p999: u64,
     /// How long the longest put takes.
-    pub(crate) max: u64,
+    max: u64,
 }
 
 impl Times {
@@ -190,11 +191,18 @@ impl Times {
     }
 }
 
-/// The time that so many thousandths of these sorted times are within.
-pub(crate) fn within(times: &[u64], thousandths: usize) -> u64 {
-    let at = times.len().wrapping_mul(thousandths) / 1000;
-    let last = times.len().saturating_sub(1);
-    times.get(at.min(last)).copied().unwrap_or(0)
+/// The time that so many thousandths of these sorted times are within: that at their part of the
+/// way, or the last one. If there are none, it is 0.
+fn within(times: &[u64], thousandths: usize) -> u64
+    ensures none { length times.now ≡ 0 → result ≡ 0 }
+    ensures within { 0 < length times.now → result ≡ slice_index times.now
+        (min (length times.now * thousandths / 1000) (length times.now - 1)) }
+{
+    let Some(last) = times.len().checked_sub(1) else {
+        return 0;
+    };
+    let at = times.len() as u128 * thousandths as u128 / 1000;
+    times[at.min(last as u128) as usize]
 }
 
 /// The middle one of these times.

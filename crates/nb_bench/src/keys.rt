@@ -26,7 +26,8 @@ impl Spacing {
         let place = u64::from(place);
         let number = match self {
             Spacing::Dense => place,
-            // Without its lowest bit the scattered place is still no other's, as the tests see.
+            // Without its lowest bit the scattered place is still no other's: `.ci/programs`
+            // sees that.
             Spacing::Spread => scattered(place) >> 1,
         };
         Key::new(number).unwrap()

@@ -28,6 +28,3 @@ fn main(rt: HostRuntime) -> ExitCode {
     let progress = Progress::new(rt.stderr().is_terminal(), None);
     ExitCode::from(serve::serve(&rt, progress))
 }
-
-#[cfg(test)]
-mod tests;

@@ -14,7 +14,7 @@ use std::sync::Wait;
 const PAGE: u64 = 4096;
 
 /// The bytes that Linux tells by this text, whose second number is how many pages are in memory.
-pub(crate) fn bytes_of(text: &str) -> Option<u64> {
+fn bytes_of(text: &str) -> Option<u64> {
     let word = text.split(' ').nth(1)?;
     match word.parse::<u64>() {
         Ok(pages) => pages.checked_mul(PAGE),

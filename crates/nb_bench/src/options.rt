@@ -1,4 +1,7 @@
 //! The words of the command line.
+ghost use Rattle.std.specs.Prelude.{◌≡◌, ◌*◌, ◌-◌, ◌^◌, ◌<◌, ◌≤◌, IfOk};
+ghost use Rattle.nb_core.specs.Plans.{HasRoomFor};
+ghost use Rattle.nb_core.specs.declared.shapes.TheConstants.{MAX_EXPONENT};
 
 use crate::churn::keys_ever;
 use crate::keys::{Law, Spacing};
@@ -18,15 +21,15 @@ pub(crate) struct Options {
     /// How long it is measured.
     pub(crate) time: Duration,
     /// The exponents of the tables' sizes; none, where the number of keys decides.
-    pub(crate) exponents: Vec<u32>,
+    exponents: Vec<u32>,
     /// How many keys there are.
     pub(crate) keys: u32,
     /// Over how many words the size is counted.
-    pub(crate) stripes: usize,
+    stripes: usize,
     /// Past how many slots of its path no new key is put in a table that isn't the last.
-    pub(crate) reprobes: u32,
+    reprobes: u32,
     /// How many slots are handed out at once when a table is copied.
-    pub(crate) chunk: u32,
+    chunk: u32,
     pub(crate) spacing: Spacing,
     /// How often each key is drawn, in `A`, `B` and `C`.
     pub(crate) law: Law,
@@ -70,7 +73,10 @@ impl Options {
 
     /// The shape of `Shape::for_keys`, with more seats if there are more threads; that of
     /// `Shape::for_many_keys`, if there are more keys.
-    fn shape_to_grow(&self, keys: usize) -> Result<Shape, ShapeFault> {
+    fn shape_to_grow(&self, keys: usize) -> Result<Shape, ShapeFault>
+        ensures room { IfOk result (λ shape. HasRoomFor shape keys) }
+        ensures seats { IfOk result (λ shape. shape.seats ≡ self.now.threads) }
+    {
         if keys > MOST_KEYS {
             return Shape::for_many_keys(keys, self.threads);
         }
@@ -250,14 +256,19 @@ fn read_plan(alloc: Global, text: &str) -> Result<Vec<u32>, WordsFault> {
     Ok(exponents)
 }
 
-/// The exponent of the smallest table that has two slots for each of so many keys, if any has.
-fn exponent_for(keys: u32) -> u32 {
-    for exponent in 2..MAX_EXPONENT {
-        if 1u64 << exponent >= 2 * u64::from(keys) {
-            return exponent;
-        }
+/// The exponent of the smallest table that has two slots for each of so many keys, or that of the
+/// largest table if none has.
+fn exponent_for(keys: u32) -> u32
+    ensures table { (2 ≤ result) × (result ≤ MAX_EXPONENT) }
+    ensures room { result < MAX_EXPONENT → 2 * keys ≤ 2 ^ result }
+    ensures smallest { 2 < result → 2 ^ (result - 1) < 2 * keys }
+{
+    let slots = (2 * u64::from(keys)).max(4);
+    let below = (slots - 1).ilog2();
+    if below >= MAX_EXPONENT {
+        return MAX_EXPONENT;
     }
-    MAX_EXPONENT
+    below + 1
 }
 
 /// The exponents that are asked for, or those of the workload; none, where the keys decide.

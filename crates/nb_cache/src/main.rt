@@ -25,6 +25,3 @@ fn main(rt: HostRuntime) -> ExitCode {
     let progress = Progress::new(rt.stderr().is_terminal(), size_of_input(&rt));
     ExitCode::from(serve::serve(&rt, rt.stdin(), progress))
 }
-
-#[cfg(test)]
-mod tests;

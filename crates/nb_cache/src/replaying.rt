@@ -10,7 +10,7 @@ use crate::trace::{Action, Request};
 use itoa::Buffer;
 use nb_core::{Key, MAX_SEATS, Num, OutOfMemory, Shape};
 use nb_lines::{Fault, Progress, key_of, number_of};
-use nb_long::{Handle, LongFault, Found};
+use nb_long::{Found, Handle, LongFault};
 use std::alloc::Global;
 use std::sync::Wait;
 use std::sync::atomic::{AtomicU64, Ordering};

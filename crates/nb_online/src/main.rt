@@ -24,6 +24,3 @@ use std::process::ExitCode;
 fn main(rt: HostRuntime) -> ExitCode {
     ExitCode::from(serve::serve(&rt, rt.stdin()))
 }
-
-#[cfg(test)]
-mod tests;

@@ -1,0 +1,59 @@
+"""What the steps of the gate share that run the built programs."""
+
+import os
+import subprocess
+import sys
+
+TOP = os.path.dirname(os.path.dirname(os.path.abspath(__file__)))
+
+
+def path_of(name):
+    """The path of a program, be it there or not."""
+    return f"{TOP}/crates/{name}/out/{name}"
+
+
+PROGRAM = path_of("nb_run")
+
+
+def built(name):
+    """The path of a program, which is built if it isn't yet."""
+    path = path_of(name)
+    if not os.path.exists(path):
+        subprocess.run(["rt", "run", "--", "--help"], cwd=f"{TOP}/crates/{name}", stdin=subprocess.DEVNULL, stdout=subprocess.DEVNULL, check=True)
+    return path
+
+
+def run(words, text, program=PROGRAM, **more):
+    """Runs a program on an input of bytes: its status, its output and its errors."""
+    ran = subprocess.run([program, *words], input=text, capture_output=True, timeout=60, **more)
+    return ran.returncode, ran.stdout, ran.stderr
+
+
+def run_named(name, words, text=b"", **more):
+    return run(words, text, built(name), **more)
+
+
+def wrong(name, complaint):
+    """How a program ends that is given wrong words."""
+    return (3, b"", f"{name}: {complaint}; --help tells more\n".encode())
+
+
+def version_of(name):
+    """How a program ends that is asked for its version."""
+    with open(f"{TOP}/VERSION") as file:
+        return (0, f"{name} {file.read().strip()}\n".encode(), b"")
+
+
+def compare(step, cases):
+    """Runs all cases, tells which of them come to something else than what is due, and ends the step."""
+    mistakes = 0
+    for name, run_it, due in cases:
+        try:
+            came = run_it()
+        except Exception as fault:  # such as too few numbers, or a program that doesn't end
+            came = repr(fault)
+        if came != due:
+            print(f"{step}: {name}: {came}, where {due} is due")
+            mistakes += 1
+    print(f"{step}: {len(cases)} cases, {mistakes} wrong")
+    sys.exit(1 if mistakes else 0)
