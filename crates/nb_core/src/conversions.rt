@@ -86,6 +86,3 @@ impl fmt::Display for Num {
         fmt::Display::fmt(&self.get(), f)
     }
 }
-
-#[cfg(test)]
-mod tests;

@@ -35,6 +35,3 @@ pub fn read_number(text: &[u8]) -> Result<u64, DigitsFault>
     }
     Ok(number)
 }
-
-#[cfg(test)]
-mod tests;

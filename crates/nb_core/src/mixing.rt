@@ -48,6 +48,3 @@ const fn unstir(number: u64) -> u64
 {
     number.swap_bytes().wrapping_mul(INVERSE)
 }
-
-#[cfg(test)]
-mod tests;

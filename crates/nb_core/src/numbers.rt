@@ -125,6 +125,3 @@ impl Num {
         ensures { self ≤ VALUE_MAX }
     {}
 }
-
-#[cfg(test)]
-mod tests;

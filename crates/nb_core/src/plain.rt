@@ -112,6 +112,3 @@ impl PlainMap {
         Ok(entries)
     }
 }
-
-#[cfg(test)]
-mod tests;

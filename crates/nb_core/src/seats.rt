@@ -19,6 +19,3 @@ impl<W, S> Debug for NotAll<W, S> {
             .finish_non_exhaustive()
     }
 }
-
-#[cfg(test)]
-mod tests;

@@ -443,6 +443,3 @@ impl Shape {
         self.words as usize
     }
 }
-
-#[cfg(test)]
-mod tests;

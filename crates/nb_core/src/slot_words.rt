@@ -275,6 +275,3 @@ pub fn decode_value(word: u64) -> Option<ValueState>
         }
     }
 }
-
-#[cfg(test)]
-mod tests;

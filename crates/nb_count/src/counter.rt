@@ -187,6 +187,3 @@ fn sum_of(closed: &Closed<(), Global>, count: usize) -> u64
     }
     sum
 }
-
-#[cfg(test)]
-mod tests;

@@ -22,6 +22,3 @@ pub use lines::Lines;
 pub use nb_core::read_number;
 pub use numbers::NumberWord;
 pub use progress::{Done, Progress, Seconds, size_of_input};
-
-#[cfg(test)]
-mod tests;

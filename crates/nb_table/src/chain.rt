@@ -315,6 +315,3 @@ impl Chain {
         seat
     }
 }
-
-#[cfg(test)]
-mod tests;

@@ -94,6 +94,3 @@ fn fewest_tables(live: usize, ever: usize, size: usize) -> usize
 {
     1 + (ever + ever / 2).saturating_sub(size).div_ceil(size - live)
 }
-
-#[cfg(test)]
-mod tests;

@@ -139,6 +139,3 @@ fn slots_of(exponents: &[u32]) -> usize
     }
     slots
 }
-
-#[cfg(test)]
-mod tests;

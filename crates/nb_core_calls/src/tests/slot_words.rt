@@ -1,5 +1,8 @@
-use super::*;
-use crate::numbers::{KEY_MAX, VALUE_MAX};
+//! The words of slots.
+use nb_core::{
+    KEY_MAX, Key, KeyState, KeyWord, Num, VALUE_MAX, ValueState, ValueWord, decode_key, decode_value,
+    encode_key, encode_value,
+};
 use std::test::Fail;
 
 #[test]

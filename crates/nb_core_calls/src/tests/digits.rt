@@ -1,4 +1,5 @@
-use super::{DigitsFault, read_number};
+//! The number that digits write.
+use nb_core::{DigitsFault, read_number};
 use std::test::Fail;
 
 #[test]

@@ -1,7 +1,7 @@
 use Rattle.std.proofs.Common.{Some}
 use Rattle.std.proofs.lemmas.List.Elements.{All-pop}
 use Rattle.nb_table.specs.Chains.{IsOwn}
-use Rattle.nb_table.proofs.chain.tests.meeting.Goals as goal
+use Rattle.nb_core_calls.proofs.tests.chain.meeting.Goals as goal
 
 pub look_and_meet-top_of_a-requires-clause-a : goal.look_and_meet-top_of_a-requires-clause-a
 look_and_meet-top_of_a-requires-clause-a g c κs within =

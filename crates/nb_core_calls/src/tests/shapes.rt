@@ -1,4 +1,5 @@
-use super::*;
+//! Shapes and their places.
+use nb_core::{HeaderWord, MOST_KEYS, Shape, ShapeFault};
 use std::process::Abort;
 use std::test::Fail;
 

@@ -1,4 +1,5 @@
-use super::*;
+//! Shapes for keys that come and go.
+use nb_core::{MAX_SEATS, Shape, ShapeFault};
 use std::process::Abort;
 use std::test::Fail;
 
@@ -9,11 +10,11 @@ fn assert_churn(
     seats: usize,
     exponents: &[u32],
 ) -> Result<(), ShapeFault> {
-    let stripes = seats.min(SHARED_STRIPES);
+    let stripes = seats.min(16);
     let shape = Shape::large(exponents)?
         .with_seats(seats)?
         .with_stripes(stripes)?
-        .with_chunk(LARGE_CHUNK);
+        .with_chunk(64);
     assert_eq!(rt;
         Shape::for_churn(live, ever, seats),
         shape,

@@ -1,4 +1,5 @@
-use super::*;
+//! Numbers from and to the numbers of Rust.
+use nb_core::{Key, Num, RangeFault};
 use std::alloc::Global;
 use std::fmt::Display;
 use std::process::Abort;

@@ -1,4 +1,5 @@
-use super::*;
+//! What is told where seats are missing.
+use nb_core::NotAll;
 use std::alloc::Global;
 use std::error::Error;
 use std::process::Abort;

@@ -1,8 +1,10 @@
+//! A chain, by threads and with refused memory.
 ghost use Rattle.std.specs.Prelude.{◌≡◌, All, IfOk};
 ghost use Rattle.nb_table.specs.Chains.{AreOwn, IsOwn};
 
-use super::*;
-use nb_core::KEY_MAX;
+use nb_core::{KEY_MAX, Key, NotAll, OutOfMemory, Shape};
+use nb_table::{Chain, ChainSeat};
+use std::alloc::Global;
 use std::process::Abort;
 use std::test::Fail;
 use std::thread;

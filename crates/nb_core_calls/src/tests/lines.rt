@@ -1,6 +1,6 @@
 //! Lines and their numbers, keys, and blocks of an input.
 
-use crate::{
+use nb_lines::{
     BLOCK, Block, Cause, Done, Fault, Input, Lines, NumberWord, Stop, WordsFault, key_of,
     number_of, read_key, read_number,
 };

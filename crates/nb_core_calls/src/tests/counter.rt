@@ -1,7 +1,10 @@
+//! The counter, by seats and by threads.
 ghost use Rattle.std.specs.Prelude.{◌≡◌, IfOk};
 ghost use Rattle.nb_count.specs.Counts.{AreOwn, IsOwn};
 
-use super::*;
+use nb_core::{NotAll, OutOfMemory};
+use nb_count::{CountSeat, Counter};
+use std::alloc::Global;
 use std::process::Abort;
 use std::test::Fail;
 use std::thread;

@@ -1,5 +1,5 @@
-use super::*;
-use crate::HeaderWord;
+//! Shapes of large tables and of many seats.
+use nb_core::{HeaderWord, MANY_KEYS, MAX_SEATS, MAX_SLOTS, MAX_STRIPES, Shape, ShapeFault};
 use std::process::Abort;
 use std::test::Fail;
 
@@ -74,12 +74,12 @@ fn assert_many(
     seats: usize,
     exponents: &[u32],
 ) -> Result<(), ShapeFault> {
-    let stripes = seats.min(SHARED_STRIPES);
+    let stripes = seats.min(16);
     let shape = Shape::large(exponents)?
         .with_seats(seats)?
         .with_stripes(stripes)?
-        .with_reprobe_limit(MANY_REPROBES)?
-        .with_chunk(MANY_CHUNK);
+        .with_reprobe_limit(18)?
+        .with_chunk(256);
     assert_eq!(rt; Shape::for_many_keys(most, seats), shape, "for {most} keys");
     Ok(())
 }

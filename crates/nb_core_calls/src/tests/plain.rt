@@ -1,5 +1,5 @@
-use super::*;
-use crate::numbers::RangeFault;
+//! The plain map.
+use nb_core::{Change, Key, Num, PlainFault, PlainMap, RangeFault, Reply, Want};
 use std::process::Abort;
 use std::test::Fail;
 

@@ -1,4 +1,5 @@
-use super::*;
+//! The ranges of keys and numbers.
+use nb_core::{Key, Num, RangeFault};
 use std::test::Fail;
 
 #[test]

@@ -1,5 +1,5 @@
-use super::*;
-use crate::numbers::{KEY_MAX, Key};
+//! Mixed numbers.
+use nb_core::{KEY_MAX, Key, mix, unmix};
 use std::collections::BTreeSet;
 use std::test::Fail;
 
