@@ -4,12 +4,13 @@ mod Filling
 mod Fullness
 mod LoneText
 mod Meeting
+mod OneWorker
 mod OutcomeLemmas
 mod OutputLemmas
 mod Performed
 mod PhaseLemmas
-mod Running
 mod Saying
 mod ScriptLemmas
+mod ServingLemmas
 mod Together
 mod ToldLemmas

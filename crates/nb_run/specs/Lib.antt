@@ -1,3 +1,4 @@
+pub mod Named
 pub mod Outcomes
 pub mod Output
 pub mod Runs

@@ -12,7 +12,7 @@ ghost use Rattle.nb_run.specs.Working.{
 };
 
 use crate::answers::Answer;
-use crate::gate::Gate;
+use crate::gates::Gate;
 use crate::output::count_of;
 use crate::workers::{Worker, run_phases};
 use nb_core::{Key, Num, OutOfMemory, Shape};

@@ -1,8 +1,10 @@
 //! The program as a process: its words, its streams and its exit status.
+ghost use Rattle.std.specs.Prelude.{◌≡◌, ◌≢◌};
 ghost use Rattle.std.specs.Io.{WritesAtMost};
+ghost use Rattle.nb_run.specs.Serving.{HasServed, HasStopped, words_had};
 
 use crate::progress::{Progress, Watched};
-use crate::serve::serve_gated;
+use crate::serving::serve_gated;
 use nb_script::options::OptionFault;
 use nb_script::streams::{FromRead, FromWrite};
 use std::env;
@@ -61,32 +63,48 @@ pub(crate) fn arguments<P: Env + AllocGlobal>(process: &P) -> Result<Vec<String>
     Ok(words)
 }
 
-/// Serves a process on its standard streams, and answers its exit status. Progress is told on
+/// Serves a process that has these words, on these streams, and answers its exit status. Words that
+/// are missing are a fault that is told, and then nothing is read. Progress is told on the process's
 /// standard error, past `errors`, where that is asked for.
 pub fn serve_process<P, R, W, E>(
     process: &P,
-    input: R,
-    output: W,
-    errors: E,
+    words: Result<Vec<String>, OptionFault>,
+    input: &mut R,
+    output: &mut W,
+    errors: &mut E,
     tells_progress: bool,
 ) -> u8
 where
-    P: Env + Threads + Wait + AllocGlobal + Eprint + Sync,
-    R: Read + Drop,
-    W: Write + Drop,
-    E: Write + Drop,
+    P: Threads + Wait + AllocGlobal + Eprint + Sync,
+    R: Read,
+    W: Write,
+    E: Write,
+    ensures done { result ≡ 0 → HasServed (words_had words) R.remaining input.old input.new
+        (W.contents output.old) (W.contents output.new) }
+    ensures quiet { result ≡ 0 → errors.new ≡ errors.old }
+    ensures failed { result ≢ 0 → HasStopped (words_had words) R.remaining input.old input.new
+        W.contents output.old output.new (E.contents errors.old) (E.contents errors.new) result }
 {
-    let words = arguments(process);
     let progress = Progress::new(process, tells_progress);
     let mut reader = FromRead::new(Watched::new(&progress, input));
     let mut writer = FromWrite::new(Watched::new(&progress, output));
     let mut errors = FromWrite::new(Watched::new(&progress, errors));
-    serve_gated(
-        process,
-        &progress,
-        words,
-        &mut reader,
-        &mut writer,
-        &mut errors,
-    )
+    match words {
+        Ok(words) => serve_gated(
+            process,
+            &progress,
+            Ok(words.as_slice()),
+            &mut reader,
+            &mut writer,
+            &mut errors,
+        ),
+        Err(fault) => serve_gated(
+            process,
+            &progress,
+            Err(fault),
+            &mut reader,
+            &mut writer,
+            &mut errors,
+        ),
+    }
 }

@@ -1,7 +1,11 @@
 //! Progress, which is told on standard error where that is a terminal: how many lines were read,
 //! and then how many of them were run. What it says isn't among what a run says of a fault.
+ghost use Rattle.std.specs.Prelude.{◌≡◌};
+ghost use Rattle.std.specs.Io.{ReadsAtMost, WritesAtMost};
+ghost use Rattle.std.specs.Io.KnownBytes.{Keeps, ReadConsumes, WriteAppends};
+ghost use Rattle.nb_run.specs.Named.{named};
 
-use crate::gate::Gate;
+use crate::gates::Gate;
 use std::io;
 use std::io::{Read, Write};
 use std::sync::atomic::{AtomicBool, AtomicU64, Ordering};
@@ -88,16 +92,21 @@ impl<P: Eprint> Gate for Progress<'_, P> {
 #[derive(Drop)]
 pub struct Watched<'a, P, S> {
     progress: &'a Progress<'a, P>,
-    stream: S,
+    stream: &'a mut S,
 }
 
 impl<'a, P: Eprint, S> Watched<'a, P, S> {
-    pub fn new(progress: &'a Progress<'a, P>, stream: S) -> Watched<'a, P, S> {
+    pub fn new(progress: &'a Progress<'a, P>, stream: &'a mut S) -> Watched<'a, P, S>
+        ensures same_reference { result.stream.ghost_name ≡ stream.entry.ghost_name }
+        ensures same { result.stream.now ≡ stream.old }
+    {
         Watched { progress, stream }
     }
 }
 
 impl<P: Eprint, R: Read> Read for Watched<'_, P, R> {
+    ghost remaining = { λ watched. R.remaining watched.stream.now };
+
     fn read(&mut self, buf: &mut [u8]) -> io::Result<usize> {
         let count = self.stream.read(buf)?;
         self.progress.count_lines(&buf[..count]);
@@ -106,6 +115,10 @@ impl<P: Eprint, R: Read> Read for Watched<'_, P, R> {
 }
 
 impl<P: Eprint, W: Write> Write for Watched<'_, P, W> {
+    // Behind the name of the borrow come the bytes of the stream. A writer only adds to what it
+    // holds, so the name stays: who gets the writer back knows that it still writes to that stream.
+    ghost contents = { λ watched. named watched.stream.ghost_name (W.contents watched.stream.now) };
+
     fn write(&mut self, buf: &[u8]) -> io::Result<usize> {
         self.progress.end();
         self.stream.write(buf)

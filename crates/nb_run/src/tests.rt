@@ -5,13 +5,10 @@ mod ends;
 mod words;
 mod workers;
 
-use crate::run::run;
-use crate::serve::serve;
+use crate::{Failed, FromRead, FromWrite, OptionFault, Options, RunFault, Source, run, serve};
 use nb_core::{Shape, ShapeFault};
-use nb_script::faults::{RunFault, ServeFault};
-use nb_script::options::{OptionFault, Options};
+use nb_script::faults::ServeFault;
 use nb_script::script::Cause;
-use nb_script::streams::{Failed, FromRead, FromWrite, Source};
 use std::alloc::{AllocError, Global};
 use std::fmt::Display;
 use std::process::Abort;
@@ -23,16 +20,31 @@ const PUT_GET_PUT: &str = "0 put 7 5\n0 get 7\n0 put 7 6\n";
 
 const CONDITIONAL_WRITES: &str =
     "0 replace 5 1\n0 replaceif 5 1 2\n0 putifabsent 5 1\n0 putifabsent 5 2\n\
-    0 replace 5 3\n0 replaceif 5 1 4\n0 replaceif 5 3 4\n0 removeif 5 3\n0 removeif 5 4\n0 removeif 5 4\n\
-    0 remove 5\n0 get 5\n";
+    0 replace 5 3\n0 replaceif 5 1 4\n0 replaceif 5 3 4\n0 removeif 5 3\n0 removeif 5 4\n\
+    0 removeif 5 4\n0 remove 5\n0 get 5\n";
 
 const CONDITIONAL_ANSWERS: &str =
     "0 -\n0 false\n0 -\n0 1\n0 1\n0 false\n0 true\n0 false\n0 true\n0 false\n\
     0 -\n0 -\nsize 0\n";
 
+/// A script that fills a table of four slots and goes on with the keys that have a slot.
+const FULL_AND_KEPT_KEYS: &str =
+    "0 put 0 10\n0 put 1 11\n0 put 2 12\n0 put 3 13\n0 put 4 14\n0 put 0 20\n\
+    0 remove 0\n0 put 4 14\n0 putifabsent 4 1\n0 replace 4 1\n0 put 0 30\n";
+
+const FULL_AND_KEPT_ANSWERS: &str =
+    "0 -\n0 -\n0 -\n0 -\n0 full\n0 10\n0 20\n0 full\n0 full\n0 -\n0 -\n\
+    size 4\n0 30\n1 11\n2 12\n3 13\n";
+
 /// The options where none are given.
 fn plain_options() -> Result<Options, ShapeFault> {
     let shape = Shape::new(4, 4, 1, 1)?;
+    Ok(Options { shape })
+}
+
+/// The options `--bits 2 --generations 1`.
+fn small_options() -> Result<Options, ShapeFault> {
+    let shape = Shape::new(2, 1, 1, 1)?;
     Ok(Options { shape })
 }
 
@@ -53,7 +65,6 @@ fn assert_runs<H: Abort + AllocGlobal + Threads + Wait + Sync, R: Source>(
     text: &str,
 ) -> Result<(), Fail>
     requires unfailed { R.failed reader.old ≡ false }
-    requires more { R.ended reader.old ≡ false }
 {
     let options = plain_options()?;
     let mut output = Vec::new(rt.alloc());
@@ -67,7 +78,7 @@ fn assert_runs<H: Abort + AllocGlobal + Threads + Wait + Sync, R: Source>(
 /// Asserts the program's status, all that it writes, and all that it says of a fault.
 fn assert_serves<H: Abort + AllocGlobal + Threads + Wait + Sync>(
     rt: &H,
-    words: Result<Vec<String>, OptionFault>,
+    words: &[String],
     script: &[u8],
     status: u8,
     text: &str,
@@ -90,11 +101,6 @@ fn scripts_without_a_fault(rt: HostRuntime) -> Result<(), Fail> {
         // empty_script
         ("", "size 0\n"),
         (PUT_GET_PUT, "0 -\n0 5\n0 5\nsize 1\n7 6\n"),
-        // extreme_keys
-        (
-            "0 put 0 1\n0 put 18446744073709551613 2\n0 get 0\n0 get 18446744073709551613\n",
-            "0 -\n0 -\n0 1\n0 2\nsize 2\n0 1\n18446744073709551613 2\n",
-        ),
         // extreme_value
         (
             "0 put 1 1152921504606846975\n",
@@ -105,18 +111,11 @@ fn scripts_without_a_fault(rt: HostRuntime) -> Result<(), Fail> {
         ("--\n", "size 0\n"),
         ("0 get 1", "0 -\nsize 0\n"),
         ("0\tget  1\r\n", "0 -\nsize 0\n"),
-        // adds
-        (
-            "0 add 1 5\n0 add 1 6\n0 get 1\n0 add 1 1152921504606846964\n\
-             0 add 1 1\n0 add 1 0\n0 add 2 0\n",
-            "0 -\n0 5\n0 11\n0 11\n0 range\n0 1152921504606846975\n0 -\n\
-             size 2\n1 1152921504606846975\n2 0\n",
-        ),
     ];
     for (script, text) in cases {
         let script = script.as_bytes();
         let words = words_of(rt.alloc(), &[])?;
-        assert_serves(&rt, Ok(words), script, 0, text, "");
+        assert_serves(&rt, words.as_slice(), script, 0, text, "");
         assert_runs(&rt, &mut FromRead::new(script), Ok(()), text)?;
     }
     Ok(())
@@ -216,7 +215,7 @@ fn broken_lines(rt: HostRuntime) -> Result<(), Fail> {
     ];
     for (script, number, cause, complaint) in cases {
         let words = words_of(rt.alloc(), &[])?;
-        assert_serves(&rt, Ok(words), script, 2, "", complaint);
+        assert_serves(&rt, words.as_slice(), script, 2, "", complaint);
         let fault = RunFault::Line(number, cause);
         assert_runs(&rt, &mut FromRead::new(script), Err(fault), "")?;
     }
@@ -261,7 +260,7 @@ fn words_give_options(rt: HostRuntime) -> Result<(), Fail> {
     ];
     for words in taken {
         let words = words_of(rt.alloc(), words)?;
-        assert_serves(&rt, Ok(words), puts, 0, text, "");
+        assert_serves(&rt, words.as_slice(), puts, 0, text, "");
     }
     let refused: [&[&str]; 7] = [
         &["--bits", "1"],
@@ -274,12 +273,8 @@ fn words_give_options(rt: HostRuntime) -> Result<(), Fail> {
     ];
     for words in refused {
         let words = words_of(rt.alloc(), words)?;
-        assert_serves(&rt, Ok(words), puts, 3, "", "nbrun: bad usage\n");
+        assert_serves(&rt, words.as_slice(), puts, 3, "", "nbrun: bad usage\n");
     }
-    let no_text = Err(OptionFault::Usage);
-    assert_serves(&rt, no_text, puts, 3, "", "nbrun: bad usage\n");
-    let no_memory = Err(OptionFault::OutOfMemory);
-    assert_serves(&rt, no_memory, puts, 4, "", "nbrun: out of memory\n");
     Ok(())
 }
 
@@ -287,11 +282,11 @@ fn words_give_options(rt: HostRuntime) -> Result<(), Fail> {
 fn help_is_written(rt: HostRuntime) -> Result<(), Fail> {
     let mut output = Vec::new(rt.alloc());
     let mut said = Vec::new(rt.alloc());
-    let words = Ok(words_of(rt.alloc(), &["--help"])?);
+    let words = words_of(rt.alloc(), &["--help"])?;
     let mut reader = FromRead::new(b"".as_slice());
     let mut writer = FromWrite::new(&mut output);
     let mut errors = FromWrite::new(&mut said);
-    let status = serve(&rt, words, &mut reader, &mut writer, &mut errors);
+    let status = serve(&rt, words.as_slice(), &mut reader, &mut writer, &mut errors);
     assert_eq!(rt; status, 0);
     assert!(rt; said.is_empty());
     let text = String::from_utf8(output)?;

@@ -19,7 +19,7 @@ ghost use Rattle.nb_run.specs.Working.{
 };
 
 use crate::answers::Answer;
-use crate::gate::Gate;
+use crate::gates::Gate;
 use nb_core::OutOfMemory;
 use nb_map::{Map, Seat};
 use nb_script::reader::Phase;

@@ -1,3 +1,4 @@
+mod Begun
 mod FaultLemmas
 mod FoundLemmas
 mod PlanLemmas

@@ -121,3 +121,10 @@ fault_of_end seats unread unread' unread'' lines bytes count h consumed ended no
     let nothing : Consumes unread' unread'' [] =
     subst (λ n. Consumes unread' unread'' (take n bytes)) none consumed in
     fault_of_nothing seats unread unread' unread'' lines h nothing ended fault first
+
+-- a fault stays one where what is left to read is given in another way
+pub fault_along :
+    (seats : ℕ) (unread unread' unread'' : Option Bytes) (fault : RunFault) → unread' ≡ unread''
+    → IsFaultOf seats unread unread'' fault → IsFaultOf seats unread unread' fault
+fault_along seats unread unread' unread'' fault same due =
+    subst (λ left. IsFaultOf seats unread left fault) (sym same) due

@@ -1,7 +1,8 @@
 //! Why a run or the program ends early, and what is said of it.
-ghost use Rattle.std.specs.Prelude.{◌≡◌, false, is_err, OnOk};
+ghost use Rattle.std.specs.Prelude.{◌≡◌, false, is_err, IfErr, OnOk};
 ghost use Rattle.std.specs.Io.KnownBytes.{Appends};
 ghost use Rattle.nb_script.specs.Faults.{complaint_of, fault_text, status_of};
+ghost use Rattle.nb_script.specs.Streams.{AppendsSome};
 
 use crate::script::Cause;
 use crate::streams::{Failed, Sink, write_all};
@@ -49,6 +50,8 @@ impl ServeFault {
         requires unfailed { E.failed errors.old ≡ false }
         ensures said { OnOk result (Appends (E.contents errors.old) (E.contents errors.new)
             (complaint_of self)) }
+        ensures begun { IfErr result (λ _. AppendsSome (E.contents errors.old)
+            (E.contents errors.new) (complaint_of self)) }
         ensures marks { E.failed errors.new ≡ is_err result }
     {
         write_all(errors, b"nbrun: ")?;
@@ -60,6 +63,8 @@ impl ServeFault {
         requires unfailed { E.failed errors.old ≡ false }
         ensures said { OnOk result (Appends (E.contents errors.old) (E.contents errors.new)
             (fault_text self)) }
+        ensures begun { IfErr result (λ _. AppendsSome (E.contents errors.old)
+            (E.contents errors.new) (fault_text self)) }
         ensures marks { E.failed errors.new ≡ is_err result }
     {
         match self {

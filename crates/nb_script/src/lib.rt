@@ -8,3 +8,4 @@ pub mod options;
 pub mod reader;
 pub mod script;
 pub mod streams;
+mod until_end;

@@ -26,6 +26,7 @@ ghost use Rattle.nb_script.specs.declared.script.TheConstants.{LINE_MAX, LINES_M
 use crate::faults::RunFault;
 use crate::script::{Cause, Command, LINE_MAX, LINES_MAX, Line, said_by};
 use crate::streams::Source;
+use crate::until_end::UntilEnd;
 use arrayvec::ArrayVec;
 use std::alloc::Global;
 use std::mem;
@@ -184,13 +185,13 @@ pub fn read_script<R: Source>(
     reader: &mut R,
 ) -> Result<Vec<Phase>, RunFault>
     requires unfailed { R.failed reader.old ≡ false }
-    requires more { R.ended reader.old ≡ false }
     ensures ok { IfOk result (λ phases. HasReadScript seats (R.remaining reader.old)
         (R.remaining reader.new) (map (λ phase. phase.items) phases.items)) }
     ensures fault { IfErr result (IsFaultOf seats (R.remaining reader.old)
         (R.remaining reader.new)) }
     ensures failed { IsErrOf result RunFault.Read ↔ IsTrue (R.failed reader.new) }
 {
+    let mut reader = UntilEnd::new(reader);
     let mut lines = Lines::new(alloc, seats);
     let mut piece = [0u8; PIECE];
     loop {

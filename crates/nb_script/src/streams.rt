@@ -16,7 +16,7 @@ ghost use Rattle.std.specs.Prelude.{
 };
 ghost use Rattle.std.specs.Io.KnownBytes.{Appends, ReadConsumes, WriteAppends};
 ghost use Rattle.std.specs.Io.{ReadsAtMost, WritesAtMost};
-ghost use Rattle.nb_script.specs.Streams.{AppendsSome, gave_end};
+ghost use Rattle.nb_script.specs.Streams.{AppendsSome};
 
 use std::io::{Read, Write};
 use thiserror::Error;
@@ -27,7 +27,7 @@ use thiserror::Error;
 pub struct Failed;
 
 /// Where a script comes from. It tells what is left to read, where that is known, and whether a
-/// read has failed or has found the end: nothing is read after that.
+/// read has failed: nothing is read after that.
 pub trait Source {
     /// The bytes that reads will give from here on, where they are known.
     ghost remaining: { Self → Option (List ℕ) };
@@ -35,18 +35,13 @@ pub trait Source {
     /// Whether a read has failed.
     ghost failed: { Self → Bool };
 
-    /// Whether a read has found the end.
-    ghost ended: { Self → Bool };
-
     /// Reads some bytes into the front of `buffer`. No bytes are the end, unless the buffer has no
     /// room.
     fn read(&mut self, buffer: &mut [u8]) -> Result<usize, Failed>
         requires unfailed { failed self.old ≡ false }
-        requires more { ended self.old ≡ false }
         ensures bound { IfOk result (λ count. count ≤ length buffer.new) }
         ensures bytes { ReadConsumes (remaining self.old) (remaining self.new) result buffer.new }
-        ensures marks { failed self.new ≡ is_err result }
-        ensures ends { ended self.new ≡ gave_end result buffer.new };
+        ensures marks { failed self.new ≡ is_err result };
 }
 
 /// Where output goes. It tells what it holds, where that is known, and whether a write has failed:
@@ -72,20 +67,18 @@ pub trait Sink {
 pub struct FromRead<R: Read> {
     reader: R,
     failed: bool,
-    ended: bool,
 }
 
 impl<R: Read> FromRead<R> {
     /// Wraps a reader, of which no read has failed yet. Takes no memory.
     pub fn new(reader: R) -> FromRead<R>
+        ensures wraps { result.reader ≡ reader }
         ensures same_bytes { ⟦<FromRead<R> as Source>⟧.remaining result ≡ R.remaining reader }
         ensures unfailed { ⟦<FromRead<R> as Source>⟧.failed result ≡ false }
-        ensures more { ⟦<FromRead<R> as Source>⟧.ended result ≡ false }
     {
         FromRead {
             reader,
             failed: false,
-            ended: false,
         }
     }
 }
@@ -95,14 +88,9 @@ impl<R: Read> Source for FromRead<R> {
 
     ghost failed = { λ source. source.failed };
 
-    ghost ended = { λ source. source.ended };
-
     fn read(&mut self, buffer: &mut [u8]) -> Result<usize, Failed> {
         match self.reader.read(buffer) {
-            Ok(count) => {
-                self.ended = count == 0 && !buffer.is_empty();
-                Ok(count)
-            }
+            Ok(count) => Ok(count),
             Err(_) => {
                 self.failed = true;
                 Err(Failed)
@@ -122,6 +110,7 @@ pub struct FromWrite<W: Write> {
 impl<W: Write> FromWrite<W> {
     /// Wraps a writer, of which no write has failed yet. Takes no memory.
     pub fn new(writer: W) -> FromWrite<W>
+        ensures wraps { result.writer ≡ writer }
         ensures same_bytes { ⟦<FromWrite<W> as Sink>⟧.contents result ≡ W.contents writer }
         ensures unfailed { ⟦<FromWrite<W> as Sink>⟧.failed result ≡ false }
     {

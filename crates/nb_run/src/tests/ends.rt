@@ -1,13 +1,13 @@
 //! What must come of readers and writers that give or take little, give too much, or fail.
 ghost use Rattle.std.specs.Prelude.{◌≡◌, None, false};
 
-use super::{CONDITIONAL_ANSWERS, CONDITIONAL_WRITES, assert_runs, plain_options, words_of};
-use crate::run::run;
-use crate::serve::serve;
-use nb_script::faults::RunFault;
-use nb_script::options::OptionFault;
+use super::{
+    FULL_AND_KEPT_ANSWERS, FULL_AND_KEPT_KEYS, assert_runs, plain_options, small_options, words_of,
+};
+use crate::process::serve_process;
+use crate::{Failed, FromRead, FromWrite, OptionFault, RunFault, Sink, Source, run, serve};
 use nb_script::script::Cause;
-use nb_script::streams::{Failed, FromRead, FromWrite, Sink, Source};
+use std::alloc::Global;
 use std::io;
 use std::io::{ErrorKind, Read, Write};
 use std::test::Fail;
@@ -18,15 +18,12 @@ struct SlowSource<'a> {
     unread: &'a [u8],
     reads_left: usize,
     failed: bool,
-    ended: bool,
 }
 
 impl Source for SlowSource<'_> {
     ghost remaining = { λ _. None };
 
     ghost failed = { λ source. source.failed };
-
-    ghost ended = { λ source. source.ended };
 
     fn read(&mut self, buffer: &mut [u8]) -> Result<usize, Failed> {
         if self.reads_left == 0 {
@@ -38,7 +35,6 @@ impl Source for SlowSource<'_> {
         let (given, unread) = self.unread.split_at(count);
         buffer[..count].copy_from_slice(given);
         self.unread = unread;
-        self.ended = count == 0 && !buffer.is_empty();
         Ok(count)
     }
 }
@@ -74,7 +70,6 @@ impl Sink for SlowSink {
 struct Repeated {
     byte: u8,
     left: usize,
-    ended: bool,
 }
 
 impl Source for Repeated {
@@ -82,13 +77,10 @@ impl Source for Repeated {
 
     ghost failed = { λ _. false };
 
-    ghost ended = { λ source. source.ended };
-
     fn read(&mut self, buffer: &mut [u8]) -> Result<usize, Failed> {
         let count = buffer.len().min(self.left);
         buffer[..count].fill(self.byte);
         self.left -= count;
-        self.ended = count == 0 && !buffer.is_empty();
         Ok(count)
     }
 }
@@ -172,44 +164,110 @@ fn endless_input(rt: HostRuntime) -> Result<(), Fail> {
         (b'\n', 1_048_576, Ok(()), "size 0\n"),
     ];
     for (byte, left, answer, text) in cases {
-        assert_runs(
-            &rt,
-            &mut Repeated {
-                byte,
-                left,
-                ended: false,
-            },
-            answer,
-            text,
-        )?;
+        assert_runs(&rt, &mut Repeated { byte, left }, answer, text)?;
     }
     Ok(())
 }
 
-/// A source of the script of conditional writes.
+/// Counts the reads that come after the one that found its end.
+#[derive(Drop)]
+struct CountsLateReads<'a> {
+    unread: &'a [u8],
+    has_ended: bool,
+    late_reads: usize,
+}
+
+impl Source for CountsLateReads<'_> {
+    ghost remaining = { λ _. None };
+
+    ghost failed = { λ _. false };
+
+    fn read(&mut self, buffer: &mut [u8]) -> Result<usize, Failed> {
+        if self.has_ended {
+            self.late_reads = self.late_reads.saturating_add(1);
+        }
+        let count = buffer.len().min(self.unread.len());
+        let (given, unread) = self.unread.split_at(count);
+        buffer[..count].copy_from_slice(given);
+        self.unread = unread;
+        self.has_ended = count == 0 && !buffer.is_empty();
+        Ok(count)
+    }
+}
+
+/// Nothing is read after the read that found the end.
+#[test]
+fn nothing_is_read_after_the_end(rt: HostRuntime) -> Result<(), Fail> {
+    let cases = [
+        ("", "size 0\n"),
+        ("0 put 7 5", "0 -\nsize 1\n7 5\n"),
+        ("0 put 7 5\n", "0 -\nsize 1\n7 5\n"),
+    ];
+    for (script, text) in cases {
+        let mut reader = CountsLateReads {
+            unread: script.as_bytes(),
+            has_ended: false,
+            late_reads: 0,
+        };
+        assert_runs(&rt, &mut reader, Ok(()), text)?;
+        assert!(rt; reader.has_ended, "at {script:?}");
+        assert_eq!(rt; reader.late_reads, 0, "at {script:?}");
+    }
+    Ok(())
+}
+
+/// A source of the script of full and kept keys.
 fn slow_source(reads_left: usize) -> SlowSource<'static>
     ensures unfailed { result.failed ≡ false }
-    ensures more { result.ended ≡ false }
 {
     SlowSource {
-        unread: CONDITIONAL_WRITES.as_bytes(),
+        unread: FULL_AND_KEPT_KEYS.as_bytes(),
         reads_left,
         failed: false,
-        ended: false,
     }
+}
+
+fn slow_sink(alloc: Global, writes_left: usize) -> SlowSink
+    ensures unfailed { result.failed ≡ false }
+{
+    SlowSink {
+        taken: Vec::new(alloc),
+        writes_left,
+        failed: false,
+    }
+}
+
+/// A script that is read byte by byte, and whose output is taken byte by byte, has the same output.
+#[test]
+fn one_byte_at_a_time(rt: HostRuntime) -> Result<(), Fail> {
+    let options = small_options()?;
+    let mut reader = slow_source(usize::MAX);
+    let mut writer = slow_sink(rt.alloc(), usize::MAX);
+    let result = run(&rt, &options, &mut reader, &mut writer);
+    assert_eq!(rt; result, Ok(()));
+    assert_eq!(rt; writer.taken.as_slice(), FULL_AND_KEPT_ANSWERS.as_bytes());
+    Ok(())
 }
 
 #[test]
 fn failures_at_every_read(rt: HostRuntime) -> Result<(), Fail> {
+    let options = small_options()?;
     // The last read finds the end.
-    let reads = CONDITIONAL_WRITES.len() + 1;
-    for reads_left in 0..reads {
+    let reads = FULL_AND_KEPT_KEYS.len() + 1;
+    for reads_left in 0..=reads {
         let mut reader = slow_source(reads_left);
-        assert_runs(&rt, &mut reader, Err(RunFault::Read), "")?;
-        assert!(rt; reader.failed);
+        let mut writer = slow_sink(rt.alloc(), usize::MAX);
+        let result = run(&rt, &options, &mut reader, &mut writer);
+        if reads_left == reads {
+            assert_eq!(rt; result, Ok(()));
+            assert_eq!(rt; writer.taken.as_slice(), FULL_AND_KEPT_ANSWERS.as_bytes());
+        } else {
+            assert_eq!(rt; result, Err(RunFault::Read), "after {reads_left} reads");
+            assert!(rt; reader.failed);
+            assert!(rt; writer.taken.is_empty());
+        }
     }
-    let mut reader = slow_source(reads);
-    assert_runs(&rt, &mut reader, Ok(()), CONDITIONAL_ANSWERS)
+    Ok(())
 }
 
 #[test]
@@ -219,7 +277,6 @@ fn broken_line_before_a_failed_read(rt: HostRuntime) -> Result<(), Fail> {
         unread: script.as_slice(),
         reads_left: script.len(),
         failed: false,
-        ended: false,
     };
     let fault = RunFault::Line(1, Cause::Op);
     assert_runs(&rt, &mut reader, Err(fault), "")
@@ -227,15 +284,11 @@ fn broken_line_before_a_failed_read(rt: HostRuntime) -> Result<(), Fail> {
 
 #[test]
 fn failures_at_every_write(rt: HostRuntime) -> Result<(), Fail> {
-    let text = CONDITIONAL_ANSWERS.as_bytes();
-    let options = plain_options()?;
+    let text = FULL_AND_KEPT_ANSWERS.as_bytes();
+    let options = small_options()?;
     for writes_left in 0..=text.len() {
         let mut reader = slow_source(usize::MAX);
-        let mut writer = SlowSink {
-            taken: Vec::new(rt.alloc()),
-            writes_left,
-            failed: false,
-        };
+        let mut writer = slow_sink(rt.alloc(), writes_left);
         let result = run(&rt, &options, &mut reader, &mut writer);
         let whole = writes_left == text.len();
         let answer = if whole { Ok(()) } else { Err(RunFault::Write) };
@@ -286,11 +339,12 @@ fn first_failure_ends_the_run(rt: HostRuntime) -> Result<(), Fail> {
 
 #[test]
 fn failed_ends_are_told(rt: HostRuntime) -> Result<(), Fail> {
+    let words = words_of(rt.alloc(), &[])?;
     let mut output = Vec::new(rt.alloc());
     let mut said = Vec::new(rt.alloc());
     let status = serve(
         &rt,
-        Ok(words_of(rt.alloc(), &[])?),
+        words.as_slice(),
         &mut FromRead::new(Interrupted),
         &mut FromWrite::new(&mut output),
         &mut FromWrite::new(&mut said),
@@ -302,8 +356,8 @@ fn failed_ends_are_told(rt: HostRuntime) -> Result<(), Fail> {
     said.clear();
     let status = serve(
         &rt,
-        Ok(words_of(rt.alloc(), &[])?),
-        &mut slow_source(usize::MAX),
+        words.as_slice(),
+        &mut FromRead::new(b"0 get 1\n".as_slice()),
         &mut FromWrite::new(Interrupted),
         &mut FromWrite::new(&mut said),
     );
@@ -314,11 +368,11 @@ fn failed_ends_are_told(rt: HostRuntime) -> Result<(), Fail> {
 
 #[test]
 fn failing_errors_change_no_status(rt: HostRuntime) -> Result<(), Fail> {
-    let words = Ok(words_of(rt.alloc(), &[])?);
+    let words = words_of(rt.alloc(), &[])?;
     let mut output = Vec::new(rt.alloc());
     let read = serve(
         &rt,
-        words,
+        words.as_slice(),
         &mut FromRead::new(Interrupted),
         &mut FromWrite::new(&mut output),
         &mut FromWrite::new(Interrupted),
@@ -326,18 +380,14 @@ fn failing_errors_change_no_status(rt: HostRuntime) -> Result<(), Fail> {
     assert_eq!(rt; read, 1);
 
     let cases = [
-        (Ok(words_of(rt.alloc(), &[])?), 2),
+        (Ok(words), 2),
         (Err(OptionFault::Usage), 3),
         (Err(OptionFault::OutOfMemory), 4),
     ];
     for (words, due) in cases {
-        let status = serve(
-            &rt,
-            words,
-            &mut FromRead::new(b"0\n".as_slice()),
-            &mut FromWrite::new(&mut output),
-            &mut FromWrite::new(Interrupted),
-        );
+        let mut input = b"0\n".as_slice();
+        let errors = &mut Interrupted;
+        let status = serve_process(&rt, words, &mut input, &mut output, errors, false);
         assert_eq!(rt; status, due);
     }
     assert!(rt; output.is_empty());

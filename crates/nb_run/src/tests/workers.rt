@@ -1,14 +1,13 @@
 //! Scripts of several workers, and such as fill the map.
 ghost use Rattle.std.specs.Prelude.{◌≡◌, false};
 
-use super::{CONDITIONAL_ANSWERS, CONDITIONAL_WRITES, assert_serves, plain_options, words_of};
-use crate::gate::Gate;
-use crate::run::{run, run_gated};
+use super::{
+    CONDITIONAL_ANSWERS, CONDITIONAL_WRITES, FULL_AND_KEPT_ANSWERS, FULL_AND_KEPT_KEYS,
+    assert_serves, plain_options, words_of,
+};
+use crate::{FromRead, FromWrite, Gate, Options, RunFault, run, run_gated};
 use nb_core::Shape;
-use nb_script::faults::RunFault;
-use nb_script::options::Options;
 use nb_script::script::Cause;
-use nb_script::streams::{FromRead, FromWrite};
 use std::sync::atomic::{AtomicBool, AtomicU64, Ordering};
 use std::test::Fail;
 
@@ -21,7 +20,13 @@ const EIGHT_TOLD: &str =
 #[test]
 fn scripts_fill_the_map(rt: HostRuntime) -> Result<(), Fail> {
     let small = &["--bits", "2", "--generations", "1"];
-    let cases: [(&[&str], &str, &str); 10] = [
+    let cases: [(&[&str], &str, &str); 12] = [
+        // extreme_keys
+        (
+            small,
+            "0 put 0 1\n0 put 18446744073709551613 2\n0 get 0\n0 get 18446744073709551613\n",
+            "0 -\n0 -\n0 1\n0 2\nsize 2\n0 1\n18446744073709551613 2\n",
+        ),
         // grows_when_a_path_is_crowded
         (
             &["--bits", "2", "--generations", "3"],
@@ -41,13 +46,7 @@ fn scripts_fill_the_map(rt: HostRuntime) -> Result<(), Fail> {
             "0 -\n0 -\n0 -\n0 -\n0 full\n0 10\nsize 4\n0 20\n1 11\n2 12\n3 13\n",
         ),
         // full_and_kept_keys
-        (
-            small,
-            "0 put 0 10\n0 put 1 11\n0 put 2 12\n0 put 3 13\n0 put 4 14\n0 put 0 20\n\
-             0 remove 0\n0 put 4 14\n0 putifabsent 4 1\n0 replace 4 1\n0 put 0 30\n",
-            "0 -\n0 -\n0 -\n0 -\n0 full\n0 10\n0 20\n0 full\n0 full\n0 -\n0 -\n\
-             size 4\n0 30\n1 11\n2 12\n3 13\n",
-        ),
+        (small, FULL_AND_KEPT_KEYS, FULL_AND_KEPT_ANSWERS),
         // filled_removed_refilled
         (
             &["--bits", "2", "--generations", "2"],
@@ -73,6 +72,14 @@ fn scripts_fill_the_map(rt: HostRuntime) -> Result<(), Fail> {
             "0 put 0 10\n0 put 4 14\n0 put 8 18\n0 put 12 22\n0 put 16 26\n",
             "0 -\n0 -\n0 -\n0 -\n0 full\nsize 4\n0 10\n4 14\n8 18\n12 22\n",
         ),
+        // adds
+        (
+            small,
+            "0 add 1 5\n0 add 1 6\n0 get 1\n0 add 1 1152921504606846964\n\
+             0 add 1 1\n0 add 1 0\n0 add 2 0\n",
+            "0 -\n0 5\n0 11\n0 11\n0 range\n0 1152921504606846975\n0 -\n\
+             size 2\n1 1152921504606846975\n2 0\n",
+        ),
         // add_when_full
         (
             small,
@@ -86,7 +93,7 @@ fn scripts_fill_the_map(rt: HostRuntime) -> Result<(), Fail> {
     ];
     for (words, script, text) in cases {
         let words = words_of(rt.alloc(), words)?;
-        assert_serves(&rt, Ok(words), script.as_bytes(), 0, text, "");
+        assert_serves(&rt, words.as_slice(), script.as_bytes(), 0, text, "");
     }
     Ok(())
 }
@@ -120,11 +127,11 @@ fn workers_share_the_map(rt: HostRuntime) -> Result<(), Fail> {
     ];
     for (words, script, text) in cases {
         let words = words_of(rt.alloc(), words)?;
-        assert_serves(&rt, Ok(words), script.as_bytes(), 0, text, "");
+        assert_serves(&rt, words.as_slice(), script.as_bytes(), 0, text, "");
     }
     let words = words_of(rt.alloc(), &["--seats", "2"])?;
     let said = "nbrun: line 1: no such worker\n";
-    assert_serves(&rt, Ok(words), b"2 get 7\n", 2, "", said);
+    assert_serves(&rt, words.as_slice(), b"2 get 7\n", 2, "", said);
     Ok(())
 }
 

@@ -3,7 +3,7 @@ use Rattle.std.proofs.lemmas.Bool.{ne_eqb}
 use Rattle.std.proofs.lemmas.Bool.Decides.{nat_tests}
 use Rattle.nb_map.specs.Maps.{IsMine, SeatOf}
 use Rattle.nb_run.specs.declared.answers.Answer.{Answer}
-use Rattle.nb_run.proofs.Running.{IsRunning, room-other, room-own, running-done, running-more, running-past}
+use Rattle.nb_run.proofs.OneWorker.{IsRunning, room-other, room-own, running-done, running-more, running-past}
 use Rattle.nb_run.proofs.workers.Worker.run.Goals as goal
 use Rattle.nb_run.proofs.workers.Worker.run.Goals.{then-worker-number, else-worker-number}
 

@@ -1,7 +1,7 @@
 use Rattle.std.proofs.Common.{◌≡◌, ◌+◌, ◌≤◌, drop, length, vec_capacity}
 use Rattle.nb_map.specs.Maps.{IsMine}
 use Rattle.nb_run.specs.Working.{commands_of}
-use Rattle.nb_run.proofs.Running.{IsRunning}
+use Rattle.nb_run.proofs.OneWorker.{IsRunning}
 use Rattle.nb_run.proofs.workers.Worker.run.Given as goal
 
 abbrev pub invariant-loop-worker : goal.invariant-loop-worker

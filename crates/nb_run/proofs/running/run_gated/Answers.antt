@@ -6,7 +6,7 @@ use Rattle.nb_run.specs.Runs.{HasBrokenOff, HasRun}
 use Rattle.nb_script.specs.Inputs.{HasReadScript}
 use Rattle.nb_run.specs.Working.{phases_in}
 use Rattle.nb_run.proofs.Performed.{has-broken, has-run, memory-fault}
-use Rattle.nb_run.proofs.run.run_gated.Goals as goal
+use Rattle.nb_run.proofs.running.run_gated.Goals as goal
 
 pub returns-clause-ended : goal.returns-clause-ended
 returns-clause-ended g c =

@@ -2,7 +2,7 @@
 ghost use Rattle.std.specs.Prelude.{◌≡◌, ◌≢◌, false, IfErr};
 ghost use Rattle.nb_run.specs.Runs.{IsRunResult, ends};
 
-use crate::gate::{Gate, Open};
+use crate::gates::{Gate, Open};
 use crate::outcome::perform;
 use crate::output::tell;
 use nb_script::faults::RunFault;
@@ -26,7 +26,6 @@ pub fn run<H: Threads + Wait + AllocGlobal + Sync, R: Source, W: Sink>(
     writer: &mut W,
 ) -> Result<(), RunFault>
     requires reader { R.failed reader.old ≡ false }
-    requires more { R.ended reader.old ≡ false }
     requires writer { W.failed writer.old ≡ false }
 
     ensures ended { IsRunResult options.now.shape
@@ -51,7 +50,6 @@ pub fn run_gated<H: Threads + Wait + AllocGlobal + Sync, G: Gate + Sync, R: Sour
     writer: &mut W,
 ) -> Result<(), RunFault>
     requires reader { R.failed reader.old ≡ false }
-    requires more { R.ended reader.old ≡ false }
     requires writer { W.failed writer.old ≡ false }
 
     ensures ended { IsRunResult options.now.shape

@@ -1,12 +1,12 @@
 use Rattle.std.proofs.Common.{inr, refl, rules}
-use Rattle.nb_run.proofs.serve.attend.Goals as goal
+use Rattle.nb_run.proofs.serving.attend.Goals as goal
 
 pub returns-clause-fault : goal.returns-clause-fault
 returns-clause-fault g c =
     inr (record {
       text = c.in-Err-Help.text;
       asked = search rules;
-      unread_kept = refl;
+      untouched = refl;
       told =
           search rules;
     })
@@ -16,7 +16,7 @@ returns-in-Ok-write_all-clause-ok g c = inr
     (record {
       text = c.in-Err-Help.text;
       asked = search rules;
-      unread_kept = search rules;
+      untouched = search rules;
       told =
           search rules;
     })
