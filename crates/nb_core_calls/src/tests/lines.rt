@@ -1,10 +1,10 @@
 //! Lines and their numbers, keys, and blocks of an input.
 
+use nb_core::{KEY_MAX, Key, OutOfMemory};
 use nb_lines::{
     BLOCK, Block, Cause, Done, Fault, Input, Lines, NumberWord, Stop, WordsFault, key_of,
     number_of, read_key, read_number,
 };
-use nb_core::{KEY_MAX, Key, OutOfMemory};
 use std::alloc::Global;
 use std::io;
 use std::io::{ErrorKind, Read};
@@ -35,9 +35,9 @@ fn ends_of_lines(rt: HostRuntime) {
 
 #[test]
 fn keys_of_lines(rt: HostRuntime) {
-    assert_eq!(rt; read_key(b"007").map(number_of), Ok(7));
+    assert_eq!(rt; read_key(b"007").map(|key| number_of(key)), Ok(7));
     assert_eq!(rt;
-        read_key(b"18446744073709551613").map(number_of),
+        read_key(b"18446744073709551613").map(|key| number_of(key)),
         Ok(KEY_MAX)
     );
     for line in [b"18446744073709551614".as_slice(), b"18446744073709551616"] {
@@ -59,7 +59,7 @@ fn keys_of_lines(rt: HostRuntime) {
 fn numbers_come_back(rt: HostRuntime) {
     let (once, twice) = (1_504_646_209_777_642_070, 5_863_696_168_926_310_861);
     for number in [0, 1, 4096, once, twice, KEY_MAX] {
-        assert_eq!(rt; key_of(number).map(number_of), Ok(number));
+        assert_eq!(rt; key_of(number).map(|key| number_of(key)), Ok(number));
     }
     assert!(rt; key_of(KEY_MAX + 1).is_err());
     assert_ne!(rt; key_of(4096).map(Key::get), Ok(4096));

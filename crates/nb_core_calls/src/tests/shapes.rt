@@ -28,7 +28,10 @@ fn plan_indices(rt: HostRuntime) -> Result<(), Fail> {
     let doubling = Shape::new(2, 3, 1, 1)?;
     assert_indices(&rt, &doubling, &[1, 12, 31], 66);
     assert_eq!(rt; doubling.size_of(1), 8);
-    for (h, word) in [HeaderWord::Next, HeaderWord::Take, HeaderWord::Done].iter().enumerate() {
+    for (h, word) in [HeaderWord::Next, HeaderWord::Take, HeaderWord::Done]
+        .iter()
+        .enumerate()
+    {
         assert_eq!(rt; doubling.header_place(1, h), 12 + h);
         assert_eq!(rt; doubling.header_word_place(1, *word), 12 + h);
     }

@@ -1,7 +1,7 @@
 //! The words of slots.
 use nb_core::{
-    KEY_MAX, Key, KeyState, KeyWord, Num, VALUE_MAX, ValueState, ValueWord, decode_key, decode_value,
-    encode_key, encode_value,
+    KEY_MAX, Key, KeyState, KeyWord, Num, VALUE_MAX, ValueState, ValueWord, decode_key,
+    decode_value, encode_key, encode_value,
 };
 use std::test::Fail;
 

@@ -1,15 +1,12 @@
 //! A cache of records that four threads share.
-ghost use Rattle.std.specs.Prelude.{IfOk};
 ghost use Rattle.nb_map.specs.Maps.{AreMine, IsMine};
 
 use super::on_map::*;
-use nb_core::OutOfMemory;
 use nb_long::LongMap;
 use nb_map::Seat;
 use std::alloc::Global;
 use std::process::Abort;
 use std::sync::Wait;
-use std::test::Fail;
 use std::thread;
 use std::thread::Threads;
 
@@ -112,11 +109,25 @@ fn has_own<R: Abort>(rt: &R, map: &LongMap<Vec<u8>>, seat: &mut Seat)
     }
 }
 
+/// A cache with a seat for each of four threads.
+fn cache<R: Abort>(rt: &R, alloc: Global) -> (LongMap<Vec<u8>>, Vec<Seat>)
+    ensures { AreMine result.0.map result.1.items }
+{
+    map_of(rt, alloc, 4).expect(rt, "memory")
+}
+
+/// What the threads have left is whole.
+fn is_whole<R: Abort>(rt: &R, map: &LongMap<Vec<u8>>, seats: Vec<Seat>)
+    requires { AreMine map.now.map seats.items }
+{
+    let mut seats = seats;
+    let mut seat = taken(rt, map, &mut seats);
+    has_own(rt, map, &mut seat);
+}
+
 #[test]
-fn cache_of_bytes(rt: HostRuntime) -> Result<(), Fail> {
-    let (map, mut seats) = map_of::<_, Vec<u8>>(&rt, rt.alloc(), 4)?;
+fn cache_of_bytes(rt: HostRuntime) {
+    let (map, mut seats) = cache(&rt, rt.alloc());
     all_call(&rt, rt.alloc(), &map, seats.as_mut_slice());
-    let mut seat = taken(&rt, &map, &mut seats);
-    has_own(&rt, &map, &mut seat);
-    Ok(())
+    is_whole(&rt, &map, seats);
 }

@@ -2,15 +2,15 @@
 //! map that can't be opened leaves nothing.
 ghost use Rattle.nb_map.specs.Maps.{IsMine};
 
+use super::handles::closes;
 use super::on_map::*;
-use super::renewing::renews;
+use super::renewing::{opened_again, renews};
 use nb_core::{OutOfMemory, Shape};
-use nb_long::{Handle, LongFault, LongMap, Stored, UpdateFault};
+use nb_long::{LongFault, LongMap, Stored, UpdateFault};
 use nb_map::Seat;
 use std::alloc::Global;
 use std::process::Abort;
 use std::sync::Wait;
-use std::test::Fail;
 
 /// The value that the calls are given.
 const VALUE: u64 = 77;
@@ -91,8 +91,8 @@ fn replaces_if<R: Wait + Abort>(rt: &R, map: &LongMap<u64>, seat: &mut Seat)
     assert!(rt; !done);
 }
 
-/// Updates key 1, and sees that a value that wasn't stored came back. It answers whether the key was
-/// absent.
+/// Updates key 1, and sees that a value that wasn't stored came back. It answers whether the key
+/// was absent.
 fn update_once<R: Wait + Abort>(
     rt: &R,
     map: &LongMap<u64>,
@@ -122,39 +122,40 @@ fn updates<R: Wait + Abort>(rt: &R, map: &LongMap<u64>, seat: &mut Seat)
     assert!(rt; came);
 }
 
-/// A refused map of handles is asked for again. Then each seat has its handle, and all of them close
-/// the map.
-fn opens<R: Wait + Abort>(rt: &R, alloc: Global, shape: Shape) -> Result<(), OutOfMemory> {
-    let handles: Vec<Handle<u64>> = match Handle::open(alloc, shape) {
-        Ok(handles) => handles,
-        Err(OutOfMemory) => Handle::open(alloc, shape)?,
-    };
+/// A refused map of handles is asked for again. Then each seat has its handle, and all of them
+/// close the map.
+fn opens<R: Wait + Abort>(rt: &R, alloc: Global, shape: Shape) {
+    let handles = opened_again(rt, alloc, shape);
     assert_eq!(rt; handles.len(), shape.seats());
-    let Ok((ended, _store)) = Handle::close(rt, handles) else {
-        panic!(rt; "all handles are here")
-    };
-    assert_eq!(rt; ended.size(), 0);
-    Ok(())
+    closes(rt, handles, 0);
 }
 
-/// A put, and one where the key is absent, each in a map that has stored nothing yet.
-fn stores<R: Wait + Abort>(rt: &R, alloc: Global) {
+/// A put, in a map that has stored nothing yet.
+fn put_comes_first<R: Wait + Abort>(rt: &R, alloc: Global) {
     let (map, mut seat) = fresh(rt, alloc);
     puts(rt, &map, &mut seat);
+}
+
+/// A put where the key is absent, in a map that has stored nothing yet.
+fn put_if_absent_comes_first<R: Wait + Abort>(rt: &R, alloc: Global) {
     let (map, mut seat) = fresh(rt, alloc);
     puts_if_absent(rt, &map, &mut seat);
 }
 
-/// Both replacements, each in a map that has stored nothing yet.
-fn stores_in_vain<R: Wait + Abort>(rt: &R, alloc: Global) {
+/// A replacement, in a map that has stored nothing yet.
+fn replacement_comes_first<R: Wait + Abort>(rt: &R, alloc: Global) {
     let (map, mut seat) = fresh(rt, alloc);
     replaces(rt, &map, &mut seat);
+}
+
+/// A replacement of an equal value, in a map that has stored nothing yet.
+fn replacement_of_equal_comes_first<R: Wait + Abort>(rt: &R, alloc: Global) {
     let (map, mut seat) = fresh(rt, alloc);
     replaces_if(rt, &map, &mut seat);
 }
 
 /// An update, in a map that has stored nothing yet.
-fn stores_by_function<R: Wait + Abort>(rt: &R, alloc: Global) {
+fn update_comes_first<R: Wait + Abort>(rt: &R, alloc: Global) {
     let (map, mut seat) = fresh(rt, alloc);
     updates(rt, &map, &mut seat);
 }
@@ -162,11 +163,12 @@ fn stores_by_function<R: Wait + Abort>(rt: &R, alloc: Global) {
 /// What takes memory is called again where it was refused, and then it has it: so this passes
 /// whichever one request is refused.
 #[test]
-fn refused_memory(rt: HostRuntime) -> Result<(), Fail> {
-    stores(&rt, rt.alloc());
-    stores_in_vain(&rt, rt.alloc());
-    stores_by_function(&rt, rt.alloc());
-    let shape = Shape::new(2, 2, 3, 1)?;
-    opens(&rt, rt.alloc(), shape)?;
-    renews(&rt, rt.alloc())
+fn refused_memory(rt: HostRuntime) {
+    put_comes_first(&rt, rt.alloc());
+    put_if_absent_comes_first(&rt, rt.alloc());
+    replacement_comes_first(&rt, rt.alloc());
+    replacement_of_equal_comes_first(&rt, rt.alloc());
+    update_comes_first(&rt, rt.alloc());
+    opens(&rt, rt.alloc(), shape(&rt, 2, 2, 3));
+    renews(&rt, rt.alloc());
 }

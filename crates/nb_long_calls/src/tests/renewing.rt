@@ -1,17 +1,16 @@
 //! Typed maps whose entries are listed, and typed maps that are made anew over their store.
-ghost use Rattle.std.specs.Prelude.{IfOk, ◌≡◌};
+ghost use Rattle.std.specs.Prelude.{◌≡◌};
 ghost use Rattle.nb_long.specs.Handles.{AreOfOneMap};
 
-use super::handles::value_at;
-use super::on_map::key;
-use super::renewing::Call::{Has, Lacks, Put, Refuse, Remove};
+use super::handles::{closes, opened, value_at};
+use super::on_map::{key, shape};
+use super::renewing::Call::{Has, Lacks, Put, PutAgain, Refuse, Remove};
 use super::settling::all_put;
-use nb_core::{Key, Num, OutOfMemory, Shape};
+use nb_core::{Key, Num, Shape};
 use nb_long::{Handle, LongFault, RenewFault, SettleFault};
 use std::alloc::Global;
 use std::process::Abort;
 use std::sync::Wait;
-use std::test::Fail;
 
 /// How many slots the table has of a map that is made anew again and again.
 const SLOTS: u64 = 16;
@@ -21,6 +20,8 @@ const SLOTS: u64 = 16;
 enum Call {
     /// This value is put.
     Put(u64),
+    /// This value is put, also where one request for memory is refused.
+    PutAgain(u64),
     /// No value can be put, since the map is full.
     Refuse,
     /// The key is taken out.
@@ -31,12 +32,23 @@ enum Call {
     Lacks,
 }
 
+/// Puts a value, also where one request for memory is refused.
+fn puts_again<R: Wait + Abort>(rt: &R, handle: &mut Handle<u64>, key: Key, value: u64)
+    ensures { handle.new.map ≡ handle.old.map }
+{
+    if handle.put(rt, key, value).is_err() {
+        assert!(rt; handle.put(rt, key, value).is_ok());
+    }
+}
+
+/// Makes a call at a key.
 fn makes<R: Wait + Abort>(rt: &R, handle: &mut Handle<u64>, k: u64, call: Call)
     ensures { handle.new.map ≡ handle.old.map }
 {
     let key = key(rt, k);
     match call {
         Put(value) => assert!(rt; handle.put(rt, key, value).is_ok(), "key {k}"),
+        PutAgain(value) => puts_again(rt, handle, key, value),
         Refuse => assert!(rt; matches!(handle.put(rt, key, 0), Err(LongFault::Full(_)))),
         Remove => assert!(rt; handle.remove(rt, key).is_some(), "key {k}"),
         Has(value) => assert_eq!(rt; value_at(rt, handle, key), Some(value), "key {k}"),
@@ -44,6 +56,7 @@ fn makes<R: Wait + Abort>(rt: &R, handle: &mut Handle<u64>, k: u64, call: Call)
     }
 }
 
+/// Makes these calls.
 fn all_make<R: Wait + Abort>(rt: &R, handle: &mut Handle<u64>, rows: &[(u64, Call)])
     ensures { handle.new.map ≡ handle.old.map }
 {
@@ -64,16 +77,6 @@ fn last_makes<R: Wait + Abort>(rt: &R, handles: &mut Vec<Handle<u64>>, rows: &[(
     handles.push_reserved(last);
 }
 
-/// An empty map of this shape.
-fn opened<R: Abort>(rt: &R, alloc: Global, shape: Shape) -> Vec<Handle<u64>>
-    ensures { AreOfOneMap result.items }
-{
-    let Ok(handles) = Handle::open(alloc, shape) else {
-        panic!(rt; "there is memory")
-    };
-    handles
-}
-
 /// The map made anew in this shape, where there is room for its keys.
 fn renewed<R: Abort>(rt: &R, alloc: Global, handles: &mut Vec<Handle<u64>>, shape: Shape)
     requires { AreOfOneMap handles.old.items }
@@ -82,27 +85,37 @@ fn renewed<R: Abort>(rt: &R, alloc: Global, handles: &mut Vec<Handle<u64>>, shap
     assert_eq!(rt; Handle::renew(alloc, handles, shape), Ok(()));
 }
 
+/// All slots of the table are taken, one by a key that is removed again.
+const ALL_SLOTS_TAKEN: [(u64, Call); 7] = [
+    (0, Put(10)),
+    (1, Put(11)),
+    (0, Remove),
+    (1, Put(12)),
+    (2, Put(20)),
+    (3, Put(30)),
+    (4, Refuse),
+];
+
+/// The other keys have their values, and there is room for one more.
+const ONE_SLOT_MORE: [(u64, Call); 7] = [
+    (0, Lacks),
+    (1, Has(12)),
+    (4, Put(40)),
+    (5, Refuse),
+    (2, Has(20)),
+    (3, Has(30)),
+    (4, Has(40)),
+];
+
 /// A new map of another shape has the values that the old one had, and no slot of a removed key.
 #[test]
-fn renewed_in_another_shape(rt: HostRuntime) -> Result<(), Fail> {
-    let mut handles = opened(&rt, rt.alloc(), Shape::new(2, 1, 2, 1)?);
-    let rows = [
-        (0, Put(10)),
-        (1, Put(11)),
-        (0, Remove),
-        (1, Put(12)),
-        (2, Put(20)),
-        (3, Put(30)),
-        (4, Refuse),
-    ];
-    last_makes(&rt, &mut handles, &rows);
-    renewed(&rt, rt.alloc(), &mut handles, Shape::new(2, 1, 3, 2)?);
+fn renewed_in_another_shape(rt: HostRuntime) {
+    let other = Shape::new(2, 1, 3, 2).expect(&rt, "a shape");
+    let mut handles = opened(&rt, rt.alloc(), shape(&rt, 2, 1, 2));
+    last_makes(&rt, &mut handles, &ALL_SLOTS_TAKEN);
+    renewed(&rt, rt.alloc(), &mut handles, other);
     assert_eq!(rt; handles.len(), 3);
-    let rows = [(0, Lacks), (1, Has(12)), (4, Put(40)), (5, Refuse)];
-    last_makes(&rt, &mut handles, &rows);
-    let rows = [(2, Has(20)), (3, Has(30)), (4, Has(40))];
-    last_makes(&rt, &mut handles, &rows);
-    Ok(())
+    last_makes(&rt, &mut handles, &ONE_SLOT_MORE);
 }
 
 /// The value under a number, by the first of the handles.
@@ -145,103 +158,123 @@ fn number_by_last<R: Abort>(rt: &R, handles: &mut Vec<Handle<u64>>, k: u64) -> O
 
 /// The number of a value that was written over shows it still.
 #[test]
-fn numbers_stay_good(rt: HostRuntime) -> Result<(), Fail> {
-    let shape = Shape::new(2, 1, 2, 1)?;
+fn numbers_stay_good(rt: HostRuntime) {
+    let shape = shape(&rt, 2, 1, 2);
     let mut handles = opened(&rt, rt.alloc(), shape);
     let number = puts_in_vain(&rt, &mut handles);
     renewed(&rt, rt.alloc(), &mut handles, shape);
     assert_eq!(rt; first_shows(&rt, handles.as_slice(), number), 10);
-    Ok(())
+}
+
+/// Five keys come.
+const FIVE_KEYS: [(u64, Call); 5] = [
+    (0, Put(0)),
+    (1, Put(1)),
+    (2, Put(2)),
+    (3, Put(3)),
+    (4, Put(4)),
+];
+
+/// The map isn't made anew, for this reason, and these two handles are left.
+fn stays<R: Abort>(
+    rt: &R,
+    alloc: Global,
+    handles: &mut Vec<Handle<u64>>,
+    shape: Shape,
+    fault: RenewFault,
+)
+    requires { AreOfOneMap handles.old.items }
+    ensures { AreOfOneMap handles.new.items }
+{
+    assert_eq!(rt; Handle::renew(alloc, handles, shape), Err(fault));
+    assert_eq!(rt; handles.len(), 2);
 }
 
 /// Where the new shape has too few slots, the old handles work on, and can be made anew in another.
 #[test]
-fn renewed_in_too_small_a_shape(rt: HostRuntime) -> Result<(), Fail> {
-    let (small, large) = (Shape::new(2, 1, 3, 1)?, Shape::new(3, 1, 2, 1)?);
+fn renewed_in_too_small_a_shape(rt: HostRuntime) {
+    let (small, large) = (shape(&rt, 2, 1, 3), shape(&rt, 3, 1, 2));
     let mut handles = opened(&rt, rt.alloc(), large);
-    let rows = [
-        (0, Put(0)),
-        (1, Put(1)),
-        (2, Put(2)),
-        (3, Put(3)),
-        (4, Put(4)),
-    ];
-    last_makes(&rt, &mut handles, &rows);
-    assert_eq!(rt;
-        Handle::renew(rt.alloc(), &mut handles, small),
-        Err(RenewFault::Full)
-    );
-    assert_eq!(rt; handles.len(), 2);
+    last_makes(&rt, &mut handles, &FIVE_KEYS);
+    stays(&rt, rt.alloc(), &mut handles, small, RenewFault::Full);
     last_makes(&rt, &mut handles, &[(4, Has(4)), (4, Remove), (5, Put(5))]);
     renewed(&rt, rt.alloc(), &mut handles, large);
     last_makes(&rt, &mut handles, &[(0, Has(0)), (4, Lacks), (5, Has(5))]);
-    Ok(())
 }
 
-/// A handle is missing: nothing is made anew or listed, and the others work on.
-#[test]
-fn renewed_without_a_handle(rt: HostRuntime) -> Result<(), Fail> {
-    let shape = Shape::new(2, 1, 3, 1)?;
-    let mut handles = opened(&rt, rt.alloc(), shape);
-    drop(handles.pop());
-    assert_eq!(rt;
-        Handle::renew(rt.alloc(), &mut handles, shape),
-        Err(RenewFault::NotAll)
-    );
-    match Handle::entries(rt.alloc(), &mut handles) {
+/// Nothing is listed, since a handle is missing.
+fn is_not_listed<R: Abort>(rt: &R, alloc: Global, handles: &mut Vec<Handle<u64>>)
+    requires { AreOfOneMap handles.old.items }
+    ensures { AreOfOneMap handles.new.items }
+{
+    match Handle::entries(alloc, handles) {
         Ok(_) => panic!(rt; "a handle is missing"),
         Err(fault) => assert_eq!(rt; fault, SettleFault::NotAll),
     }
     assert_eq!(rt; handles.len(), 2);
+}
+
+/// A handle is missing: nothing is made anew or listed, and the others work on.
+#[test]
+fn renewed_without_a_handle(rt: HostRuntime) {
+    let shape = shape(&rt, 2, 1, 3);
+    let mut handles = opened(&rt, rt.alloc(), shape);
+    drop(handles.pop());
+    stays(&rt, rt.alloc(), &mut handles, shape, RenewFault::NotAll);
+    is_not_listed(&rt, rt.alloc(), &mut handles);
     last_makes(&rt, &mut handles, &[(1, Put(1)), (1, Has(1))]);
-    Ok(())
 }
 
 /// Two threads put a value at a key, the map is made anew, and two threads put at another key.
 #[test]
-fn renewed_between_rounds(rt: HostRuntime) -> Result<(), Fail> {
-    let shape = Shape::new(4, 2, 2, 1)?;
+fn renewed_between_rounds(rt: HostRuntime) {
+    let shape = shape(&rt, 4, 2, 2);
     let mut handles = opened(&rt, rt.alloc(), shape);
-    all_put(&rt, handles.as_mut_slice(), key(&rt, 7));
+    all_put(&rt, &mut handles, key(&rt, 7));
     renewed(&rt, rt.alloc(), &mut handles, shape);
-    all_put(&rt, handles.as_mut_slice(), key(&rt, 8));
+    all_put(&rt, &mut handles, key(&rt, 8));
     last_makes(&rt, &mut handles, &[(7, Has(5)), (8, Has(5))]);
-    Ok(())
 }
 
-/// Four keys come, from this one on, and of the keys before them the eldest four go.
-fn four_pass<R: Wait + Abort>(rt: &R, handles: &mut Vec<Handle<u64>>, first: u64)
+/// The first eight keys come.
+const FIRST_KEYS: [(u64, Call); 8] = [
+    (0, Put(0)),
+    (1, Put(1)),
+    (2, Put(2)),
+    (3, Put(3)),
+    (4, Put(4)),
+    (5, Put(5)),
+    (6, Put(6)),
+    (7, Put(7)),
+];
+
+/// Keys come, from the ninth on, and of the keys before each the eldest goes. Before each four of
+/// them the map is made anew.
+fn keys_pass<R: Wait + Abort>(rt: &R, alloc: Global, handles: &mut Vec<Handle<u64>>, shape: Shape)
     requires { AreOfOneMap handles.old.items }
     ensures { AreOfOneMap handles.new.items }
 {
-    for n in 0..4 {
-        let new = first.wrapping_add(n);
+    for new in 8..10 * SLOTS {
+        if new % 4 == 0 {
+            renewed(rt, alloc, handles, shape);
+        }
         let old = new.wrapping_sub(8);
-        last_makes(
-            rt,
-            handles,
-            &[(new, Put(new)), (old, Has(old)), (old, Remove)],
-        );
+        let rows = [(new, Put(new)), (old, Has(old)), (old, Remove)];
+        last_makes(rt, handles, &rows);
     }
 }
 
 /// A map whose table has 16 slots takes ten times as many different keys, of which it has eight or
 /// nine at a time: before each four of them it is made anew.
 #[test]
-fn more_keys_than_slots(rt: HostRuntime) -> Result<(), Fail> {
-    let shape = Shape::new(4, 1, 2, 1)?;
+fn more_keys_than_slots(rt: HostRuntime) {
+    let shape = shape(&rt, 4, 1, 2);
     assert_eq!(rt; shape.size_of(shape.generations() - 1) as u64, SLOTS);
     let mut handles = opened(&rt, rt.alloc(), shape);
-    for k in 0..8 {
-        last_makes(&rt, &mut handles, &[(k, Put(k))]);
-    }
-    for round in 2..10 * SLOTS / 4 {
-        renewed(&rt, rt.alloc(), &mut handles, shape);
-        four_pass(&rt, &mut handles, 4 * round);
-    }
+    last_makes(&rt, &mut handles, &FIRST_KEYS);
+    keys_pass(&rt, rt.alloc(), &mut handles, shape);
     last_makes(&rt, &mut handles, &[(10 * SLOTS - 1, Has(10 * SLOTS - 1))]);
     assert_eq!(rt; Handle::settle(rt.alloc(), &mut handles), Ok(8));
-    Ok(())
 }
 
 /// Each number shows ten times its key.
@@ -254,18 +287,24 @@ fn show_tens<R: Abort>(rt: &R, handles: &[Handle<u64>], entries: &[(Key, Num)]) 
     }
 }
 
-/// Each key is listed once, with the number that shows its value.
-#[test]
-fn listed_with_their_values(rt: HostRuntime) -> Result<(), Fail> {
-    let mut handles = opened(&rt, rt.alloc(), Shape::new(2, 2, 2, 1)?);
-    let rows = [(1, Put(10)), (2, Put(20)), (3, Put(30)), (2, Remove)];
-    last_makes(&rt, &mut handles, &rows);
-    let Ok(entries) = Handle::entries(rt.alloc(), &mut handles) else {
+/// Lists two keys, each with the number of ten times its key.
+fn lists_tens<R: Abort>(rt: &R, alloc: Global, handles: &mut Vec<Handle<u64>>)
+    requires { AreOfOneMap handles.old.items }
+{
+    let Ok(entries) = Handle::entries(alloc, handles) else {
         panic!(rt; "all handles are here")
     };
     assert_eq!(rt; entries.len(), 2);
-    show_tens(&rt, handles.as_slice(), entries.as_slice());
-    Ok(())
+    show_tens(rt, handles.as_slice(), entries.as_slice());
+}
+
+/// Each key is listed once, with the number that shows its value.
+#[test]
+fn listed_with_their_values(rt: HostRuntime) {
+    let mut handles = opened(&rt, rt.alloc(), shape(&rt, 2, 2, 2));
+    let rows = [(1, Put(10)), (2, Put(20)), (3, Put(30)), (2, Remove)];
+    last_makes(&rt, &mut handles, &rows);
+    lists_tens(&rt, rt.alloc(), &mut handles);
 }
 
 /// The map made anew, also where one request for memory is refused.
@@ -284,74 +323,67 @@ fn renewed_again(
     renewed
 }
 
-/// A put by the last of the handles, also where one request for memory is refused.
-fn put_again<R: Wait + Abort>(rt: &R, handles: &mut Vec<Handle<u64>>, k: u64, value: u64)
+/// An empty map, also where one request for memory is refused.
+pub(super) fn opened_again<R: Abort>(rt: &R, alloc: Global, shape: Shape) -> Vec<Handle<u64>>
+    ensures { AreOfOneMap result.items }
+{
+    match Handle::open(alloc, shape) {
+        Ok(handles) => handles,
+        Err(_) => opened(rt, alloc, shape),
+    }
+}
+
+/// The entries listed, also where one request for memory is refused.
+fn listed_again(
+    alloc: Global,
+    handles: &mut Vec<Handle<u64>>,
+) -> Result<Vec<(Key, Num)>, SettleFault>
     requires { AreOfOneMap handles.old.items }
     ensures { AreOfOneMap handles.new.items }
 {
-    let Some(mut last) = handles.pop() else {
-        panic!(rt; "there is a handle")
-    };
-    puts_again(rt, &mut last, k, value);
-    handles.push_reserved(last);
-}
-
-fn puts_again<R: Wait + Abort>(rt: &R, handle: &mut Handle<u64>, k: u64, value: u64)
-    ensures { handle.new.map ≡ handle.old.map }
-{
-    if handle.put(rt, key(rt, k), value).is_err() {
-        makes(rt, handle, k, Put(value));
+    match Handle::entries(alloc, handles) {
+        Ok(entries) => Ok(entries),
+        Err(_) => Handle::entries(alloc, handles),
     }
 }
 
-/// An empty map, also where one request for memory is refused.
-fn opened_again(alloc: Global, shape: Shape) -> Result<Vec<Handle<u64>>, OutOfMemory>
-    ensures { IfOk result (λ handles. AreOfOneMap handles.items) }
-{
-    match Handle::open(alloc, shape) {
-        Ok(handles) => Ok(handles),
-        Err(_) => Handle::open(alloc, shape),
-    }
-}
-
-/// Lists two entries, also where one request for memory is refused.
+/// Lists two entries.
 fn lists_two<R: Abort>(rt: &R, alloc: Global, handles: &mut Vec<Handle<u64>>)
     requires { AreOfOneMap handles.old.items }
     ensures { AreOfOneMap handles.new.items }
 {
-    let entries = match Handle::entries(alloc, handles) {
-        Ok(entries) => entries,
-        Err(_) => Handle::entries(alloc, handles).expect(rt, "memory"),
-    };
+    let entries = listed_again(alloc, handles).expect(rt, "memory");
     assert_eq!(rt; entries.len(), 2);
 }
 
-/// Counts two keys, also where one request for memory is refused.
-fn counts_two<R: Abort>(rt: &R, alloc: Global, handles: &mut Vec<Handle<u64>>)
+/// The map settled, also where one request for memory is refused.
+fn settled_again(alloc: Global, handles: &mut Vec<Handle<u64>>) -> Result<u64, SettleFault>
     requires { AreOfOneMap handles.old.items }
     ensures { AreOfOneMap handles.new.items }
 {
-    let size = match Handle::settle(alloc, handles) {
-        Ok(size) => size,
-        Err(_) => Handle::settle(alloc, handles).expect(rt, "memory"),
-    };
-    assert_eq!(rt; size, 2);
+    match Handle::settle(alloc, handles) {
+        Ok(size) => Ok(size),
+        Err(_) => Handle::settle(alloc, handles),
+    }
+}
+
+/// Settles a map of two keys, makes it anew, and lists it.
+fn stands_again<R: Abort>(rt: &R, alloc: Global, handles: &mut Vec<Handle<u64>>, shape: Shape)
+    requires { AreOfOneMap handles.old.items }
+    ensures { AreOfOneMap handles.new.items }
+{
+    assert_eq!(rt; settled_again(alloc, handles), Ok(2));
+    assert_eq!(rt; renewed_again(alloc, handles, shape), Ok(()));
+    lists_two(rt, alloc, handles);
 }
 
 /// Settles a map, makes it anew, and lists it, also where one request for memory is refused: then
 /// the old handles have lost nothing.
-pub(super) fn renews<R: Wait + Abort>(rt: &R, alloc: Global) -> Result<(), Fail> {
-    let shape = Shape::new(2, 2, 2, 1)?;
-    let mut handles = opened_again(alloc, shape)?;
-    put_again(rt, &mut handles, 1, 10);
-    put_again(rt, &mut handles, 2, 20);
-    counts_two(rt, alloc, &mut handles);
-    renewed_again(alloc, &mut handles, shape)?;
-    lists_two(rt, alloc, &mut handles);
+pub(super) fn renews<R: Wait + Abort>(rt: &R, alloc: Global) {
+    let shape = shape(rt, 2, 2, 2);
+    let mut handles = opened_again(rt, alloc, shape);
+    last_makes(rt, &mut handles, &[(1, PutAgain(10)), (2, PutAgain(20))]);
+    stands_again(rt, alloc, &mut handles, shape);
     last_makes(rt, &mut handles, &[(1, Has(10)), (2, Has(20))]);
-    let Ok((ended, _store)) = Handle::close(rt, handles) else {
-        panic!(rt; "all handles are here")
-    };
-    assert_eq!(rt; ended.size(), 2);
-    Ok(())
+    closes(rt, handles, 2);
 }

@@ -1,26 +1,24 @@
 //! All handles of a typed map settle, and work on.
-ghost use Rattle.std.specs.Prelude.{◌≡◌};
 ghost use Rattle.nb_long.specs.Handles.{AreOfOneMap};
 
-use nb_core::{Key, Shape};
+use super::handles::opened;
+use super::on_map::{key, shape};
+use nb_core::Key;
 use nb_long::{Handle, SettleFault};
 use std::sync::Wait;
-use std::test::Fail;
 use std::thread;
 use std::thread::Threads;
 
 /// Each handle puts a value at a key, in a thread of its own.
-pub(super) fn all_put<R: Threads + Sync + Wait>(rt: &R, handles: &mut [Handle<u64>], key: Key)
-    requires { AreOfOneMap handles.old }
-    ensures { AreOfOneMap handles.new }
+pub(super) fn all_put<R: Threads + Sync + Wait>(rt: &R, handles: &mut Vec<Handle<u64>>, key: Key)
+    requires { AreOfOneMap handles.old.items }
+    ensures { AreOfOneMap handles.new.items }
 {
     thread::for_each_mut(
         rt,
-        handles,
-        2,
-        &|_, handle: &mut Handle<u64>|
-            ensures { handle.exit.now.map ≡ handle.entry.now.map }
-        {
+        handles.as_mut_slice(),
+        4,
+        &|_, handle: &mut Handle<u64>| {
             let _ = handle.put(rt, key, 5);
         },
     );
@@ -28,22 +26,19 @@ pub(super) fn all_put<R: Threads + Sync + Wait>(rt: &R, handles: &mut [Handle<u6
 
 /// Two threads put, and settle.
 #[test]
-fn settled_between_rounds(rt: HostRuntime) -> Result<(), Fail> {
-    let key = Key::new(7)?;
-    let mut handles = Handle::open(rt.alloc(), Shape::new(4, 2, 2, 1)?)?;
-    all_put(&rt, handles.as_mut_slice(), key);
+fn settled_between_rounds(rt: HostRuntime) {
+    let mut handles = opened(&rt, rt.alloc(), shape(&rt, 4, 2, 2));
+    all_put(&rt, &mut handles, key(&rt, 7));
     assert_eq!(rt; Handle::settle(rt.alloc(), &mut handles), Ok(1));
-    Ok(())
 }
 
 /// A handle is missing: nothing is settled.
 #[test]
-fn settled_without_a_handle(rt: HostRuntime) -> Result<(), Fail> {
-    let mut handles: Vec<Handle<u64>> = Handle::open(rt.alloc(), Shape::new(4, 2, 2, 1)?)?;
+fn settled_without_a_handle(rt: HostRuntime) {
+    let mut handles = opened(&rt, rt.alloc(), shape(&rt, 4, 2, 2));
     drop(handles.pop());
     assert_eq!(rt;
         Handle::settle(rt.alloc(), &mut handles),
         Err(SettleFault::NotAll)
     );
-    Ok(())
 }

@@ -10,7 +10,6 @@ use nb_map::Seat;
 use std::alloc::Global;
 use std::process::Abort;
 use std::sync::Wait;
-use std::test::Fail;
 
 type Bytes = Vec<u8>;
 
@@ -101,7 +100,7 @@ fn replaces<R: Wait + Abort>(rt: &R, alloc: Global, map: &LongMap<Bytes>, seat: 
     has(rt, map, seat, b"cd");
 }
 
-/// Puts a value in the place of an equal one, if that is there.
+/// Puts a value in the place of an equal one, if that is there, and sees what is there then.
 fn replaces_if<R: Wait + Abort>(
     rt: &R,
     alloc: Global,
@@ -110,6 +109,7 @@ fn replaces_if<R: Wait + Abort>(
     old: &[u8],
     new: &[u8],
     done: bool,
+    is: &[u8],
 )
     requires own { IsMine map.now.map seat.old }
     ensures own { IsMine map.now.map seat.new }
@@ -118,6 +118,7 @@ fn replaces_if<R: Wait + Abort>(
     let old = bytes(rt, alloc, old);
     let written = map.replace_if(rt, seat, key(rt, 1), &old, bytes(rt, alloc, new));
     told(rt, map, written, before, done);
+    has(rt, map, seat, is);
 }
 
 /// Takes out key 1 where it has this value.
@@ -172,51 +173,117 @@ fn reads_by_receipt<R: Abort>(rt: &R, map: &LongMap<Bytes>, seat: &mut Seat, tex
     assert!(rt; map.store().value(&receipt).as_slice() == text);
 }
 
+/// Puts one more value, for which there is room.
+fn puts_one_more<R: Wait + Abort>(
+    rt: &R,
+    alloc: Global,
+    map: &LongMap<Bytes>,
+    seat: &mut Seat,
+    k: u64,
+)
+    requires own { IsMine map.now.map seat.old }
+    ensures own { IsMine map.now.map seat.new }
+{
+    let written = map.put(rt, seat, key(rt, k), bytes(rt, alloc, b"kept"));
+    assert!(rt; written.is_ok());
+}
+
 /// Four keys fill the table.
 fn fills_up<R: Wait + Abort>(rt: &R, alloc: Global, map: &LongMap<Bytes>, seat: &mut Seat)
     requires own { IsMine map.now.map seat.old }
     ensures own { IsMine map.now.map seat.new }
 {
     for k in 1..5 {
-        let written = map.put(rt, seat, key(rt, k), bytes(rt, alloc, b"kept"));
-        assert!(rt; written.is_ok());
+        puts_one_more(rt, alloc, map, seat, k);
     }
 }
 
-/// A fifth key is refused: its value is read by the receipt that comes back.
-fn is_full<R: Wait + Abort>(rt: &R, alloc: Global, map: &LongMap<Bytes>, seat: &mut Seat)
+/// A fifth key is refused. The receipt of its value comes back.
+fn is_refused<R: Wait + Abort>(
+    rt: &R,
+    alloc: Global,
+    map: &LongMap<Bytes>,
+    seat: &mut Seat,
+) -> Receipt<Bytes>
     requires own { IsMine map.now.map seat.old }
     ensures own { IsMine map.now.map seat.new }
+    ensures shown { Shows map.now.store result }
 {
     let written = map.put(rt, seat, key(rt, 5), bytes(rt, alloc, b"gh"));
     let Err(LongFault::Full(receipt)) = written else {
         panic!(rt; "the map is full")
     };
+    receipt
+}
+
+/// The value of a key that was refused is read by its receipt alone.
+fn is_full<R: Wait + Abort>(rt: &R, alloc: Global, map: &LongMap<Bytes>, seat: &mut Seat)
+    requires own { IsMine map.now.map seat.old }
+    ensures own { IsMine map.now.map seat.new }
+{
+    let receipt = is_refused(rt, alloc, map, seat);
     assert!(rt; map.store().value(&receipt).as_slice() == b"gh".as_slice());
     assert!(rt; found(rt, map, seat, 5).is_none());
 }
 
-#[test]
-fn typed_values(rt: HostRuntime) -> Result<(), Fail> {
-    let (map, mut seat) = with_one(&rt, rt.alloc())?;
-    let first = puts(&rt, rt.alloc(), &map, &mut seat);
-    keeps(&rt, rt.alloc(), &map, &mut seat);
-    replaces(&rt, rt.alloc(), &map, &mut seat);
-    replaces_if(&rt, rt.alloc(), &map, &mut seat, b"ab", b"x", false);
-    has(&rt, &map, &mut seat, b"cd");
-    replaces_if(&rt, rt.alloc(), &map, &mut seat, b"cd", b"ef", true);
-    has(&rt, &map, &mut seat, b"ef");
-    reads_by_receipt(&rt, &map, &mut seat, b"ef");
-    keeps_other(&rt, rt.alloc(), &map, &mut seat, b"cd", b"ef");
-    removes_if(&rt, rt.alloc(), &map, &mut seat, b"cd", false);
-    has(&rt, &map, &mut seat, b"ef");
-    removes_if(&rt, rt.alloc(), &map, &mut seat, b"ef", true);
-    removes_if(&rt, rt.alloc(), &map, &mut seat, b"ef", false);
-    assert!(rt; number(&rt, &map, &mut seat).is_none());
+/// A value that is equal to the one to compare with goes, and another stays.
+fn removes_equal<R: Wait + Abort>(rt: &R, alloc: Global, map: &LongMap<Bytes>, seat: &mut Seat)
+    requires own { IsMine map.now.map seat.old }
+    ensures own { IsMine map.now.map seat.new }
+{
+    removes_if(rt, alloc, map, seat, b"cd", false);
+    has(rt, map, seat, b"ef");
+    removes_if(rt, alloc, map, seat, b"ef", true);
+    removes_if(rt, alloc, map, seat, b"ef", false);
+}
+
+/// Other values come at key 1.
+fn writes_over<R: Wait + Abort>(rt: &R, alloc: Global, map: &LongMap<Bytes>, seat: &mut Seat)
+    requires own { IsMine map.now.map seat.old }
+    ensures own { IsMine map.now.map seat.new }
+{
+    keeps(rt, alloc, map, seat);
+    replaces(rt, alloc, map, seat);
+    replaces_if(rt, alloc, map, seat, b"ab", b"x", false, b"cd");
+    replaces_if(rt, alloc, map, seat, b"cd", b"ef", true, b"ef");
+}
+
+/// Reads what key 1 has, and takes it out.
+fn takes_out<R: Wait + Abort>(rt: &R, alloc: Global, map: &LongMap<Bytes>, seat: &mut Seat)
+    requires own { IsMine map.now.map seat.old }
+    ensures own { IsMine map.now.map seat.new }
+{
+    reads_by_receipt(rt, map, seat, b"ef");
+    keeps_other(rt, alloc, map, seat, b"cd", b"ef");
+    removes_equal(rt, alloc, map, seat);
+    assert!(rt; number(rt, map, seat).is_none());
+}
+
+/// The value that was put first is read by its receipt after all calls at its key.
+fn shows_first<R: Wait + Abort>(rt: &R, alloc: Global, map: &LongMap<Bytes>, seat: &mut Seat)
+    requires own { IsMine map.now.map seat.old }
+    ensures own { IsMine map.now.map seat.new }
+{
+    let first = puts(rt, alloc, map, seat);
+    writes_over(rt, alloc, map, seat);
+    takes_out(rt, alloc, map, seat);
     assert!(rt; map.store().value(&first).as_slice() == b"ab".as_slice());
+}
+
+/// Key 4 is taken out.
+fn removes_last<R: Wait + Abort>(rt: &R, map: &LongMap<Bytes>, seat: &mut Seat)
+    requires own { IsMine map.now.map seat.old }
+    ensures own { IsMine map.now.map seat.new }
+{
+    assert!(rt; map.remove(rt, seat, key(rt, 4)).is_some());
+    assert!(rt; found(rt, map, seat, 4).is_none());
+}
+
+#[test]
+fn typed_values(rt: HostRuntime) {
+    let (map, mut seat) = with_one(&rt, rt.alloc());
+    shows_first(&rt, rt.alloc(), &map, &mut seat);
     fills_up(&rt, rt.alloc(), &map, &mut seat);
     is_full(&rt, rt.alloc(), &map, &mut seat);
-    assert!(rt; map.remove(&rt, &mut seat, key(&rt, 4)).is_some());
-    assert!(rt; found(&rt, &map, &mut seat, 4).is_none());
-    Ok(())
+    removes_last(&rt, &map, &mut seat);
 }

@@ -20,8 +20,7 @@ pub trait Pause {
     fn after_loss(&mut self, _chain: &Chain)
         requires serves { serves self.old _chain.now }
         ensures serves { serves self.new _chain.now }
-    {
-    }
+    {}
 }
 
 /// The pause that does nothing.

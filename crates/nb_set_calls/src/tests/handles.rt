@@ -2,80 +2,82 @@
 ghost use Rattle.std.specs.Prelude.{◌≡◌};
 ghost use Rattle.nb_set.specs.Handles.{AreOfOneSet, IsSameSet};
 
-use nb_core::{Key, OutOfMemory, RangeFault, Shape};
+use super::on_handles::{closed, one_of, opened};
+use super::on_set::{key, shape};
+use super::settling::all_add;
+use nb_core::{Key, OutOfMemory};
 use nb_set::Handle;
 use std::alloc::Global;
 use std::process::Abort;
 use std::sync::Wait;
-use std::test::Fail;
-use std::thread;
-
-fn key(number: u64) -> Result<Key, RangeFault> {
-    Key::new(number)
-}
-
-/// Takes a handle out of these.
-fn one_of<R: Abort>(rt: &R, handles: &mut Vec<Handle>) -> Handle {
-    let Some(handle) = handles.pop() else {
-        panic!(rt; "there is a handle")
-    };
-    handle
-}
 
 /// Four threads add the same key, and all handles close the set.
 #[test]
-fn four_threads_by_handles(rt: HostRuntime) -> Result<(), Fail> {
-    let key = key(7)?;
-    let mut handles = Handle::open(rt.alloc(), Shape::new(4, 4, 4, 1)?)?;
-    thread::for_each_mut(
-        &rt,
-        handles.as_mut_slice(),
-        4,
-        &|_, handle: &mut Handle| {
-            let _ = handle.add(&rt, key);
-        },
-    );
-    let Ok(ended) = Handle::close(&rt, handles) else {
-        panic!(rt; "all handles are here")
-    };
+fn four_threads_by_handles(rt: HostRuntime) {
+    let key = key(&rt, 7);
+    let mut handles = opened(&rt, rt.alloc(), shape(&rt, 4, 4, 4));
+    all_add(&rt, &mut handles, key);
+    let ended = closed(&rt, handles);
     assert_eq!(rt; ended.size(), 1);
     assert!(rt; ended.contains(key));
-    Ok(())
+}
+
+/// A key that is there doesn't come again, and the other handle sees it.
+fn comes_once<R: Wait + Abort>(rt: &R, mine: &mut Handle, theirs: &mut Handle, five: Key) {
+    assert_eq!(rt; mine.add(rt, five), Ok(true));
+    assert_eq!(rt; mine.add(rt, five), Ok(false));
+    assert_eq!(rt; theirs.contains(five), true);
+}
+
+/// A key comes and goes.
+fn comes_and_goes<R: Wait + Abort>(rt: &R, handle: &mut Handle, six: Key) {
+    assert_eq!(rt; handle.remove(rt, six), false);
+    assert_eq!(rt; handle.add(rt, six), Ok(true));
+    assert_eq!(rt; handle.remove(rt, six), true);
+}
+
+/// Two slots of the first table are taken, one by a key that is there.
+fn has_one<R: Abort>(rt: &R, handle: &mut Handle) {
+    assert_eq!(rt; (handle.size_estimate(), handle.generation()), (1, 0));
+    let fullness = handle.occupancy();
+    assert_eq!(rt; (fullness.taken, fullness.looked), (2, 16));
+    assert_eq!(rt; handle.shape().seats(), 2);
+}
+
+/// A walk shows this key alone, and gives the handle back.
+fn shows_one<R: Abort>(rt: &R, handle: Handle, five: Key) {
+    let mut walk = handle.walk();
+    assert_eq!(rt; walk.next_key(), Some(five));
+    assert!(rt; walk.next_key().is_none());
+    assert_eq!(rt; walk.end().contains(five), true);
 }
 
 /// The calls of one handle, and what another one sees.
 #[test]
-fn calls_by_name(rt: HostRuntime) -> Result<(), Fail> {
-    let (five, six) = (key(5)?, key(6)?);
-    let mut handles = Handle::open(rt.alloc(), Shape::new(4, 4, 2, 1)?)?;
+fn calls_by_name(rt: HostRuntime) {
+    let mut handles = opened(&rt, rt.alloc(), shape(&rt, 4, 4, 2));
     let mut mine = one_of(&rt, &mut handles);
     let mut theirs = one_of(&rt, &mut handles);
-    assert_eq!(rt; mine.add(&rt, five)?, true);
-    assert_eq!(rt; mine.add(&rt, five)?, false);
-    assert_eq!(rt; theirs.contains(five), true);
-    assert_eq!(rt; theirs.remove(&rt, six), false);
-    assert_eq!(rt; theirs.add(&rt, six)?, true);
-    assert_eq!(rt; theirs.remove(&rt, six), true);
-    assert_eq!(rt; (mine.size_estimate(), mine.generation()), (1, 0));
-    assert_eq!(rt; (mine.occupancy().taken, mine.occupancy().looked), (2, 16));
-    assert_eq!(rt; mine.shape().seats(), 2);
-    let mut walk = mine.walk();
-    assert_eq!(rt; walk.next_key().map(Key::get), Some(5));
-    assert!(rt; walk.next_key().is_none());
-    assert_eq!(rt; walk.end().contains(five), true);
-    Ok(())
+    comes_once(&rt, &mut mine, &mut theirs, key(&rt, 5));
+    comes_and_goes(&rt, &mut theirs, key(&rt, 6));
+    has_one(&rt, &mut mine);
+    shows_one(&rt, mine, key(&rt, 5));
+}
+
+/// A walk shows this key alone. The handle takes it on.
+fn shows_one_beside<R: Abort>(rt: &R, handle: &mut Handle, five: Key) {
+    let mut walk = handle.begin_walk();
+    assert_eq!(rt; handle.next_key(&mut walk), Some(five));
+    assert!(rt; handle.next_key(&mut walk).is_none());
 }
 
 /// A walk that leaves its handle where it is, and is taken on by it.
 #[test]
-fn walk_beside_its_handle(rt: HostRuntime) -> Result<(), Fail> {
-    let mut handles = Handle::open(rt.alloc(), Shape::new(4, 4, 1, 1)?)?;
+fn walk_beside_its_handle(rt: HostRuntime) {
+    let mut handles = opened(&rt, rt.alloc(), shape(&rt, 4, 4, 1));
     let mut mine = one_of(&rt, &mut handles);
-    assert_eq!(rt; mine.add(&rt, key(5)?)?, true);
-    let mut walk = mine.begin_walk();
-    assert_eq!(rt; mine.next_key(&mut walk).map(Key::get), Some(5));
-    assert!(rt; mine.next_key(&mut walk).is_none());
-    Ok(())
+    assert_eq!(rt; mine.add(&rt, key(&rt, 5)), Ok(true));
+    shows_one_beside(&rt, &mut mine, key(&rt, 5));
 }
 
 /// The keys of a handle's set. The loop takes the handle with it.
@@ -97,19 +99,30 @@ fn keys_by(alloc: Global, handle: Handle) -> Result<(Vec<u64>, Handle), OutOfMem
     Ok((keys, walk.end()))
 }
 
+/// Two keys come, and the one loop goes over both. Then one of them goes.
+fn goes_over_two<R: Wait + Abort>(rt: &R, alloc: Global, handle: Handle) {
+    let mut handle = handle;
+    assert_eq!(rt; handle.add(rt, key(rt, 5)), Ok(true));
+    assert_eq!(rt; handle.add(rt, key(rt, 6)), Ok(true));
+    let (keys, mut handle) = keys_by(alloc, handle).expect(rt, "memory");
+    assert_eq!(rt; keys.as_slice(), [5, 6].as_slice());
+    assert_eq!(rt; handle.remove(rt, key(rt, 5)), true);
+}
+
+/// The other loop goes over the key that is left.
+fn goes_over_one<R: Abort>(rt: &R, alloc: Global, handle: Handle) {
+    let keys = keys_of(alloc, handle).expect(rt, "memory");
+    assert_eq!(rt; keys.as_slice(), [6].as_slice());
+}
+
 /// Both loops go over all keys of the set.
 #[test]
-fn loops_over_keys(rt: HostRuntime) -> Result<(), Fail> {
-    let mut handles = Handle::open(rt.alloc(), Shape::new(4, 4, 2, 1)?)?;
-    let mut mine = one_of(&rt, &mut handles);
+fn loops_over_keys(rt: HostRuntime) {
+    let mut handles = opened(&rt, rt.alloc(), shape(&rt, 4, 4, 2));
+    let mine = one_of(&rt, &mut handles);
     let theirs = one_of(&rt, &mut handles);
-    assert_eq!(rt; mine.add(&rt, key(5)?)?, true);
-    assert_eq!(rt; mine.add(&rt, key(6)?)?, true);
-    let (keys, mut mine) = keys_by(rt.alloc(), mine)?;
-    assert_eq!(rt; keys.as_slice(), [5, 6].as_slice());
-    assert_eq!(rt; mine.remove(&rt, key(5)?), true);
-    assert_eq!(rt; keys_of(rt.alloc(), theirs)?.as_slice(), [6].as_slice());
-    Ok(())
+    goes_over_two(&rt, rt.alloc(), mine);
+    goes_over_one(&rt, rt.alloc(), theirs);
 }
 
 /// Adds a key and looks for it. Its caller knows by `same` that the handle is of the set that it
@@ -135,29 +148,42 @@ fn two<R: Abort>(rt: &R, handles: Vec<Handle>) -> (Handle, Handle)
     (mine, theirs)
 }
 
+/// A handle works, and then meets another one.
+fn adds_and_meets<R: Wait + Abort>(rt: &R, mine: &mut Handle, theirs: &mut Handle, key: Key)
+    requires { mine.old.set ≡ theirs.old.set }
+    ensures { theirs.new.set ≡ mine.new.set }
+{
+    assert!(rt; adds_and_looks(rt, mine, key));
+    mine.meet(theirs);
+}
+
 /// Handles meet after functions that work with them.
 #[test]
-fn functions_over_handles(rt: HostRuntime) -> Result<(), Fail> {
-    let handles = Handle::open(rt.alloc(), Shape::new(4, 4, 2, 1)?)?;
+fn functions_over_handles(rt: HostRuntime) {
+    let handles = opened(&rt, rt.alloc(), shape(&rt, 4, 4, 2));
     let (mut mine, mut theirs) = two(&rt, handles);
-    assert!(rt; adds_and_looks(&rt, &mut mine, key(5)?));
-    mine.meet(&mut theirs);
-    assert!(rt; adds_and_looks(&rt, &mut theirs, key(6)?));
-    theirs.meet(&mut mine);
-    assert!(rt; mine.contains(key(6)?));
-    Ok(())
+    adds_and_meets(&rt, &mut mine, &mut theirs, key(&rt, 5));
+    adds_and_meets(&rt, &mut theirs, &mut mine, key(&rt, 6));
+    assert!(rt; mine.contains(key(&rt, 6)));
+}
+
+/// The handles that come back where one is missing.
+fn come_back<R: Wait + Abort>(rt: &R, handles: Vec<Handle>) -> Vec<Handle>
+    requires { AreOfOneSet handles.items }
+{
+    let Err(back) = Handle::close(rt, handles) else {
+        panic!(rt; "a handle is missing")
+    };
+    back
 }
 
 /// A handle is missing: the others come back, and the set works on.
 #[test]
-fn closed_without_a_handle(rt: HostRuntime) -> Result<(), Fail> {
-    let mut handles = Handle::open(rt.alloc(), Shape::new(4, 4, 3, 1)?)?;
+fn closed_without_a_handle(rt: HostRuntime) {
+    let mut handles = opened(&rt, rt.alloc(), shape(&rt, 4, 4, 3));
     drop(handles.pop());
-    let Err(mut back) = Handle::close(&rt, handles) else {
-        panic!(rt; "a handle is missing")
-    };
+    let mut back = come_back(&rt, handles);
     assert_eq!(rt; back.len(), 2);
     let mut handle = one_of(&rt, &mut back);
-    assert_eq!(rt; handle.add(&rt, key(7)?)?, true);
-    Ok(())
+    assert_eq!(rt; handle.add(&rt, key(&rt, 7)), Ok(true));
 }

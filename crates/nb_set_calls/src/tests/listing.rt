@@ -3,14 +3,13 @@ ghost use Rattle.nb_set.specs.Handles.{AreOfOneSet};
 ghost use Rattle.nb_set.specs.Sets.{AreMine};
 
 use super::on_handles::Call::{Add, Remove};
-use super::on_handles::last_sees;
-use super::on_set::key;
+use super::on_handles::{last_sees, opened};
+use super::on_set::{key, shape};
 use super::settling::all_add;
-use nb_core::{Key, Shape};
+use nb_core::Key;
 use nb_set::{Handle, LongSet, Seat, SettleFault};
 use std::alloc::Global;
 use std::process::Abort;
-use std::test::Fail;
 
 /// Sees that these are the keys, in whatever order.
 fn are_just<R: Abort>(rt: &R, keys: &[Key], numbers: &[u64]) {
@@ -34,19 +33,18 @@ pub(super) fn lists<R: Abort>(rt: &R, alloc: Global, handles: &mut Vec<Handle>, 
 
 /// Four threads add a key, all keys are listed, and the threads add another.
 #[test]
-fn listed_between_rounds(rt: HostRuntime) -> Result<(), Fail> {
-    let mut handles = Handle::open(rt.alloc(), Shape::new(4, 4, 4, 1)?)?;
-    all_add(&rt, handles.as_mut_slice(), key(&rt, 7));
+fn listed_between_rounds(rt: HostRuntime) {
+    let mut handles = opened(&rt, rt.alloc(), shape(&rt, 4, 4, 4));
+    all_add(&rt, &mut handles, key(&rt, 7));
     lists(&rt, rt.alloc(), &mut handles, &[7]);
-    all_add(&rt, handles.as_mut_slice(), key(&rt, 8));
+    all_add(&rt, &mut handles, key(&rt, 8));
     lists(&rt, rt.alloc(), &mut handles, &[7, 8]);
-    Ok(())
 }
 
 /// A removed key isn't listed, and an empty set has no keys.
 #[test]
-fn listed_as_they_are(rt: HostRuntime) -> Result<(), Fail> {
-    let mut handles = Handle::open(rt.alloc(), Shape::new(2, 2, 2, 1)?)?;
+fn listed_as_they_are(rt: HostRuntime) {
+    let mut handles = opened(&rt, rt.alloc(), shape(&rt, 2, 2, 2));
     lists(&rt, rt.alloc(), &mut handles, &[]);
     let rows = [
         (1, Add, true),
@@ -56,20 +54,26 @@ fn listed_as_they_are(rt: HostRuntime) -> Result<(), Fail> {
     ];
     last_sees(&rt, &mut handles, &rows);
     lists(&rt, rt.alloc(), &mut handles, &[1, 9]);
-    Ok(())
+}
+
+/// Nothing is listed, since a handle is missing.
+fn is_not_listed<R: Abort>(rt: &R, alloc: Global, handles: &mut Vec<Handle>)
+    requires { AreOfOneSet handles.old.items }
+    ensures { AreOfOneSet handles.new.items }
+{
+    match Handle::keys(alloc, handles) {
+        Ok(_) => panic!(rt; "a handle is missing"),
+        Err(fault) => assert_eq!(rt; fault, SettleFault::NotAll),
+    }
 }
 
 /// A handle is missing: nothing is listed, and the others work on.
 #[test]
-fn listed_without_a_handle(rt: HostRuntime) -> Result<(), Fail> {
-    let mut handles = Handle::open(rt.alloc(), Shape::new(2, 1, 3, 1)?)?;
+fn listed_without_a_handle(rt: HostRuntime) {
+    let mut handles = opened(&rt, rt.alloc(), shape(&rt, 2, 1, 3));
     drop(handles.pop());
-    match Handle::keys(rt.alloc(), &mut handles) {
-        Ok(_) => panic!(rt; "a handle is missing"),
-        Err(fault) => assert_eq!(rt; fault, SettleFault::NotAll),
-    }
+    is_not_listed(&rt, rt.alloc(), &mut handles);
     last_sees(&rt, &mut handles, &[(1, Add, true)]);
-    Ok(())
 }
 
 /// The keys of a set with its seats, and once more where memory is refused.

@@ -2,12 +2,29 @@
 ghost use Rattle.nb_set.specs.Handles.{AreOfOneSet, IsSameSet};
 
 use super::on_set::{has_left, key};
-use nb_core::{Key, OutOfMemory};
+use nb_core::{Key, Shape};
 use nb_set::{Full, Handle, SetEnded};
 use std::alloc::Global;
 use std::process::Abort;
 use std::sync::Wait;
-use std::test::Fail;
+
+/// The handles of an empty set of this shape.
+pub(super) fn opened<R: Abort>(rt: &R, alloc: Global, shape: Shape) -> Vec<Handle>
+    ensures { AreOfOneSet result.items }
+{
+    let Ok(handles) = Handle::open(alloc, shape) else {
+        panic!(rt; "there is memory")
+    };
+    handles
+}
+
+/// Takes a handle out of these.
+pub(super) fn one_of<R: Abort>(rt: &R, handles: &mut Vec<Handle>) -> Handle {
+    let Some(handle) = handles.pop() else {
+        panic!(rt; "there is a handle")
+    };
+    handle
+}
 
 /// A call at a key. `Refuse` is an add that finds no room.
 #[derive(Clone, Copy)]
@@ -25,7 +42,7 @@ pub(super) type Row = (u64, Call, bool);
 fn makes<R: Wait + Abort>(rt: &R, handle: &mut Handle, k: u64, call: Call) -> bool
     ensures { IsSameSet handle.old handle.new }
 {
-    let key = key(rt, k);
+    let key = Key::new(k).expect(rt, "a key");
     match call {
         Call::Add => handle.add(rt, key) == Ok(true),
         Call::Refuse => handle.add(rt, key) == Err(Full),
@@ -56,29 +73,19 @@ pub(super) fn last_sees<R: Wait + Abort>(rt: &R, handles: &mut Vec<Handle>, rows
 }
 
 /// Keys of plain numbers.
-pub(super) fn keys<R: Abort>(
-    rt: &R,
-    alloc: Global,
-    numbers: &[u64],
-) -> Result<Vec<Key>, OutOfMemory> {
-    let mut keys = Vec::with_capacity(alloc, numbers.len())?;
+pub(super) fn keys<R: Abort>(rt: &R, alloc: Global, numbers: &[u64]) -> Vec<Key> {
+    let mut keys = Vec::new(alloc);
     for k in numbers {
-        keys.push(key(rt, *k))?;
+        keys.push(key(rt, *k)).expect(rt, "memory");
     }
-    Ok(keys)
+    keys
 }
 
 /// Sees that these handles' set ends with just these keys.
-pub(super) fn leave<R: Wait + Abort>(
-    rt: &R,
-    alloc: Global,
-    handles: Vec<Handle>,
-    numbers: &[u64],
-) -> Result<(), Fail>
+pub(super) fn leave<R: Wait + Abort>(rt: &R, alloc: Global, handles: Vec<Handle>, numbers: &[u64])
     requires { AreOfOneSet handles.items }
 {
-    has_left(rt, alloc, &closed(rt, handles), numbers)?;
-    Ok(())
+    has_left(rt, alloc, &closed(rt, handles), numbers);
 }
 
 /// What is left of the set.

@@ -12,6 +12,11 @@ pub(super) fn key<R: Abort>(rt: &R, k: u64) -> Key {
     Key::new(k).expect(rt, "a key")
 }
 
+/// A shape whose first table has 2 to the power of `bits` slots.
+pub(super) fn shape<R: Abort>(rt: &R, bits: u32, tables: u32, seats: usize) -> Shape {
+    Shape::new(bits, tables, seats, 1).expect(rt, "a shape")
+}
+
 /// A set with its seats. Its first table has four slots, and each further one twice as many.
 pub(super) fn set_of<R: Abort>(
     rt: &R,
@@ -38,44 +43,41 @@ pub(super) fn taken<R: Abort>(rt: &R, set: &LongSet, seats: &mut Vec<Seat>) -> S
 }
 
 /// Gives a seat back to those that it was taken from.
-pub(super) fn given_back(
-    set: &LongSet,
-    seats: &mut Vec<Seat>,
-    seat: Seat,
-) -> Result<(), OutOfMemory>
+pub(super) fn given_back<R: Abort>(rt: &R, set: &LongSet, seats: &mut Vec<Seat>, seat: Seat)
     requires own { AreMine set.now seats.old.items }
     requires given { IsMine set.now seat }
-    ensures own { IfOk result (λ done. AreMine set.now seats.new.items) }
+    ensures own { AreMine set.now seats.new.items }
 {
-    seats.push(seat)?;
-    Ok(())
+    seats.push(seat).expect(rt, "memory");
+}
+
+/// One seat, given back.
+pub(super) fn alone<R: Abort>(rt: &R, alloc: Global, set: &LongSet, seat: Seat) -> Vec<Seat>
+    requires { IsMine set.now seat }
+    ensures { AreMine set.now result.items }
+{
+    let mut seats = Vec::new(alloc);
+    given_back(rt, set, &mut seats, seat);
+    seats
 }
 
 /// A set with one seat.
-pub(super) fn with_one<R: Abort>(
-    rt: &R,
-    alloc: Global,
-    tables: u32,
-) -> Result<(LongSet, Seat), OutOfMemory>
-    ensures { IfOk result (λ made. IsMine made.0 made.1) }
+pub(super) fn with_one<R: Abort>(rt: &R, alloc: Global, tables: u32) -> (LongSet, Seat)
+    ensures { IsMine result.0 result.1 }
 {
-    let (set, mut seats) = set_of(rt, alloc, tables, 1)?;
+    let (set, mut seats) = set_of(rt, alloc, tables, 1).expect(rt, "memory");
     let seat = taken(rt, &set, &mut seats);
-    Ok((set, seat))
+    (set, seat)
 }
 
 /// A set with two seats.
-pub(super) fn with_two<R: Abort>(
-    rt: &R,
-    alloc: Global,
-    tables: u32,
-) -> Result<(LongSet, Seat, Seat), OutOfMemory>
-    ensures { IfOk result (λ made. IsMine made.0 made.1 × IsMine made.0 made.2) }
+pub(super) fn with_two<R: Abort>(rt: &R, alloc: Global, tables: u32) -> (LongSet, Seat, Seat)
+    ensures { IsMine result.0 result.1 × IsMine result.0 result.2 }
 {
-    let (set, mut seats) = set_of(rt, alloc, tables, 2)?;
+    let (set, mut seats) = set_of(rt, alloc, tables, 2).expect(rt, "memory");
     let b = taken(rt, &set, &mut seats);
     let a = taken(rt, &set, &mut seats);
-    Ok((set, a, b))
+    (set, a, b)
 }
 
 pub(super) fn add<R: Wait + Abort>(
@@ -87,21 +89,21 @@ pub(super) fn add<R: Wait + Abort>(
     requires own { IsMine set.now seat.old }
     ensures own { IsMine set.now seat.new }
 {
-    set.add(rt, seat, key(rt, k))
+    set.add(rt, seat, Key::new(k).expect(rt, "a key"))
 }
 
 pub(super) fn remove<R: Wait + Abort>(rt: &R, set: &LongSet, seat: &mut Seat, k: u64) -> bool
     requires own { IsMine set.now seat.old }
     ensures own { IsMine set.now seat.new }
 {
-    set.remove(rt, seat, key(rt, k))
+    set.remove(rt, seat, Key::new(k).expect(rt, "a key"))
 }
 
 pub(super) fn has<R: Abort>(rt: &R, set: &LongSet, seat: &mut Seat, k: u64) -> bool
     requires own { IsMine set.now seat.old }
     ensures own { IsMine set.now seat.new }
 {
-    set.contains(seat, key(rt, k))
+    set.contains(seat, Key::new(k).expect(rt, "a key"))
 }
 
 /// Adds these keys, none of which is there.
@@ -124,52 +126,48 @@ pub(super) fn ended<R: Abort>(rt: &R, set: LongSet, seats: Vec<Seat>) -> SetEnde
     ended
 }
 
-/// Sees that just these keys are left.
-pub(super) fn has_left<R: Abort>(
-    rt: &R,
-    alloc: Global,
-    ended: &SetEnded,
-    keys: &[u64],
-) -> Result<(), OutOfMemory> {
-    assert_eq!(rt; ended.size(), keys.len() as u64);
-    let entries = ended.entries(alloc)?;
-    assert_eq!(rt; entries.len(), keys.len());
+/// Sees that a key that is listed is this one, and is there.
+fn is_left<R: Abort>(rt: &R, ended: &SetEnded, entry: Key, k: u64) {
+    assert_eq!(rt; entry.get(), k);
+    assert!(rt; ended.contains(entry));
+}
+
+/// Sees that these keys are listed in this order, and are there.
+fn are_left<R: Abort>(rt: &R, ended: &SetEnded, entries: &[Key], keys: &[u64]) {
     for (entry, k) in entries.iter().zip(keys) {
-        assert_eq!(rt; *entry, key(rt, *k));
-        assert!(rt; ended.contains(*entry));
+        is_left(rt, ended, *entry, *k);
     }
-    Ok(())
+}
+
+/// Sees that just these keys are left.
+pub(super) fn has_left<R: Abort>(rt: &R, alloc: Global, ended: &SetEnded, keys: &[u64]) {
+    assert_eq!(rt; ended.size(), keys.len() as u64);
+    let entries = ended.entries(alloc).expect(rt, "memory");
+    assert_eq!(rt; entries.len(), keys.len());
+    are_left(rt, ended, entries.as_slice(), keys);
+}
+
+/// Ends the set, all of whose seats these are. Just these keys are left.
+pub(super) fn leave<R: Abort>(rt: &R, alloc: Global, set: LongSet, seats: Vec<Seat>, keys: &[u64])
+    requires { AreMine set seats.items }
+{
+    has_left(rt, alloc, &ended(rt, set, seats), keys);
 }
 
 /// Ends a set of one seat. Just these keys are left.
-pub(super) fn one_leaves<R: Abort>(
-    rt: &R,
-    alloc: Global,
-    set: LongSet,
-    seat: Seat,
-    keys: &[u64],
-) -> Result<(), OutOfMemory>
+pub(super) fn one_leaves<R: Abort>(rt: &R, alloc: Global, set: LongSet, seat: Seat, keys: &[u64])
     requires { IsMine set seat }
 {
-    let mut seats = Vec::new(alloc);
-    seats.push(seat)?;
-    let ended = ended(rt, set, seats);
-    has_left(rt, alloc, &ended, keys)
+    let seats = alone(rt, alloc, &set, seat);
+    has_left(rt, alloc, &ended(rt, set, seats), keys);
 }
 
 /// Ends a set of two seats.
-pub(super) fn two_leave<R: Abort>(
-    rt: &R,
-    alloc: Global,
-    set: LongSet,
-    a: Seat,
-    b: Seat,
-) -> Result<SetEnded, OutOfMemory>
+pub(super) fn two_leave<R: Abort>(rt: &R, alloc: Global, set: LongSet, a: Seat, b: Seat) -> SetEnded
     requires a { IsMine set a }
     requires b { IsMine set b }
 {
-    let mut seats = Vec::new(alloc);
-    seats.push(a)?;
-    seats.push(b)?;
-    Ok(ended(rt, set, seats))
+    let mut seats = alone(rt, alloc, &set, a);
+    given_back(rt, &set, &mut seats, b);
+    ended(rt, set, seats)
 }

@@ -1,13 +1,13 @@
 //! Two threads add and remove the same keys.
+ghost use Rattle.std.specs.Prelude.{◌<◌};
 ghost use Rattle.nb_set.specs.Sets.{IsMine};
 
 use super::on_set::*;
-use nb_core::OutOfMemory;
-use nb_set::{LongSet, Seat};
+use nb_core::Key;
+use nb_set::{LongSet, Seat, SetEnded};
 use std::alloc::Global;
 use std::process::Abort;
 use std::sync::Wait;
-use std::test::Fail;
 use std::thread;
 use std::thread::Threads;
 
@@ -20,40 +20,41 @@ struct Told {
     kept: [u64; KEYS],
 }
 
-/// Adds and removes the common keys as the thread's own row of numbers chooses. Between that it
-/// adds keys that the other thread doesn't, so that the set has to grow.
-fn churns<R: Wait + Abort>(rt: &R, set: &LongSet, seat: &mut Seat, thread: u64) -> Told
+/// Adds or removes the common key that this number chooses.
+fn churns_one<R: Wait + Abort>(rt: &R, set: &LongSet, seat: &mut Seat, row: u64, told: &mut Told)
     requires own { IsMine set.now seat.old }
     ensures own { IsMine set.now seat.new }
 {
+    let i = (row >> 40) as usize % KEYS;
+    let key = Key::new(i as u64).expect(rt, "a key");
+    if row >> 63 == 0 {
+        let came = set.add(rt, seat, key).expect(rt, "room");
+        told.kept[i] = told.kept[i].wrapping_add(u64::from(came));
+    } else {
+        let went = set.remove(rt, seat, key);
+        told.kept[i] = told.kept[i].wrapping_sub(u64::from(went));
+    }
+}
+
+/// Adds and removes the common keys as the thread's own row of numbers chooses. Between that it
+/// adds keys that the other thread doesn't, so that the set has to grow. It hands the seat back.
+fn churns<R: Wait + Abort>(rt: &R, set: &LongSet, own: Seat, thread: u64) -> (Seat, Told)
+    requires { IsMine set.now own }
+    ensures { IsMine set.now result.0 }
+{
+    let mut seat = own;
     let mut told = Told { kept: [0; KEYS] };
     let mut row = thread;
     for round in 0..20_000 {
         row = row
             .wrapping_mul(6_364_136_223_846_793_005)
             .wrapping_add(1_442_695_040_888_963_407);
-        let i = (row >> 40) as usize % KEYS;
-        if row >> 63 == 0 {
-            let came = add(rt, set, seat, i as u64).expect(rt, "room");
-            told.kept[i] = told.kept[i].wrapping_add(u64::from(came));
-        } else {
-            let went = remove(rt, set, seat, i as u64);
-            told.kept[i] = told.kept[i].wrapping_sub(u64::from(went));
-        }
+        churns_one(rt, set, &mut seat, row, &mut told);
         if round % 5000 == 20 {
-            adds(rt, set, seat, &[10 + 2 * (round / 5000) + thread % 2]);
+            let k = 10 + 2 * (round / 5000) + thread % 2;
+            assert_eq!(rt; add(rt, set, &mut seat, k), Ok(true));
         }
     }
-    told
-}
-
-/// The same, by a thread that is handed the seat, and hands it back.
-fn churns_alone<R: Wait + Abort>(rt: &R, set: &LongSet, seat: Seat, thread: u64) -> (Seat, Told)
-    requires { IsMine set.now seat }
-    ensures { IsMine set.now result.0 }
-{
-    let mut seat = seat;
-    let told = churns(rt, set, &mut seat, thread);
     (seat, told)
 }
 
@@ -73,35 +74,45 @@ fn two_churn<R: Threads + Sync + Wait + Abort>(
         move || -> (Seat, Told)
             requires { IsMine set.now a }
             ensures { IsMine set.entry.now result.0 }
-        { churns_alone(rt, set, a, 0) },
+        { churns(rt, set, a, 0) },
         move || -> (Seat, Told)
             requires { IsMine set.now b }
             ensures { IsMine set.entry.now result.0 }
-        { churns_alone(rt, set, b, 1) },
+        { churns(rt, set, b, 1) },
     )
 }
 
-/// Key by key there were as many adds that were answered true as removals that were, and one more
-/// where the key is left.
-fn one_round<R: Threads + Sync + Wait + Abort>(rt: &R, alloc: Global) -> Result<(), OutOfMemory> {
-    let (set, a, b) = with_two(rt, alloc, 4)?;
-    let ((a, told), (b, told_too)) = two_churn(rt, &set, a, b);
-    let ended = two_leave(rt, alloc, set, a, b)?;
+/// Of this key there were as many adds that were answered true as removals that were, and one more
+/// where the key is left. It answers whether it is.
+fn is_kept<R: Abort>(rt: &R, told: &Told, told_too: &Told, ended: &SetEnded, i: usize) -> bool
+    requires { i < KEYS }
+{
+    let kept = told.kept[i].wrapping_add(told_too.kept[i]);
+    let has = ended.contains(key(rt, i as u64));
+    assert_eq!(rt; kept, u64::from(has), "key {i}");
+    has
+}
+
+/// So it is key by key, and beside these keys those are left that the threads don't share.
+fn are_kept<R: Abort>(rt: &R, told: &Told, told_too: &Told, ended: &SetEnded) {
     let mut size: u64 = 8;
     for i in 0..KEYS {
-        let kept = told.kept[i].wrapping_add(told_too.kept[i]);
-        let has = u64::from(ended.contains(key(rt, i as u64)));
-        assert_eq!(rt; kept, has, "key {i}");
-        size = size.wrapping_add(has);
+        let has = is_kept(rt, told, told_too, ended, i);
+        size = size.wrapping_add(u64::from(has));
     }
     assert_eq!(rt; ended.size(), size);
-    Ok(())
+}
+
+/// Both threads at once, in a set of their own, and what is left of it.
+fn one_round<R: Threads + Sync + Wait + Abort>(rt: &R, alloc: Global) {
+    let (set, a, b) = with_two(rt, alloc, 4);
+    let ((a, told), (b, told_too)) = two_churn(rt, &set, a, b);
+    are_kept(rt, &told, &told_too, &two_leave(rt, alloc, set, a, b));
 }
 
 #[test]
-fn two_threads_the_same_keys(rt: HostRuntime) -> Result<(), Fail> {
+fn two_threads_the_same_keys(rt: HostRuntime) {
     for _round in 0..20 {
-        one_round(&rt, rt.alloc())?;
+        one_round(&rt, rt.alloc());
     }
-    Ok(())
 }

@@ -8,7 +8,7 @@ use super::on_set::*;
 use nb_core::Key;
 use nb_set::{LongSet, Seat, Walk};
 use std::process::Abort;
-use std::test::Fail;
+use std::sync::Wait;
 
 /// Sees that a walk goes on with these keys, in this order, and then ends, and stays at its end.
 fn shows<R: Abort>(rt: &R, set: &LongSet, seat: &mut Seat, walk: &mut Walk, keys: &[u64])
@@ -27,17 +27,32 @@ fn shows<R: Abort>(rt: &R, set: &LongSet, seat: &mut Seat, walk: &mut Walk, keys
     assert!(rt; next.is_none());
 }
 
+/// A walk over these two keys, in this order.
+fn shows_two<R: Abort>(rt: &R, set: &LongSet, seat: &mut Seat, keys: &[u64])
+    requires own { IsMine set.now seat.old }
+    ensures own { IsMine set.now seat.new }
+{
+    let mut walk = set.walk(seat);
+    shows(rt, set, seat, &mut walk, keys);
+}
+
+/// Three keys come, one goes, and the walk shows the other two.
+fn wraps<R: Wait + Abort>(rt: &R, set: &LongSet, seat: &mut Seat)
+    requires own { IsMine set.now seat.old }
+    ensures own { IsMine set.now seat.new }
+{
+    adds(rt, set, seat, &[3, 7, 2]);
+    assert!(rt; remove(rt, set, seat, 2));
+    shows_two(rt, set, seat, &[7, 3]);
+}
+
 /// A key whose path goes on from the table's last slot to its first is met there, and one that was
 /// removed isn't shown.
 #[test]
-fn walk_wraps(rt: HostRuntime) -> Result<(), Fail> {
-    let (set, mut seat) = with_one(&rt, rt.alloc(), 1)?;
-    adds(&rt, &set, &mut seat, &[3, 7, 2]);
-    assert!(rt; remove(&rt, &set, &mut seat, 2));
-    let mut walk = set.walk(&mut seat);
-    shows(&rt, &set, &mut seat, &mut walk, &[7, 3]);
-    one_leaves(&rt, rt.alloc(), set, seat, &[3, 7])?;
-    Ok(())
+fn walk_wraps(rt: HostRuntime) {
+    let (set, mut seat) = with_one(&rt, rt.alloc(), 1);
+    wraps(&rt, &set, &mut seat);
+    one_leaves(&rt, rt.alloc(), set, seat, &[3, 7]);
 }
 
 /// Whether a walk shows the key. The same seat makes other calls meanwhile, and takes on walks
@@ -62,11 +77,18 @@ fn walk_shows(set: &LongSet, seat: &mut Seat, sought: Key) -> bool
     found
 }
 
+/// The same, of a plain number.
+fn shows_one<R: Abort>(rt: &R, set: &LongSet, seat: &mut Seat, k: u64) -> bool
+    requires own { IsMine set.now seat.old }
+    ensures own { IsMine set.now seat.new }
+{
+    walk_shows(set, seat, key(rt, k))
+}
+
 #[test]
-fn walk_among_other_calls(rt: HostRuntime) -> Result<(), Fail> {
-    let (set, mut seat) = with_one(&rt, rt.alloc(), 2)?;
+fn walk_among_other_calls(rt: HostRuntime) {
+    let (set, mut seat) = with_one(&rt, rt.alloc(), 2);
     adds(&rt, &set, &mut seat, &[3, 7, 2, 9]);
-    assert!(rt; walk_shows(&set, &mut seat, key(&rt, 7)));
-    assert!(rt; !walk_shows(&set, &mut seat, key(&rt, 5)));
-    Ok(())
+    assert!(rt; shows_one(&rt, &set, &mut seat, 7));
+    assert!(rt; !shows_one(&rt, &set, &mut seat, 5));
 }
