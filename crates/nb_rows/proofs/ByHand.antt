@@ -1,7 +1,6 @@
 -- What is so of the steps that the tests make by hand.
 use Rattle.std.proofs.Common.{◌≡◌, ◌≢◌, ◌<◌, ◌⊎◌, ℕ, ◌+◌, List, []}
-use Rattle.std.proofs.Common.{ap, inl, inr, sym, subst, refl, arith}
-use Rattle.std.proofs.lemmas.Bool.Decides.{eqb_tells}
+use Rattle.std.proofs.Common.{inl, inr, sym, subst, refl, arith}
 use Rattle.nb_core.specs.Plans.{Plan, size_of}
 use Rattle.nb_core.specs.History.{HasWay}
 use Rattle.nb_core.specs.Tables.{AreOthers, IsOther, Tables, path_slot}

@@ -1,18 +1,27 @@
 //! The map's calls one after another, or of two handles, with their answers and with what they
 //! leave.
+ghost use Rattle.std.specs.Prelude.{◌≡◌, IfOk};
+ghost use Rattle.nb_map.specs.Handles.{AreOfOneMap};
+
 use super::renewing::renews;
 use super::rows::Answer::{Is, Nothing, Replied, Was};
 use super::rows::Call::{
-    Add, Estimate, Generation, Get, Has, Put, PutIfAbsent, Remove, RemoveIf, Replace, ReplaceIf,
+    Add, Estimate, Generation, Get, Has, Match, Put, PutIfAbsent, Remove, RemoveIf, Replace,
+    ReplaceIf,
 };
 use super::rows::*;
 use super::settling::settles;
 use nb_core::{Change, Shape, VALUE_MAX, Want};
-use nb_map::{AddFault, Full, FullAfter, Handle, OpenFault, PutFault, RenewFault, SettleFault};
+use nb_map::{
+    AddFault, Ended, Full, FullAfter, Handle, OpenFault, PutFault, RenewFault, SettleFault,
+};
+use std::alloc::Global;
+use std::fmt::Display;
 use std::process::Abort;
 use std::sync::Wait;
 use std::test::Fail;
 use std::thread;
+use std::thread::Threads;
 
 /// Four keys whose home in the first table is one slot, and their numbers.
 const CROWDED: [(u64, u64); 4] = [(0, 10), (4, 14), (8, 18), (12, 22)];
@@ -22,38 +31,61 @@ fn fresh_map(rt: HostRuntime) -> Result<(), Fail> {
     plays(&rt, rt.alloc(), 1, &[], &[], &[])
 }
 
+/// The handles of a new map of one seat, also where one request for memory is refused.
+fn opened_again(alloc: Global) -> Result<Vec<Handle>, Fail>
+    ensures { IfOk result (λ handles. AreOfOneMap handles.items) }
+{
+    let shape = Shape::new(2, 2, 1, 1)?;
+    match Handle::open(alloc, shape) {
+        Ok(handles) => Ok(handles),
+        Err(_) => Ok(Handle::open(alloc, shape)?),
+    }
+}
+
+/// Sees that the map has one entry, also where one request for memory is refused.
+fn has_one<R: Abort>(rt: &R, alloc: Global, ended: &Ended) -> Result<(), Fail> {
+    let entries = match ended.entries(alloc) {
+        Ok(entries) => entries,
+        Err(_) => ended.entries(alloc)?,
+    };
+    assert_eq!(rt; entries.len(), 1);
+    Ok(())
+}
+
 /// What takes memory is called again where it was refused, and then it has it: so this passes
 /// whichever one request is refused.
 #[test]
 fn refused_memory(rt: HostRuntime) -> Result<(), Fail> {
-    let mut handles = match Handle::open(rt.alloc(), Shape::new(2, 2, 1, 1)?) {
-        Ok(handles) => handles,
-        Err(_) => Handle::open(rt.alloc(), Shape::new(2, 2, 1, 1)?)?,
-    };
-    last_sees(&rt, &mut handles, &[(1, Put(11), Nothing)])?;
+    let mut handles = opened_again(rt.alloc())?;
+    last_sees(&rt, &mut handles, &[(1, Put(11), Nothing)]);
     settles(&rt, rt.alloc(), &mut handles, 1);
-    let ended = ended(&rt, handles);
-    let entries = match ended.entries(rt.alloc()) {
-        Ok(entries) => entries,
-        Err(_) => ended.entries(rt.alloc())?,
-    };
-    assert_eq!(rt; entries.len(), 1);
+    has_one(&rt, rt.alloc(), &ended(&rt, handles))?;
     renews(&rt, rt.alloc())
 }
 
 /// Each of two threads puts a key of its own.
-#[test]
-fn two_threads_two_keys(rt: HostRuntime) -> Result<(), Fail> {
-    let mut handles = Handle::open(rt.alloc(), Shape::new(2, 1, 2, 2)?)?;
+fn each_puts<R: Threads + Sync + Wait + Abort>(rt: &R, handles: &mut [Handle])
+    requires { AreOfOneMap handles.old }
+    ensures { AreOfOneMap handles.new }
+{
     thread::for_each_mut(
-        &rt,
-        handles.as_mut_slice(),
+        rt,
+        handles,
         2,
-        &|thread: usize, handle: &mut Handle| {
+        &|thread: usize, handle: &mut Handle|
+            ensures { handle.exit.now.map ≡ handle.entry.now.map }
+        {
             let k = thread as u64 % 2 + 1;
-            puts(&rt, handle, &[(k, k + 10)]);
+            puts(rt, handle, &[(k, k + 10)]);
         },
     );
+}
+
+/// Once the handles have met, each finds what both threads put.
+#[test]
+fn two_threads_two_keys(rt: HostRuntime) -> Result<(), Fail> {
+    let mut handles = opened(rt.alloc(), Shape::new(2, 1, 2, 2))?;
+    each_puts(&rt, handles.as_mut_slice());
     let (mut a, mut b) = two(&rt, handles);
     a.meet(&mut b);
     let rows = [(1, Get, Was(11)), (2, Get, Was(12))];
@@ -84,22 +116,21 @@ fn conditional_calls(rt: HostRuntime) -> Result<(), Fail> {
 /// The same by `put_if_match`, with looks at the number of keys.
 #[test]
 fn conditional_write(rt: HostRuntime) -> Result<(), Fail> {
-    let mut handle = alone(&rt, rt.alloc(), 1)?;
-    let (one, five) = (key(&rt, 1), number(&rt, 5));
-    sees(&rt, &mut handle, &[(1, Has, Is(false))]);
-    let came = handle.put_if_match(one, Want::Absent, Change::Put(five), 1);
-    assert_eq!(rt; replied(came), Replied(None, true));
-    let there = [(1, Has, Is(true)), (1, Get, Was(5)), (1, Estimate, Was(1))];
-    sees(&rt, &mut handle, &there);
-    let went = handle.put_if_match(one, Want::Equal(five), Change::Remove, 1);
-    assert_eq!(rt; replied(went), Replied(Some(5), true));
-    let gone = [
+    let five = number(&rt, 5);
+    let comes = Match(Want::Absent, Change::Put(five));
+    let goes = Match(Want::Equal(five), Change::Remove);
+    let rows = [
+        (1, Has, Is(false)),
+        (1, comes, Replied(None, true)),
+        (1, Has, Is(true)),
+        (1, Get, Was(5)),
+        (1, Estimate, Was(1)),
+        (1, goes, Replied(Some(5), true)),
         (1, Has, Is(false)),
         (1, Estimate, Was(0)),
         (1, Generation, Was(0)),
     ];
-    sees(&rt, &mut handle, &gone);
-    Ok(())
+    plays(&rt, rt.alloc(), 1, &[], &rows, &[])
 }
 
 #[test]
@@ -124,21 +155,12 @@ fn full_table(rt: HostRuntime) -> Result<(), Fail> {
     plays(&rt, rt.alloc(), 1, &FOUR, &rows, &left)
 }
 
-/// Sees that a write with one try is refused where it would put a number at key 4, and isn't where
-/// it has nothing to replace.
-fn has_no_room<R: Abort>(rt: &R, handle: &mut Handle) {
-    let (four, one, fourteen) = (key(rt, 4), number(rt, 1), number(rt, 14));
-    let put = handle.put_if_match(four, Want::Absent, Change::Put(fourteen), 1);
-    assert_eq!(rt; replied(put), FULL);
-    let replaced = handle.put_if_match(four, Want::Present, Change::Put(one), 1);
-    assert_eq!(rt; replied(replaced), Replied(None, false));
-}
-
-/// A removed key keeps its slot: no other key gets it, and the key can come back.
+/// A removed key keeps its slot: no other key gets it, and the key can come back. A write that has
+/// nothing to replace isn't refused.
 #[test]
 fn full_and_kept_keys(rt: HostRuntime) -> Result<(), Fail> {
-    let mut handle = alone(&rt, rt.alloc(), 1)?;
-    puts(&rt, &mut handle, &FOUR);
+    let comes = Match(Want::Absent, Change::Put(number(&rt, 14)));
+    let replaces = Match(Want::Present, Change::Put(number(&rt, 1)));
     let rows = [
         (4, Put(14), FULL),
         (0, Put(20), Was(10)),
@@ -146,12 +168,12 @@ fn full_and_kept_keys(rt: HostRuntime) -> Result<(), Fail> {
         (4, Put(14), FULL),
         (4, PutIfAbsent(1), FULL),
         (4, Replace(1), Nothing),
+        (4, comes, FULL),
+        (4, replaces, Replied(None, false)),
+        (0, Put(30), Nothing),
     ];
-    sees(&rt, &mut handle, &rows);
-    has_no_room(&rt, &mut handle);
-    puts(&rt, &mut handle, &[(0, 30)]);
     let left = [(0, 30), (1, 11), (2, 12), (3, 13)];
-    one_leaves(&rt, rt.alloc(), handle, &left)
+    plays(&rt, rt.alloc(), 1, &FOUR, &rows, &left)
 }
 
 /// Of keys that came and went in the first table none is left in the second, which the others and
@@ -191,31 +213,37 @@ fn refilled_map(rt: HostRuntime) -> Result<(), Fail> {
 /// where it is put behind others.
 #[test]
 fn tuned_growth(rt: HostRuntime) -> Result<(), Fail> {
-    let shape = Shape::new(2, 3, 1, 1)?
-        .with_reprobe_limit(1)?
-        .with_chunk(4)?;
-    let mut handle = one_of(&rt, Handle::open(rt.alloc(), shape)?);
-    for (k, complete) in [(0, 0), (4, 1), (8, 2), (12, 2), (16, 2)] {
-        puts(&rt, &mut handle, &[(k, 10)]);
-        assert_eq!(rt; handle.generation(), complete, "key {k}");
-    }
+    let shape = Shape::new(2, 3, 1, 1)?.with_reprobe_limit(1)?.with_chunk(4);
+    let rows = [
+        (0, Put(10), Nothing),
+        (0, Generation, Was(0)),
+        (4, Put(10), Nothing),
+        (4, Generation, Was(1)),
+        (8, Put(10), Nothing),
+        (8, Generation, Was(2)),
+        (12, Put(10), Nothing),
+        (12, Generation, Was(2)),
+        (16, Put(10), Nothing),
+        (16, Generation, Was(2)),
+    ];
     let left = [(0, 10), (4, 10), (8, 10), (12, 10), (16, 10)];
-    one_leaves(&rt, rt.alloc(), handle, &left)
+    let handle = with_one(&rt, rt.alloc(), shape)?;
+    plays_on(&rt, rt.alloc(), handle, &rows, &left)
 }
 
 /// The second table is as crowded by four keys as the first, and the third takes them.
 #[test]
 fn plan_of_three(rt: HostRuntime) -> Result<(), Fail> {
-    let shape = Shape::with_plan(&[2, 2, 3], 1, 1)?;
-    let mut handle = one_of(&rt, Handle::open(rt.alloc(), shape)?);
+    let shape = Shape::with_plan(&[2, 2, 3], 1, 1);
+    let mut handle = with_one(&rt, rt.alloc(), shape)?;
     puts(&rt, &mut handle, &CROWDED);
-    assert_eq!(rt; handle.generation(), 2);
-    one_leaves(&rt, rt.alloc(), handle, &CROWDED)
+    let rows = [(0, Generation, Was(2))];
+    plays_on(&rt, rt.alloc(), handle, &rows, &CROWDED)
 }
 
 #[test]
 fn meeting_shows_growth(rt: HostRuntime) -> Result<(), Fail> {
-    let (mut a, mut b) = two(&rt, Handle::open(rt.alloc(), Shape::new(2, 3, 2, 2)?)?);
+    let (mut a, mut b) = with_two(&rt, rt.alloc(), Shape::new(2, 3, 2, 2))?;
     puts(&rt, &mut a, &CROWDED);
     sees(&rt, &mut a, &[(0, Generation, Was(1))]);
     a.meet(&mut b);
@@ -235,21 +263,18 @@ const MOST: u64 = 1_152_921_504_606_846_975;
 
 #[test]
 fn adds(rt: HostRuntime) -> Result<(), Fail> {
-    let mut handle = alone(&rt, rt.alloc(), 1)?;
+    let add = Match(Want::Any, Change::Add(number(&rt, 1)));
     let rows = [
         (1, Add(5), Nothing),
         (1, Add(6), Was(5)),
         (1, Get, Was(11)),
         (1, Add(MOST - 11), Was(11)),
         (1, Add(1), PAST),
+        (1, add, PAST),
+        (1, Add(0), Was(MOST)),
+        (2, Add(0), Nothing),
     ];
-    sees(&rt, &mut handle, &rows);
-    let (one, once) = (key(&rt, 1), number(&rt, 1));
-    let past = handle.put_if_match(one, Want::Any, Change::Add(once), 1);
-    assert_eq!(rt; replied(past), PAST);
-    let rows = [(1, Add(0), Was(MOST)), (2, Add(0), Nothing)];
-    sees(&rt, &mut handle, &rows);
-    one_leaves(&rt, rt.alloc(), handle, &[(1, MOST), (2, 0)])
+    plays(&rt, rt.alloc(), 1, &[], &rows, &[(1, MOST), (2, 0)])
 }
 
 /// A write, and then an add of as much; each passes its refusal on.
@@ -278,65 +303,76 @@ fn refusals_in_one_another(rt: HostRuntime) -> Result<(), Fail> {
     Ok(())
 }
 
+/// Sees that the fault is printed so.
+fn says<R: Abort, F: Display>(rt: &R, alloc: Global, fault: &F, text: &str) -> Result<(), Fail> {
+    assert_eq!(rt; fault.to_string(alloc)?.as_str(), text);
+    Ok(())
+}
+
+/// What the faults of an add say.
+fn add_faults_say<R: Abort>(rt: &R, alloc: Global) -> Result<(), Fail> {
+    says(rt, alloc, &AddFault::Full, "the map is full")?;
+    says(rt, alloc, &AddFault::ValueRange, "value too large")
+}
+
+/// What the faults of a write with tries say.
+fn put_faults_say<R: Abort>(rt: &R, alloc: Global) -> Result<(), Fail> {
+    says(rt, alloc, &PutFault::Full, "the map is full")?;
+    says(
+        rt,
+        alloc,
+        &PutFault::Contended,
+        "other writes of the key came first",
+    )?;
+    says(rt, alloc, &PutFault::ValueRange, "value too large")
+}
+
 #[test]
 fn fault_texts(rt: HostRuntime) -> Result<(), Fail> {
-    assert_eq!(rt; Full.to_string(rt.alloc())?.as_str(), "the map is full");
-    for (fault, text) in [
-        (AddFault::Full, "the map is full"),
-        (AddFault::ValueRange, "value too large"),
-    ] {
-        assert_eq!(rt; fault.to_string(rt.alloc())?.as_str(), text);
-    }
-    for (fault, text) in [
-        (PutFault::Full, "the map is full"),
-        (PutFault::Contended, "other writes of the key came first"),
-        (PutFault::ValueRange, "value too large"),
-    ] {
-        assert_eq!(rt; fault.to_string(rt.alloc())?.as_str(), text);
-    }
-    Ok(())
+    says(&rt, rt.alloc(), &Full, "the map is full")?;
+    add_faults_say(&rt, rt.alloc())?;
+    put_faults_say(&rt, rt.alloc())
 }
 
 #[test]
 fn texts_of_many_and_of_settling(rt: HostRuntime) -> Result<(), Fail> {
     let after = FullAfter { put: 7 };
-    let text = "the map is full after 7 of the entries";
-    assert_eq!(rt; after.to_string(rt.alloc())?.as_str(), text);
-    for (fault, text) in [
-        (SettleFault::NotAll, "a seat is missing"),
-        (SettleFault::OutOfMemory, "out of memory"),
-    ] {
-        assert_eq!(rt; fault.to_string(rt.alloc())?.as_str(), text);
-    }
-    Ok(())
+    says(
+        &rt,
+        rt.alloc(),
+        &after,
+        "the map is full after 7 of the entries",
+    )?;
+    says(&rt, rt.alloc(), &SettleFault::NotAll, "a seat is missing")?;
+    says(&rt, rt.alloc(), &SettleFault::OutOfMemory, "out of memory")
+}
+
+/// What the faults of opening say.
+fn open_faults_say<R: Abort>(rt: &R, alloc: Global) -> Result<(), Fail> {
+    says(rt, alloc, &OpenFault::Full, "the map is full")?;
+    says(rt, alloc, &OpenFault::OutOfMemory, "out of memory")
 }
 
 #[test]
 fn texts_of_opening_and_of_renewing(rt: HostRuntime) -> Result<(), Fail> {
-    for (fault, text) in [
-        (OpenFault::Full, "the map is full"),
-        (OpenFault::OutOfMemory, "out of memory"),
-    ] {
-        assert_eq!(rt; fault.to_string(rt.alloc())?.as_str(), text);
-    }
-    for (fault, text) in [
-        (RenewFault::Full, "the new map is full"),
-        (RenewFault::NotAll, "a seat is missing"),
-        (RenewFault::OutOfMemory, "out of memory"),
-    ] {
-        assert_eq!(rt; fault.to_string(rt.alloc())?.as_str(), text);
-    }
-    Ok(())
+    open_faults_say(&rt, rt.alloc())?;
+    says(&rt, rt.alloc(), &RenewFault::Full, "the new map is full")?;
+    says(&rt, rt.alloc(), &RenewFault::NotAll, "a seat is missing")?;
+    says(&rt, rt.alloc(), &RenewFault::OutOfMemory, "out of memory")
+}
+
+/// Sees that key 1 is left and key 2 isn't.
+fn has_first<R: Abort>(rt: &R, left: &Ended) {
+    assert!(rt; !left.is_empty());
+    assert!(rt; left.contains_key(key(rt, 1)));
+    assert!(rt; !left.contains_key(key(rt, 2)));
 }
 
 #[test]
 fn ended_with_and_without_keys(rt: HostRuntime) -> Result<(), Fail> {
     let mut handle = alone(&rt, rt.alloc(), 1)?;
     puts(&rt, &mut handle, &[(1, 11)]);
-    let left = ended_alone(&rt, rt.alloc(), handle)?;
-    assert!(rt; !left.is_empty());
-    assert!(rt; left.contains_key(key(&rt, 1)));
-    assert!(rt; !left.contains_key(key(&rt, 2)));
+    has_first(&rt, &ended_alone(&rt, rt.alloc(), handle)?);
     let handle = alone(&rt, rt.alloc(), 1)?;
     assert!(rt; ended_alone(&rt, rt.alloc(), handle)?.is_empty());
     Ok(())

@@ -1,10 +1,13 @@
 //! Calls that put together what a key has and what they are given, one after another and by several
 //! threads.
-ghost use Rattle.nb_map.specs.Handles.{AreOfOneMap, IsSameMap};
+ghost use Rattle.std.specs.Prelude.{◌≡◌};
+ghost use Rattle.nb_map.specs.Handles.{AreOfOneMap};
 
-use super::rows::{alone, ended, key, number, one_leaves, two};
-use nb_core::{Key, Shape};
-use nb_map::{Full, Handle, PutFault};
+use super::rows::Answer::{Nothing, Was};
+use super::rows::Call::{Get, GetOrInsert, Max, Min};
+use super::rows::*;
+use nb_core::Shape;
+use nb_map::Handle;
 use std::process::Abort;
 use std::sync::Wait;
 use std::test::Fail;
@@ -14,51 +17,45 @@ use std::thread::Threads;
 /// The number that a key has is answered, and stays. A full map is told.
 #[test]
 fn get_or_insert_answers_what_is_there(rt: HostRuntime) -> Result<(), Fail> {
-    let mut handle = alone(&rt, rt.alloc(), 1)?;
-    let at = key(&rt, 1);
-    assert_eq!(rt;
-        handle.get_or_insert(&rt, at, number(&rt, 10)),
-        Ok(number(&rt, 10))
-    );
-    assert_eq!(rt;
-        handle.get_or_insert(&rt, at, number(&rt, 20)),
-        Ok(number(&rt, 10))
-    );
-    for k in 2..5u64 {
-        let now = handle.get_or_insert(&rt, key(&rt, k), number(&rt, 0));
-        assert_eq!(rt; now, Ok(number(&rt, 0)));
-    }
-    let full = handle.get_or_insert(&rt, key(&rt, 5), number(&rt, 0));
-    assert_eq!(rt; full, Err(Full));
-    one_leaves(&rt, rt.alloc(), handle, &[(1, 10), (2, 0), (3, 0), (4, 0)])
+    let rows = [
+        (1, GetOrInsert(10), Was(10)),
+        (1, GetOrInsert(20), Was(10)),
+        (2, GetOrInsert(0), Was(0)),
+        (3, GetOrInsert(0), Was(0)),
+        (4, GetOrInsert(0), Was(0)),
+        (5, GetOrInsert(0), FULL),
+    ];
+    let left = [(1, 10), (2, 0), (3, 0), (4, 0)];
+    plays(&rt, rt.alloc(), 1, &[], &rows, &left)
 }
 
 /// The greater of two numbers stays, or the less; an absent key gets the number.
 #[test]
 fn the_greater_and_the_less(rt: HostRuntime) -> Result<(), Fail> {
-    let mut handle = alone(&rt, rt.alloc(), 1)?;
-    let (up, down) = (key(&rt, 1), key(&rt, 2));
-    let (five, seven) = (number(&rt, 5), number(&rt, 7));
-    assert_eq!(rt; handle.fetch_max(up, five, 1), Ok(None));
-    assert_eq!(rt; handle.fetch_max(up, seven, 0), Ok(Some(five)));
-    assert_eq!(rt; handle.fetch_max(up, five, 1), Ok(Some(seven)));
-    assert_eq!(rt; handle.fetch_min(down, seven, 1), Ok(None));
-    assert_eq!(rt; handle.fetch_min(down, five, 0), Ok(Some(seven)));
-    assert_eq!(rt; handle.fetch_min(down, seven, 1), Ok(Some(five)));
-    one_leaves(&rt, rt.alloc(), handle, &[(1, 7), (2, 5)])
+    let rows = [
+        (1, Max(5, 1), Nothing),
+        (1, Max(7, 0), Was(5)),
+        (1, Max(5, 1), Was(7)),
+        (2, Min(7, 1), Nothing),
+        (2, Min(5, 0), Was(7)),
+        (2, Min(7, 1), Was(5)),
+    ];
+    plays(&rt, rt.alloc(), 1, &[], &rows, &[(1, 7), (2, 5)])
 }
 
 /// There is no slot for the key.
 #[test]
 fn no_room_for_the_greater(rt: HostRuntime) -> Result<(), Fail> {
-    let mut handle = alone(&rt, rt.alloc(), 1)?;
-    let once = number(&rt, 1);
-    for k in 0..4u64 {
-        assert_eq!(rt; handle.fetch_max(key(&rt, k), once, 1), Ok(None));
-    }
-    assert_eq!(rt; handle.fetch_max(key(&rt, 4), once, 1), Err(PutFault::Full));
-    assert_eq!(rt; handle.fetch_min(key(&rt, 4), once, 1), Err(PutFault::Full));
-    Ok(())
+    let rows = [
+        (0, Max(1, 1), Nothing),
+        (1, Max(1, 1), Nothing),
+        (2, Max(1, 1), Nothing),
+        (3, Max(1, 1), Nothing),
+        (4, Max(1, 1), FULL),
+        (4, Min(1, 1), FULL),
+    ];
+    let left = [(0, 1), (1, 1), (2, 1), (3, 1)];
+    plays(&rt, rt.alloc(), 1, &[], &rows, &left)
 }
 
 /// How many keys threads share.
@@ -67,34 +64,48 @@ const SHARED: u64 = 200;
 /// How often each thread raises one key's number.
 const RAISED: u64 = 2000;
 
+/// The key whose number threads raise, and the key whose number they lower.
+const UP: u64 = 1000;
+
+const DOWN: u64 = 1001;
+
 /// Inserts the thread's number at each key. What is answered is what the key has from then on.
 fn inserts<R: Wait + Abort>(rt: &R, handle: &mut Handle, thread: u64)
-    ensures { IsSameMap handle.old handle.new }
+    ensures { handle.new.map ≡ handle.old.map }
 {
     for k in 0..SHARED {
-        let now = handle.get_or_insert(rt, key(rt, k), number(rt, thread % 4));
-        assert!(rt; now.is_ok(), "key {k}");
-        assert_eq!(rt; handle.get(key(rt, k)), now.ok(), "key {k}");
+        let now = makes(rt, handle, k, GetOrInsert(thread % 4));
+        assert!(rt; matches!(now, Was(_)), "key {k}");
+        sees(rt, handle, &[(k, Get, now)]);
+    }
+}
+
+/// Raises one key's number, which is then no less than this one, and lowers another's.
+fn raises_once<R: Wait + Abort>(rt: &R, handle: &mut Handle, own: u64)
+    ensures { handle.new.map ≡ handle.old.map }
+{
+    let before = makes(rt, handle, UP, Max(own, 1_000_000));
+    assert!(rt; matches!(before, Was(_) | Nothing));
+    let low = 10_000u64.saturating_sub(own);
+    let before = makes(rt, handle, DOWN, Min(low, 1_000_000));
+    assert!(rt; matches!(before, Was(_) | Nothing));
+    match makes(rt, handle, UP, Get) {
+        Was(now) => assert!(rt; now >= own),
+        other => panic!(rt; "{other:?}"),
     }
 }
 
 /// Raises one key's number again and again, and lowers another's, by the thread's own numbers.
-fn raises<R: Abort>(rt: &R, handle: &mut Handle, up: Key, down: Key, thread: u64)
-    ensures { IsSameMap handle.old handle.new }
+fn raises<R: Wait + Abort>(rt: &R, handle: &mut Handle, thread: u64)
+    ensures { handle.new.map ≡ handle.old.map }
 {
     for round in 0..RAISED {
-        let own = 4 * round + thread % 4;
-        let before = handle.fetch_max(up, number(rt, own), 1_000_000);
-        assert!(rt; before.is_ok());
-        let before = handle.fetch_min(down, number(rt, 10_000 - own), 1_000_000);
-        assert!(rt; before.is_ok());
-        let now = handle.get(up).map_or(0, |number| number.get());
-        assert!(rt; now >= own);
+        raises_once(rt, handle, 4 * round + thread % 4);
     }
 }
 
 /// Each handle inserts in a thread of its own, and then raises and lowers.
-fn all_call<R: Threads + Sync + Wait + Abort>(rt: &R, handles: &mut [Handle], up: Key, down: Key)
+fn all_call<R: Threads + Sync + Wait + Abort>(rt: &R, handles: &mut [Handle])
     requires { AreOfOneMap handles.old }
     ensures { AreOfOneMap handles.new }
 {
@@ -103,10 +114,10 @@ fn all_call<R: Threads + Sync + Wait + Abort>(rt: &R, handles: &mut [Handle], up
         handles,
         4,
         &|thread: usize, handle: &mut Handle|
-            ensures { IsSameMap handle.entry.now handle.exit.now }
+            ensures { handle.exit.now.map ≡ handle.entry.now.map }
         {
             inserts(rt, handle, thread as u64);
-            raises(rt, handle, up, down, thread as u64);
+            raises(rt, handle, thread as u64);
         },
     );
 }
@@ -115,28 +126,20 @@ fn all_call<R: Threads + Sync + Wait + Abort>(rt: &R, handles: &mut [Handle], up
 /// they raise one key's number and lower another's: the greatest and the least of all are left.
 #[test]
 fn threads_insert_and_raise(rt: HostRuntime) -> Result<(), Fail> {
-    let (up, down) = (key(&rt, 1000), key(&rt, 1001));
-    let mut handles = Handle::open(rt.alloc(), Shape::new(2, 8, 4, 2)?)?;
-    all_call(&rt, handles.as_mut_slice(), up, down);
+    let mut handles = opened(rt.alloc(), Shape::new(2, 8, 4, 2))?;
+    all_call(&rt, handles.as_mut_slice());
     let ended = ended(&rt, handles);
     assert_eq!(rt; ended.size(), SHARED + 2);
-    assert_eq!(rt; ended.get(up), Some(number(&rt, 7999)));
-    assert_eq!(rt; ended.get(down), Some(number(&rt, 2001)));
+    has_at(&rt, &ended, UP, Was(7999));
+    has_at(&rt, &ended, DOWN, Was(2001));
     Ok(())
 }
 
 /// A number that another handle put before is answered.
 #[test]
 fn get_or_insert_after_another(rt: HostRuntime) -> Result<(), Fail> {
-    let (mut a, mut b) = two(&rt, Handle::open(rt.alloc(), Shape::new(2, 2, 2, 2)?)?);
-    let at = key(&rt, 5);
-    assert_eq!(rt;
-        a.get_or_insert(&rt, at, number(&rt, 1)),
-        Ok(number(&rt, 1))
-    );
-    assert_eq!(rt;
-        b.get_or_insert(&rt, at, number(&rt, 2)),
-        Ok(number(&rt, 1))
-    );
+    let (mut a, mut b) = with_two(&rt, rt.alloc(), Shape::new(2, 2, 2, 2))?;
+    sees(&rt, &mut a, &[(5, GetOrInsert(1), Was(1))]);
+    sees(&rt, &mut b, &[(5, GetOrInsert(2), Was(1))]);
     Ok(())
 }

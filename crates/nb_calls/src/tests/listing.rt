@@ -2,9 +2,10 @@
 ghost use Rattle.nb_map.specs.Handles.{AreOfOneMap};
 ghost use Rattle.nb_map.specs.Maps.{AreMine};
 
+use super::renewing::entries;
 use super::rows::Answer::{Nothing, Was};
 use super::rows::Call::{Put, Remove};
-use super::rows::{key, last_sees, number};
+use super::rows::{last_sees, opened};
 use super::settling::all_add;
 use nb_core::{Key, Num, Shape};
 use nb_map::{Handle, Map, Seat, SettleFault};
@@ -40,12 +41,11 @@ pub(super) fn lists<R: Abort>(
 /// Four threads add to two keys, all entries are listed, and the threads add again.
 #[test]
 fn listed_between_rounds(rt: HostRuntime) -> Result<(), Fail> {
-    let once = Num::new(1)?;
-    let mut handles = Handle::open(rt.alloc(), Shape::new(4, 4, 4, 1)?)?;
-    all_add(&rt, handles.as_mut_slice(), Key::new(7)?, once);
-    all_add(&rt, handles.as_mut_slice(), Key::new(9)?, once);
+    let mut handles = opened(rt.alloc(), Shape::new(4, 4, 4, 1))?;
+    all_add(&rt, &mut handles, 7);
+    all_add(&rt, &mut handles, 9);
     lists(&rt, rt.alloc(), &mut handles, &[(7, 4), (9, 4)]);
-    all_add(&rt, handles.as_mut_slice(), Key::new(7)?, once);
+    all_add(&rt, &mut handles, 7);
     lists(&rt, rt.alloc(), &mut handles, &[(7, 8), (9, 4)]);
     Ok(())
 }
@@ -53,7 +53,7 @@ fn listed_between_rounds(rt: HostRuntime) -> Result<(), Fail> {
 /// A removed key isn't listed, nor a number that was put over; and an empty map has no entries.
 #[test]
 fn listed_as_they_are(rt: HostRuntime) -> Result<(), Fail> {
-    let mut handles = Handle::open(rt.alloc(), Shape::new(2, 2, 2, 1)?)?;
+    let mut handles = opened(rt.alloc(), Shape::new(2, 2, 2, 1))?;
     lists(&rt, rt.alloc(), &mut handles, &[]);
     let rows = [
         (1, Put(10), Nothing),
@@ -62,21 +62,30 @@ fn listed_as_they_are(rt: HostRuntime) -> Result<(), Fail> {
         (5, Remove, Was(50)),
         (1, Put(11), Was(10)),
     ];
-    last_sees(&rt, &mut handles, &rows)?;
+    last_sees(&rt, &mut handles, &rows);
     lists(&rt, rt.alloc(), &mut handles, &[(1, 11), (9, 90)]);
     Ok(())
+}
+
+/// Sees that nothing is listed.
+fn lists_nothing<R: Abort>(rt: &R, alloc: Global, handles: &mut Vec<Handle>)
+    requires { AreOfOneMap handles.old.items }
+    ensures { AreOfOneMap handles.new.items }
+{
+    match Handle::entries(alloc, handles) {
+        Ok(_) => panic!(rt; "a handle is missing"),
+        Err(fault) => assert_eq!(rt; fault, SettleFault::NotAll),
+    }
 }
 
 /// A handle is missing: nothing is listed, and the others work on.
 #[test]
 fn listed_without_a_handle(rt: HostRuntime) -> Result<(), Fail> {
-    let mut handles = Handle::open(rt.alloc(), Shape::new(2, 1, 3, 1)?)?;
+    let mut handles = opened(rt.alloc(), Shape::new(2, 1, 3, 1))?;
     drop(handles.pop());
-    match Handle::entries(rt.alloc(), &mut handles) {
-        Ok(_) => panic!(rt; "a handle is missing"),
-        Err(fault) => assert_eq!(rt; fault, SettleFault::NotAll),
-    }
-    last_sees(&rt, &mut handles, &[(1, Put(1), Nothing)])
+    lists_nothing(&rt, rt.alloc(), &mut handles);
+    last_sees(&rt, &mut handles, &[(1, Put(1), Nothing)]);
+    Ok(())
 }
 
 /// The entries of a map with its seats.
@@ -91,12 +100,9 @@ fn seats_list<R: Abort>(rt: &R, alloc: Global, map: &Map, seats: &mut Vec<Seat>)
 
 #[test]
 fn listed_by_seats(rt: HostRuntime) -> Result<(), Fail> {
-    let pairs = [
-        (key(&rt, 1), number(&rt, 10)),
-        (key(&rt, 2), number(&rt, 20)),
-        (key(&rt, 1), number(&rt, 11)),
-    ];
-    let (map, mut seats) = Map::with_entries(rt.alloc(), Shape::new(2, 1, 3, 1)?, &pairs)?;
+    let pairs = entries(&rt, rt.alloc(), &[(1, 10), (2, 20), (1, 11)])?;
+    let shape = Shape::new(2, 1, 3, 1)?;
+    let (map, mut seats) = Map::with_entries(rt.alloc(), shape, pairs.as_slice())?;
     seats_list(&rt, rt.alloc(), &map, &mut seats);
     Ok(())
 }

@@ -5,9 +5,9 @@ ghost use Rattle.nb_map.specs.Handles.{AreOfOneMap};
 use super::listing::lists;
 use super::rows::Answer::{Nothing, Was};
 use super::rows::Call::{Get, Put, Remove};
-use super::rows::{ended, has_just, key, last_sees, number};
-use super::settling::all_add;
-use nb_core::{Key, Num, Shape};
+use super::rows::{all_leave, ended, has_at, key, last_sees, number, opened};
+use super::settling::{all_add, settles_at_once};
+use nb_core::{Key, Num, Shape, ShapeFault};
 use nb_map::{Handle, OpenFault, RenewFault};
 use std::alloc::Global;
 use std::process::Abort;
@@ -18,7 +18,11 @@ use std::test::Fail;
 const SLOTS: u64 = 16;
 
 /// Entries of plain numbers.
-fn entries<R: Abort>(rt: &R, alloc: Global, pairs: &[(u64, u64)]) -> Result<Vec<(Key, Num)>, Fail> {
+pub(super) fn entries<R: Abort>(
+    rt: &R,
+    alloc: Global,
+    pairs: &[(u64, u64)],
+) -> Result<Vec<(Key, Num)>, Fail> {
     let mut entries = Vec::new(alloc);
     for (k, n) in pairs {
         entries.push((key(rt, *k), number(rt, *n)))?;
@@ -26,15 +30,27 @@ fn entries<R: Abort>(rt: &R, alloc: Global, pairs: &[(u64, u64)]) -> Result<Vec<
     Ok(entries)
 }
 
+/// The handles of a map that has these entries.
+fn opened_with<R: Abort>(
+    rt: &R,
+    alloc: Global,
+    shape: Shape,
+    pairs: &[(u64, u64)],
+) -> Result<Vec<Handle>, Fail>
+    ensures { IfOk result (λ handles. AreOfOneMap handles.items) }
+{
+    let entries = entries(rt, alloc, pairs)?;
+    Ok(Handle::open_with(alloc, shape, entries.as_slice())?)
+}
+
 /// Of two entries of a key the later one stays, and each handle knows of all.
 #[test]
 fn opened_with_entries(rt: HostRuntime) -> Result<(), Fail> {
-    let entries = entries(&rt, rt.alloc(), &[(1, 10), (2, 20), (1, 11)])?;
     let shape = Shape::new(2, 2, 3, 1)?;
-    let mut handles = Handle::open_with(rt.alloc(), shape, entries.as_slice())?;
+    let mut handles = opened_with(&rt, rt.alloc(), shape, &[(1, 10), (2, 20), (1, 11)])?;
     assert_eq!(rt; handles.len(), 3);
-    last_sees(&rt, &mut handles, &[(1, Get, Was(11)), (3, Get, Nothing)])?;
-    has_just(&rt, rt.alloc(), &ended(&rt, handles), &[(1, 11), (2, 20)])
+    last_sees(&rt, &mut handles, &[(1, Get, Was(11)), (3, Get, Nothing)]);
+    all_leave(&rt, rt.alloc(), handles, &[(1, 11), (2, 20)])
 }
 
 /// With no entries it is an empty map.
@@ -42,7 +58,22 @@ fn opened_with_entries(rt: HostRuntime) -> Result<(), Fail> {
 fn opened_with_nothing(rt: HostRuntime) -> Result<(), Fail> {
     let handles = Handle::open_with(rt.alloc(), Shape::new(2, 1, 2, 1)?, &[])?;
     assert_eq!(rt; handles.len(), 2);
-    has_just(&rt, rt.alloc(), &ended(&rt, handles), &[])
+    all_leave(&rt, rt.alloc(), handles, &[])
+}
+
+/// Sees that no map of this shape has so many keys.
+fn opens_in_vain<R: Abort>(
+    rt: &R,
+    alloc: Global,
+    shape: Shape,
+    pairs: &[(u64, u64)],
+) -> Result<(), Fail> {
+    let entries = entries(rt, alloc, pairs)?;
+    match Handle::open_with(alloc, shape, entries.as_slice()) {
+        Ok(_) => panic!(rt; "there is no room"),
+        Err(fault) => assert_eq!(rt; fault, OpenFault::Full),
+    }
+    Ok(())
 }
 
 /// A table of four slots takes four keys, and refuses a fifth.
@@ -50,27 +81,45 @@ fn opened_with_nothing(rt: HostRuntime) -> Result<(), Fail> {
 fn opened_with_too_many(rt: HostRuntime) -> Result<(), Fail> {
     let shape = Shape::new(2, 1, 1, 1)?;
     let four = [(0, 1), (1, 2), (2, 3), (3, 4), (0, 5)];
-    let fits = entries(&rt, rt.alloc(), &four)?;
-    let handles = Handle::open_with(rt.alloc(), shape, fits.as_slice())?;
-    has_just(
-        &rt,
-        rt.alloc(),
-        &ended(&rt, handles),
-        &[(0, 5), (1, 2), (2, 3), (3, 4)],
-    )?;
+    let handles = opened_with(&rt, rt.alloc(), shape, &four)?;
+    let left = [(0, 5), (1, 2), (2, 3), (3, 4)];
+    all_leave(&rt, rt.alloc(), handles, &left)?;
     let five = [(0, 1), (1, 2), (2, 3), (3, 4), (4, 5)];
-    let many = entries(&rt, rt.alloc(), &five)?;
-    match Handle::open_with(rt.alloc(), shape, many.as_slice()) {
-        Ok(_) => panic!(rt; "there is no room"),
-        Err(fault) => assert_eq!(rt; fault, OpenFault::Full),
-    }
+    opens_in_vain(&rt, rt.alloc(), shape, &five)
+}
+
+/// Makes the map anew in this shape.
+fn renewed(
+    alloc: Global,
+    handles: &mut Vec<Handle>,
+    shape: Result<Shape, ShapeFault>,
+) -> Result<(), Fail>
+    requires { AreOfOneMap handles.old.items }
+    ensures { AreOfOneMap handles.new.items }
+{
+    Handle::renew(alloc, handles, shape?)?;
+    Ok(())
+}
+
+/// Sees that the map can't be made anew in this shape, and why. The handles are left as they were.
+fn renews_in_vain<R: Abort>(
+    rt: &R,
+    alloc: Global,
+    handles: &mut Vec<Handle>,
+    shape: Result<Shape, ShapeFault>,
+    fault: RenewFault,
+) -> Result<(), Fail>
+    requires { AreOfOneMap handles.old.items }
+    ensures { AreOfOneMap handles.new.items }
+{
+    assert_eq!(rt; Handle::renew(alloc, handles, shape?), Err(fault));
     Ok(())
 }
 
 /// A new map of another shape has what the old one had, and no slot of a removed key.
 #[test]
 fn renewed_in_another_shape(rt: HostRuntime) -> Result<(), Fail> {
-    let mut handles = Handle::open(rt.alloc(), Shape::new(2, 1, 2, 1)?)?;
+    let mut handles = opened(rt.alloc(), Shape::new(2, 1, 2, 1))?;
     let rows = [
         (0, Put(10), Nothing),
         (1, Put(11), Nothing),
@@ -79,23 +128,24 @@ fn renewed_in_another_shape(rt: HostRuntime) -> Result<(), Fail> {
         (2, Put(20), Nothing),
         (3, Put(30), Nothing),
     ];
-    last_sees(&rt, &mut handles, &rows)?;
-    Handle::renew(rt.alloc(), &mut handles, Shape::new(2, 1, 3, 2)?)?;
+    last_sees(&rt, &mut handles, &rows);
+    renewed(rt.alloc(), &mut handles, Shape::new(2, 1, 3, 2))?;
     assert_eq!(rt; handles.len(), 3);
     let rows = [(0, Get, Nothing), (1, Get, Was(12)), (4, Put(40), Nothing)];
-    last_sees(&rt, &mut handles, &rows)?;
-    has_just(
-        &rt,
-        rt.alloc(),
-        &ended(&rt, handles),
-        &[(1, 12), (2, 20), (3, 30), (4, 40)],
-    )
+    last_sees(&rt, &mut handles, &rows);
+    let left = [(1, 12), (2, 20), (3, 30), (4, 40)];
+    all_leave(&rt, rt.alloc(), handles, &left)
 }
 
-/// Where the new shape has too few slots, the old handles work on, and can be made anew in another.
-#[test]
-fn renewed_in_too_small_a_shape(rt: HostRuntime) -> Result<(), Fail> {
-    let mut handles = Handle::open(rt.alloc(), Shape::new(3, 1, 2, 1)?)?;
+/// Five keys don't fit into the new shape.
+fn stays_as_it_is<R: Wait + Abort>(
+    rt: &R,
+    alloc: Global,
+    handles: &mut Vec<Handle>,
+) -> Result<(), Fail>
+    requires { AreOfOneMap handles.old.items }
+    ensures { IfOk result (λ done. AreOfOneMap handles.new.items) }
+{
     let rows = [
         (0, Put(1), Nothing),
         (1, Put(2), Nothing),
@@ -103,73 +153,61 @@ fn renewed_in_too_small_a_shape(rt: HostRuntime) -> Result<(), Fail> {
         (3, Put(4), Nothing),
         (4, Put(5), Nothing),
     ];
-    last_sees(&rt, &mut handles, &rows)?;
-    assert_eq!(rt;
-        Handle::renew(rt.alloc(), &mut handles, Shape::new(2, 1, 2, 1)?),
-        Err(RenewFault::Full)
-    );
-    last_sees(
-        &rt,
-        &mut handles,
-        &[(4, Get, Was(5)), (4, Remove, Was(5)), (5, Put(6), Nothing)],
-    )?;
-    Handle::renew(rt.alloc(), &mut handles, Shape::new(3, 1, 2, 1)?)?;
-    has_just(
-        &rt,
-        rt.alloc(),
-        &ended(&rt, handles),
-        &[(0, 1), (1, 2), (2, 3), (3, 4), (5, 6)],
-    )
+    last_sees(rt, handles, &rows);
+    renews_in_vain(rt, alloc, handles, Shape::new(2, 1, 2, 1), RenewFault::Full)
+}
+
+/// Where the new shape has too few slots, the old handles work on, and can be made anew in another.
+#[test]
+fn renewed_in_too_small_a_shape(rt: HostRuntime) -> Result<(), Fail> {
+    let mut handles = opened(rt.alloc(), Shape::new(3, 1, 2, 1))?;
+    stays_as_it_is(&rt, rt.alloc(), &mut handles)?;
+    let rows = [(4, Get, Was(5)), (4, Remove, Was(5)), (5, Put(6), Nothing)];
+    last_sees(&rt, &mut handles, &rows);
+    renewed(rt.alloc(), &mut handles, Shape::new(3, 1, 2, 1))?;
+    let left = [(0, 1), (1, 2), (2, 3), (3, 4), (5, 6)];
+    all_leave(&rt, rt.alloc(), handles, &left)
 }
 
 /// A handle is missing: nothing is made anew, and the others work on.
 #[test]
 fn renewed_without_a_handle(rt: HostRuntime) -> Result<(), Fail> {
-    let shape = Shape::new(2, 1, 3, 1)?;
-    let mut handles = Handle::open(rt.alloc(), shape)?;
+    let mut handles = opened(rt.alloc(), Shape::new(2, 1, 3, 1))?;
     drop(handles.pop());
-    assert_eq!(rt;
-        Handle::renew(rt.alloc(), &mut handles, shape),
-        Err(RenewFault::NotAll)
-    );
+    let shape = Shape::new(2, 1, 3, 1);
+    renews_in_vain(&rt, rt.alloc(), &mut handles, shape, RenewFault::NotAll)?;
     assert_eq!(rt; handles.len(), 2);
-    last_sees(&rt, &mut handles, &[(1, Put(1), Nothing)])
+    last_sees(&rt, &mut handles, &[(1, Put(1), Nothing)]);
+    Ok(())
 }
 
 /// Four threads add to one key, the map is made anew, and four threads add again.
 #[test]
 fn renewed_between_rounds(rt: HostRuntime) -> Result<(), Fail> {
-    let once = Num::new(1)?;
-    let shape = Shape::new(4, 4, 4, 1)?;
-    let mut handles = Handle::open(rt.alloc(), shape)?;
-    all_add(&rt, handles.as_mut_slice(), Key::new(7)?, once);
-    Handle::renew(rt.alloc(), &mut handles, shape)?;
-    all_add(&rt, handles.as_mut_slice(), Key::new(7)?, once);
-    has_just(&rt, rt.alloc(), &ended(&rt, handles), &[(7, 8)])
+    let mut handles = opened(rt.alloc(), Shape::new(4, 4, 4, 1))?;
+    all_add(&rt, &mut handles, 7);
+    renewed(rt.alloc(), &mut handles, Shape::new(4, 4, 4, 1))?;
+    all_add(&rt, &mut handles, 7);
+    all_leave(&rt, rt.alloc(), handles, &[(7, 8)])
 }
 
 /// Four keys come, from this one on, and of the keys before them the eldest four go.
-fn four_pass<R: Wait + Abort>(rt: &R, handles: &mut Vec<Handle>, first: u64) -> Result<(), Fail>
+fn four_pass<R: Wait + Abort>(rt: &R, handles: &mut Vec<Handle>, first: u64)
     requires { AreOfOneMap handles.old.items }
-    ensures { IfOk result (λ done. AreOfOneMap handles.new.items) }
+    ensures { AreOfOneMap handles.new.items }
 {
     for n in 0..4 {
         let new = first.wrapping_add(n);
         let old = new.wrapping_sub(8);
-        last_sees(
-            rt,
-            handles,
-            &[(new, Put(new), Nothing), (old, Remove, Was(old))],
-        )?;
+        let rows = [(new, Put(new), Nothing), (old, Remove, Was(old))];
+        last_sees(rt, handles, &rows);
     }
-    Ok(())
 }
 
-/// A map whose table has 16 slots takes ten times as many different keys, of which it has eight or
-/// nine at a time: before each four of them it is made anew.
-#[test]
-fn more_keys_than_slots(rt: HostRuntime) -> Result<(), Fail> {
-    let shape = Shape::new(4, 1, 2, 1)?;
+/// The handles of a map whose table has 16 slots, and which has the first eight keys.
+fn with_eight<R: Abort>(rt: &R, alloc: Global, shape: Shape) -> Result<Vec<Handle>, Fail>
+    ensures { IfOk result (λ handles. AreOfOneMap handles.items) }
+{
     assert_eq!(rt; shape.size_of(shape.generations() - 1) as u64, SLOTS);
     let eight = [
         (0, 0),
@@ -181,15 +219,22 @@ fn more_keys_than_slots(rt: HostRuntime) -> Result<(), Fail> {
         (6, 6),
         (7, 7),
     ];
-    let first = entries(&rt, rt.alloc(), &eight)?;
-    let mut handles = Handle::open_with(rt.alloc(), shape, first.as_slice())?;
+    opened_with(rt, alloc, shape, &eight)
+}
+
+/// A map whose table has 16 slots takes ten times as many different keys, of which it has eight or
+/// nine at a time: before each four of them it is made anew.
+#[test]
+fn more_keys_than_slots(rt: HostRuntime) -> Result<(), Fail> {
+    let shape = Shape::new(4, 1, 2, 1)?;
+    let mut handles = with_eight(&rt, rt.alloc(), shape)?;
     for round in 2..10 * SLOTS / 4 {
-        Handle::renew(rt.alloc(), &mut handles, shape)?;
-        four_pass(&rt, &mut handles, 4 * round)?;
+        renewed(rt.alloc(), &mut handles, Ok(shape))?;
+        four_pass(&rt, &mut handles, 4 * round);
     }
     let last = 10 * SLOTS - 1;
-    last_sees(&rt, &mut handles, &[(last, Get, Was(last))])?;
-    assert_eq!(rt; Handle::settle(rt.alloc(), &mut handles)?, 8);
+    last_sees(&rt, &mut handles, &[(last, Get, Was(last))]);
+    settles_at_once(&rt, rt.alloc(), &mut handles, 8);
     Ok(())
 }
 
@@ -215,18 +260,26 @@ fn renewed_again(alloc: Global, handles: &mut Vec<Handle>, shape: Shape) -> Resu
     renewed
 }
 
-/// Opens a map with entries, makes it anew and lists it, also where one request for memory is refused: then the
-/// old handles have lost nothing.
-pub(super) fn renews<R: Wait + Abort>(rt: &R, alloc: Global) -> Result<(), Fail> {
+/// A map of two keys that was made anew, also where one request for memory is refused.
+fn two_keys_anew(alloc: Global, pairs: &[(Key, Num)]) -> Result<Vec<Handle>, Fail>
+    ensures { IfOk result (λ handles. AreOfOneMap handles.items) }
+{
     let shape = Shape::new(2, 2, 2, 1)?;
-    let pairs = [(key(rt, 1), number(rt, 10)), (key(rt, 2), number(rt, 20))];
-    let mut handles = opened_again(alloc, shape, &pairs)?;
+    let mut handles = opened_again(alloc, shape, pairs)?;
     renewed_again(alloc, &mut handles, shape)?;
+    Ok(handles)
+}
+
+/// Opens a map with entries, makes it anew and lists it, also where one request for memory is
+/// refused: then the old handles have lost nothing.
+pub(super) fn renews<R: Wait + Abort>(rt: &R, alloc: Global) -> Result<(), Fail> {
+    let pairs = [(key(rt, 1), number(rt, 10)), (key(rt, 2), number(rt, 20))];
+    let mut handles = two_keys_anew(alloc, &pairs)?;
     assert_eq!(rt; handles.len(), 2);
     lists(rt, alloc, &mut handles, &[(1, 10), (2, 20)]);
     let ended = ended(rt, handles);
     assert_eq!(rt; ended.size(), 2);
-    assert_eq!(rt; ended.get(key(rt, 1)), Some(number(rt, 10)));
-    assert_eq!(rt; ended.get(key(rt, 2)), Some(number(rt, 20)));
+    has_at(rt, &ended, 1, Was(10));
+    has_at(rt, &ended, 2, Was(20));
     Ok(())
 }

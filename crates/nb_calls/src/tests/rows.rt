@@ -2,7 +2,7 @@
 ghost use Rattle.std.specs.Prelude.{◌≡◌, IfOk};
 ghost use Rattle.nb_map.specs.Handles.{AreOfOneMap};
 
-use nb_core::{Key, Num, Reply, Shape};
+use nb_core::{Change, Key, Num, Reply, Shape, ShapeFault, Want};
 use nb_map::{Ended, Handle, PutFault};
 use std::alloc::Global;
 use std::process::Abort;
@@ -10,7 +10,8 @@ use std::sync::Wait;
 use std::test::Fail;
 
 /// A call at a key, with plain numbers; `Estimate` and `Generation` are of the whole map. Those
-/// from `TryPut` on wait for nobody and have one try, but `Turn` has two.
+/// from `TryPut` on wait for nobody and have one try, but `Turn` has two, `AddWithNoTries` is given
+/// none, and `Max` and `Min` have as many as their second number says.
 #[derive(Clone, Copy)]
 pub(super) enum Call {
     Get,
@@ -25,6 +26,7 @@ pub(super) enum Call {
     Remove,
     RemoveIf(u64),
     Add(u64),
+    GetOrInsert(u64),
     TryPut(u64),
     TryPutIfAbsent(u64),
     TryAdd(u64),
@@ -32,6 +34,10 @@ pub(super) enum Call {
     Exchange(Option<u64>, Option<u64>),
     OneMore,
     Turn,
+    AddWithNoTries(u64),
+    Match(Want, Change),
+    Max(u64, u32),
+    Min(u64, u32),
 }
 
 /// What a call answers: what was there, whether it matched, or both; or why it is refused.
@@ -83,7 +89,7 @@ fn was(before: Option<Num>) -> Answer {
 }
 
 /// What was there, or why a call is refused.
-fn found<F>(answer: Result<Option<Num>, F>) -> Answer
+pub(super) fn found<F>(answer: Result<Option<Num>, F>) -> Answer
 where
     PutFault: From<F>,
 {
@@ -94,7 +100,7 @@ where
 }
 
 /// A reply, or why a call is refused.
-pub(super) fn replied(answer: Result<Reply, PutFault>) -> Answer {
+fn replied(answer: Result<Reply, PutFault>) -> Answer {
     match answer {
         Ok(reply) => Answer::Replied(reply.before.map(Num::get), reply.matched),
         Err(fault) => Answer::Refused(fault),
@@ -120,6 +126,56 @@ fn turns(handle: &mut Handle, key: Key, number: Num) -> Answer
     found(answer)
 }
 
+/// Makes a call that compares what is there with numbers, or that wants something of it.
+fn compares<R: Abort>(rt: &R, handle: &mut Handle, at: Key, call: Call) -> Answer
+    ensures { handle.new.map ≡ handle.old.map }
+{
+    match call {
+        Call::Exchange(old, new) => {
+            replied(handle.compare_exchange(at, some(rt, old), some(rt, new), 1))
+        }
+        Call::Match(want, change) => replied(handle.put_if_match(at, want, change, 1)),
+        Call::Max(n, tries) => found(handle.fetch_max(at, number(rt, n), tries)),
+        Call::Min(n, tries) => found(handle.fetch_min(at, number(rt, n), tries)),
+        _ => panic!(rt; "this is another call"),
+    }
+}
+
+/// Makes a call that waits for nobody.
+fn tries<R: Abort>(rt: &R, handle: &mut Handle, at: Key, call: Call) -> Answer
+    ensures { handle.new.map ≡ handle.old.map }
+{
+    match call {
+        Call::TryPut(n) => found(handle.try_put(at, number(rt, n), 1)),
+        Call::TryPutIfAbsent(n) => found(handle.try_put_if_absent(at, number(rt, n), 1)),
+        Call::TryAdd(n) => found(handle.try_add(at, number(rt, n), 1)),
+        Call::AddWithNoTries(n) => found(handle.try_add(at, number(rt, n), 0)),
+        Call::TryRemove => found(handle.try_remove(at, 1)),
+        Call::OneMore => found(handle.update(at, 1, one_more)),
+        Call::Turn => turns(handle, at, number(rt, 1)),
+        _ => compares(rt, handle, at, call),
+    }
+}
+
+/// Makes a call that writes.
+fn writes<R: Wait + Abort>(rt: &R, handle: &mut Handle, at: Key, call: Call) -> Answer
+    ensures { handle.new.map ≡ handle.old.map }
+{
+    match call {
+        Call::Put(n) => found(handle.put(rt, at, number(rt, n))),
+        Call::PutIfAbsent(n) => found(handle.put_if_absent(rt, at, number(rt, n))),
+        Call::Replace(n) => was(handle.replace(rt, at, number(rt, n))),
+        Call::ReplaceIf(old, new) => {
+            Answer::Is(handle.replace_if(rt, at, number(rt, old), number(rt, new)))
+        }
+        Call::Remove => was(handle.remove(rt, at)),
+        Call::RemoveIf(n) => Answer::Is(handle.remove_if(rt, at, number(rt, n))),
+        Call::Add(n) => found(handle.add(rt, at, number(rt, n))),
+        Call::GetOrInsert(n) => found(handle.get_or_insert(rt, at, number(rt, n)).map(Some)),
+        _ => tries(rt, handle, at, call),
+    }
+}
+
 /// Makes the call at the key.
 pub(super) fn makes<R: Wait + Abort>(rt: &R, handle: &mut Handle, k: u64, call: Call) -> Answer
     ensures { handle.new.map ≡ handle.old.map }
@@ -131,24 +187,7 @@ pub(super) fn makes<R: Wait + Abort>(rt: &R, handle: &mut Handle, k: u64, call: 
         Call::Has => Answer::Is(handle.contains_key(at)),
         Call::Estimate => Answer::Was(handle.size_estimate()),
         Call::Generation => Answer::Was(u64::from(handle.generation())),
-        Call::Put(n) => found(handle.put(rt, at, number(rt, n))),
-        Call::PutIfAbsent(n) => found(handle.put_if_absent(rt, at, number(rt, n))),
-        Call::Replace(n) => was(handle.replace(rt, at, number(rt, n))),
-        Call::ReplaceIf(old, new) => {
-            Answer::Is(handle.replace_if(rt, at, number(rt, old), number(rt, new)))
-        }
-        Call::Remove => was(handle.remove(rt, at)),
-        Call::RemoveIf(n) => Answer::Is(handle.remove_if(rt, at, number(rt, n))),
-        Call::Add(n) => found(handle.add(rt, at, number(rt, n))),
-        Call::TryPut(n) => found(handle.try_put(at, number(rt, n), 1)),
-        Call::TryPutIfAbsent(n) => found(handle.try_put_if_absent(at, number(rt, n), 1)),
-        Call::TryAdd(n) => found(handle.try_add(at, number(rt, n), 1)),
-        Call::TryRemove => found(handle.try_remove(at, 1)),
-        Call::Exchange(old, new) => {
-            replied(handle.compare_exchange(at, some(rt, old), some(rt, new), 1))
-        }
-        Call::OneMore => found(handle.update(at, 1, one_more)),
-        Call::Turn => turns(handle, at, number(rt, 1)),
+        _ => writes(rt, handle, at, call),
     }
 }
 
@@ -162,20 +201,17 @@ pub(super) fn sees<R: Wait + Abort>(rt: &R, handle: &mut Handle, rows: &[Row])
 }
 
 /// Makes these calls with the last of the handles, which answer so.
-pub(super) fn last_sees<R: Wait + Abort>(
-    rt: &R,
-    handles: &mut Vec<Handle>,
-    rows: &[Row],
-) -> Result<(), Fail>
+pub(super) fn last_sees<R: Wait + Abort>(rt: &R, handles: &mut Vec<Handle>, rows: &[Row])
     requires { AreOfOneMap handles.old.items }
-    ensures { IfOk result (λ done. AreOfOneMap handles.new.items) }
+    ensures { AreOfOneMap handles.new.items }
 {
     let Some(mut handle) = handles.pop() else {
         panic!(rt; "there is a handle")
     };
     sees(rt, &mut handle, rows);
-    handles.push(handle)?;
-    Ok(())
+    let Ok(()) = handles.push(handle) else {
+        panic!(rt; "the room that it had is there")
+    };
 }
 
 /// Puts these numbers at their keys, none of which is there.
@@ -200,11 +236,26 @@ pub(super) fn one_of<R: Abort>(rt: &R, handles: Vec<Handle>) -> Handle {
     handle
 }
 
+/// The handles of a new map of this shape.
+pub(super) fn opened(alloc: Global, shape: Result<Shape, ShapeFault>) -> Result<Vec<Handle>, Fail>
+    ensures { IfOk result (λ handles. AreOfOneMap handles.items) }
+{
+    Ok(Handle::open(alloc, shape?)?)
+}
+
+/// The handle of a new map of this shape, which has one seat.
+pub(super) fn with_one<R: Abort>(
+    rt: &R,
+    alloc: Global,
+    shape: Result<Shape, ShapeFault>,
+) -> Result<Handle, Fail> {
+    Ok(one_of(rt, opened(alloc, shape)?))
+}
+
 /// The handle of a map with one seat. Its first table has four slots, and each further one twice as
 /// many.
 pub(super) fn alone<R: Abort>(rt: &R, alloc: Global, tables: u32) -> Result<Handle, Fail> {
-    let handles = Handle::open(alloc, Shape::new(2, tables, 1, 1)?)?;
-    Ok(one_of(rt, handles))
+    with_one(rt, alloc, Shape::new(2, tables, 1, 1))
 }
 
 /// The two handles of a map with two seats.
@@ -220,6 +271,17 @@ pub(super) fn two<R: Abort>(rt: &R, handles: Vec<Handle>) -> (Handle, Handle)
         panic!(rt; "there is another one")
     };
     (a, b)
+}
+
+/// The two handles of a new map of this shape, which has two seats.
+pub(super) fn with_two<R: Abort>(
+    rt: &R,
+    alloc: Global,
+    shape: Result<Shape, ShapeFault>,
+) -> Result<(Handle, Handle), Fail>
+    ensures { IfOk result (λ both. both.0.map ≡ both.1.map) }
+{
+    Ok(two(rt, opened(alloc, shape)?))
 }
 
 /// Ends the map, all of whose handles these are.
@@ -260,6 +322,24 @@ pub(super) fn has_just<R: Abort>(
     Ok(())
 }
 
+/// Sees what is left at the key.
+pub(super) fn has_at<R: Abort>(rt: &R, ended: &Ended, k: u64, left: Answer) {
+    assert_eq!(rt; was(ended.get(key(rt, k))), left, "key {k}");
+}
+
+/// Ends the map, all of whose handles these are. These keys are left, each with its number.
+pub(super) fn all_leave<R: Wait + Abort>(
+    rt: &R,
+    alloc: Global,
+    handles: Vec<Handle>,
+    pairs: &[(u64, u64)],
+) -> Result<(), Fail>
+    requires { AreOfOneMap handles.items }
+{
+    let ended = ended(rt, handles);
+    has_just(rt, alloc, &ended, pairs)
+}
+
 /// Ends the map of this one handle. These keys are left, each with its number.
 pub(super) fn one_leaves<R: Wait + Abort>(
     rt: &R,
@@ -283,6 +363,19 @@ pub(super) fn plays<R: Wait + Abort>(
 ) -> Result<(), Fail> {
     let mut handle = alone(rt, alloc, tables)?;
     puts(rt, &mut handle, pairs);
+    plays_on(rt, alloc, handle, rows, left)
+}
+
+/// Makes calls, which answer so, and ends the map of this one handle. Then these keys are left, each
+/// with its number.
+pub(super) fn plays_on<R: Wait + Abort>(
+    rt: &R,
+    alloc: Global,
+    handle: Handle,
+    rows: &[Row],
+    left: &[(u64, u64)],
+) -> Result<(), Fail> {
+    let mut handle = handle;
     sees(rt, &mut handle, rows);
     one_leaves(rt, alloc, handle, left)
 }
@@ -300,5 +393,5 @@ pub(super) fn two_leave<R: Wait + Abort>(
     let mut handles = Vec::new(alloc);
     handles.push(a)?;
     handles.push(b)?;
-    has_just(rt, alloc, &ended(rt, handles), pairs)
+    all_leave(rt, alloc, handles, pairs)
 }

@@ -1,6 +1,6 @@
 //! Eight threads call a map at once on few keys, and what it has in the end is compared with what
 //! they were told.
-ghost use Rattle.std.specs.Prelude.{◌≡◌};
+ghost use Rattle.std.specs.Prelude.{◌≡◌, ◌<◌};
 ghost use Rattle.nb_map.specs.Handles.{AreOfOneMap};
 
 use super::rows::Answer::{Is, Nothing, Refused, Was};
@@ -50,6 +50,24 @@ fn came<R: Abort>(rt: &R, made: Call, answer: Answer) -> u64 {
     }
 }
 
+/// Adds at one of the keys 0 to 2, as the number chooses it, and answers which.
+fn adds_once<R: Wait + Abort>(rt: &R, handle: &mut Handle, choice: u64, amount: u64) -> usize
+    ensures map { handle.new.map ≡ handle.old.map }
+    ensures key { result < 7 }
+{
+    let k = choice / 8 % 3;
+    let before = makes(rt, handle, k, Add(amount));
+    assert!(rt; matches!(before, Was(_) | Nothing), "key {k}");
+    k as usize
+}
+
+/// Makes a call. Answers whether the key came by it, less whether it went.
+fn calls_once<R: Wait + Abort>(rt: &R, handle: &mut Handle, k: u64, made: &Call) -> u64
+    ensures { handle.new.map ≡ handle.old.map }
+{
+    came(rt, *made, makes(rt, handle, k, *made))
+}
+
 /// Makes many calls, as the thread's own row of numbers chooses them. Between them it puts three
 /// keys that no other thread puts, so that the map has to grow.
 fn calls_often<R: Wait + Abort>(rt: &R, handle: &mut Handle, thread: u64) -> Told
@@ -62,14 +80,11 @@ fn calls_often<R: Wait + Abort>(rt: &R, handle: &mut Handle, thread: u64) -> Tol
         row = row
             .wrapping_mul(6_364_136_223_846_793_005)
             .wrapping_add(1_442_695_040_888_963_407);
-        let choice = row >> 33;
-        let k = (choice / 8 % 3) as usize;
-        let before = makes(rt, handle, k as u64, Add(amount));
-        assert!(rt; matches!(before, Was(_) | Nothing), "key {k}");
+        let k = adds_once(rt, handle, row >> 33, amount);
         told[k] = told[k].wrapping_add(amount);
-        let k = 3 + (choice / 32 % 4) as usize;
-        let made = CALLS[(choice % 8) as usize];
-        let kept = came(rt, made, makes(rt, handle, k as u64, made));
+        let k = 3 + ((row >> 33) / 32 % 4) as usize;
+        let made = &CALLS[((row >> 33) % 8) as usize];
+        let kept = calls_once(rt, handle, k as u64, made);
         told[k] = told[k].wrapping_add(kept);
         if round % 1000 == 20 {
             let own = 6 + amount + 8 * (round / 1000);
@@ -103,8 +118,7 @@ fn all_call<R: Threads + Sync + Wait + Abort>(rt: &R, handles: &mut [Handle]) ->
 /// Sees that the keys 0 to 2 have the sums that were told.
 fn has_sums<R: Abort>(rt: &R, ended: &Ended, told: &Told) {
     for k in 0..3 {
-        let sum = ended.get(key(rt, k as u64));
-        assert_eq!(rt; sum, Some(number(rt, told[k])), "key {k}");
+        has_at(rt, ended, k as u64, Was(told[k]));
     }
 }
 
@@ -134,15 +148,19 @@ fn has_keys<R: Abort>(rt: &R, alloc: Global, ended: &Ended, keys: u64) -> Result
 /// The keys that are there in any case: three that all only add at, and three of each thread's own.
 const ALWAYS: u64 = 3 + 3 * 8;
 
+/// Sees that the map has what the threads were told.
+fn has_all<R: Abort>(rt: &R, alloc: Global, ended: &Ended, told: &Told) -> Result<(), Fail> {
+    has_sums(rt, ended, told);
+    let kept = has_kept(rt, ended, told);
+    has_keys(rt, alloc, ended, ALWAYS.wrapping_add(kept))
+}
+
 /// Eight threads call while the map grows through all its tables.
 fn eight_call<R: Threads + Sync + Wait + Abort>(rt: &R, alloc: Global) -> Result<(), Fail> {
-    let mut handles = Handle::open(alloc, Shape::new(2, 4, 8, 3)?)?;
+    let mut handles = opened(alloc, Shape::new(2, 4, 8, 3))?;
     let told = all_call(rt, handles.as_mut_slice());
-    last_sees(rt, &mut handles, &[(0, Generation, Was(3))])?;
-    let ended = ended(rt, handles);
-    has_sums(rt, &ended, &told);
-    let kept = has_kept(rt, &ended, &told);
-    has_keys(rt, alloc, &ended, ALWAYS.wrapping_add(kept))
+    last_sees(rt, &mut handles, &[(0, Generation, Was(3))]);
+    has_all(rt, alloc, &ended(rt, handles), &told)
 }
 
 #[test]

@@ -1,7 +1,8 @@
 //! The calls of a handle that wait for nobody, and their refusals.
 use super::rows::Answer::{Nothing, Replied, Was};
 use super::rows::Call::{
-    Exchange, Get, GetOr, OneMore, Put, TryAdd, TryPut, TryPutIfAbsent, TryRemove, Turn,
+    AddWithNoTries, Exchange, Get, GetOr, OneMore, Put, TryAdd, TryPut, TryPutIfAbsent, TryRemove,
+    Turn,
 };
 use super::rows::*;
 use nb_core::VALUE_MAX;
@@ -69,20 +70,17 @@ fn updates_at_a_key(rt: HostRuntime) -> Result<(), Fail> {
 /// No tries count as one, which no other thread can come before here.
 #[test]
 fn tries_once(rt: HostRuntime) -> Result<(), Fail> {
-    let mut handle = alone(&rt, rt.alloc(), 1)?;
-    let rows = [(5, TryPut(1), Nothing), (5, TryPutIfAbsent(2), Was(1))];
-    sees(&rt, &mut handle, &rows);
-    let one = number(&rt, 1);
-    assert_eq!(rt; handle.try_add(key(&rt, 5), one, 0), Ok(Some(one)));
     let rows = [
+        (5, TryPut(1), Nothing),
+        (5, TryPutIfAbsent(2), Was(1)),
+        (5, AddWithNoTries(1), Was(1)),
         (5, Exchange(Some(2), Some(1)), Replied(Some(2), true)),
         (5, OneMore, Was(1)),
         (5, GetOr(1), Was(2)),
         (5, TryRemove, Was(2)),
         (5, GetOr(1), Was(1)),
     ];
-    sees(&rt, &mut handle, &rows);
-    Ok(())
+    plays(&rt, rt.alloc(), 1, &[], &rows, &[])
 }
 
 /// A fifth key has no slot among four.

@@ -5,7 +5,11 @@ ghost use Rattle.nb_core.specs.declared.calls.Reply.{Reply};
 ghost use Rattle.nb_map.specs.Handles.{AreOfOneMap, IsSameMap};
 ghost use Rattle.nb_map.specs.Logs.{HasLogged};
 
-use super::rows::{alone, ended, key, number, one_leaves, one_more, two, two_leave};
+use super::rows::Answer::Was;
+use super::rows::Call::Get;
+use super::rows::{
+    all_leave, alone, found, key, number, one_leaves, one_more, opened, sees, two_leave, with_two,
+};
 use nb_core::{Key, Num, Shape};
 use nb_map::{Handle, PutFault};
 use std::process::Abort;
@@ -14,37 +18,44 @@ use std::test::Fail;
 use std::thread;
 use std::thread::Threads;
 
-/// Another handle's updates come between the read and the exchange, and after the first exchange.
-/// Each is taken up, in one more call of the function.
-#[test]
-fn update_takes_up_what_came(rt: HostRuntime) -> Result<(), Fail> {
-    let (mut a, mut b) = two(&rt, Handle::open(rt.alloc(), Shape::new(2, 2, 2, 2)?)?);
-    let at = key(&rt, 5);
+/// Adds 1 to the number of a key. Another handle does so too before each of the first exchanges, so
+/// many of them. Answers what was there, and how often the function was called.
+fn update_beside(
+    a: &mut Handle,
+    b: &mut Handle,
+    at: Key,
+    tries: u32,
+    others: u64,
+) -> (Result<Option<Num>, PutFault>, u64) {
     let mut calls = 0u64;
-    let before = a.update(at, 3, |was| {
+    let before = a.update(at, tries, |was| {
         calls = calls.wrapping_add(1);
-        if calls < 3 {
+        if calls <= others {
             let _ = b.update(at, 1, one_more);
         }
         one_more(was)
     });
-    assert_eq!(rt; before, Ok(Some(number(&rt, 2))));
-    assert_eq!(rt; calls, 3);
-    assert_eq!(rt; a.get(at), Some(number(&rt, 3)));
+    (before, calls)
+}
+
+/// Another handle's updates come between the read and the exchange, and after the first exchange.
+/// Each is taken up, in one more call of the function.
+#[test]
+fn update_takes_up_what_came(rt: HostRuntime) -> Result<(), Fail> {
+    let (mut a, mut b) = with_two(&rt, rt.alloc(), Shape::new(2, 2, 2, 2))?;
+    let (before, calls) = update_beside(&mut a, &mut b, key(&rt, 5), 3, 2);
+    assert_eq!(rt; (found(before), calls), (Was(2), 3));
+    sees(&rt, &mut a, &[(5, Get, Was(3))]);
     Ok(())
 }
 
 /// As many exchanges as there are tries come too late, and none is made after them.
 #[test]
 fn update_is_contended(rt: HostRuntime) -> Result<(), Fail> {
-    let (mut a, mut b) = two(&rt, Handle::open(rt.alloc(), Shape::new(2, 2, 2, 2)?)?);
-    let at = key(&rt, 5);
-    let before = a.update(at, 2, |was| {
-        let _ = b.update(at, 1, one_more);
-        one_more(was)
-    });
+    let (mut a, mut b) = with_two(&rt, rt.alloc(), Shape::new(2, 2, 2, 2))?;
+    let (before, _) = update_beside(&mut a, &mut b, key(&rt, 5), 2, u64::MAX);
     assert_eq!(rt; before, Err(PutFault::Contended));
-    assert_eq!(rt; a.get(at), Some(number(&rt, 2)));
+    sees(&rt, &mut a, &[(5, Get, Was(2))]);
     Ok(())
 }
 
@@ -77,13 +88,9 @@ fn all_update<R: Threads + Sync + Abort>(rt: &R, handles: &mut [Handle], at: Key
 /// Four threads update one key: none of their updates is lost.
 #[test]
 fn updates_add_up(rt: HostRuntime) -> Result<(), Fail> {
-    let at = key(&rt, 5);
-    let mut handles = Handle::open(rt.alloc(), Shape::new(2, 2, 4, 1)?)?;
-    all_update(&rt, handles.as_mut_slice(), at);
-    let ended = ended(&rt, handles);
-    assert_eq!(rt; ended.size(), 1);
-    assert_eq!(rt; ended.get(at), Some(number(&rt, 8000)));
-    Ok(())
+    let mut handles = opened(rt.alloc(), Shape::new(2, 2, 4, 1))?;
+    all_update(&rt, handles.as_mut_slice(), key(&rt, 5));
+    all_leave(&rt, rt.alloc(), handles, &[(5, 8000)])
 }
 
 /// Adds to the numbers of two keys.
@@ -97,9 +104,10 @@ fn add_to_both<R: Wait>(rt: &R, handle: &mut Handle, one: Key, other: Key, numbe
 /// Handles that a function has worked with meet, and end their map.
 #[test]
 fn functions_work_with_handles(rt: HostRuntime) -> Result<(), Fail> {
-    let (mut a, mut b) = two(&rt, Handle::open(rt.alloc(), Shape::new(2, 2, 2, 2)?)?);
-    add_to_both(&rt, &mut a, key(&rt, 1), key(&rt, 2), number(&rt, 10));
-    add_to_both(&rt, &mut b, key(&rt, 2), key(&rt, 3), number(&rt, 20));
+    let (mut a, mut b) = with_two(&rt, rt.alloc(), Shape::new(2, 2, 2, 2))?;
+    let shared = key(&rt, 2);
+    add_to_both(&rt, &mut a, key(&rt, 1), shared, number(&rt, 10));
+    add_to_both(&rt, &mut b, shared, key(&rt, 3), number(&rt, 20));
     a.meet(&mut b);
     two_leave(&rt, rt.alloc(), a, b, &[(1, 10), (2, 30), (3, 20)])
 }

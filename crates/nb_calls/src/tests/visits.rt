@@ -1,10 +1,13 @@
 //! Two threads count visits of pages in one map.
-ghost use Rattle.nb_map.specs.Maps.{IsMine};
+ghost use Rattle.std.specs.Prelude.{IfOk};
+ghost use Rattle.nb_map.specs.Maps.{AreMine, IsMine};
 
-use super::rows::{key, number};
+use super::rows::Answer::Was;
+use super::rows::{has_at, key, number};
 use super::seats::{ended, gives_back, taken};
 use nb_core::{Key, Num, Shape};
 use nb_map::{Map, Seat};
+use std::process::Abort;
 use std::sync::Wait;
 use std::test::Fail;
 use std::thread;
@@ -46,19 +49,32 @@ fn visits<R: Threads + Sync + Wait>(
     )
 }
 
+/// Two threads visit the page, each with one of the seats, which come back.
+fn visited<R: Threads + Sync + Wait + Abort>(
+    rt: &R,
+    map: &Map,
+    seats: &mut Vec<Seat>,
+    page: Key,
+) -> Result<(), Fail>
+    requires { AreMine map.now seats.old.items }
+    ensures { IfOk result (λ done. AreMine map.now seats.new.items) }
+{
+    let b = taken(rt, map, seats);
+    let a = taken(rt, map, seats);
+    let (mut a, b) = visits(rt, map, a, b, page, number(rt, 1));
+    assert!(rt; map.get(&mut a, page).is_some());
+    gives_back(map, seats, a)?;
+    gives_back(map, seats, b)?;
+    Ok(())
+}
+
 /// Up to four tables, the first of 16 slots, and a seat for each thread.
 #[test]
 fn two_visits(rt: HostRuntime) -> Result<(), Fail> {
-    let (page, once) = (key(&rt, 7), number(&rt, 1));
     let (map, mut seats) = Map::new(rt.alloc(), Shape::new(4, 4, 2, 1)?)?;
-    let b = taken(&rt, &map, &mut seats);
-    let a = taken(&rt, &map, &mut seats);
-    let (mut a, b) = visits(&rt, &map, a, b, page, once);
-    assert!(rt; map.get(&mut a, page).is_some());
-    gives_back(&map, &mut seats, a)?;
-    gives_back(&map, &mut seats, b)?;
+    visited(&rt, &map, &mut seats, key(&rt, 7))?;
     let ended = ended(&rt, map, seats);
     assert_eq!(rt; ended.size(), 1);
-    assert_eq!(rt; ended.get(page).map(Num::get), Some(2));
+    has_at(&rt, &ended, 7, Was(2));
     Ok(())
 }

@@ -30,16 +30,33 @@ fn filled<R: Abort>(
     Ok((chain, seats))
 }
 
+/// Sees that the slot of table 0 is finished.
+fn is_finished<R: Abort>(rt: &R, chain: &Chain, seat: &mut ChainSeat, i: usize)
+    requires own { IsOwn chain.now seat.old }
+    ensures own { IsOwn chain.now seat.new }
+{
+    let key = key_in(rt, chain, seat, 0, i);
+    let value = value_in(rt, chain, seat, 0, i);
+    assert!(rt; key == KeyState::Dead || value.is_finished(), "slot {i}");
+}
+
 /// Sees that all slots of table 0, which are sixteen, are finished.
 fn is_complete<R: Abort>(rt: &R, chain: &Chain, seat: &mut ChainSeat)
     requires own { IsOwn chain.now seat.old }
     ensures own { IsOwn chain.now seat.new }
 {
     for i in 0..16 {
-        let key = key_in(rt, chain, seat, 0, i);
-        let value = value_in(rt, chain, seat, 0, i);
-        assert!(rt; key == KeyState::Dead || value.is_finished(), "slot {i}");
+        is_finished(rt, chain, seat, i);
     }
+}
+
+/// Sees that the slot of table 1 has a key.
+fn is_claimed<R: Abort>(rt: &R, chain: &Chain, seat: &mut ChainSeat, i: usize)
+    requires own { IsOwn chain.now seat.old }
+    ensures own { IsOwn chain.now seat.new }
+{
+    let key = key_in(rt, chain, seat, 1, i);
+    assert!(rt; matches!(&key, KeyState::Claimed(_)), "slot {i}");
 }
 
 /// Sees that table 0 is complete, that the top word says so, and that table 1 has the six keys: the
@@ -51,8 +68,7 @@ fn is_copied<R: Abort>(rt: &R, chain: &Chain, seat: &mut ChainSeat)
     is_complete(rt, chain, seat);
     gets(rt, chain, seat, &SIX);
     for i in [0, 1, 2, 16, 17, 18] {
-        let key = key_in(rt, chain, seat, 1, i);
-        assert!(rt; matches!(&key, KeyState::Claimed(_)), "slot {i}");
+        is_claimed(rt, chain, seat, i);
     }
     assert_eq!(rt; helps(rt, chain, seat), 0);
     assert_eq!(rt; chain.load_top(seat), 1);
@@ -175,6 +191,32 @@ fn all_turn<R: Threads + Sync>(
     Ok((turned, seats))
 }
 
+/// Sees that table 0 is complete, and that the top word says so if slots were counted. Then a seat
+/// completes it.
+fn is_turned<R: Abort>(rt: &R, chain: &Chain, seat: &mut ChainSeat, counted: bool)
+    requires own { IsOwn chain.now seat.old }
+    ensures own { IsOwn chain.now seat.new }
+{
+    is_complete(rt, chain, seat);
+    assert_eq!(rt; chain.load_top(seat), u32::from(counted));
+    completes(rt, chain, seat);
+}
+
+/// The same by one of the seats.
+fn one_is_turned<R: Abort>(
+    rt: &R,
+    chain: &Chain,
+    seats: &mut Vec<ChainSeat>,
+    counted: bool,
+) -> Result<(), OutOfMemory>
+    requires own { All (IsOwn chain.now) seats.old.items }
+    ensures own { All (IsOwn chain.now) seats.new.items }
+{
+    let mut seat = taken(rt, chain, seats);
+    is_turned(rt, chain, &mut seat, counted);
+    gives_back(chain, seats, seat)
+}
+
 /// Four threads copy all slots of one table, one after another. Each of its 16 slots was turned
 /// finished by one of them. If they counted, the top word says that the table is complete; else
 /// nothing says so until a seat completes it.
@@ -186,11 +228,7 @@ fn four_turn_one_table<R: Threads + Sync + Abort>(
     let (chain, seats) = filled(rt, alloc, 4)?;
     let (turned, mut seats) = all_turn(rt, alloc, &chain, seats, counted)?;
     assert_eq!(rt; turned, 16);
-    let mut seat = taken(rt, &chain, &mut seats);
-    is_complete(rt, &chain, &mut seat);
-    assert_eq!(rt; chain.load_top(&mut seat), u32::from(counted));
-    completes(rt, &chain, &mut seat);
-    seats.push(seat)?;
+    one_is_turned(rt, &chain, &mut seats, counted)?;
     ends(rt, alloc, chain, seats)
 }
 

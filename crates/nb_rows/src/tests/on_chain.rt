@@ -245,6 +245,36 @@ pub(super) fn value_in<R: Abort>(
     chain.load_value(seat, g, i, None)
 }
 
+/// Sees that the slot's key word is this.
+pub(super) fn has_key<R: Abort>(
+    rt: &R,
+    chain: &Chain,
+    seat: &mut ChainSeat,
+    g: u32,
+    i: usize,
+    word: &KeyState,
+)
+    requires own { IsOwn chain.now seat.old }
+    ensures own { IsOwn chain.now seat.new }
+{
+    assert_eq!(rt; key_in(rt, chain, seat, g, i), *word, "slot {i}");
+}
+
+/// Sees that the slot's value word is this.
+pub(super) fn has_value<R: Abort>(
+    rt: &R,
+    chain: &Chain,
+    seat: &mut ChainSeat,
+    g: u32,
+    i: usize,
+    word: ValueState,
+)
+    requires own { IsOwn chain.now seat.old }
+    ensures own { IsOwn chain.now seat.new }
+{
+    assert_eq!(rt; value_in(rt, chain, seat, g, i), word, "slot {i}");
+}
+
 /// Sees that the slot of table `g` has this key, and this value.
 fn has_slot<R: Abort>(
     rt: &R,
@@ -258,9 +288,8 @@ fn has_slot<R: Abort>(
     requires own { IsOwn chain.now seat.old }
     ensures own { IsOwn chain.now seat.new }
 {
-    let claimed = KeyState::Claimed(key(rt, k));
-    assert_eq!(rt; key_in(rt, chain, seat, g, i), claimed, "slot {i}");
-    assert_eq!(rt; value_in(rt, chain, seat, g, i), value, "slot {i}");
+    has_key(rt, chain, seat, g, i, &KeyState::Claimed(key(rt, k)));
+    has_value(rt, chain, seat, g, i, value);
 }
 
 /// Sees that these slots of table `g` have these keys and live numbers.
@@ -310,7 +339,7 @@ pub(super) fn has_no_keys<R: Abort>(
     ensures own { IsOwn chain.now seat.new }
 {
     for i in slots {
-        assert_eq!(rt; key_in(rt, chain, seat, g, *i), word, "slot {i}");
+        has_key(rt, chain, seat, g, *i, &word);
     }
 }
 

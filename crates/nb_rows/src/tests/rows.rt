@@ -1,4 +1,5 @@
 //! Calls one after another, with the replies and the slots that they leave.
+ghost use Rattle.std.specs.Prelude.{[], ◌≡◌};
 ghost use Rattle.nb_table.specs.Chains.{IsOwn};
 
 use super::on_chain::*;
@@ -27,54 +28,72 @@ fn unmatched() -> Result<Reply, PutFault> {
     })
 }
 
+/// Sees what a full table of four slots answers to writes of a key that is absent and of one that is
+/// there.
+fn writes_when_full<R: Abort>(rt: &R, chain: &Chain, seat: &mut ChainSeat)
+    requires own { IsOwn chain.now seat.old }
+    ensures own { IsOwn chain.now seat.new }
+{
+    let change = Change::Put(number(rt, 14));
+    let answer = writes(rt, chain, seat, 4, Want::Present, change);
+    assert_eq!(rt; answer, unmatched());
+    assert_eq!(rt; put(rt, chain, seat, 0, 20), Ok(Some(10)));
+}
+
+/// Closing the chain without its one seat gives it back.
+fn given_back<R: Abort>(rt: &R, alloc: Global, chain: Chain) -> (Chain, Vec<ChainSeat>)
+    ensures chain { result.0 ≡ chain }
+    ensures none { result.1.items ≡ [] }
+{
+    let Err(NotAll { whole, seats }) = chain.close(Vec::new(alloc)) else {
+        panic!(rt; "the seat is missing")
+    };
+    assert!(rt; seats.is_empty());
+    (whole, seats)
+}
+
 /// Closing without the seat gives the chain back, and with it what is in it.
 #[test]
 fn one_table_by_hand(rt: HostRuntime) -> Result<(), Fail> {
     let (chain, mut seat) = with_one(&rt, rt.alloc(), Shape::new(2, 1, 1, 1))?;
     fills_one_table(&rt, &chain, &mut seat);
-    let change = Change::Put(number(&rt, 14));
-    let answer = writes(&rt, &chain, &mut seat, 4, Want::Present, change);
-    assert_eq!(rt; answer, unmatched());
-    assert_eq!(rt; put(&rt, &chain, &mut seat, 0, 20), Ok(Some(10)));
-    let Err(NotAll { whole, mut seats }) = chain.close(Vec::new(rt.alloc())) else {
-        panic!(rt; "the seat is missing")
-    };
-    assert!(rt; seats.is_empty());
+    writes_when_full(&rt, &chain, &mut seat);
+    let (chain, mut seats) = given_back(&rt, rt.alloc(), chain);
     seats.push(seat)?;
-    let closed = closes(&rt, whole, seats);
-    lists(
-        &rt,
-        rt.alloc(),
-        &closed,
-        &[(0, 20), (1, 11), (2, 12), (3, 13)],
-    )?;
+    let closed = closes(&rt, chain, seats);
+    let left = [(0, 20), (1, 11), (2, 12), (3, 13)];
+    lists(&rt, rt.alloc(), &closed, &left)?;
     assert_eq!(rt; closed.get(key(&rt, 4)), None);
     Ok(())
 }
 
-/// A seat puts four keys whose home is one slot: the fourth doesn't fit, and they are copied.
-fn grows_when_crowded<R: Abort>(rt: &R, chain: &Chain, seat: &mut ChainSeat)
+/// Sees three copied keys in the first table, and no other.
+fn has_three_copied<R: Abort>(rt: &R, chain: &Chain, seat: &mut ChainSeat, g: u32)
+    requires own { IsOwn chain.now seat.old }
+    ensures own { IsOwn chain.now seat.new }
+{
+    has_finished(rt, chain, seat, g, &[(0, 10), (4, 14), (8, 18)]);
+    has_no_keys(rt, chain, seat, g, &[3], KeyState::Dead);
+}
+
+/// A seat puts four keys whose home is one slot: the fourth doesn't fit, and they are copied. Table
+/// `top` has room for them, and the ones before it have not.
+fn grows_to<R: Abort>(rt: &R, chain: &Chain, seat: &mut ChainSeat, top: u32)
     requires own { IsOwn chain.now seat.old }
     ensures own { IsOwn chain.now seat.new }
 {
     puts(rt, chain, seat, &[(0, 10), (4, 14), (8, 18), (12, 22)]);
-    assert_eq!(rt; chain.load_top(seat), 1);
-    has_finished(rt, chain, seat, 0, &[(0, 10), (4, 14), (8, 18)]);
-    has_no_keys(rt, chain, seat, 0, &[3], KeyState::Dead);
-    has_live(
-        rt,
-        chain,
-        seat,
-        1,
-        &[(0, 0, 10), (1, 8, 18), (4, 4, 14), (5, 12, 22)],
-    );
-    has_no_keys(rt, chain, seat, 1, &[2, 3, 6, 7], KeyState::Empty);
+    assert_eq!(rt; chain.load_top(seat), top);
+    has_three_copied(rt, chain, seat, top.saturating_sub(1));
+    let live = [(0, 0, 10), (1, 8, 18), (4, 4, 14), (5, 12, 22)];
+    has_live(rt, chain, seat, top, &live);
 }
 
 #[test]
 fn grows_when_a_path_is_crowded(rt: HostRuntime) -> Result<(), Fail> {
     let (chain, mut seat) = with_one(&rt, rt.alloc(), Shape::new(2, 3, 1, 1))?;
-    grows_when_crowded(&rt, &chain, &mut seat);
+    grows_to(&rt, &chain, &mut seat, 1);
+    has_no_keys(&rt, &chain, &mut seat, 1, &[2, 3, 6, 7], KeyState::Empty);
     let left = [(0, 10), (4, 14), (8, 18), (12, 22)];
     one_leaves(&rt, rt.alloc(), chain, seat, &left)?;
     Ok(())
@@ -184,33 +203,25 @@ fn add_contended_once(rt: HostRuntime) -> Result<(), Fail> {
     Ok(())
 }
 
-/// A seat puts four keys whose home is one slot. The second table is as crowded as the first, and
-/// the third takes them.
-fn grows_twice<R: Abort>(rt: &R, chain: &Chain, seat: &mut ChainSeat)
-    requires own { IsOwn chain.now seat.old }
-    ensures own { IsOwn chain.now seat.new }
-{
-    puts(rt, chain, seat, &[(0, 10), (4, 14), (8, 18), (12, 22)]);
-    assert_eq!(rt; chain.load_top(seat), 2);
-    has_finished(rt, chain, seat, 1, &[(0, 10), (4, 14), (8, 18)]);
-    has_no_keys(rt, chain, seat, 1, &[3], KeyState::Dead);
-    has_live(
-        rt,
-        chain,
-        seat,
-        2,
-        &[(0, 0, 10), (1, 8, 18), (4, 4, 14), (5, 12, 22)],
-    );
-}
-
+/// Four keys crowd the second table as they do the first, and the third takes them.
 #[test]
 fn plan_of_three(rt: HostRuntime) -> Result<(), Fail> {
     let shape = Shape::with_plan(&[2, 2, 3], 1, 1);
     let (chain, mut seat) = with_one(&rt, rt.alloc(), shape)?;
-    grows_twice(&rt, &chain, &mut seat);
+    grows_to(&rt, &chain, &mut seat, 2);
     let left = [(0, 10), (4, 14), (8, 18), (12, 22)];
     one_leaves(&rt, rt.alloc(), chain, seat, &left)?;
     Ok(())
+}
+
+/// A seat crowds a table with keys that it removes.
+fn crowds_in_vain<R: Abort>(rt: &R, chain: &Chain, seat: &mut ChainSeat)
+    requires own { IsOwn chain.now seat.old }
+    ensures own { IsOwn chain.now seat.new }
+{
+    let first = [(0, 10), (4, 14), (8, 18)];
+    puts(rt, chain, seat, &first);
+    removes(rt, chain, seat, &first);
 }
 
 /// A seat crowds a table with keys that it removes, and fills the next one, which is as large. None
@@ -219,19 +230,12 @@ fn makes_room<R: Abort>(rt: &R, chain: &Chain, seat: &mut ChainSeat)
     requires own { IsOwn chain.now seat.old }
     ensures own { IsOwn chain.now seat.new }
 {
-    let first = [(0, 10), (4, 14), (8, 18)];
-    puts(rt, chain, seat, &first);
-    removes(rt, chain, seat, &first);
+    crowds_in_vain(rt, chain, seat);
     let others = [(12, 22), (16, 26), (20, 30), (24, 34)];
     puts(rt, chain, seat, &others);
     gets(rt, chain, seat, &others);
-    has_live(
-        rt,
-        chain,
-        seat,
-        1,
-        &[(0, 12, 22), (1, 16, 26), (2, 20, 30), (3, 24, 34)],
-    );
+    let live = [(0, 12, 22), (1, 16, 26), (2, 20, 30), (3, 24, 34)];
+    has_live(rt, chain, seat, 1, &live);
     assert_eq!(rt; put(rt, chain, seat, 28, 38), Err(PutFault::Full));
 }
 

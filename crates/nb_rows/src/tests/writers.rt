@@ -11,21 +11,36 @@ use std::test::Fail;
 use std::thread;
 use std::thread::Threads;
 
+/// Adds 1 at the key.
+fn adds_one<R: Abort>(rt: &R, chain: &Chain, seat: &mut ChainSeat, k: u64)
+    requires own { IsOwn chain.now seat.old }
+    ensures own { IsOwn chain.now seat.new }
+{
+    let add = Change::Add(number(rt, 1));
+    let answer = makes_write(chain, seat, key(rt, k), Want::Any, add, u32::MAX);
+    assert!(rt; answer.is_ok());
+}
+
+/// Puts a key that isn't there.
+fn puts_own<R: Abort>(rt: &R, chain: &Chain, seat: &mut ChainSeat, k: u64)
+    requires own { IsOwn chain.now seat.old }
+    ensures own { IsOwn chain.now seat.new }
+{
+    let put = Change::Put(number(rt, 1));
+    let answer = makes_write(chain, seat, key(rt, k), Want::Absent, put, u32::MAX);
+    assert_eq!(rt; found(rt, answer), Ok(None));
+}
+
 /// Adds 1 at one of the keys 0, 1 and 2 in each of many rounds, and in some of them puts a key that
 /// no other thread puts. Nothing is refused.
 fn adds_often<R: Abort>(rt: &R, chain: &Chain, seat: &mut ChainSeat, thread: u64)
     requires own { IsOwn chain.now seat.old }
     ensures own { IsOwn chain.now seat.new }
 {
-    let one = number(rt, 1);
     for round in 0..2000 {
-        let few = key(rt, round % 3);
-        let answer = makes_write(chain, seat, few, Want::Any, Change::Add(one), u32::MAX);
-        assert!(rt; answer.is_ok());
+        adds_one(rt, chain, seat, round % 3);
         if round % 300 == 0 {
-            let own = key(rt, 16 + thread % 4 + 4 * (round / 300));
-            let put = makes_write(chain, seat, own, Want::Absent, Change::Put(one), u32::MAX);
-            assert_eq!(rt; found(rt, put), Ok(None));
+            puts_own(rt, chain, seat, 16 + thread % 4 + 4 * (round / 300));
         }
     }
 }
@@ -67,14 +82,22 @@ fn adds_up_to<R: Abort>(
     Ok(())
 }
 
+/// Sees by one of the seats that the chain has grown through all its tables.
+fn has_grown<R: Abort>(rt: &R, chain: &Chain, seats: &mut Vec<ChainSeat>) -> Result<(), OutOfMemory>
+    requires own { All (IsOwn chain.now) seats.old.items }
+    ensures own { All (IsOwn chain.now) seats.new.items }
+{
+    let mut seat = taken(rt, chain, seats);
+    assert_eq!(rt; chain.load_top(&mut seat), 3);
+    gives_back(chain, seats, seat)
+}
+
 /// Four threads add at three keys while the chain grows through all its tables. No add is refused,
 /// and none is lost.
 fn four_write<R: Threads + Sync + Abort>(rt: &R, alloc: Global) -> Result<(), OutOfMemory> {
     let (chain, mut seats) = chain_of(rt, alloc, Shape::new(2, 4, 4, 1))?;
     all_add(rt, &chain, seats.as_mut_slice());
-    let mut seat = taken(rt, &chain, &mut seats);
-    assert_eq!(rt; chain.load_top(&mut seat), 3);
-    seats.push(seat)?;
+    has_grown(rt, &chain, &mut seats)?;
     let closed = closes(rt, chain, seats);
     // Each of the four makes 2000 adds, and has seven keys of its own beside the three that all add
     // at.

@@ -1,4 +1,4 @@
-use Rattle.std.proofs.Common.{◌∙◌, [], ◌∷◌, refl, arith}
+use Rattle.std.proofs.Common.{◌∙◌, [], refl, arith}
 use Rattle.nb_map.proofs.Theorems.{logs_add_up}
 use Rattle.nb_calls.proofs.tests.updating.read_often.Goals as goal
 

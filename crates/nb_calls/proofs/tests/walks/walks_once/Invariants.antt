@@ -7,6 +7,3 @@ invariant-loop-key g l = l.walk.map ≡ l.fn.handle.map
 
 abbrev pub decreases-loop-key : goal.decreases-loop-key
 decreases-loop-key g l = slots_ahead l.walk.map.chain.shape l.walk.walk.place
-
-abbrev pub invariant-loop-kept : goal.invariant-loop-kept
-invariant-loop-kept g l = l.walk.map ≡ l.fn.handle.map
