@@ -366,8 +366,8 @@ pub(super) fn plays<R: Wait + Abort>(
     plays_on(rt, alloc, handle, rows, left)
 }
 
-/// Makes calls, which answer so, and ends the map of this one handle. Then these keys are left, each
-/// with its number.
+/// Makes calls, which answer so, and ends the map of this one handle. Then these keys are left,
+/// each with its number.
 pub(super) fn plays_on<R: Wait + Abort>(
     rt: &R,
     alloc: Global,

@@ -51,8 +51,8 @@ fn finds_first_copied<R: Abort>(rt: &R, chain: &Chain, a: &mut ChainSeat)
     assert!(rt; !installs(rt, chain, a, 12));
 }
 
-/// A primes a slot. B reads its key, and so copies it, and A finds it copied, and table 1 installed.
-/// Another slot is copied by a call for it.
+/// A primes a slot. B reads its key, and so copies it, and A finds it copied, and table 1
+/// installed. Another slot is copied by a call for it.
 fn two_copy_one_slot<R: Abort>(rt: &R, chain: &Chain, a: &mut ChainSeat, b: &mut ChainSeat)
     requires a { IsOwn chain.now a.old }
     requires b { IsOwn chain.now b.old }

@@ -28,8 +28,8 @@ fn unmatched() -> Result<Reply, PutFault> {
     })
 }
 
-/// Sees what a full table of four slots answers to writes of a key that is absent and of one that is
-/// there.
+/// Sees what a full table of four slots answers to writes of a key that is absent and of one that
+/// is there.
 fn writes_when_full<R: Abort>(rt: &R, chain: &Chain, seat: &mut ChainSeat)
     requires own { IsOwn chain.now seat.old }
     ensures own { IsOwn chain.now seat.new }
