@@ -1,6 +1,8 @@
 /* Loaded before a program's libraries, it makes single calls of the system fail, or answer what isn't so. By its environment: a
-   read of standard input gives PIECE bytes at most, and fails once BYTES bytes were given; the clock can be read CLOCKS times and
-   no more; in place of /proc/self/statm the file STATM is opened. What isn't named there is as always. */
+   read of standard input gives PIECE bytes at most, and fails once BYTES bytes were given; a write to standard output takes TAKE
+   bytes at most, and fails once ROOM bytes were taken; both fail by the error that ERROR numbers, or by EIO; where LATE is there,
+   a read after one that failed or found the end, and a write after one that failed, end the program by SIGABRT; the clock can be
+   read CLOCKS times and no more; in place of /proc/self/statm the file STATM is opened. What isn't named there is as always. */
 #define _GNU_SOURCE
 #include <errno.h>
 #include <fcntl.h>
@@ -24,21 +26,54 @@ static int fails(int error)
     return -1;
 }
 
+/* Fails by the error that is named, and takes note that the stream has come to an end. */
+static int ends(int *ended)
+{
+    const char *error = getenv("ERROR");
+    *ended = 1;
+    return fails(error == NULL ? EIO : atoi(error));
+}
+
+static void come_back(int ended)
+{
+    if (ended && getenv("LATE") != NULL)
+        abort();
+}
+
+/* A count of bytes, but neither more than one number nor more than the other. */
+static size_t at_most(size_t count, long one, long other)
+{
+    long most = one < other ? one : other;
+    return (long)count > most ? (size_t)most : count;
+}
+
 ssize_t read(int descriptor, void *buffer, size_t count)
 {
     static long given;
+    static int ended;
     if (descriptor != STDIN_FILENO)
         return syscall(SYS_read, descriptor, buffer, count);
-    long left = number_of("BYTES") - given, most = number_of("PIECE");
-    if (left <= 0)
-        return fails(EIO);
-    if ((long)count > left)
-        count = (size_t)left;
-    if ((long)count > most)
-        count = (size_t)most;
-    ssize_t come = syscall(SYS_read, descriptor, buffer, count);
+    come_back(ended);
+    if (given >= number_of("BYTES"))
+        return ends(&ended);
+    ssize_t come = syscall(SYS_read, descriptor, buffer, at_most(count, number_of("PIECE"), number_of("BYTES") - given));
     given += come > 0 ? come : 0;
+    ended = come == 0 && count > 0;
     return come;
+}
+
+ssize_t write(int descriptor, const void *buffer, size_t count)
+{
+    static long taken;
+    static int ended;
+    if (descriptor != STDOUT_FILENO)
+        return syscall(SYS_write, descriptor, buffer, count);
+    come_back(ended);
+    if (taken >= number_of("ROOM"))
+        return ends(&ended);
+    ssize_t gone = syscall(SYS_write, descriptor, buffer, at_most(count, number_of("TAKE"), number_of("ROOM") - taken));
+    taken += gone > 0 ? gone : 0;
+    return gone;
 }
 
 int clock_gettime(clockid_t clock, struct timespec *now)

@@ -3,6 +3,7 @@
 import os
 import subprocess
 import sys
+import tempfile
 
 TOP = os.path.dirname(os.path.dirname(os.path.abspath(__file__)))
 
@@ -13,6 +14,18 @@ def path_of(name):
 
 
 PROGRAM = path_of("nb_run")
+ROOM = tempfile.TemporaryDirectory()
+
+# how nbrun ends
+USAGE = (3, b"", b"nbrun: bad usage\n")
+READ = (1, b"", b"nbrun: read failed\n")
+WRITE = (1, b"", b"nbrun: write failed\n")
+EMPTY = (0, b"size 0\n", b"")
+
+
+def said(line, cause):
+    """How nbrun ends that comes to a broken line."""
+    return (2, b"", f"nbrun: line {line}: {cause}\n".encode())
 
 
 def built(name):
@@ -31,6 +44,39 @@ def run(words, text, program=PROGRAM, **more):
 
 def run_named(name, words, text=b"", **more):
     return run(words, text, built(name), **more)
+
+
+def run_from_file(name, words, text, **more):
+    """Runs a program on a file, which gives as much as is asked for at each read."""
+    path = f"{ROOM.name}/input"
+    with open(path, "wb") as file:
+        file.write(text)
+    with open(path, "rb") as given:
+        ran = subprocess.run([built(name), *words], stdin=given, capture_output=True, timeout=60, **more)
+    return ran.returncode, ran.stdout, ran.stderr
+
+
+def library_of(name):
+    """A library of .ci that is loaded before a program's own ones, built once."""
+    path = f"{ROOM.name}/{name}.so"
+    if not os.path.exists(path):
+        subprocess.run(["cc", "-shared", "-fPIC", "-O2", "-o", path, f"{TOP}/.ci/{name}.c", "-ldl"], check=True)
+    return path
+
+
+def failing(what):
+    """The environment in which single calls of the system fail: fail.c says which."""
+    return {"LD_PRELOAD": library_of("fail"), **{key: str(value) for key, value in what.items()}}
+
+
+def run_failing(name, words, text=b"", **what):
+    return run_from_file(name, words, text, env=failing(what))
+
+
+def help_of(name):
+    """How a program ends that is asked for help. The program of nb_run is called nbrun."""
+    with open(f"{TOP}/.ci/helps/{name}", "rb") as file:
+        return (0, file.read(), b"")
 
 
 def wrong(name, complaint):

@@ -20,7 +20,7 @@ const FEW: u64 = 4;
 const OWN_EACH: u32 = 300;
 
 /// The job to put numbers at few keys, no two puts the same one, and to keep what they are told.
-#[derive(Clone, Copy, Debug, PartialEq, Eq)]
+#[derive(Clone, Copy)]
 struct Puts {
     spacing: Spacing,
     /// How many puts each worker makes.
@@ -119,7 +119,7 @@ fn put_own<R: Wait>(
 }
 
 /// The job to add at all keys.
-#[derive(Clone, Copy, Debug, PartialEq, Eq)]
+#[derive(Clone, Copy)]
 struct Adds {
     spacing: Spacing,
     /// How many adds all workers make together.

@@ -2,20 +2,18 @@
 ghost use Rattle.nb_map.specs.Maps.{IsMine};
 
 use crate::crew::{Job, Worker, do_job};
-use crate::draws::nanoseconds_of;
 use crate::faults::{Fault, WorkFault, Wrong};
 use crate::growth::middle_of;
 use crate::keys::{Spacing, in_order, number};
 use crate::meeting::Meeting;
 use crate::options::Options;
+use crate::timing::{Watch, nanoseconds_since, now};
 use nb_core::{Key, MANY_KEYS};
-use nb_lines::Seconds;
 use nb_map::Map;
 use std::alloc::Global;
 use std::rt::Clock;
 use std::sync::Wait;
 use std::thread::Threads;
-use std::time::Instant;
 
 /// How often each key's place in the map is taken by a new key in a round, if the options don't say
 /// how many calls there are.
@@ -94,9 +92,9 @@ impl Job for Churn {
         ensures own { IsMine map.now worker.new.seat }
     {
         self.meeting.meet();
-        let start = Instant::now(rt)?;
+        let start = now(rt)?;
         let made = make_steps(rt, map, worker, self, number);
-        worker.tally.nanoseconds = nanoseconds_of(start.elapsed(rt)?);
+        worker.tally.nanoseconds = nanoseconds_since(rt, start)?;
         worker.tally.calls = made.wrapping_mul(2);
         worker.tally.is_full = made < self.steps;
         Ok(())
@@ -121,7 +119,7 @@ fn make_steps<R: Wait>(rt: &R, map: &Map, worker: &mut Worker, job: &Churn, owne
 }
 
 /// What is measured.
-#[derive(Clone, Copy, Debug, PartialEq, Eq)]
+#[derive(Clone, Copy)]
 pub(crate) struct Churned {
     /// The calls of a round, two for each step.
     pub(crate) calls: u64,
@@ -158,10 +156,9 @@ pub(crate) fn measure<R: Threads + Sync + Wait + Clock + Eprint>(
     options: &Options,
 ) -> Result<Churned, Fault> {
     let places = in_order(alloc, Churn::new(options).start_count())?;
-    let start = Instant::now(rt).map_err(WorkFault::from)?;
     let mut times = Vec::new(alloc);
     let mut calls = 0;
-    let mut seconds = Seconds::new(options.progress, options.time);
+    let mut watch = Watch::start(rt, options.time, options.progress)?;
     for _round in 0..u64::MAX {
         let churned = churn_once(rt, alloc, options, places.as_slice())?;
         if churned.is_full {
@@ -169,9 +166,7 @@ pub(crate) fn measure<R: Threads + Sync + Wait + Clock + Eprint>(
         }
         calls = churned.calls;
         times.push(churned.nanoseconds)?;
-        let spent = start.elapsed(rt).map_err(WorkFault::from)?;
-        seconds.tell(rt, spent);
-        if spent >= options.time {
+        if watch.is_over(rt)? {
             break;
         }
     }

@@ -13,7 +13,7 @@ use std::thread;
 use std::thread::Threads;
 
 /// What a worker counted.
-#[derive(Clone, Copy, Debug, PartialEq, Eq)]
+#[derive(Clone, Copy)]
 pub(crate) struct Tally {
     /// The calls that were measured.
     pub(crate) calls: u64,

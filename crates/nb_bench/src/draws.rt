@@ -5,13 +5,14 @@ use crate::crew::{Job, Worker};
 use crate::faults::WorkFault;
 use crate::keys::{SAMPLE_COUNT, Spacing, number};
 use crate::random::Random;
+use crate::timing::Watch;
 use crate::workloads::Mix;
 use nb_core::{Key, Num};
-use nb_lines::{Progress, Seconds};
+use nb_lines::Progress;
 use nb_map::{Map, Seat};
 use std::rt::Clock;
 use std::sync::Wait;
-use std::time::{Duration, Instant};
+use std::time::Duration;
 
 /// How many calls are made between two looks at the clock.
 pub(crate) const BATCH: u64 = 1024;
@@ -20,7 +21,7 @@ pub(crate) const BATCH: u64 = 1024;
 const ONE_PLACE: u32 = 4242;
 
 /// Which calls are made.
-#[derive(Clone, Copy, Debug)]
+#[derive(Clone, Copy)]
 pub(crate) enum Calls<'a> {
     /// A mix of calls at any of the keys, each as often as the others.
     Mixed,
@@ -32,7 +33,7 @@ pub(crate) enum Calls<'a> {
 }
 
 /// The job to make calls until the time is up, or for so many batches.
-#[derive(Clone, Copy, Debug)]
+#[derive(Clone, Copy)]
 pub(crate) struct Draws<'a> {
     pub(crate) calls: Calls<'a>,
     pub(crate) mix: Mix,
@@ -70,7 +71,7 @@ impl<'a> Draws<'a> {
 }
 
 /// What a worker draws with.
-#[derive(Clone, Copy, Debug, PartialEq, Eq)]
+#[derive(Clone, Copy)]
 struct Source {
     random: Random,
     /// From which of the samples on the next batch is.
@@ -126,29 +127,20 @@ fn call_on<R: Wait + Clock + Eprint>(
     requires own { IsMine map.now worker.old.seat }
     ensures own { IsMine map.now worker.new.seat }
 {
-    let start = Instant::now(rt)?;
+    let mut watch = Watch::start(rt, job.time, job.progress)?;
     let mut calls = 0u64;
     let mut sum = 0u64;
-    let mut spent = Duration::ZERO;
-    let mut seconds = Seconds::new(job.progress, job.time);
     for _round in 0..job.batches {
         sum = sum.wrapping_add(call_batch(rt, map, &mut worker.seat, source, job)?);
         calls = calls.wrapping_add(BATCH);
-        spent = start.elapsed(rt)?;
-        seconds.tell(rt, spent);
-        if spent >= job.time {
+        if watch.is_over(rt)? {
             break;
         }
     }
     worker.tally.calls = calls;
     worker.tally.sum = sum;
-    worker.tally.nanoseconds = nanoseconds_of(spent);
+    worker.tally.nanoseconds = watch.nanoseconds();
     Ok(())
-}
-
-/// A time in nanoseconds. 2^64 of them are 584 years.
-pub(crate) fn nanoseconds_of(time: Duration) -> u64 {
-    u64::try_from(time.as_nanos()).unwrap_or(u64::MAX)
 }
 
 /// Makes a batch of a job's calls, and answers the sum of what the gets read.
@@ -191,7 +183,7 @@ fn place_of(drawn: u64, count: u64) -> u32 {
 }
 
 /// So many dense keys, each as likely.
-#[derive(Clone, Copy, Debug)]
+#[derive(Clone, Copy)]
 struct Dense {
     count: u64,
 }
@@ -203,7 +195,7 @@ impl Pick for Dense {
 }
 
 /// So many spread keys, each as likely.
-#[derive(Clone, Copy, Debug)]
+#[derive(Clone, Copy)]
 struct Spread {
     count: u64,
 }
@@ -215,7 +207,7 @@ impl Pick for Spread {
 }
 
 /// The dense keys with these places, one after another.
-#[derive(Clone, Copy, Debug)]
+#[derive(Clone, Copy)]
 struct Listed<'a> {
     places: &'a [u32],
 }

@@ -7,7 +7,7 @@ use std::io;
 use thiserror::Error;
 
 /// Why a worker stopped.
-#[derive(Clone, Copy, Debug, PartialEq, Eq, Error)]
+#[derive(Clone, Copy, Debug, Error)]
 pub(crate) enum WorkFault {
     #[error("the map is full: the plan has too few slots")]
     Full,
@@ -38,7 +38,7 @@ impl From<io::Error> for WorkFault {
 }
 
 /// What a check found to be wrong.
-#[derive(Clone, Copy, Debug, PartialEq, Eq, Error)]
+#[derive(Clone, Copy, Debug, Error)]
 pub(crate) enum Wrong {
     #[error("a number was told twice, or never")]
     Told,

@@ -1,21 +1,19 @@
 //! Many keys: maps with room for so many are made, filled and read.
 
 use crate::crew::do_job;
-use crate::draws::nanoseconds_of;
-use crate::faults::{Fault, WorkFault, Wrong};
+use crate::faults::{Fault, Wrong};
 use crate::growth::{Growth, Pass};
 use crate::keys::shuffled;
 use crate::options::Options;
-use nb_lines::Seconds;
+use crate::timing::{Watch, nanoseconds_since, now};
 use nb_map::Map;
 use std::alloc::Global;
 use std::rt::Clock;
 use std::sync::Wait;
 use std::thread::Threads;
-use std::time::Instant;
 
 /// What is measured, in nanoseconds.
-#[derive(Clone, Copy, Debug, PartialEq, Eq)]
+#[derive(Clone, Copy)]
 pub(crate) struct Times {
     /// How long it takes to make the map.
     make: u64,
@@ -59,9 +57,9 @@ impl Times {
 
 /// How long it takes to make a map.
 fn time_make<R: Clock>(rt: &R, alloc: Global, options: &Options) -> Result<u64, Fault> {
-    let start = Instant::now(rt).map_err(WorkFault::from)?;
+    let start = now(rt)?;
     let (_map, _seats) = Map::new(alloc, options.shape()?)?;
-    Ok(nanoseconds_of(start.elapsed(rt).map_err(WorkFault::from)?))
+    Ok(nanoseconds_since(rt, start)?)
 }
 
 /// Makes a pass on a new map that has numbers at the keys with these places from the start, and
@@ -108,14 +106,11 @@ pub(crate) fn measure<R: Threads + Sync + Wait + Clock + Eprint>(
     options: &Options,
 ) -> Result<Times, Fault> {
     let places = shuffled(alloc, options.keys)?;
-    let start = Instant::now(rt).map_err(WorkFault::from)?;
     let mut times = Times::NONE;
-    let mut seconds = Seconds::new(options.progress, options.time);
+    let mut watch = Watch::start(rt, options.time, options.progress)?;
     for _round in 0..u64::MAX {
         times = times.min(time_once(rt, alloc, options, places.as_slice())?);
-        let spent = start.elapsed(rt).map_err(WorkFault::from)?;
-        seconds.tell(rt, spent);
-        if spent >= options.time {
+        if watch.is_over(rt)? {
             break;
         }
     }

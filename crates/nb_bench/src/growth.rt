@@ -3,22 +3,21 @@ ghost use Rattle.std.specs.Prelude.{◌≡◌, ◌*◌, ◌/◌, ◌-◌, ◌<�
 ghost use Rattle.nb_map.specs.Maps.{IsMine};
 
 use crate::crew::{Done, Job, Worker, do_job, put_all};
-use crate::draws::nanoseconds_of;
 use crate::faults::{Fault, WorkFault, Wrong};
 use crate::keys::{Spacing, number, shuffled};
 use crate::kinds::get_all;
 use crate::meeting::Meeting;
 use crate::options::Options;
-use nb_lines::Seconds;
+use crate::timing::{Watch, nanoseconds_since, now};
+use nb_core::OutOfMemory;
 use nb_map::{Map, Seat};
 use std::alloc::Global;
 use std::rt::Clock;
 use std::sync::Wait;
 use std::thread::Threads;
-use std::time::Instant;
 
 /// What each worker does at its keys, and what is measured of it.
-#[derive(Clone, Copy, Debug, PartialEq, Eq)]
+#[derive(Clone, Copy)]
 pub(crate) enum Pass {
     /// Puts: how long they take together.
     Puts,
@@ -53,12 +52,11 @@ impl<'a> Growth<'a> {
 
     /// The part of the worker with this number.
     fn part(&self, number: usize) -> &'a [u32] {
-        let size = self.places.len().div_ceil(self.threads.max(1)).max(1);
-        let mut parts = self.places.chunks(size);
-        match parts.nth(number) {
-            Some(part) => part,
-            None => &[],
-        }
+        let size = self.places.len().div_ceil(self.threads.max(1));
+        let before = size.saturating_mul(number).min(self.places.len());
+        let (_, rest) = self.places.split_at(before);
+        let (part, _) = rest.split_at(size.min(rest.len()));
+        part
     }
 }
 
@@ -75,7 +73,7 @@ impl Job for Growth<'_> {
     {
         let part = self.part(number);
         self.meeting.meet();
-        let start = Instant::now(rt)?;
+        let start = now(rt)?;
         let mut longest = None;
         match self.pass {
             Pass::Puts => put_all(rt, map, &mut worker.seat, self.spacing, part)?,
@@ -86,7 +84,7 @@ impl Job for Growth<'_> {
             Pass::TimedPuts => time_puts(rt, map, worker, self.spacing, part)?,
         }
         worker.tally.calls = part.len() as u64;
-        let spent = nanoseconds_of(start.elapsed(rt)?);
+        let spent = nanoseconds_since(rt, start)?;
         worker.tally.nanoseconds = longest.unwrap_or(spent);
         Ok(())
     }
@@ -139,12 +137,12 @@ fn timed_put<R: Wait + Clock>(
     requires own { IsMine map.now seat.old }
     ensures own { IsMine map.now seat.new }
 {
-    let start = Instant::now(rt)?;
+    let start = now(rt)?;
     let before = map.put(rt, seat, spacing.key(place), number(place));
     if before.is_err() {
         return Err(WorkFault::Full);
     }
-    Ok(nanoseconds_of(start.elapsed(rt)?))
+    nanoseconds_since(rt, start)
 }
 
 /// Puts all keys in a new map.
@@ -163,32 +161,20 @@ fn put_once<R: Threads + Sync + Wait + Clock + Eprint>(
     Ok(done)
 }
 
-/// What a round measures, in nanoseconds.
-#[derive(Clone, Copy, Debug, PartialEq, Eq)]
-pub(crate) struct Times {
-    /// How long all puts take.
-    whole: u64,
-    /// Within which time half of the puts are.
-    p50: u64,
-    /// Within which time 99 of a hundred puts are.
-    p99: u64,
-    /// Within which time 999 of a thousand puts are.
-    p999: u64,
-    /// How long the longest put takes.
-    max: u64,
-}
+/// What a round measures, in nanoseconds: how long all puts take; within which times half of the puts
+/// are, 99 of a hundred, and 999 of a thousand; and how long the longest put takes.
+pub(crate) type Times = [u64; 5];
 
-impl Times {
-    /// The times by name, each with the calls that it is of.
-    pub(crate) fn lines(self, keys: u32) -> [(&'static str, u32, u64); 5] {
-        [
-            ("D", keys, self.whole),
-            ("p50", 1, self.p50),
-            ("p99", 1, self.p99),
-            ("p99.9", 1, self.p999),
-            ("max", 1, self.max),
-        ]
-    }
+/// The times by name, each with the calls that it is of.
+pub(crate) fn lines_of(times: Times, keys: u32) -> [(&'static str, u32, u64); 5] {
+    let [whole, p50, p99, p999, max] = times;
+    [
+        ("D", keys, whole),
+        ("p50", 1, p50),
+        ("p99", 1, p99),
+        ("p99.9", 1, p999),
+        ("max", 1, max),
+    ]
 }
 
 /// The time that so many thousandths of these sorted times are within: that at their part of the
@@ -223,56 +209,33 @@ fn time_round<R: Threads + Sync + Wait + Clock + Eprint>(
     let mut timed = put_once(rt, alloc, options, Pass::TimedPuts, places)?;
     timed.told.sort()?;
     let times = timed.told.as_slice();
-    Ok(Times {
-        whole: whole.tally.nanoseconds,
-        p50: within(times, 500),
-        p99: within(times, 990),
-        p999: within(times, 999),
-        max: within(times, 1000),
-    })
+    Ok([
+        whole.tally.nanoseconds,
+        within(times, 500),
+        within(times, 990),
+        within(times, 999),
+        within(times, 1000),
+    ])
 }
 
-/// The times of all rounds, for each thing that is measured.
-#[derive(Drop)]
-struct Rounds {
-    whole: Vec<u64>,
-    p50: Vec<u64>,
-    p99: Vec<u64>,
-    p999: Vec<u64>,
-    max: Vec<u64>,
+/// The middle one of each of the rounds' times.
+fn middle_of_each(alloc: Global, rounds: &[Times]) -> Result<Times, Fault> {
+    let mut middle = [0; 5];
+    for (place, time) in middle.iter_mut().enumerate() {
+        *time = middle_of(times_at(alloc, rounds, place)?)?;
+    }
+    Ok(middle)
 }
 
-impl Rounds {
-    fn new(alloc: Global) -> Rounds {
-        Rounds {
-            whole: Vec::new(alloc),
-            p50: Vec::new(alloc),
-            p99: Vec::new(alloc),
-            p999: Vec::new(alloc),
-            max: Vec::new(alloc),
+/// The times of all rounds that have this place.
+fn times_at(alloc: Global, rounds: &[Times], place: usize) -> Result<Vec<u64>, OutOfMemory> {
+    let mut times = Vec::new(alloc);
+    for round in rounds {
+        if let Some(time) = round.get(place) {
+            times.push(*time)?;
         }
     }
-
-    /// Adds a round.
-    fn push(&mut self, times: Times) -> Result<(), Fault> {
-        self.whole.push(times.whole)?;
-        self.p50.push(times.p50)?;
-        self.p99.push(times.p99)?;
-        self.p999.push(times.p999)?;
-        self.max.push(times.max)?;
-        Ok(())
-    }
-
-    /// The middle one of each.
-    fn middle(self) -> Result<Times, Fault> {
-        Ok(Times {
-            whole: middle_of(self.whole)?,
-            p50: middle_of(self.p50)?,
-            p99: middle_of(self.p99)?,
-            p999: middle_of(self.p999)?,
-            max: middle_of(self.max)?,
-        })
-    }
+    Ok(times)
 }
 
 /// Makes rounds until the time is up or all threads together have made so many puts, without those
@@ -283,17 +246,14 @@ pub(crate) fn measure<R: Threads + Sync + Wait + Clock + Eprint>(
     options: &Options,
 ) -> Result<Times, Fault> {
     let places = shuffled(alloc, options.keys)?;
-    let start = Instant::now(rt).map_err(WorkFault::from)?;
-    let mut times = Rounds::new(alloc);
-    let mut seconds = Seconds::new(options.progress, options.time);
+    let mut times = Vec::new(alloc);
+    let mut watch = Watch::start(rt, options.time, options.progress)?;
     let rounds = options.calls.div_ceil(u64::from(options.keys.max(1)));
     for _round in 0..rounds.max(1) {
         times.push(time_round(rt, alloc, options, places.as_slice())?)?;
-        let spent = start.elapsed(rt).map_err(WorkFault::from)?;
-        seconds.tell(rt, spent);
-        if spent >= options.time {
+        if watch.is_over(rt)? {
             break;
         }
     }
-    times.middle()
+    middle_of_each(alloc, times.as_slice())
 }

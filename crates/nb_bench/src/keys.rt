@@ -11,7 +11,7 @@ pub(crate) const KEY_COUNT: u32 = 65_536;
 pub(crate) const SAMPLE_COUNT: u64 = 1 << 20;
 
 /// Which numbers the keys are.
-#[derive(Clone, Copy, Debug, PartialEq, Eq)]
+#[derive(Clone, Copy)]
 pub(crate) enum Spacing {
     /// The numbers from 0 on. In a table with as many slots each of them is at home.
     Dense,
@@ -35,7 +35,7 @@ impl Spacing {
 }
 
 /// How often each key is drawn.
-#[derive(Clone, Copy, Debug, PartialEq, Eq)]
+#[derive(Clone, Copy)]
 pub(crate) enum Law {
     /// Each as often as any other.
     Even,

@@ -3,23 +3,21 @@
 ghost use Rattle.nb_map.specs.Maps.{AreMine, IsMine};
 
 use crate::crew::put_all;
-use crate::draws::nanoseconds_of;
 use crate::faults::{Fault, WorkFault, Wrong};
 use crate::keys::{KEY_COUNT, Spacing, number, shuffled};
 use crate::options::Options;
+use crate::timing::{Watch, nanoseconds_since, now};
 use nb_core::Num;
-use nb_lines::Seconds;
 use nb_map::{Map, Seat};
 use std::alloc::Global;
 use std::rt::Clock;
 use std::sync::Wait;
-use std::time::Instant;
 
 /// The sum of the places of all keys, and so of the numbers that are put at them.
 const PLACES_SUM: u64 = 2_147_450_880;
 
 /// A kind of call, at a key in a state.
-#[derive(Clone, Copy, Debug, PartialEq, Eq)]
+#[derive(Clone, Copy)]
 pub(crate) enum Kind {
     /// A put at a key that has no slot yet.
     PutNew,
@@ -139,7 +137,7 @@ fn time_all<R: Wait + Clock>(
     requires own { IsMine map.now seat.old }
     ensures own { IsMine map.now seat.new }
 {
-    let start = Instant::now(rt)?;
+    let start = now(rt)?;
     let mut sum = 0u64;
     match kind {
         Kind::PutNew => put_all(rt, map, seat, spacing, places)?,
@@ -148,7 +146,7 @@ fn time_all<R: Wait + Clock>(
         Kind::Add => add_all(rt, map, seat, spacing, places)?,
         Kind::Remove => remove_all(rt, map, seat, spacing, places),
     }
-    Ok((nanoseconds_of(start.elapsed(rt)?), sum))
+    Ok((nanoseconds_since(rt, start)?, sum))
 }
 
 /// Makes calls of all kinds. Where a kind took less time than before, that is its time.
@@ -215,14 +213,11 @@ pub(crate) fn measure<R: Wait + Clock + Eprint>(
     options: &Options,
 ) -> Result<[u64; 6], Fault> {
     let places = shuffled(alloc, KEY_COUNT)?;
-    let start = Instant::now(rt).map_err(WorkFault::from)?;
     let mut times = [u64::MAX; 6];
-    let mut seconds = Seconds::new(options.progress, options.time);
+    let mut watch = Watch::start(rt, options.time, options.progress)?;
     for _round in 0..u64::MAX {
         time_once(rt, alloc, options, places.as_slice(), &mut times)?;
-        let spent = start.elapsed(rt).map_err(WorkFault::from)?;
-        seconds.tell(rt, spent);
-        if spent >= options.time {
+        if watch.is_over(rt)? {
             break;
         }
     }

@@ -18,6 +18,7 @@ pub(crate) mod options;
 pub(crate) mod random;
 pub(crate) mod runs;
 pub(crate) mod serve;
+pub(crate) mod timing;
 pub(crate) mod workloads;
 
 use nb_lines::Progress;

@@ -42,8 +42,8 @@ pub(crate) fn measure<R: Wait + Files + AllocGlobal>(
     let before = resident(rt);
     let (map, seats) = Map::new(alloc, options.shape()?)?;
     let _seats = filled(rt, &map, seats, options.spacing, places.as_slice())?;
-    let Some(before) = before else {
-        return Ok(None);
-    };
-    Ok(resident(rt).map(|after| after.saturating_sub(before)))
+    match (before, resident(rt)) {
+        (Some(before), Some(after)) => Ok(Some(after.saturating_sub(before))),
+        _ => Ok(None),
+    }
 }

@@ -6,14 +6,13 @@ ghost use Rattle.nb_core.specs.declared.shapes.TheConstants.{MAX_EXPONENT};
 use crate::churn::keys_ever;
 use crate::keys::{Law, Spacing};
 use crate::workloads::{Plan, Workload};
-use clap::{Arg, ArgAction, ArgMatches, Command};
 use nb_core::{FEW_SEATS, MAX_EXPONENT, MOST_KEYS, Shape, ShapeFault};
-use nb_lines::{NumberWord, Progress, WordsFault, command_named, matches_of, option, wrong_word};
-use std::alloc::{AllocError, Global};
+use nb_lines::{CommandLine, Form, Given, NumberWord, Progress, Word, WordsFault, wrong_word};
+use std::alloc::Global;
 use std::time::Duration;
 
 /// What is to be run.
-#[derive(Debug, Drop)]
+#[derive(Drop)]
 pub(crate) struct Options {
     pub(crate) workload: Workload,
     /// How many threads work, each with a seat of its own.
@@ -51,11 +50,11 @@ impl Options {
         if self.exponents.is_empty() {
             return self.shape_by_keys();
         }
-        Shape::large(self.exponents.as_slice())
-            .and_then(|shape| shape.with_seats(self.threads))
-            .and_then(|shape| shape.with_stripes(self.stripes))
-            .and_then(|shape| shape.with_reprobe_limit(self.reprobes))
-            .and_then(|shape| shape.with_chunk(self.chunk))
+        Shape::large(self.exponents.as_slice())?
+            .with_seats(self.threads)?
+            .with_stripes(self.stripes)?
+            .with_reprobe_limit(self.reprobes)?
+            .with_chunk(self.chunk)
     }
 
     /// The shape for the workload's keys, in `G` for all that ever come.
@@ -81,7 +80,7 @@ impl Options {
             return Shape::for_many_keys(keys, self.threads);
         }
         let few = self.threads.min(FEW_SEATS);
-        Shape::for_keys(keys, few).and_then(|shape| shape.with_seats(self.threads))
+        Shape::for_keys(keys, few)?.with_seats(self.threads)
     }
 }
 
@@ -137,108 +136,79 @@ const WORKLOADS: &str = "A: gets; B: 90% gets; C: 50% gets; D: puts that make th
     E: puts at one key; F: many keys are put, and read; G: keys come and go; \
     kinds: one kind of call after another; check: a test under load";
 
-/// The words that each run is given.
-fn with_words<'a>(alloc: Global, command: Command<'a>) -> Result<Command<'a>, AllocError> {
-    let workload = Arg::new(alloc, "WORKLOAD")
-        .required(true)
-        .action(ArgAction::Set)
-        .help(WORKLOADS);
-    let threads = Arg::new(alloc, "THREADS")
-        .action(ArgAction::Set)
-        .default_value("1")
-        .help("How many threads run at once, each with its own seat; 1 to 256");
-    let seconds = Arg::new(alloc, "SECONDS")
-        .action(ArgAction::Set)
-        .default_value("1")
-        .help("How many seconds to measure, such as 0.5");
-    command.arg(workload)?.arg(threads)?.arg(seconds)
-}
-
-/// The options of the map.
-fn with_shape<'a>(alloc: Global, command: Command<'a>) -> Result<Command<'a>, AllocError> {
-    let plan = option(
-        alloc,
-        "plan",
-        "E,E,..",
-        "Tables of 2^E slots, one for each E; 1 to 16 numbers from 2 to 28; \
-        without it D, F and G heed no --stripes, --reprobes or --chunk",
-    );
-    let stripes = STRIPES.option(
-        alloc,
-        "P",
-        "How many words the count of keys is spread over; 1 to 256",
-    );
-    let reprobes = REPROBES.option(
-        alloc,
-        "N",
-        "How many slots a new key may try before a table grows; 1 to 4294967295",
-    );
-    let chunk = CHUNK
-        .option(
-            alloc,
-            "C",
-            "How many slots a thread copies at a time; a power of two from 4 to 1024",
-        )
-        .default_value("8");
-    command.arg(plan)?.arg(stripes)?.arg(reprobes)?.arg(chunk)
-}
-
-/// The options of what is done with it.
-fn with_work<'a>(alloc: Global, command: Command<'a>) -> Result<Command<'a>, AllocError> {
-    let keys = option(
-        alloc,
-        "keys",
-        "WHICH",
-        "dense (0, 1, 2 and so on), spread (over the whole range) or \
-        zipf (dense, and in A to C some much more often)",
-    )
-    .default_value("dense");
-    let calls = CALLS.option(
-        alloc,
-        "N",
-        "In A to C and E: how many calls each thread makes, rounded up to 1024s; \
-        in D: after how many puts of all threads it ends; \
-        in G: how many calls each thread makes in a round",
-    );
-    let puts = PUTS
-        .option(
-            alloc,
-            "N",
-            "In check: how many puts each thread makes; 0 to 1000000",
-        )
-        .default_value("150000");
-    let adds = ADDS
-        .option(
-            alloc,
-            "N",
-            "In check: how many adds all threads make together; 0 to 4294967295",
-        )
-        .default_value("10000000");
-    let live = LIVE.option(
-        alloc,
-        "N",
-        "In A to G: how many keys there are; 1 to 178956970; by default 65536, in D 32768, \
-        in F 1000000",
-    );
-    command
-        .arg(keys)?
-        .arg(calls)?
-        .arg(puts)?
-        .arg(adds)?
-        .arg(live)
-}
-
 /// The command line.
-fn command<'a>(alloc: Global) -> Result<Command<'a>, AllocError> {
-    let command = command_named(
-        alloc,
-        "nb_bench",
-        "Measures a map of whole numbers and prints 'nb WORKLOAD THREADS OPS NANOSECONDS'",
-    );
-    let command = with_words(alloc, command)?;
-    let command = with_shape(alloc, command)?;
-    with_work(alloc, command)
-}
+pub(crate) const LINE: CommandLine = CommandLine {
+    name: "nb_bench",
+    about: "Measures a map of whole numbers and prints 'nb WORKLOAD THREADS OPS NANOSECONDS'",
+    more: None,
+    words: &[
+        Word {
+            form: Form::Place("WORKLOAD"),
+            default: None,
+            help: WORKLOADS,
+        },
+        Word {
+            form: Form::Place("THREADS"),
+            default: Some("1"),
+            help: "How many threads run at once, each with its own seat; 1 to 256",
+        },
+        Word {
+            form: Form::Place("SECONDS"),
+            default: Some("1"),
+            help: "How many seconds to measure, such as 0.5",
+        },
+        Word {
+            form: Form::Text("--plan", "E,E,.."),
+            default: None,
+            help: "Tables of 2^E slots, one for each E; 1 to 16 numbers from 2 to 28; \
+                without it D, F and G heed no --stripes, --reprobes or --chunk",
+        },
+        Word {
+            form: Form::Number(STRIPES, "P"),
+            default: None,
+            help: "How many words the count of keys is spread over; 1 to 256",
+        },
+        Word {
+            form: Form::Number(REPROBES, "N"),
+            default: None,
+            help: "How many slots a new key may try before a table grows; 1 to 4294967295",
+        },
+        Word {
+            form: Form::Number(CHUNK, "C"),
+            default: Some("8"),
+            help: "How many slots a thread copies at a time; a power of two from 4 to 1024",
+        },
+        Word {
+            form: Form::Text("--keys", "WHICH"),
+            default: Some("dense"),
+            help: "dense (0, 1, 2 and so on), spread (over the whole range) or \
+                zipf (dense, and in A to C some much more often)",
+        },
+        Word {
+            form: Form::Number(CALLS, "N"),
+            default: None,
+            help: "In A to C and E: how many calls each thread makes, rounded up to 1024s; \
+                in D: after how many puts of all threads it ends; \
+                in G: how many calls each thread makes in a round",
+        },
+        Word {
+            form: Form::Number(PUTS, "N"),
+            default: Some("150000"),
+            help: "In check: how many puts each thread makes; 0 to 1000000",
+        },
+        Word {
+            form: Form::Number(ADDS, "N"),
+            default: Some("10000000"),
+            help: "In check: how many adds all threads make together; 0 to 4294967295",
+        },
+        Word {
+            form: Form::Number(LIVE, "N"),
+            default: None,
+            help: "In A to G: how many keys there are; 1 to 178956970; by default 65536, in D 32768, \
+                in F 1000000",
+        },
+    ],
+};
 
 /// What a plan has to be.
 const NO_PLAN: &str = "not 1 to 16 numbers from 2 to 28, none below the one before, of 2^30 slots \
@@ -276,9 +246,9 @@ fn plan_of(
     alloc: Global,
     workload: Workload,
     keys: u32,
-    matches: &ArgMatches<'_>,
+    given: &Given,
 ) -> Result<Vec<u32>, WordsFault> {
-    if let Some(text) = matches.get_str("plan") {
+    if let Some(text) = given.text("--plan") {
         return read_plan(alloc, text);
     }
     let mut exponents = Vec::new(alloc);
@@ -328,48 +298,50 @@ fn read_time(alloc: Global, text: &str) -> Result<Duration, WordsFault> {
     }
 }
 
-/// The options of clap's matches.
-fn options_of(alloc: Global, matches: &ArgMatches<'_>) -> Result<Options, WordsFault> {
-    let workload = read_workload(alloc, matches.get_str("WORKLOAD").unwrap_or(""))?;
-    let threads = THREADS.find(alloc, matches)?.unwrap_or(1) as usize;
-    let stripes = STRIPES.find(alloc, matches)?;
-    let reprobes = REPROBES.find(alloc, matches)?;
-    let live = LIVE.find(alloc, matches)?;
-    let keys = workload.keys(live.map(|live| live as u32));
-    let (spacing, law) = read_keys(alloc, matches.get_str("keys").unwrap_or("dense"))?;
+/// The options that the command line gives.
+fn options_of(alloc: Global, given: &Given) -> Result<Options, WordsFault> {
+    let workload = read_workload(alloc, given.text("WORKLOAD").unwrap_or(""))?;
+    let threads = THREADS.find(alloc, given)?.unwrap_or(1);
+    let stripes = STRIPES.find(alloc, given)?.unwrap_or(threads);
+    let reprobes = REPROBES.find(alloc, given)?.unwrap_or(REPROBES.high);
+    let live = match LIVE.find(alloc, given)? {
+        Some(live) => Some(live as u32),
+        None => None,
+    };
+    let keys = workload.keys(live);
+    let (spacing, law) = read_keys(alloc, given.text("--keys").unwrap_or("dense"))?;
     Ok(Options {
         workload,
-        threads,
-        time: read_time(alloc, matches.get_str("SECONDS").unwrap_or("1"))?,
-        exponents: plan_of(alloc, workload, keys, matches)?,
+        threads: threads as usize,
+        time: read_time(alloc, given.text("SECONDS").unwrap_or("1"))?,
+        exponents: plan_of(alloc, workload, keys, given)?,
         keys,
-        stripes: stripes.map_or(threads, |stripes| stripes as usize),
-        reprobes: reprobes.map_or(u32::MAX, |reprobes| reprobes as u32),
-        chunk: CHUNK.find(alloc, matches)?.unwrap_or(8) as u32,
+        stripes: stripes as usize,
+        reprobes: reprobes as u32,
+        chunk: CHUNK.find(alloc, given)?.unwrap_or(8) as u32,
         spacing,
         law,
-        calls: CALLS.find(alloc, matches)?.unwrap_or(u64::MAX),
-        puts: PUTS.find(alloc, matches)?.unwrap_or(0) as u32,
-        adds: ADDS.find(alloc, matches)?.unwrap_or(0),
+        calls: CALLS.find(alloc, given)?.unwrap_or(u64::MAX),
+        puts: PUTS.find(alloc, given)?.unwrap_or(0) as u32,
+        adds: ADDS.find(alloc, given)?.unwrap_or(0),
         progress: Progress::NONE,
     })
 }
 
 /// The word of the command line for which there is no shape.
-fn fault_of_shape(alloc: Global, fault: ShapeFault, matches: &ArgMatches<'_>) -> WordsFault {
-    let (name, id, complaint) = match fault {
-        ShapeFault::Chunk => ("--chunk", "chunk", "not a power of two from 4 to 1024"),
-        _ => ("--plan", "plan", NO_PLAN),
+fn fault_of_shape(alloc: Global, fault: ShapeFault, given: &Given) -> WordsFault {
+    let (name, complaint) = match fault {
+        ShapeFault::Chunk => ("--chunk", "not a power of two from 4 to 1024"),
+        _ => ("--plan", NO_PLAN),
     };
-    wrong_word(alloc, name, matches.get_str(id).unwrap_or(""), complaint)
+    wrong_word(alloc, name, given.text(name).unwrap_or(""), complaint)
 }
 
-/// The options that the words give, of which the first is the program's name.
-pub(crate) fn read_options(alloc: Global, words: &[String]) -> Result<Options, WordsFault> {
-    let matches = matches_of(alloc, command(alloc), words)?;
-    let options = options_of(alloc, &matches)?;
+/// The options that the command line gives, for which there is a shape.
+pub(crate) fn read_options(alloc: Global, given: &Given) -> Result<Options, WordsFault> {
+    let options = options_of(alloc, given)?;
     match options.shape() {
         Ok(_) => Ok(options),
-        Err(fault) => Err(fault_of_shape(alloc, fault, &matches)),
+        Err(fault) => Err(fault_of_shape(alloc, fault, given)),
     }
 }

@@ -9,7 +9,7 @@ pub(crate) fn scattered(number: u64) -> u64 {
 }
 
 /// A row of numbers that look random: splitmix64.
-#[derive(Clone, Copy, Debug, PartialEq, Eq)]
+#[derive(Clone, Copy)]
 pub(crate) struct Random {
     state: u64,
 }

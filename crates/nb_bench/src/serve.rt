@@ -4,18 +4,24 @@ use crate::checks::{are_summed, are_told_once, do_adds, do_puts};
 use crate::faults::Fault;
 use crate::keys::KEY_COUNT;
 use crate::kinds::Kind;
-use crate::options::{Options, read_options};
+use crate::options::{LINE, Options, read_options};
 use crate::runs::{Measured, measure};
 use crate::workloads::Workload;
 use crate::{churn, fill, growth, kinds, memory};
-use nb_lines::{Progress, WordsFault, answer, complain, words};
+use nb_lines::{Progress, WordsFault, answer, complain};
 use std::alloc::Global;
+use std::io;
 use std::rt::{Clock, Env, Files};
 use std::sync::Wait;
 use std::thread::Threads;
 
-/// What it is called in messages.
-const NAME: &str = "nb_bench";
+/// What a write comes to.
+fn written(wrote: io::Result<()>) -> Result<(), Fault> {
+    match wrote {
+        Ok(()) => Ok(()),
+        Err(_) => Err(Fault::Write),
+    }
+}
 
 /// Runs the checks, and prints their line.
 fn run_checks<R: Threads + Sync + Wait + Clock + Print + Eprint>(
@@ -27,7 +33,7 @@ fn run_checks<R: Threads + Sync + Wait + Clock + Print + Eprint>(
     let puts = are_told_once(alloc, options, do_puts(rt, alloc, options)?)?;
     options.progress.tell_part(rt, 1, 2, "parts");
     let adds = are_summed(alloc, &do_adds(rt, alloc, options)?)?;
-    println!(rt; "nb check {threads} {puts} puts {adds} adds ok").map_err(|_| Fault::Write)
+    written(println!(rt; "nb check {threads} {puts} puts {adds} adds ok"))
 }
 
 /// Times calls of each kind, and prints a line for each.
@@ -39,7 +45,7 @@ fn run_kinds<R: Wait + Clock + Print + Eprint>(
     let times = kinds::measure(rt, alloc, options)?;
     for (kind, nanoseconds) in Kind::ALL.iter().zip(times.iter()) {
         let name = kind.name();
-        println!(rt; "nb {name} 1 {KEY_COUNT} {nanoseconds}").map_err(|_| Fault::Write)?;
+        written(println!(rt; "nb {name} 1 {KEY_COUNT} {nanoseconds}"))?;
     }
     Ok(())
 }
@@ -51,7 +57,7 @@ fn print_lines<R: Print>(
     lines: &[(&'static str, u32, u64)],
 ) -> Result<(), Fault> {
     for (name, calls, number) in lines.iter() {
-        println!(rt; "nb {name} {threads} {calls} {number}").map_err(|_| Fault::Write)?;
+        written(println!(rt; "nb {name} {threads} {calls} {number}"))?;
     }
     Ok(())
 }
@@ -62,7 +68,7 @@ fn run_growth<R: Threads + Sync + Wait + Clock + Print + Eprint>(
     alloc: Global,
     options: &Options,
 ) -> Result<(), Fault> {
-    let lines = growth::measure(rt, alloc, options)?.lines(options.keys);
+    let lines = growth::lines_of(growth::measure(rt, alloc, options)?, options.keys);
     print_lines(rt, options.threads, lines.as_slice())
 }
 
@@ -90,7 +96,7 @@ fn run_churn<R: Threads + Sync + Wait + Clock + Print + Eprint>(
     let churned = churn::measure(rt, alloc, options)?;
     let (calls, nanoseconds) = (churned.calls, churned.nanoseconds);
     let full = if churned.is_full { " full" } else { "" };
-    println!(rt; "nb G {threads} {calls} {nanoseconds}{full}").map_err(|_| Fault::Write)
+    written(println!(rt; "nb G {threads} {calls} {nanoseconds}{full}"))
 }
 
 /// Runs a workload for its time, and prints its line.
@@ -102,7 +108,7 @@ fn run_timed<R: Threads + Sync + Wait + Clock + Print + Eprint>(
     let name = options.workload.name();
     let threads = options.threads;
     let Measured { calls, nanoseconds } = measure(rt, alloc, options)?;
-    println!(rt; "nb {name} {threads} {calls} {nanoseconds}").map_err(|_| Fault::Write)
+    written(println!(rt; "nb {name} {threads} {calls} {nanoseconds}"))
 }
 
 /// Runs what the options ask for.
@@ -125,8 +131,7 @@ fn attend<R>(rt: &R, progress: Progress) -> Result<(), Fault>
 where
     R: Env + Files + Threads + Sync + Wait + Clock + Print + Eprint + AllocGlobal,
 {
-    let words = words(rt)?;
-    let mut options = read_options(rt.alloc(), words.as_slice())?;
+    let mut options = read_options(rt.alloc(), &LINE.given(rt)?)?;
     options.progress = progress;
     let ran = run(rt, rt.alloc(), &options);
     progress.end(rt);
@@ -142,10 +147,10 @@ where
 {
     match attend(rt, progress) {
         Ok(()) => 0,
-        Err(Fault::Words(WordsFault::Answered(text))) => answer(rt, NAME, text.as_str()),
+        Err(Fault::Words(WordsFault::Answered(text))) => answer(rt, LINE.name, text.as_str()),
         Err(fault) => {
             let status = fault.status();
-            complain(rt, NAME, &fault, status)
+            complain(rt, LINE.name, &fault, status)
         }
     }
 }

@@ -3,7 +3,7 @@
 use crate::keys::KEY_COUNT;
 
 /// What the threads do.
-#[derive(Clone, Copy, Debug, PartialEq, Eq)]
+#[derive(Clone, Copy)]
 pub(crate) enum Workload {
     /// `A`: gets.
     Gets,
@@ -78,7 +78,7 @@ impl Workload {
 }
 
 /// Which tables a map has, where the options name none.
-#[derive(Clone, Copy, Debug, PartialEq, Eq)]
+#[derive(Clone, Copy)]
 pub(crate) enum Plan {
     /// One table, of twice as many slots as there are keys.
     OneTable,
@@ -89,7 +89,7 @@ pub(crate) enum Plan {
 }
 
 /// Of a hundred calls that are drawn, how many are gets and how many puts. The others are removals.
-#[derive(Clone, Copy, Debug, PartialEq, Eq)]
+#[derive(Clone, Copy)]
 pub(crate) struct Mix {
     pub(crate) gets: u64,
     pub(crate) puts: u64,

@@ -1,12 +1,11 @@
 //! The words of the command line.
 
-use clap::{Arg, ArgAction, ArgMatches, Command};
 use nb_core::Shape;
-use nb_lines::{Fault, MANY_KEYS, WORKERS, WordsFault, command_named, matches_of};
-use std::alloc::{AllocError, Global};
+use nb_lines::{CommandLine, Fault, Form, Given, MANY_KEYS, WORKERS, Word, WordsFault};
+use std::alloc::Global;
 
 /// How a trace is to be replayed.
-#[derive(Clone, Copy, Debug, PartialEq, Eq)]
+#[derive(Clone, Copy)]
 pub(crate) struct Options {
     /// How many threads replay it.
     pub(crate) workers: usize,
@@ -20,7 +19,7 @@ impl Options {
     /// A map that begins small, and grows where a key isn't within a few slots of its home, up to
     /// a table with room for so many keys and more.
     pub(crate) fn shape(&self) -> Result<Shape, Fault> {
-        Shape::for_many_keys(self.keys, self.workers).map_err(|_| Fault::Usage)
+        Ok(Shape::for_many_keys(self.keys, self.workers)?)
     }
 }
 
@@ -47,43 +46,34 @@ keys 1
 stale 0";
 
 /// The command line.
-fn command<'a>(alloc: Global) -> Result<Command<'a>, AllocError> {
-    let workers = WORKERS
-        .option(alloc, "N", "How many threads replay the trace; 1 to 8")
-        .default_value("4");
-    let replies = Arg::new(alloc, "replies")
-        .long("replies")
-        .action(ArgAction::SetTrue)
-        .help("Also print what each get found, worker by worker");
-    let keys = MANY_KEYS
-        .option(
-            alloc,
-            "N",
-            "Make room for at least N different keys; 1 to 178956970",
-        )
-        .default_value("349525");
-    command_named(
-        alloc,
-        "nb_cache",
-        "Replays a trace of gets and puts on a cache of texts",
-    )
-    .after_help(MORE)
-    .arg(workers)?
-    .arg(replies)?
-    .arg(keys)
-}
+pub(crate) const LINE: CommandLine = CommandLine {
+    name: "nb_cache",
+    about: "Replays a trace of gets and puts on a cache of texts",
+    more: Some(MORE),
+    words: &[
+        Word {
+            form: Form::Number(WORKERS, "N"),
+            default: Some("4"),
+            help: "How many threads replay the trace; 1 to 8",
+        },
+        Word {
+            form: Form::Flag("--replies"),
+            default: None,
+            help: "Also print what each get found, worker by worker",
+        },
+        Word {
+            form: Form::Number(MANY_KEYS, "N"),
+            default: Some("349525"),
+            help: "Make room for at least N different keys; 1 to 178956970",
+        },
+    ],
+};
 
-/// The options of clap's matches.
-fn options_of(alloc: Global, matches: &ArgMatches<'_>) -> Result<Options, WordsFault> {
+/// The options that the command line gives.
+pub(crate) fn options_of(alloc: Global, given: &Given) -> Result<Options, WordsFault> {
     Ok(Options {
-        workers: WORKERS.find(alloc, matches)?.unwrap_or(1) as usize,
-        tells_replies: matches.get_flag("replies"),
-        keys: MANY_KEYS.find(alloc, matches)?.unwrap_or(1) as usize,
+        workers: WORKERS.find(alloc, given)?.unwrap_or(1) as usize,
+        tells_replies: given.is_set("--replies"),
+        keys: MANY_KEYS.find(alloc, given)?.unwrap_or(1) as usize,
     })
-}
-
-/// The options that the words give, of which the first is the program's name.
-pub(crate) fn read_options(alloc: Global, words: &[String]) -> Result<Options, WordsFault> {
-    let matches = matches_of(alloc, command(alloc), words)?;
-    options_of(alloc, &matches)
 }

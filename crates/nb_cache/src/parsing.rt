@@ -20,10 +20,16 @@ pub(crate) struct Part<'a> {
 }
 
 /// Why a part isn't read to its end.
-#[derive(Clone, Copy, Debug, PartialEq, Eq)]
+#[derive(Clone, Copy)]
 enum Stop {
     Line(Cause),
     OutOfMemory,
+}
+
+impl From<Cause> for Stop {
+    fn from(cause: Cause) -> Stop {
+        Stop::Line(cause)
+    }
 }
 
 impl From<OutOfMemory> for Stop {
@@ -56,8 +62,7 @@ impl<'a> Part<'a> {
 
     fn parse_lines(&mut self) -> Result<(), Stop> {
         for line in Lines::new(self.text) {
-            let request = read_request(line).map_err(Stop::Line)?;
-            self.keep(request)?;
+            self.keep(read_request(line)?)?;
             self.lines = self.lines.wrapping_add(1);
         }
         Ok(())

@@ -12,8 +12,13 @@ pub(crate) fn print<W: Write + Drop>(
     writer: W,
     replayed: &Replayed,
 ) -> Result<(), Fault> {
-    let mut writer = BufWriter::new(alloc, writer).map_err(|_| Fault::OutOfMemory)?;
-    print_to(&mut writer, replayed).map_err(|_| Fault::Write)
+    let Ok(mut writer) = BufWriter::new(alloc, writer) else {
+        return Err(Fault::OutOfMemory);
+    };
+    match print_to(&mut writer, replayed) {
+        Ok(()) => Ok(()),
+        Err(_) => Err(Fault::Write),
+    }
 }
 
 /// The same, to a writer that may hold back what it is given.

@@ -21,13 +21,13 @@ use std::thread::Threads;
 const TOLD: u64 = 1 << 15;
 
 /// What a put stores.
-#[derive(Debug, Drop)]
+#[derive(Drop)]
 pub(crate) struct Page {
     text: Vec<u8>,
 }
 
 /// What was counted in a replay.
-#[derive(Clone, Copy, Debug, PartialEq, Eq)]
+#[derive(Clone, Copy)]
 pub(crate) struct Counts {
     pub(crate) gets: u64,
     /// The gets that found something.
@@ -58,7 +58,7 @@ impl Counts {
 }
 
 /// What came of a replay.
-#[derive(Debug, Drop)]
+#[derive(Drop)]
 pub(crate) struct Replayed {
     pub(crate) counts: Counts,
     /// What the gets found, a line for each, where that is asked for.
@@ -244,8 +244,11 @@ fn read_page(
 ) -> Result<(), Fault> {
     let page = shown(cache, number)?;
     if tells_replies {
-        let text = page.as_ref().map(|page| page.value().text.as_slice());
-        say_reply(replies, key, text.unwrap_or(b"-"))?;
+        let text = match page.as_ref() {
+            Some(page) => page.value().text.as_slice(),
+            None => b"-",
+        };
+        say_reply(replies, key, text)?;
     }
     Ok(())
 }
@@ -270,7 +273,10 @@ fn put<R: Wait>(
     let page = Page {
         text: Vec::from_slice(alloc, text)?,
     };
-    let stored = worker.handle.put(rt, key, page).map_err(fault_of)?;
+    let stored = match worker.handle.put(rt, key, page) {
+        Ok(stored) => stored,
+        Err(refused) => return Err(fault_of(refused)),
+    };
     let counts = &mut worker.replayed.counts;
     counts.puts = counts.puts.wrapping_add(1);
     if stored.before.is_none() {

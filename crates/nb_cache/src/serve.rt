@@ -1,9 +1,9 @@
-//! The program: its words, what it reads and prints, and its exit status.
+//! The program: its words, what it reads and what it prints.
 
-use crate::options::read_options;
+use crate::options::{LINE, options_of};
 use crate::printing::print;
 use crate::replaying::replay;
-use nb_lines::{Fault, Progress, end_of, words};
+use nb_lines::{Fault, Progress};
 use std::alloc::Global;
 use std::io;
 use std::io::{ErrorKind, Read};
@@ -22,24 +22,14 @@ fn read_all<I: Read + Drop>(alloc: Global, reader: I) -> Result<Vec<u8>, Fault> 
     }
 }
 
-/// Does what the words ask for.
-fn attend<R, I>(rt: &R, reader: I, progress: Progress) -> Result<(), Fault>
+/// Serves a process: does what its words ask for.
+pub(crate) fn serve<R, I>(rt: &R, reader: I, progress: Progress) -> Result<(), Fault>
 where
     R: Env + Threads + Sync + Wait + Print + Eprint + AllocGlobal,
     I: Read + Drop,
 {
-    let words = words(rt)?;
-    let options = read_options(rt.alloc(), words.as_slice())?;
+    let options = options_of(rt.alloc(), &LINE.given(rt)?)?;
     let trace = read_all(rt.alloc(), reader)?;
     let replayed = replay(rt, rt.alloc(), &options, trace.as_slice(), progress)?;
     print(rt.alloc(), io::writer(rt), &replayed)
-}
-
-/// Serves a process, and answers its exit status.
-pub(crate) fn serve<R, I>(rt: &R, reader: I, progress: Progress) -> u8
-where
-    R: Env + Threads + Sync + Wait + Print + Eprint + AllocGlobal,
-    I: Read + Drop,
-{
-    end_of(rt, "nb_cache", attend(rt, reader, progress))
 }

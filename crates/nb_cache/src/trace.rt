@@ -7,7 +7,7 @@ use nb_core::KEY_MAX;
 use nb_lines::{Cause, read_number};
 
 /// What a line of a trace asks for.
-#[derive(Clone, Copy, Debug, PartialEq, Eq)]
+#[derive(Clone, Copy)]
 pub(crate) struct Request<'a> {
     /// The number of the key.
     pub(crate) number: u64,
@@ -16,7 +16,7 @@ pub(crate) struct Request<'a> {
 }
 
 /// What is to be done at a key.
-#[derive(Clone, Copy, Debug, PartialEq, Eq)]
+#[derive(Clone, Copy)]
 pub(crate) enum Action<'a> {
     Get,
     Put(&'a [u8]),

@@ -11,4 +11,5 @@ mod plain;
 mod seats;
 mod shapes;
 mod slot_words;
+mod texts;
 mod wide;

@@ -1,12 +1,11 @@
 //! The words of the command line.
 
-use clap::{Arg, ArgAction, ArgMatches, Command};
 use nb_core::Shape;
-use nb_lines::{Fault, MANY_KEYS, WORKERS, WordsFault, command_named, matches_of};
-use std::alloc::{AllocError, Global};
+use nb_lines::{CommandLine, Fault, Form, Given, MANY_KEYS, WORKERS, Word, WordsFault};
+use std::alloc::Global;
 
 /// How the jobs are to be taken and printed.
-#[derive(Clone, Copy, Debug, PartialEq, Eq)]
+#[derive(Clone, Copy)]
 pub(crate) struct Options {
     /// How many threads take jobs.
     pub(crate) workers: usize,
@@ -20,7 +19,7 @@ impl Options {
     /// A set that begins small, and grows where a key isn't within a few slots of its home, up to
     /// a table with room for so many keys and more.
     pub(crate) fn shape(&self) -> Result<Shape, Fault> {
-        Shape::for_many_keys(self.keys, self.workers).map_err(|_| Fault::Usage)
+        Ok(Shape::for_many_keys(self.keys, self.workers)?)
     }
 }
 
@@ -39,43 +38,34 @@ Example: printf '7\\n3\\n7\\n' | nb_dedup
 7";
 
 /// The command line.
-fn command<'a>(alloc: Global) -> Result<Command<'a>, AllocError> {
-    let workers = WORKERS
-        .option(alloc, "N", "How many threads take numbers; 1 to 8")
-        .default_value("4");
-    let who = Arg::new(alloc, "who")
-        .long("who")
-        .action(ArgAction::SetTrue)
-        .help("Also print which worker took each number; workers are numbered from 1");
-    let keys = MANY_KEYS
-        .option(
-            alloc,
-            "N",
-            "Make room for at least N different numbers; 1 to 178956970",
-        )
-        .default_value("349525");
-    command_named(
-        alloc,
-        "nb_dedup",
-        "Prints each number of standard input once, like sort -nu",
-    )
-    .after_help(MORE)
-    .arg(workers)?
-    .arg(who)?
-    .arg(keys)
-}
+pub(crate) const LINE: CommandLine = CommandLine {
+    name: "nb_dedup",
+    about: "Prints each number of standard input once, like sort -nu",
+    more: Some(MORE),
+    words: &[
+        Word {
+            form: Form::Number(WORKERS, "N"),
+            default: Some("4"),
+            help: "How many threads take numbers; 1 to 8",
+        },
+        Word {
+            form: Form::Flag("--who"),
+            default: None,
+            help: "Also print which worker took each number; workers are numbered from 1",
+        },
+        Word {
+            form: Form::Number(MANY_KEYS, "N"),
+            default: Some("349525"),
+            help: "Make room for at least N different numbers; 1 to 178956970",
+        },
+    ],
+};
 
-/// The options of clap's matches.
-fn options_of(alloc: Global, matches: &ArgMatches<'_>) -> Result<Options, WordsFault> {
+/// The options that the command line gives.
+pub(crate) fn options_of(alloc: Global, given: &Given) -> Result<Options, WordsFault> {
     Ok(Options {
-        workers: WORKERS.find(alloc, matches)?.unwrap_or(1) as usize,
-        tells_who: matches.get_flag("who"),
-        keys: MANY_KEYS.find(alloc, matches)?.unwrap_or(1) as usize,
+        workers: WORKERS.find(alloc, given)?.unwrap_or(1) as usize,
+        tells_who: given.is_set("--who"),
+        keys: MANY_KEYS.find(alloc, given)?.unwrap_or(1) as usize,
     })
-}
-
-/// The options that the words give, of which the first is the program's name.
-pub(crate) fn read_options(alloc: Global, words: &[String]) -> Result<Options, WordsFault> {
-    let matches = matches_of(alloc, command(alloc), words)?;
-    options_of(alloc, &matches)
 }

@@ -3,6 +3,7 @@
 use crate::taking::Job;
 use nb_lines::Fault;
 use std::alloc::Global;
+use std::io;
 use std::io::{BufWriter, Write};
 
 /// Prints the jobs, and who took each where that is asked for.
@@ -12,14 +13,23 @@ pub(crate) fn print<W: Write + Drop>(
     jobs: &[Job],
     tells_who: bool,
 ) -> Result<(), Fault> {
-    let mut writer = BufWriter::new(alloc, writer).map_err(|_| Fault::OutOfMemory)?;
-    for Job { number, worker } in jobs {
-        let written = if tells_who {
-            writeln!(writer, "{number} {worker}")
-        } else {
-            writeln!(writer, "{number}")
-        };
-        written.map_err(|_| Fault::Write)?;
+    let Ok(mut writer) = BufWriter::new(alloc, writer) else {
+        return Err(Fault::OutOfMemory);
+    };
+    match print_to(&mut writer, jobs, tells_who) {
+        Ok(()) => Ok(()),
+        Err(_) => Err(Fault::Write),
     }
-    writer.flush().map_err(|_| Fault::Write)
+}
+
+/// The same, to a writer that may hold back what it is given.
+fn print_to<W: Write>(writer: &mut W, jobs: &[Job], tells_who: bool) -> io::Result<()> {
+    for Job { number, worker } in jobs {
+        if tells_who {
+            writeln!(writer, "{number} {worker}")?;
+        } else {
+            writeln!(writer, "{number}")?;
+        }
+    }
+    writer.flush()
 }

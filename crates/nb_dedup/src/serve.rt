@@ -1,23 +1,22 @@
-//! The program: its words, what it reads and prints, and its exit status.
+//! The program: its words, what it reads and what it prints.
 
-use crate::options::read_options;
+use crate::options::{LINE, options_of};
 use crate::printing::print;
 use crate::taking::take_all;
-use nb_lines::{Fault, Progress, end_of, words};
+use nb_lines::{Fault, Progress};
 use std::io;
 use std::io::Read;
 use std::rt::Env;
 use std::sync::Wait;
 use std::thread::Threads;
 
-/// Does what the words ask for.
-fn attend<R, I>(rt: &R, reader: I, progress: Progress) -> Result<(), Fault>
+/// Serves a process: does what its words ask for.
+pub(crate) fn serve<R, I>(rt: &R, reader: I, progress: Progress) -> Result<(), Fault>
 where
     R: Env + Threads + Sync + Wait + Print + Eprint + AllocGlobal,
     I: Read + Send + Drop,
 {
-    let words = words(rt)?;
-    let options = read_options(rt.alloc(), words.as_slice())?;
+    let options = options_of(rt.alloc(), &LINE.given(rt)?)?;
     let jobs = take_all(rt, rt.alloc(), &options, reader, progress)?;
     print(
         rt.alloc(),
@@ -25,13 +24,4 @@ where
         jobs.as_slice(),
         options.tells_who,
     )
-}
-
-/// Serves a process, and answers its exit status.
-pub(crate) fn serve<R, I>(rt: &R, reader: I, progress: Progress) -> u8
-where
-    R: Env + Threads + Sync + Wait + Print + Eprint + AllocGlobal,
-    I: Read + Send + Drop,
-{
-    end_of(rt, "nb_dedup", attend(rt, reader, progress))
 }

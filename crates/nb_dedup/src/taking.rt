@@ -15,7 +15,7 @@ use std::thread;
 use std::thread::Threads;
 
 /// A job that was taken, and by whom.
-#[derive(Clone, Copy, Debug, PartialEq, Eq, PartialOrd, Ord)]
+#[derive(Clone, Copy, PartialEq, Eq, PartialOrd, Ord)]
 pub(crate) struct Job {
     pub(crate) number: u64,
     /// The worker's number, counted from 1.
@@ -113,8 +113,10 @@ fn take_blocks<R: Wait + Eprint, I: Read + Drop>(
 fn take_lines<R: Wait>(rt: &R, worker: &mut Worker, block: &Block) -> Result<u64, Stop> {
     let mut lines = 0u64;
     for line in block.lines() {
-        let key = read_key(line).map_err(|cause| block.stop_at(lines, cause))?;
-        take(rt, worker, key)?;
+        match read_key(line) {
+            Ok(key) => take(rt, worker, key)?,
+            Err(cause) => return Err(block.stop_at(lines, cause)),
+        }
         lines = lines.wrapping_add(1);
     }
     Ok(lines)

@@ -88,6 +88,7 @@ static void makes_shapes_for_many_keys(void)
         {1365, 64, {{11}, 1, 64, 16, 18, 256}},
         {1366, 64, {{4, 12}, 2, 64, 16, 18, 256}},
         {1000000, 64, {{5, 13, 21}, 3, 64, 16, 18, 256}},
+        {2796202, 1, {{6, 14, 22}, 3, 1, 1, 18, 256}},
         {44739243, 128, {{10, 18, 26}, 3, 128, 16, 18, 256}},
         {44739244, 128, {{11, 19, 27}, 3, 128, 16, 18, 256}},
         {SAMVOLIP_MANY_KEYS, 256, {{4, 12, 20, 28}, 4, 256, 16, 18, 256}},
@@ -112,10 +113,12 @@ static void makes_shapes_for_churn(void)
         {256, 512, 16, 2, 9, 16},
         {256, 513, 16, 3, 9, 16},
         {256, 2901, 17, 16, 9, 16},
+        {256, 2901, 1, 16, 9, 1},
         {256, 2902, 17, 6, 10, 16},
         {257, 683, 17, 1, 10, 16},
         {257, 684, 17, 2, 10, 16},
         {100, 1000, 64, 4, 9, 16},
+        {100, 1024, 1, 4, 9, 1},
         {100, 10000, 64, 8, 11, 16},
         {10000, 20000, 1, 1, 15, 1},
         {10000, 1000000, 64, 13, 17, 16},
@@ -136,24 +139,32 @@ static void makes_shapes_for_churn(void)
     }
 }
 
-/* Mixed keys come one after another, and each goes when so many others have come. */
-static void come_and_go(uint64_t live, uint64_t ever)
+/* Mixed keys come one after another, and each goes when so many others have come. None is refused, and at the end no new map is
+   due. Returns how many tables the map has left behind. */
+static uint32_t come_and_go(uint64_t live, uint64_t ever)
 {
     const samvolip_shape shape = samvolip_shape_for_churn(live, ever, 1);
     samvolip_seat seat = SAMVOLIP_SEAT_INIT;
     EXPECT(samvolip_open(&shape, &seat) == SAMVOLIP_OK);
     for (uint64_t i = 0; i < ever; i++) {
+        uint64_t before = 99;
         if (i >= live)
-            EXPECT(samvolip_remove(&seat, samvolip_mix(i - live), NULL) == SAMVOLIP_PRESENT);
+            EXPECT(samvolip_remove(&seat, samvolip_mix(i - live), &before) == SAMVOLIP_PRESENT);
+        EXPECT(i < live || before == i - live);
         EXPECT(samvolip_put(&seat, samvolip_mix(i), i, NULL) == SAMVOLIP_ABSENT);
     }
     EXPECT(samvolip_size_estimate(&seat) == live);
+    EXPECT(samvolip_should_renew(&seat) == 0);
+    const uint32_t generation = samvolip_generation(&seat);
     samvolip_free(&seat);
+    return generation;
 }
 
+/* In the first, twice as many keys come as the last table has slots. In the second as many come as sixteen of the smallest tables
+   have room for, with as many live ones as there may be. */
 static void keys_come_and_go(void)
 {
-    come_and_go(100, 1024);
+    EXPECT(come_and_go(100, 1024) == 2);
     come_and_go(256, 2901);
     come_and_go(1000, 20000);
 }

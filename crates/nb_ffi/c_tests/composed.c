@@ -1,5 +1,5 @@
-/* What the header makes of the library's calls: mixing, and the calls over calls, by one thread and then by four that write the same
-   keys. The size is never told as less than 0.
+/* What the header makes of the library's calls: mixing, and the calls over calls, by one thread and then by four that write the
+   same keys. The size is never told as less than 0.
        composed [ROUNDS]      how often each of the four threads writes */
 #include "samvolip.h"
 
@@ -157,7 +157,10 @@ static void refuses_when_full(void)
 
 /* ---- four threads */
 
-enum { THREADS = 4, KEYS = 50, GREATEST = 1000, LEAST = 2000, COUNTED = 3000, PASSING = 4000 };
+enum { THREADS = 4, KEYS = 50, SHARED = 200 };
+
+/* the first of the keys that are raised, lowered, counted, put and removed, and inserted */
+enum { GREATEST = 1000, LEAST = 2000, COUNTED = 3000, PASSING = 4000, INSERTED = 5000 };
 
 static unsigned rounds = 200000;
 
@@ -185,9 +188,15 @@ static void *work(void *given)
         state ^= state << 13;
         state ^= state >> 7;
         state ^= state << 17;
-        const uint64_t key = state % KEYS, number = state >> 32;
+        const uint64_t key = state % KEYS, number = state >> 32, shared = INSERTED + i % SHARED;
+        uint64_t there, now;
         EXPECT(samvolip_fetch_max(seat, GREATEST + key, number, &before) >= 0);
+        EXPECT(samvolip_get(seat, GREATEST + key, &now) == SAMVOLIP_PRESENT && now >= number);
         EXPECT(samvolip_fetch_min(seat, LEAST + key, number, &before) >= 0);
+
+        /* one thread wins each key that all insert at, and what is answered stays there */
+        EXPECT(samvolip_get_or_insert(seat, shared, worker->number, &there) >= 0);
+        EXPECT(samvolip_get(seat, shared, &now) == SAMVOLIP_PRESENT && now == there);
         uint64_t thousands = 0;
         int code = samvolip_update(seat, COUNTED + key, counted, &thousands, 8, NULL);
         EXPECT(code >= 0 || code == SAMVOLIP_E_CONTENDED);
@@ -232,6 +241,8 @@ static void compare(samvolip_ended *ended, uint64_t contended)
                 sum += number;
     }
     EXPECT(sum + contended == (uint64_t)THREADS * rounds);
+    for (unsigned key = 0; key < SHARED && key < rounds; key++)
+        EXPECT(samvolip_ended_get(ended, INSERTED + key, &number) == SAMVOLIP_PRESENT && number < THREADS);
 }
 
 static void works_on_four_threads(void)

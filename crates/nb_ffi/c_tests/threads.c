@@ -1,11 +1,13 @@
-/* Threads add to the keys of a growing map, read them, and walk over them; the sums are right. */
+/* Threads add to the keys of a growing map, read them, and walk over them; the sums are right. Eight threads make calls of all
+   kinds on few keys, and what is left is what they were told. And threads walk beside others that write, while the map grows.
+       threads [ROUNDS]      how often each of the first four threads adds; the other tests are made again the more often */
 #include "samvolip.h"
 
 #include "expect.h"
 
 #include <pthread.h>
 
-enum { THREADS = 4, KEYS = 1000 };
+enum { THREADS = 4, KEYS = 1000, MOST_THREADS = 8, FEW_KEYS = 7, KEPT = 6 };
 
 static unsigned rounds = 200000;
 
@@ -14,9 +16,28 @@ struct worker {
     unsigned number;
     uint64_t added;
     uint64_t refused;
+    uint64_t told[FEW_KEYS];
 };
 
-static void *work(void *given)
+/* Each of these threads works with a seat of its own. */
+static void all_work(struct worker *workers, unsigned count, void *(*work)(void *))
+{
+    pthread_t threads[MOST_THREADS];
+    for (unsigned i = 1; i < count; i++)
+        EXPECT(samvolip_split(&workers[0].seat, &workers[i].seat) == SAMVOLIP_OK);
+    for (unsigned i = 0; i < count; i++) {
+        workers[i].number = i;
+        EXPECT(pthread_create(&threads[i], NULL, work, &workers[i]) == 0);
+    }
+    for (unsigned i = 0; i < count; i++)
+        EXPECT(pthread_join(threads[i], NULL) == 0);
+    for (unsigned i = 1; i < count; i++)
+        EXPECT(samvolip_join(&workers[0].seat, &workers[i].seat) == SAMVOLIP_OK);
+}
+
+/* ---- adds */
+
+static void *add(void *given)
 {
     struct worker *worker = given;
     uint64_t state = UINT64_C(88172645463325252) + worker->number;
@@ -46,27 +67,15 @@ static void *work(void *given)
     return NULL;
 }
 
-int main(int count, char **words)
+static void threads_add(void)
 {
-    if (count > 1)
-        rounds = (unsigned)strtoul(words[1], NULL, 10);
     const samvolip_shape shape = {{4, 6, 8, 10, 12}, 5, THREADS, 2, UINT32_MAX, 8};
-    struct worker workers[THREADS] = {{SAMVOLIP_SEAT_INIT, 0, 0, 0}};
-    pthread_t threads[THREADS];
-    EXPECT(samvolip_open(&shape, &workers[0].seat) == SAMVOLIP_OK);
-    for (unsigned i = 1; i < THREADS; i++)
-        EXPECT(samvolip_split(&workers[0].seat, &workers[i].seat) == SAMVOLIP_OK);
-    for (unsigned i = 0; i < THREADS; i++) {
-        workers[i].number = i;
-        EXPECT(pthread_create(&threads[i], NULL, work, &workers[i]) == 0);
-    }
+    struct worker workers[THREADS] = {{SAMVOLIP_SEAT_INIT, 0, 0, 0, {0}}};
     uint64_t added = 0, sum = 0;
-    for (unsigned i = 0; i < THREADS; i++) {
-        EXPECT(pthread_join(threads[i], NULL) == 0);
+    EXPECT(samvolip_open(&shape, &workers[0].seat) == SAMVOLIP_OK);
+    all_work(workers, THREADS, add);
+    for (unsigned i = 0; i < THREADS; i++)
         added += workers[i].added;
-    }
-    for (unsigned i = 1; i < THREADS; i++)
-        EXPECT(samvolip_join(&workers[0].seat, &workers[i].seat) == SAMVOLIP_OK);
     uint64_t estimate = samvolip_size_estimate(&workers[0].seat);
     samvolip_ended ended = SAMVOLIP_ENDED_INIT;
     EXPECT(samvolip_close(&workers[0].seat, &ended) == SAMVOLIP_OK);
@@ -80,6 +89,143 @@ int main(int count, char **words)
     EXPECT(sum == added);
     free(entries);
     samvolip_ended_free(&ended);
+}
+
+/* ---- calls of all kinds on few keys */
+
+/* Makes one of eight calls at the key. Answers 1 if the key came by it, and -1 if it went. */
+static int comes(samvolip_seat *seat, unsigned call, uint64_t key)
+{
+    int code;
+    switch (call) {
+    case 0: code = samvolip_put(seat, key, 1, NULL); break;
+    case 1: code = samvolip_put_if_absent(seat, key, 2, NULL); break;
+    case 2: code = samvolip_add(seat, key, 1, NULL); break;
+    case 3: code = samvolip_remove(seat, key, NULL); break;
+    case 4: code = samvolip_remove_if(seat, key, 1); break;
+    case 5: code = samvolip_remove_if(seat, key, 2); break;
+    case 6: code = samvolip_replace_if(seat, key, 2, 1); break;
+    default: code = samvolip_replace(seat, key, 2, NULL);
+    }
+    EXPECT(code == 0 || code == 1);
+    return call < 3 ? 1 - code : call < 6 ? -code : 0;
+}
+
+/* To the keys 0 to 2 all threads only add, and they are told the sums. Of the keys 3 to 6 each is told how many times it came, less
+   the times that it went. Between the calls each thread puts three keys that no other thread puts, so that the map has to grow. */
+static void *call(void *given)
+{
+    struct worker *worker = given;
+    uint64_t state = worker->number, amount = worker->number + 1;
+    for (unsigned i = 0; i < 3000; i++) {
+        state = state * UINT64_C(6364136223846793005) + UINT64_C(1442695040888963407);
+        const uint64_t choice = state >> 33;
+        uint64_t key = choice / 8 % 3;
+        EXPECT(samvolip_add(&worker->seat, key, amount, NULL) >= 0);
+        worker->told[key] += amount;
+        key = 3 + choice / 32 % 4;
+        worker->told[key] += (uint64_t)(int64_t)comes(&worker->seat, choice % 8, key);
+        if (i % 1000 == 20)
+            EXPECT(samvolip_put(&worker->seat, 6 + amount + i / 1000 * 8, amount, NULL) == SAMVOLIP_ABSENT);
+    }
+    return NULL;
+}
+
+static void eight_threads(void)
+{
+    const samvolip_shape shape = {{2, 3, 4, 5}, 4, MOST_THREADS, 3, UINT32_MAX, 8};
+    struct worker workers[MOST_THREADS] = {{SAMVOLIP_SEAT_INIT, 0, 0, 0, {0}}};
+    samvolip_ended ended = SAMVOLIP_ENDED_INIT;
+    samvolip_entry entries[32];
+    uint64_t keys = 3 + 3 * MOST_THREADS, number;
+    EXPECT(samvolip_open(&shape, &workers[0].seat) == SAMVOLIP_OK);
+    all_work(workers, MOST_THREADS, call);
+    EXPECT(samvolip_generation(&workers[0].seat) == 3);
+    EXPECT(samvolip_close(&workers[0].seat, &ended) == SAMVOLIP_OK);
+    for (uint64_t key = 0; key < FEW_KEYS; key++) {
+        uint64_t told = 0;
+        for (unsigned i = 0; i < MOST_THREADS; i++)
+            told += workers[i].told[key];
+        const int has = samvolip_ended_get(&ended, key, &number);
+        EXPECT(key < 3 ? has == SAMVOLIP_PRESENT && number == told : (uint64_t)has == told);
+        keys += key < 3 ? 0 : told;
+    }
+    EXPECT(samvolip_ended_size(&ended) == keys && keys <= 32);
+    EXPECT(samvolip_ended_entries(&ended, entries, 32) == SAMVOLIP_OK);
+    for (uint64_t i = 0; i < keys; i++) {
+        EXPECT(samvolip_ended_get(&ended, entries[i].key, &number) == SAMVOLIP_PRESENT);
+        EXPECT(number == entries[i].number && (i == 0 || entries[i - 1].key < entries[i].key));
+    }
+    samvolip_ended_free(&ended);
+}
+
+/* ---- walks beside writes */
+
+/* Walks again and again. Each number shows whose it is, nothing is shown twice, and the kept keys are shown. */
+static void walks(samvolip_seat *seat)
+{
+    for (unsigned i = 0; i < 400; i++) {
+        uint64_t key, number;
+        unsigned char seen[64] = {0};
+        samvolip_walk(seat);
+        while (samvolip_next(seat, &key, &number) == SAMVOLIP_PRESENT) {
+            EXPECT(key < 64 && number / 1000 == key);
+            EXPECT(!seen[key]);
+            seen[key] = 1;
+        }
+        for (unsigned kept = 0; kept < KEPT; kept++)
+            EXPECT(seen[kept]);
+    }
+}
+
+/* Gives the kept keys new numbers, and lets keys of its own come and go, ever more of them. */
+static void writes(samvolip_seat *seat, unsigned thread)
+{
+    for (unsigned i = 0; i < 600; i++) {
+        const uint64_t kept = i % KEPT, own = KEPT + 3 * thread + i / 300;
+        EXPECT(samvolip_replace(seat, kept, kept * 1000 + i, NULL) == SAMVOLIP_PRESENT);
+        EXPECT(samvolip_put(seat, own, own * 1000, NULL) >= 0);
+        if (i % 3 > 0)
+            EXPECT(samvolip_remove(seat, own, NULL) == SAMVOLIP_PRESENT);
+    }
+}
+
+/* The first two threads walk, and the others write. */
+static void *walk_or_write(void *given)
+{
+    struct worker *worker = given;
+    if (worker->number < 2)
+        walks(&worker->seat);
+    else
+        writes(&worker->seat, worker->number);
+    return NULL;
+}
+
+static void walk_beside_writers(void)
+{
+    const samvolip_shape shape = {{2, 3, 4, 5}, 4, MOST_THREADS, 3, UINT32_MAX, 8};
+    struct worker workers[MOST_THREADS] = {{SAMVOLIP_SEAT_INIT, 0, 0, 0, {0}}};
+    samvolip_ended ended = SAMVOLIP_ENDED_INIT;
+    uint64_t number;
+    EXPECT(samvolip_open(&shape, &workers[0].seat) == SAMVOLIP_OK);
+    for (uint64_t key = 0; key < KEPT; key++)
+        EXPECT(samvolip_put(&workers[0].seat, key, key * 1000, NULL) == SAMVOLIP_ABSENT);
+    all_work(workers, MOST_THREADS, walk_or_write);
+    EXPECT(samvolip_close(&workers[0].seat, &ended) == SAMVOLIP_OK);
+    for (uint64_t key = 0; key < KEPT; key++)
+        EXPECT(samvolip_ended_get(&ended, key, &number) == SAMVOLIP_PRESENT);
+    samvolip_ended_free(&ended);
+}
+
+int main(int count, char **words)
+{
+    if (count > 1)
+        rounds = (unsigned)strtoul(words[1], NULL, 10);
+    threads_add();
+    for (unsigned i = 0; i < rounds; i += 5000)
+        eight_threads();
+    for (unsigned i = 0; i < rounds; i += 10000)
+        walk_beside_writers();
     puts("threads: well");
     return 0;
 }

@@ -1,5 +1,6 @@
 /* More seats and larger tables: 256 threads add to one map while it grows through all its tables, and each key's number is right;
-   four threads fill a map whose last table has 2^22 slots, and all is read back.
+   so do 64 threads, each to the same keys one after another, in a map of small tables and short paths; four threads fill a map
+   whose last table has 2^22 slots, with as many keys as it is made for, and all is read back.
        wide [ADDS [KEYS]]      how often each of the 256 threads adds, and how many keys fill the other map */
 #include "samvolip.h"
 
@@ -7,10 +8,10 @@
 
 #include <pthread.h>
 
-enum { ADDERS = 256, ADDED_KEYS = 8000, FILLERS = 4 };
+enum { ADDERS = 256, ADDED_KEYS = 8000, FILLERS = 4, EQUALS = 64, EQUAL_KEYS = 2000 };
 
 static unsigned adds = 1000;
-static uint64_t keys = 2700000;
+static uint64_t keys = 2796202;
 static pthread_barrier_t begun;
 
 /* ---- many seats */
@@ -83,6 +84,38 @@ static void many_seats(void)
     free(adders);
 }
 
+/* ---- the same keys by each thread */
+
+static void *add_to_all(void *given)
+{
+    for (uint64_t key = 0; key < EQUAL_KEYS; key++)
+        EXPECT(samvolip_add(given, key, 1, NULL) >= 0);
+    return NULL;
+}
+
+static void many_seats_add_while_the_map_grows(void)
+{
+    const samvolip_shape shape = {{2, 4, 6, 8, 10, 12}, 6, EQUALS, 16, 4, 64};
+    samvolip_seat seats[EQUALS] = {SAMVOLIP_SEAT_INIT};
+    pthread_t threads[EQUALS];
+    uint64_t number;
+    EXPECT(samvolip_open(&shape, &seats[0]) == SAMVOLIP_OK);
+    for (unsigned i = 1; i < EQUALS; i++)
+        EXPECT(samvolip_split(&seats[0], &seats[i]) == SAMVOLIP_OK);
+    for (unsigned i = 0; i < EQUALS; i++)
+        EXPECT(pthread_create(&threads[i], NULL, add_to_all, &seats[i]) == 0);
+    for (unsigned i = 0; i < EQUALS; i++)
+        EXPECT(pthread_join(threads[i], NULL) == 0);
+    for (unsigned i = 1; i < EQUALS; i++)
+        EXPECT(samvolip_join(&seats[0], &seats[i]) == SAMVOLIP_OK);
+    samvolip_ended ended = SAMVOLIP_ENDED_INIT;
+    EXPECT(samvolip_close(&seats[0], &ended) == SAMVOLIP_OK);
+    EXPECT(samvolip_ended_size(&ended) == EQUAL_KEYS);
+    for (uint64_t key = 0; key < EQUAL_KEYS; key++)
+        EXPECT(samvolip_ended_get(&ended, key, &number) == SAMVOLIP_PRESENT && number == EQUALS);
+    samvolip_ended_free(&ended);
+}
+
 /* ---- many keys */
 
 struct filler {
@@ -142,6 +175,7 @@ int main(int count, char **words)
     if (count > 2)
         keys = strtoull(words[2], NULL, 10);
     many_seats();
+    many_seats_add_while_the_map_grows();
     many_keys();
     puts("wide: well");
     return 0;

@@ -5,7 +5,7 @@ use crate::numbers::NumberWord;
 use clap::error::ErrorKind;
 use clap::{Arg, ArgAction, ArgMatches, Command};
 use nb_core::OutOfMemory;
-use std::alloc::{AllocError, Global};
+use std::alloc::Global;
 use std::fmt::Display;
 use std::rt::Env;
 use std::{env, io};
@@ -14,7 +14,7 @@ use std::{env, io};
 pub const VERSION: &str = "0.8.1";
 
 /// The words of the command line. Words that aren't text are wrong ones.
-pub fn words<R: Env + AllocGlobal>(rt: &R) -> Result<Vec<String>, WordsFault> {
+fn words_of<R: Env + AllocGlobal>(rt: &R) -> Result<Vec<String>, WordsFault> {
     let given = match env::args(rt) {
         Ok(given) => given,
         Err(error) if error.kind() == io::ErrorKind::OutOfMemory => {
@@ -29,18 +29,149 @@ pub fn words<R: Env + AllocGlobal>(rt: &R) -> Result<Vec<String>, WordsFault> {
     Ok(words)
 }
 
-/// A program's command line, which also has `--help` and `--version`.
-pub fn command_named<'a>(alloc: Global, name: &'a str, about: &'a str) -> Command<'a> {
-    Command::new(alloc, name).version(VERSION).about(about)
+/// What a word of the command line is called, with its dashes where it is an option, and what
+/// stands behind its name.
+#[derive(Clone, Copy)]
+pub enum Form {
+    /// `--NAME` alone.
+    Flag(&'static str),
+    /// `--NAME VALUE`, with what the help calls the number that is the value.
+    Number(NumberWord, &'static str),
+    /// `--NAME VALUE`, with what the help calls the text that is the value.
+    Text(&'static str, &'static str),
+    /// A word that stands alone in its place. It must be given unless it has a default.
+    Place(&'static str),
 }
 
-/// `--NAME VALUE`, with one value.
-pub fn option<'a>(alloc: Global, name: &'a str, value: &'a str, help: &'a str) -> Arg<'a> {
-    Arg::new(alloc, name)
-        .long(name)
-        .action(ArgAction::Set)
-        .value_name(value)
-        .help(help)
+/// A word that a command line may have, and what the help tells of it.
+#[derive(Clone, Copy)]
+pub struct Word {
+    pub form: Form,
+    /// What holds where it isn't given.
+    pub default: Option<&'static str>,
+    pub help: &'static str,
+}
+
+impl Word {
+    fn name(&self) -> &'static str {
+        match self.form {
+            Form::Number(number, _) => number.name,
+            Form::Flag(name) | Form::Text(name, _) | Form::Place(name) => name,
+        }
+    }
+
+    /// The name by which clap knows it.
+    fn id(&self) -> &'static str {
+        self.name().trim_start_matches('-')
+    }
+
+    /// The word as clap has it.
+    fn arg<'a>(&self, alloc: Global) -> Arg<'a> {
+        let arg = Arg::new(alloc, self.id()).help(self.help);
+        let arg = match self.form {
+            Form::Flag(_) => arg.long(self.id()).action(ArgAction::SetTrue),
+            Form::Number(_, value) | Form::Text(_, value) => arg
+                .long(self.id())
+                .action(ArgAction::Set)
+                .value_name(value),
+            Form::Place(_) => arg.action(ArgAction::Set).required(self.default.is_none()),
+        };
+        match self.default {
+            Some(default) => arg.default_value(default),
+            None => arg,
+        }
+    }
+
+    /// The text that clap's matches have of it. That of a flag is empty.
+    fn text_of<'a>(&self, matches: &ArgMatches<'a>) -> Option<&'a str> {
+        match self.form {
+            Form::Flag(_) if matches.get_flag(self.id()) => Some(""),
+            Form::Flag(_) => None,
+            _ => matches.get_str(self.id()),
+        }
+    }
+}
+
+/// The command line of a program, which also has `--help` and `--version`.
+#[derive(Clone, Copy)]
+pub struct CommandLine {
+    pub name: &'static str,
+    /// What the program is for.
+    pub about: &'static str,
+    /// What the help tells behind the options.
+    pub more: Option<&'static str>,
+    pub words: &'static [Word],
+}
+
+impl CommandLine {
+    /// What the words give that the process was started with.
+    pub fn given<R: Env + AllocGlobal>(&self, rt: &R) -> Result<Given, WordsFault> {
+        let alloc = rt.alloc();
+        let words = words_of(rt)?;
+        match self.command(alloc)?.try_get_matches_from(words.as_slice()) {
+            Ok(matches) => self.found_in(alloc, &matches),
+            Err(error) => Err(fault_of_words(alloc, &error)),
+        }
+    }
+
+    /// The command line as clap has it.
+    fn command<'a>(&self, alloc: Global) -> Result<Command<'a>, OutOfMemory> {
+        let mut command = Command::new(alloc, self.name)
+            .version(VERSION)
+            .about(self.about);
+        if let Some(more) = self.more {
+            command = command.after_help(more);
+        }
+        for word in self.words {
+            command = command.arg(word.arg(alloc))?;
+        }
+        Ok(command)
+    }
+
+    /// What clap's matches have of each word.
+    fn found_in(&self, alloc: Global, matches: &ArgMatches<'_>) -> Result<Given, WordsFault> {
+        let mut found = Vec::new(alloc);
+        for word in self.words {
+            if let Some(text) = word.text_of(matches) {
+                let text = String::from_str(alloc, text)?;
+                found.push(Found {
+                    name: word.name(),
+                    text,
+                })?;
+            }
+        }
+        Ok(Given { found })
+    }
+}
+
+/// A word that was given, or its default.
+#[derive(Drop)]
+struct Found {
+    name: &'static str,
+    text: String,
+}
+
+/// What a command line gives.
+#[derive(Drop)]
+pub struct Given {
+    found: Vec<Found>,
+}
+
+impl Given {
+    /// The text behind a word's name, or its default. There is none where neither is.
+    pub fn text(&self, name: &str) -> Option<&str> {
+        for found in self.found.iter() {
+            if found.name == name {
+                return Some(found.text.as_str());
+            }
+        }
+        None
+    }
+
+    /// Whether a flag is set.
+    pub fn is_set(&self, name: &str) -> bool {
+        self.text(name).is_some()
+    }
 }
 
 /// `--workers N`: how many threads work.
@@ -57,18 +188,6 @@ pub const MANY_KEYS: NumberWord = NumberWord {
     low: 1,
     high: 178_956_970,
 };
-
-/// The matches of a command line.
-pub fn matches_of<'a>(
-    alloc: Global,
-    command: Result<Command<'a>, AllocError>,
-    words: &'a [String],
-) -> Result<ArgMatches<'a>, WordsFault> {
-    match command?.try_get_matches_from(words) {
-        Ok(matches) => Ok(matches),
-        Err(error) => Err(fault_of_words(alloc, &error)),
-    }
-}
 
 /// What is said of a word that isn't what its name asks for.
 pub fn wrong_word(alloc: Global, name: &str, word: &str, complaint: &str) -> WordsFault {

@@ -2,7 +2,7 @@
 ghost use Rattle.std.specs.Prelude.{◌≡◌};
 
 use crate::blocks::Place;
-use nb_core::{DigitsFault, OutOfMemory, RangeFault};
+use nb_core::{DigitsFault, OutOfMemory, RangeFault, ShapeFault};
 use std::alloc::AllocFailed;
 use std::io;
 use std::io::ErrorKind;
@@ -173,6 +173,12 @@ impl Fault {
 impl From<WordsFault> for Fault {
     fn from(fault: WordsFault) -> Fault {
         Fault::Words(fault)
+    }
+}
+
+impl From<ShapeFault> for Fault {
+    fn from(_fault: ShapeFault) -> Fault {
+        Fault::Usage
     }
 }
 

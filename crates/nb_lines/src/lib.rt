@@ -13,8 +13,8 @@ mod progress;
 
 pub use blocks::{BLOCK, Block, Input, Place};
 pub use command_line::{
-    MANY_KEYS, VERSION, WORKERS, answer, command_named, complain, end_of, matches_of, option,
-    words, wrong_word,
+    CommandLine, Form, Given, MANY_KEYS, VERSION, WORKERS, Word, answer, complain, end_of,
+    wrong_word,
 };
 pub use faults::{Cause, Fault, Stop, WordsFault};
 pub use keys::{key_of, number_of, read_key};

@@ -2,15 +2,14 @@
 ghost use Rattle.std.specs.Prelude.{◌≡◌, ◌<◌, ◌≤◌, ℕ, IfOk, IfSome, IsOk, Some, None};
 ghost use Rattle.nb_core.specs.Digits.{number_spelled};
 
-use crate::command_line::option;
+use crate::command_line::Given;
 use crate::faults::WordsFault;
-use clap::{Arg, ArgMatches};
 use nb_core::read_number;
 use std::alloc::Global;
 
 /// A number that the command line may give: its name, with its dashes where it is an option, and
 /// its range.
-#[derive(Clone, Copy, Debug, PartialEq, Eq)]
+#[derive(Clone, Copy)]
 pub struct NumberWord {
     pub name: &'static str,
     pub low: u64,
@@ -18,22 +17,12 @@ pub struct NumberWord {
 }
 
 impl NumberWord {
-    /// The name by which clap knows it.
-    pub fn id(self) -> &'static str {
-        self.name.trim_start_matches('-')
-    }
-
-    /// The option, with a word for its number and what the help tells of it.
-    pub fn option<'a>(self, alloc: Global, value: &'a str, help: &'a str) -> Arg<'a> {
-        option(alloc, self.id(), value, help)
-    }
-
     /// The number that was given, or its default. There is none where neither is.
-    pub fn find(self, alloc: Global, matches: &ArgMatches<'_>) -> Result<Option<u64>, WordsFault>
+    pub fn find(self, alloc: Global, given: &Given) -> Result<Option<u64>, WordsFault>
         ensures range { IfOk result (λ found. IfSome found
             (λ number. (self.low ≤ number) × (number ≤ self.high))) }
     {
-        match matches.get_str(self.id()) {
+        match given.text(self.name) {
             Some(word) => Ok(Some(self.read(alloc, word)?)),
             None => Ok(None),
         }

@@ -15,7 +15,7 @@ const BLANK: &str = "\r                                                         
 const INPUT: &str = "/dev/stdin";
 
 /// How far an input was worked through.
-#[derive(Clone, Copy, Debug, PartialEq, Eq)]
+#[derive(Clone, Copy)]
 pub struct Done {
     pub lines: u64,
     pub bytes: u64,
@@ -26,7 +26,7 @@ impl Done {
 }
 
 /// How progress is told.
-#[derive(Clone, Copy, Debug, PartialEq, Eq)]
+#[derive(Clone, Copy)]
 pub struct Progress {
     is_told: bool,
     /// How many bytes the input has, where it tells.
@@ -93,7 +93,7 @@ fn percentage(part: u64, whole: u64) -> u64 {
 }
 
 /// Progress of work that goes on for a time.
-#[derive(Clone, Copy, Debug, PartialEq, Eq)]
+#[derive(Clone, Copy)]
 pub struct Seconds {
     progress: Progress,
     time: Duration,

@@ -8,7 +8,7 @@ use nb_core::Key;
 use nb_lines::{Cause, read_key};
 
 /// What a line of the stream says.
-#[derive(Clone, Copy, Debug, PartialEq, Eq)]
+#[derive(Clone, Copy)]
 pub(crate) enum Line {
     /// A key comes online.
     On(Key),

@@ -19,8 +19,10 @@ pub(crate) mod run;
 pub(crate) mod serve;
 pub(crate) mod stream;
 
+use nb_lines::end_of;
 use std::process::ExitCode;
 
 fn main(rt: HostRuntime) -> ExitCode {
-    ExitCode::from(serve::serve(&rt, rt.stdin()))
+    let served = serve::serve(&rt, rt.stdin());
+    ExitCode::from(end_of(&rt, options::LINE.name, served))
 }

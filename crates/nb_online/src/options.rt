@@ -5,10 +5,9 @@ ghost use Rattle.nb_online.specs.declared.options.TheConstants.{KEYS_MAX};
 ghost use Rattle.nb_online.specs.declared.stream.TheConstants.{LINES};
 
 use crate::stream::LINES;
-use clap::{ArgMatches, Command};
 use nb_core::Shape;
-use nb_lines::{Fault, NumberWord, WORKERS, WordsFault, command_named, matches_of};
-use std::alloc::{AllocError, Global};
+use nb_lines::{CommandLine, Fault, Form, Given, NumberWord, WORKERS, Word, WordsFault};
+use std::alloc::Global;
 
 /// For how many keys that are online at the same time there may have to be room.
 const KEYS_MAX: usize = 80_000_000;
@@ -21,7 +20,7 @@ const KEYS: NumberWord = NumberWord {
 };
 
 /// How a stream is to be followed.
-#[derive(Clone, Copy, Debug, PartialEq, Eq)]
+#[derive(Clone, Copy)]
 pub(crate) struct Options {
     /// How many threads make the calls.
     workers: usize,
@@ -38,7 +37,7 @@ impl Options {
             3 * (self.now.keys + 2 * LINES) ≤ size_of shape (generations_of shape - 1)) }
     {
         let most = 2 * self.keys + 4 * LINES;
-        Shape::for_many_keys(most, self.workers).map_err(|_| Fault::Usage)
+        Ok(Shape::for_many_keys(most, self.workers)?)
     }
 }
 
@@ -62,37 +61,28 @@ online 1
 renewed 0";
 
 /// The command line.
-fn command<'a>(alloc: Global) -> Result<Command<'a>, AllocError> {
-    let workers = WORKERS
-        .option(alloc, "N", "How many threads make the calls; 1 to 8")
-        .default_value("4");
-    let keys = KEYS
-        .option(
-            alloc,
-            "N",
-            "Make room for at least N keys online at the same time; 1 to 80000000",
-        )
-        .default_value("100000");
-    command_named(
-        alloc,
-        "nb_online",
-        "Tells how many keys are online, of a stream that may never end",
-    )
-    .after_help(MORE)
-    .arg(workers)?
-    .arg(keys)
-}
+pub(crate) const LINE: CommandLine = CommandLine {
+    name: "nb_online",
+    about: "Tells how many keys are online, of a stream that may never end",
+    more: Some(MORE),
+    words: &[
+        Word {
+            form: Form::Number(WORKERS, "N"),
+            default: Some("4"),
+            help: "How many threads make the calls; 1 to 8",
+        },
+        Word {
+            form: Form::Number(KEYS, "N"),
+            default: Some("100000"),
+            help: "Make room for at least N keys online at the same time; 1 to 80000000",
+        },
+    ],
+};
 
-/// The options of clap's matches.
-fn options_of(alloc: Global, matches: &ArgMatches<'_>) -> Result<Options, WordsFault> {
+/// The options that the command line gives.
+pub(crate) fn options_of(alloc: Global, given: &Given) -> Result<Options, WordsFault> {
     Ok(Options {
-        workers: WORKERS.find(alloc, matches)?.unwrap_or(1) as usize,
-        keys: KEYS.find(alloc, matches)?.unwrap_or(1) as usize,
+        workers: WORKERS.find(alloc, given)?.unwrap_or(1) as usize,
+        keys: KEYS.find(alloc, given)?.unwrap_or(1) as usize,
     })
-}
-
-/// The options that the words give, of which the first is the program's name.
-pub(crate) fn read_options(alloc: Global, words: &[String]) -> Result<Options, WordsFault> {
-    let matches = matches_of(alloc, command(alloc), words)?;
-    options_of(alloc, &matches)
 }

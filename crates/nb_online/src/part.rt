@@ -10,20 +10,20 @@ use std::alloc::Global;
 use std::sync::Wait;
 
 /// What a line asks for at a key.
-#[derive(Clone, Copy, Debug, PartialEq, Eq)]
+#[derive(Clone, Copy)]
 pub(crate) struct Request {
     pub(crate) key: Key,
     pub(crate) action: Action,
 }
 
-#[derive(Clone, Copy, Debug, PartialEq, Eq)]
+#[derive(Clone, Copy)]
 pub(crate) enum Action {
     Come,
     Go,
 }
 
 /// What was counted.
-#[derive(Clone, Copy, Debug, PartialEq, Eq)]
+#[derive(Clone, Copy)]
 pub(crate) struct Counts {
     /// The keys that came online, each as often as it came.
     pub(crate) came: u64,

@@ -33,9 +33,12 @@ impl<W: Write + Drop> Run<W> {
         for _worker in 0..workers {
             parts.push(Mutex::new(Part::new(alloc)))?;
         }
+        let Ok(writer) = BufWriter::new(alloc, writer) else {
+            return Err(Fault::OutOfMemory);
+        };
         Ok(Run {
             parts,
-            writer: BufWriter::new(alloc, writer).map_err(|_| Fault::OutOfMemory)?,
+            writer,
             lines: 0,
             renewed: 0,
         })
@@ -84,25 +87,33 @@ impl<W: Write + Drop> Run<W> {
 
     /// Prints how many keys are online, at once.
     pub(crate) fn print_count(&mut self, online: u64) -> Result<(), Fault> {
-        let written = writeln!(self.writer, "{online}");
-        self.flushed(written)
+        match self.write_count(online) {
+            Ok(()) => Ok(()),
+            Err(_) => Err(Fault::Write),
+        }
+    }
+
+    fn write_count(&mut self, online: u64) -> io::Result<()> {
+        writeln!(self.writer, "{online}")?;
+        self.writer.flush()
     }
 
     /// Prints what came of the run.
     pub(crate) fn print_end(&mut self, online: u64) -> Result<(), Fault> {
-        let Counts { came, went } = self.counts();
-        let renewed = self.renewed;
-        let written = writeln!(
-            self.writer,
-            "came {came}\nwent {went}\nonline {online}\nrenewed {renewed}"
-        );
-        self.flushed(written)
+        match self.write_end(online) {
+            Ok(()) => Ok(()),
+            Err(_) => Err(Fault::Write),
+        }
     }
 
-    /// Sends off what was written.
-    fn flushed(&mut self, written: io::Result<()>) -> Result<(), Fault> {
-        written.map_err(|_| Fault::Write)?;
-        self.writer.flush().map_err(|_| Fault::Write)
+    fn write_end(&mut self, online: u64) -> io::Result<()> {
+        let Counts { came, went } = self.counts();
+        let renewed = self.renewed;
+        writeln!(
+            self.writer,
+            "came {came}\nwent {went}\nonline {online}\nrenewed {renewed}"
+        )?;
+        self.writer.flush()
     }
 }
 

@@ -217,6 +217,3 @@ pub fn read_options(alloc: Global, words: &[String]) -> Result<Options, OptionFa
     };
     Ok(Options { shape })
 }
-
-#[cfg(test)]
-mod tests;

@@ -16,7 +16,7 @@ use std::thread;
 use std::thread::Threads;
 
 /// How often a number came.
-#[derive(Clone, Copy, Debug, PartialEq, Eq, PartialOrd, Ord)]
+#[derive(Clone, Copy, PartialEq, Eq, PartialOrd, Ord)]
 pub(crate) struct Count {
     pub(crate) number: u64,
     pub(crate) times: u64,
@@ -88,8 +88,10 @@ fn count_blocks<R: Wait + Eprint, I: Read + Drop>(
 fn count_lines<R: Wait>(rt: &R, handle: &mut Handle, block: &Block) -> Result<u64, Stop> {
     let mut lines = 0u64;
     for line in block.lines() {
-        let key = read_key(line).map_err(|cause| block.stop_at(lines, cause))?;
-        count_one(rt, handle, key)?;
+        match read_key(line) {
+            Ok(key) => count_one(rt, handle, key)?,
+            Err(cause) => return Err(block.stop_at(lines, cause)),
+        }
         lines = lines.wrapping_add(1);
     }
     Ok(lines)

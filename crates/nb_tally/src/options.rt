@@ -1,9 +1,8 @@
 //! The words of the command line.
 
-use clap::{ArgMatches, Command};
 use nb_core::{MAX_EXPONENT, Shape};
-use nb_lines::{Fault, NumberWord, WORKERS, WordsFault, command_named, matches_of};
-use std::alloc::{AllocError, Global};
+use nb_lines::{CommandLine, Fault, Form, Given, NumberWord, WORKERS, Word, WordsFault};
+use std::alloc::Global;
 
 /// The most slots of a table, and so the most different numbers that any map has room for.
 const SLOTS_MAX: usize = 1 << MAX_EXPONENT;
@@ -21,12 +20,12 @@ const KEYS: NumberWord = NumberWord {
 };
 
 /// What is to be counted, and how.
-#[derive(Clone, Copy, Debug, PartialEq, Eq)]
+#[derive(Clone, Copy)]
 pub(crate) struct Options {
     /// How many threads count.
     pub(crate) workers: usize,
     /// How many of the most frequent numbers are printed, if not all are.
-    pub(crate) top: Option<usize>,
+    pub(crate) top: Option<u64>,
     /// For how many different numbers there has to be room.
     keys: usize,
 }
@@ -37,10 +36,8 @@ impl Options {
     pub(crate) fn shape(&self) -> Result<Shape, Fault> {
         let slots = self.keys.saturating_mul(2).clamp(4, SLOTS_MAX);
         let exponent = slots.next_power_of_two().trailing_zeros();
-        Shape::large(&[exponent])
-            .and_then(|shape| shape.with_seats(self.workers))
-            .and_then(|shape| shape.with_stripes(self.workers))
-            .map_err(|_| Fault::Usage)
+        let shape = Shape::large(&[exponent])?;
+        Ok(shape.with_seats(self.workers)?.with_stripes(self.workers)?)
     }
 }
 
@@ -56,45 +53,34 @@ Example: printf '3\\n7\\n3\\n' | nb_tally --top 1
       2 3";
 
 /// The command line.
-fn command<'a>(alloc: Global) -> Result<Command<'a>, AllocError> {
-    let workers = WORKERS
-        .option(alloc, "N", "How many threads count; 1 to 8")
-        .default_value("4");
-    let top = TOP.option(
-        alloc,
-        "K",
-        "Print only the K most frequent numbers, the most frequent first; 1 to 4294967295",
-    );
-    let keys = KEYS
-        .option(
-            alloc,
-            "N",
-            "Make room for at least N different numbers; 1 to 268435456",
-        )
-        .default_value("524288");
-    command_named(
-        alloc,
-        "nb_tally",
-        "Counts how often each number occurs in standard input, like sort -n | uniq -c",
-    )
-    .after_help(MORE)
-    .arg(workers)?
-    .arg(top)?
-    .arg(keys)
-}
+pub(crate) const LINE: CommandLine = CommandLine {
+    name: "nb_tally",
+    about: "Counts how often each number occurs in standard input, like sort -n | uniq -c",
+    more: Some(MORE),
+    words: &[
+        Word {
+            form: Form::Number(WORKERS, "N"),
+            default: Some("4"),
+            help: "How many threads count; 1 to 8",
+        },
+        Word {
+            form: Form::Number(TOP, "K"),
+            default: None,
+            help: "Print only the K most frequent numbers, the most frequent first; 1 to 4294967295",
+        },
+        Word {
+            form: Form::Number(KEYS, "N"),
+            default: Some("524288"),
+            help: "Make room for at least N different numbers; 1 to 268435456",
+        },
+    ],
+};
 
-/// The options of clap's matches.
-fn options_of(alloc: Global, matches: &ArgMatches<'_>) -> Result<Options, WordsFault> {
-    let top = TOP.find(alloc, matches)?;
+/// The options that the command line gives.
+pub(crate) fn options_of(alloc: Global, given: &Given) -> Result<Options, WordsFault> {
     Ok(Options {
-        workers: WORKERS.find(alloc, matches)?.unwrap_or(1) as usize,
-        top: top.map(|top| top as usize),
-        keys: KEYS.find(alloc, matches)?.unwrap_or(1) as usize,
+        top: TOP.find(alloc, given)?,
+        workers: WORKERS.find(alloc, given)?.unwrap_or(1) as usize,
+        keys: KEYS.find(alloc, given)?.unwrap_or(1) as usize,
     })
-}
-
-/// The options that the words give, of which the first is the program's name.
-pub(crate) fn read_options(alloc: Global, words: &[String]) -> Result<Options, WordsFault> {
-    let matches = matches_of(alloc, command(alloc), words)?;
-    options_of(alloc, &matches)
 }

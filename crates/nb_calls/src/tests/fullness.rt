@@ -1,13 +1,10 @@
-//! Looks at how full a map is.
-use super::rows::Answer::Was;
-use super::rows::Call::Remove;
+//! Looks at how full a map is. More of them are in `c_tests/rows.c` of `nb_ffi`.
+use super::rows::Answer::{Nothing, Was};
+use super::rows::Call::{Put, Remove};
 use super::rows::*;
-use nb_core::Shape;
-use nb_map::{Handle, Occupancy, SAMPLE};
-use std::alloc::Global;
+use nb_map::{Handle, Occupancy};
 use std::process::Abort;
 use std::sync::Wait;
-use std::test::Fail;
 
 /// A first table of four slots, of which none is taken.
 const EMPTY: Occupancy = Occupancy {
@@ -25,54 +22,43 @@ const GROWN: Occupancy = Occupancy {
     taken: 5,
 };
 
-/// Sees that a look shows this, that so many percent are taken, and that no new map is due.
-fn is_so_full<R: Abort>(rt: &R, handle: &mut Handle, shown: Occupancy, percent: u64) {
+/// Makes these calls, which answer so, and sees that a look then shows this, and that so many
+/// percent are taken.
+fn fills<R: Wait + Abort>(
+    rt: &R,
+    handle: &mut Handle,
+    rows: &[Row],
+    shown: Occupancy,
+    percent: u64,
+) {
+    sees(rt, handle, rows);
     let looked = handle.occupancy();
-    assert_eq!(rt; looked, shown);
-    assert_eq!(rt; looked.percent(), percent);
-    assert!(rt; !looked.should_renew());
-}
-
-/// Four keys come to the first table, and one goes.
-fn fills_first<R: Wait + Abort>(rt: &R, handle: &mut Handle) {
-    is_so_full(rt, handle, EMPTY, 0);
-    puts(rt, handle, &FOUR);
-    sees(rt, handle, &[(0, Remove, Was(10))]);
-    is_so_full(rt, handle, Occupancy { taken: 4, ..EMPTY }, 100);
+    assert!(rt; looked == shown && looked.percent() == percent);
+    assert!(rt; looked.should_renew() == (percent == 75));
 }
 
 /// A removed key has its slot still. Once a map has grown, its next table is looked at, to which
 /// the removed key wasn't copied.
 #[test]
-fn tells_how_full(rt: HostRuntime) -> Result<(), Fail> {
-    let mut handle = alone(&rt, rt.alloc(), 2)?;
-    fills_first(&rt, &mut handle);
-    puts(&rt, &mut handle, &[(4, 14), (5, 15)]);
-    is_so_full(&rt, &mut handle, GROWN, 62);
-    puts(&rt, &mut handle, &[(6, 16)]);
-    assert!(rt; handle.occupancy().should_renew());
-    Ok(())
-}
-
-/// So many keys come to a large table, each by this step greater than the one before. The sample
-/// shows what part of the slots they have.
-fn samples<R: Wait + Abort>(rt: &R, alloc: Global, keys: u64, step: u64) -> Result<(), Fail> {
-    let mut handle = with_one(rt, alloc, Shape::large(&[14]))?;
-    for k in 0..keys {
-        puts(rt, &mut handle, &[(k.wrapping_mul(step), k)]);
-    }
-    let seen = handle.occupancy();
-    assert_eq!(rt; seen.looked as usize, SAMPLE);
-    assert_eq!(rt; u64::from(seen.taken).wrapping_mul(step), SAMPLE as u64);
-    assert!(rt; !seen.should_renew());
-    Ok(())
-}
-
-/// Of a large table a sample is looked at. It shows the part of the slots that keys have which are
-/// alike in their low bits.
-#[test]
-fn samples_a_large_table(rt: HostRuntime) -> Result<(), Fail> {
-    samples(&rt, rt.alloc(), 1 << 13, 2)?;
-    samples(&rt, rt.alloc(), 1 << 12, 4)?;
-    samples(&rt, rt.alloc(), 1 << 11, 8)
+fn tells_how_full(rt: HostRuntime) {
+    let mut handle = alone(&rt, rt.alloc(), 2);
+    fills(&rt, &mut handle, &[], EMPTY, 0);
+    let four = [
+        (0, Put(10), Nothing),
+        (1, Put(11), Nothing),
+        (2, Put(12), Nothing),
+        (3, Put(13), Nothing),
+        (0, Remove, Was(10)),
+    ];
+    fills(
+        &rt,
+        &mut handle,
+        &four,
+        Occupancy { taken: 4, ..EMPTY },
+        100,
+    );
+    let two = [(4, Put(14), Nothing), (5, Put(15), Nothing)];
+    fills(&rt, &mut handle, &two, GROWN, 62);
+    let last = [(6, Put(16), Nothing)];
+    fills(&rt, &mut handle, &last, Occupancy { taken: 6, ..GROWN }, 75);
 }

@@ -1,17 +1,17 @@
 //! Rows of calls with plain numbers and with what they answer, and looks at what they leave.
-ghost use Rattle.std.specs.Prelude.{◌≡◌, IfOk};
+ghost use Rattle.std.specs.Prelude.{◌≡◌};
 ghost use Rattle.nb_map.specs.Handles.{AreOfOneMap};
 
 use nb_core::{Change, Key, Num, Reply, Shape, ShapeFault, Want};
-use nb_map::{Ended, Handle, PutFault};
+use nb_map::{Ended, Full, Handle, PutFault};
 use std::alloc::Global;
 use std::process::Abort;
 use std::sync::Wait;
-use std::test::Fail;
+use std::thread;
+use std::thread::Threads;
 
 /// A call at a key, with plain numbers; `Estimate` and `Generation` are of the whole map. Those
-/// from `TryPut` on wait for nobody and have one try, but `Turn` has two, `AddWithNoTries` is given
-/// none, and `Max` and `Min` have as many as their second number says.
+/// from `TryPut` on wait for nobody. They have one try, or as many as their last number says.
 #[derive(Clone, Copy)]
 pub(super) enum Call {
     Get,
@@ -29,20 +29,24 @@ pub(super) enum Call {
     GetOrInsert(u64),
     TryPut(u64),
     TryPutIfAbsent(u64),
-    TryAdd(u64),
+    TryAdd(u64, u32),
     TryRemove,
     Exchange(Option<u64>, Option<u64>),
-    OneMore,
-    Turn,
-    AddWithNoTries(u64),
-    Match(Want, Change),
+    OneMore(u32),
     Max(u64, u32),
     Min(u64, u32),
+    PutAtAbsent(u64),
+    PutAtPresent(u64),
+    AddAtAny(u64),
+    RemoveEqual(u64),
+    PutAndAdd(u64),
 }
 
 /// What a call answers: what was there, whether it matched, or both; or why it is refused.
-#[derive(Clone, Copy, Debug, PartialEq, Eq)]
+#[derive(Clone, Copy, PartialEq, Eq)]
 pub(super) enum Answer {
+    /// Whatever a call answers that isn't refused.
+    Made,
     Nothing,
     Was(u64),
     Is(bool),
@@ -59,9 +63,6 @@ pub(super) const FULL: Answer = Answer::Refused(PutFault::Full);
 /// The answer of an add whose sum is past the greatest number.
 pub(super) const PAST: Answer = Answer::Refused(PutFault::ValueRange);
 
-/// The keys and numbers that fill a table of four slots.
-pub(super) const FOUR: [(u64, u64); 4] = [(0, 10), (1, 11), (2, 12), (3, 13)];
-
 /// The key, which is a small one.
 pub(super) fn key<R: Abort>(rt: &R, key: u64) -> Key {
     Key::new(key).expect(rt, "a key")
@@ -70,6 +71,11 @@ pub(super) fn key<R: Abort>(rt: &R, key: u64) -> Key {
 /// The number, which is in range.
 pub(super) fn number<R: Abort>(rt: &R, number: u64) -> Num {
     Num::new(number).expect(rt, "a number")
+}
+
+/// A key and its number.
+pub(super) fn entry<R: Abort>(rt: &R, k: u64, n: u64) -> (Key, Num) {
+    (key(rt, k), number(rt, n))
 }
 
 /// A number, or none.
@@ -99,15 +105,26 @@ where
     }
 }
 
+/// What is there now, or why it isn't put.
+fn there(answer: Result<Num, Full>) -> Answer {
+    match answer {
+        Ok(now) => Answer::Was(now.get()),
+        Err(_) => FULL,
+    }
+}
+
 /// A reply, or why a call is refused.
 fn replied(answer: Result<Reply, PutFault>) -> Answer {
     match answer {
-        Ok(reply) => Answer::Replied(reply.before.map(Num::get), reply.matched),
+        Ok(reply) => match reply.before {
+            Some(before) => Answer::Replied(Some(before.get()), reply.matched),
+            None => Answer::Replied(None, reply.matched),
+        },
         Err(fault) => Answer::Refused(fault),
     }
 }
 
-/// A number plus one, and 1 where there is none.
+/// A number plus one, or 1 where there is none. After the greatest number there is none.
 pub(super) fn one_more(number: Option<Num>) -> Option<Num> {
     match number {
         Some(number) => Num::new(number.get().saturating_add(1)).ok(),
@@ -115,15 +132,15 @@ pub(super) fn one_more(number: Option<Num>) -> Option<Num> {
     }
 }
 
-/// Puts the number at a key that has none, and takes out one that is there.
-fn turns(handle: &mut Handle, key: Key, number: Num) -> Answer
-    ensures { handle.new.map ≡ handle.old.map }
-{
-    let answer = handle.update(key, 2, move |was| match was {
-        Some(_) => None,
-        None => Some(number),
-    });
-    found(answer)
+/// What the write behind all others is asked.
+fn asked<R: Abort>(rt: &R, call: Call) -> (Want, Change) {
+    match call {
+        Call::PutAtAbsent(n) => (Want::Absent, Change::Put(number(rt, n))),
+        Call::PutAtPresent(n) => (Want::Present, Change::Put(number(rt, n))),
+        Call::AddAtAny(n) => (Want::Any, Change::Add(number(rt, n))),
+        Call::RemoveEqual(n) => (Want::Equal(number(rt, n)), Change::Remove),
+        _ => panic!(rt; "this is another call"),
+    }
 }
 
 /// Makes a call that compares what is there with numbers, or that wants something of it.
@@ -134,10 +151,12 @@ fn compares<R: Abort>(rt: &R, handle: &mut Handle, at: Key, call: Call) -> Answe
         Call::Exchange(old, new) => {
             replied(handle.compare_exchange(at, some(rt, old), some(rt, new), 1))
         }
-        Call::Match(want, change) => replied(handle.put_if_match(at, want, change, 1)),
         Call::Max(n, tries) => found(handle.fetch_max(at, number(rt, n), tries)),
         Call::Min(n, tries) => found(handle.fetch_min(at, number(rt, n), tries)),
-        _ => panic!(rt; "this is another call"),
+        _ => {
+            let (want, change) = asked(rt, call);
+            replied(handle.put_if_match(at, want, change, 1))
+        }
     }
 }
 
@@ -148,13 +167,24 @@ fn tries<R: Abort>(rt: &R, handle: &mut Handle, at: Key, call: Call) -> Answer
     match call {
         Call::TryPut(n) => found(handle.try_put(at, number(rt, n), 1)),
         Call::TryPutIfAbsent(n) => found(handle.try_put_if_absent(at, number(rt, n), 1)),
-        Call::TryAdd(n) => found(handle.try_add(at, number(rt, n), 1)),
-        Call::AddWithNoTries(n) => found(handle.try_add(at, number(rt, n), 0)),
+        Call::TryAdd(n, tries) => found(handle.try_add(at, number(rt, n), tries)),
         Call::TryRemove => found(handle.try_remove(at, 1)),
-        Call::OneMore => found(handle.update(at, 1, one_more)),
-        Call::Turn => turns(handle, at, number(rt, 1)),
+        Call::OneMore(tries) => found(handle.update(at, tries, one_more)),
         _ => compares(rt, handle, at, call),
     }
+}
+
+/// A write, and then an add of as much; each passes its refusal on.
+fn put_and_add<R: Wait + Abort>(
+    rt: &R,
+    handle: &mut Handle,
+    at: Key,
+    n: u64,
+) -> Result<Option<Num>, PutFault>
+    ensures { handle.new.map ≡ handle.old.map }
+{
+    handle.put(rt, at, number(rt, n))?;
+    Ok(handle.add(rt, at, number(rt, n))?)
 }
 
 /// Makes a call that writes.
@@ -171,7 +201,8 @@ fn writes<R: Wait + Abort>(rt: &R, handle: &mut Handle, at: Key, call: Call) -> 
         Call::Remove => was(handle.remove(rt, at)),
         Call::RemoveIf(n) => Answer::Is(handle.remove_if(rt, at, number(rt, n))),
         Call::Add(n) => found(handle.add(rt, at, number(rt, n))),
-        Call::GetOrInsert(n) => found(handle.get_or_insert(rt, at, number(rt, n)).map(Some)),
+        Call::GetOrInsert(n) => there(handle.get_or_insert(rt, at, number(rt, n))),
+        Call::PutAndAdd(n) => found(put_and_add(rt, handle, at, n)),
         _ => tries(rt, handle, at, call),
     }
 }
@@ -191,79 +222,80 @@ pub(super) fn makes<R: Wait + Abort>(rt: &R, handle: &mut Handle, k: u64, call: 
     }
 }
 
+/// Whether a call that answers so answers what was expected.
+fn fits(answer: Answer, expected: Answer) -> bool {
+    match (answer, expected) {
+        (Answer::Refused(_), Answer::Made) => false,
+        (_, Answer::Made) => true,
+        _ => answer == expected,
+    }
+}
+
 /// Makes these calls, which answer so.
 pub(super) fn sees<R: Wait + Abort>(rt: &R, handle: &mut Handle, rows: &[Row])
     ensures { handle.new.map ≡ handle.old.map }
 {
     for (k, made, answer) in rows {
-        assert_eq!(rt; makes(rt, handle, *k, *made), *answer, "key {k}");
+        assert!(rt; fits(makes(rt, handle, *k, *made), *answer), "key {k}");
     }
 }
 
-/// Makes these calls with the last of the handles, which answer so.
-pub(super) fn last_sees<R: Wait + Abort>(rt: &R, handles: &mut Vec<Handle>, rows: &[Row])
+/// Each handle makes these calls in a thread of its own, and they answer so.
+pub(super) fn all_see<R: Threads + Sync + Wait + Abort>(
+    rt: &R,
+    handles: &mut Vec<Handle>,
+    rows: &[Row],
+)
     requires { AreOfOneMap handles.old.items }
     ensures { AreOfOneMap handles.new.items }
 {
-    let Some(mut handle) = handles.pop() else {
-        panic!(rt; "there is a handle")
-    };
-    sees(rt, &mut handle, rows);
-    let Ok(()) = handles.push(handle) else {
-        panic!(rt; "the room that it had is there")
-    };
+    thread::for_each_mut(
+        rt,
+        handles.as_mut_slice(),
+        4,
+        &|_, handle: &mut Handle|
+            ensures { handle.exit.now.map ≡ handle.entry.now.map }
+        { sees(rt, handle, rows) },
+    );
 }
 
-/// Puts these numbers at their keys, none of which is there.
-pub(super) fn puts<R: Wait + Abort>(rt: &R, handle: &mut Handle, pairs: &[(u64, u64)])
-    ensures { handle.new.map ≡ handle.old.map }
+/// The shape, which is a good one.
+pub(super) fn good<R: Abort>(rt: &R, shape: Result<Shape, ShapeFault>) -> Shape {
+    let Ok(shape) = shape else {
+        panic!(rt; "a good shape")
+    };
+    shape
+}
+
+/// The handles of a new map of this shape.
+pub(super) fn opened<R: Abort>(
+    rt: &R,
+    alloc: Global,
+    shape: Result<Shape, ShapeFault>,
+) -> Vec<Handle>
+    ensures { AreOfOneMap result.items }
 {
-    for (k, n) in pairs {
-        assert_eq!(rt;
-            makes(rt, handle, *k, Call::Put(*n)),
-            Answer::Nothing,
-            "key {k}"
-        );
-    }
+    let Ok(handles) = Handle::open(alloc, good(rt, shape)) else {
+        panic!(rt; "memory")
+    };
+    handles
 }
 
-/// One of these handles.
-pub(super) fn one_of<R: Abort>(rt: &R, handles: Vec<Handle>) -> Handle {
-    let mut handles = handles;
+/// The handle of a map with one seat. Its first table has four slots, and each further one twice as
+/// many.
+pub(super) fn alone<R: Abort>(rt: &R, alloc: Global, tables: u32) -> Handle {
+    let mut handles = opened(rt, alloc, Shape::new(2, tables, 1, 1));
     let Some(handle) = handles.pop() else {
         panic!(rt; "there is a handle")
     };
     handle
 }
 
-/// The handles of a new map of this shape.
-pub(super) fn opened(alloc: Global, shape: Result<Shape, ShapeFault>) -> Result<Vec<Handle>, Fail>
-    ensures { IfOk result (λ handles. AreOfOneMap handles.items) }
-{
-    Ok(Handle::open(alloc, shape?)?)
-}
-
-/// The handle of a new map of this shape, which has one seat.
-pub(super) fn with_one<R: Abort>(
-    rt: &R,
-    alloc: Global,
-    shape: Result<Shape, ShapeFault>,
-) -> Result<Handle, Fail> {
-    Ok(one_of(rt, opened(alloc, shape)?))
-}
-
-/// The handle of a map with one seat. Its first table has four slots, and each further one twice as
-/// many.
-pub(super) fn alone<R: Abort>(rt: &R, alloc: Global, tables: u32) -> Result<Handle, Fail> {
-    with_one(rt, alloc, Shape::new(2, tables, 1, 1))
-}
-
-/// The two handles of a map with two seats.
-pub(super) fn two<R: Abort>(rt: &R, handles: Vec<Handle>) -> (Handle, Handle)
-    requires { AreOfOneMap handles.items }
+/// The two handles of a map with two seats. Its first table has four slots, and its second eight.
+pub(super) fn two<R: Abort>(rt: &R, alloc: Global) -> (Handle, Handle)
     ensures { result.0.map ≡ result.1.map }
 {
-    let mut handles = handles;
+    let mut handles = opened(rt, alloc, Shape::new(2, 2, 2, 2));
     let Some(b) = handles.pop() else {
         panic!(rt; "there is a handle")
     };
@@ -271,17 +303,6 @@ pub(super) fn two<R: Abort>(rt: &R, handles: Vec<Handle>) -> (Handle, Handle)
         panic!(rt; "there is another one")
     };
     (a, b)
-}
-
-/// The two handles of a new map of this shape, which has two seats.
-pub(super) fn with_two<R: Abort>(
-    rt: &R,
-    alloc: Global,
-    shape: Result<Shape, ShapeFault>,
-) -> Result<(Handle, Handle), Fail>
-    ensures { IfOk result (λ both. both.0.map ≡ both.1.map) }
-{
-    Ok(two(rt, opened(alloc, shape)?))
 }
 
 /// Ends the map, all of whose handles these are.
@@ -295,36 +316,31 @@ pub(super) fn ended<R: Wait + Abort>(rt: &R, handles: Vec<Handle>) -> Ended
 }
 
 /// Ends the map of this one handle.
-pub(super) fn ended_alone<R: Wait + Abort>(
-    rt: &R,
-    alloc: Global,
-    handle: Handle,
-) -> Result<Ended, Fail> {
+pub(super) fn ended_alone<R: Wait + Abort>(rt: &R, alloc: Global, handle: Handle) -> Ended {
     let mut handles = Vec::new(alloc);
-    handles.push(handle)?;
-    Ok(ended(rt, handles))
+    let Ok(()) = handles.push(handle) else {
+        panic!(rt; "memory")
+    };
+    ended(rt, handles)
 }
 
-/// Sees that these keys are left, each with its number.
-pub(super) fn has_just<R: Abort>(
-    rt: &R,
-    alloc: Global,
-    ended: &Ended,
-    pairs: &[(u64, u64)],
-) -> Result<(), Fail> {
-    assert_eq!(rt; ended.size(), pairs.len() as u64);
-    let entries = ended.entries(alloc)?;
-    assert_eq!(rt; entries.len(), pairs.len());
-    for (entry, (k, n)) in entries.iter().zip(pairs) {
-        assert_eq!(rt; *entry, (key(rt, *k), number(rt, *n)));
-        assert_eq!(rt; ended.get(entry.0), Some(entry.1));
+/// Sees that these are the entries, in whatever order.
+pub(super) fn are_just<R: Abort>(rt: &R, entries: &[(Key, Num)], pairs: &[(u64, u64)]) {
+    assert!(rt; entries.len() == pairs.len());
+    for (k, n) in entries {
+        assert!(rt; pairs.contains(&(k.get(), n.get())));
     }
-    Ok(())
 }
 
-/// Sees what is left at the key.
-pub(super) fn has_at<R: Abort>(rt: &R, ended: &Ended, k: u64, left: Answer) {
-    assert_eq!(rt; was(ended.get(key(rt, k))), left, "key {k}");
+/// Sees that these keys are left, each with its number, also where one request for memory is
+/// refused.
+pub(super) fn has_just<R: Abort>(rt: &R, alloc: Global, ended: &Ended, pairs: &[(u64, u64)]) {
+    assert!(rt; ended.size() == pairs.len() as u64);
+    let entries = match ended.entries(alloc) {
+        Ok(entries) => entries,
+        Err(_) => ended.entries(alloc).expect(rt, "memory"),
+    };
+    are_just(rt, entries.as_slice(), pairs);
 }
 
 /// Ends the map, all of whose handles these are. These keys are left, each with its number.
@@ -333,11 +349,10 @@ pub(super) fn all_leave<R: Wait + Abort>(
     alloc: Global,
     handles: Vec<Handle>,
     pairs: &[(u64, u64)],
-) -> Result<(), Fail>
+)
     requires { AreOfOneMap handles.items }
 {
-    let ended = ended(rt, handles);
-    has_just(rt, alloc, &ended, pairs)
+    has_just(rt, alloc, &ended(rt, handles), pairs);
 }
 
 /// Ends the map of this one handle. These keys are left, each with its number.
@@ -346,52 +361,19 @@ pub(super) fn one_leaves<R: Wait + Abort>(
     alloc: Global,
     handle: Handle,
     pairs: &[(u64, u64)],
-) -> Result<(), Fail> {
-    let ended = ended_alone(rt, alloc, handle)?;
-    has_just(rt, alloc, &ended, pairs)
+) {
+    has_just(rt, alloc, &ended_alone(rt, alloc, handle), pairs);
 }
 
-/// Puts these numbers at their keys in a new map, and makes calls, which answer so. Then these keys
-/// are left, each with its number.
+/// Makes calls in a new map, which answer so. Then these keys are left, each with its number.
 pub(super) fn plays<R: Wait + Abort>(
     rt: &R,
     alloc: Global,
     tables: u32,
-    pairs: &[(u64, u64)],
     rows: &[Row],
     left: &[(u64, u64)],
-) -> Result<(), Fail> {
-    let mut handle = alone(rt, alloc, tables)?;
-    puts(rt, &mut handle, pairs);
-    plays_on(rt, alloc, handle, rows, left)
-}
-
-/// Makes calls, which answer so, and ends the map of this one handle. Then these keys are left,
-/// each with its number.
-pub(super) fn plays_on<R: Wait + Abort>(
-    rt: &R,
-    alloc: Global,
-    handle: Handle,
-    rows: &[Row],
-    left: &[(u64, u64)],
-) -> Result<(), Fail> {
-    let mut handle = handle;
+) {
+    let mut handle = alone(rt, alloc, tables);
     sees(rt, &mut handle, rows);
-    one_leaves(rt, alloc, handle, left)
-}
-
-/// Ends the map of these two handles. These keys are left, each with its number.
-pub(super) fn two_leave<R: Wait + Abort>(
-    rt: &R,
-    alloc: Global,
-    a: Handle,
-    b: Handle,
-    pairs: &[(u64, u64)],
-) -> Result<(), Fail>
-    requires { a.map ≡ b.map }
-{
-    let mut handles = Vec::new(alloc);
-    handles.push(a)?;
-    handles.push(b)?;
-    all_leave(rt, alloc, handles, pairs)
+    one_leaves(rt, alloc, handle, left);
 }

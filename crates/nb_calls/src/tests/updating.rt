@@ -2,21 +2,17 @@
 ghost use Rattle.std.specs.Prelude.{◌≡◌, List, length};
 ghost use Rattle.nb_core.specs.declared.calls.Call.{Call};
 ghost use Rattle.nb_core.specs.declared.calls.Reply.{Reply};
-ghost use Rattle.nb_map.specs.Handles.{AreOfOneMap, IsSameMap};
+ghost use Rattle.nb_map.specs.Handles.{IsSameMap};
 ghost use Rattle.nb_map.specs.Logs.{HasLogged};
 
-use super::rows::Answer::Was;
+use super::rows::Answer::{Refused, Was};
 use super::rows::Call::Get;
-use super::rows::{
-    all_leave, alone, found, key, number, one_leaves, one_more, opened, sees, two_leave, with_two,
-};
-use nb_core::{Key, Num, Shape};
+use super::rows::{all_leave, alone, found, key, number, one_leaves, one_more, sees, two};
+use nb_core::{Key, Num};
 use nb_map::{Handle, PutFault};
+use std::alloc::Global;
 use std::process::Abort;
 use std::sync::Wait;
-use std::test::Fail;
-use std::thread;
-use std::thread::Threads;
 
 /// Adds 1 to the number of a key. Another handle does so too before each of the first exchanges, so
 /// many of them. Answers what was there, and how often the function was called.
@@ -41,56 +37,20 @@ fn update_beside(
 /// Another handle's updates come between the read and the exchange, and after the first exchange.
 /// Each is taken up, in one more call of the function.
 #[test]
-fn update_takes_up_what_came(rt: HostRuntime) -> Result<(), Fail> {
-    let (mut a, mut b) = with_two(&rt, rt.alloc(), Shape::new(2, 2, 2, 2))?;
+fn update_takes_up_what_came(rt: HostRuntime) {
+    let (mut a, mut b) = two(&rt, rt.alloc());
     let (before, calls) = update_beside(&mut a, &mut b, key(&rt, 5), 3, 2);
-    assert_eq!(rt; (found(before), calls), (Was(2), 3));
+    assert!(&rt; found(before) == Was(2) && calls == 3);
     sees(&rt, &mut a, &[(5, Get, Was(3))]);
-    Ok(())
 }
 
 /// As many exchanges as there are tries come too late, and none is made after them.
 #[test]
-fn update_is_contended(rt: HostRuntime) -> Result<(), Fail> {
-    let (mut a, mut b) = with_two(&rt, rt.alloc(), Shape::new(2, 2, 2, 2))?;
+fn update_is_contended(rt: HostRuntime) {
+    let (mut a, mut b) = two(&rt, rt.alloc());
     let (before, _) = update_beside(&mut a, &mut b, key(&rt, 5), 2, u64::MAX);
-    assert_eq!(rt; before, Err(PutFault::Contended));
+    assert!(&rt; found(before) == Refused(PutFault::Contended));
     sees(&rt, &mut a, &[(5, Get, Was(2))]);
-    Ok(())
-}
-
-/// Updates the key's number again and again. An update is contended only where others won as many
-/// exchanges on the key as it has tries, and they win fewer in all.
-fn updates_often<R: Abort>(rt: &R, handle: &mut Handle, at: Key)
-    ensures { IsSameMap handle.old handle.new }
-{
-    for _round in 0..2000 {
-        let before = handle.update(at, 8000, one_more);
-        assert!(rt; before.is_ok());
-    }
-}
-
-/// Each handle updates the key in a thread of its own.
-fn all_update<R: Threads + Sync + Abort>(rt: &R, handles: &mut [Handle], at: Key)
-    requires { AreOfOneMap handles.old }
-    ensures { AreOfOneMap handles.new }
-{
-    thread::for_each_mut(
-        rt,
-        handles,
-        4,
-        &|_thread: usize, handle: &mut Handle|
-            ensures { IsSameMap handle.entry.now handle.exit.now }
-        { updates_often(rt, handle, at) },
-    );
-}
-
-/// Four threads update one key: none of their updates is lost.
-#[test]
-fn updates_add_up(rt: HostRuntime) -> Result<(), Fail> {
-    let mut handles = opened(rt.alloc(), Shape::new(2, 2, 4, 1))?;
-    all_update(&rt, handles.as_mut_slice(), key(&rt, 5));
-    all_leave(&rt, rt.alloc(), handles, &[(5, 8000)])
 }
 
 /// Adds to the numbers of two keys.
@@ -101,15 +61,29 @@ fn add_to_both<R: Wait>(rt: &R, handle: &mut Handle, one: Key, other: Key, numbe
     let _ = handle.add(rt, other, number);
 }
 
+/// Ends the map of these two handles. These keys are left, each with its number.
+fn two_leave<R: Wait + Abort>(rt: &R, alloc: Global, a: Handle, b: Handle, pairs: &[(u64, u64)])
+    requires { a.map ≡ b.map }
+{
+    let mut handles = Vec::new(alloc);
+    let Ok(()) = handles.push(a) else {
+        panic!(rt; "memory")
+    };
+    let Ok(()) = handles.push(b) else {
+        panic!(rt; "memory")
+    };
+    all_leave(rt, alloc, handles, pairs);
+}
+
 /// Handles that a function has worked with meet, and end their map.
 #[test]
-fn functions_work_with_handles(rt: HostRuntime) -> Result<(), Fail> {
-    let (mut a, mut b) = with_two(&rt, rt.alloc(), Shape::new(2, 2, 2, 2))?;
+fn functions_work_with_handles(rt: HostRuntime) {
+    let (mut a, mut b) = two(&rt, rt.alloc());
     let shared = key(&rt, 2);
     add_to_both(&rt, &mut a, key(&rt, 1), shared, number(&rt, 10));
     add_to_both(&rt, &mut b, shared, key(&rt, 3), number(&rt, 20));
     a.meet(&mut b);
-    two_leave(&rt, rt.alloc(), a, b, &[(1, 10), (2, 30), (3, 20)])
+    two_leave(&rt, rt.alloc(), a, b, &[(1, 10), (2, 30), (3, 20)]);
 }
 
 /// Reads the key so often, and calls nothing else.
@@ -126,8 +100,8 @@ fn read_often(handle: &mut Handle, at: Key, times: u64)
 
 /// A function tells in its contract how many calls it has made in a loop.
 #[test]
-fn reads_that_a_contract_counts(rt: HostRuntime) -> Result<(), Fail> {
-    let mut handle = alone(&rt, rt.alloc(), 1)?;
+fn reads_that_a_contract_counts(rt: HostRuntime) {
+    let mut handle = alone(&rt, rt.alloc(), 1);
     read_often(&mut handle, key(&rt, 1), 3);
-    one_leaves(&rt, rt.alloc(), handle, &[])
+    one_leaves(&rt, rt.alloc(), handle, &[]);
 }

@@ -1,9 +1,9 @@
 //! A chain, by threads and with refused memory.
-ghost use Rattle.std.specs.Prelude.{◌≡◌, All, IfOk};
+ghost use Rattle.std.specs.Prelude.{All};
 ghost use Rattle.nb_table.specs.Chains.{AreOwn, IsOwn};
 
 use nb_core::{KEY_MAX, Key, NotAll, OutOfMemory, Shape};
-use nb_table::{Chain, ChainSeat};
+use nb_table::{Chain, ChainSeat, Closed};
 use std::alloc::Global;
 use std::process::Abort;
 use std::test::Fail;
@@ -45,24 +45,34 @@ fn look_and_meet<R: Threads + Sync>(
     (top_of_a, top_of_b, a, b)
 }
 
-/// Without its last seat a chain isn't closed, and comes back with the others.
-fn without_last<R: Abort>(
-    rt: &R,
-    chain: Chain,
-    seats: Vec<ChainSeat>,
-) -> Result<(Chain, Vec<ChainSeat>), OutOfMemory>
+/// What is left of a chain. Without its last seat it isn't closed, and comes back with the others.
+fn closed<R: Abort>(rt: &R, chain: Chain, seats: Vec<ChainSeat>) -> Result<Closed, OutOfMemory>
     requires { AreOwn chain seats.items }
-    ensures { IfOk result (λ back. (back.0 ≡ chain) × AreOwn chain back.1.items) }
 {
     let mut seats = seats;
     let Some(last) = seats.pop() else {
-        return Ok((chain, seats));
+        panic!(rt; "there is a seat")
     };
     let Err(NotAll { whole, mut seats }) = chain.close(seats) else {
         panic!(rt; "a seat is missing")
     };
     seats.push(last)?;
-    Ok((whole, seats))
+    let Ok(closed) = whole.close(seats) else {
+        panic!(rt; "all seats are there")
+    };
+    Ok(closed)
+}
+
+/// A chain that nobody wrote to has no keys.
+fn assert_empty<R: Abort>(rt: &R, alloc: Global, closed: &Closed) -> Result<(), OutOfMemory> {
+    let Ok(greatest) = Key::new(KEY_MAX) else {
+        panic!(rt; "a key")
+    };
+    for key in [Key::from(0_u32), Key::from(5_u32), greatest] {
+        assert!(rt; closed.get(key).is_none());
+    }
+    assert!(rt; closed.entries(alloc)?.is_empty());
+    Ok(())
 }
 
 /// The last two seats of a chain look at the top word at the same time, and meet.
@@ -84,7 +94,7 @@ fn meeting<R: Threads + Sync + Abort>(rt: &R, chain: Chain, seats: Vec<ChainSeat
 fn two_seats_meet(rt: HostRuntime) -> Result<(), Fail> {
     let shape = Shape::new(2, 1, 3, 1)?;
     let (chain, seats) = Chain::new(rt.alloc(), shape)?;
-    assert_eq!(rt; meeting(&rt, chain, seats), (0, 0));
+    assert!(rt; meeting(&rt, chain, seats) == (0, 0));
     Ok(())
 }
 
@@ -107,32 +117,17 @@ fn refused_memory(rt: HostRuntime) -> Result<(), Fail> {
     Ok(())
 }
 
-/// A chain that nobody wrote to has no keys, whether it has one table or more.
-#[test]
-fn fresh_chains_are_empty(rt: HostRuntime) -> Result<(), Fail> {
-    for generations in 1..4 {
-        let shape = Shape::new(3, generations, 2, 1)?;
-        let (chain, seats) = Chain::new(rt.alloc(), shape)?;
-        let Ok(closed) = chain.close(seats) else {
-            panic!(rt; "all seats are there")
-        };
-        for key in [0, 5, KEY_MAX] {
-            let key = Key::new(key).expect(&rt, "a key");
-            assert_eq!(rt; closed.get(key), None);
-        }
-        assert!(rt; closed.entries(rt.alloc())?.is_empty());
-    }
-    Ok(())
-}
-
+/// A chain closes with all its seats, whether it has one table or more. Fresh chains are empty:
+/// `fresh_chains_are_empty`.
 #[test]
 fn all_seats_close(rt: HostRuntime) -> Result<(), Fail> {
-    let shape = Shape::new(2, 3, 4, 1)?;
-    let (chain, seats) = Chain::new(rt.alloc(), shape)?;
-    assert_eq!(rt; chain.shape().generations(), 3);
-    let (chain, seats) = without_last(&rt, chain, seats)?;
-    assert_eq!(rt; seats.len(), 4);
-    assert!(rt; chain.close(seats).is_ok());
+    for (bits, generations, seats) in [(3, 1, 2), (3, 2, 2), (3, 3, 2), (2, 3, 4)] {
+        let shape = Shape::new(bits, generations, seats, 1)?;
+        let (chain, seats) = Chain::new(rt.alloc(), shape)?;
+        assert!(rt; chain.shape().generations() == generations);
+        let closed = closed(&rt, chain, seats)?;
+        assert_empty(&rt, rt.alloc(), &closed)?;
+    }
     Ok(())
 }
 
@@ -143,7 +138,8 @@ fn settled_seats_close(rt: HostRuntime) -> Result<(), Fail> {
     let (chain, mut seats) = Chain::new(rt.alloc(), shape)?;
     chain.settle(&mut seats);
     chain.settle(&mut seats);
-    assert_eq!(rt; seats.len(), 4);
-    assert!(rt; chain.close(seats).is_ok());
+    assert!(rt; seats.len() == 4);
+    let closed = closed(&rt, chain, seats)?;
+    assert_empty(&rt, rt.alloc(), &closed)?;
     Ok(())
 }

@@ -1,68 +1,82 @@
-//! Lines and their numbers, keys, and blocks of an input.
-
-use nb_core::{KEY_MAX, Key, OutOfMemory};
-use nb_lines::{
-    BLOCK, Block, Cause, Done, Fault, Input, Lines, NumberWord, Stop, WordsFault, key_of,
-    number_of, read_key, read_number,
-};
+//! Lines and their numbers, keys, and what two workers' blocks come to. `.ci/programs` has whole
+//! inputs of several blocks, reads that fail, and numbers of the command line.
+use nb_core::{KEY_MAX, Key, OutOfMemory, RangeFault};
+use nb_lines::{Block, Cause, Fault, Input, Lines, Stop, key_of, number_of, read_key};
 use std::alloc::Global;
-use std::io;
-use std::io::{ErrorKind, Read};
+use std::process::Abort;
 use std::test::Fail;
 
-#[test]
-fn lines_of_a_text(rt: HostRuntime) {
-    let texts: [(&[u8], usize); 5] = [
-        (b"", 0),
-        (b"\n", 1),
-        (b"7", 1),
-        (b"7\n8\n", 2),
-        (b"\n\n8", 3),
-    ];
-    for (text, count) in texts {
-        assert_eq!(rt; Lines::new(text).count(), count, "{text:?}");
+/// The lines of a text, each with a bar behind it.
+fn barred(alloc: Global, text: &[u8]) -> Result<Vec<u8>, OutOfMemory> {
+    let mut barred = Vec::new(alloc);
+    for line in Lines::new(text) {
+        barred.extend_from_slice(line)?;
+        barred.push(b'|')?;
     }
+    Ok(barred)
 }
 
-/// A carriage return belongs to the line's end just where a newline follows.
+/// A carriage return belongs to the line's end just where a newline follows: `ends_of_lines`.
 #[test]
-fn ends_of_lines(rt: HostRuntime) {
-    let text = b"7\r\n\r\n8\r\r\n\r9\n1\r";
-    let lines = [b"7".as_slice(), b"", b"8\r", b"\r9", b"1\r"];
-    assert!(rt; Lines::new(text).eq(lines));
-    assert!(rt; Lines::new(b"\r").eq([b"\r".as_slice()]));
+fn lines_of_a_text(rt: HostRuntime) -> Result<(), Fail> {
+    let rows: [(&[u8], &[u8]); 7] = [
+        (b"", b""),
+        (b"\n", b"|"),
+        (b"7", b"7|"),
+        (b"7\n8\n", b"7|8|"),
+        (b"\n\n8", b"||8|"),
+        (b"7\r\n\r\n8\r\r\n\r9\n1\r", b"7||8\r|\r9|1\r|"),
+        (b"\r", b"\r|"),
+    ];
+    for (text, lines) in rows {
+        assert!(rt; barred(rt.alloc(), text)?.as_slice() == lines, "{text:?}");
+    }
+    Ok(())
+}
+
+/// The number whose key a line writes.
+fn number_written(line: &[u8]) -> Result<u64, Cause> {
+    Ok(number_of(read_key(line)?))
 }
 
 #[test]
 fn keys_of_lines(rt: HostRuntime) {
-    assert_eq!(rt; read_key(b"007").map(|key| number_of(key)), Ok(7));
-    assert_eq!(rt;
-        read_key(b"18446744073709551613").map(|key| number_of(key)),
-        Ok(KEY_MAX)
-    );
-    for line in [b"18446744073709551614".as_slice(), b"18446744073709551616"] {
-        assert_eq!(rt; read_key(line), Err(Cause::TooLarge), "{line:?}");
-    }
-    for line in [
-        b"".as_slice(),
-        b"-1",
-        b" 1",
-        b"1\r",
-        b"99999999999999999999999x",
-    ] {
-        assert_eq!(rt; read_key(line), Err(Cause::NotANumber), "{line:?}");
+    let rows: [(&[u8], Result<u64, Cause>); 9] = [
+        (b"007", Ok(7)),
+        (b"18446744073709551613", Ok(KEY_MAX)),
+        (b"18446744073709551614", Err(Cause::TooLarge)),
+        (b"18446744073709551616", Err(Cause::TooLarge)),
+        (b"", Err(Cause::NotANumber)),
+        (b"-1", Err(Cause::NotANumber)),
+        (b" 1", Err(Cause::NotANumber)),
+        (b"1\r", Err(Cause::NotANumber)),
+        (b"99999999999999999999999x", Err(Cause::NotANumber)),
+    ];
+    for (line, due) in rows {
+        assert!(rt; number_written(line) == due, "{line:?}");
     }
 }
 
-/// Two of these numbers are mixed to what is no key, and again.
+/// The number of a number's key.
+fn and_back(number: u64) -> Result<u64, RangeFault> {
+    Ok(number_of(key_of(number)?))
+}
+
+/// The third and the fourth of these numbers are mixed to what is no key, and again.
 #[test]
 fn numbers_come_back(rt: HostRuntime) {
-    let (once, twice) = (1_504_646_209_777_642_070, 5_863_696_168_926_310_861);
-    for number in [0, 1, 4096, once, twice, KEY_MAX] {
-        assert_eq!(rt; key_of(number).map(|key| number_of(key)), Ok(number));
+    for number in [
+        0,
+        1,
+        1504646209777642070,
+        5863696168926310861,
+        4096,
+        KEY_MAX,
+    ] {
+        assert!(rt; and_back(number) == Ok(number), "{number}");
     }
     assert!(rt; key_of(KEY_MAX + 1).is_err());
-    assert_ne!(rt; key_of(4096).map(Key::get), Ok(4096));
+    assert!(rt; key_of(4096) != Key::new(4096));
 }
 
 /// The numbers from 0 on, one a line: more than two blocks.
@@ -74,220 +88,75 @@ fn ascending(alloc: Global) -> Result<String, OutOfMemory> {
     Ok(text)
 }
 
-/// Reads all blocks, and sees that the numbers ascend. From the line on that isn't the next number
-/// a worker stops.
-fn read_all<R: Read + Drop>(alloc: Global, input: &mut Input<R>) -> Result<(), Stop> {
-    let mut block = Block::new(alloc)?;
-    let mut next = 0u64;
-    for _ in 0..u64::MAX {
-        if !input.refill(&mut block)? {
-            break;
-        }
-        let mut lines = 0u64;
-        for line in block.lines() {
-            if read_number(line) != Ok(next) {
-                return Err(block.stop_at(lines, Cause::NotANumber));
-            }
-            lines = lines.wrapping_add(1);
-            next = next.wrapping_add(1);
-        }
-        block.set_line_count(lines);
-    }
-    Ok(())
-}
-
-/// How many lines there are, or the fault.
-fn finished<R: Read + Drop>(alloc: Global, reader: R) -> Result<u64, Fault> {
-    let mut input = Input::new(alloc, reader);
-    if let Err(stop) = read_all(alloc, &mut input) {
-        input.stop(stop);
-    }
-    input.finish()
-}
-
-/// Gives one byte at a time, and then an error.
-#[derive(Drop)]
-struct Failing<'a> {
-    bytes: &'a [u8],
-}
-
-impl Read for Failing<'_> {
-    fn read(&mut self, buf: &mut [u8]) -> io::Result<usize> {
-        let Some((first, rest)) = self.bytes.split_first() else {
-            return Err(io::Error::from(ErrorKind::Other));
-        };
-        let Some(slot) = buf.first_mut() else {
-            return Ok(0);
-        };
-        *slot = *first;
-        self.bytes = rest;
-        Ok(1)
+/// The line that has no number, or 0 where there is no room.
+fn line_of(ended: Result<u64, Fault>) -> Option<u64> {
+    match ended {
+        Err(Fault::Line(line, Cause::NotANumber)) => Some(line),
+        Err(Fault::Full) => Some(0),
+        _ => None,
     }
 }
 
+/// What two workers' faults come to, the second one's told first where they are turned: the first
+/// stops in the first block, by the cause, and the second at the first line of the second block.
+fn line_at_fault(
+    alloc: Global,
+    text: &[u8],
+    turned: bool,
+    full: bool,
+) -> Result<Option<u64>, Stop> {
+    let mut input = Input::new(alloc, text);
+    let (mut a, mut b) = (Block::new(alloc)?, Block::new(alloc)?);
+    input.refill(&mut a)?;
+    input.refill(&mut b)?;
+    let of_a = if full {
+        Stop::Full
+    } else {
+        a.stop_at(6, Cause::NotANumber)
+    };
+    let of_b = b.stop_at(0, Cause::TooLarge);
+    input.stop(if turned { of_b } else { of_a });
+    input.stop(if turned { of_a } else { of_b });
+    Ok(line_of(input.finish()))
+}
+
+/// Of two workers' faults the earlier line's counts, whichever is told first. That there is no room
+/// counts before a line: `no_room_counts_before_a_line`.
 #[test]
-fn blocks_have_all_lines(rt: HostRuntime) -> Result<(), Fail> {
+fn the_first_fault_counts(rt: HostRuntime) -> Result<(), Fail> {
     let text = ascending(rt.alloc())?;
-    assert!(rt; text.len() > 2 * BLOCK);
-    assert_eq!(rt; finished(rt.alloc(), text.as_bytes())?, 100_000);
-    assert_eq!(rt; finished(rt.alloc(), b"0\n1\n2".as_slice())?, 3);
-    assert_eq!(rt; finished(rt.alloc(), b"".as_slice())?, 0);
+    for turned in [false, true] {
+        let lines = line_at_fault(rt.alloc(), text.as_bytes(), turned, false);
+        assert!(rt; lines == Ok(Some(7)));
+        let full = line_at_fault(rt.alloc(), text.as_bytes(), turned, true);
+        assert!(rt; full == Ok(Some(0)));
+    }
     Ok(())
 }
 
-#[test]
-fn a_fault_tells_its_line(rt: HostRuntime) -> Result<(), Fail> {
-    let mut text = ascending(rt.alloc())?;
-    text.push_str("x\n")?;
-    let fault = finished(rt.alloc(), text.as_bytes());
-    assert!(rt; matches!(&fault, Err(Fault::Line(100_001, Cause::NotANumber))));
-    let long = vec![in rt.alloc(); b'7'; BLOCK]?;
-    let fault = finished(rt.alloc(), long.as_slice());
-    assert!(rt; matches!(&fault, Err(Fault::Line(1, Cause::TooLong))));
-    Ok(())
+/// Two blocks are read by one worker, and the next by one who comes late. The first stops at the
+/// third line of its second block. This tells how many lines its first block has, and the line that
+/// the fault tells.
+fn late_fault(rt: &impl Abort, alloc: Global, text: &[u8]) -> Result<(u64, Option<u64>), Stop> {
+    let mut input = Input::new(alloc, text);
+    let (mut a, mut b) = (Block::new(alloc)?, Block::new(alloc)?);
+    input.refill(&mut a)?;
+    let lines = a.lines().count() as u64;
+    a.set_line_count(lines);
+    input.refill(&mut a)?;
+    assert!(rt; a.done().lines == lines && a.done().bytes > lines);
+    input.refill(&mut b)?;
+    input.stop(a.stop_at(2, Cause::NotANumber));
+    Ok((lines, line_of(input.finish())))
 }
 
 /// A worker that comes late, with a new block, changes nothing of what is known of the others'.
 #[test]
 fn a_late_worker_forgets_no_lines(rt: HostRuntime) -> Result<(), Fail> {
     let text = ascending(rt.alloc())?;
-    let mut input = Input::new(rt.alloc(), text.as_bytes());
-    let (mut a, mut b) = (Block::new(rt.alloc())?, Block::new(rt.alloc())?);
-    assert_eq!(rt; input.refill(&mut a)?, true);
-    let lines = a.lines().count() as u64;
-    a.set_line_count(lines);
-    assert_eq!(rt; input.refill(&mut a)?, true);
-    assert_eq!(rt; a.done().lines, lines);
-    assert!(rt; a.done().bytes > lines);
-    assert_eq!(rt; input.refill(&mut b)?, true);
-    input.stop(a.stop_at(2, Cause::NotANumber));
-    let fault = input.finish();
-    assert!(rt; matches!(&fault, Err(Fault::Line(line, Cause::NotANumber)) if *line == lines + 3));
-    Ok(())
-}
-
-/// Of two workers' faults the earlier line's counts, whichever is told first.
-#[test]
-fn the_first_fault_counts(rt: HostRuntime) -> Result<(), Fail> {
-    let text = ascending(rt.alloc())?;
-    for earlier_first in [true, false] {
-        let mut input = Input::new(rt.alloc(), text.as_bytes());
-        let (mut a, mut b) = (Block::new(rt.alloc())?, Block::new(rt.alloc())?);
-        assert!(rt; input.refill(&mut a) == Ok(true) && input.refill(&mut b) == Ok(true));
-        let (earlier, later) = (
-            a.stop_at(6, Cause::NotANumber),
-            b.stop_at(0, Cause::TooLarge),
-        );
-        let (first, second) = if earlier_first {
-            (earlier, later)
-        } else {
-            (later, earlier)
-        };
-        input.stop(first);
-        input.stop(second);
-        let fault = input.finish();
-        assert!(rt; matches!(&fault, Err(Fault::Line(7, Cause::NotANumber))));
-    }
-    Ok(())
-}
-
-#[test]
-fn no_room_counts_before_a_line(rt: HostRuntime) -> Result<(), Fail> {
-    let text = ascending(rt.alloc())?;
-    for room_first in [true, false] {
-        let mut input = Input::new(rt.alloc(), text.as_bytes());
-        let (mut a, mut b) = (Block::new(rt.alloc())?, Block::new(rt.alloc())?);
-        assert!(rt; input.refill(&mut a) == Ok(true) && input.refill(&mut b) == Ok(true));
-        let line = b.stop_at(0, Cause::TooLarge);
-        let (first, second) = if room_first {
-            (Stop::Full, line)
-        } else {
-            (line, Stop::Full)
-        };
-        input.stop(first);
-        input.stop(second);
-        let fault = input.finish();
-        assert!(rt; matches!(&fault, Err(Fault::Full)));
-    }
-    Ok(())
-}
-
-#[test]
-fn a_read_fails(rt: HostRuntime) {
-    let reader = Failing {
-        bytes: b"0\n1\n2\n",
+    let Ok((lines, line)) = late_fault(&rt, rt.alloc(), text.as_bytes()) else {
+        panic!(rt; "there are three blocks")
     };
-    let fault = finished(rt.alloc(), reader);
-    assert!(rt; matches!(&fault, Err(Fault::Read)));
-}
-
-/// What is said of a word that is to give a number from 1 to 300.
-fn said_of(alloc: Global, word: &str) -> Result<String, WordsFault> {
-    let top = NumberWord {
-        name: "--top",
-        low: 1,
-        high: 300,
-    };
-    match top.read(alloc, word) {
-        Ok(number) => Ok(format!(in alloc; "{number}")?),
-        Err(fault) => Ok(fault.to_string(alloc)?),
-    }
-}
-
-#[test]
-fn numbers_of_words(rt: HostRuntime) -> Result<(), Fail> {
-    for (word, said) in [
-        ("1", "1"),
-        ("0300", "300"),
-        ("0", "--top 0: not from 1 to 300; --help tells more"),
-        ("301", "--top 301: not from 1 to 300; --help tells more"),
-        ("x", "--top x: not from 1 to 300; --help tells more"),
-        ("", "--top : not from 1 to 300; --help tells more"),
-        (
-            "99999999999999999999999",
-            "--top 99999999999999999999999: not from 1 to 300; --help tells more",
-        ),
-    ] {
-        assert_eq!(rt; said_of(rt.alloc(), word)?.as_str(), said);
-    }
-    Ok(())
-}
-
-#[test]
-fn fault_texts(rt: HostRuntime) -> Result<(), Fail> {
-    for (cause, text) in [
-        (Cause::NotANumber, "not a number"),
-        (Cause::TooLarge, "number too large"),
-        (Cause::TooLong, "line too long"),
-        (Cause::NoRequest, "neither get nor put"),
-        (Cause::GetAlone, "get without a key"),
-        (Cause::PutAlone, "put without a key"),
-    ] {
-        assert_eq!(rt; cause.to_string(rt.alloc())?.as_str(), text);
-    }
-    let help = String::from_str(rt.alloc(), "a help\n")?;
-    let wrong = String::from_str(rt.alloc(), "--top 0: not from 1 to 9")?;
-    for (fault, text) in [
-        (Fault::Words(WordsFault::Answered(help)), "a help\n"),
-        (
-            Fault::Words(WordsFault::Wrong(wrong)),
-            "--top 0: not from 1 to 9; --help tells more",
-        ),
-        (
-            Fault::Words(WordsFault::NoText),
-            "a word isn't text; --help tells more",
-        ),
-        (Fault::Words(WordsFault::OutOfMemory), "out of memory"),
-        (Fault::Usage, "bad usage; --help tells more"),
-        (Fault::Read, "read failed"),
-        (Fault::Write, "write failed"),
-        (Fault::Line(12, Cause::TooLong), "line 12: line too long"),
-        (Fault::Full, "more different numbers than there is room for"),
-        (Fault::TooOften, "a number comes too often"),
-        (Fault::Unshown, "a value isn't shown"),
-        (Fault::OutOfMemory, "out of memory"),
-    ] {
-        assert_eq!(rt; fault.to_string(rt.alloc())?.as_str(), text);
-    }
+    assert!(rt; line == Some(lines.wrapping_add(3)));
     Ok(())
 }

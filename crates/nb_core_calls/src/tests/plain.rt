@@ -1,159 +1,114 @@
 //! The plain map.
-use nb_core::{Change, Key, Num, PlainFault, PlainMap, RangeFault, Reply, Want};
+use nb_core::{Change, Key, Num, OutOfMemory, PlainFault, PlainMap, Reply, Want};
+use std::alloc::Global;
 use std::process::Abort;
 use std::test::Fail;
 
-fn pair(key: u64, number: u64) -> Result<(Key, Num), RangeFault> {
-    Ok((Key::new(key)?, Num::new(number)?))
+fn replied(before: Option<Num>, matched: bool) -> Result<Reply, PlainFault> {
+    Ok(Reply { before, matched })
+}
+
+/// The map has these entries, ascending, and no others.
+fn assert_entries(
+    rt: &impl Abort,
+    alloc: Global,
+    map: &PlainMap,
+    entries: &[(Key, Num)],
+) -> Result<(), OutOfMemory> {
+    assert!(rt; map.len() == entries.len());
+    assert!(rt; map.entries(alloc)?.as_slice() == entries);
+    for (key, number) in entries {
+        assert!(rt; map.get(*key) == Some(*number));
+    }
+    Ok(())
 }
 
 #[test]
 fn plain_map(rt: HostRuntime) -> Result<(), Fail> {
     let mut map = PlainMap::new(rt.alloc());
-    let (one, five) = pair(1, 5)?;
-    assert_eq!(rt;
-        map.apply(one, Want::Any, Change::Put(five)),
-        Ok(Reply {
-            before: None,
-            matched: true
-        })
-    );
-    assert_eq!(rt;
-        map.apply(one, Want::Equal(Num::new(6)?), Change::Remove),
-        Ok(Reply {
-            before: Some(five),
-            matched: false
-        })
-    );
-    assert_eq!(rt; map.get(one), Some(five));
-    assert_eq!(rt; map.len(), 1);
-    assert_eq!(rt;
-        map.entries(rt.alloc())?.as_slice(),
-        [(one, five)].as_slice()
-    );
+    let (one, five, six) = (Key::from(1_u32), Num::from(5_u32), Num::from(6_u32));
+    for (row, want, change, before, matched) in [
+        (1, Want::Any, Change::Put(five), None, true),
+        (2, Want::Equal(six), Change::Remove, Some(five), false),
+    ] {
+        let reply = map.apply(one, want, change);
+        assert!(rt; reply == replied(before, matched), "row {row}");
+    }
+    assert_entries(&rt, rt.alloc(), &map, &[(one, five)])?;
     Ok(())
 }
 
 #[test]
-fn conditional_calls(rt: HostRuntime) -> Result<(), Fail> {
+fn conditional_calls(rt: HostRuntime) {
     let mut map = PlainMap::new(rt.alloc());
-    let key = Key::new(5)?;
-    let (one, two, three, four) = (Num::new(1)?, Num::new(2)?, Num::new(3)?, Num::new(4)?);
-    for (want, change, before, matched) in [
-        (Want::Present, Change::Put(one), None, false),
-        (Want::Equal(one), Change::Put(two), None, false),
-        (Want::Absent, Change::Put(one), None, true),
-        (Want::Absent, Change::Put(two), Some(one), false),
-        (Want::Present, Change::Put(three), Some(one), true),
-        (Want::Equal(one), Change::Put(four), Some(three), false),
-        (Want::Equal(three), Change::Put(four), Some(three), true),
-        (Want::Equal(three), Change::Remove, Some(four), false),
-        (Want::Equal(four), Change::Remove, Some(four), true),
-        (Want::Equal(four), Change::Remove, None, false),
-        (Want::Any, Change::Remove, None, true),
+    let key = Key::from(5_u32);
+    let (one, two) = (Num::from(1_u32), Num::from(2_u32));
+    let (three, four) = (Num::from(3_u32), Num::from(4_u32));
+    for (row, want, change, before, matched) in [
+        (1, Want::Present, Change::Put(one), None, false),
+        (2, Want::Equal(one), Change::Put(two), None, false),
+        (3, Want::Absent, Change::Put(one), None, true),
+        (4, Want::Absent, Change::Put(two), Some(one), false),
+        (5, Want::Present, Change::Put(three), Some(one), true),
+        (6, Want::Equal(one), Change::Put(four), Some(three), false),
+        (7, Want::Equal(three), Change::Put(four), Some(three), true),
+        (8, Want::Equal(three), Change::Remove, Some(four), false),
+        (9, Want::Equal(four), Change::Remove, Some(four), true),
+        (10, Want::Equal(four), Change::Remove, None, false),
+        (11, Want::Any, Change::Remove, None, true),
     ] {
         let reply = map.apply(key, want, change);
-        assert_eq!(rt;
-            reply,
-            Ok(Reply { before, matched }),
-            "of {change:?} under {want:?}"
-        );
+        assert!(rt; reply == replied(before, matched), "row {row}");
     }
-    assert_eq!(rt; map.get(key), None);
-    Ok(())
+    assert!(rt; map.get(key).is_none());
 }
 
-fn assert_added(rt: &impl Abort, map: &mut PlainMap, key: Key, number: Num, before: Option<Num>) {
-    let reply = map.apply(key, Want::Any, Change::Add(number));
-    assert_eq!(rt;
-        reply,
-        Ok(Reply {
-            before,
-            matched: true
-        }),
-        "of {number:?}"
-    );
-}
-
+/// The fourth add would pass the greatest number. It is refused, and changes nothing.
 #[test]
 fn adds(rt: HostRuntime) -> Result<(), Fail> {
     let mut map = PlainMap::new(rt.alloc());
-    let (one, two) = (Key::new(1)?, Key::new(2)?);
-    let (zero, eleven) = (Num::new(0)?, Num::new(11)?);
+    let (one, two) = (Key::from(1_u32), Key::from(2_u32));
+    let (five, six, eleven) = (Num::from(5_u32), Num::from(6_u32), Num::from(11_u32));
+    let (zero, rest) = (Num::from(0_u32), Num::new(1152921504606846964)?);
     let greatest = Num::new(1152921504606846975)?;
-    assert_added(&rt, &mut map, one, Num::new(5)?, None);
-    assert_added(&rt, &mut map, one, Num::new(6)?, Some(Num::new(5)?));
-    assert_eq!(rt; map.get(one), Some(eleven));
-    assert_added(
-        &rt,
-        &mut map,
-        one,
-        Num::new(1152921504606846964)?,
-        Some(eleven),
-    );
-    assert_eq!(rt;
-        map.apply(one, Want::Any, Change::Add(Num::new(1)?)),
-        Err(PlainFault::ValueRange)
-    );
-    assert_eq!(rt; map.get(one), Some(greatest));
-    assert_added(&rt, &mut map, one, zero, Some(greatest));
-    assert_added(&rt, &mut map, two, zero, None);
-    let entries = map.entries(rt.alloc())?;
-    assert_eq!(rt;
-        entries.as_slice(),
-        [(one, greatest), (two, zero)].as_slice()
-    );
+    for (key, number, due) in [
+        (one, five, replied(None, true)),
+        (one, six, replied(Some(five), true)),
+        (one, rest, replied(Some(eleven), true)),
+        (one, Num::from(1_u32), Err(PlainFault::ValueRange)),
+        (one, zero, replied(Some(greatest), true)),
+        (two, zero, replied(None, true)),
+    ] {
+        assert!(rt;
+            map.apply(key, Want::Any, Change::Add(number)) == due,
+            "of {number:?}"
+        );
+    }
+    assert_entries(&rt, rt.alloc(), &map, &[(one, greatest), (two, zero)])?;
     Ok(())
 }
 
 #[test]
 fn entries_ascend(rt: HostRuntime) -> Result<(), Fail> {
     let mut map = PlainMap::new(rt.alloc());
-    let (seven, first) = pair(7, 1)?;
-    let (zero, second) = pair(0, 2)?;
-    let (greatest, third) = pair(18446744073709551613, 3)?;
-    let (three, fourth) = pair(3, 4)?;
-    for (key, number) in [
-        (seven, first),
-        (zero, second),
-        (greatest, third),
-        (three, fourth),
-    ] {
-        map.apply(key, Want::Any, Change::Put(number))?;
+    let first = (Key::from(0_u32), Num::from(2_u32));
+    let second = (Key::from(3_u32), Num::from(4_u32));
+    let third = (Key::from(7_u32), Num::from(1_u32));
+    let fourth = (Key::new(18446744073709551613)?, Num::from(3_u32));
+    for (key, number) in [third, first, fourth, second] {
+        assert!(rt; map.apply(key, Want::Any, Change::Put(number)).is_ok());
     }
-    assert_eq!(rt;
-        map.entries(rt.alloc())?.as_slice(),
-        [
-            (zero, second),
-            (three, fourth),
-            (seven, first),
-            (greatest, third)
-        ]
-        .as_slice()
-    );
-    Ok(())
-}
-
-#[test]
-fn fault_texts(rt: HostRuntime) -> Result<(), Fail> {
-    for (fault, text) in [
-        (PlainFault::OutOfMemory, "out of memory"),
-        (PlainFault::ValueRange, "value too large"),
-    ] {
-        assert_eq!(rt; fault.to_string(rt.alloc())?.as_str(), text);
-    }
+    assert_entries(&rt, rt.alloc(), &map, &[first, second, third, fourth])?;
     Ok(())
 }
 
 // The map has just the keys below `count`, each with itself as its number.
-fn assert_counts_to(rt: &impl Abort, map: &PlainMap, count: usize) -> Result<(), RangeFault> {
-    assert_eq!(rt; map.len(), count);
-    for word in 0..150 {
-        let (key, number) = pair(word, word)?;
-        let found = (word < count as u64).then_some(number);
-        assert_eq!(rt; map.get(key), found, "of {word}");
+fn assert_counts_to(rt: &impl Abort, map: &PlainMap, count: u32) {
+    assert!(rt; map.len() == count as usize);
+    for word in 0..150_u32 {
+        let found = (word < count).then_some(Num::from(word));
+        assert!(rt; map.get(Key::from(word)) == found, "of {word}");
     }
-    Ok(())
 }
 
 // A plain run refuses nothing. `rt try --test --fail-alloc N -- refused_memory` refuses the Nth
@@ -161,26 +116,20 @@ fn assert_counts_to(rt: &impl Abort, map: &PlainMap, count: usize) -> Result<(),
 #[test]
 fn refused_memory(rt: HostRuntime) -> Result<(), Fail> {
     let mut map = PlainMap::new(rt.alloc());
-    for count in 0..150 {
-        let (key, number) = pair(count as u64, count as u64)?;
+    for count in 0..150_u32 {
+        let (key, number) = (Key::from(count), Num::from(count));
         let mut reply = map.apply(key, Want::Any, Change::Put(number));
         if reply == Err(PlainFault::OutOfMemory) {
-            assert_counts_to(&rt, &map, count)?;
+            assert_counts_to(&rt, &map, count);
             reply = map.apply(key, Want::Any, Change::Put(number));
         }
-        assert_eq!(rt;
-            reply,
-            Ok(Reply {
-                before: None,
-                matched: true
-            })
-        );
+        assert!(rt; reply == replied(None, true));
     }
     let entries = match map.entries(rt.alloc()) {
         Ok(entries) => entries,
         Err(AllocError) => map.entries(rt.alloc())?,
     };
-    assert_counts_to(&rt, &map, 150)?;
-    assert_eq!(rt; entries.len(), 150);
+    assert_counts_to(&rt, &map, 150);
+    assert!(rt; entries.len() == 150);
     Ok(())
 }

@@ -1,172 +1,208 @@
 //! Shapes and their places.
+use super::wide::{made, told_of};
 use nb_core::{HeaderWord, MOST_KEYS, Shape, ShapeFault};
 use std::process::Abort;
 use std::test::Fail;
 
-fn assert_indices(rt: &impl Abort, shape: &Shape, bases: &[usize], words: usize) {
-    assert_eq!(rt; shape.generations() as usize, bases.len());
+/// Each table begins at its base.
+fn assert_bases(rt: &impl Abort, shape: &Shape, bases: &[usize]) {
+    assert!(rt; shape.generations() as usize == bases.len());
     for g in 0..shape.generations() {
-        assert_eq!(rt;
-            shape.header_word_place(g, HeaderWord::Next),
-            bases[g as usize],
-            "of table {g}"
-        );
+        let place = shape.header_word_place(g, HeaderWord::Next);
+        assert!(rt; place == bases[g as usize], "of table {g}");
     }
-    assert_eq!(rt; shape.words(), words);
 }
 
 #[test]
 fn plan_indices(rt: HostRuntime) -> Result<(), Fail> {
-    assert_indices(&rt, &Shape::with_plan(&[2, 2, 3], 1, 1)?, &[1, 12, 23], 42);
-    assert_eq!(rt; Shape::with_plan(&[2; 16], 1, 1)?.words(), 177);
-    assert_indices(&rt, &Shape::new(2, 1, 1, 1)?, &[1], 12);
-    assert_eq!(rt;
-        Shape::with_plan(&[12, 13, 14, 15, 16, 17, 18, 19], 8, 8),
-        Shape::new(12, 8, 8, 8)
-    );
-
-    let doubling = Shape::new(2, 3, 1, 1)?;
-    assert_indices(&rt, &doubling, &[1, 12, 31], 66);
-    assert_eq!(rt; doubling.size_of(1), 8);
-    for (h, word) in [HeaderWord::Next, HeaderWord::Take, HeaderWord::Done]
-        .iter()
-        .enumerate()
-    {
-        assert_eq!(rt; doubling.header_place(1, h), 12 + h);
-        assert_eq!(rt; doubling.header_word_place(1, *word), 12 + h);
+    let rows: [(&str, &[u32], &[usize], usize); 4] = [
+        ("plan_places", &[2, 2, 3], &[1, 12, 23], 42),
+        ("one table", &[2], &[1], 12),
+        ("doubling", &[2, 3, 4], &[1, 12, 31], 66),
+        ("sixteen tables", &[2; 16], &SIXTEEN, 177),
+    ];
+    for (name, exponents, bases, words) in rows {
+        let shape = Shape::with_plan(exponents, 1, 1)?;
+        assert!(rt; shape.words() == words, "{name}");
+        assert_bases(&rt, &shape, bases);
     }
-    assert_eq!(rt; doubling.key_place(1, 5), 25);
-    assert_eq!(rt; doubling.value_place(1, 5), 26);
+    Ok(())
+}
 
+/// Where sixteen tables of four slots begin: each has three words, and two for each slot.
+const SIXTEEN: [usize; 16] = [
+    1, 12, 23, 34, 45, 56, 67, 78, 89, 100, 111, 122, 133, 144, 155, 166,
+];
+
+#[test]
+fn doubling_shapes(rt: HostRuntime) -> Result<(), Fail> {
+    let rows: [(u32, u32, usize, &[u32]); 3] = [
+        (2, 1, 1, &[2]),
+        (2, 3, 1, &[2, 3, 4]),
+        (12, 8, 8, &[12, 13, 14, 15, 16, 17, 18, 19]),
+    ];
+    for (bits, generations, seats, exponents) in rows {
+        let doubling = Shape::new(bits, generations, seats, seats);
+        assert!(rt;
+            doubling == Shape::with_plan(exponents, seats, seats),
+            "from {bits} bits"
+        );
+    }
     let largest = Shape::new(12, 8, 8, 8)?;
-    assert_eq!(rt; largest.generations(), 8);
-    assert_eq!(rt; largest.header_word_place(0, HeaderWord::Next), 1);
-    assert_eq!(rt; largest.words(), 2088985);
-    assert_eq!(rt; (largest.seats(), largest.stripes()), (8, 8));
+    assert!(rt; (largest.generations(), largest.words()) == (8, 2_088_985));
+    assert!(rt; (largest.seats(), largest.stripes()) == (8, 8));
     Ok(())
 }
 
 #[test]
+fn places_in_a_table(rt: HostRuntime) -> Result<(), Fail> {
+    let doubling = Shape::new(2, 3, 1, 1)?;
+    assert!(rt; doubling.size_of(1) == 8);
+    for (h, word) in [HeaderWord::Next, HeaderWord::Take, HeaderWord::Done]
+        .iter()
+        .enumerate()
+    {
+        assert!(rt; doubling.header_place(1, h) == 12 + h);
+        assert!(rt; doubling.header_word_place(1, *word) == 12 + h);
+    }
+    assert!(rt; (doubling.key_place(1, 5), doubling.value_place(1, 5)) == (25, 26));
+    Ok(())
+}
+
+/// A table's limit is its size where it is the last one.
+#[test]
 fn limits(rt: HostRuntime) -> Result<(), Fail> {
-    let sizes = [4, 8, 16, 32];
-    let limits = [3, 4, 6, 10];
     let all = Shape::new(2, 5, 1, 1)?;
-    assert_eq!(rt; all.generations(), 5);
-    for g in 0..4 {
-        assert_eq!(rt; all.size_of(g), sizes[g as usize]);
-        assert_eq!(rt; all.limit_of(g), limits[g as usize]);
-        let ending = Shape::new(2, g + 1, 1, 1)?;
-        assert_eq!(rt; ending.generations(), g + 1);
-        assert_eq!(rt; ending.limit_of(g), sizes[g as usize]);
+    assert!(rt; all.generations() == 5);
+    for (g, tables, size, limit, chunk, chunks) in [
+        (0, 1, 4, 3, 4, 1),
+        (1, 2, 8, 4, 8, 1),
+        (2, 3, 16, 6, 8, 2),
+        (3, 4, 32, 10, 8, 4),
+    ] {
+        let ending = Shape::new(2, tables, 1, 1)?;
+        assert!(rt;
+            told_of(&all, g) == Some((size, limit, chunk, chunks)),
+            "table {g}"
+        );
+        assert!(rt;
+            told_of(&ending, g) == Some((size, size, chunk, chunks)),
+            "table {g}"
+        );
+        assert!(rt; told_of(&ending, tables).is_none(), "past table {g}");
     }
     Ok(())
 }
 
 #[test]
 fn plan_refusals(rt: HostRuntime) {
-    assert_eq!(rt; Shape::with_plan(&[], 1, 1), Err(ShapeFault::Generations));
-    assert_eq!(rt;
-        Shape::with_plan(&[2; 17], 1, 1),
-        Err(ShapeFault::Generations)
-    );
-    assert_eq!(rt; Shape::with_plan(&[1], 1, 1), Err(ShapeFault::Bits));
-    assert_eq!(rt; Shape::with_plan(&[2, 20], 1, 1), Err(ShapeFault::Bits));
-    assert_eq!(rt; Shape::with_plan(&[3, 1], 1, 1), Err(ShapeFault::Bits));
-    assert_eq!(rt; Shape::with_plan(&[3, 2], 1, 1), Err(ShapeFault::Plan));
-    assert_eq!(rt; Shape::with_plan(&[2, 2], 0, 0), Err(ShapeFault::Seats));
-    assert_eq!(rt; Shape::with_plan(&[2, 2], 1, 0), Err(ShapeFault::Stripes));
+    let rows: [(&[u32], usize, usize, ShapeFault); 8] = [
+        (&[], 1, 1, ShapeFault::Generations),
+        (&[2; 17], 1, 1, ShapeFault::Generations),
+        (&[1], 1, 1, ShapeFault::Bits),
+        (&[2, 20], 1, 1, ShapeFault::Bits),
+        (&[3, 1], 1, 1, ShapeFault::Bits),
+        (&[3, 2], 1, 1, ShapeFault::Plan),
+        (&[2, 2], 0, 0, ShapeFault::Seats),
+        (&[2, 2], 1, 0, ShapeFault::Stripes),
+    ];
+    for (exponents, seats, stripes, fault) in rows {
+        let refused = Shape::with_plan(exponents, seats, stripes);
+        assert!(rt; refused == Err(fault), "{exponents:?}");
+    }
 }
 
 #[test]
 fn shape_refusals(rt: HostRuntime) {
-    assert_eq!(rt; Shape::new(1, 1, 1, 1), Err(ShapeFault::Bits));
-    assert_eq!(rt; Shape::new(13, 0, 0, 0), Err(ShapeFault::Bits));
-    assert_eq!(rt; Shape::new(2, 0, 1, 1), Err(ShapeFault::Generations));
-    assert_eq!(rt; Shape::new(2, 9, 1, 1), Err(ShapeFault::Generations));
-    assert_eq!(rt; Shape::new(2, 1, 0, 1), Err(ShapeFault::Seats));
-    assert_eq!(rt; Shape::new(2, 1, 9, 0), Err(ShapeFault::Seats));
-    assert_eq!(rt; Shape::new(2, 1, 1, 9), Err(ShapeFault::Stripes));
-    assert!(rt; Shape::new(12, 8, 8, 8).is_ok());
+    for (bits, generations, seats, stripes, fault) in [
+        (1, 1, 1, 1, ShapeFault::Bits),
+        (13, 0, 0, 0, ShapeFault::Bits),
+        (2, 0, 1, 1, ShapeFault::Generations),
+        (2, 9, 1, 1, ShapeFault::Generations),
+        (2, 1, 0, 1, ShapeFault::Seats),
+        (2, 1, 9, 0, ShapeFault::Seats),
+        (2, 1, 1, 9, ShapeFault::Stripes),
+    ] {
+        let refused = Shape::new(bits, generations, seats, stripes);
+        assert!(rt;
+            refused == Err(fault),
+            "{bits} bits, {generations} tables, {seats} seats"
+        );
+    }
 }
 
+/// Tables as they are, and as they are tuned: each with its size, limit, chunk and chunks.
 #[test]
 fn tuned_plans(rt: HostRuntime) -> Result<(), Fail> {
     let plain = Shape::with_plan(&[2, 4, 6, 8, 10], 1, 1)?;
-    let tuned = plain.with_reprobe_limit(5)?.with_chunk(64)?;
-    let limits = [(3, 3), (6, 5), (18, 5), (66, 5), (1024, 1024)];
-    let chunks = [(4, 4), (8, 16), (8, 64), (8, 64), (8, 64)];
-    for g in 0..5 {
-        let at = g as usize;
-        assert_eq!(rt; (plain.limit_of(g), tuned.limit_of(g)), limits[at]);
-        assert_eq!(rt; (plain.chunk_of(g), tuned.chunk_of(g)), chunks[at]);
-        assert_eq!(rt; tuned.chunks_of(g), tuned.size_of(g) / tuned.chunk_of(g));
+    let tuned = made(&[2, 4, 6, 8, 10], 1, 1, 5, 64)?;
+    for (g, of_plain, of_tuned) in [
+        (0, (4, 3, 4, 1), (4, 3, 4, 1)),
+        (1, (16, 6, 8, 2), (16, 5, 16, 1)),
+        (2, (64, 18, 8, 8), (64, 5, 64, 1)),
+        (3, (256, 66, 8, 32), (256, 5, 64, 4)),
+        (4, (1024, 1024, 8, 128), (1024, 1024, 64, 16)),
+    ] {
+        assert!(rt; told_of(&plain, g) == Some(of_plain), "table {g}");
+        assert!(rt; told_of(&tuned, g) == Some(of_tuned), "table {g}");
     }
-    assert_eq!(rt; (tuned.words(), tuned.seats()), (plain.words(), 1));
-    assert_eq!(rt;
-        plain.with_reprobe_limit(u32::MAX)?.with_chunk(8),
-        Ok(plain)
-    );
-    assert_eq!(rt; plain.with_reprobe_limit(1)?.limit_of(2), 1);
+    assert!(rt; (tuned.words(), tuned.seats()) == (plain.words(), 1));
+    Ok(())
+}
+
+#[test]
+fn shortest_limit(rt: HostRuntime) -> Result<(), Fail> {
+    let short = made(&[2, 4, 6, 8, 10], 1, 1, 1, 8)?;
+    assert!(rt; told_of(&short, 2) == Some((64, 1, 8, 8)));
     Ok(())
 }
 
 #[test]
 fn tuning_refusals(rt: HostRuntime) -> Result<(), Fail> {
     let plain = Shape::new(2, 2, 1, 1)?;
-    assert_eq!(rt; plain.with_reprobe_limit(0), Err(ShapeFault::Reprobes));
+    let refused = Some(ShapeFault::Chunk);
     for slots in [0, 1, 2, 3, 5, 6, 12, 1023, 1025, 2048, u32::MAX] {
-        assert_eq!(rt; plain.with_chunk(slots), Err(ShapeFault::Chunk));
+        assert!(rt; plain.with_chunk(slots).err() == refused, "{slots}");
     }
-    for slots in [4, 8, 16, 32, 64, 128, 256, 512, 1024] {
-        assert!(rt; plain.with_chunk(slots).is_ok());
-    }
+    assert!(rt; plain.with_reprobe_limit(0).err() == Some(ShapeFault::Reprobes));
     Ok(())
 }
 
-fn tuned(exponents: &[u32], seats: usize) -> Result<Shape, ShapeFault> {
-    Shape::with_plan(exponents, seats, seats)?
-        .with_reprobe_limit(18)?
-        .with_chunk(64)
+#[test]
+fn chunks(rt: HostRuntime) -> Result<(), Fail> {
+    let plain = Shape::new(2, 2, 1, 1)?;
+    for slots in [4, 8, 16, 32, 64, 128, 256, 512, 1024] {
+        assert!(rt; plain.with_chunk(slots).is_ok(), "{slots}");
+    }
+    Ok(())
 }
 
 #[test]
 fn shapes_for_keys(rt: HostRuntime) {
-    for (most, exponents) in [
-        (0, [2, 5]),
-        (1, [2, 5]),
-        (21, [2, 5]),
-        (22, [3, 6]),
-        (43, [3, 6]),
-        (1000, [8, 11]),
-        (65536, [14, 17]),
-        (174763, [15, 18]),
-        (174764, [16, 19]),
-        (MOST_KEYS, [16, 19]),
+    for (most, first, last) in [
+        (0, 2, 5),
+        (1, 2, 5),
+        (21, 2, 5),
+        (22, 3, 6),
+        (43, 3, 6),
+        (1000, 8, 11),
+        (65536, 14, 17),
+        (174763, 15, 18),
+        (174764, 16, 19),
+        (MOST_KEYS, 16, 19),
     ] {
-        let shape = Shape::for_keys(most, 4);
-        assert_eq!(rt; shape, tuned(&exponents, 4), "for {most} keys");
+        let due = made(&[first, last], 4, 4, 18, 64);
+        assert!(rt; Shape::for_keys(most, 4) == due, "for {most} keys");
     }
-    assert_eq!(rt; MOST_KEYS, 349525);
-    assert_eq!(rt; Shape::for_keys(MOST_KEYS + 1, 0), Err(ShapeFault::Keys));
-    assert_eq!(rt; Shape::for_keys(usize::MAX, 1), Err(ShapeFault::Keys));
-    assert_eq!(rt; Shape::for_keys(100, 0), Err(ShapeFault::Seats));
-    assert_eq!(rt; Shape::for_keys(100, 9), Err(ShapeFault::Seats));
-}
-
-#[test]
-fn fault_texts(rt: HostRuntime) -> Result<(), Fail> {
-    for (fault, text) in [
-        (ShapeFault::Bits, "bits out of range"),
-        (ShapeFault::Generations, "number of tables out of range"),
-        (ShapeFault::Seats, "number of seats out of range"),
-        (ShapeFault::Stripes, "number of stripes out of range"),
-        (ShapeFault::Plan, "a table smaller than the one before it"),
-        (ShapeFault::Reprobes, "reprobe limit out of range"),
-        (ShapeFault::Chunk, "chunk out of range"),
-        (ShapeFault::Keys, "number of keys out of range"),
-        (ShapeFault::Slots, "too many slots"),
+    for (most, seats, fault) in [
+        (MOST_KEYS + 1, 0, ShapeFault::Keys),
+        (usize::MAX, 1, ShapeFault::Keys),
+        (100, 0, ShapeFault::Seats),
+        (100, 9, ShapeFault::Seats),
     ] {
-        assert_eq!(rt; fault.to_string(rt.alloc())?.as_str(), text);
+        assert!(rt;
+            Shape::for_keys(most, seats) == Err(fault),
+            "for {most} keys"
+        );
     }
-    Ok(())
 }

@@ -5,43 +5,55 @@ use nb_core::{
 };
 use std::test::Fail;
 
+/// Whether a state of a key and a word belong together, each by both ways.
+fn are_one_key(state: &KeyState, word: u64) -> bool {
+    KeyWord::of(*state).get() == word
+        && KeyWord::new(word).state() == *state
+        && encode_key(*state) == word
+        && decode_key(word) == *state
+}
+
+/// Whether a word is empty, whether it is the key's, and whether it is one of both.
+fn tests_of(word: KeyWord, key: Key) -> (bool, bool, bool) {
+    (word.is_empty(), word.is(key), word.is_or_empty(key))
+}
+
+/// Words of keys, and `tests_of_key_words` for the key 0.
 #[test]
 fn key_words(rt: HostRuntime) -> Result<(), Fail> {
-    for (state, word) in [
-        (KeyState::Empty, 0),
-        (KeyState::Dead, 1),
-        (KeyState::Claimed(Key::new(0)?), 2),
-        (KeyState::Claimed(Key::new(KEY_MAX)?), 18446744073709551615),
+    let zero = Key::from(0_u32);
+    for (state, word, tests) in [
+        (KeyState::Empty, 0, (true, false, true)),
+        (KeyState::Dead, 1, (false, false, false)),
+        (KeyState::Claimed(zero), 2, (false, true, true)),
+        (
+            KeyState::Claimed(Key::from(1_u32)),
+            3,
+            (false, false, false),
+        ),
+        (
+            KeyState::Claimed(Key::new(KEY_MAX)?),
+            u64::MAX,
+            (false, false, false),
+        ),
     ] {
-        assert_eq!(rt; KeyWord::of(state).get(), word);
-        assert_eq!(rt; KeyWord::new(word).state(), state);
-        assert_eq!(rt; encode_key(state), word);
-        assert_eq!(rt; decode_key(word), state);
+        assert!(rt; are_one_key(&state, word), "{word}");
+        assert!(rt; tests_of(KeyWord::of(state), zero) == tests, "{word}");
     }
     Ok(())
 }
 
-#[test]
-fn tests_of_key_words(rt: HostRuntime) -> Result<(), Fail> {
-    let key = Key::new(0)?;
-    for (state, is_empty, is) in [
-        (KeyState::Empty, true, false),
-        (KeyState::Dead, false, false),
-        (KeyState::Claimed(key), false, true),
-        (KeyState::Claimed(Key::new(1)?), false, false),
-        (KeyState::Claimed(Key::new(KEY_MAX)?), false, false),
-    ] {
-        let word = KeyWord::of(state);
-        assert_eq!(rt; word.is_empty(), is_empty);
-        assert_eq!(rt; word.is(key), is);
-        assert_eq!(rt; word.is_or_empty(key), is || is_empty);
-    }
-    Ok(())
+/// Whether a state of a value and a word belong together, each by both ways.
+fn are_one_value(state: &ValueState, word: u64) -> bool {
+    ValueWord::of(*state).get() == word
+        && ValueWord::of(*state).state() == *state
+        && encode_value(*state) == word
+        && decode_value(word) == Some(*state)
 }
 
 #[test]
 fn value_words(rt: HostRuntime) -> Result<(), Fail> {
-    let five = Num::new(5)?;
+    let five = Num::from(5_u32);
     let greatest = Num::new(VALUE_MAX)?;
     for (state, word, shown) in [
         (ValueState::Null, 0, Some(None)),
@@ -57,14 +69,15 @@ fn value_words(rt: HostRuntime) -> Result<(), Fail> {
             Some(Some(greatest)),
         ),
     ] {
-        assert_eq!(rt; ValueWord::of(state).get(), word);
-        assert_eq!(rt; ValueWord::of(state).state(), state);
-        assert_eq!(rt; ValueWord::of(state).shows(), shown);
-        assert_eq!(rt; encode_value(state), word);
-        assert_eq!(rt; decode_value(word), Some(state));
-    }
-    for word in [2, 3, 6, 7, 30, 4611686018427387912] {
-        assert_eq!(rt; decode_value(word), None);
+        assert!(rt; are_one_value(&state, word), "{word}");
+        assert!(rt; ValueWord::of(state).shows() == shown, "{word}");
     }
     Ok(())
+}
+
+#[test]
+fn words_of_no_value(rt: HostRuntime) {
+    for word in [2, 3, 6, 7, 30, 4611686018427387912] {
+        assert!(rt; decode_value(word).is_none(), "{word}");
+    }
 }

@@ -1,117 +1,147 @@
 //! Shapes of large tables and of many seats.
-use nb_core::{HeaderWord, MANY_KEYS, MAX_SEATS, MAX_SLOTS, MAX_STRIPES, Shape, ShapeFault};
-use std::process::Abort;
+use nb_core::{
+    HeaderWord, MANY_KEYS, MAX_SEATS, MAX_SLOTS, MAX_STRIPES, MOST_KEYS, Shape, ShapeFault,
+};
 use std::test::Fail;
+
+/// The shape of these numbers, each put in by the call that is named after it.
+pub fn made(
+    exponents: &[u32],
+    seats: usize,
+    stripes: usize,
+    reprobes: u32,
+    chunk: u32,
+) -> Result<Shape, ShapeFault> {
+    Shape::large(exponents)?
+        .with_seats(seats)?
+        .with_stripes(stripes)?
+        .with_reprobe_limit(reprobes)?
+        .with_chunk(chunk)
+}
+
+/// Of a table: its size, its limit, its chunk, and how many chunks it is handed out in.
+pub fn told_of(shape: &Shape, g: u32) -> Option<(usize, usize, usize, usize)> {
+    if g >= shape.generations() {
+        return None;
+    }
+    let (size, limit) = (shape.size_of(g), shape.limit_of(g));
+    Some((size, limit, shape.chunk_of(g), shape.chunks_of(g)))
+}
 
 #[test]
 fn large_refusals(rt: HostRuntime) {
-    assert_eq!(rt; Shape::large(&[]), Err(ShapeFault::Generations));
-    assert_eq!(rt; Shape::large(&[1; 17]), Err(ShapeFault::Generations));
-    assert_eq!(rt; Shape::large(&[1]), Err(ShapeFault::Bits));
-    assert_eq!(rt; Shape::large(&[29]), Err(ShapeFault::Bits));
-    assert_eq!(rt;
-        Shape::large(&[28, 28, 28, 28, 29, 2]),
-        Err(ShapeFault::Bits)
-    );
-    assert_eq!(rt; Shape::large(&[3, 2]), Err(ShapeFault::Plan));
-    assert_eq!(rt;
-        Shape::large(&[28, 28, 28, 28, 28, 2]),
-        Err(ShapeFault::Plan)
-    );
-    assert_eq!(rt; Shape::large(&[2, 28, 28, 28, 28]), Err(ShapeFault::Slots));
-    assert_eq!(rt; Shape::large(&[28; 16]), Err(ShapeFault::Slots));
+    let rows: [(&[u32], ShapeFault); 9] = [
+        (&[], ShapeFault::Generations),
+        (&[1; 17], ShapeFault::Generations),
+        (&[1], ShapeFault::Bits),
+        (&[29], ShapeFault::Bits),
+        (&[28, 28, 28, 28, 29, 2], ShapeFault::Bits),
+        (&[3, 2], ShapeFault::Plan),
+        (&[28, 28, 28, 28, 28, 2], ShapeFault::Plan),
+        (&[2, 28, 28, 28, 28], ShapeFault::Slots),
+        (&[28; 16], ShapeFault::Slots),
+    ];
+    for (exponents, fault) in rows {
+        assert!(rt; Shape::large(exponents) == Err(fault), "{exponents:?}");
+    }
 }
 
 #[test]
 fn as_many_slots_as_there_may_be(rt: HostRuntime) -> Result<(), Fail> {
     let four = Shape::large(&[28; 4])?;
-    assert_eq!(rt; four.words(), 1 + 3 * 4 + 2 * MAX_SLOTS);
-    assert_eq!(rt; four.size_of(3), 1 << 28);
-    assert_eq!(rt; four.value_place(3, (1 << 28) - 1), four.words() - 1);
+    assert!(rt; four.words() == 1 + 3 * 4 + 2 * MAX_SLOTS);
+    assert!(rt; four.size_of(3) == 1 << 28);
+    assert!(rt; four.value_place(3, (1 << 28) - 1) == 3 * 4 + 2 * MAX_SLOTS);
     let sixteen = Shape::large(&[26; 16])?;
-    assert_eq!(rt; sixteen.words(), 1 + 3 * 16 + 2 * MAX_SLOTS);
-    assert_eq!(rt;
-        sixteen.header_word_place(15, HeaderWord::Next),
-        1 + 15 * (3 + (2 << 26))
-    );
-    assert_eq!(rt; MAX_SLOTS, 1_073_741_824);
+    assert!(rt; sixteen.words() == 1 + 3 * 16 + 2 * MAX_SLOTS);
+    let next = sixteen.header_word_place(15, HeaderWord::Next);
+    assert!(rt; next == 1 + 15 * (3 + (2 << 26)));
     Ok(())
 }
 
 #[test]
-fn large_plans(rt: HostRuntime) -> Result<(), Fail> {
-    let small = Shape::large(&[4, 8, 12, 16])?;
-    assert_eq!(rt; Ok(small), Shape::with_plan(&[4, 8, 12, 16], 1, 1));
-    assert_eq!(rt; (small.seats(), small.stripes()), (1, 1));
-    let wide = small.with_seats(256)?.with_stripes(255)?;
-    assert_eq!(rt; (wide.seats(), wide.stripes()), (256, 255));
-    assert_eq!(rt; wide.words(), small.words());
-    assert_eq!(rt; wide.with_seats(1)?.with_stripes(1), Ok(small));
-    assert_eq!(rt;
-        small.with_seats(8)?.with_stripes(7),
-        Shape::with_plan(&[4, 8, 12, 16], 8, 7)
-    );
-    let tuned = wide.with_reprobe_limit(5)?.with_chunk(64)?;
-    assert_eq!(rt; tuned.with_seats(3)?.limit_of(0), 5);
-    assert_eq!(rt; tuned.with_stripes(3)?.chunk_of(3), 64);
+fn limits_of_shapes(rt: HostRuntime) {
+    assert!(rt; (MAX_SLOTS, MAX_SEATS, MAX_STRIPES) == (1_073_741_824, 256, 256));
+    assert!(rt; (MOST_KEYS, MANY_KEYS) == (349_525, 178_956_970));
+}
+
+/// The exponents of four large tables, which a plan may have too.
+const FOUR: [u32; 4] = [4, 8, 12, 16];
+
+#[test]
+fn large_plans(rt: HostRuntime) {
+    for (seats, stripes) in [(1, 1), (8, 7)] {
+        let large = made(&FOUR, seats, stripes, u32::MAX, 8);
+        assert!(rt;
+            large == Shape::with_plan(&FOUR, seats, stripes),
+            "{seats} seats"
+        );
+    }
+}
+
+/// They keep what they are tuned to where they get other seats.
+#[test]
+fn large_tuned_plans(rt: HostRuntime) -> Result<(), Fail> {
+    let wide = made(&FOUR, 256, 255, 5, 64)?;
+    assert!(rt; (wide.seats(), wide.stripes(), wide.words()) == (256, 255, 139_821));
+    assert!(rt; told_of(&wide, 0) == Some((16, 5, 16, 1)));
+    assert!(rt; told_of(&wide, 3) == Some((65536, 65536, 64, 1024)));
+    Ok(())
+}
+
+#[test]
+fn seats_after_tuning(rt: HostRuntime) -> Result<(), Fail> {
+    let narrow = made(&FOUR, 256, 255, 5, 64)?.with_seats(3)?;
+    assert!(rt; narrow.with_stripes(2) == made(&FOUR, 3, 2, 5, 64));
     Ok(())
 }
 
 #[test]
 fn seats_and_stripes_refusals(rt: HostRuntime) -> Result<(), Fail> {
     let shape = Shape::with_plan(&[2, 2], 8, 8)?;
-    for many in [0, MAX_SEATS + 1, 1 << 16, (1 << 16) + 1, usize::MAX] {
-        assert_eq!(rt; shape.with_seats(many), Err(ShapeFault::Seats));
-        assert_eq!(rt; shape.with_stripes(many), Err(ShapeFault::Stripes));
+    for many in [0, 257, 1 << 16, (1 << 16) + 1, usize::MAX] {
+        assert!(rt; shape.with_seats(many) == Err(ShapeFault::Seats), "{many}");
+        assert!(rt;
+            shape.with_stripes(many) == Err(ShapeFault::Stripes),
+            "{many}"
+        );
     }
-    assert_eq!(rt; (MAX_SEATS, MAX_STRIPES), (256, 256));
-    Ok(())
-}
-
-fn assert_many(
-    rt: &impl Abort,
-    most: usize,
-    seats: usize,
-    exponents: &[u32],
-) -> Result<(), ShapeFault> {
-    let stripes = seats.min(16);
-    let shape = Shape::large(exponents)?
-        .with_seats(seats)?
-        .with_stripes(stripes)?
-        .with_reprobe_limit(18)?
-        .with_chunk(256);
-    assert_eq!(rt; Shape::for_many_keys(most, seats), shape, "for {most} keys");
     Ok(())
 }
 
 #[test]
-fn shapes_for_many_keys(rt: HostRuntime) -> Result<(), Fail> {
-    assert_many(&rt, 0, 1, &[5])?;
-    assert_many(&rt, 21, 8, &[5])?;
-    assert_many(&rt, 22, 16, &[6])?;
-    assert_many(&rt, 341, 17, &[9])?;
-    assert_many(&rt, 342, 64, &[10])?;
-    assert_many(&rt, 1365, 64, &[11])?;
-    assert_many(&rt, 1366, 64, &[4, 12])?;
-    assert_many(&rt, 1_000_000, 64, &[5, 13, 21])?;
-    assert_many(&rt, 44_739_243, 128, &[10, 18, 26])?;
-    assert_many(&rt, 44_739_244, 128, &[11, 19, 27])?;
-    assert_many(&rt, MANY_KEYS, 256, &[4, 12, 20, 28])?;
-    assert_eq!(rt; MANY_KEYS, 178_956_970);
-    Ok(())
+fn shapes_for_many_keys(rt: HostRuntime) {
+    let rows: [(usize, usize, &[u32]); 11] = [
+        (0, 1, &[5]),
+        (21, 8, &[5]),
+        (22, 16, &[6]),
+        (341, 17, &[9]),
+        (342, 64, &[10]),
+        (1365, 64, &[11]),
+        (1366, 64, &[4, 12]),
+        (1_000_000, 64, &[5, 13, 21]),
+        (44_739_243, 128, &[10, 18, 26]),
+        (44_739_244, 128, &[11, 19, 27]),
+        (MANY_KEYS, 256, &[4, 12, 20, 28]),
+    ];
+    for (most, seats, exponents) in rows {
+        let due = made(exponents, seats, seats.min(16), 18, 256);
+        assert!(rt; Shape::for_many_keys(most, seats) == due, "for {most} keys");
+    }
 }
 
 #[test]
 fn many_keys_refusals(rt: HostRuntime) {
-    assert_eq!(rt;
-        Shape::for_many_keys(MANY_KEYS + 1, 0),
-        Err(ShapeFault::Keys)
-    );
-    assert_eq!(rt; Shape::for_many_keys(usize::MAX, 1), Err(ShapeFault::Keys));
-    assert_eq!(rt; Shape::for_many_keys(100, 0), Err(ShapeFault::Seats));
-    assert_eq!(rt; Shape::for_many_keys(100, 257), Err(ShapeFault::Seats));
-    assert_eq!(rt;
-        Shape::for_many_keys(100, usize::MAX),
-        Err(ShapeFault::Seats)
-    );
+    for (most, seats, fault) in [
+        (MANY_KEYS + 1, 0, ShapeFault::Keys),
+        (usize::MAX, 1, ShapeFault::Keys),
+        (100, 0, ShapeFault::Seats),
+        (100, 257, ShapeFault::Seats),
+        (100, usize::MAX, ShapeFault::Seats),
+    ] {
+        assert!(rt;
+            Shape::for_many_keys(most, seats) == Err(fault),
+            "for {most} keys"
+        );
+    }
 }

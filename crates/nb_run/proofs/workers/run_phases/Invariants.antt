@@ -1,8 +1,0 @@
-use Rattle.nb_run.specs.Working.{phases_in}
-use Rattle.nb_run.proofs.PhaseLemmas.{HaveRunSome}
-use Rattle.nb_run.proofs.workers.run_phases.Given as goal
-
--- the workers have run the first phases
-abbrev pub invariant-loop-phase : goal.invariant-loop-phase
-invariant-loop-phase g l = HaveRunSome l.map (phases_in l.phases)
-    l.phase-index l.fn.workers.items l.workers.items

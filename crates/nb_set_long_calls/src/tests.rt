@@ -1,0 +1,4 @@
+//! Tests of the set, and of typed maps.
+mod long;
+mod plain;
+mod set;

@@ -1,0 +1,8 @@
+//! Typed maps: values by their receipts, by keys, and between threads.
+mod by_handles;
+mod receipts;
+mod stories;
+mod texts;
+mod threads;
+mod updating;
+mod values;

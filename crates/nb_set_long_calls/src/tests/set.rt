@@ -1,0 +1,7 @@
+//! The set, by its handles and by its seats.
+mod by_handles;
+mod by_seats;
+mod rows;
+mod stories;
+mod threads;
+mod walks;

@@ -1,0 +1,275 @@
+//! What a set goes through, step by step, with all its handles.
+ghost use Rattle.nb_set.specs.Handles.{AreOfOneSet};
+
+use super::super::plain::{Sizes, keys, shape};
+use super::by_handles::*;
+use super::rows::Call::*;
+use super::rows::{Call, OVER_MANY_KEYS, REFUSALS_WHEN_FULL, SET_OF_KEYS};
+use super::stories::Step::{Calls, List, Renew, Settle, Without};
+use nb_core::Key;
+use nb_set::{Handle, RenewFault, SettleFault};
+use std::alloc::Global;
+use std::process::Abort;
+use std::sync::Wait;
+
+/// What is done with all handles of a set, and what comes of it.
+#[derive(Clone, Copy)]
+pub(super) enum Step {
+    /// The last of the handles makes these calls.
+    Calls(&'static [Call]),
+    /// They settle, and the set has so many keys.
+    Settle(Result<u64, SettleFault>),
+    /// These keys are listed, in whatever order; none where a handle is missing.
+    List(Option<&'static [u64]>),
+    /// The set is made anew in this shape, and has so many handles then.
+    Renew(Sizes, Result<(), RenewFault>, usize),
+    /// A handle is lost.
+    Without,
+}
+
+/// Sees that these are the keys, in whatever order.
+pub(super) fn are_just<R: Abort>(rt: &R, keys: Option<Vec<Key>>, numbers: Option<&[u64]>) {
+    let (Some(keys), Some(numbers)) = (&keys, numbers) else {
+        assert!(rt; keys.is_none() && numbers.is_none());
+        return;
+    };
+    assert_eq!(rt; keys.len(), numbers.len());
+    for key in keys {
+        assert!(rt; numbers.contains(&key.get()), "key {}", key.get());
+    }
+}
+
+/// Takes a step.
+pub(super) fn takes<R: Wait + Abort>(rt: &R, alloc: Global, handles: &mut Vec<Handle>, step: Step)
+    requires { AreOfOneSet handles.old.items }
+    ensures { AreOfOneSet handles.new.items }
+{
+    match step {
+        Calls(calls) => last_sees(rt, alloc, handles, calls),
+        Settle(size) => assert_eq!(rt; settles(alloc, handles), size),
+        List(numbers) => are_just(rt, listed(rt, alloc, handles), numbers),
+        Renew(sizes, end, count) => {
+            assert_eq!(rt; renews(alloc, handles, shape(rt, sizes)), end);
+            assert_eq!(rt; handles.len(), count);
+        }
+        Without => drop(handles.pop()),
+    }
+}
+
+/// The handles of a set that has these keys from the start, after these steps.
+fn after<R: Wait + Abort>(
+    rt: &R,
+    alloc: Global,
+    sizes: Sizes,
+    numbers: &[u64],
+    steps: &[Step],
+) -> Vec<Handle>
+    ensures { AreOfOneSet result.items }
+{
+    let keys = keys(rt, alloc, numbers);
+    let Some(mut handles) = opened_with(rt, alloc, shape(rt, sizes), keys.as_slice()) else {
+        panic!(rt; "there is room for the keys")
+    };
+    for step in steps {
+        takes(rt, alloc, &mut handles, *step);
+    }
+    handles
+}
+
+/// The same, and just these keys are left.
+fn story<R: Wait + Abort>(
+    rt: &R,
+    alloc: Global,
+    sizes: Sizes,
+    numbers: &[u64],
+    steps: &[Step],
+    left: &[u64],
+) {
+    let handles = after(rt, alloc, sizes, numbers, steps);
+    has_left(rt, alloc, &closed(rt, handles), left);
+}
+
+/// A key that comes twice is there once, and each handle knows of all.
+const OPENED_WITH_KEYS: [Call; 4] = [
+    Contains(1, true),
+    Add(2, Some(false)),
+    Contains(3, false),
+    Seats(3),
+];
+
+/// With no keys it is an empty set. A table of four slots takes four keys, and refuses a fifth.
+#[test]
+fn opened_with_keys(rt: HostRuntime) {
+    let steps = [Calls(&OPENED_WITH_KEYS)];
+    story(&rt, rt.alloc(), (2, 2, 3, 1), &[1, 2, 1], &steps, &[1, 2]);
+    story(&rt, rt.alloc(), (2, 1, 2, 1), &[], &[], &[]);
+    let steps = [Calls(&[Add(4, None)])];
+    story(
+        &rt,
+        rt.alloc(),
+        (2, 1, 1, 1),
+        &[0, 1, 2, 3, 0],
+        &steps,
+        &[0, 1, 2, 3],
+    );
+}
+
+#[test]
+fn opened_with_too_many(rt: HostRuntime) {
+    let five = keys(&rt, rt.alloc(), &[0, 1, 2, 3, 4]);
+    let opened = opened_with(&rt, rt.alloc(), shape(&rt, (2, 1, 1, 1)), five.as_slice());
+    assert!(rt; opened.is_none());
+}
+
+/// What is left of a set is listed, and another set begins with it.
+#[test]
+fn opened_with_what_is_left(rt: HostRuntime) {
+    let left = closed(&rt, after(&rt, rt.alloc(), (2, 2, 2, 1), &[5, 3], &[]));
+    let keys = entries(&rt, rt.alloc(), &left);
+    let handles = opened_with(&rt, rt.alloc(), shape(&rt, (2, 2, 2, 1)), keys.as_slice());
+    has_left(
+        &rt,
+        rt.alloc(),
+        &closed(&rt, handles.expect(&rt, "room")),
+        &[3, 5],
+    );
+}
+
+/// All slots of the table are taken, one by a key that is removed again. A new set of another shape
+/// has what the old one had, and no slot of a removed key.
+const RENEWED_IN_ANOTHER_SHAPE: [Step; 3] = [
+    Calls(&[
+        Add(0, Some(true)),
+        Add(1, Some(true)),
+        Remove(0, true),
+        Add(2, Some(true)),
+        Add(3, Some(true)),
+        Add(4, None),
+    ]),
+    Renew((2, 1, 3, 2), Ok(()), 3),
+    Calls(&[
+        Contains(0, false),
+        Contains(1, true),
+        Add(4, Some(true)),
+        Add(5, None),
+    ]),
+];
+
+/// Where the new shape has too few slots, the old handles work on, and can be made anew in another.
+const RENEWED_IN_TOO_SMALL_A_SHAPE: [Step; 3] = [
+    Renew((2, 1, 3, 1), Err(RenewFault::Full), 2),
+    Calls(&[Contains(4, true), Remove(4, true), Add(5, Some(true))]),
+    Renew((3, 1, 2, 1), Ok(()), 2),
+];
+
+#[test]
+fn renewed(rt: HostRuntime) {
+    let steps = &RENEWED_IN_ANOTHER_SHAPE;
+    story(&rt, rt.alloc(), (2, 1, 2, 1), &[], steps, &[1, 2, 3, 4]);
+    let steps = &RENEWED_IN_TOO_SMALL_A_SHAPE;
+    story(
+        &rt,
+        rt.alloc(),
+        (3, 1, 2, 1),
+        &[0, 1, 2, 3, 4],
+        steps,
+        &[0, 1, 2, 3, 5],
+    );
+}
+
+/// A removed key isn't listed, and an empty set has no keys.
+const LISTED_AS_THEY_ARE: [Step; 3] = [
+    List(Some(&[])),
+    Calls(&[Extend(&[1, 5, 9], None), Remove(5, true)]),
+    List(Some(&[1, 9])),
+];
+
+/// A handle makes each of its calls.
+#[test]
+fn calls_by_a_handle(rt: HostRuntime) {
+    story(
+        &rt,
+        rt.alloc(),
+        (2, 1, 1, 1),
+        &[],
+        &[Calls(&SET_OF_KEYS)],
+        &[3],
+    );
+    story(
+        &rt,
+        rt.alloc(),
+        (2, 1, 1, 1),
+        &[],
+        &[Calls(&REFUSALS_WHEN_FULL)],
+        &[2, 3, 9],
+    );
+    story(
+        &rt,
+        rt.alloc(),
+        (2, 1, 1, 1),
+        &[],
+        &[Calls(&OVER_MANY_KEYS)],
+        &[1, 2, 5, 9],
+    );
+    story(
+        &rt,
+        rt.alloc(),
+        (2, 2, 2, 1),
+        &[],
+        &LISTED_AS_THEY_ARE,
+        &[1, 9],
+    );
+}
+
+/// A handle is missing: nothing is settled, listed or made anew, and the others work on.
+const WITHOUT_A_HANDLE: [Step; 7] = [
+    Settle(Ok(0)),
+    Without,
+    Settle(Err(SettleFault::NotAll)),
+    List(None),
+    Renew((2, 1, 3, 1), Err(RenewFault::NotAll), 2),
+    Calls(&[Add(1, Some(true))]),
+    Settle(Err(SettleFault::NotAll)),
+];
+
+/// They can't close the set either: they come back, and the set works on.
+#[test]
+fn without_a_handle(rt: HostRuntime) {
+    let handles = after(&rt, rt.alloc(), (2, 1, 3, 1), &[], &WITHOUT_A_HANDLE);
+    let Err(mut back) = Handle::close(&rt, handles) else {
+        panic!(&rt; "a handle is missing")
+    };
+    assert_eq!(rt; back.len(), 2);
+    last_sees(
+        &rt,
+        rt.alloc(),
+        &mut back,
+        &[Contains(1, true), Add(7, Some(true))],
+    );
+}
+
+/// A set that has keys from the start settles, is listed and is made anew, also where one request
+/// for memory is refused: then its handles have lost nothing.
+const REFUSED_MEMORY: [Step; 4] = [
+    Settle(Ok(2)),
+    List(Some(&[1, 2])),
+    Renew((2, 2, 2, 1), Ok(()), 2),
+    Calls(&[Contains(1, true), Contains(2, true)]),
+];
+
+/// What takes memory is called again where it was refused, and then it has it: so this passes
+/// whichever one request is refused.
+#[test]
+fn refused_memory(rt: HostRuntime) {
+    let handles = opened(&rt, rt.alloc(), shape(&rt, (2, 2, 3, 1)));
+    has_left(&rt, rt.alloc(), &closed(&rt, handles), &[]);
+    story(
+        &rt,
+        rt.alloc(),
+        (2, 2, 2, 1),
+        &[1, 2],
+        &REFUSED_MEMORY,
+        &[1, 2],
+    );
+    super::by_seats::refused_memory(&rt, rt.alloc());
+}
