@@ -4,7 +4,7 @@ ghost use Rattle.nb_map.specs.Maps.{AreMine, IsMine};
 
 use crate::faults::{Fault, WorkFault};
 use crate::keys::{Spacing, number};
-use nb_core::{MAX_SEATS, OutOfMemory, Shape};
+use nb_core::{Key, MAX_SEATS, Num, OutOfMemory, Shape};
 use nb_map::{Ended, Map, Seat};
 use std::alloc::Global;
 use std::rt::Clock;
@@ -79,6 +79,24 @@ pub(crate) struct Done {
     pub(crate) told: Vec<u64>,
 }
 
+/// Puts a number at a key, if there is room for the key.
+#[inline(always)]
+pub(crate) fn put<R: Wait>(
+    rt: &R,
+    map: &Map,
+    seat: &mut Seat,
+    key: Key,
+    value: Num,
+) -> Result<(), WorkFault>
+    requires own { IsMine map.now seat.old }
+    ensures own { IsMine map.now seat.new }
+{
+    match map.put(rt, seat, key, value) {
+        Ok(_) => Ok(()),
+        Err(_) => Err(WorkFault::Full),
+    }
+}
+
 /// Puts numbers at the keys with these places.
 pub(crate) fn put_all<R: Wait>(
     rt: &R,
@@ -91,10 +109,7 @@ pub(crate) fn put_all<R: Wait>(
     ensures own { IsMine map.now seat.new }
 {
     for place in places {
-        let before = map.put(rt, seat, spacing.key(*place), number(*place));
-        if before.is_err() {
-            return Err(WorkFault::Full);
-        }
+        put(rt, map, seat, spacing.key(*place), number(*place))?;
     }
     Ok(())
 }

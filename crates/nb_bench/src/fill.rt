@@ -57,9 +57,12 @@ impl Times {
 
 /// How long it takes to make a map.
 fn time_make<R: Clock>(rt: &R, alloc: Global, options: &Options) -> Result<u64, Fault> {
+    let shape = options.shape()?;
     let start = now(rt)?;
-    let (_map, _seats) = Map::new(alloc, options.shape()?)?;
-    Ok(nanoseconds_since(rt, start)?)
+    let made = Map::new(alloc, shape)?;
+    let spent = nanoseconds_since(rt, start);
+    drop(made);
+    Ok(spent?)
 }
 
 /// Makes a pass on a new map that has numbers at the keys with these places from the start, and

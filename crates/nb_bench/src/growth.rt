@@ -153,8 +153,9 @@ fn put_once<R: Threads + Sync + Wait + Clock + Eprint>(
     pass: Pass,
     places: &[u32],
 ) -> Result<Done, Fault> {
+    let shape = options.shape()?;
     let job = Growth::new(pass, options, places);
-    let done = do_job(rt, alloc, options.shape()?, options.spacing, &[], &job)?;
+    let done = do_job(rt, alloc, shape, options.spacing, &[], &job)?;
     if done.ended.size() != places.len() as u64 {
         return Err(Fault::Wrong(Wrong::Size));
     }

@@ -2,7 +2,7 @@
 //! takes.
 ghost use Rattle.nb_map.specs.Maps.{AreMine, IsMine};
 
-use crate::crew::put_all;
+use crate::crew::{put, put_all};
 use crate::faults::{Fault, WorkFault, Wrong};
 use crate::keys::{KEY_COUNT, Spacing, number, shuffled};
 use crate::options::Options;
@@ -71,10 +71,7 @@ fn put_other<R: Wait>(
     ensures own { IsMine map.now seat.new }
 {
     for place in places {
-        let before = map.put(rt, seat, spacing.key(*place), number(*place ^ 1));
-        if before.is_err() {
-            return Err(WorkFault::Full);
-        }
+        put(rt, map, seat, spacing.key(*place), number(*place ^ 1))?;
     }
     Ok(())
 }

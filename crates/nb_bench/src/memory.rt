@@ -4,6 +4,7 @@ use crate::crew::filled;
 use crate::faults::Fault;
 use crate::keys::shuffled;
 use crate::options::Options;
+use nb_core::read_number;
 use nb_map::Map;
 use std::alloc::Global;
 use std::fs;
@@ -16,7 +17,7 @@ const PAGE: u64 = 4096;
 /// The bytes that Linux tells by this text, whose second number is how many pages are in memory.
 fn bytes_of(text: &str) -> Option<u64> {
     let word = text.split(' ').nth(1)?;
-    match word.parse::<u64>() {
+    match read_number(word.as_bytes()) {
         Ok(pages) => pages.checked_mul(PAGE),
         Err(_) => None,
     }
