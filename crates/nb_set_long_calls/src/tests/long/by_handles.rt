@@ -50,16 +50,28 @@ enum End {
     Refused,
 }
 
-/// What a write came to. Where memory was refused, the value came back.
+/// Whether a value was written, or could have been.
+pub(super) fn is_made(end: Result<Stored<u64>, LongFault<u64>>) -> bool {
+    end.is_ok()
+}
+
+/// Why a write wasn't made. Where memory was refused, the value came back.
+fn refused<R: Abort>(rt: &R, fault: LongFault<u64>, new: u64) -> End {
+    match fault {
+        LongFault::Full(_) => End::Full,
+        LongFault::OutOfMemory(value) => {
+            assert!(rt; value == new);
+            End::Refused
+        }
+        _ => panic!(rt; "the number is in range, and shown"),
+    }
+}
+
+/// What a write came to.
 fn written<R: Abort>(rt: &R, end: Result<Stored<u64>, LongFault<u64>>, new: u64) -> End {
     match end {
         Ok(stored) => End::Done(stored.done),
-        Err(LongFault::Full(_)) => End::Full,
-        Err(LongFault::OutOfMemory(value)) => {
-            assert_eq!(rt; value, new);
-            End::Refused
-        }
-        Err(_) => panic!(rt; "the number is in range, and shown"),
+        Err(fault) => refused(rt, fault, new),
     }
 }
 
@@ -166,9 +178,8 @@ pub(super) fn two<R: Abort>(rt: &R, handles: Vec<Handle<u64>>) -> (Handle<u64>, 
     ensures { result.0.map ≡ result.1.map }
 {
     let mut handles = handles;
-    let (Some(theirs), Some(mine)) = (handles.pop(), handles.pop()) else {
-        panic!(rt; "there are two handles")
-    };
+    let theirs = handles.pop().expect(rt, "there are two handles");
+    let mine = handles.pop().expect(rt, "there are two handles");
     (mine, theirs)
 }
 
@@ -221,8 +232,8 @@ pub(super) fn listed<R: Abort>(
 pub(super) fn closes<R: Wait + Abort>(rt: &R, handles: Vec<Handle<u64>>, size: u64)
     requires { AreOfOneMap handles.items }
 {
-    let Ok((ended, _store)) = Handle::close(rt, handles) else {
-        panic!(rt; "all handles are here")
-    };
-    assert_eq!(rt; ended.size(), size);
+    match Handle::close(rt, handles) {
+        Ok((ended, _store)) => assert!(rt; ended.size() == size),
+        Err(_) => panic!(rt; "all handles are here"),
+    }
 }

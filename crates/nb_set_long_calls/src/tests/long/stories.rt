@@ -29,13 +29,8 @@ pub(super) enum Step {
 
 /// The value under a number, by the first of the handles.
 pub(super) fn first_shows<R: Abort>(rt: &R, handles: &[Handle<u64>], number: Num) -> u64 {
-    let Some(first) = handles.first() else {
-        panic!(rt; "there is a handle")
-    };
-    let Some(shown) = first.show(number) else {
-        panic!(rt; "the value is shown")
-    };
-    *shown.value()
+    let first = handles.first().expect(rt, "there is a handle");
+    *first.show(number).expect(rt, "the value is shown").value()
 }
 
 /// Sees that these are the keys, each with the number of its value.
@@ -49,7 +44,7 @@ fn are_just<R: Abort>(
         assert!(rt; entries.is_none() && values.is_none());
         return;
     };
-    assert_eq!(rt; entries.len(), values.len());
+    assert!(rt; entries.len() == values.len());
     for (key, number) in entries {
         let entry = (key.get(), first_shows(rt, handles, *number));
         assert!(rt; values.contains(&entry), "key {}", key.get());
@@ -80,14 +75,14 @@ pub(super) fn takes<R: Wait + Abort>(
 {
     match step {
         Calls(calls) => last_sees(rt, handles, calls),
-        Settle(size) => assert_eq!(rt; settles(alloc, handles), size),
+        Settle(size) => assert!(rt; settles(alloc, handles) == size),
         List(values) => {
             let entries = listed(rt, alloc, handles);
             are_just(rt, handles.as_slice(), entries, values);
         }
         Renew(sizes, end, count) => {
-            assert_eq!(rt; renews(alloc, handles, shape(rt, sizes)), end);
-            assert_eq!(rt; handles.len(), count);
+            assert!(rt; renews(alloc, handles, shape(rt, sizes)) == end);
+            assert!(rt; handles.len() == count);
         }
         Without => drop(handles.pop()),
     }
@@ -175,10 +170,10 @@ const WITHOUT_A_HANDLE: [Step; 6] = [
 #[test]
 fn without_a_handle(rt: HostRuntime) {
     let handles = after(&rt, rt.alloc(), (2, 1, 3, 1), &WITHOUT_A_HANDLE);
-    let Err(back) = Handle::close(&rt, handles) else {
-        panic!(&rt; "a handle is missing")
-    };
-    assert_eq!(rt; back.len(), 2);
+    match Handle::close(&rt, handles) {
+        Err(back) => assert!(rt; back.len() == 2),
+        Ok(_) => panic!(&rt; "a handle is missing"),
+    }
 }
 
 /// The number of a value that was written over shows it still, also where the map was made anew.

@@ -14,7 +14,7 @@ fn receipt<R: Wait + Abort + AllocGlobal>(rt: &R) -> Receipt<u64> {
 /// What the fault's text is.
 fn says<R: Abort + AllocGlobal, E: Display>(rt: &R, fault: &E, text: &str) {
     let said = format!(in rt.alloc(); "{fault}").expect(rt, "memory");
-    assert_eq!(rt; said.as_str(), text);
+    assert!(rt; said.as_str() == text);
 }
 
 /// A store's refusal, and what a write and an update of the map make of it.

@@ -2,9 +2,9 @@
 ghost use Rattle.nb_long.specs.Handles.{AreOfOneMap, IsSameMap};
 
 use super::super::plain::{key, shape};
-use super::by_handles::{listed, opened, renews, settles, value_at};
+use super::by_handles::{is_made, listed, opened, renews, settles, value_at};
 use super::stories::first_shows;
-use super::updating::one_more;
+use super::updating::{one_more, updated};
 use nb_core::{Key, Num};
 use nb_long::Handle;
 use std::alloc::Global;
@@ -18,22 +18,36 @@ fn record(k: u64, choice: u64) -> u64 {
     k.wrapping_mul(1000).wrapping_add(choice % 1000)
 }
 
+/// Makes a write at a key that has a value, as `choice` says.
+fn writes_over<R: Wait + Abort>(
+    rt: &R,
+    handle: &mut Handle<u64>,
+    at: Key,
+    found: u64,
+    new: u64,
+    choice: u64,
+) -> bool
+    ensures { IsSameMap handle.old handle.new }
+{
+    match choice % 4 {
+        0 => is_made(handle.put(rt, at, new)),
+        1 => is_made(handle.replace(rt, at, new)),
+        2 => is_made(handle.replace_if(rt, at, &found, new)),
+        _ => handle.remove_if(rt, at, &found).is_ok(),
+    }
+}
+
 /// Writes a record of a key, as `choice` says. What is found there is a record of this key.
 fn writes_one<R: Wait + Abort>(rt: &R, handle: &mut Handle<u64>, k: u64, choice: u64)
     ensures { IsSameMap handle.old handle.new }
 {
     let (at, new) = (key(rt, k), record(k, choice));
     let Some(found) = value_at(rt, handle, at) else {
-        assert!(rt; handle.put_if_absent(rt, at, new).is_ok());
+        assert!(rt; is_made(handle.put_if_absent(rt, at, new)));
         return;
     };
-    assert_eq!(rt; found / 1000, k);
-    match choice % 4 {
-        0 => assert!(rt; handle.put(rt, at, new).is_ok()),
-        1 => assert!(rt; handle.replace(rt, at, new).is_ok()),
-        2 => assert!(rt; handle.replace_if(rt, at, &found, new).is_ok()),
-        _ => assert!(rt; handle.remove_if(rt, at, &found).is_ok()),
-    }
+    assert!(rt; found / 1000 == k);
+    assert!(rt; writes_over(rt, handle, at, found, new, choice));
 }
 
 /// Writes records of four keys, as the thread's own row of numbers chooses them, and counts the
@@ -48,10 +62,10 @@ fn writes_often<R: Wait + Abort>(rt: &R, handle: &mut Handle<u64>, thread: u64, 
             .wrapping_mul(6_364_136_223_846_793_005)
             .wrapping_add(1_442_695_040_888_963_407);
         writes_one(rt, handle, row >> 62, row >> 20);
-        assert!(rt; handle.update(rt, key(rt, 7), one_more).is_ok());
+        assert!(rt; updated(rt, handle.update(rt, key(rt, 7), one_more)).is_some());
     }
     let own = round.wrapping_add(10);
-    assert!(rt; handle.put(rt, key(rt, own), record(own, row)).is_ok());
+    assert!(rt; is_made(handle.put(rt, key(rt, own), record(own, row))));
     let _ = handle.remove(rt, key(rt, round.wrapping_add(9)));
 }
 
@@ -78,10 +92,10 @@ fn are_whole<R: Abort>(rt: &R, handles: &[Handle<u64>], entries: &[(Key, Num)], 
         if key.get() == 7 {
             counted = value;
         } else {
-            assert_eq!(rt; value / 1000, key.get());
+            assert!(rt; value / 1000 == key.get());
         }
     }
-    assert_eq!(rt; counted, updates);
+    assert!(rt; counted == updates);
 }
 
 /// Four threads write. Then all entries are listed, the map settles, and is made anew. So it goes
@@ -95,8 +109,8 @@ fn rounds<R: Threads + Sync + Wait + Abort>(rt: &R, alloc: Global, handles: &mut
         all_write(rt, handles, round);
         let entries = listed(rt, alloc, handles).expect(rt, "all handles are here");
         are_whole(rt, handles.as_slice(), entries.as_slice(), 800 * round);
-        assert_eq!(rt; settles(alloc, handles), Ok(entries.len() as u64));
-        assert_eq!(rt; renews(alloc, handles, shape(rt, (2, 2, 4, 1))), Ok(()));
+        assert!(rt; settles(alloc, handles) == Ok(entries.len() as u64));
+        assert!(rt; renews(alloc, handles, shape(rt, (2, 2, 4, 1))) == Ok(()));
     }
 }
 

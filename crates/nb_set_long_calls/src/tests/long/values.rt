@@ -2,11 +2,12 @@
 ghost use Rattle.std.specs.Prelude.{IfSome, ◌≡◌};
 ghost use Rattle.boxcar.specs.Table.{Shows};
 ghost use Rattle.nb_map.specs.Maps.{AreMine, IsMine};
+ghost use Rattle.nb_long.specs.Promises.{IsKept};
 
 use super::super::plain::{Sizes, key, shape};
 use super::values::Call::*;
 use super::values::Want::{Absent, Any, Is, Present};
-use nb_long::{Found, LongFault, LongMap, Store, Stored};
+use nb_long::{Found, LongFault, LongMap, Receipt, Store, Stored};
 use nb_map::Seat;
 use std::alloc::Global;
 use std::process::Abort;
@@ -65,6 +66,13 @@ fn bytes<R: Abort>(rt: &R, alloc: Global, text: &[u8]) -> Bytes {
     text.to_vec(alloc).expect(rt, "memory")
 }
 
+/// Whether this value is read by a receipt.
+fn reads(map: &LongMap<Bytes>, receipt: &Receipt<Bytes>, text: &[u8]) -> bool
+    requires { Shows map.now.store receipt.now }
+{
+    map.store().value(receipt).as_slice() == text
+}
+
 /// What a key has.
 pub(super) fn found<'a, R: Abort, V>(
     rt: &R,
@@ -90,12 +98,36 @@ fn has<R: Abort>(rt: &R, map: &LongMap<Bytes>, seat: &mut Seat, k: u64, text: Op
     let Some(found) = found(rt, map, seat, k) else {
         return text.is_none();
     };
-    let is_found = Some(found.as_slice()) == text;
-    let receipt = found.into_receipt();
-    is_found && Some(map.store().value(&receipt).as_slice()) == text
+    let Some(text) = text else {
+        return false;
+    };
+    let is_found = found.as_slice() == text;
+    is_found && reads(map, &found.into_receipt(), text)
 }
 
-/// Makes a write.
+/// Makes a write, and answers what it came to.
+fn ends_write<R: Wait + Abort>(
+    rt: &R,
+    alloc: Global,
+    map: &LongMap<Bytes>,
+    seat: &mut Seat,
+    k: u64,
+    want: Want,
+    new: Bytes,
+) -> Result<Stored<Bytes>, LongFault<Bytes>>
+    requires own { IsMine map.now.map seat.old }
+    ensures own { IsMine map.now.map seat.new }
+    ensures kept { IsKept map.now.store new result }
+{
+    match want {
+        Any => map.put(rt, seat, key(rt, k), new),
+        Absent => map.put_if_absent(rt, seat, key(rt, k), new),
+        Present => map.replace(rt, seat, key(rt, k), new),
+        Is(old) => map.replace_if(rt, seat, key(rt, k), &bytes(rt, alloc, old), new),
+    }
+}
+
+/// Makes a write for which there is room.
 fn writes<R: Wait + Abort>(
     rt: &R,
     alloc: Global,
@@ -104,24 +136,14 @@ fn writes<R: Wait + Abort>(
     k: u64,
     want: Want,
     new: &[u8],
-) -> Option<Stored<Bytes>>
+) -> Stored<Bytes>
     requires own { IsMine map.now.map seat.old }
     ensures own { IsMine map.now.map seat.new }
-    ensures shown { IfSome result (λ stored. Shows map.now.store stored.receipt) }
+    ensures shown { Shows map.now.store result.receipt }
 {
-    let new = bytes(rt, alloc, new);
-    let written = match want {
-        Any => map.put(rt, seat, key(rt, k), new),
-        Absent => map.put_if_absent(rt, seat, key(rt, k), new),
-        Present => map.replace(rt, seat, key(rt, k), new),
-        Is(old) => {
-            let old = bytes(rt, alloc, old);
-            map.replace_if(rt, seat, key(rt, k), &old, new)
-        }
-    };
-    match written {
-        Ok(stored) => Some(stored),
-        Err(_) => None,
+    match ends_write(rt, alloc, map, seat, k, want, bytes(rt, alloc, new)) {
+        Ok(stored) => stored,
+        Err(_) => panic!(rt; "there is room"),
     }
 }
 
@@ -143,15 +165,13 @@ fn sees_write<R: Wait + Abort>(
         Some(found) => Some(found.number()),
         None => None,
     };
-    let Some(stored) = writes(rt, alloc, map, seat, k, want, new) else {
-        panic!(rt; "there is room")
-    };
+    let stored = writes(rt, alloc, map, seat, k, want, new);
     let Some(found) = found(rt, map, seat, k) else {
         panic!(rt; "the key is there")
     };
     assert!(rt; stored.before == before);
-    assert!(rt; map.store().value(&stored.receipt).as_slice() == new);
-    assert_eq!(rt; map.store().agree(&stored.receipt, &found), stored.done);
+    assert!(rt; reads(map, &stored.receipt, new));
+    assert!(rt; map.store().agree(&stored.receipt, &found) == stored.done);
     stored.done
 }
 
@@ -167,11 +187,10 @@ fn is_refused<R: Wait + Abort>(
     requires own { IsMine map.now.map seat.old }
     ensures own { IsMine map.now.map seat.new }
 {
-    let written = map.put(rt, seat, key(rt, k), bytes(rt, alloc, new));
-    let Err(LongFault::Full(receipt)) = written else {
-        panic!(rt; "the map is full")
-    };
-    assert!(rt; map.store().value(&receipt).as_slice() == new);
+    match &map.put(rt, seat, key(rt, k), bytes(rt, alloc, new)) {
+        Err(LongFault::Full(receipt)) => assert!(rt; reads(map, receipt, new)),
+        _ => panic!(rt; "the map is full"),
+    }
 }
 
 /// Asks for the removal of a key where it has a value. What it has is read by the token of what was
@@ -192,7 +211,7 @@ fn takes_if<R: Wait + Abort>(
     let Some(found) = &compared.found else {
         panic!(rt; "the key is there")
     };
-    assert_eq!(rt; compared.done, *map.store().value(found) == *old);
+    assert!(rt; compared.done == reads(map, found, old.as_slice()));
     compared.done
 }
 
@@ -206,13 +225,13 @@ fn updates<R: Wait + Abort>(rt: &R, map: &LongMap<Bytes>, seat: &mut Seat, k: u6
     requires own { IsMine map.now.map seat.old }
     ensures own { IsMine map.now.map seat.new }
 {
-    let Ok(updated) = map.update(rt, seat, key(rt, k), nothing) else {
+    let Ok(updated) = &map.update(rt, seat, key(rt, k), nothing) else {
         panic!(rt; "no value is to be stored")
     };
     let Some(found) = &updated.found else {
         panic!(rt; "the key is there")
     };
-    updated.new.is_none() && map.store().value(found).as_slice() == b"kept".as_slice()
+    updated.new.is_none() && reads(map, found, b"kept")
 }
 
 /// Makes a call, and answers whether it changed the key.
@@ -252,18 +271,32 @@ fn sees<R: Wait + Abort>(rt: &R, alloc: Global, map: &LongMap<Bytes>, seat: &mut
     }
 }
 
+/// Makes all these calls.
+fn sees_all<R: Wait + Abort>(rt: &R, alloc: Global, map: &LongMap<Bytes>, seat: &mut Seat)
+    requires own { IsMine map.now.map seat.old }
+    ensures own { IsMine map.now.map seat.new }
+{
+    sees(rt, alloc, map, seat, &TYPED_VALUES);
+}
+
+/// Four slots are taken, and the map has one seat.
+fn is_full(map: &LongMap<Bytes>, seat: &mut Seat) -> bool
+    requires own { IsMine map.now.map seat.old }
+    ensures own { IsMine map.now.map seat.new }
+{
+    map.occupancy(seat).taken == 4 && map.shape().seats() == 1
+}
+
 /// The value `ab` is put first, and is read by its receipt after all other calls.
 fn shows_first<R: Wait + Abort>(rt: &R, alloc: Global, map: &LongMap<Bytes>, seat: &mut Seat)
     requires own { IsMine map.now.map seat.old }
     ensures own { IsMine map.now.map seat.new }
 {
-    let Some(first) = writes(rt, alloc, map, seat, 1, Any, b"ab") else {
-        panic!(rt; "there is room")
-    };
-    assert!(rt; first.done && has(rt, map, seat, 1, Some(b"ab")));
-    sees(rt, alloc, map, seat, &TYPED_VALUES);
-    assert!(rt; map.store().value(&first.receipt).as_slice() == b"ab".as_slice());
-    assert_eq!(rt; (map.occupancy(seat).taken, map.shape().seats()), (4, 1));
+    let first = writes(rt, alloc, map, seat, 1, Any, b"ab");
+    assert!(rt; first.done);
+    assert!(rt; has(rt, map, seat, 1, Some(b"ab")));
+    sees_all(rt, alloc, map, seat);
+    assert!(rt; reads(map, &first.receipt, b"ab"));
 }
 
 /// A map with its seats.
@@ -288,10 +321,7 @@ pub(super) fn taken<R: Abort, V>(rt: &R, map: &LongMap<V>, seats: &mut Vec<Seat>
     ensures taken { IsMine map.now.map result }
     ensures left { AreMine map.now.map seats.new.items }
 {
-    let Some(seat) = seats.pop() else {
-        panic!(rt; "there is a seat")
-    };
-    seat
+    seats.pop().expect(rt, "there is a seat")
 }
 
 /// Gives a seat back to those that it was taken from.
@@ -313,11 +343,13 @@ pub(super) fn left_by<R: Abort, V: Drop>(
     requires { AreMine map.map seats.items }
     ensures { result ≡ map.store }
 {
-    let Ok((ended, store)) = map.finish(seats) else {
-        panic!(rt; "all seats are there")
-    };
-    assert_eq!(rt; ended.size(), size);
-    store
+    match map.finish(seats) {
+        Ok((ended, store)) => {
+            assert!(rt; ended.size() == size);
+            store
+        }
+        Err(_) => panic!(rt; "all seats are there"),
+    }
 }
 
 /// The map settles, is listed, and ends. So many keys are left.
@@ -325,9 +357,9 @@ fn ends<R: Abort>(rt: &R, alloc: Global, map: LongMap<Bytes>, seats: Vec<Seat>, 
     requires { AreMine map.map seats.items }
 {
     let mut seats = seats;
-    assert_eq!(rt; map.settle(alloc, &mut seats), Ok(size));
+    assert!(rt; map.settle(alloc, &mut seats) == Ok(size));
     let entries = map.entries(alloc, &mut seats).expect(rt, "memory");
-    assert_eq!(rt; entries.len() as u64, size);
+    assert!(rt; entries.len() as u64 == size);
     left_by(rt, map, seats, size);
 }
 
@@ -336,6 +368,7 @@ fn typed_values(rt: HostRuntime) {
     let (map, mut seats) = made(&rt, rt.alloc(), (2, 1, 1, 1));
     let mut seat = taken(&rt, &map, &mut seats);
     shows_first(&rt, rt.alloc(), &map, &mut seat);
+    assert!(rt; is_full(&map, &mut seat));
     given_back(&rt, &map, &mut seats, seat);
     ends(&rt, rt.alloc(), map, seats, 2);
 }

@@ -180,10 +180,10 @@ pub(super) fn listed<R: Abort>(rt: &R, alloc: Global, handles: &mut Vec<Handle>)
 pub(super) fn closed<R: Wait + Abort>(rt: &R, handles: Vec<Handle>) -> SetEnded
     requires { AreOfOneSet handles.items }
 {
-    let Ok(ended) = Handle::close(rt, handles) else {
-        panic!(rt; "all handles are here")
-    };
-    ended
+    match Handle::close(rt, handles) {
+        Ok(ended) => ended,
+        Err(_) => panic!(rt; "all handles are here"),
+    }
 }
 
 /// The keys that are left, in their order.
@@ -199,8 +199,8 @@ pub(super) fn entries<R: Abort>(rt: &R, alloc: Global, ended: &SetEnded) -> Vec<
 /// Sees that just these keys are left, in this order, and not the key 8.
 pub(super) fn has_left<R: Abort>(rt: &R, alloc: Global, ended: &SetEnded, numbers: &[u64]) {
     let entries = entries(rt, alloc, ended);
-    assert_eq!(rt; ended.size(), numbers.len() as u64);
-    assert_eq!(rt; entries.len(), numbers.len());
+    assert!(rt; ended.size() == numbers.len() as u64);
+    assert!(rt; entries.len() == numbers.len());
     for (entry, k) in entries.iter().zip(numbers) {
         assert!(rt; entry.get() == *k && ended.contains(*entry), "key {k}");
     }

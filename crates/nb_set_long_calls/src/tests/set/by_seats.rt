@@ -101,10 +101,7 @@ pub(super) fn taken<R: Abort>(rt: &R, set: &LongSet, seats: &mut Vec<Seat>) -> S
     ensures taken { IsMine set.now result }
     ensures left { AreMine set.now seats.new.items }
 {
-    let Some(seat) = seats.pop() else {
-        panic!(rt; "there is a seat")
-    };
-    seat
+    seats.pop().expect(rt, "there is a seat")
 }
 
 /// Gives a seat back to those that it was taken from.
@@ -120,10 +117,10 @@ pub(super) fn given_back<R: Abort>(rt: &R, set: &LongSet, seats: &mut Vec<Seat>,
 pub(super) fn ended<R: Abort>(rt: &R, set: LongSet, seats: Vec<Seat>) -> SetEnded
     requires { AreMine set seats.items }
 {
-    let Ok(ended) = set.finish(seats) else {
-        panic!(rt; "all seats are there")
-    };
-    ended
+    match set.finish(seats) {
+        Ok(ended) => ended,
+        Err(_) => panic!(rt; "all seats are there"),
+    }
 }
 
 /// An empty set with its seats.
@@ -240,7 +237,7 @@ fn rests<R: Abort>(
     requires own { AreMine set.now seats.old.items }
     ensures own { AreMine set.now seats.new.items }
 {
-    assert_eq!(rt; settles(alloc, set, seats), Ok(numbers.len() as u64));
+    assert!(rt; settles(alloc, set, seats) == Ok(numbers.len() as u64));
     are_just(rt, Some(listed(rt, alloc, set, seats)), Some(numbers));
 }
 
@@ -269,7 +266,7 @@ fn works_on<R: Wait + Abort>(
 {
     let mut seats = seats;
     let mut seat = taken(rt, &set, &mut seats);
-    assert_eq!(rt; settles(alloc, &set, &mut seats), Err(SettleFault::NotAll));
+    assert!(rt; settles(alloc, &set, &mut seats) == Err(SettleFault::NotAll));
     let (set, mut seats) = comes_back(rt, set, seats);
     sees(
         rt,

@@ -81,10 +81,10 @@ fn are_kept<R: Abort>(rt: &R, told: &Told, keys: &[Key]) -> u64 {
     let mut size = 2u64;
     for i in 0..KEYS {
         let is_kept = u64::from(keys.contains(&key(rt, i as u64)));
-        assert_eq!(rt; told[i].load(Ordering::SeqCst), is_kept, "key {i}");
+        assert!(rt; told[i].load(Ordering::SeqCst) == is_kept, "key {i}");
         size = size.wrapping_add(is_kept);
     }
-    assert_eq!(rt; keys.len() as u64, size);
+    assert!(rt; keys.len() as u64 == size);
     size
 }
 

@@ -3,7 +3,7 @@ ghost use Rattle.std.specs.Prelude.{◌≡◌, ◌==◌, ℕ, List};
 ghost use Rattle.std.specs.List.{list_any};
 ghost use Rattle.nb_set.specs.Handles.{AreOfOneSet, IsSameSet};
 ghost use Rattle.nb_set.specs.Sets.{IsMine};
-ghost use Rattle.nb_set.specs.Walks.{HasShownAll};
+ghost use Rattle.nb_set.specs.Walks.{HasShownAll, IsWalkOf};
 
 use super::super::plain::{key, shape};
 use super::by_handles::{has_left, opened, sees};
@@ -11,7 +11,7 @@ use super::by_seats::{ended, given_back, made, taken};
 use super::rows::Call;
 use super::rows::Call::*;
 use nb_core::Key;
-use nb_set::{Handle, LongSet, Seat};
+use nb_set::{Handle, LongSet, Seat, Walk};
 use std::process::Abort;
 use std::sync::Wait;
 
@@ -43,7 +43,7 @@ fn shows_its_own<R: Wait + Abort>(rt: &R, set: &LongSet, seat: &mut Seat)
     ensures own { IsMine set.now seat.new }
 {
     for k in [3, 7, 2, 9] {
-        assert_eq!(rt; set.add(rt, seat, key(rt, k)), Ok(true));
+        assert!(rt; set.add(rt, seat, key(rt, k)) == Ok(true));
     }
     let is_shown = walk_shows(set, seat, key(rt, 7));
     assert!(rt; is_shown && !walk_shows(set, seat, key(rt, 5)));
@@ -78,13 +78,24 @@ fn digits_by(handle: Handle) -> (u64, Handle) {
     (digits, walk.end())
 }
 
-/// The same by a walk that leaves its handle where it is, and is taken on by it.
+/// The next key of a walk that leaves its handle where it is, and is taken on by it.
+fn digit_beside(handle: &mut Handle, walk: &mut Walk) -> Option<u64>
+    requires { IsWalkOf handle.old.set handle.old.seat walk.old }
+    ensures { IsWalkOf handle.new.set handle.new.seat walk.new }
+{
+    match handle.next_key(walk) {
+        Some(key) => Some(key.get()),
+        None => None,
+    }
+}
+
+/// The same keys by such a walk, which stays at its end.
 fn two_digits_beside<R: Abort>(rt: &R, handle: &mut Handle) {
     let mut walk = handle.begin_walk();
-    assert_eq!(rt; handle.next_key(&mut walk), Some(key(rt, 7)));
-    assert_eq!(rt; handle.next_key(&mut walk), Some(key(rt, 3)));
-    assert!(rt; handle.next_key(&mut walk).is_none());
-    assert!(rt; handle.next_key(&mut walk).is_none());
+    assert!(rt; digit_beside(handle, &mut walk) == Some(7));
+    assert!(rt; digit_beside(handle, &mut walk) == Some(3));
+    assert!(rt; digit_beside(handle, &mut walk).is_none());
+    assert!(rt; digit_beside(handle, &mut walk).is_none());
 }
 
 /// In a table of four slots the path of the key 7 goes on from the last slot to the first, where
@@ -101,7 +112,7 @@ fn loops_over_keys(rt: HostRuntime) {
     two_digits_beside(&rt, &mut mine);
     let (digits, mut mine) = digits_by(mine);
     sees(&rt, rt.alloc(), &mut mine, &[Remove(7, true)]);
-    assert_eq!(rt; (digits, digits_of(mine)), (73, 3));
+    assert!(rt; (digits, digits_of(mine)) == (73, 3));
 }
 
 /// Adds a key and looks for it. Its caller knows by `same` that the handle is of the set that it
@@ -118,9 +129,8 @@ fn two<R: Abort>(rt: &R, handles: Vec<Handle>) -> (Handle, Handle)
     ensures { result.0.set ≡ result.1.set }
 {
     let mut handles = handles;
-    let (Some(theirs), Some(mine)) = (handles.pop(), handles.pop()) else {
-        panic!(rt; "there are two handles")
-    };
+    let theirs = handles.pop().expect(rt, "there are two handles");
+    let mine = handles.pop().expect(rt, "there are two handles");
     (mine, theirs)
 }
 
