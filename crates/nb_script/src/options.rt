@@ -26,6 +26,7 @@ ghost use Rattle.nb_script.specs.Options.{
   IsDue,
   AreOptionsOf,
   nbrun,
+  number_rule,
   option_rule,
   plan_asked,
   plan_of_text,
@@ -80,39 +81,46 @@ fn option<'a>(alloc: Global, name: &'a str, value: &'a str, help: &'a str) -> Ar
         .help(help)
 }
 
-/// The command line. Clap checks each number against its range.
+/// `--NAME NUMBER`, with a number from the first to the last of the range, which clap checks, and
+/// with this one where the words have none.
+fn number_option<'a>(
+    alloc: Global,
+    name: &'a str,
+    value: &'a str,
+    help: &'a str,
+    range: (u32, u32),
+    default: &'a str,
+) -> Arg<'a>
+    ensures rule { rule_of result ≡ number_rule name.entry.now range.0 range.1 default.entry.now }
+    ensures local { result.global ≡ false }
+{
+    let (low, high) = range;
+    option(alloc, name, value, help)
+        .value_parser(value_parser!(u32).range(i64::from(low)..=i64::from(high)))
+        .default_value(default)
+}
+
+/// The command line.
 fn command<'a>(alloc: Global) -> Result<Command<'a>, AllocError>
     ensures { IfOk result (λ command. app_of command ≡ nbrun) }
 {
-    let bits = option(alloc, "bits", "B", help::BITS)
-        .value_parser(value_parser!(u32).range(2..=12))
-        .default_value("4");
-    let generations = option(alloc, "generations", "G", help::GENERATIONS)
-        .value_parser(value_parser!(u32).range(1..=8))
-        .default_value("4");
-    let seats = option(alloc, "seats", "S", help::SEATS)
-        .value_parser(value_parser!(u32).range(1..=8))
-        .default_value("1");
-    let stripes = option(alloc, "stripes", "P", help::STRIPES)
-        .value_parser(value_parser!(u32).range(1..=8))
-        .default_value("1");
-    let reprobes = option(alloc, "reprobes", "N", help::REPROBES)
-        .value_parser(value_parser!(u32).range(1..=4294967295))
-        .default_value("4294967295");
-    let chunk = option(alloc, "chunk", "C", help::CHUNK)
-        .value_parser(value_parser!(u32).range(4..=1024))
-        .default_value("8");
-    let plan = option(alloc, "plan", "E,E,..", help::PLAN);
     Command::new(alloc, "nbrun")
         .after_help(help::SCRIPTS)
         .about("Runs a script from standard input on a map that all workers share")
-        .arg(bits)?
-        .arg(generations)?
-        .arg(seats)?
-        .arg(stripes)?
-        .arg(reprobes)?
-        .arg(chunk)?
-        .arg(plan)
+        .arg(number_option(alloc, "bits", "B", help::BITS, (2, 12), "4"))?
+        .arg(number_option(alloc, "generations", "G", help::GENERATIONS, (1, 8), "4"))?
+        .arg(number_option(alloc, "seats", "S", help::SEATS, (1, 8), "1"))?
+        .arg(number_option(alloc, "stripes", "P", help::STRIPES, (1, 8), "1"))?
+        .arg(number_option(
+            alloc,
+            "reprobes",
+            "N",
+            help::REPROBES,
+            (1, u32::MAX),
+            "4294967295",
+        ))?
+        .arg(number_option(alloc, "chunk", "C", help::CHUNK, (4, 1024), "8"))?
+        .arg(option(alloc, "plan", "E,E,..", help::PLAN))
 }
 
 /// What clap's error comes to.
