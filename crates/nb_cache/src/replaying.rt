@@ -107,7 +107,10 @@ pub(crate) fn replay<R: Threads + Sync + Wait + Eprint>(
 /// A worker for each seat of a new cache.
 fn hired(alloc: Global, shape: Shape) -> Result<Vec<Worker>, OutOfMemory> {
     let mut workers = Vec::with_capacity(alloc, shape.seats())?;
-    for handle in Handle::open(alloc, shape)? {
+    let Ok(handles) = Handle::open(alloc, shape)?.split_all(alloc) else {
+        return Err(OutOfMemory);
+    };
+    for handle in handles {
         let replayed = Replayed {
             counts: Counts::NOTHING,
             replies: Vec::new(alloc),

@@ -6,6 +6,7 @@ mod listing;
 mod renewing;
 mod rows;
 mod seats;
+mod splitting;
 mod threads;
 mod updating;
 mod walks;

@@ -52,7 +52,10 @@ where
 /// A worker for each seat of a new set.
 fn hired(alloc: Global, shape: Shape) -> Result<Vec<Worker>, OutOfMemory> {
     let mut workers = Vec::with_capacity(alloc, shape.seats())?;
-    for handle in Handle::open(alloc, shape)? {
+    let Ok(handles) = Handle::open(alloc, shape)?.split_all(alloc) else {
+        return Err(OutOfMemory);
+    };
+    for handle in handles {
         let taken = Vec::new(alloc);
         workers.push(Worker { handle, taken })?;
     }

@@ -29,6 +29,7 @@ int main(int count, char **words)
     samvolip_shape shape = samvolip_shape_for_keys(10, 2);
     uint64_t number = 0;
     samvolip_reply reply;
+    samvolip_cursor cursor = {0, 0, 0, 0, 0};
     samvolip_ended ended = SAMVOLIP_ENDED_INIT;
     EXPECT(count == 2);
     EXPECT(samvolip_open(&shape, &mine) == 0 && samvolip_split(&mine, &yours) == 0);
@@ -50,6 +51,18 @@ int main(int count, char **words)
     case 14: samvolip_try_put(&mine, 1, 1, 1, NULL); break;
     case 15: samvolip_free(&mine), samvolip_add(&mine, 1, 1, NULL); break;
     case 16: samvolip_settle(&mine, NULL); break;
+    case 17: samvolip_walk(&mine, NULL); break;
+    case 18: samvolip_next(&mine, &cursor, &number, &number); break;
+    case 19: samvolip_walk(&mine, &cursor), samvolip_next(&yours, &cursor, &number, &number); break;
+    case 20:
+        samvolip_walk(&mine, &cursor), samvolip_join(&mine, &yours), samvolip_renew(&mine, &shape);
+        samvolip_next(&mine, &cursor, &number, &number);
+        break;
+    case 21: samvolip_walk(&theirs, &cursor), samvolip_next(&mine, &cursor, &number, &number); break;
+    case 22: samvolip_walk(&mine, &cursor), samvolip_next(&mine, &cursor, NULL, &number); break;
+    case 23: samvolip_entries(&theirs, NULL, 0, NULL); break;
+    case 24: samvolip_renew(&theirs, NULL); break;
+    case 25: samvolip_occupancy(&mine, NULL); break;
     default: return 0;
     }
     return 1;

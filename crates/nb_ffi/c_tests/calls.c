@@ -175,7 +175,7 @@ static void refuses_headers(void)
     const samvolip_header ours = SAMVOLIP_HEADER_INIT;
     const samvolip_shape no_shape = {{0}, 0, 0, 0, 0, 0};
     samvolip_seat seat = SAMVOLIP_SEAT_INIT;
-    samvolip_header wrong[] = {ours, ours, ours, ours, ours, ours, ours};
+    samvolip_header wrong[] = {ours, ours, ours, ours, ours, ours, ours, ours, ours, ours, ours, ours, ours, ours};
     wrong[0].version++;
     wrong[1].version = 0;
     wrong[2].shape -= 4;
@@ -183,14 +183,29 @@ static void refuses_headers(void)
     wrong[4].ended = 0;
     wrong[5].reply += 8;
     wrong[6].entry = 8;
+    wrong[7].version = 0x000801; /* another series */
+    wrong[8].version = 0x0008ff;
+    wrong[9].version = 0x010000;
+    wrong[10].occupancy += 4;
+    wrong[11].occupancy = 8;
+    wrong[12].cursor = 16;
+    wrong[13].entry += 8;
     for (size_t i = 0; i < sizeof wrong / sizeof *wrong; i++) {
         EXPECT(samvolip_open_with(&wrong[i], &shape, &seat) == SAMVOLIP_E_VERSION);
         EXPECT(samvolip_open_with(&wrong[i], &no_shape, &seat) == SAMVOLIP_E_VERSION);
         EXPECT(seat.handle == NULL);
     }
-    EXPECT(samvolip_open_with(&ours, &no_shape, &seat) == SAMVOLIP_E_TABLES);
-    EXPECT(samvolip_open_with(&ours, &shape, &seat) == SAMVOLIP_OK);
-    samvolip_free(&seat);
+    /* the first version of the series, and larger handles and cursors, are taken */
+    samvolip_header taken[] = {ours, ours, ours, ours};
+    taken[0].version = 0x000900;
+    taken[1].seat = taken[1].ended = sizeof(void *);
+    taken[2].seat = taken[2].ended = 256;
+    taken[3].cursor = 256;
+    for (size_t i = 0; i < sizeof taken / sizeof *taken; i++) {
+        EXPECT(samvolip_open_with(&taken[i], &no_shape, &seat) == SAMVOLIP_E_TABLES);
+        EXPECT(samvolip_open_with(&taken[i], &shape, &seat) == SAMVOLIP_OK);
+        samvolip_free(&seat);
+    }
 }
 
 static void has_room_for(uint64_t most, samvolip_shape shape)
@@ -273,19 +288,21 @@ static void tells_how_full(void)
 {
     const samvolip_shape shape = {{2, 5}, 2, 1, 1, UINT32_MAX, 8};
     samvolip_seat seat = SAMVOLIP_SEAT_INIT;
-    uint32_t taken = 99, looked = 98;
+    samvolip_slots found = {99, 98, 97};
     EXPECT(samvolip_open(&shape, &seat) == SAMVOLIP_OK);
-    EXPECT(samvolip_occupancy(&seat, &taken, &looked) == 0 && taken == 0 && looked == 4);
+    samvolip_occupancy(&seat, &found);
+    EXPECT(found.taken == 0 && found.looked == 4 && found.is_last == 0);
     for (uint64_t key = 0; key < 21; key++) {
         EXPECT(samvolip_put(&seat, key, key, NULL) == SAMVOLIP_ABSENT);
         EXPECT(samvolip_remove(&seat, key, NULL) == SAMVOLIP_PRESENT);
     }
-    EXPECT(samvolip_occupancy(&seat, &taken, &looked) == 1 && looked == 32);
-    EXPECT(samvolip_should_renew(&seat) == (taken > 21));
+    samvolip_occupancy(&seat, &found);
+    EXPECT(found.is_last == 1 && found.looked == 32);
+    EXPECT(samvolip_should_renew(&seat) == (found.taken > 21));
     for (uint64_t key = 21; key < 32; key++)
         EXPECT(samvolip_put(&seat, key, key, NULL) == SAMVOLIP_ABSENT);
-    EXPECT(samvolip_occupancy(&seat, &taken, &looked) == 1 && taken > 21);
-    EXPECT(samvolip_should_renew(&seat) == 1);
+    samvolip_occupancy(&seat, &found);
+    EXPECT(found.is_last == 1 && found.taken > 21 && samvolip_should_renew(&seat) == 1);
     samvolip_free(&seat);
 }
 
@@ -339,15 +356,17 @@ static void refuses_when_full(void)
 static void walks(samvolip_seat *seat)
 {
     uint64_t key = 99, number = 99;
-    EXPECT(samvolip_next(seat, &key, &number) == SAMVOLIP_ABSENT && key == 99 && number == 99);
+    samvolip_cursor cursor, other;
     for (uint64_t k = 100; k < 200; k++)
         EXPECT(samvolip_put(seat, k, k + 1, NULL) == SAMVOLIP_ABSENT);
     int seen[100] = {0};
-    samvolip_walk(seat);
-    EXPECT(samvolip_next(seat, &key, &number) == SAMVOLIP_PRESENT);
+    samvolip_walk(seat, &cursor);
+    samvolip_walk(seat, &other);
+    EXPECT(cursor.is_over == 0);
+    EXPECT(samvolip_next(seat, &cursor, &key, &number) == SAMVOLIP_PRESENT);
     memset(seen, 0, sizeof seen);
-    samvolip_walk(seat);
-    while (samvolip_next(seat, &key, &number) == SAMVOLIP_PRESENT) {
+    samvolip_walk(seat, &cursor);
+    while (samvolip_next(seat, &cursor, &key, &number) == SAMVOLIP_PRESENT) {
         EXPECT(samvolip_get(seat, key, &number) == SAMVOLIP_PRESENT);
         if (key < 100 || key >= 200)
             continue;
@@ -356,7 +375,245 @@ static void walks(samvolip_seat *seat)
     }
     for (int k = 0; k < 100; k++)
         EXPECT(seen[k] == 1);
-    EXPECT(samvolip_next(seat, &key, &number) == SAMVOLIP_ABSENT);
+    key = number = 99;
+    for (int i = 0; i < 3; i++)
+        EXPECT(samvolip_next(seat, &cursor, &key, &number) == SAMVOLIP_ABSENT && cursor.is_over == 1);
+    EXPECT(key == 99 && number == 99);
+
+    /* the other walk is where it was, and its copy goes on by itself */
+    unsigned shown = 0, copied = 0;
+    EXPECT(samvolip_next(seat, &other, &key, &number) == SAMVOLIP_PRESENT);
+    samvolip_cursor copy = other;
+    while (samvolip_next(seat, &other, &key, &number) == SAMVOLIP_PRESENT)
+        shown++;
+    while (samvolip_next(seat, &copy, &key, &number) == SAMVOLIP_PRESENT)
+        copied++;
+    EXPECT(shown + 1 == samvolip_size_estimate(seat) && copied == shown);
+}
+
+/* A walk in each turn of a walk: all pairs of keys are shown, each once. */
+static void walks_within_a_walk(void)
+{
+    enum { KEYS = 20 };
+    const samvolip_shape shape = {{2, 4, 6}, 3, 1, 1, UINT32_MAX, 8};
+    samvolip_seat seat = SAMVOLIP_SEAT_INIT;
+    samvolip_cursor outer, inner;
+    uint64_t a, b, of_a, of_b;
+    int seen[KEYS][KEYS] = {{0}};
+    EXPECT(samvolip_open(&shape, &seat) == SAMVOLIP_OK);
+    samvolip_walk(&seat, &outer);
+    EXPECT(samvolip_next(&seat, &outer, &a, &of_a) == SAMVOLIP_ABSENT);
+    for (uint64_t key = 0; key < KEYS; key++)
+        EXPECT(samvolip_put(&seat, key, key + 7, NULL) == SAMVOLIP_ABSENT);
+    EXPECT(samvolip_next(&seat, &outer, &a, &of_a) == SAMVOLIP_ABSENT);
+    samvolip_walk(&seat, &outer);
+    while (samvolip_next(&seat, &outer, &a, &of_a) == SAMVOLIP_PRESENT) {
+        samvolip_walk(&seat, &inner);
+        while (samvolip_next(&seat, &inner, &b, &of_b) == SAMVOLIP_PRESENT) {
+            EXPECT(a < KEYS && b < KEYS && of_b == b + 7 && seen[a][b]++ == 0);
+            EXPECT(samvolip_put(&seat, b, b + 7, NULL) == SAMVOLIP_PRESENT);
+        }
+        EXPECT(of_a == a + 7);
+    }
+    for (int i = 0; i < KEYS * KEYS; i++)
+        EXPECT(seen[i / KEYS][i % KEYS] == 1);
+
+    /* no call ends a walk: it is begun in the first table, and goes on where the map has grown */
+    samvolip_free(&seat);
+    EXPECT(samvolip_open(&shape, &seat) == SAMVOLIP_OK);
+    for (uint64_t key = 0; key < 3; key++)
+        EXPECT(samvolip_put(&seat, key, key, NULL) == SAMVOLIP_ABSENT);
+    samvolip_walk(&seat, &outer);
+    EXPECT(samvolip_next(&seat, &outer, &a, &of_a) == SAMVOLIP_PRESENT);
+    samvolip_entry entries[3];
+    uint64_t size;
+    EXPECT(samvolip_settle(&seat, &size) == SAMVOLIP_OK && size == 3);
+    EXPECT(samvolip_entries(&seat, entries, 3, &size) == SAMVOLIP_OK && size == 3);
+    EXPECT(samvolip_entries(&seat, entries, 2, &size) == SAMVOLIP_E_ROOM && size == 3);
+    for (uint64_t key = 10; key < 20; key++)
+        EXPECT(samvolip_put(&seat, key, key, NULL) == SAMVOLIP_ABSENT);
+    EXPECT(samvolip_generation(&seat) > 0);
+    unsigned old = 1;
+    while (samvolip_next(&seat, &outer, &b, &of_b) == SAMVOLIP_PRESENT) {
+        EXPECT(b != a && of_b == b);
+        old += b < 3;
+    }
+    EXPECT(old == 3);
+    samvolip_free(&seat);
+}
+
+/* Sees that these are the numbers from 0 to count - 1, each once, with themselves and `more` as their numbers. */
+static void are_all(const samvolip_entry *entries, uint64_t count, uint64_t more)
+{
+    uint64_t seen = 0;
+    for (uint64_t i = 0; i < count; i++) {
+        EXPECT(entries[i].key < count && entries[i].number == entries[i].key + more);
+        seen |= UINT64_C(1) << entries[i].key;
+    }
+    EXPECT(count == 0 || seen == UINT64_MAX >> (64 - count));
+}
+
+static void lists_entries(void)
+{
+    enum { KEYS = 12, ROOM = 20 };
+    const samvolip_shape shape = {{2, 3, 5}, 3, 2, 1, UINT32_MAX, 8};
+    samvolip_seat mine = SAMVOLIP_SEAT_INIT, yours = SAMVOLIP_SEAT_INIT;
+    samvolip_entry entries[ROOM];
+    uint64_t count = 99, number;
+    for (int i = 0; i < ROOM; i++)
+        entries[i] = (samvolip_entry){77, 78};
+    EXPECT(samvolip_open(&shape, &mine) == SAMVOLIP_OK);
+    EXPECT(samvolip_entries(&mine, NULL, 0, &count) == SAMVOLIP_OK && count == 0);
+    count = 99;
+    EXPECT(samvolip_entries(&mine, entries, ROOM, &count) == SAMVOLIP_OK && count == 0);
+    EXPECT(samvolip_split(&mine, &yours) == SAMVOLIP_OK);
+    for (uint64_t key = 0; key < KEYS + 1; key++)
+        EXPECT(samvolip_put(key % 2 ? &mine : &yours, key, key + 5, NULL) == SAMVOLIP_ABSENT);
+    EXPECT(samvolip_remove(&mine, KEYS, NULL) == SAMVOLIP_PRESENT);
+
+    /* not all seats, by either handle */
+    count = 99;
+    EXPECT(samvolip_entries(&mine, entries, ROOM, &count) == SAMVOLIP_E_NOT_ALL_SEATS);
+    EXPECT(samvolip_entries(&yours, NULL, 0, &count) == SAMVOLIP_E_NOT_ALL_SEATS && count == 99);
+    EXPECT(samvolip_join(&yours, &mine) == SAMVOLIP_OK);
+
+    /* no room, whatever is said; too little; just so much; more */
+    EXPECT(samvolip_entries(&yours, NULL, 0, &count) == SAMVOLIP_E_ROOM && count == KEYS);
+    count = 99;
+    EXPECT(samvolip_entries(&yours, NULL, ROOM, &count) == SAMVOLIP_E_ROOM && count == KEYS);
+    count = 99;
+    EXPECT(samvolip_entries(&yours, entries, 0, &count) == SAMVOLIP_E_ROOM && count == KEYS);
+    count = 99;
+    EXPECT(samvolip_entries(&yours, entries, KEYS - 1, &count) == SAMVOLIP_E_ROOM && count == KEYS);
+    for (int i = 0; i < ROOM; i++)
+        EXPECT(entries[i].key == 77 && entries[i].number == 78);
+    count = 99;
+    EXPECT(samvolip_entries(&yours, entries, KEYS, &count) == SAMVOLIP_OK && count == KEYS);
+    are_all(entries, KEYS, 5);
+    EXPECT(entries[KEYS].key == 77 && entries[KEYS].number == 78);
+    entries[0] = (samvolip_entry){77, 78};
+    count = 99;
+    EXPECT(samvolip_entries(&yours, entries, ROOM, &count) == SAMVOLIP_OK && count == KEYS);
+    are_all(entries, KEYS, 5);
+    for (int i = KEYS; i < ROOM; i++)
+        EXPECT(entries[i].key == 77 && entries[i].number == 78);
+
+    /* the map goes on, and its handle can be split */
+    EXPECT(samvolip_split(&yours, &mine) == SAMVOLIP_OK);
+    for (uint64_t key = 0; key < KEYS; key++)
+        EXPECT(samvolip_get(&mine, key, &number) == SAMVOLIP_PRESENT && number == key + 5);
+    EXPECT(samvolip_put(&mine, KEYS, 1, NULL) == SAMVOLIP_ABSENT);
+    samvolip_free(&mine);
+    /* the seat of a freed handle is lost */
+    EXPECT(samvolip_entries(&yours, entries, ROOM, &count) == SAMVOLIP_E_NOT_ALL_SEATS);
+    EXPECT(samvolip_renew(&yours, &shape) == SAMVOLIP_E_NOT_ALL_SEATS);
+    samvolip_free(&yours);
+}
+
+/* The map of this handle has just the keys from 0 to count - 1, each with itself and `more`. */
+static void has_keys(samvolip_seat *seat, uint64_t count, uint64_t more)
+{
+    samvolip_entry entries[64];
+    samvolip_cursor cursor;
+    uint64_t size = 99, shown = 0, key, number;
+    EXPECT(samvolip_size_estimate(seat) == count);
+    EXPECT(samvolip_entries(seat, entries, 64, &size) == SAMVOLIP_OK && size == count);
+    are_all(entries, count, more);
+    samvolip_walk(seat, &cursor);
+    for (; samvolip_next(seat, &cursor, &key, &number) == SAMVOLIP_PRESENT; shown++)
+        EXPECT(key < count && number == key + more);
+    EXPECT(shown == count);
+    for (key = 0; key < count; key++)
+        EXPECT(samvolip_get(seat, key, &number) == SAMVOLIP_PRESENT && number == key + more);
+    EXPECT(samvolip_get(seat, count, &number) == SAMVOLIP_ABSENT);
+}
+
+static void renews(void)
+{
+    const samvolip_shape small = {{2, 3}, 2, 2, 1, UINT32_MAX, 8};
+    const samvolip_shape large = {{3, 4, 6}, 3, 3, 2, 18, 16};
+    const samvolip_shape tiny = {{2}, 1, 2, 1, UINT32_MAX, 8};
+    const samvolip_shape wrong = {{3, 2}, 2, 2, 1, UINT32_MAX, 8};
+    const samvolip_shape seatless = {{3}, 1, 0, 1, UINT32_MAX, 8};
+    samvolip_seat seat = SAMVOLIP_SEAT_INIT, other = SAMVOLIP_SEAT_INIT, third = SAMVOLIP_SEAT_INIT;
+    samvolip_cursor cursor;
+    samvolip_slots found;
+    uint64_t key, number, shown = 0;
+    EXPECT(samvolip_open(&small, &seat) == SAMVOLIP_OK);
+    EXPECT(samvolip_renew(&seat, &small) == SAMVOLIP_OK);
+    has_keys(&seat, 0, 0);
+    for (key = 0; key < 8; key++)
+        EXPECT(samvolip_put(&seat, key, key + 1, NULL) == SAMVOLIP_ABSENT);
+    EXPECT(samvolip_put(&seat, 8, 9, NULL) == SAMVOLIP_E_FULL);
+
+    /* refused: the map is as it was, and a walk goes on */
+    samvolip_walk(&seat, &cursor);
+    EXPECT(samvolip_next(&seat, &cursor, &key, &number) == SAMVOLIP_PRESENT);
+    EXPECT(samvolip_renew(&seat, &tiny) == SAMVOLIP_E_FULL);
+    EXPECT(samvolip_renew(&seat, &wrong) == SAMVOLIP_E_FALLING);
+    EXPECT(samvolip_renew(&seat, &seatless) == SAMVOLIP_E_SEATS);
+    EXPECT(samvolip_split(&seat, &other) == SAMVOLIP_OK);
+    EXPECT(samvolip_renew(&seat, &large) == SAMVOLIP_E_NOT_ALL_SEATS);
+    EXPECT(samvolip_renew(&other, &large) == SAMVOLIP_E_NOT_ALL_SEATS);
+    EXPECT(samvolip_renew(&other, &wrong) == SAMVOLIP_E_FALLING);
+    EXPECT(samvolip_put(&other, 0, 50, &number) == SAMVOLIP_PRESENT && number == 1);
+    EXPECT(samvolip_put(&seat, 0, 1, &number) == SAMVOLIP_PRESENT && number == 50);
+    EXPECT(samvolip_join(&seat, &other) == SAMVOLIP_OK);
+    for (shown = 1; samvolip_next(&seat, &cursor, &key, &number) == SAMVOLIP_PRESENT; shown++)
+        EXPECT(number == key + 1);
+    EXPECT(shown == 8);
+    has_keys(&seat, 8, 1);
+    EXPECT(samvolip_generation(&seat) == 1);
+
+    /* larger, with one more seat: the keys are there, and more of them */
+    EXPECT(samvolip_renew(&seat, &large) == SAMVOLIP_OK);
+    has_keys(&seat, 8, 1);
+    for (key = 8; key < 40; key++)
+        EXPECT(samvolip_put(&seat, key, key + 1, NULL) == SAMVOLIP_ABSENT);
+    EXPECT(samvolip_split(&seat, &other) == SAMVOLIP_OK);
+    EXPECT(samvolip_split(&seat, &third) == SAMVOLIP_OK);
+    EXPECT(samvolip_get(&third, 30, &number) == SAMVOLIP_PRESENT && number == 31);
+    EXPECT(samvolip_join(&seat, &other) == SAMVOLIP_OK && samvolip_join(&seat, &third) == SAMVOLIP_OK);
+    has_keys(&seat, 40, 1);
+
+    /* smaller, as far as the keys have room */
+    EXPECT(samvolip_renew(&seat, &small) == SAMVOLIP_E_FULL);
+    has_keys(&seat, 40, 1);
+    for (key = 8; key < 40; key++)
+        EXPECT(samvolip_remove(&seat, key, NULL) == SAMVOLIP_PRESENT);
+    EXPECT(samvolip_renew(&seat, &small) == SAMVOLIP_OK);
+    has_keys(&seat, 8, 1);
+    samvolip_free(&seat);
+
+    /* the slots of removed keys are free again */
+    EXPECT(samvolip_open(&tiny, &seat) == SAMVOLIP_OK);
+    for (uint64_t turn = 0; turn < 50; turn++) {
+        const uint64_t first = 4 * turn;
+        for (key = first; key < first + 4; key++)
+            EXPECT(samvolip_put(&seat, key, key, NULL) == SAMVOLIP_ABSENT);
+        for (key = first + 1; key < first + 4; key++)
+            EXPECT(samvolip_remove(&seat, key, NULL) == SAMVOLIP_PRESENT);
+        EXPECT(samvolip_should_renew(&seat) == 1);
+        EXPECT(samvolip_put(&seat, first + 4, 1, NULL) == SAMVOLIP_E_FULL);
+        EXPECT(samvolip_renew(&seat, &tiny) == SAMVOLIP_OK);
+        samvolip_occupancy(&seat, &found);
+        EXPECT(found.is_last == 1 && found.looked == 4 && found.taken == 1);
+        EXPECT(samvolip_should_renew(&seat) == 0);
+        samvolip_walk(&seat, &cursor);
+        EXPECT(samvolip_next(&seat, &cursor, &key, &number) == SAMVOLIP_PRESENT);
+        EXPECT(key == first && number == first);
+        EXPECT(samvolip_next(&seat, &cursor, &key, &number) == SAMVOLIP_ABSENT);
+        EXPECT(samvolip_remove(&seat, first, NULL) == SAMVOLIP_PRESENT);
+        EXPECT(samvolip_renew(&seat, &tiny) == SAMVOLIP_OK);
+    }
+
+    /* it is closed as any map is */
+    samvolip_ended ended = SAMVOLIP_ENDED_INIT;
+    EXPECT(samvolip_put(&seat, 3, 4, NULL) == SAMVOLIP_ABSENT);
+    EXPECT(samvolip_renew(&seat, &large) == SAMVOLIP_OK);
+    EXPECT(samvolip_close(&seat, &ended) == SAMVOLIP_OK && samvolip_ended_size(&ended) == 1);
+    EXPECT(samvolip_ended_get(&ended, 3, &number) == SAMVOLIP_PRESENT && number == 4);
+    samvolip_ended_free(&ended);
 }
 
 static void splits_and_joins(void)
@@ -404,6 +661,7 @@ static void settles(void)
     const samvolip_shape shape = samvolip_shape_for_keys(100, SEATS);
     samvolip_seat seats[SEATS] = {SAMVOLIP_SEAT_INIT};
     uint64_t size = 99, number = 99, key = 99;
+    samvolip_cursor cursor;
     EXPECT(samvolip_open(&shape, &seats[0]) == SAMVOLIP_OK);
     EXPECT(samvolip_settle(&seats[0], &size) == SAMVOLIP_OK && size == 0);
     size = 99;
@@ -412,8 +670,8 @@ static void settles(void)
     for (uint64_t k = 0; k < 12; k++)
         EXPECT(samvolip_put(&seats[k % SEATS], k, k + 1, NULL) == SAMVOLIP_ABSENT);
     EXPECT(samvolip_remove(&seats[2], 5, NULL) == SAMVOLIP_PRESENT);
-    samvolip_walk(&seats[0]);
-    EXPECT(samvolip_next(&seats[0], &key, &number) == SAMVOLIP_PRESENT);
+    samvolip_walk(&seats[0], &cursor);
+    EXPECT(samvolip_next(&seats[0], &cursor, &key, &number) == SAMVOLIP_PRESENT);
     EXPECT(samvolip_settle(&seats[0], &size) == SAMVOLIP_E_NOT_ALL_SEATS && size == 99);
     for (int i = 1; i < SEATS; i++)
         EXPECT(samvolip_join(&seats[0], &seats[i]) == SAMVOLIP_OK);
@@ -422,8 +680,8 @@ static void settles(void)
         EXPECT(samvolip_split(&seats[0], &seats[i]) == SAMVOLIP_OK);
     /* the walk and the map go on */
     for (int i = 0; i < 10; i++)
-        EXPECT(samvolip_next(&seats[0], &key, &number) == SAMVOLIP_PRESENT && number == key + 1);
-    EXPECT(samvolip_next(&seats[0], &key, &number) == SAMVOLIP_ABSENT);
+        EXPECT(samvolip_next(&seats[0], &cursor, &key, &number) == SAMVOLIP_PRESENT && number == key + 1);
+    EXPECT(samvolip_next(&seats[0], &cursor, &key, &number) == SAMVOLIP_ABSENT);
     for (int i = 0; i < SEATS; i++)
         EXPECT(samvolip_get(&seats[i], 7, &number) == SAMVOLIP_PRESENT && number == 8);
     EXPECT(samvolip_put(&seats[1], 5, 6, NULL) == SAMVOLIP_ABSENT);
@@ -493,7 +751,7 @@ static void tells_codes(void)
 
 int main(void)
 {
-    EXPECT(samvolip_version() == SAMVOLIP_VERSION);
+    EXPECT(samvolip_version() == SAMVOLIP_VERSION && SAMVOLIP_VERSION == 0x000900);
     refuses_headers();
     refuses_shapes();
     makes_shapes_for_many_keys();
@@ -512,8 +770,11 @@ int main(void)
     EXPECT(seat.handle == NULL);
     refuses_when_full();
     tells_how_full();
+    walks_within_a_walk();
     splits_and_joins();
     settles();
+    lists_entries();
+    renews();
     begins_with_zeros();
     tells_codes();
     puts("calls: well");

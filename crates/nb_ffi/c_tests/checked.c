@@ -26,24 +26,44 @@ static void writes_and_reads(samvolip_seat *mine, samvolip_seat *yours)
     samvolip_meet(mine, yours);
     EXPECT(samvolip_size_estimate(yours) == KEYS);
     EXPECT(samvolip_generation(mine) == 1 && samvolip_generation(yours) == 1);
-    uint32_t taken = 99, looked = 98;
-    EXPECT(samvolip_occupancy(mine, &taken, &looked) == 1 && taken == KEYS);
-    EXPECT(samvolip_should_renew(yours) == (3 * taken > 2 * looked));
+    samvolip_slots found = {99, 98, 97};
+    samvolip_occupancy(mine, &found);
+    EXPECT(found.is_last == 1 && found.taken == KEYS);
+    EXPECT(samvolip_should_renew(yours) == (3 * found.taken > 2 * found.looked));
     EXPECT(mine->in_use == 0 && yours->in_use == 0);
 }
 
 static void walks(samvolip_seat *seat)
 {
     uint64_t key = 99, number = 99, keys = 0;
-    samvolip_walk(seat);
+    samvolip_cursor cursor, other;
+    samvolip_walk(seat, &cursor);
     for (int i = 0; i < KEYS; i++) {
-        EXPECT(samvolip_next(seat, &key, &number) == SAMVOLIP_PRESENT);
+        EXPECT(samvolip_next(seat, &cursor, &key, &number) == SAMVOLIP_PRESENT);
         EXPECT(number == (key == 7 ? 70 : key + 1));
         keys |= UINT64_C(1) << key;
+        samvolip_walk(seat, &other);
+        EXPECT(samvolip_next(seat, &other, &key, &number) == SAMVOLIP_PRESENT);
     }
     EXPECT(keys == (UINT64_C(1) << KEYS) - 1);
-    EXPECT(samvolip_next(seat, &key, &number) == SAMVOLIP_ABSENT);
+    EXPECT(samvolip_next(seat, &cursor, &key, &number) == SAMVOLIP_ABSENT);
+    EXPECT(samvolip_next(seat, &cursor, &key, &number) == SAMVOLIP_ABSENT);
     EXPECT(seat->in_use == 0);
+}
+
+/* A walk goes on after a refused renewal, and a new one is begun after one that was made. */
+static void renews(samvolip_seat *seat)
+{
+    const samvolip_shape tiny = {{2}, 1, 2, 1, UINT32_MAX, 8}, large = {{6}, 1, 2, 1, UINT32_MAX, 8};
+    uint64_t key, number;
+    samvolip_cursor cursor;
+    samvolip_walk(seat, &cursor);
+    EXPECT(samvolip_renew(seat, &tiny) == SAMVOLIP_E_FULL && seat->in_use == 0);
+    EXPECT(samvolip_next(seat, &cursor, &key, &number) == SAMVOLIP_PRESENT);
+    EXPECT(samvolip_renew(seat, &large) == SAMVOLIP_OK && seat->in_use == 0);
+    samvolip_walk(seat, &cursor);
+    EXPECT(samvolip_next(seat, &cursor, &key, &number) == SAMVOLIP_PRESENT);
+    EXPECT(samvolip_size_estimate(seat) == KEYS);
 }
 
 /* Closes the map of two seats, and looks at what is left. */
@@ -56,6 +76,9 @@ static void ends(samvolip_seat *mine, samvolip_seat *yours)
     EXPECT(samvolip_settle(mine, &number) == SAMVOLIP_E_NOT_ALL_SEATS && number == 99);
     EXPECT(samvolip_join(mine, yours) == SAMVOLIP_OK && yours->handle == NULL);
     EXPECT(samvolip_settle(mine, &number) == SAMVOLIP_OK && number == KEYS && mine->in_use == 0);
+    EXPECT(samvolip_entries(mine, NULL, KEYS, &number) == SAMVOLIP_E_ROOM && number == KEYS);
+    EXPECT(samvolip_entries(mine, entries, KEYS, &number) == SAMVOLIP_OK && number == KEYS);
+    renews(mine);
     EXPECT(samvolip_close(mine, &ended) == SAMVOLIP_OK && mine->handle == NULL);
     EXPECT(mine->in_use == 0 && yours->in_use == 0);
     EXPECT(samvolip_ended_size(&ended) == KEYS);

@@ -43,11 +43,13 @@ enum call {
     CALL_MEET,
     CALL_CLOSE,
     CALL_WALK,
-    CALL_NEXT
+    CALL_NEXT,
+    CALL_ENTRIES,
+    CALL_RENEW
 };
 
 /* What a call answers: its code, and the number that it writes. Then whether a write's condition held, and 1 for a call that has
-   none; for a look at how full a table is, at how many slots it looked. */
+   none; for a look at how full a table is, which has 1 as its code if that is the last one, at how many slots it looked. */
 struct answer {
     int code;
     uint64_t number;
@@ -73,6 +75,9 @@ struct test {
 };
 
 enum { A, B, SEATS };
+
+/* the walks that a seat may have at a time */
+enum { CURSORS = 2 };
 
 /* In an exchange, that there is no number. */
 #define NONE UINT64_MAX
@@ -111,9 +116,16 @@ enum { A, B, SEATS };
 /* with the other seat */
 #define MEET CALL_MEET, 0, 0
 #define CLOSE CALL_CLOSE, 0, 0
+/* the first walk of a seat, and its other one */
 #define WALK CALL_WALK, 0, 0
+#define WALK_2 CALL_WALK, 1, 0
 /* shows the row's key */
 #define NEXT CALL_NEXT, 0, 0
+#define NEXT_2 CALL_NEXT, 1, 0
+/* with so much room */
+#define ENTRIES(room) CALL_ENTRIES, room, 0
+/* as one table of 2^exponent slots */
+#define RENEW(exponent) CALL_RENEW, 0, exponent
 
 #define NOTHING {SAMVOLIP_ABSENT, 0, 1}
 #define WAS(number) {SAMVOLIP_PRESENT, number, 1}
@@ -126,6 +138,8 @@ enum { A, B, SEATS };
 #define PAST REFUSED(SAMVOLIP_E_SUM_RANGE)
 #define TAKEN(taken, looked) {0, taken, looked}
 #define TAKEN_OF_LAST(taken, looked) {1, taken, looked}
+#define LISTED(count) {SAMVOLIP_OK, count, 1}
+#define LISTED_FOR_MORE(count) {SAMVOLIP_E_ROOM, count, 1}
 /* what is there or was, but not a refusal */
 enum { ANY_CODE = 2 };
 #define MADE {ANY_CODE, 0, 1}
@@ -173,20 +187,54 @@ static struct answer compares(samvolip_seat *seat, const struct row *row)
     return (struct answer){(int)reply.had, reply.before, reply.matched};
 }
 
+/* The walks of each seat. */
+static samvolip_cursor cursors[SEATS][CURSORS];
+
+/* A call that lists the entries in so much room, and how many there are. Where it is refused, the array is as it was. */
+static struct answer lists(samvolip_seat *seat, size_t room)
+{
+    samvolip_entry entries[LEFT];
+    uint64_t count = 99, number;
+    for (size_t i = 0; i < LEFT; i++)
+        entries[i] = (samvolip_entry){UINT64_MAX, i};
+    EXPECT(room <= LEFT);
+    const int code = samvolip_entries(seat, entries, room, &count);
+    const uint64_t written = code == SAMVOLIP_OK ? count : 0;
+    for (uint64_t i = 0; i < LEFT; i++) {
+        if (i >= written) {
+            EXPECT(entries[i].key == UINT64_MAX && entries[i].number == i);
+            continue;
+        }
+        EXPECT(samvolip_get(seat, entries[i].key, &number) == SAMVOLIP_PRESENT && number == entries[i].number);
+        for (uint64_t j = 0; j < i; j++)
+            EXPECT(entries[j].key != entries[i].key);
+    }
+    if (code < 0 && code != SAMVOLIP_E_ROOM)
+        return (struct answer){count == 99 ? code : ANY_CODE, 0, 1};
+    return (struct answer){code, count, 1};
+}
+
+/* A call that makes the map anew. */
+static int renews(samvolip_seat *seats, const struct row *row)
+{
+    const samvolip_shape shape = {{(uint32_t)row->number}, 1, seats[B].handle ? 2 : 1, 1, UINT32_MAX, 8};
+    return samvolip_renew(&seats[row->seat], &shape);
+}
+
 /* A call that answers by a code and no number. */
 static struct answer looks(samvolip_seat *seats, const struct row *row)
 {
     samvolip_seat *seat = &seats[row->seat];
     samvolip_ended ended = SAMVOLIP_ENDED_INIT;
-    uint32_t taken = 99, looked = 98;
+    samvolip_slots found = {99, 98, 97};
     int code = 0;
     switch (row->call) {
     case CALL_CONTAINS: code = samvolip_contains(seat, row->key); break;
     case CALL_ESTIMATE: return (struct answer)WAS(samvolip_size_estimate(seat));
     case CALL_GENERATION: return (struct answer)WAS(samvolip_generation(seat));
     case CALL_OCCUPANCY:
-        code = samvolip_occupancy(seat, &taken, &looked);
-        return (struct answer){code, taken, looked};
+        samvolip_occupancy(seat, &found);
+        return (struct answer){(int)found.is_last, found.taken, found.looked};
     case CALL_SHOULD_RENEW: code = samvolip_should_renew(seat); break;
     case CALL_REPLACE_IF: code = samvolip_replace_if(seat, row->key, row->old, row->number); break;
     case CALL_REMOVE_IF: code = samvolip_remove_if(seat, row->key, row->old); break;
@@ -195,7 +243,9 @@ static struct answer looks(samvolip_seat *seats, const struct row *row)
         code = samvolip_close(seat, &ended);
         EXPECT(ended.handle == NULL);
         break;
-    case CALL_WALK: samvolip_walk(seat); break;
+    case CALL_WALK: samvolip_walk(seat, &cursors[row->seat][row->old]); break;
+    case CALL_ENTRIES: return lists(seat, (size_t)row->old);
+    case CALL_RENEW: code = renews(seats, row); break;
     default: return compares(seat, row);
     }
     return (struct answer){code, 0, 1};
@@ -228,7 +278,7 @@ static struct answer makes(samvolip_seat *seats, const struct row *row)
     case CALL_ONE_MORE: code = samvolip_update(seat, key, one_more, NULL, 1, &found); break;
     case CALL_TURN: code = samvolip_update(seat, key, turn, NULL, 2, &found); break;
     case CALL_NEXT:
-        code = samvolip_next(seat, &shown, &found);
+        code = samvolip_next(seat, &cursors[row->seat][row->old], &shown, &found);
         if (code == SAMVOLIP_ABSENT)
             return (struct answer){shown == 98 && found == 99 ? code : ANY_CODE, 0, 1};
         return (struct answer){code, found, shown == key};
@@ -760,6 +810,135 @@ static const struct test tests[] = {
               {A, 0, NEXT, NOTHING}},
      .keys = 1,
      .left = {{1, 12}}},
+
+    /* a seat has two walks, each of which is where it is: a whole one within another, and two by turns */
+    {.name = "two_walks_of_a_seat",
+     .shape = ONE_TABLE,
+     .rows = {{A, 0, PUT(10), NOTHING},
+              {A, 1, PUT(11), NOTHING},
+              {A, 2, PUT(12), NOTHING},
+              {A, 0, WALK, NO},
+              {A, 0, NEXT, WAS(10)},
+              {A, 0, WALK_2, NO},
+              {A, 0, NEXT_2, WAS(10)},
+              {A, 1, NEXT_2, WAS(11)},
+              {A, 2, NEXT_2, WAS(12)},
+              {A, 0, NEXT_2, NOTHING},
+              {A, 1, NEXT, WAS(11)},
+              {A, 0, NEXT_2, NOTHING},
+              {A, 0, WALK_2, NO},
+              {A, 0, NEXT_2, WAS(10)},
+              {A, 2, REMOVE, WAS(12)},
+              {A, 3, PUT(13), NOTHING},
+              {A, 3, NEXT, WAS(13)},
+              {A, 1, NEXT_2, WAS(11)},
+              {A, 0, NEXT, NOTHING},
+              {A, 3, NEXT_2, WAS(13)},
+              {A, 0, NEXT_2, NOTHING},
+              {A, 0, NEXT, NOTHING}},
+     .keys = 3,
+     .left = {{0, 10}, {1, 11}, {3, 13}}},
+
+    /* each seat has its own walk, one of which begins after the map has grown; a meeting ends none */
+    {.name = "walks_of_two_seats",
+     .shape = OF_TWO_SEATS,
+     .rows = {{A, 0, PUT(10), NOTHING},
+              {A, 4, PUT(14), NOTHING},
+              {A, 8, PUT(18), NOTHING},
+              {A, 0, WALK, NO},
+              {B, 0, WALK, NO},
+              {A, 0, NEXT, WAS(10)},
+              {B, 0, NEXT, WAS(10)},
+              {B, 4, NEXT, WAS(14)},
+              {B, 12, PUT(22), NOTHING},
+              {B, 12, GENERATION, WAS(1)},
+              {B, 0, WALK_2, NO},
+              {A, 4, REMOVE, WAS(14)},
+              {A, 0, MEET, NO},
+              {A, 8, NEXT, WAS(18)},
+              {B, 8, NEXT, WAS(18)},
+              {B, 0, NEXT_2, WAS(10)},
+              {A, 12, NEXT, WAS(22)},
+              {B, 8, NEXT_2, WAS(18)},
+              {A, 0, NEXT, NOTHING},
+              {B, 12, NEXT, WAS(22)},
+              {B, 12, NEXT_2, WAS(22)},
+              {B, 0, NEXT, NOTHING},
+              {B, 0, NEXT_2, NOTHING}},
+     .keys = 3,
+     .left = {{0, 10}, {8, 18}, {12, 22}}},
+
+    /* ---- all entries, and a new map */
+
+    /* the room is too small, or just enough, or more; a walk goes on */
+    {.name = "entries_with_room",
+     .shape = TWO_TABLES,
+     .rows = {{A, 0, ENTRIES(0), LISTED(0)},
+              {A, 0, ENTRIES(3), LISTED(0)},
+              FOUR_KEYS,
+              {A, 0, WALK, NO},
+              {A, 0, NEXT, WAS(10)},
+              {A, 0, ENTRIES(0), LISTED_FOR_MORE(4)},
+              {A, 0, ENTRIES(3), LISTED_FOR_MORE(4)},
+              {A, 0, ENTRIES(4), LISTED(4)},
+              {A, 4, PUT(14), NOTHING},
+              {A, 1, REMOVE, WAS(11)},
+              {A, 5, PUT(15), NOTHING},
+              {A, 0, ENTRIES(4), LISTED_FOR_MORE(5)},
+              {A, 0, ENTRIES(12), LISTED(5)},
+              {A, 2, NEXT, WAS(12)},
+              {A, 0, GENERATION, WAS(1)}},
+     .keys = 5,
+     .left = {{0, 10}, {2, 12}, {3, 13}, {4, 14}, {5, 15}}},
+
+    /* a seat is lacking, and all is as it was */
+    {.name = "all_seats_are_asked_for",
+     .shape = OF_TWO_SEATS,
+     .rows = {{A, 1, PUT(11), NOTHING},
+              {B, 0, WALK, NO},
+              {A, 0, ENTRIES(5), REFUSED(SAMVOLIP_E_NOT_ALL_SEATS)},
+              {B, 0, ENTRIES(0), REFUSED(SAMVOLIP_E_NOT_ALL_SEATS)},
+              {A, 0, RENEW(2), REFUSED(SAMVOLIP_E_NOT_ALL_SEATS)},
+              {B, 0, RENEW(1), REFUSED(SAMVOLIP_E_EXPONENTS)},
+              {B, 1, NEXT, WAS(11)},
+              {B, 1, GET, WAS(11)}},
+     .keys = 1,
+     .left = {{1, 11}}},
+
+    /* the slot of a removed key is free again; a larger map has room for more, and one that is too small is refused */
+    {.name = "renewed_map",
+     .shape = TWO_TABLES,
+     .rows = {FOUR_KEYS,
+              {A, 0, RENEW(2), NO},
+              {A, 0, GENERATION, WAS(0)},
+              {A, 0, OCCUPANCY, TAKEN_OF_LAST(4, 4)},
+              {A, 4, PUT(14), FULL},
+              {A, 3, REMOVE, WAS(13)},
+              {A, 4, PUT(14), FULL},
+              {A, 0, SHOULD_RENEW, YES},
+              {A, 0, RENEW(2), NO},
+              {A, 0, OCCUPANCY, TAKEN_OF_LAST(3, 4)},
+              {A, 4, PUT(14), NOTHING},
+              {A, 5, PUT(15), FULL},
+              {A, 0, RENEW(3), NO},
+              {A, 0, OCCUPANCY, TAKEN_OF_LAST(4, 8)},
+              {A, 0, SHOULD_RENEW, NO},
+              {A, 5, PUT(15), NOTHING},
+              {A, 0, WALK, NO},
+              {A, 0, NEXT, WAS(10)},
+              {A, 0, RENEW(2), FULL},
+              {A, 1, NEXT, WAS(11)},
+              {A, 0, OCCUPANCY, TAKEN_OF_LAST(5, 8)},
+              {A, 0, RENEW(29), REFUSED(SAMVOLIP_E_EXPONENTS)},
+              {A, 2, REMOVE, WAS(12)},
+              {A, 5, ADD(5), WAS(15)},
+              {A, 0, RENEW(2), NO},
+              {A, 0, ESTIMATE, WAS(4)},
+              {A, 0, ENTRIES(12), LISTED(4)},
+              {A, 5, GET, WAS(20)},
+              {A, 2, GET, NOTHING}},
+     .keys = 4,
+     .left = {{0, 10}, {1, 11}, {4, 14}, {5, 20}}},
 };
 
 /* So many keys come to a large table, each by this step greater than the one before. The sample shows what part of the slots they
@@ -768,12 +947,12 @@ static void samples(uint64_t keys, uint64_t step)
 {
     const samvolip_shape shape = {{14}, 1, 1, 1, UINT32_MAX, 64};
     samvolip_seat seat = SAMVOLIP_SEAT_INIT;
-    uint32_t taken = 0, looked = 0;
+    samvolip_slots found = {0, 0, 0};
     EXPECT(samvolip_open(&shape, &seat) == SAMVOLIP_OK);
     for (uint64_t key = 0; key < keys; key++)
         EXPECT(samvolip_put(&seat, key * step, key, NULL) == SAMVOLIP_ABSENT);
-    EXPECT(samvolip_occupancy(&seat, &taken, &looked) == 1);
-    EXPECT(looked == 1024 && taken * step == 1024);
+    samvolip_occupancy(&seat, &found);
+    EXPECT(found.is_last == 1 && found.looked == 1024 && found.taken * step == 1024);
     EXPECT(samvolip_should_renew(&seat) == 0);
     samvolip_free(&seat);
 }

@@ -58,8 +58,9 @@ static void *add(void *given)
         worker->refused += code == SAMVOLIP_E_CONTENDED;
         if (i % 50000 == 0) {
             uint64_t shown = 0;
-            samvolip_walk(&worker->seat);
-            while (samvolip_next(&worker->seat, &key, &number) == SAMVOLIP_PRESENT)
+            samvolip_cursor cursor;
+            samvolip_walk(&worker->seat, &cursor);
+            while (samvolip_next(&worker->seat, &cursor, &key, &number) == SAMVOLIP_PRESENT)
                 shown++;
             EXPECT(shown <= KEYS);
         }
@@ -161,20 +162,35 @@ static void eight_threads(void)
 
 /* ---- walks beside writes */
 
-/* Walks again and again. Each number shows whose it is, nothing is shown twice, and the kept keys are shown. */
+/* Takes the walk to its end. Each number shows whose it is, nothing is shown twice, and the kept keys are shown. */
+static void walk_on(samvolip_seat *seat, samvolip_cursor *cursor, unsigned char *seen)
+{
+    uint64_t key, number;
+    while (samvolip_next(seat, cursor, &key, &number) == SAMVOLIP_PRESENT) {
+        EXPECT(key < 64 && number / 1000 == key);
+        EXPECT(!seen[key]);
+        seen[key] = 1;
+    }
+    for (unsigned kept = 0; kept < KEPT; kept++)
+        EXPECT(seen[kept]);
+}
+
+/* Walks again and again, each time by two cursors: a whole walk is made at each key of another one. */
 static void walks(samvolip_seat *seat)
 {
-    for (unsigned i = 0; i < 400; i++) {
+    for (unsigned i = 0; i < 200; i++) {
         uint64_t key, number;
         unsigned char seen[64] = {0};
-        samvolip_walk(seat);
-        while (samvolip_next(seat, &key, &number) == SAMVOLIP_PRESENT) {
-            EXPECT(key < 64 && number / 1000 == key);
-            EXPECT(!seen[key]);
+        samvolip_cursor outer, inner;
+        samvolip_walk(seat, &outer);
+        for (unsigned turn = 0; turn < 2 && samvolip_next(seat, &outer, &key, &number) == SAMVOLIP_PRESENT; turn++) {
+            unsigned char seen_inside[64] = {0};
+            EXPECT(key < 64 && number / 1000 == key && !seen[key]);
             seen[key] = 1;
+            samvolip_walk(seat, &inner);
+            walk_on(seat, &inner, seen_inside);
         }
-        for (unsigned kept = 0; kept < KEPT; kept++)
-            EXPECT(seen[kept]);
+        walk_on(seat, &outer, seen);
     }
 }
 

@@ -1,6 +1,6 @@
 /* More seats and larger tables: 256 threads add to one map while it grows through all its tables, and each key's number is right;
    so do 64 threads, each to the same keys one after another, in a map of small tables and short paths; four threads fill a map
-   whose last table has 2^22 slots, with as many keys as it is made for, and all is read back.
+   whose last table has 2^22 slots, with as many keys as it is made for, and all is read back, also after the map is made anew.
        wide [ADDS [KEYS]]      how often each of the 256 threads adds, and how many keys fill the other map */
 #include "samvolip.h"
 
@@ -38,6 +38,15 @@ static void *add(void *given)
     return NULL;
 }
 
+/* How much all threads have added at a key. */
+static uint64_t added_at(const struct adder *adders, uint64_t key)
+{
+    uint64_t sum = 0;
+    for (unsigned i = 0; i < ADDERS; i++)
+        sum += adders[i].added[key];
+    return sum;
+}
+
 static void many_seats(void)
 {
     const samvolip_shape shape = {{4, 6, 8, 10, 12, 14}, 6, ADDERS, 16, 18, 64};
@@ -56,12 +65,26 @@ static void many_seats(void)
     for (unsigned i = 0; i < ADDERS; i++)
         EXPECT(pthread_join(threads[i], NULL) == 0);
 
-    /* they come together two by two, and two of those by two: each handle has room for all */
+    /* they come together two by two, and two of those by two */
     for (unsigned step = 1; step < ADDERS; step *= 2)
         for (unsigned i = 0; i < ADDERS; i += 2 * step)
             EXPECT(samvolip_join(&adders[i].seat, &adders[i + step].seat) == SAMVOLIP_OK);
     uint64_t estimate = samvolip_size_estimate(&adders[0].seat);
     uint32_t generation = samvolip_generation(&adders[0].seat);
+    uint64_t count = 0;
+    EXPECT(samvolip_entries(&adders[0].seat, entries, estimate, &count) == SAMVOLIP_OK && count == estimate);
+    for (uint64_t i = 0; i < count; i++)
+        EXPECT(entries[i].key < ADDED_KEYS && entries[i].number == added_at(adders, entries[i].key));
+
+    /* the new map has one seat, which a map of all seats takes the place of again */
+    const samvolip_shape alone = {{13}, 1, 1, 1, 18, 64};
+    EXPECT(samvolip_renew(&adders[0].seat, &alone) == SAMVOLIP_OK);
+    EXPECT(samvolip_split(&adders[0].seat, &adders[1].seat) == SAMVOLIP_E_NO_SEAT);
+    EXPECT(samvolip_renew(&adders[0].seat, &shape) == SAMVOLIP_OK);
+    for (unsigned i = 1; i < ADDERS; i++)
+        EXPECT(samvolip_split(&adders[0].seat, &adders[i].seat) == SAMVOLIP_OK);
+    for (unsigned i = 1; i < ADDERS; i++)
+        EXPECT(samvolip_join(&adders[0].seat, &adders[i].seat) == SAMVOLIP_OK);
     samvolip_ended ended = SAMVOLIP_ENDED_INIT;
     EXPECT(samvolip_close(&adders[0].seat, &ended) == SAMVOLIP_OK);
     uint64_t size = samvolip_ended_size(&ended), shown = 0;
@@ -69,9 +92,7 @@ static void many_seats(void)
     EXPECT(generation == 5 || size <= 1 << 12);
     EXPECT(samvolip_ended_entries(&ended, entries, ADDED_KEYS) == SAMVOLIP_OK);
     for (uint64_t key = 0; key < ADDED_KEYS; key++) {
-        uint64_t sum = 0;
-        for (unsigned i = 0; i < ADDERS; i++)
-            sum += adders[i].added[key];
+        const uint64_t sum = added_at(adders, key);
         if (sum == 0)
             continue;
         EXPECT(shown < size && entries[shown].key == key && entries[shown].number == sum);
@@ -160,6 +181,10 @@ static void many_keys(void)
     EXPECT(samvolip_get(seat, scattered(keys), &number) == SAMVOLIP_ABSENT);
     for (unsigned i = 1; i < FILLERS; i++)
         EXPECT(samvolip_join(seat, &fillers[i].seat) == SAMVOLIP_OK);
+    EXPECT(samvolip_renew(seat, &shape) == SAMVOLIP_OK);
+    EXPECT(samvolip_size_estimate(seat) == keys);
+    for (uint64_t i = 0; i < keys; i++)
+        EXPECT(samvolip_get(seat, scattered(i), &number) == SAMVOLIP_PRESENT && number == i);
     samvolip_ended ended = SAMVOLIP_ENDED_INIT;
     EXPECT(samvolip_close(seat, &ended) == SAMVOLIP_OK);
     EXPECT(samvolip_ended_size(&ended) == keys);

@@ -3,6 +3,7 @@
 
 #include "../c_tests/expect.h"
 
+#include <map>
 #include <set>
 
 using samvolip::fault;
@@ -155,16 +156,40 @@ void walks(samvolip::map &map, samvolip::seat &seat)
         EXPECT(number == key / 65536 && shown.insert(key).second);
     EXPECT(shown == keys);
 
-    // a walk goes on where it is; a new one of the same seat cuts it off, and one of another seat doesn't
+    // a walk goes on where it is, whichever others are begun meanwhile, and so does its copy
     samvolip::walk first = map.walk().value();
     EXPECT(first.next().has_value() && std::distance(first.begin(), first.end()) == 299);
+    EXPECT(!first.next().has_value() && !first.next().has_value() && !first.is_cut_off());
     first = map.walk().value();
     EXPECT(first.next().has_value() && !first.is_cut_off());
     samvolip::walk other = seat.walk();
     EXPECT(first.next().has_value() && other.next().has_value());
     samvolip::walk second = map.walk().value();
-    EXPECT(first.is_cut_off() && !first.next().has_value());
+    EXPECT(!first.is_cut_off() && first.next().has_value());
     EXPECT(!second.is_cut_off() && second.next().has_value() && other.next().has_value());
+    samvolip::walk copy = first;
+    EXPECT(std::distance(first.begin(), first.end()) == 297 && std::distance(copy.begin(), copy.end()) == 297);
+    EXPECT(std::distance(second.begin(), second.end()) == 299);
+
+    // loops within loops over one map, by its seat and by the thread's
+    std::uint64_t pairs = 0, sum = 0;
+    for (auto [a, of_a] : map.walk().value()) {
+        if (of_a >= 20)
+            continue;
+        for (auto [b, of_b] : map.walk().value())
+            pairs += of_b < 20 && a / 65536 == of_a && b / 65536 == of_b;
+        for (const samvolip::entry &each : seat.walk())
+            sum += each.number;
+    }
+    EXPECT(pairs == 400 && sum == 20 * 299 * 300 / 2);
+
+    // a seat that is given back cuts off its walks, and no others
+    first = map.walk().value();
+    second = map.walk().value();
+    EXPECT(first.next().has_value() && second.next().has_value());
+    map.leave();
+    EXPECT(first.is_cut_off() && second.is_cut_off() && !first.next().has_value() && !second.next().has_value());
+    EXPECT(map.get(0).value() == 0u && first.is_cut_off() && !first.next().has_value());
 
     // a seat is moved during its walk
     samvolip::seat moved = std::move(seat);
@@ -190,6 +215,8 @@ void ends(keys how)
     auto refused = map.close();
     EXPECT(refused.error().why() == fault::not_all_seats && refused.error().seats() == 1);
     EXPECT(map.settle().error().why() == fault::not_all_seats);
+    EXPECT(map.entries().error().why() == fault::not_all_seats);
+    EXPECT(map.renew({{12}, 1, 2, 1, 18, 8}).error().why() == fault::not_all_seats);
     EXPECT(refused.error().message() == "1 other seats of the map are out");
     EXPECT(map.get(65536).value() == 1u);
     auto lacking = map.take_seat();
@@ -210,12 +237,107 @@ void ends(keys how)
         EXPECT(entries[i].key == i * 65536 && entries[i].number == i);
     EXPECT(map.get(1).error().why() == fault::empty && map.close().error().why() == fault::empty);
     EXPECT(map.take_seat().error().why() == fault::empty && map.walk().error().why() == fault::empty);
-    EXPECT(map.settle().error().why() == fault::empty);
+    EXPECT(map.settle().error().why() == fault::empty && map.entries().error().why() == fault::empty);
+    EXPECT(map.renew({{12}, 1, 2, 1, 18, 8}).error().why() == fault::empty);
     EXPECT(refused.error().message() != map.get(1).error().message());
 
     samvolip::ended moved = std::move(ended);
     EXPECT(moved.size() == 301 && !ended && ended.size() == 0);
     EXPECT(ended.get(1).error().why() == fault::empty && ended.entries().error().why() == fault::empty);
+}
+
+// ---- all entries, and a new map
+
+// The map has just these keys, each with itself over 65,536 as its number: by its entries, by a walk and by gets.
+void has_keys(samvolip::map &map, std::uint64_t count)
+{
+    std::map<std::uint64_t, std::uint64_t> listed;
+    const std::vector<samvolip::entry> entries = map.entries().value();
+    for (auto [key, number] : entries)
+        EXPECT(listed.emplace(key, number).second);
+    EXPECT(entries.size() == count && map.settle().value() == count);
+    std::uint64_t shown = 0;
+    for (auto [key, number] : map.walk().value()) {
+        EXPECT(listed.at(key) == number && key == number * 65536 && number < count);
+        shown++;
+    }
+    EXPECT(shown == count);
+    for (std::uint64_t i = 0; i < count; i++)
+        EXPECT(map.get(i * 65536).value() == i);
+    EXPECT(map.get(count * 65536).value() == std::nullopt);
+}
+
+void renews(keys how)
+{
+    const samvolip::shape small = {{2, 4}, 2, 2, 1, UINT32_MAX, 8}, large = {{3, 5, 8}, 3, 5, 2, 18, 8};
+    samvolip::map map = samvolip::map::open(small, how).value();
+    has_keys(map, 0);
+    EXPECT(map.renew(small).value() == 2);
+    for (std::uint64_t i = 0; i < 16; i++)
+        EXPECT(map.put(i * 65536, i).value() == std::nullopt);
+    EXPECT(map.put(16 * 65536, 16).error().why() == fault::full);
+    has_keys(map, 16);
+
+    // refused, and the map is as it was
+    EXPECT(map.renew({{3}, 1, 2, 1, 18, 8}).error().why() == fault::full);
+    EXPECT(map.renew({{5}, 1, 0, 1, 18, 8}).error().why() == fault::seats);
+    EXPECT(map.renew({{5}, 1, 257, 1, 18, 8}).error().why() == fault::seats);
+    EXPECT(map.renew({{5}, 1, UINT32_MAX, 1, 18, 8}).error().why() == fault::seats);
+    EXPECT(map.renew({{5, 4}, 2, 2, 1, 18, 8}).error().message() == "a table smaller than the one before it");
+    EXPECT(map.renew(samvolip_shape_for_keys(SAMVOLIP_MOST_KEYS + 1, 1)).error().why() == fault::tables);
+    samvolip::seat seat = map.take_seat().value();
+    EXPECT(map.renew(large).error().seats() == 1 && map.entries().error().seats() == 1);
+    seat = samvolip::seat();
+    EXPECT(map.seats() == 2 && map.take_seat().has_value());
+    has_keys(map, 16);
+
+    // larger, with more seats; the walks of before are cut off
+    samvolip::walk walk = map.walk().value();
+    EXPECT(walk.next().has_value());
+    EXPECT(map.renew(large).value() == 5 && map.seats() == 5);
+    EXPECT(walk.is_cut_off() && !walk.next().has_value());
+    has_keys(map, 16);
+    EXPECT(walk.is_cut_off());
+    for (std::uint64_t i = 16; i < 200; i++)
+        EXPECT(map.put(i * 65536, i).value() == std::nullopt);
+    has_keys(map, 200);
+    std::vector<samvolip::seat> seats;
+    map.leave();
+    for (unsigned i = 0; i < 5; i++)
+        seats.push_back(map.take_seat().value());
+    EXPECT(map.take_seat().error().seats() == 5 && map.get(0).error().why() == fault::no_seat);
+    for (samvolip::seat &one : seats)
+        EXPECT(one.get(199 * 65536).value() == 199u);
+    EXPECT(map.renew(small).error().seats() == 5);
+    seats.clear();
+
+    // smaller, with fewer seats: the slots of removed keys are free
+    EXPECT(map.renew(small).error().why() == fault::full && map.seats() == 5);
+    for (std::uint64_t i = 10; i < 200; i++)
+        EXPECT(map.remove(i * 65536).value() == i);
+    EXPECT(map.renew(small).value() == 2 && map.seats() == 2);
+    has_keys(map, 10);
+    map.leave();
+    for (unsigned turn = 0; turn < 3; turn++) {
+        for (unsigned i = 0; i < 2; i++)
+            seats.push_back(map.take_seat().value());
+        EXPECT(map.take_seat().error().seats() == 2 && seats[1].get(65536).value() == 1u);
+        seats.clear();
+    }
+    for (std::uint64_t turn = 0; turn < 20; turn++) {
+        for (std::uint64_t i = 0; i < 6; i++)
+            EXPECT(map.put((1000 + 6 * turn + i) * 65536, i).value() == std::nullopt);
+        EXPECT(map.put(65537, 1).error().why() == fault::full && map.occupancy().value().should_renew());
+        for (std::uint64_t i = 0; i < 6; i++)
+            EXPECT(map.remove((1000 + 6 * turn + i) * 65536).value() == i);
+        EXPECT(map.renew(small).value() == 2 && !map.occupancy().value().should_renew());
+        has_keys(map, 10);
+    }
+
+    // a seat of it outlives it
+    seat = map.take_seat().value();
+    map = samvolip::map();
+    EXPECT(map.renew(small).error().why() == fault::empty && seat.get(65536).value() == 1u);
 }
 
 // The keys that mixing takes to no keys are keys all the same, as the greatest ones are.
@@ -227,6 +349,9 @@ void mixes_every_key()
         EXPECT(map.put(key, key % 1000).value() == std::nullopt);
     for (auto [key, number] : map.walk().value())
         EXPECT(number == key % 1000);
+    EXPECT(map.renew(samvolip_shape_for_keys(200, 2)).value() == 2);
+    for (auto [key, number] : map.entries().value())
+        EXPECT(number == key % 1000 && std::count(std::begin(known), std::end(known), key) == 1);
     samvolip::ended ended = map.close().value();
     const auto entries = ended.entries().value();
     EXPECT(entries.size() == 6);
@@ -246,6 +371,7 @@ void opens_and_moves()
     is_empty(map);
     EXPECT(map.seats() == 0 && map.close().error().why() == fault::empty);
     EXPECT(map.take_seat().error().why() == fault::empty && map.walk().error().why() == fault::empty);
+    EXPECT(map.entries().error().why() == fault::empty);
     map.leave();
     auto opened = samvolip::map::for_many_keys(1000, 256);
     EXPECT(opened && opened->seats() == 256);
@@ -285,6 +411,8 @@ int main()
 {
     ends(keys::plain);
     ends(samvolip::mixed);
+    renews(keys::plain);
+    renews(samvolip::mixed);
     mixes_every_key();
     opens_and_moves();
     refuses_when_full();

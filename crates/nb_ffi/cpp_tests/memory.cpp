@@ -43,6 +43,25 @@ int main()
     seat = samvolip::seat();
     last = samvolip::seat();
     EXPECT(made([&] { return map.settle(); }) == 12);
+    EXPECT(made([&] { return map.entries(); }).size() == 12);
+
+    // a refused renewal leaves the map as it was; a larger one has more seats, and a smaller one fewer
+    for (unsigned seats : {5u, 2u, 3u}) {
+        const unsigned before = map.seats();
+        const samvolip::shape next = {{3, seats == 5 ? 6u : 4u}, 2, seats, 1, UINT32_MAX, 8};
+        EXPECT(made([&] {
+                   auto answer = map.renew(next);
+                   if (!answer.has_value())
+                       EXPECT(map.seats() == before && made([&] { return map.get(11 << 16); }) == 11u);
+                   return answer;
+               })
+               == seats);
+        EXPECT(map.seats() == seats && made([&] { return map.get(11 << 16); }) == 11u);
+        const auto listed = made([&] { return map.entries(); });
+        EXPECT(listed.size() == 12);
+        for (const samvolip::entry &one : listed)
+            EXPECT(one.key == one.number << 16 && one.number < 12);
+    }
     made([&] { return map.put(0, 0); });
     samvolip::ended ended = made([&] { return map.close(); });
     EXPECT(map.get(0).error().why() == fault::empty);

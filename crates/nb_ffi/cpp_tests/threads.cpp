@@ -102,7 +102,10 @@ void grows(samvolip::keys how, bool by_seats)
                 std::uint64_t shown = 0;
                 for (auto [at, there] : walker ? walker->walk() : map.walk().value()) {
                     EXPECT((at >> shift) < most_keys && at >> shift << shift == at && there > 0);
-                    shown++;
+                    // a walk within the walk
+                    if (shown++ < 2)
+                        for (auto [other, also] : walker ? walker->walk() : map.walk().value())
+                            EXPECT((other >> shift) < most_keys && also > 0);
                 }
                 EXPECT(shown <= most_keys);
             }
@@ -165,6 +168,42 @@ void refuses_without_a_seat()
     samvolip::ended ended = map.close().value();
     EXPECT(ended.get(7).value() == 4u);
     third.make([&] { EXPECT(map.get(7).error().why() == fault::empty); });
+}
+
+// Threads take seats, put keys and give the seats back, while one thread has the map made anew when it can: it gets more seats, and
+// fewer again. All keys are there at the end.
+void is_renewed_meanwhile()
+{
+    samvolip::map map = samvolip::map::open({{4, 12}, 2, 3, 1, 18, 64}).value();
+    std::atomic<unsigned> at_work{3};
+    unsigned renewals = 0;
+    std::vector<std::thread> all;
+    for (std::uint64_t caller = 0; caller < 3; caller++)
+        all.emplace_back([&, caller] {
+            for (std::uint64_t i = 0; i < 300; i++) {
+                auto put = map.put(3 * i + caller, i);
+                EXPECT(put.has_value() || put.error().why() == fault::no_seat);
+                i -= put.has_value() ? 0 : 1;
+                map.leave();
+                if (i % 8 == 0)
+                    std::this_thread::yield();
+            }
+            at_work.fetch_sub(1);
+        });
+    while (at_work.load() > 0) {
+        const unsigned seats = renewals % 2 ? 2 : 7;
+        auto renewed = map.renew({{4, 12}, 2, seats, 1, 18, 64});
+        EXPECT(renewed.has_value() ? *renewed == seats && map.seats() >= 2 : renewed.error().why() == fault::not_all_seats);
+        renewals += renewed.has_value();
+        auto listed = map.entries();
+        EXPECT(listed.has_value() ? listed->size() <= 900 : listed.error().why() == fault::not_all_seats);
+    }
+    for (std::thread &one : all)
+        one.join();
+    EXPECT(map.renew({{4, 12}, 2, 1, 1, 18, 64}).value() == 1 && map.entries().value().size() == 900);
+    for (std::uint64_t key = 0; key < 900; key++)
+        EXPECT(map.get(key).value() == key / 3);
+    EXPECT(map.close().value().size() == 900);
 }
 
 // A thread ends after the map was destroyed, or calls another map meanwhile.
@@ -305,6 +344,7 @@ int main(int count, char **words)
     grows(samvolip::mixed, true);
     takes_turns();
     refuses_without_a_seat();
+    is_renewed_meanwhile();
     outlives_maps();
     is_destroyed_elsewhere();
     calls_many_maps();

@@ -34,6 +34,9 @@
  *
  * One map. samvolip_meet and samvolip_join take two seats of one map, and two different ones.
  *
+ * Walks. A cursor is taken on by samvolip_next with the handle that began it by samvolip_walk, and
+ * no more once that handle was joined, closed, freed or renewed.
+ *
  * Empty and full. A handle is a variable that the caller declares, a samvolip_seat or a
  * samvolip_ended. SAMVOLIP_SEAT_INIT or SAMVOLIP_ENDED_INIT makes it empty. So do zeros: a handle
  * whose bytes are all 0, as calloc, memset or static storage make it, is an empty one.
@@ -54,17 +57,19 @@
  *
  * Refusals. A call that may be refused returns an int: 0 or 1 if it was made, and a negative enum
  * samvolip_code if it was refused. The names of these codes begin with SAMVOLIP_E_. A refused call
- * changes nothing: the map, the handles and what the caller passed are as they were. The one
- * exception is SAMVOLIP_E_LOST, which leaves both handles empty.
+ * changes nothing: the map, the handles and what the caller passed are as they were. There are two
+ * exceptions: SAMVOLIP_E_LOST leaves both handles empty, and SAMVOLIP_E_ROOM of samvolip_entries
+ * comes with the count.
  * (For a refused write tables may have grown, which samvolip_generation shows. Its key may also
  * keep a slot without a number, so that a later new key may find less room.)
  *
  * Memory. samvolip_open reserves all tables of the map, and the map keeps them until it is freed.
- * samvolip_open, samvolip_split, samvolip_settle, samvolip_close and samvolip_ended_entries take
- * memory, by malloc; no other call does.
+ * samvolip_open, samvolip_split, samvolip_settle, samvolip_entries, samvolip_renew, samvolip_close
+ * and samvolip_ended_entries take memory, by malloc; no other call does.
  *
  * Versions. samvolip_open tells the library which header the program was compiled with: its version
- * and the sizes of its structs. If they aren't the library's, the call is refused with
+ * and the sizes of its structs. The library takes each header of its series, from version 0.9.0 on,
+ * that isn't newer than itself and has its structs. Else the call is refused with
  * SAMVOLIP_E_VERSION. There is no other way to a map.
  *
  * Signals and forks. Make no call from a signal handler, nor from the child of a fork of a process
@@ -72,8 +77,9 @@
  *
  * Checks. If SAMVOLIP_CHECKED is defined before the header is included, the calls test these rules
  * as far as they can: NULL and empty handles, codes out of range, two threads in one seat, seats of
- * two maps in one call. If a rule is broken, the call aborts the program, with a line on standard
- * error that says which rule it was. Define SAMVOLIP_CHECKED in all files of a program or in none.
+ * two maps in one call, a walk that the handle didn't begin on this map. If a rule is broken, the
+ * call aborts the program, with a line on standard error that says which rule it was. Define
+ * SAMVOLIP_CHECKED in all files of a program or in none.
  * Without it, nothing is tested and nothing is paid.
  */
 #ifndef SAMVOLIP_H
@@ -86,8 +92,8 @@
 extern "C" {
 #endif
 
-/* Version 0.8.1, as one number. samvolip_version returns that of the library. */
-#define SAMVOLIP_VERSION 0x000801u
+/* Version 0.9.0, as one number. samvolip_version returns that of the library. */
+#define SAMVOLIP_VERSION 0x000900u
 
 /* The greatest key and the greatest number. */
 #define SAMVOLIP_KEY_MAX (UINT64_MAX - 2)
@@ -149,7 +155,7 @@ enum samvolip_code {
     SAMVOLIP_E_CONTENDED = -14, /* others wrote the key first, as often as there were tries */
     SAMVOLIP_E_SUM_RANGE = -15, /* the sum of an add is past SAMVOLIP_VALUE_MAX */
 
-    /* why a handle isn't split, settled or closed */
+    /* why a handle isn't split, settled, renewed or closed */
     SAMVOLIP_E_NO_SEAT = -16,       /* the handle has no seat in reserve */
     SAMVOLIP_E_NOT_ALL_SEATS = -17, /* the handle doesn't have all seats of the map */
 
@@ -159,7 +165,7 @@ enum samvolip_code {
        happens only if somebody has the map without having a seat. */
     SAMVOLIP_E_LOST = -19,
 
-    SAMVOLIP_E_VERSION = -20 /* the program was compiled with another header than the library's */
+    SAMVOLIP_E_VERSION = -20 /* the library doesn't take the header of the program */
 };
 
 /* What a write asks of its key. */
@@ -226,11 +232,28 @@ typedef struct samvolip_reply {
     uint32_t matched;
 } samvolip_reply;
 
-/* A key of an ended map, and its number. */
+/* A key of a map, and its number. */
 typedef struct samvolip_entry {
     uint64_t key;
     uint64_t number;
 } samvolip_entry;
+
+/* How full the top table of a map is: how many of its slots were looked at, how many of these are
+   taken, and 1 or 0 for whether the table is the map's last. */
+typedef struct samvolip_slots {
+    uint32_t taken;
+    uint32_t looked;
+    uint32_t is_last;
+} samvolip_slots;
+
+/* Where a walk is. samvolip_walk fills it. The fields are the library's. */
+typedef struct samvolip_cursor {
+    uint32_t first;
+    uint32_t table;
+    size_t slot;
+    uint32_t is_over;
+    uint32_t begun; /* for the checks: which handle began it, and on which map */
+} samvolip_cursor;
 
 /* What a program was compiled with: the version of its header, and the sizes of its structs. A
    binding for another language whose handles are one word gives the size of a word for these. */
@@ -241,11 +264,14 @@ typedef struct samvolip_header {
     uint32_t ended;
     uint32_t reply;
     uint32_t entry;
+    uint32_t occupancy;
+    uint32_t cursor;
 } samvolip_header;
 
-#define SAMVOLIP_HEADER_INIT                                                                     \
+#define SAMVOLIP_HEADER_INIT                                                                       \
     {SAMVOLIP_VERSION,       sizeof(samvolip_shape), sizeof(samvolip_seat),                        \
-     sizeof(samvolip_ended), sizeof(samvolip_reply), sizeof(samvolip_entry)}
+     sizeof(samvolip_ended), sizeof(samvolip_reply), sizeof(samvolip_entry),                       \
+     sizeof(samvolip_slots), sizeof(samvolip_cursor)}
 
 /*
  * A shape with room to spare for `most` different keys, and for `seats` threads. The last table has
@@ -357,7 +383,7 @@ static inline int samvolip_open(const samvolip_shape *shape, samvolip_seat *seat
  * Gives `other`, which is empty before, a seat that `seat` has in reserve. Any handle with seats in
  * reserve may be split.
  *
- * Cost: two calls of malloc, one of them for as many seats as the map has.
+ * Cost: a few steps, and a malloc.
  * Refused: SAMVOLIP_E_NO_SEAT, SAMVOLIP_E_OUT_OF_MEMORY.
  */
 int samvolip_split(samvolip_seat *seat, samvolip_seat *other);
@@ -367,25 +393,60 @@ int samvolip_split(samvolip_seat *seat, samvolip_seat *other);
  * afterwards. What `other` has seen isn't passed on: samvolip_meet does that, if it is called
  * before.
  *
- * Cost: a few steps, and a free or two.
- * Refused: SAMVOLIP_E_OUT_OF_MEMORY, by its contract. In fact it takes no memory, since each handle
- * has room for all seats of its map.
+ * Cost: a few steps, and a free.
+ * Refused: SAMVOLIP_E_SEATS, if both together had 2^63 seats, which no two handles have.
  */
 int samvolip_join(samvolip_seat *seat, samvolip_seat *other);
 
 /*
  * With all seats of the map in `seat`: writes how many keys the map has to `size`. That is exact,
  * and no estimate. Afterwards each seat knows of all calls that were made, as if the map had been
- * closed. The map goes on, and so does a walk of `seat`.
+ * closed. The map goes on, and so do the walks of `seat`.
  *
  * If several handles have the seats, join the others to one, settle that one, and split it again.
  * If the last one that was joined is split off first, and so on, each handle gets its seat again.
  *
- * Cost: a few loads, one of each stripe, a few steps for each seat, and memory for three lists of
- * seats and for a map of four slots, which is freed again.
+ * Cost: a few loads, one of each stripe, a few steps for each seat, and memory for four lists of
+ * seats, which is freed again.
  * Refused: SAMVOLIP_E_NOT_ALL_SEATS, SAMVOLIP_E_OUT_OF_MEMORY. Then `size` stays as it was.
  */
 int samvolip_settle(samvolip_seat *seat, uint64_t *size);
+
+/*
+ * With all seats of the map in `seat`: writes all entries that the map has at this moment into the
+ * caller's array, each key once and in no order, and how many there are to `count`. What is behind
+ * them in the array stays. The map goes on, and so do the walks of `seat`. If the array, of `room`
+ * entries, is too small, it stays as it was, but `count` is written, so that the caller can ask
+ * again with more room. NULL stands for no room.
+ *
+ * Cost: that of a walk and of samvolip_settle, and memory for the entries.
+ * Refused: SAMVOLIP_E_ROOM; SAMVOLIP_E_NOT_ALL_SEATS, SAMVOLIP_E_OUT_OF_MEMORY, and then `count`
+ * stays as it was.
+ */
+int samvolip_entries(samvolip_seat *seat, samvolip_entry *entries, size_t room, uint64_t *count);
+
+/* What samvolip_entries stands for in a program: the library's own function of that name takes no
+   NULL. */
+static inline int samvolip_entries_in_room(samvolip_seat *seat, samvolip_entry *entries,
+                                           size_t room, uint64_t *count)
+{
+    samvolip_entry none = {0, 0};
+    return samvolip_entries(seat, entries ? entries : &none, entries ? room : 0, count);
+}
+#define samvolip_entries samvolip_entries_in_room
+
+/*
+ * With all seats of the map in `seat`: makes a new map of a shape with the entries of the old one.
+ * `seat` goes on over the new map, with all its seats, as many as the shape says. The slots of
+ * removed keys are free again. The walks of `seat` end: begin new ones. If it is refused, `seat` is
+ * of the old map still, whose walks go on.
+ *
+ * Cost: that of samvolip_entries and of samvolip_open, and of a put for each key. The memory of the
+ * old map is freed in the end.
+ * Refused: the code of what is wrong with the shape; SAMVOLIP_E_FULL, if the map has more keys than
+ * the last table of the shape has slots; SAMVOLIP_E_NOT_ALL_SEATS, SAMVOLIP_E_OUT_OF_MEMORY.
+ */
+int samvolip_renew(samvolip_seat *seat, const samvolip_shape *shape);
 
 /*
  * Ends the map of `seat`, if `seat` has all seats of the map. What is left of the map goes to
@@ -488,14 +549,13 @@ static inline uint64_t samvolip_size_from_0(samvolip_seat *seat)
 uint32_t samvolip_generation(samvolip_seat *seat);
 
 /*
- * How full the top table is. It looks at 1,024 of its slots, or at all of a smaller table. How many
- * it looked at is written to `looked`, and how many of these are taken to `taken`: by a key that is
- * there or was, or closed to keys. It returns 1 if the table is the map's last, and else 0: then
- * the map grows in time.
+ * How full the top table is. It looks at 1,024 of its slots, or at all of a smaller table, and
+ * writes what it found. A slot is taken by a key that is there or was, or closed to keys. If the
+ * table isn't the map's last, the map grows in time.
  *
  * Cost: wait-free. A load, and one for each slot that it looks at.
  */
-int samvolip_occupancy(samvolip_seat *seat, uint32_t *taken, uint32_t *looked);
+void samvolip_occupancy(samvolip_seat *seat, samvolip_slots *found);
 
 /*
  * Lets each of two seats of one map know all that the other has seen. What one thread has seen,
@@ -507,23 +567,24 @@ int samvolip_occupancy(samvolip_seat *seat, uint32_t *taken, uint32_t *looked);
 void samvolip_meet(samvolip_seat *seat, samvolip_seat *other);
 
 /*
- * Begins a walk over the map's keys. Others may write the map meanwhile. A seat has one walk at a
- * time: a walk that was under way is given up. The seat may make other calls during its walk.
+ * Begins a walk over the map's keys, in a cursor of the caller's. Others may write the map
+ * meanwhile, and so may the seat: no call of it but samvolip_renew ends a walk. A seat may have any
+ * number of walks at a time. There is nothing to free.
  *
  * Cost: a load.
  */
-void samvolip_walk(samvolip_seat *seat);
+void samvolip_walk(samvolip_seat *seat, samvolip_cursor *cursor);
 
 /*
- * The next key of the seat's walk. It returns SAMVOLIP_PRESENT, and the key and its number are
- * written; or SAMVOLIP_ABSENT, at the end of the walk or if no walk is under way. No key is shown
- * twice. Each key that the map has all the while is shown. A key that comes or goes meanwhile may
- * be shown or not. The keys come in no order.
+ * The next key of a walk that this handle has begun. It returns SAMVOLIP_PRESENT, and the key and
+ * its number are written; or SAMVOLIP_ABSENT, at the end of the walk and ever after. No key is
+ * shown twice. Each key that the map has all the while is shown. A key that comes or goes meanwhile
+ * may be shown or not. The keys come in no order.
  *
  * Cost: wait-free. If no table is being copied, a load for each slot on the way, and one more for
  * each key that has a slot. A key of a later table is looked for in the earlier ones as well.
  */
-int samvolip_next(samvolip_seat *seat, uint64_t *key, uint64_t *number);
+int samvolip_next(samvolip_seat *seat, samvolip_cursor *cursor, uint64_t *key, uint64_t *number);
 
 /* ---- an ended map -------------------------------------------------------------------------- */
 
@@ -650,15 +711,15 @@ static inline uint64_t samvolip_unmix(uint64_t number)
  * 0. A taken slot stays taken, also if its key is removed. So a map in which keys come and go fills
  * up, and gets slow before it is full: that of 2^19 slots answers for a key that isn't there in
  * 0.14 microseconds while half of the slots are taken, in 1.7 at 95 percent, and in 3,400 once all
- * are. To go on, close the map, open a new one, and put what samvolip_ended_entries lists.
+ * are. To go on, call samvolip_renew.
  *
  * Cost: that of samvolip_occupancy.
  */
 static inline int samvolip_should_renew(samvolip_seat *seat)
 {
-    uint32_t taken = 0, looked = 0;
-    int last = samvolip_occupancy(seat, &taken, &looked);
-    return last && UINT64_C(3) * taken > UINT64_C(2) * looked;
+    samvolip_slots found;
+    samvolip_occupancy(seat, &found);
+    return found.is_last && UINT64_C(3) * found.taken > UINT64_C(2) * found.looked;
 }
 
 /* ---- writes by name ------------------------------------------------------------------------ */
@@ -839,7 +900,7 @@ typedef int samvolip_updater(void *context, const uint64_t *found, uint64_t *nex
  * Reads a key, and exchanges what it finds for what `updater` makes of that. If other writes of the
  * key come first, it goes on from what they left, with `tries` exchanges in all; 0 counts as one.
  * The updater is called once for each exchange. It may make other calls with the seat, but doesn't
- * join, close or free it. Less than 0, if it returns that, is what samvolip_update returns.
+ * join, renew, close or free it. Less than 0, if it returns that, is what samvolip_update returns.
  *
  * Cost: that of samvolip_get and of each exchange; and the updater's.
  * Refused: E_KEY_RANGE, E_VALUE_RANGE, E_FULL; E_CONTENDED, if others came first at each try.

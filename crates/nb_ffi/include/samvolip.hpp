@@ -19,17 +19,18 @@
  * Threads. Any thread may call a map, many at the same time. At its first call a thread gets a seat
  * of the map, and when the thread ends it gives the seat back; so does leave(). A map has as many
  * seats as its shape says, 256 at most. If all are out, a call is refused with fault::no_seat, and
- * the refusal says how many there are. A lock is taken at these moments, by close() and settle(),
- * and when the map is destroyed. At all other calls the thread finds its seat by a look at a
+ * the refusal says how many there are. A lock is taken at these moments, by the calls that need all
+ * seats, and when the map is destroyed. At all other calls the thread finds its seat by a look at a
  * thread-local word.
  *
  * Seats. take_seat() gives a seat that isn't a thread's own. A call with it needs no such look. A
  * seat is in one call at a time, and goes from thread to thread as samvolip.h says of handles. It
  * is given back when it is destroyed.
  *
- * The end. close() ends the map and gives what is left of it. It waits for nobody: while others
- * have seats, it is refused with fault::not_all_seats, and the refusal says how many are out. The
- * seat of the thread that closes doesn't count. What is left stays on that thread.
+ * All seats. settle(), entries(), renew() and close() need all seats of the map. They wait for
+ * nobody: while others have seats, they are refused with fault::not_all_seats, and the refusal says
+ * how many are out. The seat of the thread that calls doesn't count, and goes back. close() ends
+ * the map and gives what is left of it, which stays on that thread.
  *
  * Destroyed. A map is destroyed, moved or assigned to while no thread calls it, and after the last
  * call has come to its end; a lock, or the join of a thread, comes between. Threads may have seats
@@ -249,6 +250,27 @@ inline std::uint64_t unmixed_key(std::uint64_t key) noexcept
     return key <= SAMVOLIP_KEY_MAX ? key : samvolip_unmix(key);
 }
 
+inline void unmix_all(std::vector<entry> &all) noexcept
+{
+    for (entry &one : all)
+        one.key = unmixed_key(one.key);
+}
+
+/* Whether there is memory for so many entries. */
+inline bool resized(std::vector<entry> &all, std::uint64_t size)
+{
+#ifdef __cpp_exceptions
+    try {
+        all.resize(size);
+    } catch (const std::bad_alloc &) {
+        return false;
+    }
+#else
+    all.resize(size);
+#endif
+    return true;
+}
+
 /* ---- handles and who has them -------------------------------------------------------------- */
 
 class pool;
@@ -260,7 +282,7 @@ struct place {
     samvolip_seat handle = SAMVOLIP_SEAT_INIT;
     pool *of = nullptr;
     place *next = nullptr;   /* in the list of the pool or of the thread that has it */
-    std::atomic<std::uint64_t> walks{0}; /* how many walks were begun with it or cut off */
+    std::atomic<std::uint64_t> returns{0}; /* how often it came back */
     holder who = holder::nobody;
 };
 
@@ -314,6 +336,13 @@ inline void forget(place *one) noexcept
 
 /* ---- the seats of a map -------------------------------------------------------------------- */
 
+/* Places, and those that were made before them. */
+struct block {
+    std::unique_ptr<place[]> places;
+    unsigned count = 0;
+    std::unique_ptr<block> before;
+};
+
 /* All handles of a map. The map has a share of the pool, and so has each seat that is out: the pool
    goes with the last of them, the map's tables with the last handle. */
 class pool {
@@ -322,17 +351,9 @@ public:
     static pool *of_map(samvolip_seat &first, unsigned seats) noexcept
     {
         std::unique_ptr<pool> made(new (std::nothrow) pool);
-        if (!made)
+        if (!made || !made->has_places(seats))
             return nullptr;
-        made->places_.reset(new (std::nothrow) place[seats]);
-        if (!made->places_)
-            return nullptr;
-        made->seats_ = seats;
-        made->unsplit_ = seats - 1;
-        for (unsigned i = 0; i < seats; i++) {
-            made->places_[i].of = made.get();
-            push(made->blank_, &made->places_[i]);
-        }
+        made->has_whole_map(seats);
         made->reserve_ = std::exchange(first, SAMVOLIP_SEAT_INIT);
         return made.release();
     }
@@ -383,6 +404,42 @@ public:
         return refusal::of_code(samvolip_settle(&reserve_, &size));
     }
 
+    /* Lists what is in the map for its owner, under the same conditions. */
+    refusal entries(std::vector<entry> &all)
+    {
+        std::lock_guard<std::mutex> held(lock_);
+        const refusal why = gather();
+        if (why.why() != fault::none)
+            return why;
+        /* nobody else has a seat, so the estimate is exact; if not, the second turn is */
+        std::uint64_t count = samvolip_size_estimate(&reserve_);
+        int code;
+        do {
+            if (!resized(all, count))
+                return fault::out_of_memory;
+            code = samvolip_entries(&reserve_, all.data(), all.size(), &count);
+        } while (code == SAMVOLIP_E_ROOM);
+        if (code == SAMVOLIP_OK)
+            all.resize(count);
+        return refusal::of_code(code);
+    }
+
+    /* Has the map made anew for its owner, under the same conditions. */
+    refusal renew(const shape &of)
+    {
+        std::lock_guard<std::mutex> held(lock_);
+        const refusal why = gather();
+        if (why.why() != fault::none)
+            return why;
+        /* of a wrong number of seats the library tells */
+        if (of.seats <= SAMVOLIP_MAX_SEATS && !has_places(of.seats))
+            return fault::out_of_memory;
+        const int code = samvolip_renew(&reserve_, &of);
+        if (code == SAMVOLIP_OK)
+            has_whole_map(of.seats);
+        return refusal::of_code(code);
+    }
+
     /* Ends the pool for the map: only seats from take_seat() are left, and work on. */
     void abandon()
     {
@@ -390,18 +447,48 @@ public:
             std::lock_guard<std::mutex> held(lock_);
             is_open_.store(false);
             samvolip_free(&reserve_);
-            for (unsigned i = 0; i < seats_; i++)
-                if (places_[i].who != holder::seat)
-                    samvolip_free(&places_[i].handle);
+            for (block *some = blocks_.get(); some; some = some->before.get())
+                for (unsigned i = 0; i < some->count; i++)
+                    if (some->places[i].who != holder::seat)
+                        samvolip_free(&some->places[i].handle);
         }
         give_up_share();
     }
 
     bool is_open() const noexcept { return is_open_.load(); }
-    unsigned seats() const noexcept { return seats_; }
+    unsigned seats() const noexcept { return seats_.load(std::memory_order_relaxed); }
 
 private:
     pool() = default;
+
+    /* Whether there are so many places, or memory for those that are missing. */
+    bool has_places(unsigned seats) noexcept
+    {
+        if (seats <= places_)
+            return true;
+        std::unique_ptr<block> made(new (std::nothrow) block);
+        if (!made)
+            return false;
+        made->count = seats - places_;
+        made->places.reset(new (std::nothrow) place[made->count]);
+        if (!made->places)
+            return false;
+        for (unsigned i = 0; i < made->count; i++) {
+            made->places[i].of = this;
+            push(blank_, &made->places[i]);
+        }
+        made->before = std::move(blocks_);
+        blocks_ = std::move(made);
+        places_ = seats;
+        return true;
+    }
+
+    /* The handle in reserve is that of a map of so many seats, and has all of them. */
+    void has_whole_map(unsigned seats) noexcept
+    {
+        seats_.store(seats, std::memory_order_relaxed);
+        unsplit_ = seats - 1;
+    }
 
     /* A handle for who asks: one that came back, or one that is split off, or at last the handle of
        which they were split. */
@@ -409,8 +496,8 @@ private:
     {
         if (idle_)
             return pop(idle_);
-        if (!blank_)
-            return refuse(why, refusal(fault::no_seat, seats_));
+        if (!reserve_.handle)
+            return refuse(why, refusal(fault::no_seat, seats()));
         if (unsplit_ == 0) {
             blank_->handle = std::exchange(reserve_, SAMVOLIP_SEAT_INIT);
             return pop(blank_);
@@ -426,7 +513,7 @@ private:
     void keep(place *one)
     {
         one->who = holder::nobody;
-        one->walks.fetch_add(1, std::memory_order_relaxed); /* which cuts off the walk under way */
+        one->returns.fetch_add(1, std::memory_order_relaxed); /* which cuts off its walks */
         out_--;
         if (is_open())
             push(idle_, one);
@@ -472,11 +559,12 @@ private:
     std::mutex lock_;
     std::atomic<std::size_t> shares_{1};
     std::atomic<bool> is_open_{true};
-    std::unique_ptr<place[]> places_;             /* as many as there are seats */
+    std::unique_ptr<block> blocks_;               /* of all places */
     samvolip_seat reserve_ = SAMVOLIP_SEAT_INIT;  /* what others are split off */
     place *idle_ = nullptr;                       /* handles that nobody has */
     place *blank_ = nullptr;                      /* places without a handle */
-    unsigned seats_ = 0;
+    unsigned places_ = 0;  /* how many there are: as many as the map has seats, or more */
+    std::atomic<unsigned> seats_{0};
     unsigned unsplit_ = 0; /* how many seats the handle in reserve has in reserve */
     unsigned out_ = 0;     /* how many places others have */
 };
@@ -540,9 +628,9 @@ inline int give_back_at_end() noexcept
 /* ---- walks --------------------------------------------------------------------------------- */
 
 /*
- * A walk over the keys and numbers of a map, while others write it. A seat has one walk at a time,
- * and so has a thread of each map: a new walk cuts off the one before, which then ends at once and
- * says so. A walk stays on its thread, or with its seat, and ends before that seat is given back.
+ * A walk over the keys and numbers of a map, while others write it, by a cursor of its own: there
+ * may be many at a time, one within another. A copy of a walk goes on by itself from where it is. A
+ * walk stays on its thread, or with its seat, and ends before that seat is given back.
  */
 class walk {
 public:
@@ -550,18 +638,19 @@ public:
     std::optional<entry> next()
     {
         entry shown{};
-        if (!at_ || is_cut_off() || samvolip_next(&at_->handle, &shown.key, &shown.number) <= 0)
+        if (!at_ || is_cut_off()
+            || samvolip_next(&at_->handle, &cursor_, &shown.key, &shown.number) <= 0)
             return std::nullopt;
         if (how_ == keys::mixed)
             shown.key = inside::unmixed_key(shown.key);
         return shown;
     }
 
-    /* Whether another walk of the same seat has begun since, or the seat was given back. Then keys
-       may be missing. */
+    /* Whether its seat was given back since, as it is by leave() and by the calls that need all
+       seats. Then keys may be missing. */
     bool is_cut_off() const noexcept
     {
-        return at_ && at_->walks.load(std::memory_order_relaxed) != number_;
+        return at_ && at_->returns.load(std::memory_order_relaxed) != returns_;
     }
 
     class iterator {
@@ -613,12 +702,13 @@ private:
     {
         if (!at)
             return;
-        number_ = at->walks.fetch_add(1, std::memory_order_relaxed) + 1;
-        samvolip_walk(&at->handle);
+        returns_ = at->returns.load(std::memory_order_relaxed);
+        samvolip_walk(&at->handle, &cursor_);
     }
 
     inside::place *at_ = nullptr;
-    std::uint64_t number_ = 0;
+    std::uint64_t returns_ = 0;
+    samvolip_cursor cursor_{};
     keys how_ = keys::plain;
 };
 
@@ -754,8 +844,8 @@ public:
 
     /* Exchanges what is at a key for what a function makes of it: a function from found to found,
        which is called once for each of at most `tries` exchanges. Answers what was there before.
-       The function may call the map, except for leave, settle and close. What it throws goes
-       through, and the key is as it was. */
+       The function may call the map, except for leave and the calls that need all seats. What it
+       throws goes through, and the key is as it was. */
     template <class Function>
     result<found> update(std::uint64_t key, Function &&function, std::uint32_t tries = UINT32_MAX)
     {
@@ -817,9 +907,9 @@ public:
         place *mine = self().mine(why);
         if (!mine)
             return why;
-        samvolip::occupancy seen{};
-        seen.is_last = samvolip_occupancy(&mine->handle, &seen.taken, &seen.looked) == 1;
-        return seen;
+        samvolip_slots seen;
+        samvolip_occupancy(&mine->handle, &seen);
+        return samvolip::occupancy{seen.is_last == 1, seen.looked, seen.taken};
     }
 
 private:
@@ -907,14 +997,13 @@ public:
         std::vector<entry> all;
         if (!*this)
             return refusal(fault::empty);
-        if (!resized(all, size()))
+        if (!inside::resized(all, size()))
             return refusal(fault::out_of_memory);
         const int code = samvolip_ended_entries(&handle_, all.data(), all.size());
         if (code < 0)
             return refusal::of_code(code);
         if (how_ == keys::mixed) {
-            for (entry &one : all)
-                one.key = inside::unmixed_key(one.key);
+            inside::unmix_all(all);
             std::sort(all.begin(), all.end(),
                       [](const entry &a, const entry &b) { return a.key < b.key; });
         }
@@ -925,21 +1014,6 @@ private:
     friend class map;
 
     ended(samvolip_ended handle, keys how) noexcept : handle_(handle), how_(how) {}
-
-    /* Whether there is memory for so many entries. */
-    static bool resized(std::vector<entry> &all, std::size_t size)
-    {
-#ifdef __cpp_exceptions
-        try {
-            all.resize(size);
-        } catch (const std::bad_alloc &) {
-            return false;
-        }
-#else
-        all.resize(size);
-#endif
-        return true;
-    }
 
     samvolip_ended handle_ = SAMVOLIP_ENDED_INIT;
     keys how_ = keys::plain;
@@ -970,8 +1044,8 @@ public:
     /* A walk over the map's keys and numbers. Of an empty seat it shows nothing. */
     samvolip::walk walk() { return {at_, how_}; }
 
-    /* The handle, for those calls of samvolip.h that leave it full: they see mixed keys, if the map
-       mixes them. An empty seat has none. */
+    /* The handle, for those calls of samvolip.h that need one seat and leave it full: they see
+       mixed keys, if the map mixes them. An empty seat has none. */
     samvolip_seat *native_handle() noexcept { return at_ ? &at_->handle : nullptr; }
 
 private:
@@ -1096,7 +1170,7 @@ public:
 
     /*
      * How many keys the map has, exactly, and it goes on. This thread has no seat of it afterwards,
-     * until its next call, and its walk is cut off.
+     * until its next call, and its walks are cut off.
      *
      * Cost: that of samvolip_join for each seat that was ever out, and of samvolip_settle.
      * Refused: as close.
@@ -1108,6 +1182,42 @@ public:
         if (why.why() != fault::none)
             return why;
         return size;
+    }
+
+    /*
+     * All entries of the map at this moment, each key once and in no order, and it goes on. This
+     * thread has no seat of it afterwards, as after settle.
+     *
+     * Cost: that of samvolip_join for each seat that was ever out, and of samvolip_entries.
+     * Refused: as close.
+     */
+    result<std::vector<entry>> entries()
+    {
+        std::vector<entry> all;
+        const refusal why = pool_ ? pool_->entries(all) : refusal(fault::empty);
+        if (why.why() != fault::none)
+            return why;
+        if (how_ == keys::mixed)
+            inside::unmix_all(all);
+        return all;
+    }
+
+    /*
+     * Goes on over a new map of this shape with the same entries, so that the slots of removed keys
+     * are free again. Keys stay mixed, or plain. This thread has no seat of it afterwards, as after
+     * settle. Answers how many seats there are now.
+     *
+     * Cost: that of samvolip_join for each seat that was ever out, and of samvolip_renew; and 56
+     * bytes for each seat that there wasn't before.
+     * Refused: as open; full, if there are more keys than the last table of the shape has slots;
+     * and as close. After a refusal the map works on as it was.
+     */
+    result<unsigned> renew(const shape &of)
+    {
+        const refusal why = pool_ ? pool_->renew(of) : refusal(fault::empty);
+        if (why.why() != fault::none)
+            return why;
+        return of.seats;
     }
 
     /*

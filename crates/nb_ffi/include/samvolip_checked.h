@@ -115,6 +115,30 @@ static inline int samvolip_checked_settle(samvolip_seat *seat, uint64_t *size)
     return code;
 }
 
+static inline int samvolip_checked_entries(samvolip_seat *seat, samvolip_entry *entries,
+                                           size_t room, uint64_t *count)
+{
+    int code;
+    samvolip_check(count != NULL, "samvolip_entries", "the count is NULL");
+    samvolip_enter(seat, "samvolip_entries");
+    code = samvolip_entries(seat, entries, room, count);
+    samvolip_leave(seat);
+    return code;
+}
+
+/* The new map gets a name of its own, so that walks of the old one are told. */
+static inline int samvolip_checked_renew(samvolip_seat *seat, const samvolip_shape *shape)
+{
+    int code;
+    samvolip_check(shape != NULL, "samvolip_renew", "the shape is NULL");
+    samvolip_enter(seat, "samvolip_renew");
+    code = samvolip_renew(seat, shape);
+    if (code == SAMVOLIP_OK)
+        seat->map = samvolip_name_of_map(seat);
+    samvolip_leave(seat);
+    return code;
+}
+
 static inline int samvolip_checked_close(samvolip_seat *seat, samvolip_ended *ended)
 {
     int code;
@@ -225,16 +249,12 @@ static inline uint32_t samvolip_checked_generation(samvolip_seat *seat)
     return generation;
 }
 
-static inline int samvolip_checked_occupancy(samvolip_seat *seat, uint32_t *taken,
-                                             uint32_t *looked)
+static inline void samvolip_checked_occupancy(samvolip_seat *seat, samvolip_slots *found)
 {
-    int last;
-    samvolip_check(taken != NULL && looked != NULL, "samvolip_occupancy",
-                   "the number of slots is NULL");
+    samvolip_check(found != NULL, "samvolip_occupancy", "what is found is NULL");
     samvolip_enter(seat, "samvolip_occupancy");
-    last = samvolip_occupancy(seat, taken, looked);
+    samvolip_occupancy(seat, found);
     samvolip_leave(seat);
-    return last;
 }
 
 static inline void samvolip_checked_meet(samvolip_seat *seat, samvolip_seat *other)
@@ -245,19 +265,36 @@ static inline void samvolip_checked_meet(samvolip_seat *seat, samvolip_seat *oth
     samvolip_leave(seat);
 }
 
-static inline void samvolip_checked_walk(samvolip_seat *seat)
+/* A name for the walks of a full handle on its map, which is never 0. Two handles hardly ever have
+   one name. Then a check is missed. */
+static inline uint32_t samvolip_name_of_walks(const samvolip_seat *seat)
 {
+    uintptr_t address;
+    memcpy(&address, &seat->handle, sizeof address);
+    return ((samvolip_mix(samvolip_mix(address) ^ seat->map) >> 32) & UINT32_MAX) | 1;
+}
+
+/* The library may write what is behind its part of a cursor, so the name is written anew. */
+static inline void samvolip_checked_walk(samvolip_seat *seat, samvolip_cursor *cursor)
+{
+    samvolip_check(cursor != NULL, "samvolip_walk", "the cursor is NULL");
     samvolip_enter(seat, "samvolip_walk");
-    samvolip_walk(seat);
+    samvolip_walk(seat, cursor);
+    cursor->begun = samvolip_name_of_walks(seat);
     samvolip_leave(seat);
 }
 
-static inline int samvolip_checked_next(samvolip_seat *seat, uint64_t *key, uint64_t *number)
+static inline int samvolip_checked_next(samvolip_seat *seat, samvolip_cursor *cursor,
+                                        uint64_t *key, uint64_t *number)
 {
     int code;
+    samvolip_check(cursor != NULL, "samvolip_next", "the cursor is NULL");
     samvolip_check(key != NULL && number != NULL, "samvolip_next", "the key or number is NULL");
     samvolip_enter(seat, "samvolip_next");
-    code = samvolip_next(seat, key, number);
+    samvolip_check(cursor->begun == samvolip_name_of_walks(seat), "samvolip_next",
+                   "the handle has begun no such walk on this map");
+    code = samvolip_next(seat, cursor, key, number);
+    cursor->begun = samvolip_name_of_walks(seat);
     samvolip_leave(seat);
     return code;
 }
@@ -291,6 +328,9 @@ static inline int samvolip_checked_ended_entries(const samvolip_ended *ended,
 #define samvolip_split samvolip_checked_split
 #define samvolip_join samvolip_checked_join
 #define samvolip_settle samvolip_checked_settle
+#undef samvolip_entries
+#define samvolip_entries samvolip_checked_entries
+#define samvolip_renew samvolip_checked_renew
 #define samvolip_close samvolip_checked_close
 #define samvolip_free samvolip_checked_free
 #define samvolip_get samvolip_checked_get

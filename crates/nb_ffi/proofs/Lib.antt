@@ -1,14 +1,10 @@
 mod Crossing
 mod EndedBox
-mod Gathering
-mod Going
 mod HandleBox
 mod HandleEmpty
 mod HandleLend
 mod HandleMove
 mod Lending
-mod Promised
-mod Sampled
 mod SeatBox
-mod Settled
+mod Walking
 mod Writing

@@ -1,21 +1,21 @@
--- The handle of a session as a box.
+-- The handle of C that stands for a map's handle, as a box.
 use mathlib.Core.Path.{refl}
+use Rattle.nb_map.proofs.handle.Handle.TheLaws as laws
+use Rattle.nb_map.specs.contracts.handle.Handle as MapHandle
 use Rattle.nb_ffi.proofs.HandleBox.{Handle}
-use Rattle.nb_ffi.proofs.session.Session.TheLaws as session
 use Rattle.nb_ffi.specs.contracts.seat_handle.SeatHandle as SeatHandle
-use Rattle.nb_ffi.specs.contracts.session.Session as Session
 
 abbrev pub seat : Handle
 seat =
     record {
       row = SeatHandle.the_row;
       name = SeatHandle.the_type.name;
-      type = Session.the_row;
-      laws = session.the_row_laws;
-      make = λ p a v. record { ptr = p; alloc = a; session = v };
+      type = MapHandle.the_row;
+      laws = laws.the_row_laws;
+      make = λ p a v. record { ptr = p; alloc = a; handle = v };
       ptr = λ h. h.ptr;
       alloc = λ h. h.alloc;
-      value = λ h. h.session;
+      value = λ h. h.handle;
       is_pair = refl;
       is_made = λ h. refl;
       has_value = λ p a v. refl;

@@ -12,10 +12,14 @@ use Rattle.nb_core.specs.declared.shapes.ShapeFault.{ShapeFault}
 use Rattle.nb_core.specs.declared.shapes.ShapeFault.TheVariants as shape
 use Rattle.nb_map.specs.declared.faults.PutFault.{PutFault}
 use Rattle.nb_map.specs.declared.faults.PutFault.TheVariants as fault
+use Rattle.nb_map.specs.declared.faults.SettleFault.{SettleFault}
+use Rattle.nb_map.specs.declared.faults.SettleFault.TheVariants as settle
+use Rattle.nb_map.specs.declared.occupancy.Occupancy.{Occupancy}
 use Rattle.nb_ffi.specs.Checking.{and_then, map_ok}
 use Rattle.nb_ffi.specs.declared.codes.WriteAsked.{WriteAsked}
 use Rattle.nb_ffi.specs.declared.codes.WriteReply.{WriteReply}
-use Rattle.nb_ffi.specs.declared.codes.TheConstants.{ADD, ANY, EQUAL, PUT, REMOVE, WANT_ABSENT, WANT_PRESENT, E_CHANGE, E_CHUNK, E_CONTENDED, E_EXPONENTS, E_FALLING, E_FULL, E_KEY_RANGE, E_REPROBES, E_SEATS, E_SLOTS, E_STRIPES, E_SUM_RANGE, E_TABLES, E_VALUE_RANGE, E_WANT}
+use Rattle.nb_ffi.specs.declared.occupancy.MapOccupancy.{MapOccupancy}
+use Rattle.nb_ffi.specs.declared.codes.TheConstants.{ADD, ANY, EQUAL, PUT, REMOVE, WANT_ABSENT, WANT_PRESENT, E_CHANGE, E_CHUNK, E_CONTENDED, E_EXPONENTS, E_FALLING, E_FULL, E_KEY_RANGE, E_NOT_ALL_SEATS, E_OUT_OF_MEMORY, E_REPROBES, E_SEATS, E_SLOTS, E_STRIPES, E_SUM_RANGE, E_TABLES, E_VALUE_RANGE, E_WANT}
 
 -- the code of a shape's fault
 abbrev pub shape_code : ShapeFault → ℤ
@@ -34,6 +38,11 @@ abbrev pub fault_code : PutFault → ℤ
 fault_code fault.Full = E_FULL
 fault_code fault.Contended = E_CONTENDED
 fault_code fault.ValueRange = E_SUM_RANGE
+
+-- the code of a refusal to settle seats
+abbrev pub settle_code : SettleFault → ℤ
+settle_code settle.NotAll = E_NOT_ALL_SEATS
+settle_code settle.OutOfMemory = E_OUT_OF_MEMORY
 
 -- the key of a number, or the code that it is none
 abbrev pub checked_key : ℕ → Result ℕ ℤ
@@ -94,4 +103,13 @@ reply_in_c reply =
       before = unwrap_or reply.before 0;
       had = truth_in_c (is_some reply.before);
       matched = truth_in_c reply.matched;
+    }
+
+-- how full a map is, in C
+abbrev pub occupancy_in_c : Occupancy → MapOccupancy
+occupancy_in_c found =
+    record {
+      taken = found.taken;
+      looked = found.looked;
+      is_last = truth_in_c found.is_last;
     }

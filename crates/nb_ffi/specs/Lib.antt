@@ -1,14 +1,13 @@
 pub mod Handles
 pub mod Promises
 pub mod Headers
-pub mod Inside
 pub mod Owning
 pub mod Lending
 pub mod Checking
 pub mod Codes
+pub mod Cursors
 pub mod Shapes
 pub mod Closing
 pub mod Entries
 pub mod Telling
-pub mod Fullness
-pub mod Settling
+pub mod Whole

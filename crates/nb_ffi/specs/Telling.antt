@@ -1,24 +1,31 @@
 -- What the exports come to, by their codes.
-use Rattle.std.specs.Prelude.{◌≡◌, ◌++◌, ◌⊎◌, ℕ, ℤ, [], Option, Some, None, Result, Ok, Err}
+use Rattle.std.specs.Prelude.{◌≡◌, ◌≤◌, ◌+◌, ◌^◌, ◌++◌, ◌⊎◌, ℕ, ℤ, [], length, Option, Some, None, Result, Ok, Err}
 use Rattle.std.specs.FinMap as numbers
 use Rattle.nb_core.specs.Plans.{Plan}
 use Rattle.nb_core.specs.declared.calls.Call.{Call}
 use Rattle.nb_core.specs.declared.calls.Reply.{Reply}
 use Rattle.nb_map.specs.Ending.{EndedOf, map_left}
+use Rattle.nb_map.specs.Handles.{HandleOf, IsWhole, seats_of}
+use Rattle.nb_map.specs.Maps.{SeatOf}
 use Rattle.nb_map.specs.Promises.{Refused, Replied, found_or_refused}
+use Rattle.nb_map.specs.Walks.{IsWalkOf}
 use Rattle.nb_map.specs.declared.faults.PutFault.{PutFault}
-use Rattle.nb_ffi.specs.Closing.{HasAllSeats, IsEndOf}
-use Rattle.nb_ffi.specs.Codes.{fault_code, reply_in_c}
-use Rattle.nb_ffi.specs.Handles.{IsNew, IsPartOf, SessionOf, StaysOpen, all_seats}
-use Rattle.nb_ffi.specs.Promises.{HasGot, HasMet, HasNext, HasTriedToWrite}
+use Rattle.nb_map.specs.declared.occupancy.Occupancy.{Occupancy}
+use Rattle.nb_ffi.specs.Closing.{IsEndOf}
+use Rattle.nb_ffi.specs.Codes.{fault_code, occupancy_in_c, reply_in_c}
+use Rattle.nb_ffi.specs.Cursors.{walk_in}
+use Rattle.nb_ffi.specs.Handles.{IsNew, IsPartOf, StaysOpen}
+use Rattle.nb_ffi.specs.Promises.{HasGot, HasMet, HasSampled, HasTriedToWrite, HasWalkedOn}
 use Rattle.nb_ffi.specs.declared.codes.WriteReply.{WriteReply}
-use Rattle.nb_ffi.specs.declared.codes.TheConstants.{ABSENT, E_LOST, E_NOT_ALL_SEATS, E_NO_SEAT, OK, E_OUT_OF_MEMORY, PRESENT}
+use Rattle.nb_ffi.specs.declared.codes.TheConstants.{ABSENT, E_LOST, E_NOT_ALL_SEATS, E_NO_SEAT, E_SEATS, OK, E_OUT_OF_MEMORY, PRESENT}
+use Rattle.nb_ffi.specs.declared.cursor.Cursor.{Cursor}
 use Rattle.nb_ffi.specs.declared.ended_map.EndedMap.{EndedMap}
+use Rattle.nb_ffi.specs.declared.occupancy.MapOccupancy.{MapOccupancy}
 
 -- A read came to this code: it found the number that is written, or none, and 0 is written; or the
 -- key is none, and nothing happened.
 abbrev pub IsGet :
-    Result ℕ ℤ → (code : ℤ) → (number number' : ℕ) → (before after : Option SessionOf) → Type 0
+    Result ℕ ℤ → (code : ℤ) → (number number' : ℕ) → (before after : Option HandleOf) → Type 0
 IsGet (Ok key) code number number' before after =
     ((code ≡ PRESENT) × StaysOpen before after (HasGot key (Some number')))
     ⊎ ((code ≡ ABSENT) × (number' ≡ 0) × StaysOpen before after (HasGot key None))
@@ -29,7 +36,7 @@ IsGet (Err refusal) code number number' before after =
 -- refused; or a number or a code of it is none, and nothing happened.
 abbrev pub IsWrite :
     Result Call ℤ → (tries : ℕ) → (code : ℤ) → (reply reply' : WriteReply)
-    → (before after : Option SessionOf)
+    → (before after : Option HandleOf)
     → Type 0
 IsWrite (Ok call) tries code reply reply' before after =
     ((code ≡ OK) × ((made : Reply) × (reply' ≡ reply_in_c made)
@@ -50,7 +57,7 @@ IsTold (Err fault) code number number' = (code ≡ fault_code fault) × (number'
 -- is told; or its key or its number is none, and nothing happened.
 abbrev pub IsNamedWrite :
     Result Call ℤ → (tries : ℕ) → (code : ℤ) → (number number' : ℕ)
-    → (before after : Option SessionOf)
+    → (before after : Option HandleOf)
     → Type 0
 IsNamedWrite (Ok call) tries code number number' before after =
     (answer : Result (Option ℕ) PutFault) × IsTold answer code number number'
@@ -59,81 +66,99 @@ IsNamedWrite (Err refusal) tries code number number' before after =
     (code ≡ refusal) × (number' ≡ number) × (after ≡ before)
 
 -- both handles are of one map
-abbrev pub AreOfOneMap : Option SessionOf → Option SessionOf → Type 0
+abbrev pub AreOfOneMap : Option HandleOf → Option HandleOf → Type 0
 AreOfOneMap a b =
-    (one : SessionOf) (other : SessionOf) → a ≡ Some one → b ≡ Some other → one.map ≡ other.map
+    (one : HandleOf) (other : HandleOf) → a ≡ Some one → b ≡ Some other → one.map ≡ other.map
 
 -- the other handle was open, and the seat has met its seat
-abbrev pub HasMetHandle : (other : Option SessionOf) → (before after : SessionOf) → Type 0
+abbrev pub HasMetHandle : (other : Option HandleOf) → (before after : HandleOf) → Type 0
 HasMetHandle other before after =
-    (known : SessionOf) × (other ≡ Some known) × HasMet known before after
+    (known : HandleOf) × (other ≡ Some known) × HasMet known before after
+
+-- A look at how full the map is was made, and what it found is written.
+abbrev pub IsSample : MapOccupancy → (before after : Option HandleOf) → Type 0
+IsSample written before after =
+    (found : Occupancy) × (written ≡ occupancy_in_c found)
+    × StaysOpen before after (HasSampled found)
+
+-- the cursor has a walk that the handle's seat began
+abbrev pub HasWalkOfSeat : Option HandleOf → Cursor → Type 0
+HasWalkOfSeat held cursor =
+    (handle : HandleOf) → held ≡ Some handle
+    → (begun : SeatOf) × IsWalkOf handle.map handle.seat (walk_in begun cursor)
 
 -- A walk went on with this code: it shows the pair that is written, or it has ended, and nothing is
 -- written.
 abbrev pub IsNext :
-    (code : ℤ) → (key key' number number' : ℕ) → (before after : Option SessionOf) → Type 0
-IsNext code key key' number number' before after =
-    ((code ≡ PRESENT) × StaysOpen before after (HasNext (Some (key', number'))))
-    ⊎ ((code ≡ ABSENT) × (key' ≡ key) × (number' ≡ number) × StaysOpen before after (HasNext None))
+    (code : ℤ) → (cursor cursor' : Cursor) → (key key' number number' : ℕ)
+    → (before after : Option HandleOf)
+    → Type 0
+IsNext code cursor cursor' key key' number number' before after =
+    ((code ≡ PRESENT)
+    × StaysOpen before after (HasWalkedOn cursor cursor' (Some (key', number'))))
+    ⊎ ((code ≡ ABSENT) × (key' ≡ key) × (number' ≡ number)
+    × StaysOpen before after (HasWalkedOn cursor cursor' None))
 
 -- A map was opened with this code, or not: the handle has all seats of a new map of the shape; or
 -- it is as it was, and the code is the shape's, or there was no memory.
-abbrev pub IsOpening : Result Plan ℤ → (code : ℤ) → (before after : Option SessionOf) → Type 0
+abbrev pub IsOpening : Result Plan ℤ → (code : ℤ) → (before after : Option HandleOf) → Type 0
 IsOpening (Ok p) code before after =
-    ((code ≡ OK) × ((session : SessionOf) × (after ≡ Some session) × IsNew p session))
+    ((code ≡ OK) × ((handle : HandleOf) × (after ≡ Some handle) × IsNew p handle))
     ⊎ ((code ≡ E_OUT_OF_MEMORY) × (after ≡ before))
 IsOpening (Err refusal) code before after = (code ≡ refusal) × (after ≡ before)
 
 -- A handle was split with this code; or both are as they were, for want of memory or of a seat in
 -- reserve.
-pub data IsSplit (code : ℤ) (before after other other' : Option SessionOf) : Type 0 where
+pub data IsSplit (code : ℤ) (before after other other' : Option HandleOf) : Type 0 where
   Split :
-      code ≡ OK → (part : SessionOf) → other' ≡ Some part
+      code ≡ OK → (part : HandleOf) → other' ≡ Some part
       → StaysOpen before after (λ old new. IsPartOf old new part)
       → IsSplit code before after other other'
   Kept :
       code ≡ E_OUT_OF_MEMORY → after ≡ before → other' ≡ other
       → IsSplit code before after other other'
   Lacks :
-      code ≡ E_NO_SEAT → (session : SessionOf) → before ≡ Some session → session.spare ≡ []
+      code ≡ E_NO_SEAT → (handle : HandleOf) → before ≡ Some handle → handle.reserve ≡ []
       → after ≡ before → other' ≡ other
       → IsSplit code before after other other'
 
 -- the handle has the seats of another one in reserve
-pub record HasJoined (other : SessionOf) (before after : SessionOf) : Type 0 where
+pub record HasJoined (other : HandleOf) (before after : HandleOf) : Type 0 where
   pub map : after.map ≡ before.map
   pub seat : after.seat ≡ before.seat
-  pub walk : after.walk ≡ before.walk
-  pub spare : after.spare ≡ before.spare ++ all_seats other
+  pub reserve : after.reserve ≡ before.reserve ++ seats_of other
 
--- two handles were joined with this code, and the other is empty; or they are as they were
-pub data IsJoin (code : ℤ) (before after other other' : Option SessionOf) : Type 0 where
+-- Two handles were joined with this code, and the other is empty; or they are as they were, since
+-- they have more seats than can be counted.
+pub data IsJoin (code : ℤ) (before after other other' : Option HandleOf) : Type 0 where
   Joined :
-      code ≡ OK → (given : SessionOf) → other ≡ Some given → other' ≡ None
+      code ≡ OK → (given : HandleOf) → other ≡ Some given → other' ≡ None
       → StaysOpen before after (HasJoined given)
       → IsJoin code before after other other'
   Kept :
-      code ≡ E_OUT_OF_MEMORY → after ≡ before → other' ≡ other
+      code ≡ E_SEATS → (handle given : HandleOf) → before ≡ Some handle → other ≡ Some given
+      → 2 ^ 63 ≤ length (seats_of handle) + length (seats_of given) → after ≡ before
+      → other' ≡ other
       → IsJoin code before after other other'
 
 -- A map was closed with this code, and its handle is empty; or all is as it was, for want of memory
 -- or of seats. That a map is given up whose handle has all seats, since somebody else holds it, no
 -- right caller sees.
-pub data IsClose (code : ℤ) (before after : Option SessionOf) (left left' : Option EndedMap) :
+pub data IsClose (code : ℤ) (before after : Option HandleOf) (left left' : Option EndedMap) :
     Type 0 where
   Closed :
-      code ≡ OK → (session : SessionOf) → before ≡ Some session → after ≡ None → (end : EndedMap)
-      → left' ≡ Some end → IsEndOf session end
+      code ≡ OK → (handle : HandleOf) → before ≡ Some handle → after ≡ None → (end : EndedMap)
+      → left' ≡ Some end → IsEndOf handle end
       → IsClose code before after left left'
   Kept :
       code ≡ E_OUT_OF_MEMORY → after ≡ before → left' ≡ left
       → IsClose code before after left left'
   Lacks :
-      code ≡ E_NOT_ALL_SEATS → (session : SessionOf) → before ≡ Some session
-      → (HasAllSeats session → ⊥) → after ≡ before → left' ≡ left
+      code ≡ E_NOT_ALL_SEATS → (handle : HandleOf) → before ≡ Some handle
+      → (IsWhole handle → ⊥) → after ≡ before → left' ≡ left
       → IsClose code before after left left'
   Lost :
-      code ≡ E_LOST → (session : SessionOf) → before ≡ Some session → HasAllSeats session
+      code ≡ E_LOST → (handle : HandleOf) → before ≡ Some handle → IsWhole handle
       → after ≡ None → left' ≡ left
       → IsClose code before after left left'
 

@@ -10,12 +10,13 @@ ghost use Rattle.nb_ffi.specs.Codes.{
   checked_want,
   fault_code,
   reply_in_c,
+  settle_code,
   shape_code,
   write_of,
 };
 
 use nb_core::{Change, Key, Num, Reply, ShapeFault, Want};
-use nb_map::PutFault;
+use nb_map::{PutFault, SettleFault};
 
 /// A call came to what was asked for.
 pub const OK: i32 = 0;
@@ -30,7 +31,7 @@ pub const E_TABLES: i32 = -1;
 pub const E_EXPONENTS: i32 = -2;
 /// A table is smaller than the one before it.
 pub const E_FALLING: i32 = -3;
-/// The number of seats isn't from 1 to 256.
+/// The number of seats isn't from 1 to 256; or two handles have more seats than can be counted.
 pub const E_SEATS: i32 = -4;
 /// The number of stripes isn't from 1 to 256.
 pub const E_STRIPES: i32 = -5;
@@ -117,6 +118,15 @@ pub(crate) fn fault_code(fault: PutFault) -> i32
         PutFault::Full => E_FULL,
         PutFault::Contended => E_CONTENDED,
         PutFault::ValueRange => E_SUM_RANGE,
+    }
+}
+
+pub(crate) fn settle_code(fault: SettleFault) -> i32
+    ensures { result ≡ settle_code fault }
+{
+    match fault {
+        SettleFault::NotAll => E_NOT_ALL_SEATS,
+        SettleFault::OutOfMemory => E_OUT_OF_MEMORY,
     }
 }
 

@@ -66,7 +66,7 @@ impl EndedMap {
 }
 
 /// Writes entries into the room for them; what is behind stays.
-fn write_entries(entries: &[(Key, Num)], room: &mut [MapEntry])
+pub(crate) fn write_entries(entries: &[(Key, Num)], room: &mut [MapEntry])
     requires fits { length entries.now ≤ length room.old }
     ensures { room.new ≡ written_over entries.now room.old }
 {

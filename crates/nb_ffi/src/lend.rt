@@ -2,23 +2,23 @@
 ghost use Rattle.std.specs.Prelude.{◌≡◌, Some};
 ghost use types.Logic.{sem};
 ghost use Rattle.nb_ffi.specs.declared.ended_map.EndedMap.{EndedMap};
-ghost use Rattle.nb_ffi.specs.Handles.{SessionOf};
-ghost use Rattle.nb_ffi.specs.Lending.{left_follows, session_follows};
+ghost use Rattle.nb_map.specs.Handles.{HandleOf};
+ghost use Rattle.nb_ffi.specs.Lending.{left_follows, handle_follows};
 
 use crate::ended_handle::EndedHandle;
 use crate::ended_map::EndedMap;
 use crate::seat_handle::SeatHandle;
-use crate::session::Session;
+use nb_map::Handle;
 
 impl SeatHandle {
     /// What the handle stands for.
     #[inline]
-    pub(crate) fn lend(&mut self) -> &mut Session
-        requires open { (session : SessionOf) × (self.old.session ≡ Some session) }
-        ensures* writes_back { sem 𝓛 (session_follows self.entry result) }
-        ensures value { self.old.session ≡ Some result.now }
+    pub(crate) fn lend(&mut self) -> &mut Handle
+        requires open { (handle : HandleOf) × (self.old.handle ≡ Some handle) }
+        ensures* writes_back { sem 𝓛 (handle_follows self.entry result) }
+        ensures value { self.old.handle ≡ Some result.now }
     {
-        unsafe { &mut *(self.ptr as *mut Session) }
+        unsafe { &mut *(self.ptr as *mut Handle) }
     }
 }
 

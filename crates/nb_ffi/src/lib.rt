@@ -2,19 +2,15 @@
 //! for callers.
 #![tactic(auto)]
 
-mod calls;
 mod codes;
+mod cursor;
 mod ended_handle;
 mod ended_map;
 mod exports;
-mod fullness;
 mod header;
 mod lend;
 mod life;
 mod map_shape;
+mod occupancy;
 mod parts;
 mod seat_handle;
-mod session;
-mod settling;
-mod trying;
-mod walks;

@@ -11,7 +11,7 @@ use std::rt::Env;
 use std::{env, io};
 
 /// The version of the programs, as the file VERSION has it.
-pub const VERSION: &str = "0.8.1";
+pub const VERSION: &str = "0.9.0";
 
 /// The words of the command line. Words that aren't text are wrong ones.
 fn words_of<R: Env + AllocGlobal>(rt: &R) -> Result<Vec<String>, WordsFault> {

@@ -1,8 +1,7 @@
+mod Called
 mod Comparing
 mod Held
 mod Passed
-mod Renewed
 mod Rounds
-mod Settled
 mod Tries
 mod Written

@@ -279,21 +279,18 @@ pub record HasRound (m : LongMapOf) (key n : ℕ) (change : Change) (before then
   pub got : HasGot m.map key before then' (Some n)
   pub wrote : HasTriedToWrite m.map (call.Write key (want.Equal n) change) then' after 1 outcome
 
--- the read has shown this, and the write is of this map
+-- the read has shown this
 pub round-of :
-    {V : Type 0} {m m' : LongMapOf} {key n : ℕ} {change : Change} {before then' after : SeatOf}
+    {V : Type 0} {m : LongMapOf} {key n : ℕ} {change : Change} {before then' after : SeatOf}
     {shown : Where V} {outcome : Outcome PutFault}
-    → m' ≡ m → IsMine m.map before → HasGotValue m key before then' (Ok (Some shown))
-    → n ≡ shown.index
-    → HasTriedToWrite m'.map (call.Write key (want.Equal n) change) then' after 1 outcome
+    → IsMine m.map before → HasGotValue m key before then' (Ok (Some shown)) → n ≡ shown.index
+    → HasTriedToWrite m.map (call.Write key (want.Equal n) change) then' after 1 outcome
     → HasRound m key n change before then' after outcome
-round-of {m = m} {key = key} {n} {change} {before} {then'} {after} {outcome = outcome} same own got is
-    wrote = record {
-      own = own;
-      got = subst (HasGot m.map key before then') (got.shown.1 ∙ ap Some (sym is)) got.got;
-      wrote = subst (λ (m : LongMapOf). HasTriedToWrite m.map
-          (call.Write key (want.Equal n) change) then' after 1 outcome) same wrote;
-    }
+round-of {m = m} {key = key} {before = before} {then'} own got is wrote = record {
+  own = own;
+  got = subst (HasGot m.map key before then') (got.shown.1 ∙ ap Some (sym is)) got.got;
+  wrote = wrote;
+}
 
 module _
     {m : LongMapOf} {key n : ℕ} {change : Change} {before then' after : SeatOf}

@@ -29,8 +29,11 @@ use Rattle.nb_map.specs.declared.faults.PutFault.TheVariants as put_fault
 use Rattle.nb_long.proofs.Passed.{others-won}
 use Rattle.nb_long.proofs.Rounds.{passed-sum, stepped-as, stepped-none, stepped-then, stepped-within, times, uncounted}
 use Rattle.nb_long.specs.Promises.{HasGotValue}
+use Rattle.nb_long.specs.Stores.{GivesBack}
 use Rattle.nb_long.specs.Typed.{HasMadeLast, IsIdle, IsShown, LongMapOf, number_of, passed_on, read_of, round_steps}
-use Rattle.nb_long.specs.Updating.{AreShown, Begun, HasBegunTry, HasEndedTry, HasExchanged, HasLost, HasTriedOnce, HasUpdated, IsLastTry, IsLockFreeAs, IsLost, IsStored, Lost, calls_asked, exchange_for}
+use Rattle.nb_long.specs.Updating.{AreShown, Begun, HasBegunTry, HasEndedTry, HasExchanged, HasLost, HasTriedOnce, HasUpdated, IsLastTry, IsLockFreeAs, IsLost, IsStored, Lost, as_update_fault, calls_asked, exchange_for}
+use Rattle.nb_long.specs.declared.store.StoreFault.{StoreFault}
+use Rattle.nb_long.specs.declared.store.StoreFault.TheVariants as store_fault
 use Rattle.nb_long.specs.declared.map.updating.UpdateFault.{UpdateFault}
 use Rattle.nb_long.specs.declared.map.updating.UpdateFault.TheVariants as fault
 use Rattle.nb_long.specs.declared.map.updating.Updated.{Updated}
@@ -189,25 +192,22 @@ passes (Matched held) mine tried lost = absurd lost
 -- ---- the exchange of a try
 
 module _
-    {V : Type 0} {m m' : LongMapOf} (key : ℕ) {before after : SeatOf}
-    (found new : Option (Where V)) {was number : Option ℕ} (same : m' ≡ m)
-    (was-is : was ≡ number_of found) (number-is : number ≡ number_of new)
+    {V : Type 0} (m : LongMapOf) (key : ℕ) {before after : SeatOf} (found new : Option (Where V))
+    {was number : Option ℕ} (was-is : was ≡ number_of found) (number-is : number ≡ number_of new)
   where
     -- it is of the numbers of these tokens
     as-exchanged :
         {outcome : Outcome PutFault}
-        → HasTriedToWrite m'.map (exchange_of key was number) before after 1 outcome
+        → HasTriedToWrite m.map (exchange_of key was number) before after 1 outcome
         → HasTriedToWrite m.map (exchange_for key found new) before after 1 outcome
     as-exchanged {outcome} wrote =
-        subst (λ (m : LongMapOf). HasTriedToWrite m.map (exchange_for key found new) before after 1
-        outcome) same
-        (subst₂ (λ was number. HasTriedToWrite m'.map (exchange_of key was number) before after 1
-        outcome) was-is number-is wrote)
+        subst₂ (λ was number. HasTriedToWrite m.map (exchange_of key was number) before after 1
+        outcome) was-is number-is wrote
 
     -- it found what it was to
     pub exchange-won :
         (reply : Reply)
-        → HasTriedToWrite m'.map (exchange_of key was number) before after 1 (Replied reply)
+        → HasTriedToWrite m.map (exchange_of key was number) before after 1 (Replied reply)
         → reply.matched ≡ true
         → HasExchanged m key found new before after
         (Ok (Some (record { found = found; new = new })))
@@ -237,6 +237,32 @@ module _
     {before read : SeatOf} {function left : F} {found : Option (Where V)} {value : Option V}
     (asked : HasBegunTry m Step key before function found value read left)
   where
+    read-last : HasMadeLast key (read_of key (number_of found)) before read
+    read-last = record {
+      earlier = [];
+      idle = All-nil (IsIdle key);
+      logged = (got-of asked.got).replied;
+    }
+
+    -- what the function answers isn't stored
+    pub unstored :
+        {v : V} → value ≡ Some v → (refusal : StoreFault V) → GivesBack m.store v refusal
+        → HasEndedTry m Step key before function read left (Err (as_update_fault refusal))
+    unstored some (store_fault.OutOfMemory back) same = (
+      found,
+      read-last,
+      subst (λ value. HasBegunTry m Step key before function found value read left)
+          (some ∙ ap Some (sym same)) asked,
+    )
+    unstored some (store_fault.ValueRange placed) ((shows, same), past) = (
+      found,
+      read-last,
+      subst (λ value. HasBegunTry m Step key before function found value read left)
+          (some ∙ ap Some (sym same)) asked,
+      shows,
+      past,
+    )
+
     -- it is stored, and exchanged for what was found
     module _ (after : SeatOf) (new : Option (Where V)) (stored : IsStored m.store value new) where
       once :

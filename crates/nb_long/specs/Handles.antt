@@ -1,40 +1,48 @@
--- How contracts see a handle of a typed map, and what is in it.
-use Rattle.std.specs.Prelude.{◌≡◌, ◌≤◌, ℕ, List, [], map, All}
+-- How contracts see a handle of a typed map.
+use Rattle.std.specs.List.{flat_map}
+use Rattle.std.specs.Prelude.{◌≡◌, [], ◌∷◌, List, length}
 use Rattle.boxcar.specs.Table.{Shelves}
-use Rattle.nb_map.specs.Maps.{IsMine, MapOf, SeatOf, new_seats}
+use Rattle.nb_map.specs.Handles as numbers
+use Rattle.nb_map.specs.Maps.{SeatOf}
 use Rattle.nb_long.specs.Typed.{LongMapOf}
 
--- a handle: the typed map that it is of, and its seat
+-- a handle: the typed map that it is of, its own seat, and the seats that it has in reserve
 pub record HandleOf : Type 0 where
   pub map : LongMapOf
   pub seat : SeatOf
+  pub reserve : List SeatOf
 
--- the map's handle with this seat
+-- a handle of a map of numbers, as one of the typed map that has this store
+abbrev pub with_store : Shelves → numbers.HandleOf → HandleOf
+with_store store handle = record {
+  map = record { map = handle.map; store = store };
+  seat = handle.seat;
+  reserve = handle.reserve;
+}
+
+-- all seats that it holds, its own first
+abbrev pub seats_of : HandleOf → List SeatOf
+seats_of handle = handle.seat ∷ handle.reserve
+
+-- it holds all seats of its map
+abbrev pub IsWhole : HandleOf → Type 0
+IsWhole handle = length (seats_of handle) ≡ handle.map.map.chain.shape.seats
+
+-- the map's handle with this seat alone
 abbrev pub handle_on : LongMapOf → SeatOf → HandleOf
-handle_on m seat = record { map = m; seat = seat }
+handle_on m seat = record { map = m; seat = seat; reserve = [] }
 
--- the handle with this seat of a map of numbers, over a store
-abbrev pub handle_sharing : MapOf → Shelves → SeatOf → HandleOf
-handle_sharing m store seat = record { map = record { map = m; store = store }; seat = seat }
-
--- so many handles of a map, whose seats have seen and counted nothing, numbered by their places
-abbrev pub new_handles : LongMapOf → ℕ → List HandleOf
-new_handles m count = map (handle_on m) (new_seats m.map count)
-
--- the seats of handles
-abbrev pub seats_of : List HandleOf → List SeatOf
-seats_of handles = map (λ handle. handle.seat) handles
-
--- The handle is of the map that it was of: what a function promises that takes a handle by `&mut`.
+-- the handle is of the map that it was of
 abbrev pub IsSameMap : (before after : HandleOf) → Type 0
 IsSameMap before after = after.map ≡ before.map
 
--- all these handles are of one map
-abbrev pub AreOfOneMap : List HandleOf → Type 0
-AreOfOneMap handles = (m : LongMapOf) × All (λ handle. handle.map ≡ m) handles
+-- What each call leaves as it was: the map that the handle is of, and the seats that it has in
+-- reserve. A function that takes a handle by `&mut` promises it, so that its callers can join the
+-- handle with others and close it: it could put another handle in its place.
+pub record KeepsRest (before after : HandleOf) : Type 0 where
+  pub map : IsSameMap before after
+  pub reserve : after.reserve ≡ before.reserve
 
--- the seat is the map's, and there is room for so many seats that all have it
-pub record IsHeld (m : MapOf) (seat : SeatOf) (room : List SeatOf) (capacity : ℕ) : Type 0 where
-  pub own : IsMine m seat
-  pub empty : room ≡ []
-  pub room_for_all : m.chain.shape.seats ≤ capacity
+-- all seats that they hold, one handle's after another's
+abbrev pub all_seats : List HandleOf → List SeatOf
+all_seats handles = flat_map seats_of handles

@@ -2,5 +2,6 @@ pub mod Stores
 pub mod Typed
 pub mod Promises
 pub mod Handles
+pub mod Numbers
 pub mod Updating
 pub mod Renewing

@@ -1,90 +1,84 @@
 //! Handles: the ways of threads to a typed map that they share.
-ghost use Rattle.std.specs.Arc.{arc_value};
-ghost use Rattle.std.specs.Prelude.{All, IfErr, IfOk, IfSome, Option, [], false, is_ok, length, map, true, vec_capacity, ◌++◌, ◌+◌, ◌<◌, ◌↔◌, ◌∷◌, ◌≡◌};
+ghost use Rattle.std.specs.Prelude.{IfErr, IfOk, IfSome, Option, is_ok, true, ◌↔◌, ◌≡◌};
 ghost use Rattle.boxcar.specs.Table.{Shows, Where};
 ghost use Rattle.nb_core.specs.declared.calls.Change.TheVariants as change;
 ghost use Rattle.nb_core.specs.declared.calls.Want.TheVariants as want;
 ghost use Rattle.nb_map.specs.Ending.{EndedWith, HasTablesLeft};
 ghost use Rattle.nb_map.specs.Logs.{HaveEmptyLogs};
-ghost use Rattle.nb_map.specs.Maps.{AreMine, IsMadeFor, IsMine, MapOf};
+ghost use Rattle.nb_map.specs.Maps.{AreMine, IsMadeFor, IsMine, new_seats};
 ghost use Rattle.nb_map.specs.NamedCalls.{remove_of};
 ghost use Rattle.nb_map.specs.Promises.{HasGot, HasMet, HasWritten};
 ghost use Rattle.nb_map.specs.Promises as outcome;
-ghost use Rattle.nb_long.specs.Handles.{AreOfOneMap, IsSameMap, handle_sharing, new_handles, seats_of};
+ghost use Rattle.nb_long.specs.Handles.{IsWhole, KeepsRest, seats_of};
 ghost use Rattle.nb_long.specs.Promises.{HasChangedIf, HasPutValue, HasReplacedIf, with_token};
-ghost use Rattle.nb_long.specs.Typed.{LongMapOf};
 
+mod closing;
 mod fullness;
 mod listing;
 mod renewing;
 mod settling;
+mod splitting;
 mod updating;
 
+use crate::map::numbers::ByHandle;
 use crate::map::parts::Parts;
 use crate::map::{Compared, LongFault, Stored, Unshown};
 use crate::store::{Found, Store};
 use nb_core::{Key, Num, OutOfMemory, Shape};
-use nb_map::{Ended, Map, Seat};
 use std::alloc::Global;
 use std::marker::Model;
 use std::sync::{Arc, Wait};
 
-/// One thread's way to a typed map that others share: a seat, and counted references to the map of
-/// numbers and to the store.
+/// One thread's way to a typed map that others share: a handle of the map of numbers, and a counted
+/// reference to the store.
 #[derive(Drop)]
 pub struct Handle<V> {
-    map: Arc<Map, Global>,
+    map: nb_map::Handle,
     store: Arc<Store<V>, Global>,
-    seat: Seat,
-    /// Room in which `close` gathers the seats, so that it takes no memory.
-    room: Vec<Seat>,
 }
 
 impl<V> Model for Handle<V> {
-    ghost use Rattle.std.specs.Prelude.{vec_capacity};
     ghost use Rattle.std.specs.Arc.{arc_value};
-    ghost use Rattle.nb_long.specs.Handles.{HandleOf, IsHeld, handle_sharing};
+    ghost use Rattle.nb_long.specs.Handles.{HandleOf, with_store};
 
     ghost Value = { HandleOf };
 
-    ghost view = { λ h. handle_sharing (arc_value h.map) (arc_value h.store) h.seat };
-
-    ghost invariant = { λ h. IsHeld (arc_value h.map) h.seat h.room.items (vec_capacity h.room) };
+    ghost view = { λ h. with_store (arc_value h.store) h.map };
 }
 
 impl<V: Drop> Handle<V> {
-    /// A new map with an empty store, as its handles: one for each seat of the shape.
-    pub fn open(alloc: Global, shape: Shape) -> Result<Vec<Handle<V>>, OutOfMemory>
-        ensures new { IfOk result (λ handles. (m : LongMapOf) × (m.map.chain.shape ≡ shape)
-            × (handles.items ≡ new_handles m shape.seats)) }
-        ensures made { IfOk result (λ handles. All (λ handle. IsMadeFor handle.map.map shape)
-            handles.items) }
-        ensures empty { IfOk result (λ handles. HaveEmptyLogs (seats_of handles.items)) }
-        ensures one { IfOk result (λ handles. AreOfOneMap handles.items) }
+    /// A new map with an empty store, as the one handle that has all its seats: one to call with,
+    /// and the others in reserve.
+    pub fn open(alloc: Global, shape: Shape) -> Result<Handle<V>, OutOfMemory>
+        ensures made { IfOk result (λ handle. IsMadeFor handle.map.map shape) }
+        ensures seats { IfOk result (λ handle. seats_of handle
+            ≡ new_seats handle.map.map shape.seats) }
+        ensures empty { IfOk result (λ handle. HaveEmptyLogs (seats_of handle)) }
     {
         let store = Store::new(alloc)?;
         let Ok(store) = Arc::new(alloc, store) else {
             return Err(OutOfMemory);
         };
-        let (map, seats) = Map::new(alloc, shape)?;
-        sharing(alloc, map, &store, seats)
+        let map = nb_map::Handle::open(alloc, shape)?;
+        Ok(Handle { map, store })
     }
 
-    /// What every handle is: its seat is a seat of its map. Nothing runs. A proof over several
+    /// What every handle is: its seats are seats of its map. Nothing runs. A proof over several
     /// calls of a handle sets out from it.
     pub fn known(&self)
-        ensures { IsMine self.now.map.map self.now.seat }
+        ensures own { IsMine self.now.map.map self.now.seat }
+        ensures reserve { AreMine self.now.map.map self.now.reserve }
     {
-        let _ = &self.seat;
+        self.map.known();
     }
 
     /// The number of the value that the map has at a key, which `show` reads. It is `LongMap::get`
     /// in two calls: what is shown is borrowed from the handle, and a read changes the handle.
     pub fn number_at(&mut self, key: Key) -> Option<Num>
         ensures got { HasGot self.old.map.map key self.old.seat self.new.seat result }
-        ensures map { IsSameMap self.old self.new }
+        ensures rest { KeepsRest self.old self.new }
     {
-        self.map.get(&mut self.seat, key)
+        self.map.get(key)
     }
 
     /// What the store has under a number, if it shows anything: `Store::show`.
@@ -99,9 +93,10 @@ impl<V: Drop> Handle<V> {
     pub fn put<R: Wait>(&mut self, rt: &R, key: Key, value: V) -> Result<Stored<V>, LongFault<V>>
         ensures wrote { HasPutValue self.old.map key want.Any value self.old.seat self.new.seat
             result }
-        ensures map { IsSameMap self.old self.new }
+        ensures rest { KeepsRest self.old self.new }
     {
-        Parts::new(&self.map, &self.store).put(rt, &mut self.seat, key, value)
+        self.map.known();
+        by_handle(&self.store).put(rt, &mut self.map, key, value)
     }
 
     /// The same at a key that has none: `LongMap::put_if_absent`.
@@ -113,9 +108,10 @@ impl<V: Drop> Handle<V> {
     ) -> Result<Stored<V>, LongFault<V>>
         ensures wrote { HasPutValue self.old.map key want.Absent value self.old.seat self.new.seat
             result }
-        ensures map { IsSameMap self.old self.new }
+        ensures rest { KeepsRest self.old self.new }
     {
-        Parts::new(&self.map, &self.store).put_if_absent(rt, &mut self.seat, key, value)
+        self.map.known();
+        by_handle(&self.store).put_if_absent(rt, &mut self.map, key, value)
     }
 
     /// The same in place of another number: `LongMap::replace`.
@@ -127,9 +123,10 @@ impl<V: Drop> Handle<V> {
     ) -> Result<Stored<V>, LongFault<V>>
         ensures wrote { HasPutValue self.old.map key want.Present value self.old.seat self.new.seat
             result }
-        ensures map { IsSameMap self.old self.new }
+        ensures rest { KeepsRest self.old self.new }
     {
-        Parts::new(&self.map, &self.store).replace(rt, &mut self.seat, key, value)
+        self.map.known();
+        by_handle(&self.store).replace(rt, &mut self.map, key, value)
     }
 
     /// The same where the key has a value equal to `old`: `LongMap::replace_if`.
@@ -144,18 +141,19 @@ impl<V: Drop> Handle<V> {
         V: PartialEq,
         ensures wrote { HasReplacedIf V.eq self.old.map key old.now new self.old.seat self.new.seat
             result }
-        ensures map { IsSameMap self.old self.new }
+        ensures rest { KeepsRest self.old self.new }
     {
-        Parts::new(&self.map, &self.store).replace_if(rt, &mut self.seat, key, old, new)
+        self.map.known();
+        by_handle(&self.store).replace_if(rt, &mut self.map, key, old, new)
     }
 
     /// Takes out a key, and answers the number that was there: `LongMap::remove`.
     pub fn remove<R: Wait>(&mut self, rt: &R, key: Key) -> Option<Num>
         ensures wrote { HasWritten self.old.map.map (remove_of key) self.old.seat self.new.seat
             (outcome.Found result) }
-        ensures map { IsSameMap self.old self.new }
+        ensures rest { KeepsRest self.old self.new }
     {
-        self.map.remove(rt, &mut self.seat, key)
+        self.map.remove(rt, key)
     }
 
     /// Takes out a key that has a value equal to this one, and answers whether it did:
@@ -165,7 +163,7 @@ impl<V: Drop> Handle<V> {
         V: PartialEq,
         ensures wrote { (found : Option (Where _)) × HasChangedIf V.eq self.old.map key value.now
             change.Remove self.old.seat self.new.seat (with_token found result) }
-        ensures map { IsSameMap self.old self.new }
+        ensures rest { KeepsRest self.old self.new }
     {
         let compared = self.take_if(rt, key, value)?;
         Ok(compared.done)
@@ -177,9 +175,10 @@ impl<V: Drop> Handle<V> {
         V: PartialEq,
         ensures wrote { HasChangedIf V.eq self.old.map key value.now change.Remove
             self.old.seat self.new.seat result }
-        ensures map { IsSameMap self.old self.new }
+        ensures rest { KeepsRest self.old self.new }
     {
-        Parts::new(&self.map, &self.store).take_if(rt, &mut self.seat, key, value)
+        self.map.known();
+        by_handle(&self.store).take_if(rt, &mut self.map, key, value)
     }
 
     /// Lets each of two handles of a map see all that the other has seen. Whether they are of one
@@ -188,9 +187,9 @@ impl<V: Drop> Handle<V> {
         requires one { self.old.map ≡ other.old.map }
         ensures here { HasMet self.old.map.map other.old.seat self.old.seat self.new.seat }
         ensures there { HasMet self.old.map.map self.old.seat other.old.seat other.new.seat }
-        ensures map { IsSameMap self.old self.new × IsSameMap other.old other.new }
+        ensures rest { KeepsRest self.old self.new × KeepsRest other.old other.new }
     {
-        self.map.meet(&mut self.seat, &mut other.seat);
+        self.map.meet(&mut other.map);
     }
 
     /// The store of the map's values.
@@ -206,101 +205,14 @@ impl<V: Drop> Handle<V> {
     {
         self.map.shape()
     }
-
-    /// With all handles of a map: what is left of the map of numbers, and the store.
-    pub fn close<R: Wait>(
-        rt: &R,
-        handles: Vec<Handle<V>>,
-    ) -> Result<(Ended, Store<V>), Vec<Handle<V>>>
-        requires one { AreOfOneMap handles.items }
-        ensures all { All (λ handle. (is_ok result ≡ true)
-            ↔ (length handles.items ≡ handle.map.map.chain.shape.seats)) handles.items }
-        ensures some { handles.items ≡ [] → is_ok result ≡ false }
-        ensures ended { IfOk result (λ left. EndedWith (seats_of handles.items) left.0) }
-        ensures tables { IfOk result (λ left. All (λ handle. HasTablesLeft
-            handle.map.map.chain.shape (seats_of handles.items) left.0) handles.items) }
-        ensures store { IfOk result (λ left. All (λ handle. left.1 ≡ handle.map.store)
-            handles.items) }
-        ensures back { IfErr result (λ back. back.items ≡ handles.items) }
-    {
-        let mut handles = handles;
-        let count = handles.len();
-        let Some(last) = handles.pop() else {
-            return Err(handles);
-        };
-        if count != last.map.shape().seats() {
-            handles.push_reserved(last);
-            return Err(handles);
-        }
-        let Handle {
-            map,
-            store,
-            seat,
-            room,
-        } = last;
-        let seats = gathered(handles, seat, room);
-        let Ok(ended) = sole(rt, map).finish(seats) else {
-            unreachable!();
-        };
-        Ok((ended, sole(rt, store)))
-    }
 }
 
-/// The handles of a map that they share, over a store: one for each of its seats, in their order.
-fn sharing<V: Drop>(
-    alloc: Global,
-    shared: Map,
-    store: &Arc<Store<V>, Global>,
-    seats: Vec<Seat>,
-) -> Result<Vec<Handle<V>>, OutOfMemory>
-    requires own { AreMine shared seats.items }
-    ensures { IfOk result (λ handles. handles.items
-        ≡ map (handle_sharing shared (arc_value store.now)) seats.items) }
+/// The calls that take the store, too.
+fn by_handle<V>(store: &Store<V>) -> Parts<'_, ByHandle, V>
+    ensures { result.store.now ≡ store.now }
 {
-    let count = shared.shape().seats();
-    let mut handles = Vec::with_capacity(alloc, seats.len())?;
-    let Ok(shared) = Arc::new(alloc, shared) else {
-        return Err(OutOfMemory);
-    };
-    for seat in seats {
-        handles.push_reserved(Handle {
-            map: Arc::try_clone(&shared)?,
-            store: Arc::try_clone(store)?,
-            seat,
-            room: Vec::with_capacity(alloc, count)?,
-        });
+    Parts {
+        map: &ByHandle,
+        store,
     }
-    Ok(handles)
-}
-
-/// The seats of handles, and one more at their end.
-fn gathered<V: Drop>(handles: Vec<Handle<V>>, last: Seat, room: Vec<Seat>) -> Vec<Seat>
-    requires empty { room.items ≡ [] }
-    requires room { length handles.items < vec_capacity room }
-    ensures seats { result.items ≡ seats_of handles.items ++ last ∷ [] }
-    ensures count { length result.items ≡ length handles.items + 1 }
-    ensures own { (m : MapOf) → All (λ handle. handle.map.map ≡ m) handles.items → IsMine m last
-        → AreMine m result.items }
-{
-    let mut seats = room;
-    for handle in handles {
-        let Handle { seat, .. } = handle;
-        seats.push_reserved(seat);
-    }
-    seats.push_reserved(last);
-    seats
-}
-
-/// What is shared, once no other reference to it is left. Where that is so already, it doesn't wait.
-fn sole<T: Drop, R: Wait>(rt: &R, shared: Arc<T, Global>) -> T
-    ensures { result ≡ arc_value shared }
-{
-    let mut shared = shared;
-    for _ in rt.forever() {
-        match Arc::try_unwrap(shared) {
-            Ok(sole) => return sole,
-            Err(others) => shared = others,
-        }
-    }
-    unreachable!()
 }

@@ -11,5 +11,5 @@ mod store;
 
 pub use handle::Handle;
 pub use map::{Compared, LongFault, LongMap, Stored, Unshown, UpdateFault, Updated};
-pub use nb_map::{RenewFault, SettleFault};
+pub use nb_map::{RenewFault, SettleFault, SplitFault};
 pub use store::{Found, Placed, Receipt, Store, StoreFault};

@@ -13,6 +13,7 @@ ghost use Rattle.nb_long.specs.Promises.{HasChangedIf, HasGotValue, HasPutValue,
 
 mod fullness;
 mod listing;
+pub(crate) mod numbers;
 pub(crate) mod parts;
 mod settling;
 mod updating;
@@ -260,10 +261,14 @@ impl<V> LongMap<V> {
     }
 
     /// The map of numbers and the store, borrowed.
-    fn parts(&self) -> Parts<'_, V>
-        ensures { result ≡ self.now }
+    fn parts(&self) -> Parts<'_, Map, V>
+        ensures map { result.map.now ≡ self.now.map }
+        ensures store { result.store.now ≡ self.now.store }
     {
-        Parts::new(&self.map, &self.store)
+        Parts {
+            map: &self.map,
+            store: &self.store,
+        }
     }
 
     /// Lets each of two seats see all that the other has seen. Each makes one step, as in

@@ -26,11 +26,9 @@ use Rattle.nb_map.proofs.Settled.{each-mine}
 use Rattle.nb_map.specs.Bulk.{read_as, walk_steps}
 use Rattle.nb_map.specs.Ending.{HasAll}
 use Rattle.nb_map.specs.Entries.{EntriesAtRest, HasListed, HasOnlyRead, HaveListed, HaveOnlyRead, IsRead}
-use Rattle.nb_map.specs.Handles.{HandleOf, IsSameMap, seats_of}
 use Rattle.nb_map.specs.Logs.{log}
 use Rattle.nb_map.specs.Maps.{IsMine, MapOf, SeatOf}
 use Rattle.nb_map.specs.Opening.{map_of_entries}
-use Rattle.nb_map.specs.Renewing.{IsKept}
 use Rattle.nb_map.specs.Settling.{HasCaughtUp, HaveSettled, as_left}
 
 -- ---- reads after a log
@@ -149,7 +147,7 @@ entries-are m entries shown all =
 -- ---- the entries of a map at rest
 
 -- keys that differ still do when they are turned
-map-reverse : {X Y : Type 0} → (f : X → Y) (xs : List X) → map f (reverse xs) ≡ reverse (map f xs)
+pub map-reverse : {X Y : Type 0} → (f : X → Y) (xs : List X) → map f (reverse xs) ≡ reverse (map f xs)
 map-reverse f [] = refl
 map-reverse f (x ∷ xs) =
     ap (map f) (reverse-append (x ∷ []) xs) ∙ map-append f (reverse xs) (x ∷ [])
@@ -405,45 +403,3 @@ module _ (m : MapOf) where
   read-mine (s ∷ before) [] each = absurd each
   read-mine (s ∷ before) (s' ∷ after) each =
       All-cons (IsMine m) s' after each.0.own (read-mine before after each.1)
-
--- ---- handles
-
--- where no seat is out of its handle any more, the handles are kept
-pub kept-handles :
-    (m : MapOf) (handles handles' : List HandleOf) (rest rest' : List SeatOf)
-    → rest ≡ [] → rest' ≡ [] → All (λ handle. handle.map ≡ m) handles
-    → AllZip IsSameMap handles handles'
-    → HaveOnlyRead m (seats_of handles ++ reverse rest) (seats_of handles' ++ reverse rest')
-    → AllZip (λ old new. IsKept old new (walk_steps old.map.chain.shape)) handles handles'
-kept-handles m handles handles' rest rest' none none' one same read =
-    each handles handles' one same
-    (subst₂ (HaveOnlyRead m)
-    (ap (λ xs. seats_of handles ++ reverse xs) none ∙ append-nil (seats_of handles))
-    (ap (λ xs. seats_of handles' ++ reverse xs) none' ∙ append-nil (seats_of handles')) read)
-  where
-    each : (before after : List HandleOf) → All (λ handle. handle.map ≡ m) before
-        → AllZip IsSameMap before after → HaveOnlyRead m (seats_of before) (seats_of after)
-        → AllZip (λ old new. IsKept old new (walk_steps old.map.chain.shape)) before after
-    each [] [] one same read = tt
-    each [] (new ∷ after) one same read = absurd same
-    each (old ∷ before) [] one same read = absurd same
-    each (old ∷ before) (new ∷ after) one same read =
-        let P : HandleOf → Type 0 = λ handle. handle.map ≡ m in (
-          record {
-            map = same.0;
-            read = subst (λ n. HasOnlyRead n old.seat new.seat (walk_steps n.chain.shape))
-                (sym (All-head P old before one)) read.0;
-          },
-          each before after (All-tail P old before one) same.1 read.1,
-        )
-
--- and the entries are listed by them
-pub listed-handles :
-    (handles handles' : List HandleOf) (rest rest' : List SeatOf) (entries : List (ℕ × ℕ))
-    → rest ≡ [] → rest' ≡ []
-    → HaveListed (seats_of handles ++ reverse rest) (seats_of handles' ++ reverse rest') entries
-    → HaveListed (seats_of handles) (seats_of handles') entries
-listed-handles handles handles' rest rest' entries none none' listed =
-    subst₂ (λ before after. HaveListed before after entries)
-    (ap (λ xs. seats_of handles ++ reverse xs) none ∙ append-nil (seats_of handles))
-    (ap (λ xs. seats_of handles' ++ reverse xs) none' ∙ append-nil (seats_of handles')) listed

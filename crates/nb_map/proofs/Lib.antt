@@ -26,6 +26,7 @@ mod Paired
 mod Passed
 mod Passing
 mod Replied
+mod Reserves
 mod Rested
 mod Rounds
 mod Rungs

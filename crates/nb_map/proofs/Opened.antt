@@ -34,11 +34,10 @@ use Rattle.nb_map.proofs.Logged.{logged-then}
 use Rattle.nb_map.specs.Bulk.{put_entry}
 use Rattle.nb_map.specs.Crowding.{HasAskedFor, HasAskedIn, IsClaimOf, IsFilled, fills, others_filled}
 use Rattle.nb_map.specs.Ending.{HasAll}
-use Rattle.nb_map.specs.Handles.{HandleOf, handle_on, seats_of}
 use Rattle.nb_map.specs.Logs.{HasLogged, log}
 use Rattle.nb_map.specs.Maps.{IsMadeFor, IsMine, MapOf, SeatOf, new_seat, new_seats}
 use Rattle.nb_map.specs.Progress.{passed_since}
-use Rattle.nb_map.specs.Opening.{BeginWith, HaveBegunWith, IsTooSmallFor, map_of_entries}
+use Rattle.nb_map.specs.Opening.{HaveBegunWith, IsTooSmallFor, map_of_entries}
 use Rattle.nb_map.specs.Refusals.{HasGivenUp}
 use Rattle.nb_map.specs.Settling.{HasCaughtUp, HaveSettled, as_left}
 use Rattle.nb_map.specs.declared.faults.PutFault.{PutFault}
@@ -480,29 +479,3 @@ pub filled-mine :
 filled-mine m entries first last true put = put.own
 filled-mine m entries first last false (start, rest, next, then, fault, is, small, put, wrote) =
     wrote.own
-
--- ---- handles
-
--- the seats of a map's handles
-seats-shared : (m : MapOf) (seats : List SeatOf) → seats_of (map (handle_on m) seats) ≡ seats
-seats-shared m [] = refl
-seats-shared m (seat ∷ seats) = ap (λ rest. seat ∷ rest) (seats-shared m seats)
-
--- the handles of one map, by its seats
-pub shared-one :
-    (m : MapOf) (seats : List SeatOf) (handles : List HandleOf) → handles ≡ map (handle_on m) seats
-    → All (λ handle. handle.map ≡ m) handles
-shared-one m seats handles are =
-    All-same (λ handle. handle.map ≡ m) handles (map (handle_on m) seats) are
-    (All-map (λ handle. handle.map ≡ m) (handle_on m) seats (λ k d lt. refl))
-
-pub begin-shared :
-    (m : MapOf) (p : Plan) (content : Numbers) (seats : List SeatOf) (handles : List HandleOf)
-    → IsMadeFor m p → HaveBegunWith m content seats → handles ≡ map (handle_on m) seats
-    → BeginWith p content handles
-begin-shared m p content seats handles made begun are = record {
-  shared = m;
-  made = made;
-  one = shared-one m seats handles are;
-  begun = subst (HaveBegunWith m content) (sym (ap seats_of are ∙ seats-shared m seats)) begun;
-}

@@ -1,37 +1,47 @@
 -- How contracts see a handle of a map.
-use Rattle.std.specs.Prelude.{map, ℕ, List, ◌≡◌, All}
-use Rattle.nb_map.specs.Maps.{MapOf, SeatOf, new_seats}
+use Rattle.std.specs.List.{flat_map}
+use Rattle.std.specs.Prelude.{◌≡◌, [], ◌∷◌, List, All, length}
+use Rattle.nb_map.specs.Maps.{MapOf, SeatOf}
 use Rattle.nb_map.specs.Walks.{WalkOf}
 
--- a handle: the map that it is of, and its seat
+-- a handle: the map that it is of, its own seat, and the seats that it has in reserve
 pub record HandleOf : Type 0 where
   pub map : MapOf
   pub seat : SeatOf
+  pub reserve : List SeatOf
 
--- the map's handle with this seat
+-- all seats that it holds, its own first
+abbrev pub seats_of : HandleOf → List SeatOf
+seats_of handle = handle.seat ∷ handle.reserve
+
+-- it holds all seats of its map
+abbrev pub IsWhole : HandleOf → Type 0
+IsWhole handle = length (seats_of handle) ≡ handle.map.chain.shape.seats
+
+-- the map's handle with this seat alone
 abbrev pub handle_on : MapOf → SeatOf → HandleOf
-handle_on m seat = record { map = m; seat = seat }
+handle_on m seat = record { map = m; seat = seat; reserve = [] }
 
--- so many handles of a map, whose seats have seen and counted nothing, numbered by their places
-abbrev pub new_handles : MapOf → ℕ → List HandleOf
-new_handles m count = map (handle_on m) (new_seats m count)
-
--- the seats of handles
-abbrev pub seats_of : List HandleOf → List SeatOf
-seats_of handles = map (λ handle. handle.seat) handles
-
--- The handle is of the map that it was of. A function that takes a handle by `&mut` promises it, so
--- that its callers can let the handle meet others and close them: it could put another map's handle
--- in its place.
+-- the handle is of the map that it was of
 abbrev pub IsSameMap : (before after : HandleOf) → Type 0
 IsSameMap before after = after.map ≡ before.map
+
+-- What each call leaves as it was: the map that the handle is of, and the seats that it has in
+-- reserve. A function that takes a handle by `&mut` promises it, so that its callers can join the
+-- handle with others and close it: it could put another handle in its place.
+pub record KeepsRest (before after : HandleOf) : Type 0 where
+  pub map : IsSameMap before after
+  pub reserve : after.reserve ≡ before.reserve
 
 -- all these handles are of one map
 abbrev pub AreOfOneMap : List HandleOf → Type 0
 AreOfOneMap handles = (m : MapOf) × All (λ handle. handle.map ≡ m) handles
 
--- a walk by a handle: the handle's map and seat, and the walk
+-- all seats that they hold, one handle's after another's
+abbrev pub all_seats : List HandleOf → List SeatOf
+all_seats handles = flat_map seats_of handles
+
+-- a walk by a handle: the handle, and the walk
 pub record HandleWalkOf : Type 0 where
-  pub map : MapOf
-  pub seat : SeatOf
+  pub handle : HandleOf
   pub walk : WalkOf

@@ -1,4 +1,4 @@
--- A map that has entries from the start: what its seats and its handles know.
+-- A map that has entries from the start: what its seats know.
 use Rattle.std.specs.FinMap as numbers
 use Rattle.std.specs.List.{range_with_len}
 use Rattle.std.specs.Prelude.{◌≡◌, ◌-◌, ◌<◌, ℕ, List, All, length, map, reverse}
@@ -30,9 +30,7 @@ pub record HaveBegunWith (m : MapOf) (content : Numbers) (seats : List SeatOf) :
       All (λ seat. HasAskedFor m.chain.shape (map put_entry (numbers.entries content)) seat.chain)
       seats
 
--- all handles of a new map of this shape, which begins as this map
-pub record BeginWith (p : Plan) (content : Numbers) (handles : List HandleOf) : Type 0 where
-  pub shared : MapOf
-  pub made : IsMadeFor shared p
-  pub one : All (λ handle. handle.map ≡ shared) handles
-  pub begun : HaveBegunWith shared content (seats_of handles)
+-- the handle has all seats of a new map of this shape, which begins as this map
+pub record BeginsWith (p : Plan) (content : Numbers) (handle : HandleOf) : Type 0 where
+  pub made : IsMadeFor handle.map p
+  pub begun : HaveBegunWith handle.map content (seats_of handle)

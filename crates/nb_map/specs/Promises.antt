@@ -8,7 +8,7 @@ use Rattle.nb_core.specs.declared.calls.Call.{Call}
 use Rattle.nb_core.specs.declared.calls.Reply.{Reply}
 use Rattle.nb_count.specs.Counts.{with_looks}
 use Rattle.nb_table.specs.Chains.{Extended, seen_by}
-use Rattle.nb_map.specs.Handles.{HandleWalkOf}
+use Rattle.nb_map.specs.Handles.{HandleWalkOf, KeepsRest}
 use Rattle.nb_map.specs.Logs.{HasReplied, HasFound, HasMatched, log, HasLogged}
 use Rattle.nb_map.specs.Maps.{SeatOf, MapOf, IsMine, HasWorked}
 use Rattle.nb_map.specs.Progress.{IsLockFree, IsShortAtHome, IsShortRead, IsWaitFree}
@@ -176,13 +176,14 @@ pub record HasWalkedOn (map : MapOf) (before after : SeatOf) (walk walk' : WalkO
   pub is_walk : IsWalkOf map after walk'
   pub own : IsMine map after
 
--- the same of a walk by a handle, and the map of the handle is the same
+-- the same of a walk by a handle, which keeps its map and its reserve
 pub record HandleHasWalkedOn (before : HandleWalkOf) (shown : Option (ℕ × ℕ))
     (after : HandleWalkOf) : Type 0 where
   -- what the map's call promises, of the handle's map, seat and walk
-  pub on : HasWalkedOn before.map before.seat after.seat before.walk after.walk shown
-  pub map : after.map ≡ before.map
+  pub on :
+      HasWalkedOn before.handle.map before.handle.seat after.handle.seat before.walk after.walk shown
+  pub rest : KeepsRest before.handle after.handle
 
 -- how many slots a walk by a handle has ahead of it: a measure of loops over it
 abbrev pub ahead_of : HandleWalkOf → ℕ
-ahead_of walk = slots_ahead walk.map.chain.shape walk.walk.place
+ahead_of walk = slots_ahead walk.handle.map.chain.shape walk.walk.place

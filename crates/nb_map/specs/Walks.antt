@@ -11,6 +11,7 @@ use Rattle.nb_core.specs.declared.calls.Reply.{Reply}
 use Rattle.nb_table.specs.Chains.{SeenBy, seen_by}
 use Rattle.nb_map.specs.Logs.{HasLogged, log}
 use Rattle.nb_map.specs.Maps.{SeatOf, MapOf, IsMine, HasWorked}
+use Rattle.nb_map.specs.declared.map.walks.WalkPlace.{WalkPlace}
 use Rattle.nb_map.specs.declared.steps.walk.Place.TheVariants.{Slot, End}
 use Rattle.nb_map.specs.declared.steps.walk.Place.{Place}
 
@@ -34,6 +35,10 @@ pub record WalkOf : Type 0 where
   pub begun : SeatOf
   pub first : ℕ
   pub place : Place
+
+-- the walk that this seat began and that is here
+abbrev pub walk_from : SeatOf → WalkPlace → WalkOf
+walk_from begun at = record { begun = begun; first = at.first; place = at.place }
 
 -- A walk may have this table for its first: the seat has seen that all tables below it are
 -- complete.

@@ -46,6 +46,17 @@ pub enum PutFault {
     ValueRange,
 }
 
+/// Why a handle was not split.
+#[derive(Clone, Copy, Debug, PartialEq, Eq, Error)]
+pub enum SplitFault {
+    /// The handle has no seat in reserve.
+    #[error("no seat is left")]
+    NoSeat,
+    /// The map can't count one handle more.
+    #[error("out of memory")]
+    OutOfMemory,
+}
+
 /// Why seats weren't settled, or the entries of their map weren't listed. The map is as it was.
 #[derive(Clone, Copy, Debug, PartialEq, Eq, Error)]
 pub enum SettleFault {

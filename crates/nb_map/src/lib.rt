@@ -13,8 +13,11 @@ mod map;
 mod occupancy;
 pub mod steps;
 
-pub use faults::{AddFault, Full, FullAfter, OpenFault, PutFault, RenewFault, SettleFault};
+pub use faults::{
+    AddFault, Full, FullAfter, OpenFault, PutFault, RenewFault, SettleFault, SplitFault,
+};
 pub use handle::{Handle, HandleWalk};
-pub use map::{Ended, Map, Seat, Walk};
+pub use map::{Ended, Map, Seat, Walk, WalkPlace};
 pub use nb_core::NotAll;
 pub use occupancy::{Occupancy, SAMPLE};
+pub use steps::walk::Place;

@@ -31,7 +31,7 @@ use nb_count::{CountSeat, Counter};
 use nb_table::{Chain, ChainSeat};
 use std::alloc::Global;
 use std::marker::Model;
-pub use walks::Walk;
+pub use walks::{Walk, WalkPlace};
 
 /// A map from whole numbers to whole numbers, which many threads share. Contracts see its chain of
 /// tables and its counter.

@@ -1,9 +1,10 @@
 //! Following a stream: block after block.
-ghost use Rattle.nb_online.specs.Crews.{AreAll};
+ghost use Rattle.std.specs.Prelude.{IfOk};
+ghost use Rattle.nb_set.specs.Handles.{IsWhole};
 
 use crate::line::{Line, read_line};
 use crate::part::Action;
-use crate::renewing::{fullness, must_renew, online, renewed};
+use crate::renewing::{must_renew, online, renewed};
 use crate::run::Run;
 use crate::stream::Stream;
 use nb_core::Shape;
@@ -27,17 +28,17 @@ where
     I: Read + Drop,
     W: Write + Drop,
 {
-    let mut handles = Handle::open(alloc, shape)?;
+    let mut handle = Handle::open(alloc, shape)?;
     let mut run = Run::new(alloc, shape.seats(), writer)?;
     let mut stream = Stream::new(alloc, reader)?;
     for _ in 0..u64::MAX {
         if !stream.refill(run.lines)? {
             break;
         }
-        do_lines(rt, alloc, &mut run, &mut handles, stream.lines())?;
-        renew_in_time(rt, alloc, &mut run, &mut handles)?;
+        handle = do_lines(rt, alloc, &mut run, handle, stream.lines())?;
+        renew_in_time(rt, alloc, &mut run, &mut handle)?;
     }
-    let online = online(alloc, &mut handles)?;
+    let online = online(alloc, &mut handle)?;
     run.print_end(online)
 }
 
@@ -46,27 +47,28 @@ fn do_lines<R, W>(
     rt: &R,
     alloc: Global,
     run: &mut Run<W>,
-    handles: &mut Vec<Handle>,
+    handle: Handle,
     lines: Lines<'_>,
-) -> Result<(), Fault>
+) -> Result<Handle, Fault>
 where
     R: Threads + Sync + Wait + Eprint,
     W: Write + Drop,
-    requires all { AreAll handles.old.items }
-    ensures all { AreAll handles.new.items }
+    requires whole { IsWhole handle }
+    ensures whole { IfOk result IsWhole }
 {
+    let mut handle = handle;
     for text in lines {
         run.lines = run.lines.wrapping_add(1);
         match read_line(text).map_err(|cause| Fault::Line(run.lines, cause))? {
             Line::On(key) => run.keep(key, Action::Come)?,
             Line::Off(key) => run.keep(key, Action::Go)?,
             Line::Count => {
-                make_calls(rt, alloc, run, handles)?;
-                run.print_count(online(alloc, handles)?)?;
+                handle = make_calls(rt, alloc, run, handle)?;
+                run.print_count(online(alloc, &mut handle)?)?;
             }
         }
     }
-    make_calls(rt, alloc, run, handles)
+    make_calls(rt, alloc, run, handle)
 }
 
 /// All workers make the calls that are kept for them. Where a key finds no slot the set is made anew,
@@ -75,22 +77,25 @@ fn make_calls<R, W>(
     rt: &R,
     alloc: Global,
     run: &mut Run<W>,
-    handles: &mut Vec<Handle>,
-) -> Result<(), Fault>
+    handle: Handle,
+) -> Result<Handle, Fault>
 where
     R: Threads + Sync + Wait + Eprint,
     W: Write + Drop,
-    requires all { AreAll handles.old.items }
-    ensures all { AreAll handles.new.items }
+    requires whole { IsWhole handle }
+    ensures whole { IfOk result IsWhole }
 {
+    let mut handle = handle;
     for _ in 0..u64::MAX {
-        if run.work(rt, handles.as_mut_slice()) {
+        let (worked, is_done) = run.work(rt, alloc, handle)?;
+        handle = worked;
+        if is_done {
             break;
         }
-        renew(rt, alloc, run, handles)?;
+        renew(rt, alloc, run, &mut handle)?;
     }
     run.clear();
-    Ok(())
+    Ok(handle)
 }
 
 /// Makes the set anew where it is time for that. Where memory for it is refused, the set goes on as it
@@ -99,18 +104,18 @@ fn renew_in_time<R, W>(
     rt: &R,
     alloc: Global,
     run: &mut Run<W>,
-    handles: &mut Vec<Handle>,
+    handle: &mut Handle,
 ) -> Result<(), Fault>
 where
     R: Threads + Sync + Wait + Eprint,
     W: Write + Drop,
-    requires all { AreAll handles.old.items }
-    ensures all { AreAll handles.new.items }
+    requires whole { IsWhole handle.old }
+    ensures whole { IsWhole handle.new }
 {
-    if !must_renew(fullness(handles.as_mut_slice())) {
+    if !must_renew(handle.occupancy()) {
         return Ok(());
     }
-    match renew(rt, alloc, run, handles) {
+    match renew(rt, alloc, run, handle) {
         Err(Fault::OutOfMemory) => {
             let lines = run.lines;
             let _ = eprintln!(rt; "nb_online: not renewed at line {lines}: out of memory");
@@ -125,12 +130,12 @@ fn renew<R: Eprint, W: Write + Drop>(
     rt: &R,
     alloc: Global,
     run: &mut Run<W>,
-    handles: &mut Vec<Handle>,
+    handle: &mut Handle,
 ) -> Result<(), Fault>
-    requires all { AreAll handles.old.items }
-    ensures all { AreAll handles.new.items }
+    requires whole { IsWhole handle.old }
+    ensures whole { IsWhole handle.new }
 {
-    let online = renewed(alloc, handles)?;
+    let online = renewed(alloc, handle)?;
     run.renewed = run.renewed.wrapping_add(1);
     let lines = run.lines;
     let _ = eprintln!(rt; "nb_online: renewed at line {lines}: {online} keys online");

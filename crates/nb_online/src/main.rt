@@ -3,9 +3,9 @@
 //!
 //! It shows how a program lasts for ever with a set of a fixed size. In a set a removed key keeps its
 //! slot, so a set that runs for long enough has no slot left for a new key. Block after block all
-//! workers make the calls of its lines, each by a handle of its own, and are joined. Then the program
-//! has all handles: it settles them where the stream asks for a count, and makes the set anew before
-//! its table is full.
+//! workers make the calls of its lines, each by a handle of its own, and are joined, as are the
+//! handles. Then the program has one handle with all seats: it settles the set where the stream asks
+//! for a count, and makes it anew before its table is full.
 //!
 //! Each key is one worker's, so the stream's order holds for each key.
 #![tactic(auto)]

@@ -1,6 +1,6 @@
 //! A worker's part of a block: the calls that it makes, and what it counts.
 ghost use Rattle.std.specs.Prelude.{◌≡◌, ◌≤◌, ◌+◌, ◌%◌, ◌^◌, [], ◌∷◌, Bool, OnErr, OnOk, if◌then◌else◌, length};
-ghost use Rattle.nb_set.specs.Handles.{IsSameSet};
+ghost use Rattle.nb_set.specs.Handles.{KeepsRest};
 ghost use Rattle.nb_set.specs.Log as call;
 ghost use Rattle.nb_set.specs.Sets.{HasNoRoom, HasReplied};
 
@@ -89,7 +89,7 @@ impl Part {
     /// Makes the calls that are asked for, in their order, from the first one on that isn't done.
     /// It ends at a key that comes and for which there is no slot.
     pub(crate) fn work<R: Wait>(&mut self, rt: &R, handle: &mut Handle) -> Result<(), Full>
-        ensures same { IsSameSet handle.old handle.new }
+        ensures rest { KeepsRest handle.old handle.new }
         ensures done { OnOk result (HasDoneRequests self.old self.new
             handle.old.seat handle.new.seat) }
         ensures all { OnOk result (self.new.done ≡ length self.new.requests.items) }
@@ -112,7 +112,7 @@ impl Request {
 
     /// Makes the call that is asked for, and counts it.
     fn make<R: Wait>(self, rt: &R, handle: &mut Handle, counts: &mut Counts) -> Result<(), Full>
-        ensures same { IsSameSet handle.old handle.new }
+        ensures rest { KeepsRest handle.old handle.new }
         ensures made { OnOk result ((reply : Bool)
             × HasReplied (call_of_request self) handle.old.seat handle.new.seat reply
             × AreCounted ((call_of_request self, reply) ∷ []) counts.old counts.new) }
@@ -131,7 +131,7 @@ impl Request {
 
 /// A key comes online. It is counted just where the set replied that it wasn't there.
 fn come<R: Wait>(rt: &R, handle: &mut Handle, counts: &mut Counts, key: Key) -> Result<(), Full>
-    ensures same { IsSameSet handle.old handle.new }
+    ensures rest { KeepsRest handle.old handle.new }
     ensures came { OnOk result ((came : Bool)
         × HasReplied (call.Add key) handle.old.seat handle.new.seat came
         × (counts.new ≡ record counts.old {
@@ -149,7 +149,7 @@ fn come<R: Wait>(rt: &R, handle: &mut Handle, counts: &mut Counts, key: Key) -> 
 
 /// A key goes off. It is counted just where the set replied that it was there.
 fn go<R: Wait>(rt: &R, handle: &mut Handle, counts: &mut Counts, key: Key)
-    ensures same { IsSameSet handle.old handle.new }
+    ensures rest { KeepsRest handle.old handle.new }
     ensures went { (went : Bool)
         × HasReplied (call.Remove key) handle.old.seat handle.new.seat went
         × (counts.new ≡ record counts.old {

@@ -1,12 +1,10 @@
 //! When the set is made anew, and how.
-ghost use Rattle.std.specs.Prelude.{◌≡◌, ◌+◌, ◌-◌, ◌*◌, ◌^◌, ◌<◌, ◌≤◌, ◌↔◌, ◌∷◌, ℕ, All, IfErr, IfOk, IsTrue, List, false};
-ghost use Rattle.nb_core.specs.Plans.{Plan, generations_of, size_of};
-ghost use Rattle.nb_online.specs.Crews.{AreAll};
+ghost use Rattle.std.specs.Prelude.{◌≡◌, ◌+◌, ◌-◌, ◌*◌, ◌^◌, ◌<◌, ◌≤◌, ◌↔◌, ℕ, IfErr, IfOk, IsTrue, false};
+ghost use Rattle.nb_core.specs.Plans.{generations_of, size_of};
 ghost use Rattle.nb_online.specs.Fullness.{IsWithinASixth};
 ghost use Rattle.nb_online.specs.declared.stream.TheConstants.{LINES};
-ghost use Rattle.nb_set.specs.Fullness.{HasSampled};
-ghost use Rattle.nb_set.specs.Handles.{HandleOf, seats_of};
-ghost use Rattle.nb_set.specs.Renewing.{HaveRenewed};
+ghost use Rattle.nb_set.specs.Handles.{HandleOf, IsSameSet, IsWhole, seats_of};
+ghost use Rattle.nb_set.specs.Renewing.{HasRenewed};
 ghost use Rattle.nb_set.specs.Settling.{HaveSettled};
 ghost use Rattle.nb_set.specs.Sets.{shape_of};
 
@@ -27,56 +25,37 @@ pub(crate) fn must_renew(found: Occupancy) -> bool
 }
 
 /// How many keys are online. No worker is at work.
-pub(crate) fn online(alloc: Global, handles: &mut Vec<Handle>) -> Result<u64, Fault>
-    requires all { AreAll handles.old.items }
-    ensures all { AreAll handles.new.items }
-    ensures settled { IfOk result (λ size. All (λ handle. HaveSettled handle.set
-        (seats_of handles.old.items) (seats_of handles.new.items) size) handles.old.items) }
+pub(crate) fn online(alloc: Global, handle: &mut Handle) -> Result<u64, Fault>
+    requires whole { IsWhole handle.old }
+    ensures whole { IsWhole handle.new }
+    ensures settled { IfOk result (HaveSettled handle.old.set (seats_of handle.old)
+        (seats_of handle.new)) }
+    ensures set { IsSameSet handle.old handle.new }
     ensures refused { IfErr result (λ fault. fault ≡ Fault.OutOfMemory) }
 {
-    match Handle::settle(alloc, handles) {
+    match handle.settle(alloc) {
         Ok(size) => Ok(size),
         Err(SettleFault::OutOfMemory) => Err(Fault::OutOfMemory),
         Err(SettleFault::NotAll) => unreachable!(),
     }
 }
 
-/// How full the last table is, as the first worker sees it.
-pub(crate) fn fullness(handles: &mut [Handle]) -> Occupancy
-    requires all { AreAll handles.old }
-    ensures all { AreAll handles.new }
-    ensures told { (first after : HandleOf) × (others : List HandleOf)
-        × (handles.old ≡ first ∷ others) × (handles.new ≡ after ∷ others)
-        × HasSampled first.set first.seat after.seat result }
-{
-    handles[0].occupancy()
-}
-
-/// The shape of the set.
-fn shape_of_all(handles: &[Handle]) -> Shape
-    requires all { AreAll handles.now }
-    ensures shape { All (λ handle. result ≡ shape_of handle.set) handles.now }
-{
-    *handles[0].shape()
-}
-
 /// Makes the set anew in its shape, and answers how many keys are online: the new set has just these.
 /// It is refused where they have more than two thirds of the last table.
-pub(crate) fn renewed(alloc: Global, handles: &mut Vec<Handle>) -> Result<u64, Fault>
-    requires all { AreAll handles.old.items }
-    ensures all { AreAll handles.new.items }
-    ensures renewed { IfOk result (λ size. (settled : List HandleOf) × (shape : Plan)
-        × All (λ handle. HaveSettled handle.set (seats_of handles.old.items) (seats_of settled)
-        size) handles.old.items
-        × All (λ handle. shape ≡ shape_of handle.set) settled
-        × HaveRenewed shape settled handles.new.items) }
+pub(crate) fn renewed(alloc: Global, handle: &mut Handle) -> Result<u64, Fault>
+    requires whole { IsWhole handle.old }
+    ensures whole { IsWhole handle.new }
+    ensures renewed { IfOk result (λ size. (settled : HandleOf)
+        × HaveSettled handle.old.set (seats_of handle.old) (seats_of settled) size
+        × IsSameSet handle.old settled
+        × HasRenewed (shape_of handle.old.set) settled handle.new) }
 {
-    let online = online(alloc, handles)?;
-    let shape = shape_of_all(handles.as_slice());
+    let online = online(alloc, handle)?;
+    let shape = *handle.shape();
     if is_crowded(online, shape) {
         return Err(Fault::Crowded);
     }
-    match Handle::renew(alloc, handles, shape) {
+    match handle.renew(alloc, shape) {
         Ok(()) => Ok(online),
         Err(RenewFault::OutOfMemory) => Err(Fault::OutOfMemory),
         Err(RenewFault::Full) => Err(Fault::Crowded),

@@ -1,11 +1,11 @@
-//! What a run has beside the handles of its set: the workers' parts, what was counted, and the
+//! What a run has beside the handle of its set: the workers' parts, what was counted, and the
 //! output.
-ghost use Rattle.std.specs.Prelude.{◌≡◌};
+ghost use Rattle.std.specs.Prelude.{◌≡◌, ◌<◌, IfOk};
 ghost use Rattle.nb_online.specs.Crews.{AreAll};
-ghost use Rattle.nb_set.specs.Handles.{IsSameSet};
+ghost use Rattle.nb_set.specs.Handles.{IsWhole, KeepsRest};
 
 use crate::part::{Action, Counts, Part, Request};
-use nb_core::{Key, MAX_SEATS, OutOfMemory};
+use nb_core::{Key, OutOfMemory};
 use nb_lines::Fault;
 use nb_set::Handle;
 use std::alloc::Global;
@@ -55,18 +55,28 @@ impl<W: Write + Drop> Run<W> {
         Ok(())
     }
 
-    /// All workers make the calls of their parts at the same time, each in a thread of its own. It
-    /// answers whether all are done: if not, a key found no slot.
-    pub(crate) fn work<R: Threads + Sync + Wait>(&mut self, rt: &R, handles: &mut [Handle]) -> bool
-        requires all { AreAll handles.old }
-        ensures all { AreAll handles.new }
+    /// All workers make the calls of their parts at the same time, each in a thread of its own and by
+    /// a handle of its own, which are joined again. It answers whether all are done: if not, a key
+    /// found no slot. Where memory for the handles is refused, no call is made.
+    pub(crate) fn work<R: Threads + Sync + Wait>(
+        &mut self,
+        rt: &R,
+        alloc: Global,
+        handle: Handle,
+    ) -> Result<(Handle, bool), OutOfMemory>
+        requires whole { IsWhole handle }
+        ensures whole { IfOk result (λ worked. IsWhole worked.0) }
     {
-        work_at(rt, self.parts.as_slice(), handles);
+        let workers = handle.shape().seats();
+        let Ok(mut handles) = handle.split_all(alloc) else {
+            return Err(OutOfMemory);
+        };
+        work_at(rt, self.parts.as_slice(), handles.as_mut_slice(), workers);
         let mut is_done = true;
         for part in self.parts.iter_mut() {
             is_done = is_done && part.get_mut().is_done();
         }
-        is_done
+        Ok((joined(handles), is_done))
     }
 
     /// Forgets the requests, which are done.
@@ -117,26 +127,47 @@ impl<W: Write + Drop> Run<W> {
     }
 }
 
-/// Each worker makes the calls of its part.
-fn work_at<R: Threads + Sync + Wait>(rt: &R, parts: &[Mutex<Part>], handles: &mut [Handle])
+/// Each of so many workers makes the calls of its part.
+fn work_at<R: Threads + Sync + Wait>(
+    rt: &R,
+    parts: &[Mutex<Part>],
+    handles: &mut [Handle],
+    workers: usize,
+)
     requires all { AreAll handles.old }
+    requires some { 0 < workers }
     ensures all { AreAll handles.new }
 {
     thread::for_each_mut(
         rt,
         handles,
-        MAX_SEATS,
+        workers,
         &|number: usize, handle: &mut Handle|
-            ensures { IsSameSet handle.entry.now handle.exit.now }
+            ensures { KeepsRest handle.entry.now handle.exit.now }
         { work(rt, parts, handle, number) },
     );
 }
 
 /// The worker with this number makes the calls of its part.
 fn work<R: Wait>(rt: &R, parts: &[Mutex<Part>], handle: &mut Handle, number: usize)
-    ensures same { IsSameSet handle.old handle.new }
+    ensures rest { KeepsRest handle.old handle.new }
 {
     if let Some(part) = parts.get(number) {
         let _ = part.lock(rt).work(rt, handle);
     }
+}
+
+/// The handle that has all seats of these.
+fn joined(handles: Vec<Handle>) -> Handle
+    requires all { AreAll handles.items }
+    ensures whole { IsWhole result }
+{
+    let mut others = handles;
+    let Some(mut handle) = others.pop() else {
+        unreachable!()
+    };
+    let Ok(()) = handle.join_all(others) else {
+        unreachable!()
+    };
+    handle
 }

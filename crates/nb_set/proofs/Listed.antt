@@ -1,11 +1,10 @@
 -- All entries of a map at rest, as all keys of the set.
-use Rattle.std.proofs.Common.{◌≡◌, ◌∙◌, ℕ, ◌||◌, List, [], ◌∷◌, All, Ok, Result, ap, inl, inr, map, refl, reverse, subst, sym, arith}
+use Rattle.std.proofs.Common.{◌≡◌, ◌∙◌, ℕ, ◌||◌, List, [], ◌∷◌, ap, map, refl, reverse, subst, sym}
 use Rattle.std.specs.FinMap.{contains_key}
-use Rattle.std.specs.List.{AllZip, list_any}
+use Rattle.std.specs.List.{list_any}
 use Rattle.std.specs.Ordering.{eq_by_cmp, nat_cmp}
 use Rattle.std.proofs.lemmas.List.Elements.{All-weaker}
 use Rattle.nb_core.proofs.Seating.{All-unmap}
-use Rattle.nb_map.specs.Bulk.{walk_steps}
 use Rattle.nb_map.specs.Entries as of_map
 use Rattle.nb_map.specs.Logs as map_logs
 use Rattle.nb_map.specs.Opening.{map_of_entries}
@@ -14,13 +13,11 @@ use Rattle.nb_set.specs.Listing.{HaveListed}
 use Rattle.nb_set.specs.Log.{set_of_log}
 use Rattle.nb_set.specs.OfMap.{entry_of, log_as}
 use Rattle.nb_set.specs.Opening.{set_of_keys}
-use Rattle.nb_set.specs.Renewing.{HasOnlyAsked}
-use Rattle.nb_set.specs.Sets.{SeatOf, SetOf, log, shape_of}
+use Rattle.nb_set.specs.Sets.{SeatOf, log}
 use Rattle.nb_set.proofs.Dealt.{ended-with, in-map}
 use Rattle.nb_set.proofs.Items.{left, same-keys}
 use Rattle.nb_set.proofs.Opened.{any-reverse, entries-have, is_of, set-has}
 use Rattle.nb_set.proofs.Read.{AreKeys, read}
-use Rattle.nb_set.proofs.Renewed.{only-asked}
 
 abbrev keys_of : List (ℕ × ℕ) → List ℕ
 keys_of entries = map (λ entry. entry.0) entries
@@ -63,14 +60,3 @@ listed-as before after entries keys are listed =
       leaves = same-keys (set_of_log (log_as listed.whole)) (set_left ended)
           (λ q. whole.1 q ∙ ap (λ m. contains_key m q) listed.leaves ∙ sym (content q));
     })
-
--- the seats have only asked for keys
-pub asked-as :
-    (set : SetOf) (before after : List SeatOf)
-    → of_map.HaveOnlyRead set.map (in-map before) (in-map after)
-    → AllZip (λ old new. HasOnlyAsked set old new (walk_steps (shape_of set))) before after
-asked-as set [] [] each = tt
-asked-as set [] (new ∷ after) each = absurd each
-asked-as set (old ∷ before) [] each = absurd each
-asked-as set (old ∷ before) (new ∷ after) each =
-    (only-asked {set = set} {before = old} {after = new} each.0, asked-as set before after each.1)

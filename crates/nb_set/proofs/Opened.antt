@@ -1,5 +1,5 @@
 -- A map that has entries from the start, as a set that has keys from the start.
-use Rattle.std.proofs.Common.{◌≡◌, ◌∙◌, ℕ, ◌≤◌, ◌||◌, Bool, true, false, List, [], ◌∷◌, length, map, reverse, All, is_some, ap, sym, subst, refl, inl, inr, arith}
+use Rattle.std.proofs.Common.{◌≡◌, ◌∙◌, ℕ, ◌||◌, Bool, true, false, List, [], ◌∷◌, length, map, reverse, is_some, ap, sym, subst, refl, inl, inr, arith}
 use Rattle.std.specs.FinMap as numbers
 use Rattle.std.specs.FinMap.{contains_key, from_entries, get-empty}
 use Rattle.std.specs.List.{list_any}
@@ -23,10 +23,10 @@ use Rattle.nb_map.specs.Handles as handles
 use Rattle.nb_map.specs.Maps as maps
 use Rattle.nb_map.specs.Opening as of_map
 use Rattle.nb_map.specs.Opening.{map_of_entries}
-use Rattle.nb_set.specs.Handles.{as_handle, seats_of}
+use Rattle.nb_set.specs.Handles.{as_handle}
 use Rattle.nb_set.specs.Log.{Add, Keys, set_of_log}
 use Rattle.nb_set.specs.OfMap.{call_for, entry_of, log_as}
-use Rattle.nb_set.specs.Opening.{BeginWith, HasAskedFor, HaveBegunWith, IsTooSmallFor, set_of_keys}
+use Rattle.nb_set.specs.Opening.{BeginsWith, HasAskedFor, HaveBegunWith, IsTooSmallFor, set_of_keys}
 use Rattle.nb_set.specs.Sets.{SetOf, log, seat_number, seat_on, shape_of}
 use Rattle.nb_set.proofs.Items.{keys-are, len-is, same-keys}
 use Rattle.nb_set.proofs.Read.{AreKeys, keys-put, read}
@@ -147,36 +147,13 @@ begun-as set content m seats are begun =
           (asked-as set content m are) seats begun.claimed);
     }
 
-seats-as :
-    (these : List handles.HandleOf)
-    → seats_of (map as_handle these) ≡ map seat_on (handles.seats_of these)
-seats-as these =
-    map-map (λ handle. handle.seat) as_handle these
-    ∙ sym (map-map seat_on (λ handle. handle.seat) these)
-
--- the map's handles are of one map, and so the set's of one set
-pub one-as :
-    (these : List handles.HandleOf) (m : maps.MapOf) → All (λ handle. handle.map ≡ m) these
-    → let set : SetOf = record { map = m } in
-    All (λ handle. handle.set ≡ set) (map as_handle these)
-one-as these m one =
-    let set : SetOf = record { map = m } in
-    All-map (λ handle. handle.set ≡ set) as_handle these
-    (All-weaker (λ handle. handle.map ≡ m) (λ handle. (as_handle handle).set ≡ set)
-    (λ handle is. ap (λ n. record { map = n }) is) these one)
-
-pub begin-as :
-    (p : Plan) (content : Keys) (m : Numbers) (these : List handles.HandleOf) → AreKeys content m
-    → of_map.BeginWith p m these → BeginWith p content (map as_handle these)
-begin-as p content m these are begin =
-    let set : SetOf = record { map = begin.shared } in
-    record {
-      shared = set;
-      made = begin.made;
-      one = one-as these begin.shared begin.one;
-      begun = subst (HaveBegunWith set content) (sym (seats-as these))
-          (begun-as set content m (handles.seats_of these) are begin.begun);
-    }
+pub begins-as :
+    (p : Plan) (content : Keys) (m : Numbers) (handle : handles.HandleOf) → AreKeys content m
+    → of_map.BeginsWith p m handle → BeginsWith p content (as_handle handle)
+begins-as p content m handle are begins = record {
+  made = begins.made;
+  begun = begun-as (record { map = handle.map }) content m (handles.seats_of handle) are begins.begun;
+}
 
 -- ---- how many they are
 
@@ -193,26 +170,3 @@ pub seats-made :
     → of_map.HaveBegunWith m content seats → length seats ≡ p.seats
 seats-made m p content seats made begun =
     seats-many m content seats begun ∙ ap (λ p. p.seats) made.shape
-
--- and a handle
-pub handles-made :
-    (p : Plan) (content : Numbers) (these : List handles.HandleOf) → of_map.BeginWith p content these
-    → length these ≡ p.seats
-handles-made p content these begin =
-    sym (length-map these (λ handle. handle.seat))
-    ∙ seats-made begin.shared p content (handles.seats_of these) begin.made begin.begun
-
--- each of which is of a map with as many seats
-pub handles-shaped :
-    (p : Plan) (content : Numbers) (these : List handles.HandleOf) (most : ℕ) → p.seats ≤ most
-    → of_map.BeginWith p content these
-    → All (λ handle. handle.map.chain.shape.seats ≤ most) these
-handles-shaped p content these most low begin =
-    All-weaker (λ handle. handle.map ≡ begin.shared)
-    (λ handle. handle.map.chain.shape.seats ≤ most)
-    (λ handle is. omega (
-      arith,
-      low,
-      ap (λ (m : maps.MapOf). m.chain.shape.seats) is,
-      ap (λ p. p.seats) begin.made.shape,
-    )) these begin.one

@@ -9,11 +9,12 @@ use Rattle.nb_map.specs.Promises.{Found, Refused}
 use Rattle.nb_map.specs.Walks as walks
 use Rattle.nb_map.specs.declared.faults.AddFault.TheVariants as add_fault
 use Rattle.nb_map.specs.declared.faults.Full.{Full}
-use Rattle.nb_set.specs.Handles.{HandleWalkOf}
+use Rattle.nb_set.specs.Handles.{as_walk}
 use Rattle.nb_set.specs.Log.{Add, Remove}
 use Rattle.nb_set.specs.Promises.{HandleHasWalkedOn, HasBegunWalk, HasEstimated, HasLookedUp, HasMet, HasSeenTop, HasWalkedOn, HasWritten}
 use Rattle.nb_set.specs.Sets.{HasLookedOnce, SeatOf, SetOf}
 use Rattle.nb_set.specs.Walks.{IsLater, WalkOf, with_shown}
+use Rattle.nb_set.proofs.Handles.{keeps-rest}
 use Rattle.nb_set.proofs.Logged as replies
 use Rattle.nb_set.proofs.Logged.{logged-as}
 use Rattle.nb_set.proofs.Read.{begins-as}
@@ -184,19 +185,11 @@ walked-on found went = record {
   own = went.own;
 }
 
--- a walk by a handle of a map as one of the set
-abbrev pub as_walk : handles.HandleWalkOf → HandleWalkOf
-as_walk walk = record {
-  set = record { map = walk.map };
-  seat = record { map = walk.seat };
-  walk = record { map = walk.walk };
-}
-
 pub handle-walked-on :
     {before after : handles.HandleWalkOf} (found : Option (ℕ × ℕ))
     → of_map.HandleHasWalkedOn before found after
     → HandleHasWalkedOn (as_walk before) (key_of found) (as_walk after)
 handle-walked-on found went = record {
   on = walked-on found went.on;
-  set = ap (λ map. record { map = map }) went.map;
+  rest = keeps-rest went.rest;
 }

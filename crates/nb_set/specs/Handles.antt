@@ -1,45 +1,55 @@
 -- How contracts see a handle of a set.
-use Rattle.std.specs.Prelude.{◌≡◌, ℕ, List, map, All}
+use Rattle.std.specs.List.{flat_map}
+use Rattle.std.specs.Prelude.{◌≡◌, [], ◌∷◌, List, length, map}
 use Rattle.nb_map.specs.Handles as handles
-use Rattle.nb_set.specs.Sets.{SeatOf, SetOf, new_seats}
+use Rattle.nb_set.specs.Sets.{SeatOf, SetOf, seat_on, shape_of}
 use Rattle.nb_set.specs.Walks.{WalkOf}
 
--- a handle: the set that it is of, and its seat
+-- a handle: the set that it is of, its own seat, and the seats that it has in reserve
 pub record HandleOf : Type 0 where
   pub set : SetOf
   pub seat : SeatOf
-
--- the set's handle with this seat
-abbrev pub handle_on : SetOf → SeatOf → HandleOf
-handle_on set seat = record { set = set; seat = seat }
-
--- the handle of the map that the set is kept in
-abbrev pub on_map : HandleOf → handles.HandleOf
-on_map handle = record { map = handle.set.map; seat = handle.seat.map }
+  pub reserve : List SeatOf
 
 -- a handle of a map as one of the set
 abbrev pub as_handle : handles.HandleOf → HandleOf
-as_handle handle =
-    record { set = record { map = handle.map }; seat = record { map = handle.seat } }
+as_handle handle = record {
+  set = record { map = handle.map };
+  seat = seat_on handle.seat;
+  reserve = map seat_on handle.reserve;
+}
 
--- so many handles of a set, whose seats have seen nothing, numbered by their places
-abbrev pub new_handles : SetOf → ℕ → List HandleOf
-new_handles set count = map (handle_on set) (new_seats set count)
+-- all seats that it holds, its own first
+abbrev pub seats_of : HandleOf → List SeatOf
+seats_of handle = handle.seat ∷ handle.reserve
 
--- the seats of handles
-abbrev pub seats_of : List HandleOf → List SeatOf
-seats_of handles = map (λ handle. handle.seat) handles
+-- it holds all seats of its set
+abbrev pub IsWhole : HandleOf → Type 0
+IsWhole handle = length (seats_of handle) ≡ (shape_of handle.set).seats
+
+-- the set's handle with this seat alone
+abbrev pub handle_on : SetOf → SeatOf → HandleOf
+handle_on set seat = record { set = set; seat = seat; reserve = [] }
 
 -- it is a handle of the set that it was of
 abbrev pub IsSameSet : (before after : HandleOf) → Type 0
 IsSameSet before after = after.set ≡ before.set
 
--- all these handles are of one set
-abbrev pub AreOfOneSet : List HandleOf → Type 0
-AreOfOneSet handles = (set : SetOf) × All (λ handle. handle.set ≡ set) handles
+-- what each call leaves as it was: the set that the handle is of, and the seats that it has in
+-- reserve
+pub record KeepsRest (before after : HandleOf) : Type 0 where
+  pub set : IsSameSet before after
+  pub reserve : after.reserve ≡ before.reserve
 
--- a walk by a handle: the handle's set and seat, and the walk
+-- all seats that these handles hold, one handle's after another's
+abbrev pub all_seats : List HandleOf → List SeatOf
+all_seats handles = flat_map seats_of handles
+
+-- a walk by a handle: the handle, and the walk
 pub record HandleWalkOf : Type 0 where
-  pub set : SetOf
-  pub seat : SeatOf
+  pub handle : HandleOf
   pub walk : WalkOf
+
+-- a walk by a handle of a map as one of the set
+abbrev pub as_walk : handles.HandleWalkOf → HandleWalkOf
+as_walk walk = record { handle = as_handle walk.handle; walk = record { map = walk.walk } }

@@ -1,12 +1,10 @@
 -- All keys of a set at rest: what all its seats know once the keys are listed.
-use Rattle.std.specs.List.{AllZip, IsDistinct}
-use Rattle.std.specs.Prelude.{◌≡◌, ◌⊎◌, ◌==◌, ℕ, List, All}
-use Rattle.nb_map.specs.Bulk.{walk_steps}
+use Rattle.std.specs.List.{IsDistinct}
+use Rattle.std.specs.Prelude.{◌≡◌, ◌==◌, ℕ, List, All}
 use Rattle.nb_set.specs.Ending.{EndedOf, EndedWith, set_left}
 use Rattle.nb_set.specs.Log.{Entry, IsReplayed, Keys, set_of_log}
 use Rattle.nb_set.specs.Opening.{set_of_keys}
-use Rattle.nb_set.specs.Renewing.{HasOnlyAsked}
-use Rattle.nb_set.specs.Sets.{SeatOf, SetOf, log, shape_of}
+use Rattle.nb_set.specs.Sets.{SeatOf, log}
 
 -- These are the keys of the set, each once.
 pub record AreKeysOf (content : Keys) (keys : List ℕ) : Type 0 where
@@ -24,9 +22,3 @@ pub record HaveListed (before after : List SeatOf) (keys : List ℕ) : Type 0 wh
   pub replayed : IsReplayed whole
   pub logs : All (λ seat. log seat ≡ whole) after
   pub leaves : set_of_log whole ≡ set_left ended
-
--- The seats are as they were; or each has only asked for keys, in at most the steps of a walk.
-abbrev pub HaveOnlyAsked : SetOf → (before after : List SeatOf) → Type 0
-HaveOnlyAsked set before after =
-    (after ≡ before)
-    ⊎ AllZip (λ old new. HasOnlyAsked set old new (walk_steps (shape_of set))) before after

@@ -1,4 +1,4 @@
--- A set that has keys from the start: what its seats and its handles know.
+-- A set that has keys from the start: what its seats know.
 use Rattle.std.specs.FinMap as finite
 use Rattle.std.specs.FinMap.{empty, insert}
 use Rattle.std.specs.List.{range_with_len}
@@ -35,9 +35,7 @@ pub record HaveBegunWith (set : SetOf) (content : Keys) (seats : List SeatOf) : 
   pub leaves : set_of_log whole ≡ content
   pub claimed : All (HasAskedFor set (map Add (finite.keys content))) seats
 
--- all handles of a new set of this shape, which begins as this set
-pub record BeginWith (p : Plan) (content : Keys) (handles : List HandleOf) : Type 0 where
-  pub shared : SetOf
-  pub made : IsMadeFor shared p
-  pub one : All (λ handle. handle.set ≡ shared) handles
-  pub begun : HaveBegunWith shared content (seats_of handles)
+-- the handle has all seats of a new set of this shape, which begins as this set
+pub record BeginsWith (p : Plan) (content : Keys) (handle : HandleOf) : Type 0 where
+  pub made : IsMadeFor handle.set p
+  pub begun : HaveBegunWith handle.set content (seats_of handle)

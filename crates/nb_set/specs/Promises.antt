@@ -8,7 +8,7 @@ use Rattle.nb_core.specs.Tables.{IsComplete, tables_at}
 use Rattle.nb_map.specs.Logs as of_map
 use Rattle.nb_map.specs.Steps.{get_steps}
 use Rattle.nb_map.specs.declared.faults.Full.{Full}
-use Rattle.nb_set.specs.Handles.{HandleWalkOf}
+use Rattle.nb_set.specs.Handles.{HandleWalkOf, KeepsRest}
 use Rattle.nb_set.specs.Log.{Call, Contains}
 use Rattle.nb_set.specs.OfMap.{call_for}
 use Rattle.nb_set.specs.Sets.{HasLogged, HasLookedOnce, HasNoRoom, HasReplied, HasWorked, IsLockFree, IsMine, IsShortAtHome, IsShortRead, SeatOf, SetOf, generation_of, log, shape_of}
@@ -140,14 +140,14 @@ pub record HasWalkedOn (set : SetOf) (before after : SeatOf) (walk walk' : WalkO
   pub is_walk : IsWalkOf set after walk'
   pub own : IsMine set after
 
--- the same of a walk by a handle, and the set of the handle is the same
+-- The same of a walk by a handle, of whose set and reserve nothing changes.
 pub record HandleHasWalkedOn (before : HandleWalkOf) (next : Option ℕ) (after : HandleWalkOf) :
     Type 0 where
   -- what the set's call promises, of the handle's set, seat and walk
-  pub on : HasWalkedOn before.set before.seat after.seat before.walk after.walk next
-  -- the set is the same
-  pub set : after.set ≡ before.set
+  pub on :
+      HasWalkedOn before.handle.set before.handle.seat after.handle.seat before.walk after.walk next
+  pub rest : KeepsRest before.handle after.handle
 
 -- how many slots a walk by a handle has ahead of it: a measure of loops over it
 abbrev pub ahead_of : HandleWalkOf → ℕ
-ahead_of walk = slots_before walk.set walk.walk
+ahead_of walk = slots_before walk.handle.set walk.walk

@@ -1,4 +1,4 @@
--- A set is made anew: what its handles know then, and what a refused renewal leaves.
+-- A set is made anew: what its handle knows then, and what a refused renewal leaves.
 use Rattle.std.specs.List.{AllZip}
 use Rattle.std.specs.Prelude.{◌≡◌, ◌≤◌, ◌+◌, ◌⊎◌, ℕ, Bool, List, All}
 use Rattle.nb_core.specs.Plans.{Plan}
@@ -6,21 +6,21 @@ use Rattle.nb_map.specs.Bulk.{walk_steps}
 use Rattle.nb_set.specs.Ending.{EndedOf, EndedWith, set_left}
 use Rattle.nb_set.specs.Handles.{HandleOf, IsSameSet, seats_of}
 use Rattle.nb_set.specs.Log.{Call, Contains}
-use Rattle.nb_set.specs.Opening.{BeginWith, HasAskedFor, IsTooSmallFor}
+use Rattle.nb_set.specs.Opening.{BeginsWith, HasAskedFor, IsTooSmallFor}
 use Rattle.nb_set.specs.Sets.{HasLogged, IsMine, SeatOf, SetOf, shape_of, steps_of}
 use Rattle.nb_set.specs.Walks.{IsLater}
 
 -- ---- a set made anew
 
--- The old set ends with these handles: there is one log of all its calls, as if it had been closed.
+-- The old set ends with this handle: there is one log of all its calls, as if it had been closed.
 -- The new set, of this shape, begins as this log leaves the old one.
-pub record HaveRenewed (p : Plan) (before after : List HandleOf) : Type 0 where
+pub record HasRenewed (p : Plan) (before after : HandleOf) : Type 0 where
   pub ended : EndedOf
   pub left : EndedWith (seats_of before) ended
-  pub begun : BeginWith p (set_left ended) after
+  pub begun : BeginsWith p (set_left ended) after
 
--- The set that these handles' calls leave has more keys than the last table of the shape has slots.
-pub record HaveTooMany (p : Plan) (before : List HandleOf) : Type 0 where
+-- The set that the handle's calls leave has more keys than the last table of the shape has slots.
+pub record HasTooMany (p : Plan) (before : HandleOf) : Type 0 where
   pub ended : EndedOf
   pub left : EndedWith (seats_of before) ended
   pub small : IsTooSmallFor p (set_left ended)
@@ -45,14 +45,13 @@ pub record HasOnlyAsked (set : SetOf) (before after : SeatOf) (most : ℕ) : Typ
   pub count : after.map.count ≡ before.map.count
   pub own : IsMine set after
 
--- The handle is of its set still, and its seat has only asked for keys.
-pub record IsKept (before after : HandleOf) (most : ℕ) : Type 0 where
-  pub set : IsSameSet before after
-  pub asked : HasOnlyAsked before.set before.seat after.seat most
+-- each of these seats has only asked for keys, in at most the steps of a walk
+abbrev pub HaveOnlyAsked : SetOf → (before after : List SeatOf) → Type 0
+HaveOnlyAsked set before after =
+    AllZip (λ old new. HasOnlyAsked set old new (walk_steps (shape_of set))) before after
 
--- The handles are as they were; or each is of its set still, and has made at most the calls of a
--- walk.
-abbrev pub AreKept : (before after : List HandleOf) → Type 0
-AreKept before after =
+-- The handle is as it was; or it is of its set still, and its seats have only asked for keys.
+abbrev pub IsKept : (before after : HandleOf) → Type 0
+IsKept before after =
     (after ≡ before)
-    ⊎ AllZip (λ old new. IsKept old new (walk_steps (shape_of old.set))) before after
+    ⊎ IsSameSet before after × HaveOnlyAsked before.set (seats_of before) (seats_of after)

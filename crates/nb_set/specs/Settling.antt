@@ -1,13 +1,10 @@
 -- What a set's seats know once they are settled, while the set goes on.
 use Rattle.std.specs.FinMap.{len}
 use Rattle.std.specs.List.{AllZip}
-use Rattle.std.specs.Prelude.{◌≡◌, ◌≢◌, ◌↔◌, ℕ, List, [], length, map, All, IfErr, IfOk, Result, Err}
+use Rattle.std.specs.Prelude.{◌≡◌, ℕ, List, [], map}
 use Rattle.nb_core.specs.Plans.{Plan}
 use Rattle.nb_core.specs.declared.events.Event.{Event}
-use Rattle.nb_map.specs.Handles as handles
 use Rattle.nb_map.specs.Settling as of_map
-use Rattle.nb_map.specs.declared.faults.SettleFault.{SettleFault}
-use Rattle.nb_map.specs.declared.faults.SettleFault.TheVariants as fault
 use Rattle.nb_table.specs.Chains.{Grown}
 use Rattle.nb_table.specs.Settling.{Settled}
 use Rattle.nb_set.specs.Ending.{EndedOf, EndedWith, HasTablesLeft, log_left, set_left}
@@ -47,17 +44,3 @@ pub record HaveSettled (set : SetOf) (before after : List SeatOf) (size : ℕ) :
   -- and each seat's log is this log now
   pub each : AllZip (HasCaughtUp set (log_left (as_left (shape_of set) tables.history size)))
       before after
-
--- what the map's handles promise that settle, in which the handles of a set are
-pub record HandlesHaveSettled (before after : List handles.HandleOf)
-    (result : Result ℕ SettleFault) : Type 0 where
-  -- they are refused just where one is missing, or for want of memory
-  pub all :
-      All (λ handle. (result ≡ Err fault.NotAll)
-      ↔ (length before ≢ handle.map.chain.shape.seats)) before
-  pub settled :
-      IfOk result (λ size. All (λ handle. of_map.HaveSettled handle.map (handles.seats_of before)
-      (handles.seats_of after) size) before)
-  -- each is of the map that it was of, and is as it was where they are refused
-  pub map : AllZip handles.IsSameMap before after
-  pub back : IfErr result (λ _. after ≡ before)

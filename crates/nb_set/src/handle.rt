@@ -1,24 +1,22 @@
 //! Handles: the ways of threads to a set that they share.
-ghost use Rattle.std.specs.Prelude.{◌≡◌, ◌↔◌, ◌<◌, ◌∷◌, ◌++◌, All, IfErr, IfOk, Ok, [], false, is_ok, length, map, true, vec_capacity};
-ghost use Rattle.nb_set.specs.Ending.{EndedWith, HasTablesLeft};
-ghost use Rattle.nb_set.specs.Handles.{AreOfOneSet, IsSameSet, new_handles, on_map, seats_of};
+ghost use Rattle.std.specs.Prelude.{Ok, ◌≡◌};
+ghost use Rattle.nb_set.specs.Handles.{KeepsRest};
 ghost use Rattle.nb_set.specs.Log as call;
 ghost use Rattle.nb_set.specs.Promises.{HasEstimated, HasLookedUp, HasMet, HasSeenTop, HasWritten};
-ghost use Rattle.nb_set.specs.Sets.{IsMadeFor, IsMine, SetOf, log, shape_of};
+ghost use Rattle.nb_set.specs.Sets.{AreMine, IsMine, shape_of};
 
 mod bulk;
+mod closing;
 mod fullness;
 mod listing;
 mod opening;
 mod renewing;
 mod settling;
+mod splitting;
 
-use crate::ended::SetEnded;
 use crate::set::present;
-use nb_core::{Key, OutOfMemory, Shape};
+use nb_core::{Key, Shape};
 use nb_map::Full;
-use opening::Reserved;
-use std::alloc::Global;
 use std::marker::Model;
 use std::sync::Wait;
 
@@ -26,8 +24,6 @@ use std::sync::Wait;
 #[derive(Drop)]
 pub struct Handle {
     pub(crate) map: nb_map::Handle,
-    /// Room in which `close` gathers the map's handles, so that it takes no memory.
-    pub(crate) room: Vec<nb_map::Handle>,
 }
 
 impl Model for Handle {
@@ -35,32 +31,17 @@ impl Model for Handle {
 
     ghost Value = { HandleOf };
 
-    ghost use Rattle.nb_set.specs.Inside.{IsHandle, handle_of};
+    ghost use Rattle.nb_set.specs.Inside.{handle_of};
 
     ghost view = { handle_of };
-
-    ghost invariant = { IsHandle };
 }
 
 impl Handle {
-    /// A new set, as its handles: one for each seat of the shape.
-    pub fn open(alloc: Global, shape: Shape) -> Result<Vec<Handle>, OutOfMemory>
-        ensures new { IfOk result (λ handles. (set : SetOf) × (shape_of set ≡ shape)
-            × (handles.items ≡ new_handles set shape.seats)) }
-        ensures made { IfOk result (λ handles. All (λ handle. IsMadeFor handle.set shape)
-            handles.items) }
-        ensures empty { IfOk result (λ handles. All (λ handle. log handle.seat ≡ [])
-            handles.items) }
-        ensures one { IfOk result (λ handles. AreOfOneSet handles.items) }
-    {
-        let reserved = Reserved::new(alloc, shape.seats())?;
-        let maps = nb_map::Handle::open(alloc, shape)?;
-        Ok(reserved.filled(maps))
-    }
-
-    /// Reminds a proof that the seat is the set's own, as the laws of a set ask. It does nothing.
+    /// What every handle is: its seats are seats of its set. Nothing runs. A proof over several calls
+    /// of a handle, as one by the law `logs_add_up`, sets out from it.
     pub fn known(&self)
         ensures own { IsMine self.now.set self.now.seat }
+        ensures reserve { AreMine self.now.set self.now.reserve }
     {
         self.map.known();
     }
@@ -69,7 +50,7 @@ impl Handle {
     pub fn add<R: Wait>(&mut self, rt: &R, key: Key) -> Result<bool, Full>
         ensures wrote { HasWritten self.old.set (call.Add key) self.old.seat self.new.seat
             result }
-        ensures same { IsSameSet self.old self.new }
+        ensures rest { KeepsRest self.old self.new }
     {
         let before = self.map.put_if_absent(rt, key, present())?;
         Ok(before.is_none())
@@ -79,7 +60,7 @@ impl Handle {
     pub fn remove<R: Wait>(&mut self, rt: &R, key: Key) -> bool
         ensures wrote { HasWritten self.old.set (call.Remove key) self.old.seat self.new.seat
             (Ok result) }
-        ensures same { IsSameSet self.old self.new }
+        ensures rest { KeepsRest self.old self.new }
     {
         self.map.remove(rt, key).is_some()
     }
@@ -88,7 +69,7 @@ impl Handle {
     #[inline]
     pub fn contains(&mut self, key: Key) -> bool
         ensures looked_up { HasLookedUp self.old.set key self.old.seat self.new.seat result }
-        ensures same { IsSameSet self.old self.new }
+        ensures rest { KeepsRest self.old self.new }
     {
         self.map.contains_key(key)
     }
@@ -96,7 +77,7 @@ impl Handle {
     /// About how many keys the set has, modulo 2^64. While others write it is no more than a guess.
     pub fn size_estimate(&mut self) -> u64
         ensures looked { HasEstimated self.old.set self.old.seat self.new.seat }
-        ensures same { IsSameSet self.old self.new }
+        ensures rest { KeepsRest self.old self.new }
     {
         self.map.size_estimate()
     }
@@ -105,7 +86,7 @@ impl Handle {
     /// grown.
     pub fn generation(&mut self) -> u32
         ensures looked { HasSeenTop self.old.set self.old.seat self.new.seat result }
-        ensures same { IsSameSet self.old self.new }
+        ensures rest { KeepsRest self.old self.new }
     {
         self.map.generation()
     }
@@ -116,7 +97,7 @@ impl Handle {
         requires one { self.old.set ≡ other.old.set }
         ensures here { HasMet self.old.set other.old.seat self.old.seat self.new.seat }
         ensures there { HasMet self.old.set self.old.seat other.old.seat other.new.seat }
-        ensures same { IsSameSet self.old self.new × IsSameSet other.old other.new }
+        ensures rest { KeepsRest self.old self.new × KeepsRest other.old other.new }
     {
         self.map.meet(&mut other.map);
     }
@@ -127,50 +108,4 @@ impl Handle {
     {
         self.map.shape()
     }
-
-    /// With all handles of a set: what is left of it.
-    pub fn close<R: Wait>(rt: &R, handles: Vec<Handle>) -> Result<SetEnded, Vec<Handle>>
-        requires one { AreOfOneSet handles.items }
-        ensures all { All (λ handle. (is_ok result ≡ true)
-            ↔ (length handles.items ≡ (shape_of handle.set).seats)) handles.items }
-        ensures some { handles.items ≡ [] → is_ok result ≡ false }
-        ensures ended { IfOk result (EndedWith (seats_of handles.items)) }
-        ensures tables { IfOk result (λ ended. All (λ handle. HasTablesLeft (shape_of handle.set)
-            (seats_of handles.items) ended) handles.items) }
-        ensures back { IfErr result (λ back. back.items ≡ handles.items) }
-    {
-        let mut handles = handles;
-        let count = handles.len();
-        let Some(last) = handles.pop() else {
-            return Err(handles);
-        };
-        if count != last.map.shape().seats() {
-            handles.push_reserved(last);
-            return Err(handles);
-        }
-        let Handle { map, room } = last;
-        let Ok(map) = nb_map::Handle::close(rt, gathered(handles, map, room)) else {
-            unreachable!();
-        };
-        Ok(SetEnded { map })
-    }
-}
-
-/// The map's handles in handles of a set, and one more at their end.
-fn gathered(
-    handles: Vec<Handle>,
-    last: nb_map::Handle,
-    room: Vec<nb_map::Handle>,
-) -> Vec<nb_map::Handle>
-    requires empty { room.items ≡ [] }
-    requires room { length handles.items < vec_capacity room }
-    ensures handles { result.items ≡ map on_map handles.items ++ last ∷ [] }
-{
-    let mut gathered = room;
-    for handle in handles {
-        let Handle { map, .. } = handle;
-        gathered.push_reserved(map);
-    }
-    gathered.push_reserved(last);
-    gathered
 }

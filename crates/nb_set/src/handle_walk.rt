@@ -1,7 +1,7 @@
 //! Walks by handles.
 ghost use Rattle.std.specs.Iterator.{at_most};
 ghost use Rattle.std.specs.Prelude.{◌≡◌};
-ghost use Rattle.nb_set.specs.Handles.{IsSameSet, handle_on};
+ghost use Rattle.nb_set.specs.Handles.{KeepsRest};
 ghost use Rattle.nb_set.specs.Promises.{HandleHasWalkedOn, HasBegunWalk, HasWalkedOn, ahead_of};
 ghost use Rattle.nb_set.specs.Sets.{IsMine};
 ghost use Rattle.nb_set.specs.Walks.{IsWalkOf};
@@ -16,7 +16,6 @@ use std::marker::Model;
 #[derive(Drop)]
 pub struct HandleWalk {
     map: nb_map::HandleWalk,
-    room: Vec<nb_map::Handle>,
 }
 
 impl Model for HandleWalk {
@@ -24,31 +23,26 @@ impl Model for HandleWalk {
 
     ghost Value = { HandleWalkOf };
 
-    ghost use Rattle.nb_set.specs.Inside.{IsHandleWalk, handle_walk_of};
+    ghost use Rattle.nb_set.specs.Inside.{handle_walk_of};
 
     ghost view = { handle_walk_of };
-
-    ghost invariant = { IsHandleWalk };
 }
 
 impl Handle {
     /// Begins a walk over the set's keys: `LongSet::walk`.
     pub fn walk(self) -> HandleWalk
-        ensures begun { HasBegunWalk self.set self.seat result.seat result.walk }
-        ensures set { result.set ≡ self.set }
+        ensures begun { HasBegunWalk self.set self.seat result.handle.seat result.walk }
+        ensures rest { KeepsRest self result.handle }
     {
-        let Handle { map, room } = self;
-        HandleWalk {
-            map: map.walk(),
-            room,
-        }
+        let Handle { map } = self;
+        HandleWalk { map: map.walk() }
     }
 
     /// Begins a walk over the set's keys that leaves the handle where it is: `LongSet::walk`. It is
     /// taken on by `next_key`, and the handle makes what calls it likes meanwhile.
     pub fn begin_walk(&mut self) -> Walk
         ensures begun { HasBegunWalk self.old.set self.old.seat self.new.seat result }
-        ensures same { IsSameSet self.old self.new }
+        ensures rest { KeepsRest self.old self.new }
     {
         let map = self.map.begin_walk();
         Walk { map }
@@ -60,7 +54,7 @@ impl Handle {
         requires walk { IsWalkOf self.old.set self.old.seat walk.old }
         ensures walked { HasWalkedOn self.old.set self.old.seat self.new.seat walk.old walk.new
             result }
-        ensures same { IsSameSet self.old self.new }
+        ensures rest { KeepsRest self.old self.new }
     {
         let (key, _) = self.map.next_key(&mut walk.map)?;
         Some(key)
@@ -68,11 +62,11 @@ impl Handle {
 }
 
 impl HandleWalk {
-    /// What every walk by a handle is: its seat is a seat of its set, and has begun the walk.
-    /// Nothing runs.
+    /// What every walk by a handle is: its handle's seat is a seat of the set, and has begun the
+    /// walk. Nothing runs.
     pub fn known(&self)
-        ensures own { IsMine self.now.set self.now.seat }
-        ensures walk { IsWalkOf self.now.set self.now.seat self.now.walk }
+        ensures own { IsMine self.now.handle.set self.now.handle.seat }
+        ensures walk { IsWalkOf self.now.handle.set self.now.handle.seat self.now.walk }
     {
         self.map.known();
     }
@@ -88,13 +82,10 @@ impl HandleWalk {
 
     /// The handle, at the end of the walk or before it.
     pub fn end(self) -> Handle
-        ensures { result ≡ handle_on self.set self.seat }
+        ensures { result ≡ self.handle }
     {
-        let HandleWalk { map, room } = self;
-        Handle {
-            map: map.end(),
-            room,
-        }
+        let HandleWalk { map } = self;
+        Handle { map: map.end() }
     }
 }
 

@@ -16,5 +16,5 @@ mod set;
 pub use ended::SetEnded;
 pub use handle::Handle;
 pub use handle_walk::HandleWalk;
-pub use nb_map::{Full, FullAfter, Occupancy, OpenFault, RenewFault, SettleFault};
+pub use nb_map::{Full, FullAfter, Occupancy, OpenFault, RenewFault, SettleFault, SplitFault};
 pub use set::{LongSet, Seat, Walk};

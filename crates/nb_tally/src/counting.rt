@@ -34,7 +34,9 @@ where
     R: Threads + Sync + Wait + Eprint,
     I: Read + Send + Drop,
 {
-    let mut handles = Handle::open(alloc, options.shape()?)?;
+    let Ok(mut handles) = Handle::open(alloc, options.shape()?)?.split_all(alloc) else {
+        return Err(Fault::OutOfMemory);
+    };
     let input = Mutex::new(Input::new(alloc, reader));
     thread::for_each_mut(
         rt,

@@ -38,7 +38,7 @@ fn sums(handle: &mut Handle) -> (u64, u64) {
 fn for_each_shows_all(rt: HostRuntime) {
     let mut handle = filled(&rt, rt.alloc());
     assert!(&rt; sums(&mut handle) == (17, 170));
-    one_leaves(&rt, rt.alloc(), handle, &SPREAD);
+    leaves(&rt, rt.alloc(), handle, &SPREAD);
 }
 
 /// What the function refuses goes, and the rest stays.
@@ -46,7 +46,7 @@ fn for_each_shows_all(rt: HostRuntime) {
 fn retain_takes_out_what_is_refused(rt: HostRuntime) {
     let mut handle = filled(&rt, rt.alloc());
     handle.retain(&rt, |key, number| key.get() > 1 && number.get() < 60);
-    one_leaves(&rt, rt.alloc(), handle, &[(2, 20), (5, 50)]);
+    leaves(&rt, rt.alloc(), handle, &[(2, 20), (5, 50)]);
 }
 
 /// Takes out all, but another handle adds to the number of key 2 before each removal.
@@ -73,7 +73,7 @@ fn clear_takes_out_all(rt: HostRuntime) {
     let mut handle = filled(&rt, rt.alloc());
     handle.clear(&rt);
     handle.clear(&rt);
-    one_leaves(&rt, rt.alloc(), handle, &[]);
+    leaves(&rt, rt.alloc(), handle, &[]);
 }
 
 /// Entries are put in their order: the last one of a key stays.
@@ -83,7 +83,7 @@ fn extend_puts_in_order(rt: HostRuntime) {
     let entries = [entry(&rt, 1, 10), entry(&rt, 2, 20), entry(&rt, 1, 11)];
     assert!(&rt; handle.extend(&rt, &entries).is_ok());
     assert!(&rt; handle.extend(&rt, &[]).is_ok());
-    one_leaves(&rt, rt.alloc(), handle, &[(1, 11), (2, 20)]);
+    leaves(&rt, rt.alloc(), handle, &[(1, 11), (2, 20)]);
 }
 
 /// Where one is refused, those before it are put, and none after it.
@@ -104,5 +104,5 @@ fn extend_says_how_many_were_put(rt: HostRuntime) {
     ];
     assert!(&rt; handle.extend(&rt, &entries) == Err(FullAfter { put: 3 }));
     let left = [(0, 0), (1, 10), (2, 20), (3, 30)];
-    one_leaves(&rt, rt.alloc(), handle, &left);
+    leaves(&rt, rt.alloc(), handle, &left);
 }

@@ -1,24 +1,22 @@
 //! The map's calls one after another, with their answers and with what they leave. More rows of
 //! them are in `c_tests/rows.c` of `nb_ffi`.
-ghost use Rattle.nb_map.specs.Handles.{AreOfOneMap};
-
 use super::renewing::{renews, settles};
 use super::rows::Answer::{Is, Nothing, Replied, Was};
 use super::rows::Call::*;
 use super::rows::*;
 use nb_core::{Shape, VALUE_MAX};
-use nb_map::{AddFault, Full, FullAfter, Handle, OpenFault, PutFault, RenewFault, SettleFault};
+use nb_map::{
+    AddFault, Full, FullAfter, Handle, OpenFault, PutFault, RenewFault, SettleFault, SplitFault,
+};
 use std::alloc::Global;
 use std::fmt::Display;
 use std::process::Abort;
 
-/// The handles of a new map, also where one request for memory is refused.
-fn opened_again<R: Abort>(rt: &R, alloc: Global) -> Vec<Handle>
-    ensures { AreOfOneMap result.items }
-{
-    match Handle::open(alloc, good(rt, Shape::new(2, 2, 1, 1))) {
-        Ok(handles) => handles,
-        Err(_) => opened(rt, alloc, Shape::new(2, 2, 1, 1)),
+/// The whole handle of a new map, also where one request for memory is refused.
+fn opened_again<R: Abort>(rt: &R, alloc: Global) -> Handle {
+    match Handle::open(alloc, good(rt, Shape::new(2, 2, 3, 1))) {
+        Ok(handle) => handle,
+        Err(_) => opened(rt, alloc, Shape::new(2, 2, 3, 1)),
     }
 }
 
@@ -26,9 +24,9 @@ fn opened_again<R: Abort>(rt: &R, alloc: Global) -> Vec<Handle>
 /// whichever one request is refused.
 #[test]
 fn refused_memory(rt: HostRuntime) {
-    let mut handles = opened_again(&rt, rt.alloc());
-    settles(&rt, rt.alloc(), &mut handles, 0);
-    assert!(&rt; ended(&rt, handles).is_empty());
+    let mut handle = opened_again(&rt, rt.alloc());
+    settles(&rt, rt.alloc(), &mut handle, 0);
+    assert!(&rt; ended(&rt, handle).is_empty());
     renews(&rt, rt.alloc());
 }
 
@@ -191,9 +189,11 @@ fn fault_texts(rt: HostRuntime) {
     says(&rt, rt.alloc(), &PutFault::ValueRange, "value too large");
 }
 
-/// What the faults of a whole map say.
+/// What the faults of a whole map, and of its seats, say.
 #[test]
 fn texts_of_whole_maps(rt: HostRuntime) {
+    says(&rt, rt.alloc(), &SplitFault::NoSeat, "no seat is left");
+    says(&rt, rt.alloc(), &SplitFault::OutOfMemory, "out of memory");
     says(&rt, rt.alloc(), &SettleFault::NotAll, "a seat is missing");
     says(&rt, rt.alloc(), &SettleFault::OutOfMemory, "out of memory");
     says(&rt, rt.alloc(), &OpenFault::Full, "the map is full");
@@ -208,10 +208,10 @@ fn ended_with_and_without_keys(rt: HostRuntime) {
     let (one, two) = (key(&rt, 1), key(&rt, 2));
     let mut handle = alone(&rt, rt.alloc(), 1);
     sees(&rt, &mut handle, &[(1, Put(11), Nothing)]);
-    let left = ended_alone(&rt, rt.alloc(), handle);
+    let left = ended(&rt, handle);
     let has_first = left.contains_key(one) && !left.contains_key(two);
     assert!(&rt; has_first && left.get(two).is_none() && !left.is_empty());
     let handle = alone(&rt, rt.alloc(), 1);
     assert!(&rt; handle.shape().seats() == 1);
-    assert!(&rt; ended_alone(&rt, rt.alloc(), handle).is_empty());
+    assert!(&rt; ended(&rt, handle).is_empty());
 }

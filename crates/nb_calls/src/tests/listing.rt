@@ -1,48 +1,32 @@
-//! All entries of a map at rest, by its handles and by its seats.
-ghost use Rattle.nb_map.specs.Handles.{AreOfOneMap};
+//! All entries of a map at rest, by its whole handle and by its seats.
 ghost use Rattle.nb_map.specs.Maps.{AreMine};
 
 use super::rows::Answer::{Nothing, Was};
 use super::rows::Call::{Put, Remove};
 use super::rows::*;
 use nb_core::{Key, Num, Shape};
-use nb_map::{Handle, Map, Seat, SettleFault};
+use nb_map::{Handle, Map, Seat};
 use std::alloc::Global;
 use std::process::Abort;
 
 /// The entries, also where one request for memory is refused.
-fn entries_of<R: Abort>(rt: &R, alloc: Global, handles: &mut Vec<Handle>) -> Vec<(Key, Num)>
-    requires { AreOfOneMap handles.old.items }
-    ensures { AreOfOneMap handles.new.items }
-{
-    let mut listed = Handle::entries(alloc, handles);
-    if matches!(&listed, Err(SettleFault::OutOfMemory)) {
-        listed = Handle::entries(alloc, handles);
+fn entries_of<R: Abort>(rt: &R, alloc: Global, handle: &mut Handle) -> Vec<(Key, Num)> {
+    match handle.entries(alloc) {
+        Ok(entries) => entries,
+        Err(_) => handle.entries(alloc).expect(rt, "all seats are here"),
     }
-    let Ok(entries) = listed else {
-        panic!(rt; "all handles are here")
-    };
-    entries
 }
 
 /// Lists the entries.
-pub(super) fn lists<R: Abort>(
-    rt: &R,
-    alloc: Global,
-    handles: &mut Vec<Handle>,
-    pairs: &[(u64, u64)],
-)
-    requires { AreOfOneMap handles.old.items }
-    ensures { AreOfOneMap handles.new.items }
-{
-    are_just(rt, entries_of(rt, alloc, handles).as_slice(), pairs);
+pub(super) fn lists<R: Abort>(rt: &R, alloc: Global, handle: &mut Handle, pairs: &[(u64, u64)]) {
+    are_just(rt, entries_of(rt, alloc, handle).as_slice(), pairs);
 }
 
 /// A removed key isn't listed, nor a number that was put over; and an empty map has no entries.
 #[test]
 fn listed_as_they_are(rt: HostRuntime) {
-    let mut handles = opened(&rt, rt.alloc(), Shape::new(2, 2, 1, 1));
-    lists(&rt, rt.alloc(), &mut handles, &[]);
+    let mut handle = alone(&rt, rt.alloc(), 2);
+    lists(&rt, rt.alloc(), &mut handle, &[]);
     let rows = [
         (1, Put(10), Nothing),
         (5, Put(50), Nothing),
@@ -50,8 +34,8 @@ fn listed_as_they_are(rt: HostRuntime) {
         (5, Remove, Was(50)),
         (1, Put(11), Was(10)),
     ];
-    all_see(&rt, &mut handles, &rows);
-    lists(&rt, rt.alloc(), &mut handles, &[(1, 11), (9, 90)]);
+    sees(&rt, &mut handle, &rows);
+    lists(&rt, rt.alloc(), &mut handle, &[(1, 11), (9, 90)]);
 }
 
 /// The entries of a map with its seats.

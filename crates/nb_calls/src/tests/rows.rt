@@ -240,15 +240,41 @@ pub(super) fn sees<R: Wait + Abort>(rt: &R, handle: &mut Handle, rows: &[Row])
     }
 }
 
-/// Each handle makes these calls in a thread of its own, and they answer so.
+/// A handle for each seat of this one, also where one request for memory is refused.
+pub(super) fn parted<R: Abort>(rt: &R, alloc: Global, handle: Handle) -> Vec<Handle>
+    ensures { AreOfOneMap result.items }
+{
+    match handle.split_all(alloc) {
+        Ok(handles) => handles,
+        Err(back) => match back.split_all(alloc) {
+            Ok(handles) => handles,
+            Err(_) => panic!(rt; "memory"),
+        },
+    }
+}
+
+/// One handle that has all seats of these.
+pub(super) fn joined<R: Abort>(rt: &R, handles: Vec<Handle>) -> Handle
+    requires { AreOfOneMap handles.items }
+{
+    let mut handles = handles;
+    match handles.pop() {
+        Some(mut handle) => {
+            assert!(rt; handle.join_all(handles).is_ok());
+            handle
+        }
+        None => panic!(rt; "there is a handle"),
+    }
+}
+
+/// Each seat of the handle makes these calls in a thread of its own, and they answer so.
 pub(super) fn all_see<R: Threads + Sync + Wait + Abort>(
     rt: &R,
-    handles: &mut Vec<Handle>,
+    alloc: Global,
+    handle: Handle,
     rows: &[Row],
-)
-    requires { AreOfOneMap handles.old.items }
-    ensures { AreOfOneMap handles.new.items }
-{
+) -> Handle {
+    let mut handles = parted(rt, alloc, handle);
     thread::for_each_mut(
         rt,
         handles.as_mut_slice(),
@@ -257,6 +283,7 @@ pub(super) fn all_see<R: Threads + Sync + Wait + Abort>(
             ensures { handle.exit.now.map ≡ handle.entry.now.map }
         { sees(rt, handle, rows) },
     );
+    joined(rt, handles)
 }
 
 /// The shape, which is a good one.
@@ -267,61 +294,55 @@ pub(super) fn good<R: Abort>(rt: &R, shape: Result<Shape, ShapeFault>) -> Shape 
     shape
 }
 
-/// The handles of a new map of this shape.
-pub(super) fn opened<R: Abort>(
-    rt: &R,
-    alloc: Global,
-    shape: Result<Shape, ShapeFault>,
-) -> Vec<Handle>
-    ensures { AreOfOneMap result.items }
-{
-    let Ok(handles) = Handle::open(alloc, good(rt, shape)) else {
-        panic!(rt; "memory")
-    };
-    handles
+/// The whole handle of a new map of this shape.
+pub(super) fn opened<R: Abort>(rt: &R, alloc: Global, shape: Result<Shape, ShapeFault>) -> Handle {
+    match Handle::open(alloc, good(rt, shape)) {
+        Ok(handle) => handle,
+        Err(_) => panic!(rt; "memory"),
+    }
 }
 
 /// The handle of a map with one seat. Its first table has four slots, and each further one twice as
 /// many.
 pub(super) fn alone<R: Abort>(rt: &R, alloc: Global, tables: u32) -> Handle {
-    let mut handles = opened(rt, alloc, Shape::new(2, tables, 1, 1));
-    let Some(handle) = handles.pop() else {
-        panic!(rt; "there is a handle")
-    };
-    handle
+    opened(rt, alloc, Shape::new(2, tables, 1, 1))
+}
+
+/// A handle of its own for a seat in reserve.
+pub(super) fn split_off<R: Abort>(rt: &R, handle: &mut Handle) -> Handle
+    ensures { (handle.new.map ≡ handle.old.map) × (result.map ≡ handle.old.map) }
+{
+    match handle.split() {
+        Ok(other) => other,
+        Err(_) => panic!(rt; "there is a seat"),
+    }
 }
 
 /// The two handles of a map with two seats. Its first table has four slots, and its second eight.
 pub(super) fn two<R: Abort>(rt: &R, alloc: Global) -> (Handle, Handle)
     ensures { result.0.map ≡ result.1.map }
 {
-    let mut handles = opened(rt, alloc, Shape::new(2, 2, 2, 2));
-    let Some(b) = handles.pop() else {
-        panic!(rt; "there is a handle")
-    };
-    let Some(a) = handles.pop() else {
-        panic!(rt; "there is another one")
-    };
-    (a, b)
+    let mut handle = opened(rt, alloc, Shape::new(2, 2, 2, 2));
+    let other = split_off(rt, &mut handle);
+    (handle, other)
 }
 
-/// Ends the map, all of whose handles these are.
-pub(super) fn ended<R: Wait + Abort>(rt: &R, handles: Vec<Handle>) -> Ended
-    requires { AreOfOneMap handles.items }
+/// Two handles of one map as one.
+pub(super) fn put_together<R: Abort>(rt: &R, a: Handle, b: Handle) -> Handle
+    requires { b.map ≡ a.map }
+    ensures { result.map ≡ a.map }
 {
-    let Ok(ended) = Handle::close(rt, handles) else {
-        panic!(rt; "all handles are here")
-    };
-    ended
+    let mut a = a;
+    assert!(rt; a.join(b).is_ok());
+    a
 }
 
-/// Ends the map of this one handle.
-pub(super) fn ended_alone<R: Wait + Abort>(rt: &R, alloc: Global, handle: Handle) -> Ended {
-    let mut handles = Vec::new(alloc);
-    let Ok(()) = handles.push(handle) else {
-        panic!(rt; "memory")
-    };
-    ended(rt, handles)
+/// Ends the map of this whole handle.
+pub(super) fn ended<R: Wait + Abort>(rt: &R, handle: Handle) -> Ended {
+    match handle.close(rt) {
+        Ok(ended) => ended,
+        Err(_) => panic!(rt; "all seats are here"),
+    }
 }
 
 /// Sees that these are the entries, in whatever order.
@@ -343,26 +364,9 @@ pub(super) fn has_just<R: Abort>(rt: &R, alloc: Global, ended: &Ended, pairs: &[
     are_just(rt, entries.as_slice(), pairs);
 }
 
-/// Ends the map, all of whose handles these are. These keys are left, each with its number.
-pub(super) fn all_leave<R: Wait + Abort>(
-    rt: &R,
-    alloc: Global,
-    handles: Vec<Handle>,
-    pairs: &[(u64, u64)],
-)
-    requires { AreOfOneMap handles.items }
-{
-    has_just(rt, alloc, &ended(rt, handles), pairs);
-}
-
-/// Ends the map of this one handle. These keys are left, each with its number.
-pub(super) fn one_leaves<R: Wait + Abort>(
-    rt: &R,
-    alloc: Global,
-    handle: Handle,
-    pairs: &[(u64, u64)],
-) {
-    has_just(rt, alloc, &ended_alone(rt, alloc, handle), pairs);
+/// Ends the map of this whole handle. These keys are left, each with its number.
+pub(super) fn leaves<R: Wait + Abort>(rt: &R, alloc: Global, handle: Handle, pairs: &[(u64, u64)]) {
+    has_just(rt, alloc, &ended(rt, handle), pairs);
 }
 
 /// Makes calls in a new map, which answer so. Then these keys are left, each with its number.
@@ -375,5 +379,5 @@ pub(super) fn plays<R: Wait + Abort>(
 ) {
     let mut handle = alone(rt, alloc, tables);
     sees(rt, &mut handle, rows);
-    one_leaves(rt, alloc, handle, left);
+    leaves(rt, alloc, handle, left);
 }

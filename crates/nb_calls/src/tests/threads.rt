@@ -1,6 +1,6 @@
 //! Threads that call one map by handles, and handles that wait for one another.
 ghost use Rattle.std.specs.Prelude.{◌≡◌};
-ghost use Rattle.nb_map.specs.Handles.{AreOfOneMap};
+ghost use Rattle.nb_map.specs.Handles.{IsSameMap};
 
 use super::listing::lists;
 use super::renewing::{renewed, settles};
@@ -15,92 +15,79 @@ use std::sync::Wait;
 use std::thread;
 use std::thread::Threads;
 
-/// Four threads add to one key at the same time, and all handles close the map.
+/// Four threads add to one key at the same time, and the map is closed with the seats of all.
 #[test]
 fn tallies(rt: HostRuntime) {
     let (key, once) = entry(&rt, 7, 1);
-    let mut handles = opened(&rt, rt.alloc(), Shape::new(4, 4, 4, 1));
+    let handle = opened(&rt, rt.alloc(), Shape::new(4, 4, 4, 1));
+    let mut handles = parted(&rt, rt.alloc(), handle);
     thread::for_each_mut(
         &rt,
         handles.as_mut_slice(),
         4,
-        &|_, handle: &mut Handle| {
+        &|_, handle: &mut Handle|
+            ensures { IsSameMap handle.entry.now handle.exit.now }
+        {
             let _ = handle.add(&rt, key, once);
         },
     );
-    all_leave(&rt, rt.alloc(), handles, &[(7, 4)]);
+    let mut handle = joined(&rt, handles);
+    sees(&rt, &mut handle, &[(8, Put(1), Nothing), (7, Get, Was(4))]);
+    leaves(&rt, rt.alloc(), handle, &[(7, 4), (8, 1)]);
 }
 
 /// Four threads add to one key, settle, and find what was added.
 #[test]
 fn settled_between_rounds(rt: HostRuntime) {
-    let mut handles = opened(&rt, rt.alloc(), Shape::new(4, 4, 4, 1));
-    settles(&rt, rt.alloc(), &mut handles, 0);
-    all_see(&rt, &mut handles, &[(7, Add(1), Made)]);
-    settles(&rt, rt.alloc(), &mut handles, 1);
-    all_see(&rt, &mut handles, &[(7, Get, Was(4))]);
+    let mut handle = opened(&rt, rt.alloc(), Shape::new(4, 4, 4, 1));
+    settles(&rt, rt.alloc(), &mut handle, 0);
+    let mut handle = all_see(&rt, rt.alloc(), handle, &[(7, Add(1), Made)]);
+    settles(&rt, rt.alloc(), &mut handle, 1);
+    all_see(&rt, rt.alloc(), handle, &[(7, Get, Was(4))]);
 }
 
 /// Four threads add to two keys, all entries are listed, and the threads add again; and the map is
 /// made anew, and they add once more.
 #[test]
 fn listed_and_renewed_between_rounds(rt: HostRuntime) {
-    let mut handles = opened(&rt, rt.alloc(), Shape::new(4, 4, 4, 1));
-    all_see(&rt, &mut handles, &[(7, Add(1), Made), (9, Add(1), Made)]);
-    lists(&rt, rt.alloc(), &mut handles, &[(7, 4), (9, 4)]);
-    all_see(&rt, &mut handles, &[(7, Add(1), Made)]);
-    lists(&rt, rt.alloc(), &mut handles, &[(7, 8), (9, 4)]);
-    renewed(
-        &rt,
-        rt.alloc(),
-        &mut handles,
-        Shape::new(4, 4, 4, 1),
-        Ok(()),
-    );
-    all_see(&rt, &mut handles, &[(7, Add(1), Made)]);
-    all_leave(&rt, rt.alloc(), handles, &[(7, 12), (9, 4)]);
+    let handle = opened(&rt, rt.alloc(), Shape::new(4, 4, 4, 1));
+    let rows = [(7, Add(1), Made), (9, Add(1), Made)];
+    let mut handle = all_see(&rt, rt.alloc(), handle, &rows);
+    lists(&rt, rt.alloc(), &mut handle, &[(7, 4), (9, 4)]);
+    let mut handle = all_see(&rt, rt.alloc(), handle, &[(7, Add(1), Made)]);
+    lists(&rt, rt.alloc(), &mut handle, &[(7, 8), (9, 4)]);
+    let same = Shape::new(4, 4, 4, 1);
+    renewed(&rt, rt.alloc(), &mut handle, same, Ok(()));
+    let handle = all_see(&rt, rt.alloc(), handle, &[(7, Add(1), Made)]);
+    leaves(&rt, rt.alloc(), handle, &[(7, 12), (9, 4)]);
 }
 
-/// Sees that nothing is settled or listed, since a handle is missing.
-fn asks_in_vain<R: Abort>(rt: &R, alloc: Global, handles: &mut Vec<Handle>)
-    requires { AreOfOneMap handles.old.items }
-    ensures { AreOfOneMap handles.new.items }
-{
-    let size = Handle::settle(alloc, handles);
-    let listed = Handle::entries(alloc, handles);
-    assert!(rt; matches!(&size, Err(SettleFault::NotAll)));
-    assert!(rt; matches!(&listed, Err(SettleFault::NotAll)));
+/// Sees that nothing is settled or listed, since a seat is missing.
+fn asks_in_vain<R: Abort>(rt: &R, alloc: Global, handle: &mut Handle) {
+    assert!(rt; handle.settle(alloc) == Err(SettleFault::NotAll));
+    assert!(rt; matches!(&handle.entries(alloc), Err(SettleFault::NotAll)));
 }
 
-/// Sees that the map doesn't end, and gives back its handles.
-fn closes_in_vain<R: Wait + Abort>(rt: &R, handles: Vec<Handle>) -> Vec<Handle>
-    requires { AreOfOneMap handles.items }
-    ensures { AreOfOneMap result.items }
-{
-    let Err(back) = Handle::close(rt, handles) else {
-        panic!(rt; "a handle is missing")
-    };
-    back
+/// Sees that the map doesn't end, and gives its handle back.
+fn closes_in_vain<R: Wait + Abort>(rt: &R, handle: Handle) -> Handle {
+    match handle.close(rt) {
+        Ok(_) => panic!(rt; "a seat is missing"),
+        Err(back) => back,
+    }
 }
 
-/// A handle is missing: nothing is made anew either, the others come back, and the map works on.
+/// A seat is missing: nothing is made anew either, the handle comes back, and the map works on.
 #[test]
 fn without_a_handle(rt: HostRuntime) {
-    let mut handles = opened(&rt, rt.alloc(), Shape::new(4, 4, 3, 1));
-    drop(handles.pop());
-    asks_in_vain(&rt, rt.alloc(), &mut handles);
-    let missing = Err(RenewFault::NotAll);
-    renewed(
-        &rt,
-        rt.alloc(),
-        &mut handles,
-        Shape::new(2, 1, 3, 1),
-        missing,
-    );
-    all_see(&rt, &mut handles, &[(7, Put(1), Made)]);
-    let mut back = closes_in_vain(&rt, handles);
-    assert!(&rt; back.len() == 2);
-    all_see(&rt, &mut back, &[(7, Get, Was(1))]);
+    let mut handle = opened(&rt, rt.alloc(), Shape::new(4, 4, 3, 1));
+    drop(split_off(&rt, &mut handle));
+    asks_in_vain(&rt, rt.alloc(), &mut handle);
+    let (small, missing) = (Shape::new(2, 1, 3, 1), Err(RenewFault::NotAll));
+    renewed(&rt, rt.alloc(), &mut handle, small, missing);
+    let handle = all_see(&rt, rt.alloc(), handle, &[(7, Put(1), Made)]);
+    let back = closes_in_vain(&rt, handle);
+    assert!(&rt; back.seats() == 2);
+    all_see(&rt, rt.alloc(), back, &[(7, Get, Was(1))]);
 }
 
 /// Another thread, to which the handle is moved, asks for the key.
@@ -176,11 +163,9 @@ fn rounds<R: Wait + Abort>(rt: &R, handle: &mut Handle, thread: u64)
     }
 }
 
-/// Each handle makes its rounds in a thread of its own.
-fn all_call<R: Threads + Sync + Wait + Abort>(rt: &R, handles: &mut Vec<Handle>)
-    requires { AreOfOneMap handles.old.items }
-    ensures { AreOfOneMap handles.new.items }
-{
+/// Each seat of the handle makes its rounds in a thread of its own.
+fn all_call<R: Threads + Sync + Wait + Abort>(rt: &R, alloc: Global, handle: Handle) -> Handle {
+    let mut handles = parted(rt, alloc, handle);
     thread::for_each_mut(
         rt,
         handles.as_mut_slice(),
@@ -189,14 +174,15 @@ fn all_call<R: Threads + Sync + Wait + Abort>(rt: &R, handles: &mut Vec<Handle>)
             ensures { handle.exit.now.map ≡ handle.entry.now.map }
         { rounds(rt, handle, thread as u64) },
     );
+    joined(rt, handles)
 }
 
 /// Four threads call while the map grows: none of their adds and updates is lost, the greatest and
 /// the least of all numbers are left, and one thread wins each key that all insert at.
 #[test]
 fn threads_call(rt: HostRuntime) {
-    let mut handles = opened(&rt, rt.alloc(), Shape::new(2, 8, 4, 2));
-    all_call(&rt, &mut handles);
+    let handle = opened(&rt, rt.alloc(), Shape::new(2, 8, 4, 2));
+    let handle = all_call(&rt, rt.alloc(), handle);
     let rows = [
         (ADDED, Get, Was(8000)),
         (UPDATED, Get, Was(8000)),
@@ -206,6 +192,6 @@ fn threads_call(rt: HostRuntime) {
         (PASSING + 1, Remove, Made),
         (PASSING + 2, Remove, Made),
     ];
-    all_see(&rt, &mut handles, &rows);
-    assert!(&rt; ended(&rt, handles).size() == SHARED + 4);
+    let handle = all_see(&rt, rt.alloc(), handle, &rows);
+    assert!(&rt; ended(&rt, handle).size() == SHARED + 4);
 }

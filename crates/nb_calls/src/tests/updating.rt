@@ -2,12 +2,12 @@
 ghost use Rattle.std.specs.Prelude.{◌≡◌, List, length};
 ghost use Rattle.nb_core.specs.declared.calls.Call.{Call};
 ghost use Rattle.nb_core.specs.declared.calls.Reply.{Reply};
-ghost use Rattle.nb_map.specs.Handles.{IsSameMap};
+ghost use Rattle.nb_map.specs.Handles.{KeepsRest};
 ghost use Rattle.nb_map.specs.Logs.{HasLogged};
 
 use super::rows::Answer::{Refused, Was};
 use super::rows::Call::Get;
-use super::rows::{all_leave, alone, found, key, number, one_leaves, one_more, sees, two};
+use super::rows::{alone, found, key, leaves, number, one_more, put_together, sees, two};
 use nb_core::{Key, Num};
 use nb_map::{Handle, PutFault};
 use std::alloc::Global;
@@ -55,24 +55,10 @@ fn update_is_contended(rt: HostRuntime) {
 
 /// Adds to the numbers of two keys.
 fn add_to_both<R: Wait>(rt: &R, handle: &mut Handle, one: Key, other: Key, number: Num)
-    ensures { IsSameMap handle.old handle.new }
+    ensures { KeepsRest handle.old handle.new }
 {
     let _ = handle.add(rt, one, number);
     let _ = handle.add(rt, other, number);
-}
-
-/// Ends the map of these two handles. These keys are left, each with its number.
-fn two_leave<R: Wait + Abort>(rt: &R, alloc: Global, a: Handle, b: Handle, pairs: &[(u64, u64)])
-    requires { a.map ≡ b.map }
-{
-    let mut handles = Vec::new(alloc);
-    let Ok(()) = handles.push(a) else {
-        panic!(rt; "memory")
-    };
-    let Ok(()) = handles.push(b) else {
-        panic!(rt; "memory")
-    };
-    all_leave(rt, alloc, handles, pairs);
 }
 
 /// Handles that a function has worked with meet, and end their map.
@@ -83,14 +69,15 @@ fn functions_work_with_handles(rt: HostRuntime) {
     add_to_both(&rt, &mut a, key(&rt, 1), shared, number(&rt, 10));
     add_to_both(&rt, &mut b, shared, key(&rt, 3), number(&rt, 20));
     a.meet(&mut b);
-    two_leave(&rt, rt.alloc(), a, b, &[(1, 10), (2, 30), (3, 20)]);
+    let left = [(1, 10), (2, 30), (3, 20)];
+    leaves(&rt, rt.alloc(), put_together(&rt, a, b), &left);
 }
 
 /// Reads the key so often, and calls nothing else.
 fn read_often(handle: &mut Handle, at: Key, times: u64)
     ensures made { (made : List (Call × Reply)) × (length made ≡ times)
         × HasLogged handle.old.seat handle.new.seat made }
-    ensures same { IsSameMap handle.old handle.new }
+    ensures rest { KeepsRest handle.old handle.new }
 {
     handle.known();
     for _round in 0..times {
@@ -103,5 +90,5 @@ fn read_often(handle: &mut Handle, at: Key, times: u64)
 fn reads_that_a_contract_counts(rt: HostRuntime) {
     let mut handle = alone(&rt, rt.alloc(), 1);
     read_often(&mut handle, key(&rt, 1), 3);
-    one_leaves(&rt, rt.alloc(), handle, &[]);
+    leaves(&rt, rt.alloc(), handle, &[]);
 }

@@ -208,6 +208,21 @@ def grows():
     assert refused(seat.put, 16, 0) == Code.E_FULL
 
 
+def fullness():
+    """How full the top table is. A removed key's slot stays taken, until the map is renewed."""
+    seat = Seat.open([2, 5], mixed=False)
+    assert seat.occupancy() == (False, 4, 0)
+    seat.update((key, key) for key in range(10))
+    assert seat.occupancy() == (True, 32, 10)
+    for key in range(10, 21):
+        assert seat.put(key, key) is None and seat.remove(key) == key
+    assert seat.occupancy() == (True, 32, 21) and not seat.occupancy().should_renew()
+    seat[21] = 1
+    assert seat.occupancy() == (True, 32, 22) and seat.occupancy().should_renew()
+    seat.renew([5])
+    assert seat.occupancy() == (True, 32, 11) and not seat.occupancy().should_renew()
+
+
 def joins():
     mine = Seat.open([4], seats=2)
     yours, other = mine.split(), Seat.open([4])
@@ -286,19 +301,121 @@ def walks():
             for key in range(3):
                 opened.put(key, key + 5)
             older = opened.walk()
-            next(older)
+            first = next(older)
             assert sorted(opened.items()) == [(0, 5), (1, 6), (2, 7)]
             assert sorted(opened) == sorted(opened.keys()) == [0, 1, 2] and sorted(opened.values()) == [5, 6, 7]
-            assert "a newer walk of th" in told(next, older)
-            nested = opened.walk()
-            next(nested)
-            assert list(opened) and told(next, nested)
+            assert sorted([first, *older]) == [(0, 5), (1, 6), (2, 7)]
+            assert list(older) == [] == list(older)
+    nested()
     seat = Seat.for_keys(10)
     seat.update({1: 2, 3: 4})
     walk = seat.walk()
     next(walk)
     seat.free()
     assert told(next, walk) == "the seat is empty"
+
+
+def nested():
+    """Walks within walks of one map: each is at a place of its own, also where the map grows in between."""
+    for mixed in (True, False):
+        both: list[Seat | Map] = [Seat.open([4, 8], mixed=mixed), Map([4, 8], seats=1, mixed=mixed)]
+        for opened in both:
+            opened.update((key, key) for key in range(8))
+            trips = [(a, b, c) for a in opened for b in opened for c in opened.values()]
+            assert len(trips) == len(set(trips)) == 8**3
+            first = opened.walk()
+            shown = [next(first) for _ in range(3)]
+            second = opened.walk()
+            others = [next(second) for _ in range(5)]
+            assert others[:3] == shown
+            opened.update((key, key) for key in range(100, 150))
+            assert opened.generation() == 1
+            for key in list(opened):
+                if key >= 100:
+                    del opened[key]
+            assert sorted(pair for pair in [*others, *second] if pair[0] < 100) == [(key, key) for key in range(8)]
+            assert sorted([*shown, *first]) == [(key, key) for key in range(8)]
+            assert next(second, None) is next(first, None) is None
+            assert opened.close().entries() == [(key, key) for key in range(8)]
+
+
+def lists():
+    """The entries of a seat that has all seats, while its map goes on."""
+    for mixed in (True, False):
+        mine = Seat.for_keys(1000, seats=3, mixed=mixed)
+        assert mine.entries() == []
+        yours = mine.split()
+        mine.update((key, key + 1) for key in range(300))
+        yours.update((key, key + 1) for key in range(300, 1000))
+        for key in range(1, 1000, 2):
+            assert yours.pop(key) == key + 1
+        assert refused(mine.entries) == refused(yours.entries) == Code.E_NOT_ALL_SEATS
+        mine.join(yours)
+        assert told(yours.entries) == "the seat is empty"
+        assert sorted(mine.entries()) == [(key, key + 1) for key in range(0, 1000, 2)]
+        assert mine.settle() == 500 and mine.pop(0) == 1 and mine.put(KEY_MAX, VALUE_MAX) is None
+        assert sorted(mine.entries())[-1] == (KEY_MAX, VALUE_MAX) and len(mine.entries()) == 500
+        # more keys than were guessed
+        setattr(mine, "size_estimate", lambda: 3)
+        assert len(mine.entries()) == 500
+    with Map.for_keys(10, seats=2) as counts:
+        counts[1] = 2
+        with counts.seat() as seat:
+            assert refused(seat.entries) == Code.E_NOT_ALL_SEATS
+            counts.give_back()
+            with counts.seat() as other:
+                seat.join(other)
+            assert seat.entries() == [(1, 2)]
+
+
+def renews():
+    """A map is made anew by a seat that has all seats: of the same shape, a greater one, with more seats; or it is refused."""
+    for mixed in (True, False):
+        seat = Seat.open([2, 5], seats=2, mixed=mixed)
+        key = 0
+        while refused(seat.put, key, key + 1) is None:
+            key += 1
+        kept = [(one, one + 1) for one in range(key - 12, key)]
+        for early in range(key - 12):
+            del seat[early]
+        assert refused(seat.put, 1000, 0) == Code.E_FULL and seat.occupancy().should_renew()
+        walk = seat.walk()
+        shown = [next(walk) for _ in range(5)]
+        assert refused(seat.renew, [2, 3]) == Code.E_FULL and refused(seat.renew, [5, 4]) == Code.E_FALLING
+        assert refused(seat.renew, [5], 257) == Code.E_SEATS and told(seat.renew, [-1]) == "-1 isn't from 0 to 2^32 - 1"
+        other = seat.split()
+        assert refused(seat.renew, [2, 5]) == refused(other.renew, [2, 5]) == Code.E_NOT_ALL_SEATS
+        seat.join(other)
+        assert told(other.renew, [2, 5]) == "the seat is empty"
+        # refused, it is of the old map still, and its walk goes on
+        assert sorted([*shown, *walk]) == sorted(seat.entries()) == kept
+        assert seat.generation() == 1 and refused(seat.put, 1000, 0) == Code.E_FULL and seat.count == 2
+        walk = seat.walk()
+        next(walk)
+        seat.renew([2, 5])
+        assert told(next, walk) == "the seat has renewed its map" and told(next, walk, None) is None
+        assert seat.put(1000, 0) is None and seat.remove(1000) == 0 and seat.count == 2
+        assert sorted(seat.items()) == sorted(seat.entries()) == kept
+        seat.renew(exponents_for_many_keys(5000), seats=3, stripes=2, reprobes=10, chunk=4)
+        others = [seat.split(), seat.split()]
+        assert refused(seat.split) == Code.E_NO_SEAT and seat.count == 1
+        run_all([threading.Thread(target=work, args=(one, number)) for number, one in enumerate(others)])
+        assert all(one[key - 1] >= key for one in others)
+        for part in others:
+            seat.join(part)
+        assert seat.settle() == len(seat.close()) == 1000
+    # the one seat of a map without seats in sight
+    counts = Map.for_keys(10, seats=1)
+    counts.update((key, key) for key in range(10))
+    counts.give_back()
+    with counts.seat() as seat:
+        seat.renew(exponents_for_keys(100), seats=3)
+    assert counts.seats == 3 and repr(counts) == "<samvolip.Map, 0 of 3 seats out, mixed>"
+    holders = [Holder(counts) for _ in range(3)]
+    assert [holder.came for holder in holders] == [None] * 3 and refused(counts.get, 1) == Code.E_NO_SEAT
+    for holder in holders:
+        holder.end()
+    assert counts.close().entries() == [(1, 4) if key == 1 else (key, key) for key in [0, *range(1, 10)]]
 
 
 def like_a_dict():
@@ -548,7 +665,9 @@ def ends():
 
 
 def interrupted():
-    """A signal comes in the middle of calls, and its handler calls the same map and the same seat: each has its own answer."""
+    """A signal comes in the middle of calls, and its handler calls the same map and the same seat: each has its own answer, and each
+    walk shows all keys.
+    """
     for one in (Map.for_keys(10), Seat.for_keys(10)):
         came = []
         signal.signal(signal.SIGALRM, lambda *_: came.append(one.add(2, 1) or 0))
@@ -558,6 +677,22 @@ def interrupted():
         signal.setitimer(signal.ITIMER_REAL, 0)
         signal.signal(signal.SIGALRM, signal.SIG_DFL)
         assert sorted(came) == list(range(len(came))) and one.get(2, 0) == len(came) > 0  # handlers may interrupt each other
+    for one in (Map.for_keys(1000), Seat.for_keys(1000)):
+        one.update((key, 1) for key in range(1000))
+        walked: list[bool] = []
+
+        def walks_too(*_):
+            walked.append(sorted(one) == list(range(1000)))
+            signal.setitimer(signal.ITIMER_REAL, 0.001)
+
+        signal.signal(signal.SIGALRM, walks_too)
+        signal.setitimer(signal.ITIMER_REAL, 0.001)
+        while len(walked) < 50:
+            assert sorted(one) == list(range(1000))
+        signal.signal(signal.SIGALRM, signal.SIG_IGN)
+        signal.setitimer(signal.ITIMER_REAL, 0)
+        signal.signal(signal.SIGALRM, signal.SIG_DFL)
+        assert all(walked)
 
 
 def page():
@@ -584,9 +719,12 @@ shapes()
 churns()
 broken_shapes()
 grows()
+fullness()
 joins()
 many_seats()
 walks()
+lists()
+renews()
 like_a_dict()
 contended()
 mixing()

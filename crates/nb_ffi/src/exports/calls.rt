@@ -3,20 +3,21 @@ ghost use Rattle.std.specs.Prelude.{Ok};
 ghost use Rattle.nb_ffi.specs.Codes.{checked_call, checked_key, write_of};
 ghost use Rattle.nb_ffi.specs.Handles.{IsOpen, StaysOpen};
 ghost use Rattle.nb_ffi.specs.Promises.{HasEstimated, HasSeenTop};
-ghost use Rattle.nb_ffi.specs.Telling.{AreOfOneMap, HasMetHandle, IsGet, IsWrite};
+ghost use Rattle.nb_ffi.specs.Telling.{AreOfOneMap, HasMetHandle, IsGet, IsSample, IsWrite};
 
 use crate::codes::{
     ABSENT, OK, PRESENT, WriteAsked, WriteReply, asked, fault_code, key_of, reply_in_c,
 };
+use crate::occupancy::{MapOccupancy, occupancy_in_c};
 use crate::seat_handle::SeatHandle;
 use nb_core::Num;
 
 /// `Map::get`.
 #[unsafe(no_mangle)]
 pub extern "C" fn samvolip_get(seat: &mut SeatHandle, key: u64, number: &mut u64) -> i32
-    requires open { IsOpen seat.old.session }
+    requires open { IsOpen seat.old.handle }
     ensures { IsGet (checked_key key) result number.old number.new
-        seat.old.session seat.new.session }
+        seat.old.handle seat.new.handle }
 {
     let key = match key_of(key) {
         Ok(key) => key,
@@ -31,9 +32,9 @@ pub extern "C" fn samvolip_get(seat: &mut SeatHandle, key: u64, number: &mut u64
 
 /// What a write answers, and its code.
 fn written(seat: &mut SeatHandle, asked: WriteAsked, tries: u32, reply: &mut WriteReply) -> i32
-    requires open { IsOpen seat.old.session }
+    requires open { IsOpen seat.old.handle }
     ensures { IsWrite (Ok (write_of asked)) tries result reply.old reply.new
-        seat.old.session seat.new.session }
+        seat.old.handle seat.new.handle }
 {
     let WriteAsked { key, want, change } = asked;
     match seat.lend().put_if_match(key, want, change, tries) {
@@ -57,9 +58,9 @@ pub extern "C" fn samvolip_put_if_match(
     tries: u32,
     reply: &mut WriteReply,
 ) -> i32
-    requires open { IsOpen seat.old.session }
+    requires open { IsOpen seat.old.handle }
     ensures { IsWrite (checked_call key want old change number) tries result reply.old reply.new
-        seat.old.session seat.new.session }
+        seat.old.handle seat.new.handle }
 {
     match asked(key, want, old, change, number) {
         Ok(asked) => written(seat, asked, tries, reply),
@@ -70,8 +71,8 @@ pub extern "C" fn samvolip_put_if_match(
 /// `Map::size_estimate`.
 #[unsafe(no_mangle)]
 pub extern "C" fn samvolip_size_estimate(seat: &mut SeatHandle) -> u64
-    requires open { IsOpen seat.old.session }
-    ensures { StaysOpen seat.old.session seat.new.session HasEstimated }
+    requires open { IsOpen seat.old.handle }
+    ensures { StaysOpen seat.old.handle seat.new.handle HasEstimated }
 {
     seat.lend().size_estimate()
 }
@@ -79,8 +80,8 @@ pub extern "C" fn samvolip_size_estimate(seat: &mut SeatHandle) -> u64
 /// `Map::generation`.
 #[unsafe(no_mangle)]
 pub extern "C" fn samvolip_generation(seat: &mut SeatHandle) -> u32
-    requires open { IsOpen seat.old.session }
-    ensures { StaysOpen seat.old.session seat.new.session (HasSeenTop result) }
+    requires open { IsOpen seat.old.handle }
+    ensures { StaysOpen seat.old.handle seat.new.handle (HasSeenTop result) }
 {
     seat.lend().generation()
 }
@@ -88,11 +89,20 @@ pub extern "C" fn samvolip_generation(seat: &mut SeatHandle) -> u32
 /// `Map::meet`.
 #[unsafe(no_mangle)]
 pub extern "C" fn samvolip_meet(seat: &mut SeatHandle, other: &mut SeatHandle)
-    requires open { IsOpen seat.old.session }
-    requires other_open { IsOpen other.old.session }
-    requires one { AreOfOneMap seat.old.session other.old.session }
-    ensures here { StaysOpen seat.old.session seat.new.session (HasMetHandle other.old.session) }
-    ensures there { StaysOpen other.old.session other.new.session (HasMetHandle seat.old.session) }
+    requires open { IsOpen seat.old.handle }
+    requires other_open { IsOpen other.old.handle }
+    requires one { AreOfOneMap seat.old.handle other.old.handle }
+    ensures here { StaysOpen seat.old.handle seat.new.handle (HasMetHandle other.old.handle) }
+    ensures there { StaysOpen other.old.handle other.new.handle (HasMetHandle seat.old.handle) }
 {
     seat.lend().meet(other.lend());
+}
+
+/// `Map::occupancy`.
+#[unsafe(no_mangle)]
+pub extern "C" fn samvolip_occupancy(seat: &mut SeatHandle, found: &mut MapOccupancy)
+    requires open { IsOpen seat.old.handle }
+    ensures { IsSample found.new seat.old.handle seat.new.handle }
+{
+    *found = occupancy_in_c(seat.lend().occupancy());
 }

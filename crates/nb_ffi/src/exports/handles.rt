@@ -4,12 +4,13 @@ ghost use Rattle.nb_ffi.specs.Handles.{IsOpen};
 ghost use Rattle.nb_ffi.specs.Headers.{plan_asked};
 ghost use Rattle.nb_ffi.specs.Telling.{AreOfOneMap, IsClose, IsJoin, IsOpening, IsSplit};
 
-use crate::codes::{E_LOST, E_NO_SEAT, E_NOT_ALL_SEATS, E_OUT_OF_MEMORY, E_VERSION, OK};
+use crate::codes::{E_LOST, E_NO_SEAT, E_NOT_ALL_SEATS, E_OUT_OF_MEMORY, E_SEATS, E_VERSION, OK};
 use crate::ended_handle::EndedHandle;
 use crate::header::Header;
-use crate::life::{CloseFault, SplitFault, closed, opened};
+use crate::life::{CloseFault, can_join, closed, opened, split};
 use crate::map_shape::MapShape;
 use crate::seat_handle::SeatHandle;
+use nb_map::SplitFault;
 use std::alloc::Global;
 
 /// `Map::new`, as one handle with all seats. Another header than the library's is refused before
@@ -21,8 +22,8 @@ pub extern "C" fn samvolip_open_with(
     shape: &MapShape,
     seat: &mut SeatHandle,
 ) -> i32
-    requires empty { seat.old.session ≡ None }
-    ensures { IsOpening (plan_asked header.now shape.now) result seat.old.session seat.new.session }
+    requires empty { seat.old.handle ≡ None }
+    ensures { IsOpening (plan_asked header.now shape.now) result seat.old.handle seat.new.handle }
 {
     if !header.is_ours() {
         return E_VERSION;
@@ -32,8 +33,8 @@ pub extern "C" fn samvolip_open_with(
         Err(code) => return code,
     };
     match opened(alloc, shape) {
-        Ok(session) => {
-            seat.fill(session);
+        Ok(handle) => {
+            seat.fill(handle);
             OK
         }
         Err(_) => E_OUT_OF_MEMORY,
@@ -47,13 +48,13 @@ pub extern "C" fn samvolip_split(
     seat: &mut SeatHandle,
     other: &mut SeatHandle,
 ) -> i32
-    requires open { IsOpen seat.old.session }
-    requires empty { other.old.session ≡ None }
-    ensures { IsSplit result seat.old.session seat.new.session other.old.session other.new.session }
+    requires open { IsOpen seat.old.handle }
+    requires empty { other.old.handle ≡ None }
+    ensures { IsSplit result seat.old.handle seat.new.handle other.old.handle other.new.handle }
 {
-    match seat.lend().split(alloc) {
-        Ok(session) => {
-            other.fill(session);
+    match split(seat.lend(), alloc) {
+        Ok(part) => {
+            other.fill(part);
             OK
         }
         Err(SplitFault::OutOfMemory) => E_OUT_OF_MEMORY,
@@ -61,20 +62,21 @@ pub extern "C" fn samvolip_split(
     }
 }
 
-/// All seats of the other handle go into the reserve of the first.
+/// All seats of the other handle go into the reserve of the first. It takes no memory, and is refused
+/// only where they can't be counted.
 #[unsafe(no_mangle)]
 pub extern "C" fn samvolip_join(alloc: Global, seat: &mut SeatHandle, other: &mut SeatHandle) -> i32
-    requires open { IsOpen seat.old.session }
-    requires other_open { IsOpen other.old.session }
-    requires one { AreOfOneMap seat.old.session other.old.session }
-    ensures { IsJoin result seat.old.session seat.new.session other.old.session other.new.session }
+    requires open { IsOpen seat.old.handle }
+    requires other_open { IsOpen other.old.handle }
+    requires one { AreOfOneMap seat.old.handle other.old.handle }
+    ensures { IsJoin result seat.old.handle seat.new.handle other.old.handle other.new.handle }
 {
-    match seat.lend().join(other.take(alloc)) {
+    if !can_join(seat.lend(), other.lend()) {
+        return E_SEATS;
+    }
+    match seat.lend().join(Box::into_inner(other.take(alloc))) {
         Ok(()) => OK,
-        Err(back) => {
-            other.fill(back);
-            E_OUT_OF_MEMORY
-        }
+        Err(_) => unreachable!(),
     }
 }
 
@@ -85,9 +87,9 @@ pub extern "C" fn samvolip_close(
     seat: &mut SeatHandle,
     ended: &mut EndedHandle,
 ) -> i32
-    requires open { IsOpen seat.old.session }
+    requires open { IsOpen seat.old.handle }
     requires empty { ended.old.left ≡ None }
-    ensures { IsClose result seat.old.session seat.new.session ended.old.left ended.new.left }
+    ensures { IsClose result seat.old.handle seat.new.handle ended.old.left ended.new.left }
 {
     match closed(alloc, seat.take(alloc)) {
         Ok(left) => {
@@ -109,8 +111,8 @@ pub extern "C" fn samvolip_close(
 /// Frees what a handle stands for. The map goes with its last handle.
 #[unsafe(no_mangle)]
 pub extern "C" fn samvolip_free_open(alloc: Global, seat: &mut SeatHandle)
-    requires open { IsOpen seat.old.session }
-    ensures { seat.new.session ≡ None }
+    requires open { IsOpen seat.old.handle }
+    ensures { seat.new.handle ≡ None }
 {
     drop(seat.take(alloc));
 }

@@ -19,9 +19,9 @@ pub extern "C" fn samvolip_try_put(
     tries: u32,
     before: &mut u64,
 ) -> i32
-    requires open { IsOpen seat.old.session }
+    requires open { IsOpen seat.old.handle }
     ensures { IsNamedWrite (checked_with put_of key number) tries result before.old before.new
-        seat.old.session seat.new.session }
+        seat.old.handle seat.new.handle }
 {
     match entry_of(key, number) {
         Ok((key, number)) => told(seat.lend().try_put(key, number, tries), before),
@@ -38,9 +38,9 @@ pub extern "C" fn samvolip_try_put_if_absent(
     tries: u32,
     before: &mut u64,
 ) -> i32
-    requires open { IsOpen seat.old.session }
+    requires open { IsOpen seat.old.handle }
     ensures { IsNamedWrite (checked_with put_if_absent_of key number) tries result before.old before.new
-        seat.old.session seat.new.session }
+        seat.old.handle seat.new.handle }
 {
     match entry_of(key, number) {
         Ok((key, number)) => told(seat.lend().try_put_if_absent(key, number, tries), before),
@@ -57,9 +57,9 @@ pub extern "C" fn samvolip_try_add(
     tries: u32,
     before: &mut u64,
 ) -> i32
-    requires open { IsOpen seat.old.session }
+    requires open { IsOpen seat.old.handle }
     ensures { IsNamedWrite (checked_with add_of key number) tries result before.old before.new
-        seat.old.session seat.new.session }
+        seat.old.handle seat.new.handle }
 {
     match entry_of(key, number) {
         Ok((key, number)) => told(seat.lend().try_add(key, number, tries), before),
@@ -75,9 +75,9 @@ pub extern "C" fn samvolip_try_remove(
     tries: u32,
     before: &mut u64,
 ) -> i32
-    requires open { IsOpen seat.old.session }
+    requires open { IsOpen seat.old.handle }
     ensures { IsNamedWrite (map_ok remove_of (checked_key key)) tries result before.old before.new
-        seat.old.session seat.new.session }
+        seat.old.handle seat.new.handle }
 {
     match key_of(key) {
         Ok(key) => told(seat.lend().try_remove(key, tries), before),

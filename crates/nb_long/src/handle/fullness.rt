@@ -1,6 +1,6 @@
 //! How full a typed map is, by a handle.
 ghost use Rattle.nb_map.specs.Fullness.{HasSampled};
-ghost use Rattle.nb_long.specs.Handles.{IsSameMap};
+ghost use Rattle.nb_long.specs.Handles.{KeepsRest};
 
 use crate::handle::Handle;
 use nb_map::Occupancy;
@@ -9,8 +9,8 @@ impl<V: Drop> Handle<V> {
     /// How full the map's top table is: `LongMap::occupancy`.
     pub fn occupancy(&mut self) -> Occupancy
         ensures looked { HasSampled self.old.map.map self.old.seat self.new.seat result }
-        ensures map { IsSameMap self.old self.new }
+        ensures rest { KeepsRest self.old self.new }
     {
-        self.map.occupancy(&mut self.seat)
+        self.map.occupancy()
     }
 }

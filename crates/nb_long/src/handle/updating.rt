@@ -1,9 +1,8 @@
 //! An update of the value at a key by a function, by a handle.
-ghost use Rattle.nb_long.specs.Handles.{IsSameMap};
+ghost use Rattle.nb_long.specs.Handles.{KeepsRest};
 ghost use Rattle.nb_long.specs.Updating.{HasUpdated};
 
-use crate::handle::Handle;
-use crate::map::parts::Parts;
+use crate::handle::{Handle, by_handle};
 use crate::map::{UpdateFault, Updated};
 use nb_core::Key;
 use std::sync::Wait;
@@ -19,8 +18,9 @@ impl<V: Drop> Handle<V> {
         requires callable { F.IsAlwaysCallable new_of }
         ensures updated { HasUpdated self.old.map F.step new_of key self.old.seat self.new.seat
             result }
-        ensures map { IsSameMap self.old self.new }
+        ensures rest { KeepsRest self.old self.new }
     {
-        Parts::new(&self.map, &self.store).update(rt, &mut self.seat, key, new_of)
+        self.map.known();
+        by_handle(&self.store).update(rt, &mut self.map, key, new_of)
     }
 }

@@ -5,57 +5,41 @@ ghost use Rattle.nb_core.specs.Log.{Numbers};
 ghost use Rattle.nb_core.specs.declared.calls.Call.TheVariants as call;
 ghost use Rattle.nb_core.specs.declared.calls.Change.TheVariants as change;
 ghost use Rattle.nb_core.specs.declared.calls.Want.TheVariants as want;
-ghost use Rattle.nb_map.specs.Maps.{IsMine};
+ghost use Rattle.nb_long.specs.Numbers.{HasCalledOver, IsSeated};
 ghost use Rattle.nb_long.specs.Promises.{HasChangedIf, HasGotValue, HasMadeRound, HasPutValue, HasReplacedIf};
 ghost use Rattle.nb_long.specs.Typed.{number_of};
 
+use crate::map::numbers::Numbers;
 use crate::map::{Compared, LongFault, Stored, Unshown};
 use crate::store::{Found, Receipt, Store};
 use nb_core::{Change, Key, Num, Want};
-use nb_map::{Full, Map, PutFault, Seat};
-use std::marker::Model;
+use nb_map::{Full, PutFault};
 use std::sync::Wait;
 
-/// A map of numbers, and the store that has a value under each of them. A `LongMap` owns both, and
-/// the handles of a typed map share both, so that a new map can take the place of the old one over
-/// the same store. Contracts see them as a typed map.
+/// A map of numbers, and the store that has a value under each of them. A `LongMap` owns both; a
+/// handle of a typed map calls the map by its own handle, and shares the store.
 #[derive(Drop)]
-pub(crate) struct Parts<'a, V> {
-    pub(super) map: &'a Map,
-    pub(super) store: &'a Store<V>,
+pub(crate) struct Parts<'a, M, V> {
+    pub(crate) map: &'a M,
+    pub(crate) store: &'a Store<V>,
 }
 
-impl<'a, V> Model for Parts<'a, V> {
-    ghost use Rattle.nb_long.specs.Typed.{LongMapOf};
-
-    ghost Value = { LongMapOf };
-
-    ghost view = { λ p. record { map = p.map.now; store = p.store.now } };
-}
-
-impl<'a, V> Parts<'a, V> {
-    /// These two.
-    pub(crate) fn new(map: &'a Map, store: &'a Store<V>) -> Parts<'a, V>
-        ensures { result ≡ record { map = map.now; store = store.now } }
-    {
-        Parts { map, store }
-    }
-}
-
-impl<V: Drop> Parts<'_, V> {
+impl<M: Numbers, V: Drop> Parts<'_, M, V> {
     /// `LongMap::put`.
     pub(crate) fn put<R: Wait>(
         &self,
         rt: &R,
-        seat: &mut Seat,
+        caller: &mut M::Caller,
         key: Key,
         value: V,
     ) -> Result<Stored<V>, LongFault<V>>
-        requires own { IsMine self.now.map seat.old }
-        ensures { HasPutValue self.now key want.Any value seat.old seat.new result }
+        requires own { IsSeated (M.handle self.now.map.now caller.old) }
+        ensures { HasCalledOver self.now.store.now
+            (λ m before after. HasPutValue m key want.Any value before after result)
+            (M.handle self.now.map.now caller.old) (M.handle self.now.map.now caller.new) }
     {
         let receipt = self.store.push(rt, value)?;
-        match self.map.put(rt, seat, key, receipt.number()) {
+        match self.map.put(rt, caller, key, receipt.number()) {
             Ok(before) => Ok(Stored {
                 before,
                 done: true,
@@ -70,15 +54,17 @@ impl<V: Drop> Parts<'_, V> {
     pub(crate) fn put_if_absent<R: Wait>(
         &self,
         rt: &R,
-        seat: &mut Seat,
+        caller: &mut M::Caller,
         key: Key,
         value: V,
     ) -> Result<Stored<V>, LongFault<V>>
-        requires own { IsMine self.now.map seat.old }
-        ensures { HasPutValue self.now key want.Absent value seat.old seat.new result }
+        requires own { IsSeated (M.handle self.now.map.now caller.old) }
+        ensures { HasCalledOver self.now.store.now
+            (λ m before after. HasPutValue m key want.Absent value before after result)
+            (M.handle self.now.map.now caller.old) (M.handle self.now.map.now caller.new) }
     {
         let receipt = self.store.push(rt, value)?;
-        match self.map.put_if_absent(rt, seat, key, receipt.number()) {
+        match self.map.put_if_absent(rt, caller, key, receipt.number()) {
             Ok(before) => Ok(Stored {
                 before,
                 done: before.is_none(),
@@ -93,15 +79,17 @@ impl<V: Drop> Parts<'_, V> {
     pub(crate) fn replace<R: Wait>(
         &self,
         rt: &R,
-        seat: &mut Seat,
+        caller: &mut M::Caller,
         key: Key,
         value: V,
     ) -> Result<Stored<V>, LongFault<V>>
-        requires own { IsMine self.now.map seat.old }
-        ensures { HasPutValue self.now key want.Present value seat.old seat.new result }
+        requires own { IsSeated (M.handle self.now.map.now caller.old) }
+        ensures { HasCalledOver self.now.store.now
+            (λ m before after. HasPutValue m key want.Present value before after result)
+            (M.handle self.now.map.now caller.old) (M.handle self.now.map.now caller.new) }
     {
         let receipt = self.store.push(rt, value)?;
-        let before = self.map.replace(rt, seat, key, receipt.number());
+        let before = self.map.replace(rt, caller, key, receipt.number());
         Ok(Stored {
             before,
             done: before.is_some(),
@@ -114,19 +102,21 @@ impl<V: Drop> Parts<'_, V> {
     pub(crate) fn replace_if<R: Wait>(
         &self,
         rt: &R,
-        seat: &mut Seat,
+        caller: &mut M::Caller,
         key: Key,
         old: &V,
         new: V,
     ) -> Result<Stored<V>, LongFault<V>>
     where
         V: PartialEq,
-        requires own { IsMine self.now.map seat.old }
-        ensures { HasReplacedIf V.eq self.now key old.now new seat.old seat.new result }
+        requires own { IsSeated (M.handle self.now.map.now caller.old) }
+        ensures { HasCalledOver self.now.store.now
+            (λ m before after. HasReplacedIf V.eq m key old.now new before after result)
+            (M.handle self.now.map.now caller.old) (M.handle self.now.map.now caller.new) }
     {
         let receipt = self.store.push(rt, new)?;
         let change = Change::Put(receipt.number());
-        match self.change_if(rt, seat, key, old, &change) {
+        match self.change_if(rt, caller, key, old, &change) {
             Ok(Compared { found, done }) => Ok(Stored {
                 before: number_in(&found),
                 done,
@@ -148,13 +138,19 @@ pub(super) fn number_in<V>(found: &Option<Receipt<V>>) -> Option<Num>
     }
 }
 
-impl<'a, V> Parts<'a, V> {
+impl<'a, M: Numbers, V> Parts<'a, M, V> {
     /// `LongMap::get`.
-    pub(crate) fn get(&self, seat: &mut Seat, key: Key) -> Result<Option<Found<'a, V>>, Unshown>
-        requires own { IsMine self.now.map seat.old }
-        ensures { HasGotValue self.now key seat.old seat.new result }
+    pub(crate) fn get(
+        &self,
+        caller: &mut M::Caller,
+        key: Key,
+    ) -> Result<Option<Found<'a, V>>, Unshown>
+        requires own { IsSeated (M.handle self.now.map.now caller.old) }
+        ensures { HasCalledOver self.now.store.now
+            (λ m before after. HasGotValue m key before after result)
+            (M.handle self.now.map.now caller.old) (M.handle self.now.map.now caller.new) }
     {
-        let Some(number) = self.map.get(seat, key) else {
+        let Some(number) = self.map.get(caller, key) else {
             return Ok(None);
         };
         match self.store.show(number) {
@@ -167,36 +163,40 @@ impl<'a, V> Parts<'a, V> {
     pub(crate) fn take_if<R: Wait>(
         &self,
         rt: &R,
-        seat: &mut Seat,
+        caller: &mut M::Caller,
         key: Key,
         value: &V,
     ) -> Result<Compared<V>, Unshown>
     where
         V: PartialEq,
-        requires own { IsMine self.now.map seat.old }
-        ensures { HasChangedIf V.eq self.now key value.now change.Remove seat.old seat.new result }
+        requires own { IsSeated (M.handle self.now.map.now caller.old) }
+        ensures { HasCalledOver self.now.store.now
+            (λ m before after. HasChangedIf V.eq m key value.now change.Remove before after result)
+            (M.handle self.now.map.now caller.old) (M.handle self.now.map.now caller.new) }
     {
-        self.change_if(rt, seat, key, value, &Change::Remove)
+        self.change_if(rt, caller, key, value, &Change::Remove)
     }
 
     /// Changes what a key has, where that is a value equal to this one.
     fn change_if<R: Wait>(
         &self,
         rt: &R,
-        seat: &mut Seat,
+        caller: &mut M::Caller,
         key: Key,
         value: &V,
         change: &Change,
     ) -> Result<Compared<V>, Unshown>
     where
         V: PartialEq,
-        requires own { IsMine self.now.map seat.old }
+        requires own { IsSeated (M.handle self.now.map.now caller.old) }
         requires in_range { (n : ℕ) (m : Numbers)
             → overflows (call.Write key (want.Equal n) change.now) m ≡ false }
-        ensures { HasChangedIf V.eq self.now key value.now change.now seat.old seat.new result }
+        ensures { HasCalledOver self.now.store.now
+            (λ m before after. HasChangedIf V.eq m key value.now change.now before after result)
+            (M.handle self.now.map.now caller.old) (M.handle self.now.map.now caller.new) }
     {
         for _ in rt.forever() {
-            if let Some(compared) = self.change_once(seat, key, value, change)? {
+            if let Some(compared) = self.change_once(caller, key, value, change)? {
                 return Ok(compared);
             }
         }
@@ -206,19 +206,21 @@ impl<'a, V> Parts<'a, V> {
     /// The same, or none where another seat has written the key since it was read.
     fn change_once(
         &self,
-        seat: &mut Seat,
+        caller: &mut M::Caller,
         key: Key,
         value: &V,
         change: &Change,
     ) -> Result<Option<Compared<V>>, Unshown>
     where
         V: PartialEq,
-        requires own { IsMine self.now.map seat.old }
+        requires own { IsSeated (M.handle self.now.map.now caller.old) }
         requires in_range { (n : ℕ) (m : Numbers)
             → overflows (call.Write key (want.Equal n) change.now) m ≡ false }
-        ensures { HasMadeRound V.eq self.now key value.now change.now seat.old seat.new result }
+        ensures { HasCalledOver self.now.store.now
+            (λ m before after. HasMadeRound V.eq m key value.now change.now before after result)
+            (M.handle self.now.map.now caller.old) (M.handle self.now.map.now caller.new) }
     {
-        let Some(found) = self.get(seat, key)? else {
+        let Some(found) = self.get(caller, key)? else {
             return Ok(Some(Compared {
                 found: None,
                 done: false,
@@ -232,7 +234,7 @@ impl<'a, V> Parts<'a, V> {
         }
         match self
             .map
-            .put_if_match(seat, key, Want::Equal(number), *change, 1)
+            .put_if_match(caller, key, Want::Equal(number), *change)
         {
             Ok(reply) if reply.matched => Ok(Some(Compared { found, done: true })),
             Ok(_) => Ok(None),

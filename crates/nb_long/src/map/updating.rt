@@ -3,9 +3,11 @@ ghost use Rattle.std.specs.Borrow.{Bor};
 ghost use Rattle.std.specs.Prelude.{IfErr, IfOk, Some, option_map, ◌≡◌};
 ghost use Rattle.boxcar.specs.Table.{Where};
 ghost use Rattle.nb_map.specs.Maps.{IsMine};
+ghost use Rattle.nb_long.specs.Numbers.{HasCalledOver, IsSeated};
 ghost use Rattle.nb_long.specs.Stores.{GivesBack};
 ghost use Rattle.nb_long.specs.Updating.{HasEndedTry, HasExchanged, HasUpdated, IsStored};
 
+use crate::map::numbers::Numbers;
 use crate::map::parts::{Parts, number_in};
 use crate::map::{LongMap, Unshown};
 use crate::store::{Found, Placed, Receipt, StoreFault};
@@ -95,21 +97,23 @@ impl<V: Drop> LongMap<V> {
     }
 }
 
-impl<V: Drop> Parts<'_, V> {
+impl<M: Numbers, V: Drop> Parts<'_, M, V> {
     /// `LongMap::update`.
     pub(crate) fn update<R: Wait, F: FnMut(Option<&V>) -> Option<V>>(
         &self,
         rt: &R,
-        seat: &mut Seat,
+        caller: &mut M::Caller,
         key: Key,
         mut new_of: F,
     ) -> Result<Updated<V>, UpdateFault<V>>
-        requires own { IsMine self.now.map seat.old }
+        requires own { IsSeated (M.handle self.now.map.now caller.old) }
         requires callable { F.IsAlwaysCallable new_of }
-        ensures { HasUpdated self.now F.step new_of key seat.old seat.new result }
+        ensures { HasCalledOver self.now.store.now
+            (λ m before after. HasUpdated m F.step new_of key before after result)
+            (M.handle self.now.map.now caller.old) (M.handle self.now.map.now caller.new) }
     {
         for _ in rt.forever() {
-            if let Some(updated) = self.update_once(rt, seat, key, &mut new_of)? {
+            if let Some(updated) = self.update_once(rt, caller, key, &mut new_of)? {
                 return Ok(updated);
             }
         }
@@ -120,21 +124,22 @@ impl<V: Drop> Parts<'_, V> {
     fn update_once<R: Wait, F: FnMut(Option<&V>) -> Option<V>>(
         &self,
         rt: &R,
-        seat: &mut Seat,
+        caller: &mut M::Caller,
         key: Key,
         new_of: &mut F,
     ) -> Result<Option<Updated<V>>, UpdateFault<V>>
-        requires own { IsMine self.now.map seat.old }
+        requires own { IsSeated (M.handle self.now.map.now caller.old) }
         requires callable { F.IsAlwaysCallable new_of.old }
-        ensures ended { HasEndedTry self.now F.step key seat.old new_of.old seat.new new_of.new
-            result }
-        ensures own { IsMine self.now.map seat.new }
+        ensures ended { HasCalledOver self.now.store.now
+            (λ m before after. HasEndedTry m F.step key before new_of.old after new_of.new result)
+            (M.handle self.now.map.now caller.old) (M.handle self.now.map.now caller.new) }
+        ensures own { IsSeated (M.handle self.now.map.now caller.new) }
         ensures callable { F.IsAlwaysCallable new_of.new }
     {
-        let found = self.get(seat, key)?;
+        let found = self.get(caller, key)?;
         let value = new_of(value_in(&found));
         let new = self.store_some(rt, value)?;
-        self.exchange_once(seat, key, receipt_in(found), new)
+        self.exchange_once(caller, key, receipt_in(found), new)
     }
 
     /// Stores a value, if there is one.
@@ -143,9 +148,9 @@ impl<V: Drop> Parts<'_, V> {
         rt: &R,
         value: Option<V>,
     ) -> Result<Option<Receipt<V>>, StoreFault<V>>
-        ensures stored { IfOk result (IsStored self.now.store value) }
+        ensures stored { IfOk result (IsStored self.now.store.now value) }
         ensures refused { IfErr result (λ fault. (v : _) × (value ≡ Some v)
-            × GivesBack self.now.store v fault) }
+            × GivesBack self.now.store.now v fault) }
     {
         let Some(value) = value else {
             return Ok(None);
@@ -158,17 +163,19 @@ impl<V: Drop> Parts<'_, V> {
     /// another seat came first.
     fn exchange_once(
         &self,
-        seat: &mut Seat,
+        caller: &mut M::Caller,
         key: Key,
         found: Option<Receipt<V>>,
         new: Option<Receipt<V>>,
     ) -> Result<Option<Updated<V>>, UpdateFault<V>>
-        requires own { IsMine self.now.map seat.old }
-        ensures { HasExchanged self.now key found new seat.old seat.new result }
+        requires own { IsSeated (M.handle self.now.map.now caller.old) }
+        ensures { HasCalledOver self.now.store.now
+            (λ m before after. HasExchanged m key found new before after result)
+            (M.handle self.now.map.now caller.old) (M.handle self.now.map.now caller.new) }
     {
         match self
             .map
-            .compare_exchange(seat, key, number_in(&found), number_in(&new), 1)
+            .compare_exchange(caller, key, number_in(&found), number_in(&new))
         {
             Ok(reply) if reply.matched => Ok(Some(Updated { found, new })),
             Ok(_) => Ok(None),

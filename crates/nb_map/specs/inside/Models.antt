@@ -2,15 +2,15 @@
 -- it.
 use Rattle.std.specs.Arc.{arc_value}
 use Rattle.std.specs.FinMap as numbers
-use Rattle.std.specs.Prelude.{◌≡◌, ◌≤◌, [], vec_capacity, length, List, map}
+use Rattle.std.specs.Prelude.{◌≡◌, ◌≤◌, length, List, map}
 use Rattle.nb_core.specs.Plans.{IsPlan}
 use Rattle.nb_count.specs.Counts.{CountSeatOf}
 use Rattle.nb_table.specs.Chains.{SeenBy}
 use Rattle.nb_table.specs.Left.{IsLeft}
 use Rattle.nb_map.specs.Ending.{EndedOf, map_left}
 use Rattle.nb_map.specs.Handles.{HandleOf, HandleWalkOf}
-use Rattle.nb_map.specs.Maps.{MapOf, SeatOf, IsMine}
-use Rattle.nb_map.specs.Walks.{WalkOf, IsWalkOf}
+use Rattle.nb_map.specs.Maps.{AreMine, IsMine, MapOf, SeatOf}
+use Rattle.nb_map.specs.Walks.{IsWalkOf, WalkOf, walk_from}
 use Rattle.nb_map.specs.declared.map.ended.Ended.TheInside as ended
 use Rattle.nb_map.specs.declared.handle.Handle.TheInside as handle
 use Rattle.nb_map.specs.declared.handle.walks.HandleWalk.TheInside as handle_walk
@@ -35,28 +35,24 @@ seat_of c = record { chain = c.chain; count = c.count }
 
 -- the walk, as contracts see it
 abbrev pub walk_of : walk.Inside → WalkOf
-walk_of c = record { begun = c.begun.value; first = c.first; place = c.place }
+walk_of c = walk_from c.begun.value c.at
 
 -- the handle, as contracts see it
 abbrev pub handle_of : handle.Inside → HandleOf
-handle_of c = record { map = arc_value c.map; seat = c.seat }
+handle_of c = record { map = (arc_value c.shared).map; seat = c.seat; reserve = c.reserve }
 
--- the seat is the map's, and there is room for all seats
+-- its seats are the map's
 pub record IsHandle (c : handle.Inside) : Type 0 where
-  pub own : IsMine (arc_value c.map) c.seat
-  pub empty : c.room.items ≡ []
-  pub room : (arc_value c.map).chain.shape.seats ≤ vec_capacity c.room
+  pub own : IsMine (arc_value c.shared).map c.seat
+  pub reserve : AreMine (arc_value c.shared).map c.reserve
 
 -- the walk by a handle, as contracts see it
 abbrev pub handle_walk_of : handle_walk.Inside → HandleWalkOf
-handle_walk_of c = record { map = arc_value c.map; seat = c.seat; walk = c.walk }
+handle_walk_of c = record { handle = c.handle; walk = c.walk }
 
--- the seat is the map's, and the walk is the seat's; there is room for all seats
-pub record IsHandleWalk (c : handle_walk.Inside) : Type 0 where
-  pub own : IsMine (arc_value c.map) c.seat
-  pub walk : IsWalkOf (arc_value c.map) c.seat c.walk
-  pub empty : c.room.items ≡ []
-  pub room : (arc_value c.map).chain.shape.seats ≤ vec_capacity c.room
+-- the walk is that of the handle's seat
+abbrev pub IsHandleWalk : handle_walk.Inside → Type 0
+IsHandleWalk c = IsWalkOf c.handle.map c.handle.seat c.walk
 
 -- the ended map, as contracts see it
 abbrev pub ended_of : ended.Inside → EndedOf

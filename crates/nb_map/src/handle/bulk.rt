@@ -1,6 +1,6 @@
 //! The calls of a handle over many keys at once.
 ghost use Rattle.nb_map.specs.Bulk.{HasExtended, HasSweptAll, Keeps, KeepsNone};
-ghost use Rattle.nb_map.specs.Handles.{IsSameMap};
+ghost use Rattle.nb_map.specs.Handles.{KeepsRest};
 
 use crate::faults::FullAfter;
 use crate::handle::Handle;
@@ -12,9 +12,9 @@ impl Handle {
     pub fn for_each<F: FnMut(Key, Num)>(&mut self, visit: F)
         requires callable { F.IsAlwaysCallable visit }
         ensures swept { HasSweptAll self.old.map (Keeps F.step) visit self.old.seat self.new.seat }
-        ensures map { IsSameMap self.old self.new }
+        ensures rest { KeepsRest self.old self.new }
     {
-        self.map.for_each(&mut self.seat, visit);
+        self.shared.map.for_each(&mut self.seat, visit);
     }
 
     /// Takes out each entry for which the function says `false`: `Map::retain`, which is atomic key
@@ -22,24 +22,24 @@ impl Handle {
     pub fn retain<R: Wait, F: FnMut(Key, Num) -> bool>(&mut self, rt: &R, keep: F)
         requires callable { F.IsAlwaysCallable keep }
         ensures swept { HasSweptAll self.old.map F.step keep self.old.seat self.new.seat }
-        ensures map { IsSameMap self.old self.new }
+        ensures rest { KeepsRest self.old self.new }
     {
-        self.map.retain(rt, &mut self.seat, keep);
+        self.shared.map.retain(rt, &mut self.seat, keep);
     }
 
     /// Takes out all entries, key by key: `Map::clear`.
     pub fn clear<R: Wait>(&mut self, rt: &R)
         ensures swept { HasSweptAll self.old.map KeepsNone tt self.old.seat self.new.seat }
-        ensures map { IsSameMap self.old self.new }
+        ensures rest { KeepsRest self.old self.new }
     {
-        self.map.clear(rt, &mut self.seat);
+        self.shared.map.clear(rt, &mut self.seat);
     }
 
     /// Puts entries, in their order, and says how many where one is refused: `Map::extend`.
     pub fn extend<R: Wait>(&mut self, rt: &R, entries: &[(Key, Num)]) -> Result<(), FullAfter>
         ensures extended { HasExtended self.old.map entries.now self.old.seat self.new.seat result }
-        ensures map { IsSameMap self.old self.new }
+        ensures rest { KeepsRest self.old self.new }
     {
-        self.map.extend(rt, &mut self.seat, entries)
+        self.shared.map.extend(rt, &mut self.seat, entries)
     }
 }

@@ -2,7 +2,7 @@
 //! the key. No tries count as one.
 ghost use Rattle.std.specs.Prelude.{max};
 ghost use Rattle.nb_map.specs.Compound.{HasGotOrPut, IsUpdateBy, greater_of, less_of};
-ghost use Rattle.nb_map.specs.Handles.{IsSameMap};
+ghost use Rattle.nb_map.specs.Handles.{KeepsRest};
 
 use crate::faults::{Full, PutFault};
 use crate::handle::Handle;
@@ -14,9 +14,11 @@ impl Handle {
     /// `Map::get_or_insert`.
     pub fn get_or_insert<R: Wait>(&mut self, rt: &R, key: Key, number: Num) -> Result<Num, Full>
         ensures wrote { HasGotOrPut self.old.map key number self.old.seat self.new.seat result }
-        ensures map { IsSameMap self.old self.new }
+        ensures rest { KeepsRest self.old self.new }
     {
-        self.map.get_or_insert(rt, &mut self.seat, key, number)
+        self.shared
+            .map
+            .get_or_insert(rt, &mut self.seat, key, number)
     }
 
     /// Raises the number at a key to this one where it is less, and answers what was there:
@@ -24,9 +26,10 @@ impl Handle {
     pub fn fetch_max(&mut self, key: Key, number: Num, tries: u32) -> Result<Option<Num>, PutFault>
         ensures updated { IsUpdateBy self.old.map (greater_of number) key self.old.seat
             self.new.seat (max tries 1) result }
-        ensures map { IsSameMap self.old self.new }
+        ensures rest { KeepsRest self.old self.new }
     {
-        self.map
+        self.shared
+            .map
             .fetch_max(&mut self.seat, key, number, tries.max(1))
     }
 
@@ -35,9 +38,10 @@ impl Handle {
     pub fn fetch_min(&mut self, key: Key, number: Num, tries: u32) -> Result<Option<Num>, PutFault>
         ensures updated { IsUpdateBy self.old.map (less_of number) key self.old.seat self.new.seat
             (max tries 1) result }
-        ensures map { IsSameMap self.old self.new }
+        ensures rest { KeepsRest self.old self.new }
     {
-        self.map
+        self.shared
+            .map
             .fetch_min(&mut self.seat, key, number, tries.max(1))
     }
 }

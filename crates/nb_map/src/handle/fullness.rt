@@ -1,6 +1,6 @@
 //! How full a map is, by a handle.
 ghost use Rattle.nb_map.specs.Fullness.{HasSampled};
-ghost use Rattle.nb_map.specs.Handles.{IsSameMap};
+ghost use Rattle.nb_map.specs.Handles.{KeepsRest};
 
 use crate::handle::Handle;
 use crate::occupancy::Occupancy;
@@ -9,8 +9,8 @@ impl Handle {
     /// How full the top table is: `Map::occupancy`.
     pub fn occupancy(&mut self) -> Occupancy
         ensures looked { HasSampled self.old.map self.old.seat self.new.seat result }
-        ensures map { IsSameMap self.old self.new }
+        ensures rest { KeepsRest self.old self.new }
     {
-        self.map.occupancy(&mut self.seat)
+        self.shared.map.occupancy(&mut self.seat)
     }
 }

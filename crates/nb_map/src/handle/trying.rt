@@ -2,7 +2,7 @@
 //! tries count as one.
 ghost use Rattle.std.specs.Prelude.{Option, max, unwrap_or, ℕ, ◌≡◌};
 ghost use Rattle.nb_core.specs.declared.calls.Call.TheVariants as call;
-ghost use Rattle.nb_map.specs.Handles.{IsSameMap};
+ghost use Rattle.nb_map.specs.Handles.{KeepsRest};
 ghost use Rattle.nb_map.specs.NamedCalls.{add_of, exchange_of, put_if_absent_of, put_of, remove_of};
 ghost use Rattle.nb_map.specs.Promises.{HasGot, HasTriedToWrite, found_or_refused, replied_or_refused};
 ghost use Rattle.nb_map.specs.Updating.{IsUpdate};
@@ -23,9 +23,10 @@ impl Handle {
     ) -> Result<Reply, PutFault>
         ensures wrote { HasTriedToWrite self.old.map (call.Write key want change)
             self.old.seat self.new.seat (max tries 1) (replied_or_refused result) }
-        ensures map { IsSameMap self.old self.new }
+        ensures rest { KeepsRest self.old self.new }
     {
-        self.map
+        self.shared
+            .map
             .put_if_match(&mut self.seat, key, want, change, tries.max(1))
     }
 
@@ -33,9 +34,11 @@ impl Handle {
     pub fn try_put(&mut self, key: Key, number: Num, tries: u32) -> Result<Option<Num>, PutFault>
         ensures wrote { HasTriedToWrite self.old.map (put_of key number) self.old.seat self.new.seat
             (max tries 1) (found_or_refused result) }
-        ensures map { IsSameMap self.old self.new }
+        ensures rest { KeepsRest self.old self.new }
     {
-        self.map.try_put(&mut self.seat, key, number, tries.max(1))
+        self.shared
+            .map
+            .try_put(&mut self.seat, key, number, tries.max(1))
     }
 
     /// `Map::try_put_if_absent`.
@@ -47,9 +50,10 @@ impl Handle {
     ) -> Result<Option<Num>, PutFault>
         ensures wrote { HasTriedToWrite self.old.map (put_if_absent_of key number)
             self.old.seat self.new.seat (max tries 1) (found_or_refused result) }
-        ensures map { IsSameMap self.old self.new }
+        ensures rest { KeepsRest self.old self.new }
     {
-        self.map
+        self.shared
+            .map
             .try_put_if_absent(&mut self.seat, key, number, tries.max(1))
     }
 
@@ -57,18 +61,22 @@ impl Handle {
     pub fn try_add(&mut self, key: Key, number: Num, tries: u32) -> Result<Option<Num>, PutFault>
         ensures wrote { HasTriedToWrite self.old.map (add_of key number) self.old.seat self.new.seat
             (max tries 1) (found_or_refused result) }
-        ensures map { IsSameMap self.old self.new }
+        ensures rest { KeepsRest self.old self.new }
     {
-        self.map.try_add(&mut self.seat, key, number, tries.max(1))
+        self.shared
+            .map
+            .try_add(&mut self.seat, key, number, tries.max(1))
     }
 
     /// `Map::try_remove`.
     pub fn try_remove(&mut self, key: Key, tries: u32) -> Result<Option<Num>, PutFault>
         ensures wrote { HasTriedToWrite self.old.map (remove_of key) self.old.seat self.new.seat
             (max tries 1) (found_or_refused result) }
-        ensures map { IsSameMap self.old self.new }
+        ensures rest { KeepsRest self.old self.new }
     {
-        self.map.try_remove(&mut self.seat, key, tries.max(1))
+        self.shared
+            .map
+            .try_remove(&mut self.seat, key, tries.max(1))
     }
 
     /// `Map::compare_exchange`.
@@ -81,9 +89,10 @@ impl Handle {
     ) -> Result<Reply, PutFault>
         ensures wrote { HasTriedToWrite self.old.map (exchange_of key old new)
             self.old.seat self.new.seat (max tries 1) (replied_or_refused result) }
-        ensures map { IsSameMap self.old self.new }
+        ensures rest { KeepsRest self.old self.new }
     {
-        self.map
+        self.shared
+            .map
             .compare_exchange(&mut self.seat, key, old, new, tries.max(1))
     }
 
@@ -91,9 +100,9 @@ impl Handle {
     pub fn get_or(&mut self, key: Key, number: Num) -> Num
         ensures got { (found : Option ℕ) × (unwrap_or found number ≡ result)
             × HasGot self.old.map key self.old.seat self.new.seat found }
-        ensures map { IsSameMap self.old self.new }
+        ensures rest { KeepsRest self.old self.new }
     {
-        self.map.get_or(&mut self.seat, key, number)
+        self.shared.map.get_or(&mut self.seat, key, number)
     }
 
     /// `Map::update`.
@@ -106,8 +115,10 @@ impl Handle {
         requires callable { F.IsAlwaysCallable new_of }
         ensures updated { IsUpdate self.old.map F.step new_of key self.old.seat self.new.seat
             (max tries 1) result }
-        ensures map { IsSameMap self.old self.new }
+        ensures rest { KeepsRest self.old self.new }
     {
-        self.map.update(&mut self.seat, key, tries.max(1), new_of)
+        self.shared
+            .map
+            .update(&mut self.seat, key, tries.max(1), new_of)
     }
 }

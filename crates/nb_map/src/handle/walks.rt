@@ -1,25 +1,21 @@
 //! Walks by handles.
 ghost use Rattle.std.specs.Prelude.{◌≡◌};
 ghost use Rattle.std.specs.Iterator.{at_most};
-ghost use Rattle.nb_map.specs.Handles.{IsSameMap, handle_on};
-ghost use Rattle.nb_map.specs.Maps.{IsMine};
+ghost use Rattle.nb_map.specs.Handles.{KeepsRest};
+ghost use Rattle.nb_map.specs.Maps.{IsMine, SeatOf};
 ghost use Rattle.nb_map.specs.Promises.{HandleHasWalkedOn, HasBegunWalk, HasWalkedOn, ahead_of};
-ghost use Rattle.nb_map.specs.Walks.{IsWalkOf};
+ghost use Rattle.nb_map.specs.Walks.{IsWalkOf, walk_from};
 
 use crate::handle::Handle;
-use crate::map::{Map, Seat, Walk};
+use crate::map::{Walk, WalkPlace};
 use nb_core::{Key, Num};
-use std::alloc::Global;
 use std::marker::Model;
-use std::sync::Arc;
 
 /// A walk over the map that a handle makes, which is in it meanwhile and comes out by `end`. Other
 /// handles call what they like.
 #[derive(Drop)]
 pub struct HandleWalk {
-    map: Arc<Map, Global>,
-    seat: Seat,
-    room: Vec<Seat>,
+    handle: Handle,
     walk: Walk,
 }
 
@@ -38,30 +34,21 @@ impl Model for HandleWalk {
 impl Handle {
     /// Begins a walk over the map's keys: `Map::walk`.
     pub fn walk(self) -> HandleWalk
-        ensures begun { HasBegunWalk self.map self.seat result.seat result.walk }
-        ensures map { result.map ≡ self.map }
+        ensures begun { HasBegunWalk self.map self.seat result.handle.seat result.walk }
+        ensures rest { KeepsRest self result.handle }
     {
-        let Handle {
-            map,
-            mut seat,
-            room,
-        } = self;
-        let walk = map.walk(&mut seat);
-        HandleWalk {
-            map,
-            seat,
-            room,
-            walk,
-        }
+        let mut handle = self;
+        let walk = handle.begin_walk();
+        HandleWalk { handle, walk }
     }
 
     /// Begins a walk over the map's keys that leaves the handle where it is: `Map::walk`. It is taken
     /// on by `next_key`, and the handle makes what calls it likes meanwhile.
     pub fn begin_walk(&mut self) -> Walk
         ensures begun { HasBegunWalk self.old.map self.old.seat self.new.seat result }
-        ensures map { IsSameMap self.old self.new }
+        ensures rest { KeepsRest self.old self.new }
     {
-        self.map.walk(&mut self.seat)
+        self.shared.map.walk(&mut self.seat)
     }
 
     /// The next key of a walk that this handle has begun by `begin_walk`, with its number, until
@@ -70,20 +57,40 @@ impl Handle {
         requires walk { IsWalkOf self.old.map self.old.seat walk.old }
         ensures walked { HasWalkedOn self.old.map self.old.seat self.new.seat walk.old walk.new
             result }
-        ensures map { IsSameMap self.old self.new }
+        ensures rest { KeepsRest self.old self.new }
     {
-        self.map.next_key(&mut self.seat, walk)
+        self.shared.map.next_key(&mut self.seat, walk)
+    }
+
+    /// Begins a walk that is kept as plain numbers: `Map::walk_from_top`.
+    pub fn walk_from_top(&mut self) -> WalkPlace
+        ensures begun { HasBegunWalk self.old.map self.old.seat self.new.seat
+            (walk_from self.new.seat result) }
+        ensures rest { KeepsRest self.old self.new }
+    {
+        self.shared.map.walk_from_top(&mut self.seat)
+    }
+
+    /// The next key of such a walk, with its number, until `None` ends it: `Map::next_key_from`.
+    pub fn next_key_from(&mut self, at: &mut WalkPlace) -> Option<(Key, Num)>
+        requires walk { (begun : SeatOf) × IsWalkOf self.old.map self.old.seat (walk_from begun at.old) }
+        ensures walked { (begun : SeatOf) → IsWalkOf self.old.map self.old.seat (walk_from begun at.old)
+            → HasWalkedOn self.old.map self.old.seat self.new.seat (walk_from begun at.old)
+            (walk_from begun at.new) result }
+        ensures rest { KeepsRest self.old self.new }
+    {
+        self.shared.map.next_key_from(&mut self.seat, at)
     }
 }
 
 impl HandleWalk {
-    /// What every walk by a handle is: its seat is a seat of its map, and has begun the walk.
-    /// Nothing runs.
+    /// What every walk by a handle is: its handle's seat is a seat of the map, and has begun the
+    /// walk. Nothing runs.
     pub fn known(&self)
-        ensures own { IsMine self.now.map self.now.seat }
-        ensures walk { IsWalkOf self.now.map self.now.seat self.now.walk }
+        ensures own { IsMine self.now.handle.map self.now.handle.seat }
+        ensures walk { IsWalkOf self.now.handle.map self.now.handle.seat self.now.walk }
     {
-        let _ = &self.seat;
+        self.handle.known();
     }
 
     /// The next key of the walk, with its number, until `None` ends it: `Map::next_key`. What a
@@ -91,20 +98,14 @@ impl HandleWalk {
     pub fn next_key(&mut self) -> Option<(Key, Num)>
         ensures { HandleHasWalkedOn self.old result self.new }
     {
-        self.map.next_key(&mut self.seat, &mut self.walk)
+        self.handle.next_key(&mut self.walk)
     }
 
     /// The handle, at the end of the walk or before it.
     pub fn end(self) -> Handle
-        ensures { result ≡ handle_on self.map self.seat }
+        ensures { result ≡ self.handle }
     {
-        let HandleWalk {
-            map,
-            seat,
-            room,
-            ..
-        } = self;
-        Handle { map, seat, room }
+        self.handle
     }
 }
 

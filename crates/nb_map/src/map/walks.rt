@@ -1,7 +1,8 @@
 //! Walks over the keys of a map, by a seat.
-ghost use Rattle.nb_map.specs.Maps.{IsMine};
+ghost use Rattle.std.specs.Prelude.{◌≡◌};
+ghost use Rattle.nb_map.specs.Maps.{IsMine, SeatOf};
 ghost use Rattle.nb_map.specs.Promises.{HasBegunWalk, HasWalkedOn};
-ghost use Rattle.nb_map.specs.Walks.{IsWalkOf};
+ghost use Rattle.nb_map.specs.Walks.{IsWalkOf, walk_from};
 
 use crate::map::{Map, Seat};
 use crate::steps::walk::{Place, next_from};
@@ -16,10 +17,17 @@ use std::snapshot::Snapshot;
 /// it began the walk.
 #[derive(Drop)]
 pub struct Walk {
-    pub(crate) first: u32,
-    pub(crate) place: Place,
+    pub(crate) at: WalkPlace,
     /// Only clauses read it; it takes no memory.
     pub(crate) begun: Snapshot<Seat>,
+}
+
+/// How far a walk has come: its first table, and its place. Where a walk is kept as plain numbers, as
+/// in a struct of C, contracts name the seat with which it began beside them.
+#[derive(Clone, Copy)]
+pub struct WalkPlace {
+    pub first: u32,
+    pub place: Place,
 }
 
 impl Model for Walk {
@@ -39,11 +47,22 @@ impl Map {
         requires own { IsMine self.now seat.old }
         ensures { HasBegunWalk self.now seat.old seat.new result }
     {
-        let first = self.generation(seat);
+        let at = self.walk_from_top(seat);
         Walk {
+            at,
+            begun: Snapshot::of(seat),
+        }
+    }
+
+    /// The same, as the place where the walk begins.
+    pub fn walk_from_top(&self, seat: &mut Seat) -> WalkPlace
+        requires own { IsMine self.now seat.old }
+        ensures { HasBegunWalk self.now seat.old seat.new (walk_from seat.new result) }
+    {
+        let first = self.generation(seat);
+        WalkPlace {
             first,
             place: Place::Slot(first, 0),
-            begun: Snapshot::of(seat),
         }
     }
 
@@ -62,6 +81,18 @@ impl Map {
         requires walk { IsWalkOf self.now seat.old walk.old }
         ensures { HasWalkedOn self.now seat.old seat.new walk.old walk.new result }
     {
-        next_from(&self.chain, &mut seat.chain, walk.first, &mut walk.place)
+        self.next_key_from(seat, &mut walk.at)
+    }
+
+    /// The same of each walk of the seat's that is at this place.
+    pub fn next_key_from(&self, seat: &mut Seat, at: &mut WalkPlace) -> Option<(Key, Num)>
+        requires own { IsMine self.now seat.old }
+        requires walk { (begun : SeatOf) × IsWalkOf self.now seat.old (walk_from begun at.old) }
+        ensures walked { (begun : SeatOf) → IsWalkOf self.now seat.old (walk_from begun at.old)
+            → HasWalkedOn self.now seat.old seat.new (walk_from begun at.old)
+            (walk_from begun at.new) result }
+        ensures own { IsMine self.now seat.new }
+    {
+        next_from(&self.chain, &mut seat.chain, at.first, &mut at.place)
     }
 }

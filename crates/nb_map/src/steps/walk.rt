@@ -18,7 +18,7 @@ use nb_table::{Chain, ChainSeat};
 
 /// A place of a walk.
 #[derive(Clone, Copy)]
-pub(crate) enum Place {
+pub enum Place {
     /// A table, and a slot of it.
     Slot(u32, usize),
     /// The end.

@@ -1,7 +1,7 @@
 //! The calls of a handle over many keys at once.
 ghost use Rattle.std.specs.Prelude.{Bool, Ok, false, true, ◌≡◌, ◌⊎◌};
 ghost use Rattle.nb_set.specs.Bulk.{HasExtended, HasSweptAll, Keeps, KeepsNone};
-ghost use Rattle.nb_set.specs.Handles.{IsSameSet};
+ghost use Rattle.nb_set.specs.Handles.{KeepsRest};
 ghost use Rattle.nb_set.specs.Log as call;
 ghost use Rattle.nb_set.specs.Promises.{HasWritten};
 
@@ -16,7 +16,7 @@ impl Handle {
     pub fn for_each<F: FnMut(Key)>(&mut self, mut visit: F)
         requires callable { F.IsAlwaysCallable visit }
         ensures swept { HasSweptAll self.old.set (Keeps F.step) visit self.old.seat self.new.seat }
-        ensures same { IsSameSet self.old self.new }
+        ensures rest { KeepsRest self.old self.new }
     {
         let mut walk = self.begin_walk();
         while let Some(key) = self.next_key(&mut walk) {
@@ -29,7 +29,7 @@ impl Handle {
     pub fn retain<R: Wait, F: FnMut(Key) -> bool>(&mut self, rt: &R, mut keep: F)
         requires callable { F.IsAlwaysCallable keep }
         ensures swept { HasSweptAll self.old.set F.step keep self.old.seat self.new.seat }
-        ensures same { IsSameSet self.old self.new }
+        ensures rest { KeepsRest self.old self.new }
     {
         let mut walk = self.begin_walk();
         while let Some(key) = self.next_key(&mut walk) {
@@ -43,7 +43,7 @@ impl Handle {
         ensures swept { (F.step keep.old key true keep.new × (self.new.seat ≡ self.old.seat))
             ⊎ ((went : Bool) × F.step keep.old key false keep.new
             × HasWritten self.old.set (call.Remove key) self.old.seat self.new.seat (Ok went)) }
-        ensures same { IsSameSet self.old self.new }
+        ensures rest { KeepsRest self.old self.new }
         ensures callable { F.IsAlwaysCallable keep.new }
     {
         if !keep(key) {
@@ -54,7 +54,7 @@ impl Handle {
     /// Takes out all keys, key by key: `LongSet::clear`.
     pub fn clear<R: Wait>(&mut self, rt: &R)
         ensures swept { HasSweptAll self.old.set KeepsNone tt self.old.seat self.new.seat }
-        ensures same { IsSameSet self.old self.new }
+        ensures rest { KeepsRest self.old self.new }
     {
         self.retain(rt, |_| false);
     }
@@ -62,7 +62,7 @@ impl Handle {
     /// Adds keys, in their order, and says how many where one is refused: `LongSet::extend`.
     pub fn extend<R: Wait>(&mut self, rt: &R, keys: &[Key]) -> Result<(), FullAfter>
         ensures extended { HasExtended self.old.set keys.now self.old.seat self.new.seat result }
-        ensures same { IsSameSet self.old self.new }
+        ensures rest { KeepsRest self.old self.new }
     {
         let mut put = 0;
         let mut rest = keys;

@@ -1,6 +1,6 @@
 //! How full a set is, by a handle.
 ghost use Rattle.nb_set.specs.Fullness.{HasSampled};
-ghost use Rattle.nb_set.specs.Handles.{IsSameSet};
+ghost use Rattle.nb_set.specs.Handles.{KeepsRest};
 
 use crate::handle::Handle;
 use nb_map::Occupancy;
@@ -9,7 +9,7 @@ impl Handle {
     /// How full the set's top table is: `LongSet::occupancy`.
     pub fn occupancy(&mut self) -> Occupancy
         ensures looked { HasSampled self.old.set self.old.seat self.new.seat result }
-        ensures same { IsSameSet self.old self.new }
+        ensures rest { KeepsRest self.old self.new }
     {
         self.map.occupancy()
     }

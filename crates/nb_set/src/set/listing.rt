@@ -1,7 +1,8 @@
 //! All keys of a set at rest, by all its seats.
-ghost use Rattle.std.specs.Prelude.{Err, IfOk, Ok, length, map, ◌≡◌, ◌≢◌, ◌↔◌};
+ghost use Rattle.std.specs.Prelude.{Err, IfOk, Ok, length, map, ◌≡◌, ◌≢◌, ◌↔◌, ◌⊎◌};
 ghost use Rattle.nb_map.specs.declared.faults.SettleFault.TheVariants as fault;
-ghost use Rattle.nb_set.specs.Listing.{HaveListed, HaveOnlyAsked};
+ghost use Rattle.nb_set.specs.Listing.{HaveListed};
+ghost use Rattle.nb_set.specs.Renewing.{HaveOnlyAsked};
 ghost use Rattle.nb_set.specs.Sets.{AreMine, shape_of};
 
 use crate::set::{LongSet, Seat, of_map, put_on_set};
@@ -21,7 +22,8 @@ impl LongSet {
             ↔ (length seats.old.items ≢ (shape_of self.now).seats) }
         ensures listed { IfOk result (λ keys. HaveListed seats.old.items seats.new.items
             keys.items) }
-        ensures asked { HaveOnlyAsked self.now seats.old.items seats.new.items }
+        ensures asked { (seats.new.items ≡ seats.old.items)
+            ⊎ HaveOnlyAsked self.now seats.old.items seats.new.items }
         ensures own { AreMine self.now seats.new.items }
         ensures back { result ≡ Err fault.NotAll → seats.new.items ≡ seats.old.items }
     {

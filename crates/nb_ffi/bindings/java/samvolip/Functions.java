@@ -7,7 +7,7 @@ final class Functions {
     private Functions() {}
 
     /** The version of the samvolip.h that this package tells of, and the sizes of its structs. */
-    static final int VERSION = 0x000801, SHAPE_SIZE = 84, HANDLE_SIZE = 8, REPLY_SIZE = 16, ENTRY_SIZE = 16;
+    static final int VERSION = 0x000900, SHAPE_SIZE = 84, HANDLE_SIZE = 8, REPLY_SIZE = 16, ENTRY_SIZE = 16, SLOTS_SIZE = 12, CURSOR_SIZE = 24;
 
     static final int PRESENT = 1;
 
@@ -22,6 +22,8 @@ final class Functions {
     static final MethodHandle SPLIT = Native.function("samvolip_split", false, I, L, L);
     static final MethodHandle JOIN = Native.function("samvolip_join", false, I, L, L);
     static final MethodHandle SETTLE = Native.function("samvolip_settle", false, I, L, L);
+    static final MethodHandle ENTRIES = Native.function("samvolip_entries", false, I, L, L, L, L);
+    static final MethodHandle RENEW = Native.function("samvolip_renew", false, I, L, L);
     static final MethodHandle CLOSE = Native.function("samvolip_close", false, I, L, L);
     static final MethodHandle FREE = Native.function("samvolip_free_open", false, void.class, L);
     static final MethodHandle GET = Native.function("samvolip_get", true, I, L, L, L);
@@ -32,9 +34,9 @@ final class Functions {
     static final MethodHandle TRY_REMOVE = Native.function("samvolip_try_remove", false, I, L, L, I, L);
     static final MethodHandle SIZE_ESTIMATE = Native.function("samvolip_size_estimate", true, L, L);
     static final MethodHandle GENERATION = Native.function("samvolip_generation", true, I, L);
-    static final MethodHandle OCCUPANCY = Native.function("samvolip_occupancy", true, I, L, L, L);
-    static final MethodHandle WALK = Native.function("samvolip_walk", true, void.class, L);
-    static final MethodHandle NEXT = Native.function("samvolip_next", false, I, L, L, L);
+    static final MethodHandle OCCUPANCY = Native.function("samvolip_occupancy", true, void.class, L, L);
+    static final MethodHandle WALK = Native.function("samvolip_walk", true, void.class, L, L);
+    static final MethodHandle NEXT = Native.function("samvolip_next", false, I, L, L, L, L);
     static final MethodHandle ENDED_SIZE = Native.function("samvolip_ended_size", true, L, L);
     static final MethodHandle ENDED_GET = Native.function("samvolip_ended_get", false, I, L, L, L);
     static final MethodHandle ENDED_ENTRIES = Native.function("samvolip_ended_entries", false, I, L, L, L);

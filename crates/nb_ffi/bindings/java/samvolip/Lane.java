@@ -12,12 +12,12 @@ import java.util.OptionalLong;
 final class Lane {
     private static final int WORDS = Functions.HANDLE_SIZE, SIZE = WORDS + Functions.REPLY_SIZE;
     private static final int[] HEADER = {Functions.VERSION, Functions.SHAPE_SIZE, Functions.HANDLE_SIZE, Functions.HANDLE_SIZE,
-        Functions.REPLY_SIZE, Functions.ENTRY_SIZE};
+        Functions.REPLY_SIZE, Functions.ENTRY_SIZE, Functions.SLOTS_SIZE, Functions.CURSOR_SIZE};
 
     /** Where it is; 0 once it was freed. */
     private long at = Native.allocate(SIZE);
-    /** Whether a walk is under way, for its user. */
-    boolean walking;
+    /** How many walks are under way, for its user. */
+    int walks;
 
     private Lane() {}
 
@@ -25,26 +25,31 @@ final class Lane {
         for (int i = 0; i < numbers.length; i++) Native.setInt(at + 4L * i, numbers[i]);
     }
 
-    /** A new map, with all its seats. */
-    static Lane open(Shape shape) {
+    /** The address of a shape of C, and behind it a header. */
+    private static long plan(Shape shape) {
         int[] exponents = shape.exponents();
         if (exponents.length > 16) throw new Refused(Code.E_TABLES);
+        long plan = Native.allocate(Functions.SHAPE_SIZE + 4L * HEADER.length);
+        setInts(plan, exponents);
+        setInts(plan + 64, exponents.length, shape.seats(), shape.stripes(), shape.reprobes(), shape.chunk());
+        setInts(plan + Functions.SHAPE_SIZE, HEADER);
+        return plan;
+    }
+
+    /** A new map, with all its seats. */
+    static Lane open(Shape shape) {
         Library.load();
-        Lane lane = new Lane();
-        long words = 0;
+        long plan = plan(shape);
+        Lane lane = null;
         try {
-            words = Native.allocate(4L * HEADER.length + Functions.SHAPE_SIZE);
-            long plan = words + 4L * HEADER.length;
-            setInts(words, HEADER);
-            setInts(plan, exponents);
-            setInts(plan + 64, exponents.length, shape.seats(), shape.stripes(), shape.reprobes(), shape.chunk());
-            made((int) Functions.OPEN.invokeExact(words, plan, lane.at));
+            lane = new Lane();
+            made((int) Functions.OPEN.invokeExact(plan + Functions.SHAPE_SIZE, plan, lane.at));
             return lane;
         } catch (Throwable thrown) {
-            lane.release();
+            if (lane != null) lane.release();
             throw wrong(thrown);
         } finally {
-            if (words != 0) Native.free(words);
+            Native.free(plan);
         }
     }
 
@@ -88,6 +93,41 @@ final class Lane {
             return Native.getLong(at + WORDS);
         } catch (Throwable thrown) {
             throw wrong(thrown);
+        }
+    }
+
+    /** With all seats of the map: all its keys and their numbers. */
+    Entry[] entries(Keys keys) {
+        int size = Math.toIntExact(settle());
+        long at = full(), words = Native.allocate(Math.max(1, (long) size * Functions.ENTRY_SIZE));
+        try {
+            made((int) Functions.ENTRIES.invokeExact(at, words, (long) size, at + WORDS));
+            return entriesAt(words, size, keys);
+        } catch (Throwable thrown) {
+            throw wrong(thrown);
+        } finally {
+            Native.free(words);
+        }
+    }
+
+    private static Entry[] entriesAt(long words, int size, Keys keys) {
+        Entry[] entries = new Entry[size];
+        for (int i = 0; i < size; i++) {
+            long entry = words + (long) i * Functions.ENTRY_SIZE;
+            entries[i] = new Entry(keys.outside(Native.getLong(entry)), Native.getLong(entry + 8));
+        }
+        return entries;
+    }
+
+    /** With all seats of the map, and no walk under way: goes on over a new map of this shape that has the same entries. */
+    void renew(Shape shape) {
+        long at = full(), plan = plan(shape);
+        try {
+            made((int) Functions.RENEW.invokeExact(at, plan));
+        } catch (Throwable thrown) {
+            throw wrong(thrown);
+        } finally {
+            Native.free(plan);
         }
     }
 
@@ -197,26 +237,27 @@ final class Lane {
     Occupancy occupancy() {
         long at = full();
         try {
-            boolean isLast = (int) Functions.OCCUPANCY.invokeExact(at, at + WORDS, at + WORDS + 4) == 1;
-            return new Occupancy(isLast, Native.getInt(at + WORDS + 4), Native.getInt(at + WORDS));
+            Functions.OCCUPANCY.invokeExact(at, at + WORDS);
+            return new Occupancy(Native.getInt(at + WORDS + 8) == 1, Native.getInt(at + WORDS + 4), Native.getInt(at + WORDS));
         } catch (Throwable thrown) {
             throw wrong(thrown);
         }
     }
 
-    void walk() {
+    /** Begins a walk whose cursor is at this address. */
+    void walk(long cursor) {
         try {
-            Functions.WALK.invokeExact(full());
+            Functions.WALK.invokeExact(full(), cursor);
         } catch (Throwable thrown) {
             throw wrong(thrown);
         }
     }
 
-    /** Writes the next key of the walk and its number into an array; false at the end. */
-    boolean next(long[] entry) {
+    /** Writes the next key of a walk that this lane has begun, and its number, into an array; false at the end. */
+    boolean next(long cursor, long[] entry) {
         long at = full();
         try {
-            if (made((int) Functions.NEXT.invokeExact(at, at + WORDS, at + WORDS + 8)) != Functions.PRESENT) return false;
+            if (made((int) Functions.NEXT.invokeExact(at, cursor, at + WORDS, at + WORDS + 8)) != Functions.PRESENT) return false;
         } catch (Throwable thrown) {
             throw wrong(thrown);
         }
@@ -265,12 +306,7 @@ final class Lane {
         long words = Native.allocate(Math.max(1, (long) size * Functions.ENTRY_SIZE));
         try {
             made((int) Functions.ENDED_ENTRIES.invokeExact(full(), words, (long) size));
-            Entry[] entries = new Entry[size];
-            for (int i = 0; i < size; i++) {
-                long entry = words + (long) i * Functions.ENTRY_SIZE;
-                entries[i] = new Entry(keys.outside(Native.getLong(entry)), Native.getLong(entry + 8));
-            }
-            return entries;
+            return entriesAt(words, size, keys);
         } catch (Throwable thrown) {
             throw wrong(thrown);
         } finally {

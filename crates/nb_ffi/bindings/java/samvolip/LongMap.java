@@ -30,10 +30,12 @@ public abstract class LongMap {
 
     abstract boolean matched(long key, int want, long old, int change, long number);
 
-    abstract void beginWalk();
+    /** Begins a walk whose cursor is at this address. */
+    abstract void beginWalk(long cursor);
 
-    abstract boolean next(long[] entry);
+    abstract boolean next(long cursor, long[] entry);
 
+    /** Ends a walk that was begun. */
     abstract void endWalk();
 
     /** What a walk does with each key and its number. */
@@ -148,16 +150,21 @@ public abstract class LongMap {
 
     /**
      * Walks over the map's keys, while all threads may write it, this one too. No key is shown twice, and each key that the map has all the
-     * while is shown. A seat has one walk at a time: a forEach within a forEach of the same seat throws an IllegalStateException.
+     * while is shown. A forEach within a forEach is a walk of its own.
      */
     public final void forEach(EntryConsumer shown) {
         Objects.requireNonNull(shown);
-        beginWalk();
+        long[] entry = new long[2];
+        long cursor = Native.allocate(Functions.CURSOR_SIZE);
         try {
-            long[] entry = new long[2];
-            while (next(entry)) shown.accept(entry[0], entry[1]);
+            beginWalk(cursor);
+            try {
+                while (next(cursor, entry)) shown.accept(entry[0], entry[1]);
+            } finally {
+                endWalk();
+            }
         } finally {
-            endWalk();
+            Native.free(cursor);
         }
     }
 

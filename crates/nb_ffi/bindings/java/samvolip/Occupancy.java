@@ -5,7 +5,7 @@ package samvolip;
  * one. If not, the map grows in time. A slot stays taken, also if its key is removed.
  */
 public record Occupancy(boolean isLast, int looked, int taken) {
-    /** Whether it is time for a new map: more than two thirds of the last table are taken. */
+    /** Whether it is time for a new map, as by {@link Seat#renew}: more than two thirds of the last table are taken. */
     public boolean shouldRenew() {
         return isLast && 2 * looked < 3 * taken;
     }

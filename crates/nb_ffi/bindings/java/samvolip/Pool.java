@@ -87,7 +87,7 @@ final class Pool {
     }
 
     private void giveBack(Lane lane) {
-        lane.walking = false;
+        lane.walks = 0;
         if (closed) lane.release();
         else free.push(lane);
     }

@@ -112,21 +112,21 @@ public final class SamvolipMap extends LongMap implements AutoCloseable {
     }
 
     @Override
-    void beginWalk() {
+    void beginWalk(long cursor) {
         try {
             Lane lane = lane();
-            if (lane.walking) throw new IllegalStateException("this thread's walk over the map is under way");
-            lane.walk();
-            lane.walking = true;
+            lane.walk(cursor);
+            lane.walks++;
         } finally {
             Reference.reachabilityFence(this);
         }
     }
 
     @Override
-    boolean next(long[] entry) {
+    boolean next(long cursor, long[] entry) {
         try {
-            if (!lane().next(entry)) return false;
+            // the lane that began the walk: the thread gives it back by no call before the walk's end
+            if (!lane().next(cursor, entry)) return false;
             entry[0] = keys.outside(entry[0]);
             return true;
         } finally {
@@ -137,7 +137,7 @@ public final class SamvolipMap extends LongMap implements AutoCloseable {
     @Override
     void endWalk() {
         Lane lane = held();
-        if (lane != null) lane.walking = false;
+        if (lane != null) lane.walks--;
         Reference.reachabilityFence(this);
     }
 
@@ -180,7 +180,7 @@ public final class SamvolipMap extends LongMap implements AutoCloseable {
     public void giveBack() {
         Lane lane = held();
         if (lane == null) return;
-        if (lane.walking) throw new IllegalStateException("this thread's walk over the map is under way");
+        if (lane.walks > 0) throw new IllegalStateException("a walk of this thread over the map is under way");
         mine.remove();
         pool.giveBackMine();
         Reference.reachabilityFence(this);

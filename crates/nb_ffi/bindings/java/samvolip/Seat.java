@@ -1,6 +1,8 @@
 package samvolip;
 
 import java.lang.ref.Cleaner;
+import java.util.Arrays;
+import java.util.List;
 import java.util.OptionalLong;
 
 /**
@@ -85,6 +87,28 @@ public final class Seat extends LongMap implements AutoCloseable {
         return full().settle();
     }
 
+    /**
+     * With all seats: all keys of the map at this moment, with their numbers, in no order. The map goes on. Refused as
+     * {@link Code#E_NOT_ALL_SEATS} or {@link Code#E_OUT_OF_MEMORY}.
+     */
+    public synchronized List<Entry> entries() {
+        checkOwn();
+        return Arrays.asList(full().entries(keys));
+    }
+
+    /**
+     * With all seats: goes on over a new map of this shape that has the same keys and numbers, so that the slots of removed keys are free again.
+     * The seat has all seats of the new map. The old one is freed; until then both take memory.
+     *
+     * <p>Refused as {@link Code#E_FULL}, if the shape has too few slots; as {@link #entries}; or by what is wrong with the shape. Then the seat is
+     * of the old map still. While a forEach of this seat is under way, it throws an IllegalStateException.
+     */
+    public synchronized void renew(Shape shape) {
+        checkOwn();
+        if (full().walks > 0) throw new IllegalStateException("a walk of this seat is under way");
+        lane.renew(shape);
+    }
+
     /** With all seats: what is left of the map. This seat is closed then. Refused as {@link Code#E_NOT_ALL_SEATS}. */
     public synchronized Ended end() {
         checkOwn();
@@ -114,22 +138,21 @@ public final class Seat extends LongMap implements AutoCloseable {
     }
 
     @Override
-    synchronized void beginWalk() {
-        if (full().walking) throw new IllegalStateException("a walk of this seat is under way");
-        lane.walk();
-        lane.walking = true;
+    synchronized void beginWalk(long cursor) {
+        full().walk(cursor);
+        lane.walks++;
     }
 
     @Override
-    synchronized boolean next(long[] entry) {
-        if (!full().next(entry)) return false;
+    synchronized boolean next(long cursor, long[] entry) {
+        if (!full().next(cursor, entry)) return false;
         entry[0] = keys.outside(entry[0]);
         return true;
     }
 
     @Override
     synchronized void endWalk() {
-        if (lane != null) lane.walking = false;
+        if (lane != null) lane.walks--;
     }
 
     @Override

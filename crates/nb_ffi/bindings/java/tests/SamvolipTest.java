@@ -4,6 +4,7 @@ import java.nio.file.Files;
 import java.nio.file.Path;
 import java.util.ArrayList;
 import java.util.Arrays;
+import java.util.Comparator;
 import java.util.List;
 import java.util.OptionalLong;
 import java.util.concurrent.CompletableFuture;
@@ -231,8 +232,11 @@ public final class SamvolipTest {
             for (int walk = 0; walk < 2; walk++) {
                 map.forEach((key, number) -> {
                     mine.remove();
-                    expect(illegal(map::giveBack), "this thread's walk over the map is under way");
+                    expect(illegal(map::giveBack), "a walk of this thread over the map is under way");
                     expect(map.get(key), of(number));
+                    mine.remove();
+                    map.forEach((other, same) -> expect(other, same));
+                    expect(illegal(map::giveBack), "a walk of this thread over the map is under way");
                     mine.remove();
                     shown[0]++;
                 });
@@ -250,17 +254,21 @@ public final class SamvolipTest {
         }
     }
 
-    private static void walks(LongMap map, String nested) {
+    private static void walks(LongMap map) {
         for (long key = 0; key < 100; key++) map.put(key * 65536, key);
-        long[] shown = new long[1];
+        long[] shown = new long[3];
         map.forEach((key, number) -> {
             expect(map.get(key), of(number));
             expect(key, number * 65536);
-            expect(illegal(() -> map.forEach((other, same) -> {})), nested);
+            map.forEach((other, same) -> {
+                expect(other, same * 65536);
+                shown[1]++;
+                if (same % 50 == 0) map.forEach((third, its) -> shown[2]++);
+            });
             map.put(key, number);
             shown[0]++;
         });
-        expect(shown[0], 100L);
+        expect(Arrays.toString(shown), "[100, 10000, 20000]");
         try {
             map.forEach((key, number) -> {
                 throw new ArithmeticException();
@@ -270,6 +278,32 @@ public final class SamvolipTest {
             expect(map.removeIf((key, number) -> number >= 10), 90L);
         }
         expect(map.sizeEstimate(), 10L);
+    }
+
+    /** A walk within a walk grows the map, and a second one is shown in full; the first one goes on, and a walk that throws leaves it. */
+    private static void walksWhileItGrows(LongMap map) {
+        for (long key = 0; key < 8; key++) map.put(key, key);
+        List<Entry> shown = new ArrayList<>();
+        map.forEach((key, number) -> {
+            if (key < 100) shown.add(new Entry(key, number));
+            if (shown.size() != 3 || map.generation() > 0) return;
+            for (long more = 100; more < 150; more++) map.put(more, more);
+            expect(map.generation(), 1);
+            long[] inner = new long[1];
+            map.forEach((other, same) -> inner[0]++);
+            expect(inner[0], 58L);
+            expect(map.removeIf((other, same) -> other >= 100), 50L);
+            try {
+                map.forEach((other, same) -> {
+                    throw new ArithmeticException();
+                });
+                throw new AssertionError();
+            } catch (ArithmeticException thrown) {
+                expect(map.sizeEstimate(), 8L);
+            }
+        });
+        shown.sort(Comparator.comparing(Entry::key));
+        expect(shown.toString(), "[0=0, 1=1, 2=2, 3=3, 4=4, 5=5, 6=6, 7=7]");
     }
 
     private static void eachCall(LongMap map) {
@@ -415,6 +449,121 @@ public final class SamvolipTest {
         }
     }
 
+    private static List<Entry> sorted(Seat seat) {
+        List<Entry> entries = seat.entries();
+        entries.sort(Comparator.comparing(Entry::key, Long::compareUnsigned));
+        return entries;
+    }
+
+    private static void entries() {
+        for (Keys keys : Keys.values()) {
+            Seat mine = Seat.open(Shape.forKeys(1000, 3), keys), other = mine.split();
+            for (long key = 0; key < 1000; key++) expect((key < 300 ? mine : other).put(key, key + 1), NONE);
+            expect(other.removeIf((key, number) -> key % 2 == 1), 500L);
+            expect(refused(mine::entries), Code.E_NOT_ALL_SEATS);
+            expect(refused(other::entries), Code.E_NOT_ALL_SEATS);
+            mine.join(other);
+            expect(illegal(other::entries), "the seat was closed");
+            List<Entry> entries = sorted(mine);
+            expect(entries.size(), 500);
+            for (int i = 0; i < 500; i++) expect(entries.get(i), new Entry(2 * i, 2 * i + 1));
+            expect(mine.settle(), 500L);
+            expect(mine.remove(0), of(1));
+            expect(mine.put(Keys.KEY_MAX, Keys.VALUE_MAX), NONE);
+            expect(sorted(mine).get(499), new Entry(Keys.KEY_MAX, Keys.VALUE_MAX));
+            try (Ended ended = mine.end()) {
+                expect(ended.size(), 500L);
+            }
+            try (Seat empty = Seat.open(Shape.forKeys(10, 1), keys)) {
+                expect(empty.entries(), List.of());
+            }
+        }
+    }
+
+    /** A map is made anew by a seat that has all seats: of the same shape, a greater one, with more seats; or it is refused. */
+    private static void renewed() {
+        for (Keys keys : Keys.values()) {
+            Shape small = Shape.of(2, 2, 5);
+            Seat seat = Seat.open(small, keys);
+            expect(refused(() -> {
+                for (long key = 0; ; key++) seat.put(key, key + 1);
+            }), Code.E_FULL);
+            long size = seat.sizeEstimate();
+            expect(seat.removeIf((key, number) -> key < size - 12), size - 12);
+            List<Entry> kept = sorted(seat);
+            expect(kept.size(), 12);
+            expect(kept.get(0), new Entry(size - 12, size - 11));
+            expect(kept.get(11), new Entry(size - 1, size));
+            expect(seat.occupancy().shouldRenew() && seat.generation() == 1);
+
+            // refused, it is the old map still
+            Object[][] refusals = {
+                {Shape.of(2, 2, 3), Code.E_FULL}, {Shape.of(2, 5, 4), Code.E_FALLING}, {Shape.of(257, 5), Code.E_SEATS},
+                {Shape.of(2, new int[17]), Code.E_TABLES},
+            };
+            for (Object[] pair : refusals) {
+                expect(refused(() -> seat.renew((Shape) pair[0])), pair[1]);
+                expect(sorted(seat), kept);
+                expect(refused(() -> seat.put(1000, 0)), Code.E_FULL);
+            }
+            Seat other = seat.split();
+            expect(refused(() -> seat.renew(small)), Code.E_NOT_ALL_SEATS);
+            expect(refused(() -> other.renew(small)), Code.E_NOT_ALL_SEATS);
+            expect(other.get(size - 1), of(size));
+            seat.join(other);
+            expect(illegal(() -> other.renew(small)), "the seat was closed");
+            long[] shown = new long[1];
+            seat.forEach((key, number) -> {
+                expect(illegal(() -> seat.renew(small)), "a walk of this seat is under way");
+                seat.forEach((same, its) -> {});
+                expect(illegal(() -> seat.renew(small)), "a walk of this seat is under way");
+                shown[0]++;
+            });
+            expect(shown[0], 12L);
+
+            // of the same shape: the slots of the removed keys are free again
+            seat.renew(small);
+            expect(seat.put(1000, 0), NONE);
+            expect(seat.remove(1000), of(0));
+            expect(sorted(seat), kept);
+
+            // a greater one, with more seats
+            seat.renew(Shape.forManyKeys(5000, 3));
+            expect(sorted(seat), kept);
+            Seat[] others = {seat.split(), seat.split()};
+            expect(refused(seat::split), Code.E_NO_SEAT);
+            for (int i = 0; i < 2; i++) {
+                expect(others[i].get(size - 1), of(size));
+                for (long key = 0; key < 1000; key++) expect(others[i].put(2000 + 2 * key + i, key), NONE);
+            }
+            for (Seat one : others) seat.join(one);
+            expect(seat.settle(), 2012L);
+            try (Ended ended = seat.end()) {
+                expect(ended.entries().subList(0, 12), kept);
+            }
+        }
+    }
+
+    /** How full the top table is, exactly where it is looked at as a whole; a removed key's slot stays taken. */
+    private static void occupancy() {
+        try (Seat seat = Seat.open(Shape.of(1, 2, 5))) {
+            expect(seat.occupancy(), new Occupancy(false, 4, 0));
+            for (long key = 0; key < 10; key++) seat.put(key, key);
+            expect(seat.occupancy(), new Occupancy(true, 32, 10));
+            for (long key = 10; key < 21; key++) {
+                expect(seat.put(key, key), NONE);
+                expect(seat.remove(key), of(key));
+            }
+            expect(seat.occupancy(), new Occupancy(true, 32, 21));
+            expect(!seat.occupancy().shouldRenew());
+            seat.put(21, 1);
+            expect(seat.occupancy(), new Occupancy(true, 32, 22));
+            expect(seat.occupancy().shouldRenew());
+            seat.renew(Shape.of(1, 5));
+            expect(seat.occupancy(), new Occupancy(true, 32, 11));
+        }
+    }
+
     /** Two threads call with one seat at once: each add answers what the one before it left, and the sum is right. */
     private static void oneSeat() throws InterruptedException {
         try (Seat seat = Seat.open(Shape.of(1, 4))) {
@@ -436,6 +585,9 @@ public final class SamvolipTest {
             lent.forEach((key, number) -> expect(key, 65536L));
             expect(illegal(lent::split), "the seat is a SamvolipMap's: close gives it back");
             expect(illegal(lent::end), "the seat is a SamvolipMap's: close gives it back");
+            expect(illegal(lent::entries), "the seat is a SamvolipMap's: close gives it back");
+            expect(illegal(() -> lent.renew(Shape.of(1, 4))), "the seat is a SamvolipMap's: close gives it back");
+            expect(illegal(() -> lent.forEach((key, number) -> lent.close())), "the seat was closed");
             lent.close();
             expect(illegal(() -> lent.get(1)), "the seat was closed");
             threads(2, me -> {
@@ -484,10 +636,16 @@ public final class SamvolipTest {
         threadsOfTheCommonPool();
         lostThreadLocals();
         try (SamvolipMap map = SamvolipMap.forKeys(100, 1)) {
-            walks(map, "this thread's walk over the map is under way");
+            walks(map);
         }
         try (Seat seat = Seat.open(Shape.forKeys(100, 1))) {
-            walks(seat, "a walk of this seat is under way");
+            walks(seat);
+        }
+        for (Keys keys : Keys.values()) {
+            try (SamvolipMap map = SamvolipMap.open(Shape.of(1, 4, 8), keys); Seat seat = Seat.open(Shape.of(1, 4, 8), keys)) {
+                walksWhileItGrows(map);
+                walksWhileItGrows(seat);
+            }
         }
         try (SamvolipMap map = SamvolipMap.open(Shape.of(1, 4, 6))) {
             eachCall(map);
@@ -499,6 +657,9 @@ public final class SamvolipTest {
         churn();
         mixing();
         seats();
+        entries();
+        renewed();
+        occupancy();
         oneSeat();
         seatsOfAMap();
         manySeats();

@@ -3,7 +3,7 @@
 from __future__ import annotations
 
 from collections.abc import Callable, Iterable, Iterator, Mapping
-from ctypes import c_uint32, c_uint64
+from ctypes import c_uint64
 from typing import Any, SupportsIndex, TypeVar, overload
 
 from . import library
@@ -42,9 +42,8 @@ class Calls:
     def walk(self) -> Iterator[tuple[int, int]]:
         """The keys with their numbers, in no order, while others write the map.
 
-        No key comes twice. Each key that the map has all the while comes. A new walk of the seat cuts off the one before, which
-        raises WalkCutOff when it is asked for more. A signal's handler and a finalizer don't walk: a walk that they came in between may
-        end too early.
+        No key comes twice. Each key that the map has all the while comes. There may be any number of walks at a time, so that a walk
+        within a walk is one of its own. Where the seat renews the map, a walk raises WalkCutOff when it is asked for more.
         """
         raise NotImplementedError
 
@@ -83,9 +82,9 @@ class Calls:
 
     def occupancy(self) -> Occupancy:
         """How full the top table is, by a sample of its slots."""
-        taken, looked = c_uint32(), c_uint32()
-        last = self._reach(library.occupancy, taken, looked)
-        return Occupancy(bool(last), looked.value, taken.value)
+        found = library.Slots()
+        self._reach(library.occupancy, found)
+        return Occupancy(bool(found.is_last), found.looked, found.taken)
 
     def items(self) -> Iterator[tuple[int, int]]:
         """A walk."""

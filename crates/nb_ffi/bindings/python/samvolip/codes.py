@@ -4,7 +4,7 @@ from __future__ import annotations
 
 import enum
 
-VERSION = 0x000801  # that of the samvolip.h that this package tells of
+VERSION = 0x000900  # that of the samvolip.h that this package tells of
 KEY_MAX = 2**64 - 3
 VALUE_MAX = 2**60 - 1
 MOST_KEYS = 349525  # that exponents_for_keys makes room for
@@ -103,7 +103,7 @@ class Refused(Exception):
 
 
 class Full(Refused):
-    """Other keys have all slots of the last table."""
+    """Other keys have all slots of the last table, or a new map's last table has too few for all keys."""
 
 
 class NoSeat(Refused):
@@ -111,11 +111,11 @@ class NoSeat(Refused):
 
 
 class NotAllSeats(Refused):
-    """A map isn't closed while others have seats of it."""
+    """A map isn't closed, nor settled, listed or renewed, while others have seats of it."""
 
 
 class WalkCutOff(RuntimeError):
-    """A walk goes no further: its seat has begun another one, or, of a Map, isn't the calling thread's any more.
+    """A walk goes no further: its seat has renewed the map, or, of a Map, isn't the calling thread's any more.
 
     The walk of an explicit seat that was freed raises ValueError.
     """

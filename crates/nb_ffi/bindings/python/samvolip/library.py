@@ -25,7 +25,7 @@ class Shape(Structure):
 class Header(Structure):
     """A samvolip_header."""
 
-    _fields_ = [(name, c_uint32) for name in ("version", "shape", "seat", "ended", "reply", "entry")]
+    _fields_ = [(name, c_uint32) for name in ("version", "shape", "seat", "ended", "reply", "entry", "occupancy", "cursor")]
 
 
 class Reply(Structure):
@@ -40,7 +40,21 @@ class Entry(Structure):
     _fields_ = [("key", c_uint64), ("number", c_uint64)]
 
 
-HEADER = Header(VERSION, sizeof(Shape), sizeof(c_void_p), sizeof(c_void_p), sizeof(Reply), sizeof(Entry))
+class Slots(Structure):
+    """A samvolip_slots: how full a map is."""
+
+    _fields_ = [(name, c_uint32) for name in ("taken", "looked", "is_last")]
+
+
+class Cursor(Structure):
+    """A samvolip_cursor: where a walk is. It is begun and taken on by one seat, and on one map."""
+
+    _fields_ = [("first", c_uint32), ("table", c_uint32), ("slot", c_size_t), ("is_over", c_uint32)]
+
+
+HEADER = Header(
+    VERSION, sizeof(Shape), sizeof(c_void_p), sizeof(c_void_p), sizeof(Reply), sizeof(Entry), sizeof(Slots), sizeof(Cursor)
+)
 
 
 def _paths() -> list[str]:
@@ -79,6 +93,8 @@ open_with = _function(_lets_go, "open_with", c_int, POINTER(Header), POINTER(Sha
 split = _function(_lets_go, "split", c_int, _HANDLE, _HANDLE)
 join = _function(_lets_go, "join", c_int, _HANDLE, _HANDLE)
 settle = _function(_lets_go, "settle", c_int, _HANDLE, _NUMBER)
+entries = _function(_lets_go, "entries", c_int, _HANDLE, POINTER(Entry), c_size_t, _NUMBER)
+renew = _function(_lets_go, "renew", c_int, _HANDLE, POINTER(Shape))
 close = _function(_lets_go, "close", c_int, _HANDLE, _HANDLE)
 free_open = _function(_lets_go, "free_open", None, _HANDLE)
 get = _function(_keeps, "get", c_int, _HANDLE, c_uint64, _NUMBER)
@@ -91,9 +107,9 @@ try_add = _function(_keeps, "try_add", c_int, _HANDLE, c_uint64, c_uint64, c_uin
 try_remove = _function(_keeps, "try_remove", c_int, _HANDLE, c_uint64, c_uint32, _NUMBER)
 size_estimate = _function(_keeps, "size_estimate", c_uint64, _HANDLE)
 generation = _function(_keeps, "generation", c_uint32, _HANDLE)
-occupancy = _function(_keeps, "occupancy", c_int, _HANDLE, POINTER(c_uint32), POINTER(c_uint32))
-walk = _function(_keeps, "walk", None, _HANDLE)
-next_pair = _function(_keeps, "next", c_int, _HANDLE, _NUMBER, _NUMBER)
+occupancy = _function(_keeps, "occupancy", None, _HANDLE, POINTER(Slots))
+walk = _function(_keeps, "walk", None, _HANDLE, POINTER(Cursor))
+next_pair = _function(_keeps, "next", c_int, _HANDLE, POINTER(Cursor), _NUMBER, _NUMBER)
 ended_size = _function(_keeps, "ended_size", c_uint64, _HANDLE)
 ended_get = _function(_keeps, "ended_get", c_int, _HANDLE, c_uint64, _NUMBER)
 ended_entries = _function(_lets_go, "ended_entries", c_int, _HANDLE, POINTER(Entry), c_size_t)

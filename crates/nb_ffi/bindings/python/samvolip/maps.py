@@ -205,23 +205,21 @@ class Map(Calls):
     def walk(self) -> Iterator[tuple[int, int]]:
         """The keys with their numbers, in no order, while others write the map.
 
-        No key comes twice. Each key that the map has all the while comes. A walk stays on its thread. Each thread has one at a time:
-        a new one cuts off the one before, which raises WalkCutOff when it is asked for more. A signal's handler and a finalizer don't
-        walk: a walk that they came in between may end too early.
+        No key comes twice. Each key that the map has all the while comes. There may be any number of walks at a time, so that a walk
+        within a walk is one of its own. A walk stays on its thread, and with the thread's seat: else it raises WalkCutOff when it is
+        asked for more.
         """
         lease = self._local.lease or self._begin()
-        library.walk(lease.handle)
-        mine = lease.seat._walk = object()
-        return self._pairs(lease.seat, mine)
+        cursor = library.Cursor()
+        library.walk(lease.handle, cursor)
+        return self._pairs(lease.seat, cursor)
 
-    def _pairs(self, seat: Seat, mine: object) -> Iterator[tuple[int, int]]:
+    def _pairs(self, seat: Seat, cursor: library.Cursor) -> Iterator[tuple[int, int]]:
         key, number = c_uint64(), c_uint64()
         while True:
             lease = self._local.lease
             if lease is None or lease.seat is not seat:
                 raise WalkCutOff("a walk stays on its thread, and ends where the thread gives its seat back")
-            if seat._walk is not mine:
-                raise WalkCutOff("a newer walk of this thread has begun")
-            if not library.next_pair(lease.handle, key, number):
+            if not library.next_pair(lease.handle, cursor, key, number):
                 return
             yield self._number(key.value), number.value

@@ -10,11 +10,12 @@ from typing import Any, SupportsIndex, overload
 
 from . import library
 from .calls import Calls, T
-from .codes import WalkCutOff, made
+from .codes import Code, WalkCutOff, made
 from .numbers import key_of, number_of, word
 from .shapes import plan_for_churn, plan_for_keys, plan_for_many_keys, shape_of
 
 _maps = itertools.count(1)
+_ROOM = int(Code.E_ROOM)  # as a plain number
 
 
 class Seat(Calls):
@@ -32,7 +33,7 @@ class Seat(Calls):
         self._map = number_of_map
         self._pool = pool  # to which the seat goes back
         self._lock = threading.RLock()
-        self._walk: object = None
+        self._era = object()  # another one for each map that the seat was of: a walk goes on in its own
 
     @classmethod
     def open(
@@ -100,6 +101,43 @@ class Seat(Calls):
         made(self._reach(library.settle, size))
         return size.value
 
+    def entries(self) -> list[tuple[int, int]]:
+        """All keys with their numbers, in no order, if the seat has all seats. The map goes on."""
+        count = c_uint64(self.size_estimate())
+        while True:
+            room = count.value
+            entries = (library.Entry * max(room, 1))()
+            code = self._reach(library.entries, entries, room, count)
+            if code != _ROOM:
+                made(code)
+                return [(self._number(entry.key), entry.number) for entry in entries[: count.value]]
+
+    def renew(
+        self,
+        exponents: Iterable[SupportsIndex],
+        seats: SupportsIndex | None = None,
+        stripes: SupportsIndex | None = None,
+        reprobes: SupportsIndex = 18,
+        chunk: SupportsIndex = 64,
+    ) -> None:
+        """Goes on over a new map with the same keys and numbers, if the seat has all seats. It has all seats of the new map.
+
+        So the slots of removed keys are free again. Without a number of seats there are as many as before. Until the new map is there
+        both take memory. It is refused by Full if the tables have too few slots; then the seat is of the old map still. A walk of the
+        seat that was begun before raises WalkCutOff when it is asked for more. A signal's handler and a finalizer don't renew a map.
+        """
+        with self._lock:
+            shape = shape_of(exponents, self.count if seats is None else seats, stripes, reprobes, chunk)
+            era, self._era = self._era, object()  # a signal's handler may walk meanwhile
+            code = self._reach(library.renew, shape)
+            if code < 0:
+                self._era = era
+            made(code)
+            self._era = object()
+            self.count = shape.seats
+            if self._pool is not None:
+                self._pool.seats = self.count
+
     def close(self) -> Ended:
         """Ends the map, if the seat has all seats: what is left of it. The seat is empty then."""
         handle = c_void_p()
@@ -122,7 +160,7 @@ class Seat(Calls):
             self.count = 0
 
     def __del__(self) -> None:
-        if hasattr(self, "_walk"):  # which is made last
+        if hasattr(self, "_era"):  # which is made last
             self.free()
 
     def __enter__(self) -> Seat:
@@ -137,23 +175,22 @@ class Seat(Calls):
         return f"<samvolip.Seat of map {self._map}, about {self.size_estimate()} keys{', mixed' if self.mixed else ''}>"
 
     def walk(self) -> Iterator[tuple[int, int]]:
+        cursor = library.Cursor()
         with self._lock:
-            self._reach(library.walk)
-            mine = self._walk = object()
-        return self._pairs(mine)
+            self._reach(library.walk, cursor)
+            return self._pairs(cursor, self._era)
 
     walk.__doc__ = Calls.walk.__doc__
 
-    def _pairs(self, mine: object) -> Iterator[tuple[int, int]]:
+    def _pairs(self, cursor: library.Cursor, era: object) -> Iterator[tuple[int, int]]:
         key, number = c_uint64(), c_uint64()
         while True:
             with self._lock:
-                if self._walk is not mine:
-                    raise WalkCutOff("a newer walk of the seat has begun")
-                if not self._reach(library.next_pair, key, number):
+                if self._era is not era:
+                    raise WalkCutOff("the seat has renewed its map")
+                if not self._reach(library.next_pair, cursor, key, number):
                     return
-                pair = self._number(key.value), number.value
-            yield pair
+            yield self._number(key.value), number.value
 
 
 class Ended:

@@ -37,8 +37,7 @@ impl Ended {
         made(unsafe {
             sys::samvolip_ended_entries(&self.raw, entries.as_mut_ptr(), entries.len())
         })?;
-        let outside = |entry: &sys::Entry| (self.keys.outside(entry.key), entry.number);
-        let mut entries: Vec<_> = entries.iter().map(outside).collect();
+        let mut entries = self.keys.pairs(&entries);
         if self.keys == Keys::Mixed {
             entries.sort_unstable();
         }

@@ -30,7 +30,7 @@ pub enum Fault {
     KeyRange,
     /// A number is past [`VALUE_MAX`](crate::VALUE_MAX).
     ValueRange,
-    /// Other keys have all slots of the last table.
+    /// Other keys have all slots of the last table, or a new map's last table has too few for all keys.
     Full,
     /// Others wrote the key first, as often as there were tries.
     Contended,
@@ -54,7 +54,7 @@ pub enum Fault {
         /// How many of them are out.
         seats: u32,
     },
-    /// This thread's walk over the map is under way, and its seat has one at a time.
+    /// A walk of this thread over the map is under way, so that it keeps its seat.
     Walking,
     /// The map was closed.
     Closed,
@@ -111,7 +111,7 @@ impl fmt::Display for Fault {
             Fault::SeatsOut { seats } => {
                 write!(f, "{seats} seats of the map are out, with other threads or guards")
             }
-            Fault::Walking => f.write_str("this thread's walk over the map is under way"),
+            Fault::Walking => f.write_str("a walk of this thread over the map is under way"),
             Fault::Closed => f.write_str("the map was closed"),
             Fault::ThreadEnds => f.write_str("the thread ends, and has given its seats back"),
             fault => {

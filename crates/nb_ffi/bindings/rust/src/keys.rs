@@ -1,6 +1,6 @@
 //! How a map keeps its keys: mixed, or as they are.
 
-use crate::KEY_MAX;
+use crate::{sys, KEY_MAX};
 
 /// An odd number near `2^64` over the golden ratio, and the number that it times is 1, apart from multiples of `2^64`.
 const FACTOR: u64 = 0x9e37_79b9_7f4a_7c15;
@@ -71,6 +71,11 @@ impl Keys {
                 unmixed => unmixed,
             },
         }
+    }
+
+    /// The keys that the library has by these, each with its number.
+    pub(crate) fn pairs(self, entries: &[sys::Entry]) -> Vec<(u64, u64)> {
+        entries.iter().map(|entry| (self.outside(entry.key), entry.number)).collect()
     }
 }
 

@@ -1,13 +1,12 @@
 //! A map that any thread may call.
 
-use crate::pool::{Pool, Slot};
+use crate::pool::Pool;
 use crate::seat::update_from;
-use crate::{Change, Ended, Fault, Keys, Occupancy, Reply, Seat, Shape, Unclosed, Want, MOST_KEYS};
+use crate::{sys, Change, Ended, Fault, Keys, Occupancy, Reply, Seat, Shape, Unclosed, Want, MOST_KEYS};
 use std::fmt;
 use std::iter::FusedIterator;
 use std::marker::PhantomData;
 use std::ops::{Deref, DerefMut};
-use std::sync::atomic::{AtomicU64, Ordering};
 use std::sync::Arc;
 use std::thread;
 
@@ -233,18 +232,25 @@ impl Map {
     /// A walk over the map's keys and numbers, while all threads may write it, this one too. No key is shown twice, and each
     /// key that the map has all the while is shown.
     ///
-    /// A thread has one walk at a time over a map. So this is refused as [`Fault::Walking`] until the walk before it was
-    /// dropped.
+    /// A thread may have any number of walks at a time, so that there may be a walk within a walk. It keeps its seat until
+    /// they were dropped.
+    ///
+    /// ```
+    /// # let map = samvolip::Map::for_keys(100, 1)?;
+    /// map.try_extend([(1, 5), (2, 5), (3, 6)])?;
+    /// let mut pairs = 0;
+    /// for (key, number) in map.iter()? {
+    ///     pairs += map.iter()?.filter(|&(other, same)| other != key && same == number).count();
+    /// }
+    /// assert_eq!(pairs, 2);
+    /// # Ok::<(), samvolip::Fault>(())
+    /// ```
     pub fn iter(&self) -> Result<Iter<'_>, Fault> {
         let slot = self.pool.own()?;
-        if slot.walk() != 0 {
-            return Err(Fault::Walking);
-        }
-        let number = WALKS.fetch_add(1, Ordering::Relaxed);
-        slot.set_walk(number);
         // SAFETY: this thread has claimed the slot, and nothing else is called meanwhile.
-        unsafe { slot.seat() }.begin_walk();
-        Ok(Iter { map: self, number, here: PhantomData })
+        let cursor = unsafe { slot.seat() }.begin_walk();
+        slot.set_walks(slot.walks() + 1);
+        Ok(Iter { map: self, cursor, here: PhantomData })
     }
 
     /// A seat for calls without a look at the thread's words. It is another one than the thread's own, and is given back
@@ -263,7 +269,7 @@ impl Map {
     }
 
     /// Gives this thread's seat back before the thread ends, for a thread of a pool. Its next call takes a seat again.
-    /// Refused as [`Fault::Walking`].
+    /// Refused as [`Fault::Walking`] until the thread's walks over the map were dropped.
     pub fn give_back(&self) -> Result<(), Fault> {
         self.pool.give_back()
     }
@@ -356,31 +362,23 @@ impl FromIterator<(u64, u64)> for Map {
     }
 }
 
-static WALKS: AtomicU64 = AtomicU64::new(1);
-
 /// A walk of the calling thread over a map.
 pub struct Iter<'m> {
     map: &'m Map,
-    number: u64,
-    /// the walk is of this thread's seat
+    cursor: sys::Cursor,
+    /// the walk is of this thread's seat, which the thread keeps until it ends, or the walk was dropped
     here: PhantomData<*const ()>,
-}
-
-impl Iter<'_> {
-    /// The slot of this walk. It is there as long as this thread isn't ending.
-    fn slot(&self) -> Option<&Slot> {
-        self.map.pool.own_if_any().filter(|slot| slot.walk() == self.number)
-    }
 }
 
 impl Iterator for Iter<'_> {
     type Item = (u64, u64);
 
     fn next(&mut self) -> Option<(u64, u64)> {
-        let slot = self.map.pool.own().ok().filter(|slot| slot.walk() == self.number);
-        let slot = slot.expect("the thread has its seat until the walk is dropped");
-        // SAFETY: this thread has claimed the slot, and nothing else is called meanwhile.
-        unsafe { slot.seat() }.next_shown()
+        let slot = self.map.pool.own().expect("the thread has its seat until the walk is dropped");
+        // SAFETY: this thread has claimed the slot, and nothing else is called meanwhile. It had the slot all the while, since
+        // it gives it back for good when it ends, and not before the walk is dropped. So its seat has begun the walk; and it
+        // wasn't renewed, since a slot lends its seat to a guard alone.
+        unsafe { slot.seat().next_shown(&mut self.cursor) }
     }
 }
 
@@ -388,8 +386,9 @@ impl FusedIterator for Iter<'_> {}
 
 impl Drop for Iter<'_> {
     fn drop(&mut self) {
-        if let Some(slot) = self.slot() {
-            slot.set_walk(0);
+        // a thread that is ending has none
+        if let Some(slot) = self.map.pool.own_if_any() {
+            slot.set_walks(slot.walks() - 1);
         }
     }
 }

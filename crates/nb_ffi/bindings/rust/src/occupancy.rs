@@ -13,7 +13,8 @@ pub struct Occupancy {
 }
 
 impl Occupancy {
-    /// Whether it is time for a new map: more than two thirds of the last table are taken.
+    /// Whether it is time for a new map, as by [`Seat::renew`](crate::Seat::renew): more than two thirds of the last table are
+    /// taken.
     pub fn should_renew(&self) -> bool {
         self.is_last && 2 * u64::from(self.looked) < 3 * u64::from(self.taken)
     }

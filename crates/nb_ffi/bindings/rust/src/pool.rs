@@ -9,11 +9,10 @@ use std::ptr;
 use std::sync::atomic::{AtomicU64, Ordering};
 use std::sync::{Arc, Mutex, MutexGuard, PoisonError, Weak};
 
-/// A seat, and the walk that is under way in it.
+/// A seat, and how many walks are under way in it.
 pub(crate) struct Slot {
     seat: UnsafeCell<Option<Seat>>,
-    /// 0 if there is none
-    walk: Cell<u64>,
+    walks: Cell<usize>,
 }
 
 // SAFETY: a slot that is claimed is used by who has claimed it; one that isn't, under the pool's lock alone.
@@ -43,13 +42,13 @@ impl Slot {
         unsafe { &*self.seat.get() }.as_ref().expect("a claimed slot has a seat")
     }
 
-    /// The number of the walk that is under way, or 0. Only who has claimed the slot asks.
-    pub(crate) fn walk(&self) -> u64 {
-        self.walk.get()
+    /// How many walks are under way. Only who has claimed the slot asks.
+    pub(crate) fn walks(&self) -> usize {
+        self.walks.get()
     }
 
-    pub(crate) fn set_walk(&self, number: u64) {
-        self.walk.set(number);
+    pub(crate) fn set_walks(&self, walks: usize) {
+        self.walks.set(walks);
     }
 }
 
@@ -78,7 +77,7 @@ static POOLS: AtomicU64 = AtomicU64::new(1);
 impl Pool {
     /// A pool of this map's seats, all of which are in `reserve`.
     pub(crate) fn of(map: u64, seats: u32, reserve: Vec<Seat>) -> Arc<Pool> {
-        let empty = || Slot { seat: UnsafeCell::new(None), walk: Cell::new(0) };
+        let empty = || Slot { seat: UnsafeCell::new(None), walks: Cell::new(0) };
         Arc::new(Pool {
             id: POOLS.fetch_add(1, Ordering::Relaxed),
             map,
@@ -133,14 +132,16 @@ impl Pool {
         if let Some(index) = state.free.pop() {
             return Ok(index);
         }
+        let index = state.used;
         let seat = match state.reserve.last_mut() {
+            // a guard's seat may have been renewed to more seats than there are slots
+            _ if index == self.slots.len() => return Err(Fault::AllSeatsTaken { seats: self.seats }),
             None => return Err(Fault::AllSeatsTaken { seats: self.seats }),
             Some(last) => match last.split() {
                 Err(Fault::NoSeat) => state.reserve.pop().expect("there is a last one"),
                 split => split?,
             },
         };
-        let index = state.used;
         // SAFETY: nobody has claimed this slot yet.
         unsafe { *self.slots[index].seat.get() = Some(seat) };
         state.used += 1;
@@ -151,7 +152,7 @@ impl Pool {
     pub(crate) fn free(&self, index: usize) {
         let mut state = self.lock();
         let slot = &self.slots[index];
-        slot.walk.set(0);
+        slot.walks.set(0);
         // SAFETY: the caller has claimed it. (`close_all` may have been there, under the lock.)
         let seat = unsafe { &mut *slot.seat.get() };
         match seat {
@@ -254,11 +255,11 @@ impl Pool {
         Some(&self.slots[MINE.try_with(find).ok()??])
     }
 
-    /// Frees the calling thread's slot, if it has one. Refused while its walk is under way.
+    /// Frees the calling thread's slot, if it has one. Refused while a walk of its is under way.
     pub(crate) fn give_back(&self) -> Result<(), Fault> {
         match self.own_if_any() {
             None => return Ok(()),
-            Some(slot) if slot.walk() != 0 => return Err(Fault::Walking),
+            Some(slot) if slot.walks() != 0 => return Err(Fault::Walking),
             Some(_) => LAST.set(NONE),
         }
         let remove = |mine: &Mine| {

@@ -124,6 +124,41 @@ impl Seat {
         Ok(size)
     }
 
+    /// With all seats: all keys of the map at this moment, with their numbers, in no order. The map goes on. Refused as
+    /// [`settle`](Seat::settle).
+    pub fn entries(&mut self) -> Result<Vec<(u64, u64)>, Fault> {
+        let mut count = self.settle()?;
+        let mut entries = vec![sys::Entry::default(); count as usize];
+        // SAFETY: the handle is full, and the vector has so many entries; its pointer isn't null.
+        made(unsafe {
+            sys::samvolip_entries(&mut self.raw, entries.as_mut_ptr(), entries.len(), &mut count)
+        })?;
+        Ok(self.keys.pairs(&entries))
+    }
+
+    /// With all seats: goes on over a new map of this shape that has the same keys and numbers, so that the slots of removed
+    /// keys are free again. The seat has all seats of the new map. The old one is freed; until then both take memory.
+    ///
+    /// Refused as [`Fault::Full`], if the shape has too few slots; as [`settle`](Seat::settle); or by what is wrong with the
+    /// shape. Then the seat is of the old map still.
+    ///
+    /// ```
+    /// use samvolip::{Seat, Shape};
+    ///
+    /// let mut seat = Seat::open(&Shape::for_keys(100, 1).unwrap())?;
+    /// seat.put(7, 5)?;
+    /// seat.renew(&Shape::for_keys(1000, 1).unwrap())?;
+    /// assert_eq!(seat.get(7)?, Some(5));
+    /// # Ok::<(), samvolip::Fault>(())
+    /// ```
+    pub fn renew(&mut self, shape: &Shape) -> Result<(), Fault> {
+        let shape = shape.in_c()?;
+        // SAFETY: the handle is full, and the shape is one of C. A walk by this seat borrows it, so none goes on afterwards. A
+        // walk by another seat keeps that one out of this, so that the call is refused.
+        made(unsafe { sys::samvolip_renew(&mut self.raw, &shape) })?;
+        Ok(())
+    }
+
     /// With all seats: what is left of the map. Refused as [`Fault::NotAllSeats`] or [`Fault::OutOfMemory`], with the seat
     /// given back.
     pub fn close(self) -> Result<Ended, Refused> {
@@ -336,8 +371,9 @@ impl Seat {
     /// it stays.
     pub fn retain(&mut self, mut keep: impl FnMut(u64, u64) -> bool) -> Result<u64, Fault> {
         let mut removed = 0;
-        self.begin_walk();
-        while let Some((key, number)) = self.next_shown() {
+        let mut cursor = self.begin_walk();
+        // SAFETY: the seat has begun the walk, and isn't renewed meanwhile.
+        while let Some((key, number)) = unsafe { self.next_shown(&mut cursor) } {
             if !keep(key, number) && self.remove_if(key, number)? {
                 removed += 1;
             }
@@ -361,28 +397,34 @@ impl Seat {
 
     /// How full the top table is, by a sample of its slots.
     pub fn occupancy(&mut self) -> Occupancy {
-        let (mut taken, mut looked) = (0, 0);
+        let mut found = sys::Slots::default();
         // SAFETY: the handle is full.
-        let last = unsafe { sys::samvolip_occupancy(&mut self.raw, &mut taken, &mut looked) };
-        Occupancy { is_last: last == 1, looked, taken }
+        unsafe { sys::samvolip_occupancy(&mut self.raw, &mut found) };
+        Occupancy { is_last: found.is_last == 1, looked: found.looked, taken: found.taken }
     }
 
     /// A walk over the map's keys and numbers, while others write it. No key is shown twice, and each key that the map has
     /// all the while is shown.
     pub fn walk(&mut self) -> Walk<'_> {
-        self.begin_walk();
-        Walk { seat: self }
+        Walk { cursor: self.begin_walk(), seat: self }
     }
 
-    pub(crate) fn begin_walk(&mut self) {
+    pub(crate) fn begin_walk(&mut self) -> sys::Cursor {
+        let mut cursor = sys::Cursor::default();
         // SAFETY: the handle is full.
-        unsafe { sys::samvolip_walk(&mut self.raw) }
+        unsafe { sys::samvolip_walk(&mut self.raw, &mut cursor) };
+        cursor
     }
 
-    pub(crate) fn next_shown(&mut self) -> Option<(u64, u64)> {
+    /// The next key of a walk, with its number.
+    ///
+    /// # Safety
+    ///
+    /// This seat has begun the walk, and wasn't renewed since.
+    pub(crate) unsafe fn next_shown(&mut self, cursor: &mut sys::Cursor) -> Option<(u64, u64)> {
         let (mut key, mut number) = (0, 0);
-        // SAFETY: the handle is full.
-        let code = unsafe { sys::samvolip_next(&mut self.raw, &mut key, &mut number) };
+        // SAFETY: the handle is full; of the cursor, the caller's.
+        let code = unsafe { sys::samvolip_next(&mut self.raw, cursor, &mut key, &mut number) };
         (code == sys::PRESENT).then(|| (self.keys.outside(key), number))
     }
 
@@ -418,13 +460,15 @@ impl Extend<(u64, u64)> for Seat {
 #[derive(Debug)]
 pub struct Walk<'s> {
     seat: &'s mut Seat,
+    cursor: sys::Cursor,
 }
 
 impl Iterator for Walk<'_> {
     type Item = (u64, u64);
 
     fn next(&mut self) -> Option<(u64, u64)> {
-        self.seat.next_shown()
+        // SAFETY: the seat has begun the walk, and nobody else has had it since.
+        unsafe { self.seat.next_shown(&mut self.cursor) }
     }
 }
 

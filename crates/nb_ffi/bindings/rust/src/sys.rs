@@ -7,7 +7,7 @@ use std::mem::size_of;
 use std::ptr::NonNull;
 
 /// The version of `samvolip.h` that this file tells of.
-pub const VERSION: u32 = 0x000801;
+pub const VERSION: u32 = 0x000900;
 
 /// The greatest key.
 pub const KEY_MAX: u64 = u64::MAX - 2;
@@ -77,6 +77,8 @@ pub struct Header {
     pub ended: u32,
     pub reply: u32,
     pub entry: u32,
+    pub occupancy: u32,
+    pub cursor: u32,
 }
 
 pub const HEADER: Header = Header {
@@ -86,6 +88,8 @@ pub const HEADER: Header = Header {
     ended: size_of::<Handle>() as u32,
     reply: size_of::<Reply>() as u32,
     entry: size_of::<Entry>() as u32,
+    occupancy: size_of::<Slots>() as u32,
+    cursor: size_of::<Cursor>() as u32,
 };
 
 #[repr(C)]
@@ -126,6 +130,25 @@ pub struct Entry {
     pub number: u64,
 }
 
+/// How full a map is.
+#[repr(C)]
+#[derive(Default)]
+pub struct Slots {
+    pub taken: u32,
+    pub looked: u32,
+    pub is_last: u32,
+}
+
+/// Where a walk is. It is begun and taken on by one seat, and on one map.
+#[repr(C)]
+#[derive(Debug, Default)]
+pub struct Cursor {
+    first: u32,
+    table: u32,
+    slot: usize,
+    is_over: u32,
+}
+
 extern "C" {
     pub fn samvolip_open_with(
         header: *const Header,
@@ -135,6 +158,13 @@ extern "C" {
     pub fn samvolip_split(seat: *mut Handle, other: *mut Handle) -> i32;
     pub fn samvolip_join(seat: *mut Handle, other: *mut Handle) -> i32;
     pub fn samvolip_settle(seat: *mut Handle, size: *mut u64) -> i32;
+    pub fn samvolip_entries(
+        seat: *mut Handle,
+        entries: *mut Entry,
+        room: usize,
+        count: *mut u64,
+    ) -> i32;
+    pub fn samvolip_renew(seat: *mut Handle, shape: *const Shape) -> i32;
     pub fn samvolip_close(seat: *mut Handle, ended: *mut Handle) -> i32;
     pub fn samvolip_free_open(seat: *mut Handle);
     pub fn samvolip_get(seat: *mut Handle, key: u64, number: *mut u64) -> i32;
@@ -172,9 +202,14 @@ extern "C" {
     pub fn samvolip_try_remove(seat: *mut Handle, key: u64, tries: u32, before: *mut u64) -> i32;
     pub fn samvolip_size_estimate(seat: *mut Handle) -> u64;
     pub fn samvolip_generation(seat: *mut Handle) -> u32;
-    pub fn samvolip_occupancy(seat: *mut Handle, taken: *mut u32, looked: *mut u32) -> i32;
-    pub fn samvolip_walk(seat: *mut Handle);
-    pub fn samvolip_next(seat: *mut Handle, key: *mut u64, number: *mut u64) -> i32;
+    pub fn samvolip_occupancy(seat: *mut Handle, found: *mut Slots);
+    pub fn samvolip_walk(seat: *mut Handle, cursor: *mut Cursor);
+    pub fn samvolip_next(
+        seat: *mut Handle,
+        cursor: *mut Cursor,
+        key: *mut u64,
+        number: *mut u64,
+    ) -> i32;
     pub fn samvolip_ended_size(ended: *const Handle) -> u64;
     pub fn samvolip_ended_get(ended: *const Handle, key: u64, number: *mut u64) -> i32;
     pub fn samvolip_ended_entries(ended: *const Handle, entries: *mut Entry, room: usize) -> i32;

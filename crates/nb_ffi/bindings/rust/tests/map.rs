@@ -267,10 +267,10 @@ fn walks() {
     let map = Map::for_keys(1000, 2).unwrap();
     map.try_extend((0..1000).map(|key| (key, key + 1))).unwrap();
     let mut walk = map.iter().unwrap();
-    assert_eq!(map.iter().unwrap_err(), Fault::Walking);
     assert_eq!(map.give_back(), Err(Fault::Walking));
     assert_eq!(map.try_close().unwrap_err(), Fault::Walking);
     let mut shown: Vec<_> = walk.by_ref().take(500).collect();
+    assert_eq!(map.iter().unwrap().count(), 1000);
     for &(key, number) in &shown {
         assert_eq!(map.get(key), Ok(Some(number)));
     }
@@ -283,6 +283,59 @@ fn walks() {
     assert_eq!(map.iter().unwrap().count(), 1000);
     assert_eq!(map.retain(|key, _| map.contains_key(key) == Ok(true) && key < 10), Ok(990));
     assert_eq!(map.size_estimate(), Ok(10));
+}
+
+/// Each walk is at a place of its own, and the thread keeps its seat until all of them were dropped.
+#[test]
+fn walks_within_walks() {
+    for keys in [Keys::Mixed, Keys::Plain] {
+        let map = Map::open_with(&Shape { exponents: vec![4, 8], ..Shape::for_keys(10, 2).unwrap() }, keys).unwrap();
+        map.try_extend((0..8).map(|key| (key, key))).unwrap();
+        let mut pairs = BTreeMap::new();
+        for (outer, _) in map.iter().unwrap() {
+            for (middle, _) in map.iter().unwrap() {
+                assert_eq!(map.iter().unwrap().count(), 8);
+                *pairs.entry((outer, middle)).or_insert(0) += 1;
+            }
+        }
+        assert!(pairs.len() == 64 && pairs.values().all(|&times| times == 1));
+
+        // one that another begins after, ends before, or grows the map in
+        let mut first = map.iter().unwrap();
+        let mut shown: Vec<_> = first.by_ref().take(3).collect();
+        let mut second = map.iter().unwrap();
+        let other: Vec<_> = second.by_ref().take(5).collect();
+        assert_eq!(other[..3], shown[..]);
+        map.try_extend((100..150).map(|key| (key, key))).unwrap();
+        assert_eq!(map.generation(), Ok(1));
+        assert_eq!(map.retain(|key, _| key < 100), Ok(50));
+        let seen: BTreeMap<_, _> = other.iter().copied().chain(second.by_ref()).filter(|entry| entry.0 < 100).collect();
+        assert!(seen.into_iter().eq((0..8).map(|key| (key, key))));
+        assert_eq!((second.next(), second.next()), (None, None));
+        drop(second);
+        assert_eq!(map.give_back(), Err(Fault::Walking));
+        shown.extend(first.by_ref());
+        shown.sort();
+        assert!(shown.into_iter().eq((0..8).map(|key| (key, key))));
+        drop(first);
+        map.give_back().unwrap();
+        assert_eq!(map.try_close().unwrap().size(), 8);
+    }
+}
+
+/// A walk that is never dropped keeps its thread's seat as long as the thread lives, and no longer.
+#[test]
+fn a_walk_that_is_forgotten() {
+    let map = Map::for_keys(10, 1).unwrap();
+    in_threads(1, |_| {
+        map.put(1, 2).unwrap();
+        mem::forget(map.iter().unwrap());
+        assert_eq!(map.iter().unwrap().count(), 1);
+        assert_eq!(map.give_back(), Err(Fault::Walking));
+    });
+    assert_eq!(map.iter().unwrap().count(), 1);
+    map.give_back().unwrap();
+    assert_eq!(map.try_close().unwrap().size(), 1);
 }
 
 #[test]
@@ -367,6 +420,29 @@ fn a_seat_of_another_map_in_a_guard() {
     assert_eq!(map.get(1), Ok(Some(7)));
     let taken = map.seat().unwrap_err();
     assert_eq!(taken, Fault::AllSeatsTaken { seats: 2 });
+}
+
+/// A guard that has all seats renews its map. However many seats the new map has, it serves as many threads as before.
+#[test]
+fn a_guard_renews_its_map() {
+    let map = Map::for_keys(20, 1).unwrap();
+    map.try_extend((0..20).map(|key| (key, key + 1))).unwrap();
+    assert_eq!(map.retain(|key, _| key >= 18), Ok(18));
+    map.give_back().unwrap();
+    let mut guard = map.seat().unwrap();
+    guard.renew(&Shape::for_keys(100, 3).unwrap()).unwrap();
+    assert_eq!(guard.occupancy().taken, 2);
+    let other = guard.split().unwrap();
+    drop(guard);
+    assert_eq!(map.get(19), Ok(Some(20)));
+    let map = map.close().unwrap_err().map;
+    let first = map.seat().unwrap();
+    assert_eq!(map.seat().unwrap_err(), Fault::AllSeatsTaken { seats: 1 });
+    drop(first);
+    let mut guard = map.seat().unwrap();
+    guard.join(other).unwrap();
+    drop(guard);
+    assert_eq!(map.close().unwrap().entries().unwrap(), [(18, 19), (19, 20)]);
 }
 
 #[test]

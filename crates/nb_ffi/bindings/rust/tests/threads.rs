@@ -176,6 +176,105 @@ fn a_map_grows() {
     assert_eq!(look(&mut seat), (true, 32, 22, true));
 }
 
+/// The walks of a seat follow each other, and other calls come between; each goes over all keys.
+#[test]
+fn walks_of_a_seat() {
+    let mut seat = Seat::open(&Shape { exponents: vec![3, 6], ..Shape::for_keys(10, 1).unwrap() }).unwrap();
+    assert_eq!(seat.walk().next(), None);
+    seat.extend((0..4).map(|key| (key, key)));
+    let first: Vec<_> = seat.walk().take(2).collect();
+    let all: Vec<_> = seat.walk().collect();
+    assert_eq!((all.len(), &all[..2]), (4, &first[..]));
+    let mut walk = seat.walk();
+    assert_eq!(walk.by_ref().count(), 4);
+    assert_eq!((walk.next(), walk.next()), (None, None));
+    seat.extend((10..30).map(|key| (key, key)));
+    assert_eq!((seat.generation(), seat.walk().count()), (1, 24));
+}
+
+#[test]
+fn entries_of_all_seats() {
+    for keys in [Keys::Plain, Keys::Mixed] {
+        let mut mine = Seat::open_with(&Shape::for_keys(1000, 3).unwrap(), keys).unwrap();
+        assert_eq!(mine.entries(), Ok(vec![]));
+        let mut other = mine.split().unwrap();
+        mine.extend((0..300).map(|key| (key, key + 1)));
+        other.extend((300..1000).map(|key| (key, key + 1)));
+        assert_eq!(other.retain(|key, _| key % 2 == 0), Ok(500));
+        assert_eq!(mine.entries(), Err(Fault::NotAllSeats));
+        assert_eq!(other.entries(), Err(Fault::NotAllSeats));
+        mine.join(other).unwrap();
+        let mut entries = mine.entries().unwrap();
+        entries.sort();
+        assert!(entries.iter().copied().eq((0..1000).step_by(2).map(|key| (key, key + 1))));
+        // the map goes on
+        assert_eq!((mine.settle(), mine.remove(0)), (Ok(500), Ok(Some(1))));
+        assert_eq!(mine.split().unwrap().put(KEY_MAX, VALUE_MAX), Ok(None));
+        assert_eq!((mine.entries(), mine.size_estimate()), (Err(Fault::NotAllSeats), 500));
+    }
+}
+
+#[test]
+fn renewed() {
+    for keys in [Keys::Plain, Keys::Mixed] {
+        let small = Shape { exponents: vec![2, 5], ..Shape::for_keys(10, 2).unwrap() };
+        let mut seat = Seat::open_with(&small, keys).unwrap();
+        let mut key = 0;
+        let full = loop {
+            match seat.put(key, key + 1) {
+                Ok(_) => key += 1,
+                Err(fault) => break fault,
+            }
+        };
+        assert_eq!(full, Fault::Full);
+        assert_eq!(seat.retain(|kept, _| kept >= key - 12), Ok(key - 12));
+        assert_eq!(seat.put(1000, 0), Err(Fault::Full));
+        assert!(seat.occupancy().should_renew());
+        let kept: Vec<_> = (key - 12..key).map(|key| (key, key + 1)).collect();
+        let entries = |seat: &mut Seat| {
+            let mut entries = seat.entries().unwrap();
+            entries.sort();
+            entries
+        };
+
+        // refused, it is the old map still
+        let too_small = Shape { exponents: vec![2, 3], ..small.clone() };
+        let wrong = Shape { exponents: vec![5, 4], ..small.clone() };
+        for (shape, fault) in [(too_small, Fault::Full), (wrong, Fault::Falling)] {
+            assert_eq!(seat.renew(&shape), Err(fault));
+            assert_eq!((seat.generation(), seat.put(1000, 0)), (1, Err(Fault::Full)));
+            assert_eq!(entries(&mut seat), kept);
+        }
+        let mut other = seat.split().unwrap();
+        for seat in [&mut seat, &mut other] {
+            assert_eq!(seat.renew(&small), Err(Fault::NotAllSeats));
+            assert_eq!(seat.walk().count(), 12);
+        }
+        seat.join(other).unwrap();
+
+        // of the same shape: the slots of the removed keys are free again
+        seat.renew(&small).unwrap();
+        assert_eq!((seat.put(1000, 0), seat.remove(1000)), (Ok(None), Ok(Some(0))));
+        assert_eq!(entries(&mut seat), kept);
+
+        // a greater one, with more seats
+        seat.renew(&Shape::for_many_keys(5000, 3).unwrap()).unwrap();
+        assert_eq!(entries(&mut seat), kept);
+        let mut others = [seat.split().unwrap(), seat.split().unwrap()];
+        assert_eq!(seat.split().err(), Some(Fault::NoSeat));
+        for (number, other) in others.iter_mut().enumerate() {
+            assert_eq!(other.get(key - 1), Ok(Some(key)));
+            other.extend((0..1000).map(|i| (2000 + 2 * i + number as u64, i)));
+        }
+        for other in others {
+            seat.join(other).unwrap();
+        }
+        assert_eq!(seat.settle(), Ok(2012));
+        let ended = seat.close().unwrap();
+        assert_eq!(ended.entries().unwrap()[..12], kept);
+    }
+}
+
 #[test]
 fn calls_that_compute() {
     let mut seat = Seat::open(&Shape::for_keys(100, 1).unwrap()).unwrap();

@@ -1,7 +1,8 @@
-//! Rows of calls by a handle of a typed map; and what all handles do together. A call that takes
-//! memory is made again where its memory is refused, and then has it.
-ghost use Rattle.std.specs.Prelude.{◌≡◌};
-ghost use Rattle.nb_long.specs.Handles.{AreOfOneMap, IsSameMap};
+//! Rows of calls by a handle of a typed map; and what a handle with all seats does for the whole map.
+//! A call that takes memory is made again where its memory is refused, and then has it.
+ghost use Rattle.std.specs.Prelude.{All, ◌≡◌};
+ghost use Rattle.nb_long.specs.Handles.{IsSameMap};
+ghost use Rattle.nb_long.specs.Typed.{LongMapOf};
 
 use super::super::plain::key;
 use super::by_handles::Call::*;
@@ -160,36 +161,52 @@ pub(super) fn sees<R: Wait + Abort>(rt: &R, handle: &mut Handle<u64>, calls: &[C
     }
 }
 
-/// The handles of an empty map of this shape.
-pub(super) fn opened<R: Abort>(rt: &R, alloc: Global, shape: Shape) -> Vec<Handle<u64>>
-    ensures { AreOfOneMap result.items }
-{
+/// The handle of an empty map of this shape.
+pub(super) fn opened<R: Abort>(rt: &R, alloc: Global, shape: Shape) -> Handle<u64> {
     for _attempt in 0..2 {
-        if let Ok(handles) = Handle::open(alloc, shape) {
-            return handles;
+        if let Ok(handle) = Handle::open(alloc, shape) {
+            return handle;
         }
     }
     panic!(rt; "there is memory")
 }
 
-/// The two handles of a map with two seats.
-pub(super) fn two<R: Abort>(rt: &R, handles: Vec<Handle<u64>>) -> (Handle<u64>, Handle<u64>)
-    requires { AreOfOneMap handles.items }
+/// Two handles of a map with two seats.
+pub(super) fn two<R: Abort>(rt: &R, handle: Handle<u64>) -> (Handle<u64>, Handle<u64>)
     ensures { result.0.map ≡ result.1.map }
 {
-    let mut handles = handles;
-    let theirs = handles.pop().expect(rt, "there are two handles");
-    let mine = handles.pop().expect(rt, "there are two handles");
+    let mut mine = handle;
+    let theirs = mine.split().expect(rt, "there are two seats");
     (mine, theirs)
 }
 
-/// The map settles. How many keys it has, or why it doesn't.
-pub(super) fn settles(alloc: Global, handles: &mut Vec<Handle<u64>>) -> Result<u64, SettleFault>
-    requires { AreOfOneMap handles.old.items }
-    ensures { AreOfOneMap handles.new.items }
+/// A handle for each seat. Where memory is refused, the handle comes back.
+pub(super) fn apart<R: Abort>(rt: &R, alloc: Global, handle: Handle<u64>) -> Vec<Handle<u64>>
+    ensures { (m : LongMapOf) × All (λ handle. handle.map ≡ m) result.items }
 {
-    match Handle::settle(alloc, handles) {
-        Err(SettleFault::OutOfMemory) => Handle::settle(alloc, handles),
+    match handle.split_all(alloc) {
+        Ok(handles) => handles,
+        Err(back) => match back.split_all(alloc) {
+            Ok(handles) => handles,
+            Err(_) => panic!(rt; "there is memory"),
+        },
+    }
+}
+
+/// All seats of these handles in one.
+pub(super) fn together<R: Abort>(rt: &R, handles: Vec<Handle<u64>>) -> Handle<u64>
+    requires { (m : LongMapOf) × All (λ handle. handle.map ≡ m) handles.items }
+{
+    let mut handles = handles;
+    let mut whole = handles.pop().expect(rt, "a handle");
+    assert!(rt; whole.join_all(handles).is_ok());
+    whole
+}
+
+/// The map settles. How many keys it has, or why it doesn't.
+pub(super) fn settles(alloc: Global, handle: &mut Handle<u64>) -> Result<u64, SettleFault> {
+    match handle.settle(alloc) {
+        Err(SettleFault::OutOfMemory) => handle.settle(alloc),
         settled => settled,
     }
 }
@@ -197,29 +214,23 @@ pub(super) fn settles(alloc: Global, handles: &mut Vec<Handle<u64>>) -> Result<u
 /// The map is made anew in this shape, or isn't.
 pub(super) fn renews(
     alloc: Global,
-    handles: &mut Vec<Handle<u64>>,
+    handle: &mut Handle<u64>,
     shape: Shape,
-) -> Result<(), RenewFault>
-    requires { AreOfOneMap handles.old.items }
-    ensures { AreOfOneMap handles.new.items }
-{
-    match Handle::renew(alloc, handles, shape) {
-        Err(RenewFault::OutOfMemory) => Handle::renew(alloc, handles, shape),
+) -> Result<(), RenewFault> {
+    match handle.renew(alloc, shape) {
+        Err(RenewFault::OutOfMemory) => handle.renew(alloc, shape),
         renewed => renewed,
     }
 }
 
-/// All keys of a map at rest, with the numbers of their values; none where a handle is missing.
+/// All keys of a map at rest, with the numbers of their values; none where a seat is missing.
 pub(super) fn listed<R: Abort>(
     rt: &R,
     alloc: Global,
-    handles: &mut Vec<Handle<u64>>,
-) -> Option<Vec<(Key, Num)>>
-    requires { AreOfOneMap handles.old.items }
-    ensures { AreOfOneMap handles.new.items }
-{
+    handle: &mut Handle<u64>,
+) -> Option<Vec<(Key, Num)>> {
     for _attempt in 0..2 {
-        match Handle::entries(alloc, handles) {
+        match handle.entries(alloc) {
             Ok(entries) => return Some(entries),
             Err(SettleFault::NotAll) => return None,
             Err(SettleFault::OutOfMemory) => {}
@@ -228,12 +239,10 @@ pub(super) fn listed<R: Abort>(
     panic!(rt; "there is memory")
 }
 
-/// Closes a map, all of whose handles these are. So many keys are left.
-pub(super) fn closes<R: Wait + Abort>(rt: &R, handles: Vec<Handle<u64>>, size: u64)
-    requires { AreOfOneMap handles.items }
-{
-    match Handle::close(rt, handles) {
+/// Closes a map, all of whose seats this handle has. So many keys are left.
+pub(super) fn closes<R: Wait + Abort>(rt: &R, handle: Handle<u64>, size: u64) {
+    match handle.close(rt) {
         Ok((ended, _store)) => assert!(rt; ended.size() == size),
-        Err(_) => panic!(rt; "all handles are here"),
+        Err(_) => panic!(rt; "all seats are here"),
     }
 }

@@ -1,5 +1,4 @@
-//! What a typed map goes through, step by step, with all its handles.
-ghost use Rattle.nb_long.specs.Handles.{AreOfOneMap};
+//! What a typed map goes through, step by step, by the handle that has all its seats.
 
 use super::super::plain::{Sizes, shape};
 use super::by_handles::Call::*;
@@ -11,32 +10,31 @@ use std::alloc::Global;
 use std::process::Abort;
 use std::sync::Wait;
 
-/// What is done with all handles of a map, and what comes of it.
+/// What is done with a handle, and what comes of it.
 #[derive(Clone, Copy)]
 pub(super) enum Step {
-    /// The last of the handles makes these calls.
+    /// It makes these calls.
     Calls(&'static [Call]),
-    /// They settle, and the map has so many keys.
+    /// Its seats settle, and the map has so many keys.
     Settle(Result<u64, SettleFault>),
     /// These keys are listed, in whatever order, with the numbers of these values; none where a
-    /// handle is missing.
+    /// seat is missing.
     List(Option<&'static [(u64, u64)]>),
-    /// The map is made anew in this shape, and has so many handles then.
+    /// The map is made anew in this shape, and the handle has so many seats then.
     Renew(Sizes, Result<(), RenewFault>, usize),
-    /// A handle is lost.
+    /// A seat is split off and lost.
     Without,
 }
 
-/// The value under a number, by the first of the handles.
-pub(super) fn first_shows<R: Abort>(rt: &R, handles: &[Handle<u64>], number: Num) -> u64 {
-    let first = handles.first().expect(rt, "there is a handle");
-    *first.show(number).expect(rt, "the value is shown").value()
+/// The value under a number.
+pub(super) fn shown<R: Abort>(rt: &R, handle: &Handle<u64>, number: Num) -> u64 {
+    *handle.show(number).expect(rt, "the value is shown").value()
 }
 
 /// Sees that these are the keys, each with the number of its value.
 fn are_just<R: Abort>(
     rt: &R,
-    handles: &[Handle<u64>],
+    handle: &Handle<u64>,
     entries: Option<Vec<(Key, Num)>>,
     values: Option<&[(u64, u64)]>,
 ) {
@@ -46,57 +44,35 @@ fn are_just<R: Abort>(
     };
     assert!(rt; entries.len() == values.len());
     for (key, number) in entries {
-        let entry = (key.get(), first_shows(rt, handles, *number));
+        let entry = (key.get(), shown(rt, handle, *number));
         assert!(rt; values.contains(&entry), "key {}", key.get());
     }
 }
 
-/// Makes these calls with the last of the handles.
-fn last_sees<R: Wait + Abort>(rt: &R, handles: &mut Vec<Handle<u64>>, calls: &[Call])
-    requires { AreOfOneMap handles.old.items }
-    ensures { AreOfOneMap handles.new.items }
-{
-    let Some(mut last) = handles.pop() else {
-        panic!(rt; "there is a handle")
-    };
-    sees(rt, &mut last, calls);
-    handles.push_reserved(last);
-}
-
 /// Takes a step.
-pub(super) fn takes<R: Wait + Abort>(
-    rt: &R,
-    alloc: Global,
-    handles: &mut Vec<Handle<u64>>,
-    step: Step,
-)
-    requires { AreOfOneMap handles.old.items }
-    ensures { AreOfOneMap handles.new.items }
-{
+pub(super) fn takes<R: Wait + Abort>(rt: &R, alloc: Global, handle: &mut Handle<u64>, step: Step) {
     match step {
-        Calls(calls) => last_sees(rt, handles, calls),
-        Settle(size) => assert!(rt; settles(alloc, handles) == size),
+        Calls(calls) => sees(rt, handle, calls),
+        Settle(size) => assert!(rt; settles(alloc, handle) == size),
         List(values) => {
-            let entries = listed(rt, alloc, handles);
-            are_just(rt, handles.as_slice(), entries, values);
+            let entries = listed(rt, alloc, handle);
+            are_just(rt, handle, entries, values);
         }
         Renew(sizes, end, count) => {
-            assert!(rt; renews(alloc, handles, shape(rt, sizes)) == end);
-            assert!(rt; handles.len() == count);
+            assert!(rt; renews(alloc, handle, shape(rt, sizes)) == end);
+            assert!(rt; handle.seats() == count);
         }
-        Without => drop(handles.pop()),
+        Without => assert!(rt; handle.split().is_ok()),
     }
 }
 
-/// The handles of a map after these steps.
-fn after<R: Wait + Abort>(rt: &R, alloc: Global, sizes: Sizes, steps: &[Step]) -> Vec<Handle<u64>>
-    ensures { AreOfOneMap result.items }
-{
-    let mut handles = opened(rt, alloc, shape(rt, sizes));
+/// The handle of a map after these steps.
+fn after<R: Wait + Abort>(rt: &R, alloc: Global, sizes: Sizes, steps: &[Step]) -> Handle<u64> {
+    let mut handle = opened(rt, alloc, shape(rt, sizes));
     for step in steps {
-        takes(rt, alloc, &mut handles, *step);
+        takes(rt, alloc, &mut handle, *step);
     }
-    handles
+    handle
 }
 
 /// The same, and so many keys are left.
@@ -127,7 +103,7 @@ const RENEWED_IN_ANOTHER_SHAPE: [Step; 4] = [
     List(Some(&[(1, 12), (2, 20), (3, 30), (4, 40)])),
 ];
 
-/// Where the new shape has too few slots, the old handles work on, and can be made anew in another.
+/// Where the new shape has too few slots, the old map works on, and can be made anew in another.
 const RENEWED_IN_TOO_SMALL_A_SHAPE: [Step; 5] = [
     Calls(&[Put(0, 0), Put(1, 1), Put(2, 2), Put(3, 3), Put(4, 4)]),
     Renew((2, 1, 3, 1), Err(RenewFault::Full), 2),
@@ -156,8 +132,8 @@ fn renewed(rt: HostRuntime) {
     story(&rt, rt.alloc(), (2, 2, 2, 1), &LISTED_WITH_THEIR_VALUES, 2);
 }
 
-/// A handle is missing: nothing is settled, listed or made anew, and the others work on.
-const WITHOUT_A_HANDLE: [Step; 6] = [
+/// A seat is missing: nothing is settled, listed or made anew, and the others work on.
+const WITHOUT_A_SEAT: [Step; 6] = [
     Settle(Ok(0)),
     Without,
     Settle(Err(SettleFault::NotAll)),
@@ -166,34 +142,29 @@ const WITHOUT_A_HANDLE: [Step; 6] = [
     Calls(&[Put(1, 1), Value(1, Some(1))]),
 ];
 
-/// They can't close the map either: they come back.
+/// It can't close the map either: it comes back.
 #[test]
 fn without_a_handle(rt: HostRuntime) {
-    let handles = after(&rt, rt.alloc(), (2, 1, 3, 1), &WITHOUT_A_HANDLE);
-    match Handle::close(&rt, handles) {
-        Err(back) => assert!(rt; back.len() == 2),
-        Ok(_) => panic!(&rt; "a handle is missing"),
+    let handle = after(&rt, rt.alloc(), (2, 1, 3, 1), &WITHOUT_A_SEAT);
+    match handle.close(&rt) {
+        Err(back) => assert!(rt; back.seats() == 2 && !back.is_whole()),
+        Ok(_) => panic!(&rt; "a seat is missing"),
     }
 }
 
 /// The number of a value that was written over shows it still, also where the map was made anew.
 #[test]
 fn numbers_stay_good(rt: HostRuntime) {
-    let mut handles = after(&rt, rt.alloc(), (2, 1, 2, 1), &[Calls(&[Put(1, 10)])]);
-    let entries = listed(&rt, rt.alloc(), &mut handles).expect(&rt, "all handles are here");
+    let mut handle = after(&rt, rt.alloc(), (2, 1, 2, 1), &[Calls(&[Put(1, 10)])]);
+    let entries = listed(&rt, rt.alloc(), &mut handle).expect(&rt, "all seats are here");
     takes(
         &rt,
         rt.alloc(),
-        &mut handles,
+        &mut handle,
         Calls(&[Put(1, 11), Remove(1, true)]),
     );
-    takes(
-        &rt,
-        rt.alloc(),
-        &mut handles,
-        Renew((2, 1, 2, 1), Ok(()), 2),
-    );
-    are_just(&rt, handles.as_slice(), Some(entries), Some(&[(1, 10)]));
+    takes(&rt, rt.alloc(), &mut handle, Renew((2, 1, 2, 1), Ok(()), 2));
+    are_just(&rt, &handle, Some(entries), Some(&[(1, 10)]));
 }
 
 /// The calls of one handle.
@@ -242,7 +213,7 @@ fn calls_by_handles(rt: HostRuntime) {
 }
 
 /// Two keys come, the map settles, is made anew and listed, also where one request for memory is
-/// refused: then the old handles have lost nothing.
+/// refused: then the old map has lost nothing.
 const RENEWED_AGAIN: [Step; 5] = [
     Calls(&[Put(1, 10), Put(2, 20)]),
     Settle(Ok(2)),
@@ -257,6 +228,8 @@ const RENEWED_AGAIN: [Step; 5] = [
 #[test]
 fn refused_memory(rt: HostRuntime) {
     story(&rt, rt.alloc(), (2, 2, 2, 1), &RENEWED_AGAIN, 2);
+    let handle = opened(&rt, rt.alloc(), shape(&rt, (2, 1, 3, 1)));
+    closes(&rt, together(&rt, apart(&rt, rt.alloc(), handle)), 0);
     story(
         &rt,
         rt.alloc(),

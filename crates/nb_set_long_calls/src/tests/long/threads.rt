@@ -1,9 +1,11 @@
 //! Threads that share a typed map by handles.
-ghost use Rattle.nb_long.specs.Handles.{AreOfOneMap, IsSameMap};
+ghost use Rattle.nb_long.specs.Handles.{IsSameMap};
 
 use super::super::plain::{key, shape};
-use super::by_handles::{is_made, listed, opened, renews, settles, value_at};
-use super::stories::first_shows;
+use super::by_handles::{
+    apart, is_made, listed, opened, renews, settles, together, value_at,
+};
+use super::stories::shown;
 use super::updating::{one_more, updated};
 use nb_core::{Key, Num};
 use nb_long::Handle;
@@ -69,11 +71,14 @@ fn writes_often<R: Wait + Abort>(rt: &R, handle: &mut Handle<u64>, thread: u64, 
     let _ = handle.remove(rt, key(rt, round.wrapping_add(9)));
 }
 
-/// Each handle does so in a thread of its own.
-fn all_write<R: Threads + Sync + Wait + Abort>(rt: &R, handles: &mut Vec<Handle<u64>>, round: u64)
-    requires { AreOfOneMap handles.old.items }
-    ensures { AreOfOneMap handles.new.items }
-{
+/// Each seat does so in a thread of its own.
+fn all_write<R: Threads + Sync + Wait + Abort>(
+    rt: &R,
+    alloc: Global,
+    handle: Handle<u64>,
+    round: u64,
+) -> Handle<u64> {
+    let mut handles = apart(rt, alloc, handle);
     thread::for_each_mut(
         rt,
         handles.as_mut_slice(),
@@ -82,13 +87,14 @@ fn all_write<R: Threads + Sync + Wait + Abort>(rt: &R, handles: &mut Vec<Handle<
             ensures { IsSameMap handle.entry.now handle.exit.now }
         { writes_often(rt, handle, thread as u64, round) },
     );
+    together(rt, handles)
 }
 
 /// Each key has a record of its own, and the key 7 the number of all updates: none of them is lost.
-fn are_whole<R: Abort>(rt: &R, handles: &[Handle<u64>], entries: &[(Key, Num)], updates: u64) {
+fn are_whole<R: Abort>(rt: &R, handle: &Handle<u64>, entries: &[(Key, Num)], updates: u64) {
     let mut counted = 0;
     for (key, number) in entries {
-        let value = first_shows(rt, handles, *number);
+        let value = shown(rt, handle, *number);
         if key.get() == 7 {
             counted = value;
         } else {
@@ -101,21 +107,19 @@ fn are_whole<R: Abort>(rt: &R, handles: &[Handle<u64>], entries: &[(Key, Num)], 
 /// Four threads write. Then all entries are listed, the map settles, and is made anew. So it goes
 /// again and again, until the map has had ten times as many different keys as its last table has
 /// slots.
-fn rounds<R: Threads + Sync + Wait + Abort>(rt: &R, alloc: Global, handles: &mut Vec<Handle<u64>>)
-    requires { AreOfOneMap handles.old.items }
-    ensures { AreOfOneMap handles.new.items }
-{
+fn rounds<R: Threads + Sync + Wait + Abort>(rt: &R, alloc: Global, handle: Handle<u64>) {
+    let mut handle = handle;
     for round in 1..81 {
-        all_write(rt, handles, round);
-        let entries = listed(rt, alloc, handles).expect(rt, "all handles are here");
-        are_whole(rt, handles.as_slice(), entries.as_slice(), 800 * round);
-        assert!(rt; settles(alloc, handles) == Ok(entries.len() as u64));
-        assert!(rt; renews(alloc, handles, shape(rt, (2, 2, 4, 1))) == Ok(()));
+        handle = all_write(rt, alloc, handle, round);
+        let entries = listed(rt, alloc, &mut handle).expect(rt, "all seats are here");
+        are_whole(rt, &handle, entries.as_slice(), 800 * round);
+        assert!(rt; settles(alloc, &mut handle) == Ok(entries.len() as u64));
+        assert!(rt; renews(alloc, &mut handle, shape(rt, (2, 2, 4, 1))) == Ok(()));
     }
 }
 
 #[test]
 fn cache_of_four_threads(rt: HostRuntime) {
-    let mut handles = opened(&rt, rt.alloc(), shape(&rt, (2, 2, 4, 1)));
-    rounds(&rt, rt.alloc(), &mut handles);
+    let handle = opened(&rt, rt.alloc(), shape(&rt, (2, 2, 4, 1)));
+    rounds(&rt, rt.alloc(), handle);
 }

@@ -1,7 +1,8 @@
-//! Rows of calls by a handle; and what all handles of a set do together. A call that takes memory
-//! is made again where its memory is refused, and then has it.
-ghost use Rattle.std.specs.Prelude.{IfSome};
-ghost use Rattle.nb_set.specs.Handles.{AreOfOneSet, IsSameSet};
+//! Rows of calls by a handle; and what a handle with all seats does for the whole set. A call that
+//! takes memory is made again where its memory is refused, and then has it.
+ghost use Rattle.std.specs.Prelude.{All, ◌≡◌};
+ghost use Rattle.nb_set.specs.Handles.{IsSameSet};
+ghost use Rattle.nb_set.specs.Sets.{SetOf};
 
 use super::super::plain::{key, keys};
 use super::rows::Call::*;
@@ -87,47 +88,26 @@ pub(super) fn sees<R: Wait + Abort>(rt: &R, alloc: Global, handle: &mut Handle, 
     }
 }
 
-/// Makes these calls with the last of the handles.
-pub(super) fn last_sees<R: Wait + Abort>(
-    rt: &R,
-    alloc: Global,
-    handles: &mut Vec<Handle>,
-    calls: &[Call],
-)
-    requires { AreOfOneSet handles.old.items }
-    ensures { AreOfOneSet handles.new.items }
-{
-    let Some(mut handle) = handles.pop() else {
-        panic!(rt; "there is a handle")
-    };
-    sees(rt, alloc, &mut handle, calls);
-    handles.push_reserved(handle);
-}
-
-/// The handles of an empty set of this shape.
-pub(super) fn opened<R: Abort>(rt: &R, alloc: Global, shape: Shape) -> Vec<Handle>
-    ensures { AreOfOneSet result.items }
-{
+/// The handle of an empty set of this shape.
+pub(super) fn opened<R: Abort>(rt: &R, alloc: Global, shape: Shape) -> Handle {
     for _attempt in 0..2 {
-        if let Ok(handles) = Handle::open(alloc, shape) {
-            return handles;
+        if let Ok(handle) = Handle::open(alloc, shape) {
+            return handle;
         }
     }
     panic!(rt; "there is memory")
 }
 
-/// The handles of a set of this shape that has these keys; none where it has no room for them.
+/// The handle of a set of this shape that has these keys; none where it has no room for them.
 pub(super) fn opened_with<R: Abort>(
     rt: &R,
     alloc: Global,
     shape: Shape,
     keys: &[Key],
-) -> Option<Vec<Handle>>
-    ensures { IfSome result (λ handles. AreOfOneSet handles.items) }
-{
+) -> Option<Handle> {
     for _attempt in 0..2 {
         match Handle::open_with(alloc, shape, keys) {
-            Ok(handles) => return Some(handles),
+            Ok(handle) => return Some(handle),
             Err(OpenFault::Full) => return None,
             Err(OpenFault::OutOfMemory) => {}
         }
@@ -136,38 +116,25 @@ pub(super) fn opened_with<R: Abort>(
 }
 
 /// The set settles. How many keys it has, or why it doesn't.
-pub(super) fn settles(alloc: Global, handles: &mut Vec<Handle>) -> Result<u64, SettleFault>
-    requires { AreOfOneSet handles.old.items }
-    ensures { AreOfOneSet handles.new.items }
-{
-    match Handle::settle(alloc, handles) {
-        Err(SettleFault::OutOfMemory) => Handle::settle(alloc, handles),
+pub(super) fn settles(alloc: Global, handle: &mut Handle) -> Result<u64, SettleFault> {
+    match handle.settle(alloc) {
+        Err(SettleFault::OutOfMemory) => handle.settle(alloc),
         settled => settled,
     }
 }
 
 /// The set is made anew in this shape, or isn't.
-pub(super) fn renews(
-    alloc: Global,
-    handles: &mut Vec<Handle>,
-    shape: Shape,
-) -> Result<(), RenewFault>
-    requires { AreOfOneSet handles.old.items }
-    ensures { AreOfOneSet handles.new.items }
-{
-    match Handle::renew(alloc, handles, shape) {
-        Err(RenewFault::OutOfMemory) => Handle::renew(alloc, handles, shape),
+pub(super) fn renews(alloc: Global, handle: &mut Handle, shape: Shape) -> Result<(), RenewFault> {
+    match handle.renew(alloc, shape) {
+        Err(RenewFault::OutOfMemory) => handle.renew(alloc, shape),
         renewed => renewed,
     }
 }
 
-/// All keys of a set at rest; none where a handle is missing.
-pub(super) fn listed<R: Abort>(rt: &R, alloc: Global, handles: &mut Vec<Handle>) -> Option<Vec<Key>>
-    requires { AreOfOneSet handles.old.items }
-    ensures { AreOfOneSet handles.new.items }
-{
+/// All keys of a set at rest; none where a seat is missing.
+pub(super) fn listed<R: Abort>(rt: &R, alloc: Global, handle: &mut Handle) -> Option<Vec<Key>> {
     for _attempt in 0..2 {
-        match Handle::keys(alloc, handles) {
+        match handle.keys(alloc) {
             Ok(keys) => return Some(keys),
             Err(SettleFault::NotAll) => return None,
             Err(SettleFault::OutOfMemory) => {}
@@ -176,13 +143,34 @@ pub(super) fn listed<R: Abort>(rt: &R, alloc: Global, handles: &mut Vec<Handle>)
     panic!(rt; "there is memory")
 }
 
-/// What is left of the set.
-pub(super) fn closed<R: Wait + Abort>(rt: &R, handles: Vec<Handle>) -> SetEnded
-    requires { AreOfOneSet handles.items }
+/// A handle for each seat. Where memory is refused, the handle comes back.
+pub(super) fn apart<R: Abort>(rt: &R, alloc: Global, handle: Handle) -> Vec<Handle>
+    ensures { (set : SetOf) × All (λ handle. handle.set ≡ set) result.items }
 {
-    match Handle::close(rt, handles) {
+    match handle.split_all(alloc) {
+        Ok(handles) => handles,
+        Err(back) => match back.split_all(alloc) {
+            Ok(handles) => handles,
+            Err(_) => panic!(rt; "there is memory"),
+        },
+    }
+}
+
+/// All seats of these handles in one.
+pub(super) fn together<R: Abort>(rt: &R, handles: Vec<Handle>) -> Handle
+    requires { (set : SetOf) × All (λ handle. handle.set ≡ set) handles.items }
+{
+    let mut handles = handles;
+    let mut whole = handles.pop().expect(rt, "a handle");
+    assert!(rt; whole.join_all(handles).is_ok());
+    whole
+}
+
+/// What is left of the set.
+pub(super) fn closed<R: Wait + Abort>(rt: &R, handle: Handle) -> SetEnded {
+    match handle.close(rt) {
         Ok(ended) => ended,
-        Err(_) => panic!(rt; "all handles are here"),
+        Err(_) => panic!(rt; "all seats are here"),
     }
 }
 

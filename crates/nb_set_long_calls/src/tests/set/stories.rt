@@ -1,5 +1,4 @@
-//! What a set goes through, step by step, with all its handles.
-ghost use Rattle.nb_set.specs.Handles.{AreOfOneSet};
+//! What a set goes through, step by step, by the handle that has all its seats.
 
 use super::super::plain::{Sizes, keys, shape};
 use super::by_handles::*;
@@ -12,18 +11,18 @@ use std::alloc::Global;
 use std::process::Abort;
 use std::sync::Wait;
 
-/// What is done with all handles of a set, and what comes of it.
+/// What is done with a handle, and what comes of it.
 #[derive(Clone, Copy)]
 pub(super) enum Step {
-    /// The last of the handles makes these calls.
+    /// It makes these calls.
     Calls(&'static [Call]),
-    /// They settle, and the set has so many keys.
+    /// Its seats settle, and the set has so many keys.
     Settle(Result<u64, SettleFault>),
-    /// These keys are listed, in whatever order; none where a handle is missing.
+    /// These keys are listed, in whatever order; none where a seat is missing.
     List(Option<&'static [u64]>),
-    /// The set is made anew in this shape, and has so many handles then.
+    /// The set is made anew in this shape, and the handle has so many seats then.
     Renew(Sizes, Result<(), RenewFault>, usize),
-    /// A handle is lost.
+    /// A seat is split off and lost.
     Without,
 }
 
@@ -40,40 +39,35 @@ pub(super) fn are_just<R: Abort>(rt: &R, keys: Option<Vec<Key>>, numbers: Option
 }
 
 /// Takes a step.
-pub(super) fn takes<R: Wait + Abort>(rt: &R, alloc: Global, handles: &mut Vec<Handle>, step: Step)
-    requires { AreOfOneSet handles.old.items }
-    ensures { AreOfOneSet handles.new.items }
-{
+pub(super) fn takes<R: Wait + Abort>(rt: &R, alloc: Global, handle: &mut Handle, step: Step) {
     match step {
-        Calls(calls) => last_sees(rt, alloc, handles, calls),
-        Settle(size) => assert!(rt; settles(alloc, handles) == size),
-        List(numbers) => are_just(rt, listed(rt, alloc, handles), numbers),
+        Calls(calls) => sees(rt, alloc, handle, calls),
+        Settle(size) => assert!(rt; settles(alloc, handle) == size),
+        List(numbers) => are_just(rt, listed(rt, alloc, handle), numbers),
         Renew(sizes, end, count) => {
-            assert!(rt; renews(alloc, handles, shape(rt, sizes)) == end);
-            assert!(rt; handles.len() == count);
+            assert!(rt; renews(alloc, handle, shape(rt, sizes)) == end);
+            assert!(rt; handle.seats() == count);
         }
-        Without => drop(handles.pop()),
+        Without => assert!(rt; handle.split().is_ok()),
     }
 }
 
-/// The handles of a set that has these keys from the start, after these steps.
+/// The handle of a set that has these keys from the start, after these steps.
 fn after<R: Wait + Abort>(
     rt: &R,
     alloc: Global,
     sizes: Sizes,
     numbers: &[u64],
     steps: &[Step],
-) -> Vec<Handle>
-    ensures { AreOfOneSet result.items }
-{
+) -> Handle {
     let keys = keys(rt, alloc, numbers);
-    let Some(mut handles) = opened_with(rt, alloc, shape(rt, sizes), keys.as_slice()) else {
+    let Some(mut handle) = opened_with(rt, alloc, shape(rt, sizes), keys.as_slice()) else {
         panic!(rt; "there is room for the keys")
     };
     for step in steps {
-        takes(rt, alloc, &mut handles, *step);
+        takes(rt, alloc, &mut handle, *step);
     }
-    handles
+    handle
 }
 
 /// The same, and just these keys are left.
@@ -85,11 +79,11 @@ fn story<R: Wait + Abort>(
     steps: &[Step],
     left: &[u64],
 ) {
-    let handles = after(rt, alloc, sizes, numbers, steps);
-    has_left(rt, alloc, &closed(rt, handles), left);
+    let handle = after(rt, alloc, sizes, numbers, steps);
+    has_left(rt, alloc, &closed(rt, handle), left);
 }
 
-/// A key that comes twice is there once, and each handle knows of all.
+/// A key that comes twice is there once, and each seat knows of all.
 const OPENED_WITH_KEYS: [Call; 4] = [
     Contains(1, true),
     Add(2, Some(false)),
@@ -126,11 +120,11 @@ fn opened_with_too_many(rt: HostRuntime) {
 fn opened_with_what_is_left(rt: HostRuntime) {
     let left = closed(&rt, after(&rt, rt.alloc(), (2, 2, 2, 1), &[5, 3], &[]));
     let keys = entries(&rt, rt.alloc(), &left);
-    let handles = opened_with(&rt, rt.alloc(), shape(&rt, (2, 2, 2, 1)), keys.as_slice());
+    let handle = opened_with(&rt, rt.alloc(), shape(&rt, (2, 2, 2, 1)), keys.as_slice());
     has_left(
         &rt,
         rt.alloc(),
-        &closed(&rt, handles.expect(&rt, "room")),
+        &closed(&rt, handle.expect(&rt, "room")),
         &[3, 5],
     );
 }
@@ -155,7 +149,7 @@ const RENEWED_IN_ANOTHER_SHAPE: [Step; 3] = [
     ]),
 ];
 
-/// Where the new shape has too few slots, the old handles work on, and can be made anew in another.
+/// Where the new shape has too few slots, the old set works on, and can be made anew in another.
 const RENEWED_IN_TOO_SMALL_A_SHAPE: [Step; 3] = [
     Renew((2, 1, 3, 1), Err(RenewFault::Full), 2),
     Calls(&[Contains(4, true), Remove(4, true), Add(5, Some(true))]),
@@ -221,8 +215,8 @@ fn calls_by_a_handle(rt: HostRuntime) {
     );
 }
 
-/// A handle is missing: nothing is settled, listed or made anew, and the others work on.
-const WITHOUT_A_HANDLE: [Step; 7] = [
+/// A seat is missing: nothing is settled, listed or made anew, and the others work on.
+const WITHOUT_A_SEAT: [Step; 7] = [
     Settle(Ok(0)),
     Without,
     Settle(Err(SettleFault::NotAll)),
@@ -232,24 +226,21 @@ const WITHOUT_A_HANDLE: [Step; 7] = [
     Settle(Err(SettleFault::NotAll)),
 ];
 
-/// The handles that come back, since they don't close their set.
-fn closes_not<R: Wait + Abort>(rt: &R, handles: Vec<Handle>) -> Vec<Handle>
-    requires { AreOfOneSet handles.items }
-    ensures { AreOfOneSet result.items }
-{
-    match Handle::close(rt, handles) {
+/// The handle that comes back, since it doesn't close its set.
+fn closes_not<R: Wait + Abort>(rt: &R, handle: Handle) -> Handle {
+    match handle.close(rt) {
         Err(back) => back,
-        Ok(_) => panic!(rt; "a handle is missing"),
+        Ok(_) => panic!(rt; "a seat is missing"),
     }
 }
 
-/// They can't close the set either: they come back, and the set works on.
+/// It can't close the set either: it comes back, and the set works on.
 #[test]
 fn without_a_handle(rt: HostRuntime) {
-    let handles = after(&rt, rt.alloc(), (2, 1, 3, 1), &[], &WITHOUT_A_HANDLE);
-    let mut back = closes_not(&rt, handles);
-    assert!(rt; back.len() == 2);
-    last_sees(
+    let handle = after(&rt, rt.alloc(), (2, 1, 3, 1), &[], &WITHOUT_A_SEAT);
+    let mut back = closes_not(&rt, handle);
+    assert!(rt; back.seats() == 2 && !back.is_whole());
+    sees(
         &rt,
         rt.alloc(),
         &mut back,
@@ -258,7 +249,7 @@ fn without_a_handle(rt: HostRuntime) {
 }
 
 /// A set that has keys from the start settles, is listed and is made anew, also where one request
-/// for memory is refused: then its handles have lost nothing.
+/// for memory is refused: then it has lost nothing.
 const REFUSED_MEMORY: [Step; 4] = [
     Settle(Ok(2)),
     List(Some(&[1, 2])),
@@ -270,8 +261,9 @@ const REFUSED_MEMORY: [Step; 4] = [
 /// whichever one request is refused.
 #[test]
 fn refused_memory(rt: HostRuntime) {
-    let handles = opened(&rt, rt.alloc(), shape(&rt, (2, 2, 3, 1)));
-    has_left(&rt, rt.alloc(), &closed(&rt, handles), &[]);
+    let handle = opened(&rt, rt.alloc(), shape(&rt, (2, 2, 3, 1)));
+    let handle = together(&rt, apart(&rt, rt.alloc(), handle));
+    has_left(&rt, rt.alloc(), &closed(&rt, handle), &[]);
     story(
         &rt,
         rt.alloc(),

@@ -1,8 +1,8 @@
 //! Threads that share a set by handles.
-ghost use Rattle.nb_set.specs.Handles.{AreOfOneSet, IsSameSet};
+ghost use Rattle.nb_set.specs.Handles.{IsSameSet};
 
 use super::super::plain::{key, shape};
-use super::by_handles::{closed, last_sees, listed, opened};
+use super::by_handles::{apart, closed, listed, opened, sees, together};
 use super::rows::Call::Add;
 use super::stories::Step::{Renew, Settle};
 use super::stories::takes;
@@ -54,16 +54,15 @@ fn churns<R: Wait + Abort>(rt: &R, handle: &mut Handle, thread: u64, told: &Told
     let _ = handle.remove(rt, key(rt, round.wrapping_add(9)));
 }
 
-/// Each handle does so in a thread of its own.
+/// Each seat does so in a thread of its own.
 fn all_churn<R: Threads + Sync + Wait + Abort>(
     rt: &R,
-    handles: &mut Vec<Handle>,
+    alloc: Global,
+    handle: Handle,
     told: &Told,
     round: u64,
-)
-    requires { AreOfOneSet handles.old.items }
-    ensures { AreOfOneSet handles.new.items }
-{
+) -> Handle {
+    let mut handles = apart(rt, alloc, handle);
     thread::for_each_mut(
         rt,
         handles.as_mut_slice(),
@@ -72,6 +71,7 @@ fn all_churn<R: Threads + Sync + Wait + Abort>(
             ensures { IsSameSet handle.entry.now handle.exit.now }
         { churns(rt, handle, thread as u64, told, round) },
     );
+    together(rt, handles)
 }
 
 /// Of each common key there were as many adds that were answered true as removals that were, and
@@ -94,36 +94,33 @@ fn are_kept<R: Abort>(rt: &R, told: &Told, keys: &[Key]) -> u64 {
 fn rounds<R: Threads + Sync + Wait + Abort>(
     rt: &R,
     alloc: Global,
-    handles: &mut Vec<Handle>,
+    handle: Handle,
     told: &Told,
-) -> u64
-    requires { AreOfOneSet handles.old.items }
-    ensures { AreOfOneSet handles.new.items }
-{
-    let mut size = 0;
+) -> (u64, Handle) {
+    let (mut size, mut handle) = (0, handle);
     for round in 1..161 {
-        all_churn(rt, handles, told, round);
-        let keys = listed(rt, alloc, handles).expect(rt, "all handles are here");
+        handle = all_churn(rt, alloc, handle, told, round);
+        let keys = listed(rt, alloc, &mut handle).expect(rt, "all seats are here");
         size = are_kept(rt, told, keys.as_slice());
-        takes(rt, alloc, handles, Settle(Ok(size)));
+        takes(rt, alloc, &mut handle, Settle(Ok(size)));
         if round % 4 == 0 {
-            takes(rt, alloc, handles, Renew((2, 3, 4, 4), Ok(()), 4));
+            takes(rt, alloc, &mut handle, Renew((2, 3, 4, 4), Ok(()), 4));
         }
     }
-    size
+    (size, handle)
 }
 
 #[test]
 fn four_threads_the_same_keys(rt: HostRuntime) {
-    let mut handles = opened(&rt, rt.alloc(), shape(&rt, (2, 3, 4, 4)));
+    let mut handle = opened(&rt, rt.alloc(), shape(&rt, (2, 3, 4, 4)));
     let told = [
         AtomicU64::new(0),
         AtomicU64::new(0),
         AtomicU64::new(0),
         AtomicU64::new(0),
     ];
-    last_sees(&rt, rt.alloc(), &mut handles, &[Add(5, Some(true))]);
-    let size = rounds(&rt, rt.alloc(), &mut handles, &told);
-    let ended = closed(&rt, handles);
+    sees(&rt, rt.alloc(), &mut handle, &[Add(5, Some(true))]);
+    let (size, handle) = rounds(&rt, rt.alloc(), handle, &told);
+    let ended = closed(&rt, handle);
     assert!(rt; ended.contains(key(&rt, 170)) && ended.size() == size);
 }

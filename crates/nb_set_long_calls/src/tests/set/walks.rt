@@ -1,7 +1,7 @@
 //! Walks over a set, and functions over handles.
 ghost use Rattle.std.specs.Prelude.{◌≡◌, ◌==◌, ℕ, List};
 ghost use Rattle.std.specs.List.{list_any};
-ghost use Rattle.nb_set.specs.Handles.{AreOfOneSet, IsSameSet};
+ghost use Rattle.nb_set.specs.Handles.{IsSameSet};
 ghost use Rattle.nb_set.specs.Sets.{IsMine};
 ghost use Rattle.nb_set.specs.Walks.{HasShownAll, IsWalkOf};
 
@@ -123,14 +123,12 @@ fn adds_and_looks<R: Wait>(rt: &R, handle: &mut Handle, key: Key) -> bool
     handle.add(rt, key).is_ok() && handle.contains(key)
 }
 
-/// The two handles of a set with two seats.
-fn two<R: Abort>(rt: &R, handles: Vec<Handle>) -> (Handle, Handle)
-    requires { AreOfOneSet handles.items }
+/// Two handles of a set with two seats.
+fn two<R: Abort>(rt: &R, handle: Handle) -> (Handle, Handle)
     ensures { result.0.set ≡ result.1.set }
 {
-    let mut handles = handles;
-    let theirs = handles.pop().expect(rt, "there are two handles");
-    let mine = handles.pop().expect(rt, "there are two handles");
+    let mut mine = handle;
+    let theirs = mine.split().expect(rt, "there are two seats");
     (mine, theirs)
 }
 
@@ -159,8 +157,8 @@ const SEES_BOTH: [Call; 8] = [
 /// Handles meet after functions that work with them, and see what the other one did.
 #[test]
 fn functions_over_handles(rt: HostRuntime) {
-    let handles = opened(&rt, rt.alloc(), shape(&rt, (4, 4, 2, 1)));
-    let (mut mine, mut theirs) = two(&rt, handles);
+    let handle = opened(&rt, rt.alloc(), shape(&rt, (4, 4, 2, 1)));
+    let (mut mine, mut theirs) = two(&rt, handle);
     adds_and_meets(&rt, &mut mine, &mut theirs, key(&rt, 5));
     adds_and_meets(&rt, &mut theirs, &mut mine, key(&rt, 6));
     sees(&rt, rt.alloc(), &mut theirs, &SEES_BOTH);

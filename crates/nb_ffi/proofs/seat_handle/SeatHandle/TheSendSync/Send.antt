@@ -10,17 +10,17 @@ use Rattle.std.specs.Global.{Global}
 use Rattle.std.proofs.Crossing as heap
 use Rattle.std_alloc.proofs.SendSync.{quiet, lies}
 use Rattle.std_heap.proofs.Global.TheSendSync as handle
-use Rattle.nb_ffi.proofs.Crossing.{session_send}
+use Rattle.nb_ffi.proofs.Crossing.{handle_send}
 use Rattle.nb_ffi.specs.Owning.{handle_owns}
-use Rattle.nb_ffi.specs.contracts.session.Session as Session
+use Rattle.nb_map.specs.contracts.handle.Handle as Handle
 use Rattle.nb_ffi.specs.contracts.seat_handle.SeatHandle.{the_row, the_type}
 
-session_keyless : (alloc : Global) (ptr : Ptr) (it : Option Session.the_row.Denot) → Keyless (handle_owns Session.the_row alloc ptr it)
-session_keyless alloc ptr None = tt
-session_keyless alloc ptr (Some it) = (lies Session.the_row session_send ptr it, heap.frees.frees alloc (raw (lone Session.the_row.mir)) ptr)
+handle_keyless : (alloc : Global) (ptr : Ptr) (it : Option Handle.the_row.Denot) → Keyless (handle_owns Handle.the_row alloc ptr it)
+handle_keyless alloc ptr None = tt
+handle_keyless alloc ptr (Some it) = (lies Handle.the_row handle_send ptr it, heap.frees.frees alloc (raw (lone Handle.the_row.mir)) ptr)
 
 pub send : IsSend the_row
 send =
     let all : AllSend (fields the_type) = (search sendable, (handle.the_field_send, tt)) in
-    owning_send the_type all (λ d. session_keyless d.alloc d.ptr d.session)
+    owning_send the_type all (λ d. handle_keyless d.alloc d.ptr d.handle)
     (λ k. quiet (to the_type) (exits_of k (fields the_type)) ((struct_send (shape the_type) all).leaving k))

@@ -1,4 +1,4 @@
--- `empty` of the handle of a session.
+-- `empty` of the handle of C that stands for a map's handle.
 use Rattle.nb_ffi.specs.contracts.seat_handle.SeatHandle.empty.Key.{name}
 use Rattle.nb_ffi.proofs.SeatBox.{seat}
 use Rattle.nb_ffi.proofs.HandleEmpty as handle

@@ -1,4 +1,4 @@
--- `lend` of the handle of a session.
+-- `lend` of the handle of C that stands for a map's handle.
 use Rattle.nb_ffi.specs.contracts.seat_handle.SeatHandle.lend.Key.{name}
 use Rattle.nb_ffi.proofs.SeatBox.{seat}
 use Rattle.nb_ffi.proofs.HandleLend as handle

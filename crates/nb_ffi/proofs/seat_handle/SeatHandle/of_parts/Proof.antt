@@ -1,4 +1,4 @@
--- `of_parts` of the handle of a session.
+-- `of_parts` of the handle of C that stands for a map's handle.
 use Rattle.nb_ffi.specs.contracts.seat_handle.SeatHandle.of_parts.Key.{name}
 use Rattle.nb_ffi.proofs.SeatBox.{seat}
 use Rattle.nb_ffi.proofs.HandleMove as handle

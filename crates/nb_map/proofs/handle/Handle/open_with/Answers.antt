@@ -1,14 +1,10 @@
-use Rattle.nb_map.proofs.Opened.{begin-shared, shared-one}
+use Rattle.std.proofs.Common.{◌∙◌, ap, length, sym}
+use Rattle.std.proofs.lemmas.List.{length-map}
+use Rattle.std.proofs.lemmas.List.FromFn.{length-range_with_len}
 use Rattle.nb_map.proofs.handle.Handle.open_with.Goals as goal
 
-pub returns-clause-begun : goal.returns-clause-begun
-returns-clause-begun c =
-    begin-shared c.in_ok-map.map c.args.shape _ c.in_ok-map.seats.items c.in_ok-handles.handles.items
-    c.in_ok-map.ensures.made c.in_ok-map.ensures.begun c.in_ok-handles.ensures
-
-pub returns-clause-one : goal.returns-clause-one
-returns-clause-one c = (
-  c.in_ok-map.map,
-  shared-one c.in_ok-map.map c.in_ok-map.seats.items c.in_ok-handles.handles.items
-      c.in_ok-handles.ensures,
-)
+pub holding-requires-clause-all : goal.holding-requires-clause-all
+holding-requires-clause-all c =
+    sym (length-map c.in_ok-map.seats.items (λ seat. seat.chain.number))
+    ∙ ap length c.in_ok-map.ensures.begun.numbered
+    ∙ length-range_with_len 0 c.in_ok-map.map.chain.shape.seats

@@ -8,7 +8,7 @@ use Rattle.nb_online.proofs.part.Part.work.Goals as goal
 pub loop-request-init : goal.loop-request-init
 loop-request-init g c =
     let handle = c.args.handle.now in
-    (refl, done-none handle.set c.args.self.now handle.seat c.known.ensures.own)
+    (record { set = refl; reserve = refl }, done-none handle.set c.args.self.now handle.seat c.known.ensures.own)
 
 pub returns-in_err-make-clause-stopped : goal.returns-in_err-make-clause-stopped
 returns-in_err-make-clause-stopped g c =
@@ -20,7 +20,7 @@ returns-in_err-make-clause-stopped g c =
     (slice_get_read c.deref.result.now _ now.self.done request refl lookup.3.0 lookup.1) in
     let refused = c.in_err-make.ensures.refused in
     let full = subst (λ set. HasNoRoom set request.key now.handle.seat c.make.new.handle.seat)
-    now.invariant.0 refused.1 in
+    now.invariant.0.set refused.1 in
     on-err c.from_residual.result (stopped first.set c.args.self.now now.self _ first.seat
     now.handle.seat c.make.new.handle.seat request now.invariant.1 at refused.0 full refl refl
     refused.2)
@@ -36,4 +36,10 @@ loop-request-preserved g c =
     let made = c.in_ok-make.ensures.made in
     let done = done-more c.args.self.now now.self _ first.seat now.handle.seat
     c.make.new.handle.seat request made.0 now.invariant.1 at made.1 made.2 refl refl in
-    (c.in_ok-make.ensures.same ∙ now.invariant.0, done)
+    let rest = c.in_ok-make.ensures.rest in (
+      record {
+        set = rest.set ∙ now.invariant.0.set;
+        reserve = rest.reserve ∙ now.invariant.0.reserve;
+      },
+      done,
+    )

@@ -1,4 +1,5 @@
-use Rattle.std.proofs.Common.{◌∙◌, None, Some, refl, rules, subst}
+use Rattle.std.proofs.Common.{None, Some, refl, rules, subst}
+use Rattle.nb_set.proofs.Handles.{keeps-on}
 use Rattle.nb_set.proofs.Swept.{sweep-all, sweep-begun, sweep-kept}
 use Rattle.nb_set.specs.Promises.{HasWalkedOn}
 use Rattle.nb_set.specs.Sets.{SetOf}
@@ -8,18 +9,18 @@ pub loop-key-init : goal.loop-key-init
 loop-key-init g c = (
   c.requires.callable,
   sweep-begun c.begin_walk-walk.ensures.begun,
-  c.begin_walk-walk.ensures.same,
+  c.begin_walk-walk.ensures.rest,
 )
 
 pub loop-key-preserved : goal.loop-key-preserved
 loop-key-preserved g c =
-    let same = c.loop-key.invariant.2 in (
+    let rest = c.loop-key.invariant.2 in (
       c.show.ensures.callable,
       sweep-kept c.in-Some.key c.show.new.visit c.loop-key.invariant.1
           (subst (λ (set : SetOf). HasWalkedOn set c.loop-key.self.seat c.next_key.new.self.seat
-          c.loop-key.walk c.next_key.new.walk (Some c.in-Some.key)) same
+          c.loop-key.walk c.next_key.new.walk (Some c.in-Some.key)) rest.set
           c.in-Some.ensures.walked) (refl, c.show.ensures.stepped),
-      c.in-Some.ensures.same ∙ same,
+      keeps-on c.in-Some.ensures.rest rest,
     )
 
 pub returns-clause-swept : goal.returns-clause-swept
@@ -28,4 +29,4 @@ returns-clause-swept g c =
     c.loop-key.walk c.next_key.new.walk None = search rules in
     sweep-all {walk' = c.next_key.new.walk} c.loop-key.invariant.1
     (subst (λ (set : SetOf). HasWalkedOn set c.loop-key.self.seat c.next_key.new.self.seat
-    c.loop-key.walk c.next_key.new.walk None) c.loop-key.invariant.2 on)
+    c.loop-key.walk c.next_key.new.walk None) c.loop-key.invariant.2.set on)

@@ -1,5 +1,5 @@
-use Rattle.std.proofs.Common.{◌≡◌}
 use Rattle.nb_set.proofs.Swept.{HasSweptTo}
+use Rattle.nb_set.specs.Handles.{KeepsRest}
 use Rattle.nb_set.specs.Walks.{slots_before}
 use Rattle.nb_set.proofs.handle.Handle.retain.Given as goal
 
@@ -7,7 +7,7 @@ abbrev pub invariant-loop-key : goal.invariant-loop-key
 invariant-loop-key g l =
     goal.F-IsAlwaysCallable g l.keep
     × HasSweptTo l.fn.self.set (goal.F-step g) l.fn.self.seat l.fn.keep l.self.seat l.walk l.keep
-    × (l.self.set ≡ l.fn.self.set)
+    × KeepsRest l.fn.self l.self
 
 abbrev pub decreases-loop-key : goal.decreases-loop-key
 decreases-loop-key g l = slots_before l.fn.self.set l.walk

@@ -8,7 +8,7 @@ use Rattle.nb_set.proofs.handle.Handle.walk.Goals as goal
 
 pub returns-clause-begun : goal.returns-clause-begun
 returns-clause-begun c =
-    let after : SeatOf = record { map = c.walk.result.seat } in
+    let after : SeatOf = record { map = c.walk.result.handle.seat } in
     let walk : WalkOf = record { map = c.walk.result.walk } in
     subst (λ (handle : HandleOf). HasBegunWalk handle.set handle.seat after walk) c.self.view_is
     (begun-walk c.walk.ensures.begun)

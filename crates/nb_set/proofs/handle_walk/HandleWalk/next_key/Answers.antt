@@ -1,6 +1,7 @@
 use Rattle.std.proofs.Common.{None, Some, subst, subst₂, sym}
+use Rattle.nb_set.specs.Handles.{as_walk}
 use Rattle.nb_set.specs.Promises.{HandleHasWalkedOn}
-use Rattle.nb_set.proofs.Promised.{as_walk, handle-walked-on}
+use Rattle.nb_set.proofs.Promised.{handle-walked-on}
 use Rattle.nb_set.proofs.handle_walk.HandleWalk.next_key.Goals as goal
 
 pub returns-in_err-key : goal.returns-in_err-key

@@ -2,10 +2,11 @@ use Rattle.std.proofs.Common.{◌≡◌, ◌∙◌, ap, inr, map, subst, subst�
 use Rattle.std.proofs.lemmas.Result.{IfOk-weaker}
 use Rattle.nb_map.specs.Entries as of_map
 use Rattle.nb_map.specs.Maps as maps
-use Rattle.nb_set.specs.Listing.{HaveListed, HaveOnlyAsked}
+use Rattle.nb_set.specs.Renewing.{HaveOnlyAsked}
 use Rattle.nb_set.specs.Sets.{AreMine, SetOf, seat_on}
 use Rattle.nb_set.proofs.Dealt.{in-map, in-on, mine-as, mine-in, on-in}
-use Rattle.nb_set.proofs.Listed.{asked-as, listed-as}
+use Rattle.nb_set.proofs.Listed.{listed-as}
+use Rattle.nb_set.proofs.Renewed.{asked-as}
 use Rattle.nb_set.proofs.set.LongSet.keys.Goals as goal
 
 pub entries-listed-requires : goal.entries-listed-requires
@@ -38,9 +39,9 @@ returns-clause-asked c =
     ∙ ap (λ v. in-map v.items) c.replace-given.ensures.value in
     let after : in-map c.put_on_set.new.seats.items ≡ c.entries-listed.new.seats.items
     = ap in-map c.put_on_set.ensures ∙ in-on c.entries-listed.new.seats.items in
-    subst (λ set. HaveOnlyAsked set c.args.seats.now.items c.put_on_set.new.seats.items)
+    inr (subst (λ set. HaveOnlyAsked set c.args.seats.now.items c.put_on_set.new.seats.items)
     c.self.view_is
-    (inr (asked-as set c.args.seats.now.items c.put_on_set.new.seats.items
+    (asked-as set c.args.seats.now.items c.put_on_set.new.seats.items
     (subst₂ (of_map.HaveOnlyRead c.self.inside.map) before (sym after)
     c.entries-listed.ensures.read)))
 

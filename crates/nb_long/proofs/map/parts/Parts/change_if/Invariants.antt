@@ -1,11 +1,18 @@
+use Rattle.nb_map.specs.Handles.{KeepsRest}
 use Rattle.nb_map.specs.Maps.{IsMine}
 use Rattle.nb_long.specs.Typed.{HasIdled}
 use Rattle.nb_long.proofs.map.parts.Parts.change_if.Given as goal
 
 abbrev pub invariant-loop : goal.invariant-loop
-invariant-loop g l = record {
-  can_next : (goal.iterator-loop g).can_next l.iterator';
-  is_finite : (goal.iterator-loop g).is_finite l.iterator';
-  own : IsMine l.self.map l.seat;
-  idle : HasIdled l.self l.key l.initial.seat l.seat;
-}
+invariant-loop g l =
+    let handle = g.M.Numbers.handle l.self.map.now in
+    let first = handle l.initial.caller in
+    let now = handle l.caller in
+    record {
+      can_next : (goal.iterator-loop g).can_next l.iterator';
+      is_finite : (goal.iterator-loop g).is_finite l.iterator';
+      own : IsMine first.map now.seat;
+      idle : HasIdled (record { map = first.map; store = l.self.store.now }) l.key first.seat
+          now.seat;
+      rest : KeepsRest first now;
+    }

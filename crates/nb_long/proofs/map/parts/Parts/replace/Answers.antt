@@ -1,21 +1,20 @@
-use Rattle.std.proofs.Common.{None, Ok, refl, subst}
+use Rattle.std.proofs.Common.{None, refl}
 use Rattle.nb_core.specs.declared.calls.Want.TheVariants as want
-use Rattle.nb_long.specs.Promises.{HasPutValue}
-use Rattle.nb_long.specs.Typed.{LongMapOf}
 use Rattle.nb_long.specs.declared.map.Stored.{Stored}
 use Rattle.nb_long.proofs.Written.{put-value}
 use Rattle.nb_long.proofs.map.parts.Parts.replace.Goals as goal
 
 pub returns : goal.returns
 returns g c =
-    let m : LongMapOf = record { map = c.self.inside.map.now; store = c.self.inside.store.now } in
     let stored : Stored g.row.V.Denot = record {
       before = c.replace-before.result;
       done = c.is_some.result;
       receipt = c.in_ok-receipt.receipt;
       compared = None;
     } in
-    subst (λ m. HasPutValue m c.args.key want.Present c.args.value c.args.seat.now c.replace-before.new.seat
-    (Ok stored)) c.self.view_is
-    (put-value m c.args.key want.Present c.args.value stored c.number.result c.number.ensures
-    c.in_ok-receipt.ensures.stored c.is_some.ensures refl c.replace-before.ensures)
+    record {
+      done = put-value _ c.args.key want.Present c.args.value stored c.number.result
+          c.number.ensures c.in_ok-receipt.ensures.stored c.is_some.ensures refl
+          c.replace-before.ensures.done;
+      rest = c.replace-before.ensures.rest;
+    }

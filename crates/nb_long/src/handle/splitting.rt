@@ -1,0 +1,134 @@
+//! The seats of a handle are split off, as handles of their own, and joined again.
+ghost use Rattle.std.specs.Arc.{arc_value};
+ghost use Rattle.std.specs.Prelude.{All, Err, List, IfErr, IfOk, [], is_ok, length, map, true, ◌++◌, ◌+◌, ◌<◌, ◌^◌, ◌∷◌, ◌↔◌, ◌≡◌};
+ghost use Rattle.nb_map.specs.declared.faults.SplitFault.TheVariants as fault;
+ghost use Rattle.nb_long.specs.Handles.{HandleOf, IsWhole, all_seats, handle_on, seats_of};
+
+use crate::handle::Handle;
+use crate::store::Store;
+use nb_core::OutOfMemory;
+use nb_map::SplitFault;
+use std::alloc::Global;
+use std::sync::Arc;
+
+impl<V: Drop> Handle<V> {
+    /// How many seats the handle holds.
+    pub fn seats(&self) -> usize
+        ensures count { result ≡ length (seats_of self.now) }
+        ensures fits { result < 2 ^ 63 }
+    {
+        self.map.seats()
+    }
+
+    /// Whether the handle holds all seats of its map.
+    pub fn is_whole(&self) -> bool
+        ensures { (result ≡ true) ↔ IsWhole self.now }
+    {
+        self.map.is_whole()
+    }
+
+    /// A handle of its own for the last seat in reserve, for another thread. It takes no memory.
+    pub fn split(&mut self) -> Result<Handle<V>, SplitFault>
+        ensures split { IfOk result (λ other. (self.old.reserve ≡ self.new.reserve ++ other.seat ∷ [])
+            × (other ≡ handle_on self.old.map other.seat)) }
+        ensures same { (self.new.map ≡ self.old.map) × (self.new.seat ≡ self.old.seat) }
+        ensures refused { IfErr result (λ _. self.new ≡ self.old) }
+        ensures no_seat { (result ≡ Err fault.NoSeat) ↔ (self.old.reserve ≡ []) }
+    {
+        if self.seats() == 1 {
+            return Err(SplitFault::NoSeat);
+        }
+        let Ok(store) = Arc::try_clone(&self.store) else {
+            return Err(SplitFault::OutOfMemory);
+        };
+        let map = self.map.split()?;
+        Ok(Handle { map, store })
+    }
+
+    /// Takes all seats of another handle of the map into the reserve. It takes no memory. It is
+    /// refused only where the two hold 2^63 seats or more.
+    pub fn join(&mut self, other: Handle<V>) -> Result<(), Handle<V>>
+        requires one { other.map ≡ self.old.map }
+        ensures joined { IfOk result (λ done. self.new.reserve ≡ self.old.reserve ++ seats_of other) }
+        ensures same { (self.new.map ≡ self.old.map) × (self.new.seat ≡ self.old.seat) }
+        ensures back { IfErr result (λ back. (back ≡ other) × (self.new ≡ self.old)) }
+        ensures few { length (seats_of self.old) + length (seats_of other) < 2 ^ 63
+            → is_ok result ≡ true }
+    {
+        let Handle { map, store } = other;
+        match self.map.join(map) {
+            Ok(()) => Ok(()),
+            Err(map) => Err(Handle { map, store }),
+        }
+    }
+
+    /// A handle for each seat: this one, with its own seat, and behind it one for each seat of its
+    /// reserve, in order. It takes memory for four vectors. Where that is refused, the handle comes
+    /// back.
+    pub fn split_all(self, alloc: Global) -> Result<Vec<Handle<V>>, Handle<V>>
+        ensures split { IfOk result (λ handles. handles.items
+            ≡ map (handle_on self.map) (seats_of self)) }
+        ensures back { IfErr result (λ back. back ≡ self) }
+    {
+        let Ok(mut handles) = Vec::with_capacity(alloc, self.seats()) else {
+            return Err(self);
+        };
+        let Ok(mut stores) = clones(alloc, &self.store, self.seats()) else {
+            return Err(self);
+        };
+        let Handle { map, store } = self;
+        let maps = match map.split_all(alloc) {
+            Ok(maps) => maps,
+            Err(map) => return Err(Handle { map, store }),
+        };
+        for map in maps {
+            let Some(store) = stores.pop() else {
+                unreachable!();
+            };
+            handles.push_reserved(Handle { map, store });
+        }
+        Ok(handles)
+    }
+
+    /// Takes all seats of other handles of the map into the reserve, one handle's after another's:
+    /// `join`. Where one is refused, it comes back with those behind it.
+    pub fn join_all(&mut self, others: Vec<Handle<V>>) -> Result<(), Vec<Handle<V>>>
+        requires one { All (λ other. other.map ≡ self.old.map) others.items }
+        ensures joined { IfOk result (λ done. self.new.reserve
+            ≡ self.old.reserve ++ all_seats others.items) }
+        ensures same { (self.new.map ≡ self.old.map) × (self.new.seat ≡ self.old.seat) }
+        ensures back { IfErr result (λ back. (joined : List HandleOf)
+            × (others.items ≡ joined ++ back.items)
+            × (self.new.reserve ≡ self.old.reserve ++ all_seats joined)) }
+        ensures few { length (seats_of self.old) + length (all_seats others.items) < 2 ^ 63
+            → is_ok result ≡ true }
+    {
+        let mut others = others;
+        others.reverse();
+        while let Some(other) = others.pop() {
+            if let Err(other) = self.join(other) {
+                others.push_reserved(other);
+                others.reverse();
+                return Err(others);
+            }
+        }
+        Ok(())
+    }
+}
+
+/// So many more references to the store.
+fn clones<V: Drop>(
+    alloc: Global,
+    store: &Arc<Store<V>, Global>,
+    count: usize,
+) -> Result<Vec<Arc<Store<V>, Global>>, OutOfMemory>
+    ensures count { IfOk result (λ clones. length clones.items ≡ count) }
+    ensures same { IfOk result (λ clones. All (λ clone. arc_value clone ≡ arc_value store.now)
+        clones.items) }
+{
+    let mut clones = Vec::with_capacity(alloc, count)?;
+    for _ in 0..count {
+        clones.push_reserved(Arc::try_clone(store)?);
+    }
+    Ok(clones)
+}

@@ -1,0 +1,14 @@
+-- How a reserve holds its seats.
+use Rattle.std.specs.Prelude.{◌≡◌, [], ◌∷◌, List, Option, None, Some, map}
+use Rattle.nb_map.specs.Maps.{SeatOf}
+use Rattle.nb_map.specs.declared.handle.reserve.Reserve.TheInside as reserve
+
+-- the seats that are in these nodes
+abbrev pub held : List (Option SeatOf) → List SeatOf
+held [] = []
+held (None ∷ nodes) = held nodes
+held (Some seat ∷ nodes) = seat ∷ held nodes
+
+-- the first node is empty, and each other one has a seat
+abbrev pub IsReserve : reserve.Inside → Type 0
+IsReserve c = c.nodes ≡ None ∷ map Some (held c.nodes)
