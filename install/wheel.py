@@ -11,7 +11,7 @@ import sys
 import zipfile
 
 TOP = os.path.dirname(os.path.dirname(os.path.abspath(__file__)))
-PACKAGE = f"{TOP}/crates/nb_ffi/bindings/python/samvolip"
+PACKAGE = f"{TOP}/languages/python/samvolip"
 TAG = "py3-none-linux_x86_64"
 WHEEL = f"Wheel-Version: 1.0\nGenerator: samvolip\nRoot-Is-Purelib: false\nTag: {TAG}\n"
 METADATA = """\

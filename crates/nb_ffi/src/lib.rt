@@ -1,5 +1,5 @@
-//! The map for C: a static library of thin exports over handles. `include/samvolip.h` is its page
-//! for callers.
+//! The map for C: a static library of thin exports over handles. Its page for callers is
+//! `languages/c/include/samvolip.h`.
 #![tactic(auto)]
 
 mod codes;

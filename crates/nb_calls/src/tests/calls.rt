@@ -1,5 +1,5 @@
 //! The map's calls one after another, with their answers and with what they leave. More rows of
-//! them are in `c_tests/rows.c` of `nb_ffi`.
+//! them are in `languages/c/tests/rows.c`.
 use super::renewing::{renews, settles};
 use super::rows::Answer::{Is, Nothing, Replied, Was};
 use super::rows::Call::*;

@@ -1,4 +1,4 @@
-//! Looks at how full a map is. More of them are in `c_tests/rows.c` of `nb_ffi`.
+//! Looks at how full a map is. More of them are in `languages/c/tests/rows.c`.
 use super::rows::Answer::{Nothing, Was};
 use super::rows::Call::{Put, Remove};
 use super::rows::*;

@@ -1,5 +1,5 @@
 //! Walks by handles. What walks show, one after another and beside threads that write, is in
-//! `c_tests/rows.c` and `c_tests/threads.c` of `nb_ffi`.
+//! `languages/c/tests/rows.c` and `languages/c/tests/threads.c`.
 use super::rows::Answer::{Nothing, Was};
 use super::rows::Call::{Get, Put, Remove};
 use super::rows::*;

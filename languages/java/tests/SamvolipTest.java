@@ -613,7 +613,7 @@ public final class SamvolipTest {
 
     /** The texts of the codes are the header's, and the page's example is the one that is run. Where they aren't there, nothing is compared. */
     private static void pages(Path here) throws IOException {
-        Path header = here.resolve("../../include/samvolip.h"), page = here.resolve("../../../../docs/java.md");
+        Path header = here.resolve("../c/include/samvolip.h"), page = here.resolve("../../docs/java.md");
         if (Files.exists(header)) {
             String text = Files.readString(header);
             for (Code code : Code.values()) {

@@ -3,7 +3,7 @@
 //     threads [ROUNDS]      how often each of the eight threads writes
 #include "samvolip.hpp"
 
-#include "../c_tests/expect.h"
+#include "../../c/tests/expect.h"
 
 #include <condition_variable>
 #include <deque>

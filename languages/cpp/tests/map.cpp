@@ -1,7 +1,7 @@
 // Each call of samvolip.hpp by one thread, with its answers and refusals: of a map and of a seat, with plain and with mixed keys.
 #include "samvolip.hpp"
 
-#include "../c_tests/expect.h"
+#include "../../c/tests/expect.h"
 
 #include <map>
 #include <set>

@@ -39,7 +39,7 @@ from samvolip import (
     unmix,
 )
 
-PAGE = os.path.join(os.path.dirname(os.path.abspath(__file__)), "../../../../docs/python.md")
+PAGE = os.path.join(os.path.dirname(os.path.abspath(__file__)), "../../../docs/python.md")
 
 
 def refused(call, *words, **named):

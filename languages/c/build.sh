@@ -1,16 +1,18 @@
 #!/usr/bin/env bash
-# Makes libraries that need no kit of out/libnb_ffi.a, which `rt lib` builds: shared-library.sh [FOLDER] writes to FOLDER (out/ by
-# default) libsamvolip.so, with the file that it stands for, and libsamvolip.a. Both show the names of samvolip.h and no others.
+# Makes libraries that need no kit of libnb_ffi.a, which `rt lib` builds in crates/nb_ffi: build.sh [FOLDER] writes to FOLDER (out/
+# here by default) libsamvolip.so, with the file that it stands for, and libsamvolip.a. Both show the names of samvolip.h and no others.
 # KIT is the kit's folder, CC the compiler.
 set -euo pipefail
 here="$(cd "$(dirname "${BASH_SOURCE[0]}")" && pwd)"
 to="${1:-$here/out}"
 kit="${KIT:-$(dirname "$(rt doc)")}"
-version="$(cat "$here/../../VERSION")"
+top="$here/../.."
+archive="$top/crates/nb_ffi/out/libnb_ffi.a"
+version="$(cat "$top/VERSION")"
 name="libsamvolip.so.${version%%.*}"
-[ -f "$here/out/libnb_ffi.a" ] || { echo "shared-library: first run rt lib in $here" >&2; exit 1; }
+[ -f "$archive" ] || { echo "build.sh: first run rt lib in crates/nb_ffi" >&2; exit 1; }
 mkdir -p "$to"
-parts=(-Wl,--whole-archive "$here/out/libnb_ffi.a" -Wl,--no-whole-archive "$kit/c/liblibc_c.a")
+parts=(-Wl,--whole-archive "$archive" -Wl,--no-whole-archive "$kit/c/liblibc_c.a")
 
 printf '{ global: samvolip_*; local: *; };\n' > "$to/samvolip.map"
 rm -f "$to/libsamvolip.so" "$to/$name"

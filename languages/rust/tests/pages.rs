@@ -6,12 +6,12 @@ use std::fs::read_to_string;
 
 /// Reads a file of the repository, if it is there.
 fn of_the_repository(path: &str) -> Option<String> {
-    read_to_string(format!("{}/../../../../{path}", env!("CARGO_MANIFEST_DIR"))).ok()
+    read_to_string(format!("{}/../../{path}", env!("CARGO_MANIFEST_DIR"))).ok()
 }
 
 #[test]
 fn texts_of_codes() {
-    let Some(header) = of_the_repository("crates/nb_ffi/include/samvolip.h") else { return };
+    let Some(header) = of_the_repository("languages/c/include/samvolip.h") else { return };
     let faults = [
         (Fault::Tables, "TABLES", -1),
         (Fault::Exponents, "EXPONENTS", -2),

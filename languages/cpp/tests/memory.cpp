@@ -2,7 +2,7 @@
 // turn: nothing is lost by a refusal, and all memory is given back. It prints nothing, since that takes memory too.
 #include "samvolip.hpp"
 
-#include "../c_tests/expect.h"
+#include "../../c/tests/expect.h"
 
 using samvolip::fault;
 
