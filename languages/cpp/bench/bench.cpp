@@ -2,7 +2,7 @@
 // costs, beside the same call inside (crates/nb_bench).
 //   PROG WORKLOAD THREADS SECONDS [--keys dense|spread|zipf]      prints lines   c WHAT THREADS OPS NANOSECONDS
 // WORKLOAD is A, B, C, D or E.
-#include "../../nb_bench/peers/workloads.h"
+#include "../../../crates/nb_bench/peers/workloads.h"
 #include "samvolip.h"
 
 #include <mutex>
