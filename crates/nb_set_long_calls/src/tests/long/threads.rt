@@ -2,9 +2,7 @@
 ghost use Rattle.nb_long.specs.Handles.{IsSameMap};
 
 use super::super::plain::{key, shape};
-use super::by_handles::{
-    apart, is_made, listed, opened, renews, settles, together, value_at,
-};
+use super::by_handles::{apart, is_made, listed, opened, renews, settles, together, value_at};
 use super::stories::shown;
 use super::updating::{one_more, updated};
 use nb_core::{Key, Num};

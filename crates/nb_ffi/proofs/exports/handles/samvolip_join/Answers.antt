@@ -26,14 +26,14 @@ join-requires c =
 pub returns : goal.returns
 returns c = Joined refl c.take.result.value (c.lend-2.ensures.value ∙ c.take.ensures.taken)
     c.take.ensures.empty (record {
-  old = c.lend-3.result.now;
-  new = c.join.new.self;
-  was = c.lend.ensures.value ∙ c.lend-3.ensures.value;
-  is = refl;
-  holds = record {
-    map = c.in-Ok.ensures.same.0;
-    seat = c.in-Ok.ensures.same.1;
-    reserve = c.in-Ok.ensures.joined
-        ∙ ap (λ given. c.lend-3.result.now.reserve ++ seats_of given) c.into_inner.ensures;
-  };
-})
+      old = c.lend-3.result.now;
+      new = c.join.new.self;
+      was = c.lend.ensures.value ∙ c.lend-3.ensures.value;
+      is = refl;
+      holds = record {
+        map = c.in-Ok.ensures.same.0;
+        seat = c.in-Ok.ensures.same.1;
+        reserve = c.in-Ok.ensures.joined
+            ∙ ap (λ given. c.lend-3.result.now.reserve ++ seats_of given) c.into_inner.ensures;
+      };
+    })

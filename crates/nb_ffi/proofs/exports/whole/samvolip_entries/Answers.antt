@@ -7,12 +7,12 @@ pub returns-then-len-entries : goal.returns-then-len-entries
 returns-then-len-entries c = Long refl c.in-Ok.listed.items
     (omega (arith, c.len.ensures, c.in-Ok.listed.ok))
     (omega (arith, c.if-len-entries.true, c.len.ensures, c.len-in-Ok.ensures, c.in-Ok.listed.ok)) refl (record {
-  old = c.lend.result.now;
-  new = c.entries.new.self;
-  was = c.lend.ensures.value;
-  is = refl;
-  holds = c.in-Ok.ensures.listed;
-})
+      old = c.lend.result.now;
+      new = c.entries.new.self;
+      was = c.lend.ensures.value;
+      is = refl;
+      holds = c.in-Ok.ensures.listed;
+    })
 
 pub returns-else-len-entries : goal.returns-else-len-entries
 returns-else-len-entries c = Listed refl c.in-Ok.listed.items
@@ -20,9 +20,9 @@ returns-else-len-entries c = Listed refl c.in-Ok.listed.items
     (omega (arith, c.if-len-entries.false, c.len.ensures, c.len-in-Ok.ensures, c.in-Ok.listed.ok))
     (c.write_entries.ensures
     ∙ ap (λ entries. written_over entries c.args.entries.now) c.deref.ensures.value) (record {
-  old = c.lend.result.now;
-  new = c.entries.new.self;
-  was = c.lend.ensures.value;
-  is = refl;
-  holds = c.in-Ok.ensures.listed;
-})
+      old = c.lend.result.now;
+      new = c.entries.new.self;
+      was = c.lend.ensures.value;
+      is = refl;
+      holds = c.in-Ok.ensures.listed;
+    })
