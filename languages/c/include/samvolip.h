@@ -526,7 +526,8 @@ int samvolip_try_remove(samvolip_seat *seat, uint64_t key, uint32_t tries, uint6
 
 /*
  * About how many keys the map has. While others write, it is no more than a guess: a sum below zero
- * counts as 0.
+ * counts as 0. While nobody writes, and all writes came before this call (a join or a lock orders
+ * them), it is exact.
  *
  * Cost: a load for each stripe.
  */
