@@ -6,6 +6,7 @@
    the list of large blocks. The list has no lock, so nobody waits for a thread that was stopped, or that a forked child lacks. */
 #define _GNU_SOURCE
 #include <stdatomic.h>
+#include <stdbool.h>
 #include <stdint.h>
 #include <stdlib.h>
 #include <string.h>
@@ -20,10 +21,8 @@ void *__wrap_realloc(void *block, size_t size);
 void __wrap_free(void *block);
 void *__wrap_memset(void *at, int byte, size_t size);
 
-#ifndef LARGE
-#define LARGE ((size_t)1 << 20)
-#endif
 #define PAGE ((size_t)1 << 12)
+#define LARGE ((size_t)1 << 20)
 #define HUGE_PAGE ((size_t)1 << 21)
 
 /* The list: a place for each large block. Where all are taken, large blocks are malloc's, too. */
@@ -46,17 +45,17 @@ static struct large *large_at(const void *at)
     return NULL;
 }
 
-/* Takes a place for a block that the caller has; NULL where all are taken. */
-static struct large *new_place(const void *block, size_t size)
+/* Whether there was a place for this block, which has it now. */
+static bool is_listed(const void *block, size_t size)
 {
     for (size_t i = 0; i < PLACES; i++) {
         uintptr_t none = 0;
         if (atomic_load(&list[i].begin) == none && atomic_compare_exchange_strong(&list[i].begin, &none, (uintptr_t)block)) {
             list[i].size = size;
-            return &list[i];
+            return true;
         }
     }
-    return NULL;
+    return false;
 }
 
 /* Whole pages, all zero, that begin at a multiple of a huge page; NULL where the system has none. It takes room for such a multiple
@@ -81,7 +80,7 @@ void *__wrap_malloc(size_t size)
         return __real_malloc(size);
     size_t whole = (size + PAGE - 1) / PAGE * PAGE;
     void *block = new_pages(whole);
-    if (block == NULL || new_place(block, whole) != NULL)
+    if (block == NULL || is_listed(block, whole))
         return block;
     munmap(block, whole);
     return __real_malloc(size);
