@@ -18,7 +18,7 @@ enum { THREADS = 8, MANY = 1100 };
 
 #define MIB ((size_t)1 << 20)
 
-#if !defined(__SANITIZE_ADDRESS__) && !defined(__SANITIZE_THREAD__)
+#if !IS_SANITIZED
 /* In place of the C library's: other threads get their turn just when the pages are free. */
 int munmap(void *pages, size_t size)
 {

@@ -172,13 +172,12 @@ int main(int count, char **words)
 {
     if (count > 1)
         rounds = (unsigned)strtoul(words[1], NULL, 10);
-    int is_sanitized = expect_mebibytes().all == 0;
-    if (!is_sanitized)
+    if (!IS_SANITIZED)
         gives_back();
     samvolip_seat seat = opened(&shapes[1]);
     fill(&seat, 7);
     in_child(has_its_own, &seat);
-    if (!is_sanitized)
+    if (!IS_SANITIZED)
         in_child(refuses, &seat);
     expect_filled(&seat, 7);
     in_threads();
