@@ -1,6 +1,7 @@
 /* Loaded before a program's libraries, it refuses the program's Nth request for memory or for a thread, and at the end of the
-   program says how many such requests there were, how many blocks of memory were left, and how many threads began. Blocks that the C library takes to
-   start a thread aren't counted, since it keeps them for the next one. N stands in REFUSE, and the number of the descriptor to
+   program says how many such requests there were, how many blocks of memory were left, and how many threads began. A request for
+   memory is one to malloc and its like, or to mmap; each mapped page that is left counts as a block. Blocks that the C library takes
+   to start a thread aren't counted, since it keeps them for the next one. N stands in REFUSE, and the number of the descriptor to
    say it on in REFUSED. */
 #define _GNU_SOURCE
 #include <dlfcn.h>
@@ -9,6 +10,7 @@
 #include <stdio.h>
 #include <stdlib.h>
 #include <string.h>
+#include <sys/mman.h>
 #include <sys/syscall.h>
 #include <unistd.h>
 
@@ -108,6 +110,31 @@ void free(void *block)
     if (block != NULL && !is_kept(block, NULL))
         __atomic_sub_fetch(&left, 1, __ATOMIC_SEQ_CST);
     __libc_free(block);
+}
+
+static long pages(size_t size)
+{
+    return (long)((size + 4095) / 4096);
+}
+
+void *mmap(void *at, size_t size, int protection, int flags, int file, off_t place)
+{
+    if (is_refused()) {
+        none();
+        return MAP_FAILED;
+    }
+    void *room = (void *)syscall(SYS_mmap, at, size, protection, flags, file, place);
+    if (room != MAP_FAILED)
+        __atomic_add_fetch(&left, pages(size), __ATOMIC_SEQ_CST);
+    return room;
+}
+
+int munmap(void *room, size_t size)
+{
+    int error = (int)syscall(SYS_munmap, room, size);
+    if (error == 0)
+        __atomic_sub_fetch(&left, pages(size), __ATOMIC_SEQ_CST);
+    return error;
 }
 
 int pthread_create(pthread_t *thread, const pthread_attr_t *attributes, void *(*start)(void *), void *argument)

@@ -1,7 +1,7 @@
 #!/usr/bin/env bash
 # Makes libraries that need no kit of libnb_ffi.a, which `rt lib` builds in crates/nb_ffi: build.sh [FOLDER] writes to FOLDER (out/
-# here by default) libsamvolip.so, with the file that it stands for, and libsamvolip.a. Both show the names of samvolip.h and no others.
-# KIT is the kit's folder, CC the compiler.
+# here by default) libsamvolip.so, with the file that it stands for, and libsamvolip.a. Both show the names of samvolip.h and no
+# others, and have their own memory for large tables (src/memory.c). KIT is the kit's folder, CC the compiler.
 set -euo pipefail
 here="$(cd "$(dirname "${BASH_SOURCE[0]}")" && pwd)"
 to="${1:-$here/out}"
@@ -12,7 +12,8 @@ version="$(cat "$top/VERSION")"
 name="libsamvolip.so.${version%%.*}"
 [ -f "$archive" ] || { echo "build.sh: first run rt lib in crates/nb_ffi" >&2; exit 1; }
 mkdir -p "$to"
-parts=(-Wl,--whole-archive "$archive" -Wl,--no-whole-archive "$kit/c/liblibc_c.a")
+"${CC:-cc}" -std=c11 -O2 -fPIC -Wall -Wextra -c "$here/src/memory.c" -o "$to/memory.o"
+parts=("@$here/src/links" "$to/memory.o" -Wl,--whole-archive "$archive" -Wl,--no-whole-archive "$kit/c/liblibc_c.a")
 
 printf '{ global: samvolip_*; local: *; };\n' > "$to/samvolip.map"
 rm -f "$to/libsamvolip.so" "$to/$name"
@@ -26,4 +27,4 @@ rm "$to/samvolip.map"
 "${OBJCOPY:-objcopy}" --wildcard --keep-global-symbol='samvolip_*' "$to/samvolip.o"
 rm -f "$to/libsamvolip.a"
 "${AR:-ar}" rcsD "$to/libsamvolip.a" "$to/samvolip.o"
-rm "$to/samvolip.o"
+rm "$to/samvolip.o" "$to/memory.o"

@@ -65,7 +65,9 @@
  *
  * Memory. samvolip_open reserves all tables of the map, and the map keeps them until it is freed.
  * samvolip_open, samvolip_split, samvolip_settle, samvolip_entries, samvolip_renew, samvolip_close
- * and samvolip_ended_entries take memory, by malloc; no other call does.
+ * and samvolip_ended_entries take memory; no other call does. It is the program's malloc's, but for
+ * blocks of a megabyte and more, the tables of large maps. Those libsamvolip.so and libsamvolip.a
+ * take from the system, in huge pages where it has some, and give back when they are freed.
  *
  * Versions. samvolip_open tells the library which header the program was compiled with: its version
  * and the sizes of its structs. The library takes each header of its series, from version 0.9.0 on,
@@ -142,7 +144,7 @@ enum samvolip_code {
     SAMVOLIP_E_REPROBES = -6,  /* a reprobe limit of 0 */
     SAMVOLIP_E_CHUNK = -7,     /* a chunk that isn't a power of two from 4 to 1024 */
 
-    SAMVOLIP_E_OUT_OF_MEMORY = -8, /* malloc gave none */
+    SAMVOLIP_E_OUT_OF_MEMORY = -8, /* there was none */
 
     /* what is wrong with a call */
     SAMVOLIP_E_KEY_RANGE = -9,    /* a key past SAMVOLIP_KEY_MAX */
@@ -369,7 +371,7 @@ int samvolip_open_with(const samvolip_header *header, const samvolip_shape *shap
  * Makes an empty map. `seat`, which is empty before, gets all seats of the map: one to call with,
  * and the others in reserve, for samvolip_split.
  *
- * Cost: malloc of all tables, for a moment twice, and clearing and copying them.
+ * Cost: memory for all tables, for a moment twice, and clearing and copying them.
  * Refused: SAMVOLIP_E_VERSION, before the shape is read; the code of what is wrong with the shape;
  * SAMVOLIP_E_OUT_OF_MEMORY.
  */
@@ -383,7 +385,7 @@ static inline int samvolip_open(const samvolip_shape *shape, samvolip_seat *seat
  * Gives `other`, which is empty before, a seat that `seat` has in reserve. Any handle with seats in
  * reserve may be split.
  *
- * Cost: a few steps, and a malloc.
+ * Cost: a few steps, and memory for a handle.
  * Refused: SAMVOLIP_E_NO_SEAT, SAMVOLIP_E_OUT_OF_MEMORY.
  */
 int samvolip_split(samvolip_seat *seat, samvolip_seat *other);
@@ -452,7 +454,7 @@ int samvolip_renew(samvolip_seat *seat, const samvolip_shape *shape);
  * Ends the map of `seat`, if `seat` has all seats of the map. What is left of the map goes to
  * `ended`, which is empty before. `seat` is empty afterwards.
  *
- * Cost: a few steps for each seat, and a malloc.
+ * Cost: a few steps for each seat, and memory for what is left.
  * Refused: SAMVOLIP_E_NOT_ALL_SEATS, SAMVOLIP_E_OUT_OF_MEMORY. SAMVOLIP_E_LOST, which a correct
  * caller never sees, leaves both handles empty.
  */

@@ -13,4 +13,30 @@ static inline void expect_failed(const char *file, int line, const char *conditi
     fprintf(stderr, "%s:%d: %s doesn't hold\n", file, line, condition);
     exit(1);
 }
+
+#if defined(__SANITIZE_ADDRESS__) || defined(__SANITIZE_THREAD__)
+#define IS_SANITIZED 1
+#elif defined(__has_feature)
+#define IS_SANITIZED (__has_feature(address_sanitizer) || __has_feature(thread_sanitizer))
+#else
+#define IS_SANITIZED 0
+#endif
+
+/* How many MiB of addresses the process has, and how many of them are in memory. Of a program under a
+   sanitizer, which has much memory of its own beside the program's, both are 0. */
+struct mebibytes {
+    double all, present;
+};
+
+static inline struct mebibytes expect_mebibytes(void)
+{
+    struct mebibytes mebibytes = {0, 0};
+#if !IS_SANITIZED
+    FILE *pages = fopen("/proc/self/statm", "r");
+    EXPECT(pages != NULL && fscanf(pages, "%lf %lf", &mebibytes.all, &mebibytes.present) == 2 && fclose(pages) == 0);
+    mebibytes.all /= 256;
+    mebibytes.present /= 256;
+#endif
+    return mebibytes;
+}
 #endif

@@ -73,6 +73,23 @@ static void renews(samvolip_seat *seat)
     }
 }
 
+/* A map whose table lies in pages of the system is made, and made anew, or is refused as a small one is. */
+static void large_map(void)
+{
+    const samvolip_shape shapes[] = {{{17}, 1, 1, 1, UINT32_MAX, 8}, {{10, 16}, 2, 1, 1, UINT32_MAX, 8}};
+    samvolip_seat seat = SAMVOLIP_SEAT_INIT;
+    uint64_t number;
+    while (is_refused(samvolip_open(&shapes[0], &seat)))
+        EXPECT(seat.handle == NULL);
+    EXPECT(samvolip_put(&seat, 5, 50, NULL) == SAMVOLIP_ABSENT);
+    for (int i = 1; i >= 0; i--) {
+        while (is_refused(samvolip_renew(&seat, &shapes[i])))
+            EXPECT(samvolip_get(&seat, 5, &number) == SAMVOLIP_PRESENT && number == 50);
+        EXPECT(samvolip_get(&seat, 5, &number) == SAMVOLIP_PRESENT && number == 50 && samvolip_size_estimate(&seat) == 1);
+    }
+    samvolip_free(&seat);
+}
+
 int main(void)
 {
     const samvolip_shape shape = {{3, 4}, 2, 3, 1, UINT32_MAX, 8};
@@ -115,5 +132,7 @@ int main(void)
     samvolip_free(&mine);
     EXPECT(samvolip_put(&yours, 1, 1, NULL) == SAMVOLIP_ABSENT);
     samvolip_free(&yours);
+
+    large_map();
     return 0;
 }
