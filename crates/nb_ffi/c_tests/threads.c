@@ -240,7 +240,7 @@ static void walk_beside_writers(void)
 enum { LISTED = 100000, EARLY = 2000 };
 
 static pthread_barrier_t all_here;
-static unsigned char times[LISTED]; /* how often each key was shown */
+static unsigned char times[LISTED]; /* how often each mixed key was shown */
 static int is_at_rest;              /* whether the map is so while it is listed */
 
 /* Lists a part of the slots, a few entries at a time. */
@@ -252,8 +252,9 @@ static void list_part(struct worker *worker, samvolip_cursor *cursor, size_t end
     do {
         code = samvolip_list(&worker->seat, cursor, end, entries, 64, &count);
         for (uint64_t i = 0; i < count; i++) {
-            EXPECT(entries[i].key < LISTED && entries[i].number == entries[i].key + 1);
-            __atomic_fetch_add(&times[entries[i].key], 1, __ATOMIC_SEQ_CST);
+            const uint64_t key = samvolip_unmix(entries[i].key);
+            EXPECT(key < LISTED && entries[i].number == key + 1);
+            __atomic_fetch_add(&times[key], 1, __ATOMIC_SEQ_CST);
         }
     } while (code == SAMVOLIP_PRESENT);
 }
@@ -268,7 +269,7 @@ static void *list_over_growth(void *given)
     pthread_barrier_wait(&all_here);
     if (worker->number == 0)
         for (uint64_t key = EARLY; key < LISTED; key++)
-            EXPECT(samvolip_put(&worker->seat, key, key + 1, NULL) == SAMVOLIP_ABSENT);
+            EXPECT(samvolip_put(&worker->seat, samvolip_mix(key), key + 1, NULL) == SAMVOLIP_ABSENT);
     if (is_at_rest)
         pthread_barrier_wait(&all_here);
     list_part(worker, &cursor, from + part);
@@ -302,7 +303,7 @@ static void lists_together(void)
         struct worker workers[THREADS] = {{SAMVOLIP_SEAT_INIT, 0, 0, 0, {0}}};
         EXPECT(samvolip_open(&shape, &workers[0].seat) == SAMVOLIP_OK);
         for (uint64_t key = 0; key < EARLY; key++)
-            EXPECT(samvolip_put(&workers[0].seat, key, key + 1, NULL) == SAMVOLIP_ABSENT);
+            EXPECT(samvolip_put(&workers[0].seat, samvolip_mix(key), key + 1, NULL) == SAMVOLIP_ABSENT);
         all_work(workers, THREADS, list_over_growth);
         shown_once();
         if (is_at_rest) {

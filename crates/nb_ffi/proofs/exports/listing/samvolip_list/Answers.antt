@@ -1,7 +1,7 @@
 use Rattle.std.proofs.Common.{◌∙◌, refl, subst₂, sym}
 use Rattle.nb_ffi.specs.Listing.{HasListed, HasListedAll}
 use Rattle.nb_ffi.specs.Listing.IsList.{All, Full}
-use Rattle.nb_ffi.proofs.exports.walks.samvolip_list.Goals as goal
+use Rattle.nb_ffi.proofs.exports.listing.samvolip_list.Goals as goal
 
 pub returns-in-Some : goal.returns-in-Some
 returns-in-Some c =
