@@ -589,39 +589,41 @@ void samvolip_walk(samvolip_seat *seat, samvolip_cursor *cursor);
 int samvolip_next(samvolip_seat *seat, samvolip_cursor *cursor, uint64_t *key, uint64_t *number);
 
 /*
- * Begins a walk with slot `slot` of the top table, which samvolip_generation tells: that of table g
- * of the shape has 1 << exponents[g] slots. It returns SAMVOLIP_PRESENT; or SAMVOLIP_ABSENT, if the
- * table has no such slot, and then the cursor stays as it was. Slot 0 makes it a walk over all keys,
- * as samvolip_walk begins it.
+ * Begins a walk with slot `slot` of the top table, in a cursor of the caller's. Which table is the
+ * top one samvolip_generation tells, and table g of the shape has 1 << exponents[g] slots. It
+ * returns SAMVOLIP_PRESENT; or SAMVOLIP_ABSENT, if the table has no such slot, and then the cursor
+ * stays as it was. Slot 0 makes it a walk over all keys, as samvolip_walk begins it.
  *
  * Cost: a load.
  */
 int samvolip_walk_from(samvolip_seat *seat, size_t slot, samvolip_cursor *cursor);
 
 /*
- * Takes a walk that this handle has begun on, up to slot `end` of the walk's first table, and writes
- * what it shows into the caller's array: as many entries as there is `room` for. It writes to
- * `count` how many. What is behind them in the array stays. It returns SAMVOLIP_PRESENT if the array
- * is full: there may be more, and the same call goes on. It returns SAMVOLIP_ABSENT if the walk has
- * come to the slot, or is beyond it. If the table has no slot `end`, as SIZE_MAX, the walk goes on
- * through the later tables to its end. With a room of 0 it never gets anywhere.
+ * Goes on with a walk that this handle has begun, up to slot `end` of the walk's first table, and
+ * writes what it shows into the caller's array: as many entries as there is `room` for. How many
+ * they are is written to `count`. What is behind them in the array stays. It returns
+ * SAMVOLIP_PRESENT if the array is full: there may be more, and the same call goes on. It returns
+ * SAMVOLIP_ABSENT if the walk has come to the slot, or is beyond it. If the table has no slot
+ * `end`, as with SIZE_MAX, the walk goes on through the later tables to its end. With a room of 0
+ * it never gets anywhere.
  *
  * So several threads list a map together, each with a seat of its own:
  *
  *     size_t slots = (size_t)1 << shape.exponents[samvolip_generation(&seat)];
- *     size_t from = slots / threads * mine, end = mine + 1 < threads ? from + slots / threads : SIZE_MAX;
+ *     size_t from = slots / threads * mine;
+ *     size_t end = mine + 1 < threads ? from + slots / threads : SIZE_MAX;
  *     samvolip_walk_from(&seat, from, &cursor);
  *     do {
  *         more = samvolip_list(&seat, &cursor, end, entries, 1024, &count);
  *         ... entries[0] to entries[count - 1] ...
  *     } while (more == SAMVOLIP_PRESENT);
  *
- * A key belongs to the part in which its first place is, that in the earliest table from the walk's
- * first one on. The last part, which goes on to the walk's end, has those of later tables, too. Each
- * part shows every key of its own that the map has all the while, and none twice. If nobody writes
- * meanwhile, all parts show together just the entries of the map, each once. If others write, the
- * table that is the top one may change between the beginnings of two parts (their cursor.first tell),
- * and then keys may be shown by both or by none.
+ * A key belongs to the part that has its first place, which is in the earliest table that has the
+ * key, from the walk's first one on. The last part, which goes on to the walk's end, has those of
+ * later tables, too. Each part shows every key of its own that the map has all the while, and none
+ * twice. If nobody writes meanwhile, all parts show together just the entries of the map, each
+ * once. If others write, another table may become the top one between the beginnings of two parts,
+ * which their cursor.first tell, and then keys may be shown by both or by none.
  *
  * Cost: that of samvolip_next for each entry, without the call; and a compare for each.
  */

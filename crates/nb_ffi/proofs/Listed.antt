@@ -50,7 +50,8 @@ written-one pairs room pair fits =
     ∙ ap (λ n. map entry_of (pairs ++ pair ∷ []) ++ drop n room) (sym (length_push pairs pair))
 
 -- a call of each walk that the seat began and that is here
-abbrev pub Walked : (end : ℕ) → (now after : HandleOf) → (at to : WalkPlace) → Option (ℕ × ℕ) → Type 0
+abbrev pub Walked :
+    (end : ℕ) → (now after : HandleOf) → (at to : WalkPlace) → Option (ℕ × ℕ) → Type 0
 Walked end now after at to shown =
     (begun : SeatOf) → IsWalkOf now.map now.seat (walk_from begun at)
     → of_map.HasWalkedUpTo now.map (bound_at now.map.chain.shape at.first end) now.seat after.seat

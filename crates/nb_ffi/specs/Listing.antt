@@ -20,8 +20,8 @@ IsBegun slot code cursor cursor' before after =
     ((code ≡ PRESENT) × StaysOpen before after (HasBegunWalkAt slot (Some (place_in cursor'))))
     ⊎ ((code ≡ ABSENT) × (cursor' ≡ cursor) × StaysOpen before after (HasBegunWalkAt slot None))
 
--- Some calls of the walk that this seat began took it from one place to another, up to a slot of its
--- first table. They showed these pairs, one after another, and each showed one.
+-- Some calls of the walk that this seat began took it from one place to another, up to a slot of
+-- its first table. They showed these pairs, one after another, and each showed one.
 pub data HasShown (end : ℕ) (begun : SeatOf) (before : HandleOf) (from : WalkPlace) :
     (after : HandleOf) → (to : WalkPlace) → List (ℕ × ℕ) → Type 0 where
   Begun : HasShown end begun before from before from []
@@ -46,9 +46,9 @@ HasListedAll end from to pairs before after =
     → (now : HandleOf) × (at : WalkPlace) × HasShown end begun before from now at pairs
     × HasWalkedUpTo end begun at to None now after
 
--- A part of a walk was listed with this code. What it showed is in the array, behind which that is as
--- it was, and it is written how many pairs these are: as many as there is room for; or all, up to
--- where the part ends.
+-- A part of a walk was listed with this code. What it showed is in the array, behind which that is
+-- as it was, and it is written how many pairs these are: as many as there is room for; or all, up
+-- to where the part ends.
 pub data IsList (end : ℕ) (code : ℤ) (cursor cursor' : Cursor) (count' : ℕ)
     (room room' : List MapEntry) (before after : Option HandleOf) : Type 0 where
   Full :

@@ -8,9 +8,9 @@ ghost use Rattle.nb_ffi.specs.Listing.{HasListed, HasListedAll};
 use crate::ended_map::MapEntry;
 use nb_map::{Handle, WalkPlace};
 
-/// Takes a walk on, up to slot `end` of its first table, and writes what it shows into the array, as
-/// long as there is room: how many entries it wrote, where it came to the slot or to the walk's end;
-/// or `None`, where the array is full.
+/// Takes a walk on, up to slot `end` of its first table, and writes what it shows into the array,
+/// as long as there is room: how many entries it wrote, where it came to the slot or to the walk's
+/// end; or `None`, where the array is full.
 pub(crate) fn list(
     handle: &mut Handle,
     at: &mut WalkPlace,

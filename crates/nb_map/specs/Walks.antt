@@ -74,11 +74,12 @@ begun_by m seat =
 abbrev pub begun_at : MapOf → SeatOf → (slot : ℕ) → Option WalkPlace
 begun_at m seat slot =
     let top = (seen_by m.chain.shape seat.chain).top in
-    if nat_lt slot (size_of m.chain.shape top) then Some (record { first = top; place = Slot top slot })
+    if nat_lt slot (size_of m.chain.shape top)
+    then Some (record { first = top; place = Slot top slot })
     else None
 
--- where a part of a walk ends that goes up to a slot of its first table: at its end, where the table
--- has no such slot
+-- where a part of a walk ends that goes up to a slot of its first table: at the walk's end, where the
+-- table has no such slot
 abbrev pub bound_at : Plan → (first end : ℕ) → Place
 bound_at p first end = if nat_lt end (size_of p first) then Slot first end else End
 

@@ -24,8 +24,8 @@ pub extern "C" fn samvolip_walk_from(seat: &mut SeatHandle, slot: usize, cursor:
     }
 }
 
-/// `Map::next_key_before`, of a walk that the seat has begun, as often as the array has room; and how
-/// many entries it wrote.
+/// `Map::next_key_before`, of a walk that the seat has begun, as often as the array has room; and
+/// how many entries it wrote.
 #[unsafe(no_mangle)]
 pub extern "C" fn samvolip_list(
     seat: &mut SeatHandle,

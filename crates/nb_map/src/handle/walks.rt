@@ -99,8 +99,10 @@ impl Handle {
 
     /// The same up to slot `end` of the walk's first table: `Map::next_key_before`.
     pub fn next_key_before(&mut self, at: &mut WalkPlace, end: usize) -> Option<(Key, Num)>
-        requires walk { (begun : SeatOf) × IsWalkOf self.old.map self.old.seat (walk_from begun at.old) }
-        ensures walked { (begun : SeatOf) → IsWalkOf self.old.map self.old.seat (walk_from begun at.old)
+        requires walk { (begun : SeatOf)
+            × IsWalkOf self.old.map self.old.seat (walk_from begun at.old) }
+        ensures walked { (begun : SeatOf)
+            → IsWalkOf self.old.map self.old.seat (walk_from begun at.old)
             → HasWalkedUpTo self.old.map (bound_at self.old.map.chain.shape at.old.first end)
             self.old.seat self.new.seat (walk_from begun at.old) (walk_from begun at.new) result }
         ensures rest { KeepsRest self.old self.new }

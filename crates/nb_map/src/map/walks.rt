@@ -66,10 +66,10 @@ impl Map {
         }
     }
 
-    /// Begins a walk with this slot of the table that is the top one now, by one load of the top word.
-    /// There is none where that table has no such slot. Slot 0 makes it a walk over all keys, as
-    /// `walk_from_top` begins it; each other one passes over the keys whose first place comes before
-    /// it.
+    /// Begins a walk with this slot of the table that is the top one now, by one load of the top
+    /// word. There is none where that table has no such slot. Slot 0 makes it a walk over all keys,
+    /// as `walk_from_top` begins it; any other one leaves out the keys whose first place comes
+    /// before it.
     pub fn walk_from_slot(&self, seat: &mut Seat, slot: usize) -> Option<WalkPlace>
         requires own { IsMine self.now seat.old }
         ensures { HasBegunWalkAt self.now seat.old seat.new slot result }
@@ -115,14 +115,15 @@ impl Map {
         next_from(&self.chain, &mut seat.chain, at.first, &mut at.place)
     }
 
-    /// The same up to slot `end` of the walk's first table: `None` says that it has come there, or is
-    /// beyond. Where that table has no such slot, the walk goes on to its end.
+    /// The same up to slot `end` of the walk's first table: `None` says that it has come there, or
+    /// is beyond. Where that table has no such slot, the walk goes on to its end.
     ///
     /// So several seats share a walk while the top table stays the same: one goes from slot 0 to
-    /// slot `a`, the next one from there to slot `b`, and the last one goes on to the walk's end. Each
-    /// shows every key that the map has all the while, from the beginning of its part to its end, and
-    /// whose first place (`place_of`) lies in the part; and each key that it shows has its first place
-    /// there. Where nobody writes meanwhile, they show together just the entries of the map, each once.
+    /// slot `a`, the next one from there to slot `b`, and the last one goes on to the walk's end.
+    /// Each shows every key that the map has all the while, from the beginning of its part to its
+    /// end, and whose first place (`place_of`) lies in the part; and each key that it shows has its
+    /// first place there. Where nobody writes meanwhile, they show together just the entries of the
+    /// map, each once.
     pub fn next_key_before(
         &self,
         seat: &mut Seat,

@@ -60,8 +60,8 @@ pub(crate) fn next_from(
     None
 }
 
-/// Takes a walk on to the next key that the map has in the walk's first table before slot `end` of it,
-/// or to that slot. A walk that is there, or beyond, stays where it is.
+/// Takes a walk on to the next key that the map has in the walk's first table before slot `end` of
+/// it, or to that slot. A walk that is there, or beyond, stays where it is.
 pub(crate) fn next_before(
     chain: &Chain,
     seat: &mut ChainSeat,
@@ -119,8 +119,8 @@ fn place_from(chain: &Chain, seat: &mut ChainSeat, g: u32, i: usize) -> Place
     }
 }
 
-/// Takes a walk on in table `g`, from slot `from`, to the next key that the map has before slot `end`
-/// of it, or to that: one load for each slot, and one more for a number.
+/// Takes a walk on in table `g`, from slot `from`, to the next key that the map has before slot
+/// `end` of it, or to that: one load for each slot, and one more for a number.
 fn next_in(
     chain: &Chain,
     seat: &mut ChainSeat,

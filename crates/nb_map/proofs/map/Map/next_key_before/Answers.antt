@@ -18,7 +18,8 @@ abbrev to-end : After-next_from → SeatOf
 to-end c = record { chain = c.next_from.new.seat; count = c.seat.inside.count }
 
 -- a bound in the table, or behind it
-bound-slot : (p : Plan) (first end : ℕ) → end < size_of p first → bound_at p first end ≡ Slot first end
+bound-slot :
+    (p : Plan) (first end : ℕ) → end < size_of p first → bound_at p first end ≡ Slot first end
 bound-slot p first end low = grind (arith, nat_tests)
 
 bound-end : (p : Plan) (first end : ℕ) → size_of p first ≤ end → bound_at p first end ≡ End
@@ -40,7 +41,6 @@ returns-else-end-size_of-clause-own c =
     (gone-mine (map_within c.self.inside) {before = seat_of c.seat.inside} {after = to-end at}
     mine refl c.next_from.ensures.gone)
 
--- the first table's size, as it was looked up
 pub returns-then-end-size_of-clause-walked : goal.returns-then-end-size_of-clause-walked
 returns-then-end-size_of-clause-walked c = λ begun is.
     let at = (goal.at.returns-then-end-size_of-clause-walked c).After-next_before in
