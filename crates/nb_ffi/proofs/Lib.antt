@@ -5,6 +5,7 @@ mod HandleEmpty
 mod HandleLend
 mod HandleMove
 mod Lending
+mod Listed
 mod SeatBox
 mod Walking
 mod Writing

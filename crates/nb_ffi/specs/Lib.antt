@@ -10,4 +10,5 @@ pub mod Shapes
 pub mod Closing
 pub mod Entries
 pub mod Telling
+pub mod Listing
 pub mod Whole

@@ -7,8 +7,9 @@ use Rattle.nb_map.specs.Handles.{HandleOf, KeepsRest}
 use Rattle.nb_map.specs.Maps.{MapOf, SeatOf}
 use Rattle.nb_map.specs.Promises as of_map
 use Rattle.nb_map.specs.Promises.{Outcome}
-use Rattle.nb_map.specs.Walks.{IsWalkOf}
+use Rattle.nb_map.specs.Walks.{IsWalkOf, bound_at, walk_from}
 use Rattle.nb_map.specs.declared.faults.PutFault.{PutFault}
+use Rattle.nb_map.specs.declared.map.walks.WalkPlace.{WalkPlace}
 use Rattle.nb_map.specs.declared.occupancy.Occupancy.{Occupancy}
 use Rattle.nb_ffi.specs.Cursors.{walk_in}
 use Rattle.nb_ffi.specs.declared.cursor.Cursor.{Cursor}
@@ -63,3 +64,17 @@ HasWalkedOn cursor cursor' shown before after =
     (begun : SeatOf) → IsWalkOf before.map before.seat (walk_in begun cursor)
     → HasCalled (λ m old new. of_map.HasWalkedOn m old new (walk_in begun cursor)
     (walk_in begun cursor') shown) before after
+
+-- the beginning of a walk at a slot of the top table, or nowhere
+abbrev pub HasBegunWalkAt : (slot : ℕ) → Option WalkPlace → (before after : HandleOf) → Type 0
+HasBegunWalkAt slot at = HasCalled (λ m before after. of_map.HasBegunWalkAt m before after slot at)
+
+-- A call of the walk that this seat began, up to a slot of its first table: it shows this pair, or
+-- has come there. Where the table has no such slot, it goes on to the walk's end.
+abbrev pub HasWalkedUpTo :
+    (end : ℕ) → (begun : SeatOf) → (from to : WalkPlace) → Option (ℕ × ℕ)
+    → (before after : HandleOf)
+    → Type 0
+HasWalkedUpTo end begun from to shown =
+    HasCalled (λ m before after. of_map.HasWalkedUpTo m (bound_at m.chain.shape from.first end)
+    before after (walk_from begun from) (walk_from begun to) shown)

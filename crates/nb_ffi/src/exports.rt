@@ -5,6 +5,7 @@ mod calls;
 mod ended;
 mod handles;
 mod library;
+mod listing;
 mod trying;
 mod walks;
 mod whole;

@@ -10,6 +10,7 @@ mod exports;
 mod header;
 mod lend;
 mod life;
+mod listing;
 mod map_shape;
 mod occupancy;
 mod parts;

@@ -73,7 +73,7 @@ module _ {m : MapOf} {before : SeatOf} (mine : IsMine m before) where
   list-all {after = after} {walk' = walk'} {entries} sweep on =
       let come = come-walked mine None sweep.come on in
       let swept = swept-missed on.read.misses on.read.missed sweep.swept in
-      let whole = whole_walk m after walk' sweep.shown come.underway (on.walked.ended refl) in
+      let whole = whole_walk m after walk' sweep.shown come.underway (on.ended refl) in
       let all : HasShownAll before after sweep.shown = record {
         once = whole.once;
         made = on.read.misses ++ sweep.calls;

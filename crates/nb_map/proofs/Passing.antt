@@ -1,5 +1,6 @@
 -- A walk's way over one slot, and how many steps it takes.
 use Rattle.std.proofs.Common.{◌≡◌, ℕ, suc, ◌+◌, ◌-◌, ◌*◌, ◌≤◌, ◌<◌, [], Option, Some, None, sym, subst, refl, arith}
+use Rattle.std.specs.Option.{IfSome}
 use Rattle.std.proofs.Math.Nat.{mul-le-mul_right}
 use Rattle.std.proofs.lemmas.List.Elements.{All-cons, All-nil}
 use Rattle.nb_core.specs.Log.{reply_at}
@@ -99,6 +100,11 @@ module _ (chain : ChainOf) (first g i : ℕ) (table : g < generations_of chain.s
       gone-within chain ((i - from) * meeting_steps p + meeting_steps p)
       ((i + 1 - from) * meeting_steps p) (slots-add from i (meeting_steps p) ahead)
       (gone-more chain own is_first so_far gone)
+
+-- what holds anyway holds where something is shown
+pub if-shown : {P : Type 0} (shown : Option (ℕ × ℕ)) → P → IfSome shown (λ pair. P)
+if-shown None holds = tt
+if-shown (Some pair) holds = holds
 
 -- ---- steps
 

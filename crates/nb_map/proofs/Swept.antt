@@ -341,7 +341,7 @@ module _ {m : MapOf} {before : SeatOf} (mine : IsMine m before) where
           → far_steps m before now walk.place calls + passing_steps m.chain.shape walk.place walk'.place
           ≤ far_steps m before after walk'.place ((hit found ++ on.read.misses) ++ calls)
       fits reads =
-          let down = ahead-falls m.chain.shape walk.place walk'.place found on.ahead on.walked.ended in
+          let down = ahead-falls m.chain.shape walk.place walk'.place found on.ahead on.ended in
           let all = ahead-within m.chain.shape walk.place in
           let ways = way (slots_below m.chain.shape (generations_of m.chain.shape))
           (slots_ahead m.chain.shape walk.place) (slots_ahead m.chain.shape walk'.place)
@@ -482,7 +482,7 @@ module _ {F : Type 0} {Step : F → (k n : ℕ) → Bool → F → Type 0} {firs
     sweep-all {after = after} {walk' = walk'} {f} sweep on =
         let come = come-walked mine None sweep.come on in
         let swept = swept-missed on.read.misses on.read.missed sweep.swept in
-        let whole = whole_walk m after walk' sweep.shown come.underway (on.walked.ended refl) in
+        let whole = whole_walk m after walk' sweep.shown come.underway (on.ended refl) in
         record {
           shown = sweep.shown;
           all = record {

@@ -22,12 +22,15 @@ use Rattle.nb_core.proofs.Theorems.{held_has_place, linked, log_is_replayed, pla
 use Rattle.nb_table.specs.Chains.{seen_by}
 use Rattle.nb_map.specs.Logs.{HasLogged, log}
 use Rattle.nb_map.specs.Maps.{IsMine, MapOf, SeatOf}
-use Rattle.nb_map.specs.Walks.{Begun, Ended, HasPassed, HasRead, HasWalked, IsBefore, IsFirstTable, IsLater, IsMiss, IsPassedOver, IsPlace, IsShown, IsUnderway, IsWalkOf, Rested, Showed, WalkLasts, WalkOf, WholeWalk, begun_by, hit, with_shown}
+use Rattle.nb_map.specs.Walks.{Begun, HasPassed, HasReached, HasRead, HasWalked, IsBefore, IsFirstTable, IsLater, IsMiss, IsPassedOver, IsPlace, IsShown, IsUnderway, IsWalkOf, Passed, Rested, Showed, WalkLasts, WalkOf, WholeWalk, begun_by, hit, walk_from, with_shown}
+use Rattle.nb_map.specs.Promises.{HasWalkedUpTo}
+use Rattle.nb_map.specs.Steps.{passing_steps, slots_ahead}
 use Rattle.nb_map.specs.inside.Walking.{HasGone}
+use Rattle.nb_map.specs.declared.map.walks.WalkPlace.{WalkPlace}
 use Rattle.nb_map.specs.declared.steps.walk.Place.{Place}
 use Rattle.nb_map.specs.declared.steps.walk.Place.TheVariants.{Slot, End}
 use Rattle.nb_map.proofs.Counted.{uncounted-mine}
-use Rattle.nb_map.proofs.Logged.{logged, logs_add_up}
+use Rattle.nb_map.proofs.Logged.{logged, logs_add_up, worked-uncounted}
 use Rattle.nb_map.proofs.Made.{begins-itself, begins-more}
 use Rattle.nb_map.proofs.Walked.{before-later, before-or-not, held-since, held-until, log-begun, passed-still, placed-before, placed-later}
 
@@ -307,7 +310,7 @@ module _ (m : MapOf) where
       sofar-more walk' (Some pair) (sofar underway)
       mine walked.later walked.begun walked.first walked.passed read.logged
       (All-cons New pair [] here (All-nil New))
-  sofar (Ended {walk' = walk'} underway mine walked) =
+  sofar (Passed {walk' = walk'} underway mine walked) =
       sofar-more walk' None (sofar underway)
       mine walked.later walked.begun walked.first walked.passed (logged-later mine walked.later)
       (All-nil _)
@@ -372,6 +375,22 @@ begun-walk m {seat} mine =
       );
     }
 
+-- a walk that has just begun with another slot of that table is its seat's too
+pub begun-at :
+    (m : MapOf) {seat : SeatOf} → IsMine m seat → (slot : ℕ)
+    → slot < size_of m.chain.shape (seen_by m.chain.shape seat.chain).top
+    → IsWalkOf m seat (record (begun_by m seat) {
+      place = Slot (seen_by m.chain.shape seat.chain).top slot;
+    })
+begun-at m mine slot within =
+    let was = begun-walk m mine in
+    record {
+      chain = was.chain;
+      later = was.later;
+      first = was.first;
+      place = (was.place.0, was.place.1, within);
+    }
+
 -- ---- one call of a walk
 
 -- reads of keys that the map hadn't count nothing
@@ -423,16 +442,14 @@ module _ (m : MapOf) {before after : SeatOf} (mine : IsMine m before)
   pub gone-walked :
       {begun : SeatOf} {first : ℕ} {from to : Place} {shown : Option (ℕ × ℕ)} {most : ℕ}
       → HasGone m.chain.shape before.chain after.chain first from to shown most
-      → (shown ≡ None → to ≡ End)
       → HasWalked m.chain.shape before after (record { begun = begun; first = first; place = from })
       (record { begun = begun; first = first; place = to }) shown
-  gone-walked gone ended = record {
+  gone-walked gone = record {
     later = gone-later gone;
     begun = refl;
     first = refl;
     passed =
         gone.passed;
-    ended = ended;
   }
 
   -- and is the seat's still
@@ -461,5 +478,40 @@ pub underway-on :
     (shown : Option (ℕ × ℕ)) → IsMine m after → HasRead before after shown
     → HasWalked m.chain.shape before after walk walk' shown → IsUnderway m before walk pairs
     → IsUnderway m after walk' (with_shown shown pairs)
-underway-on pairs None own read walked underway = Ended underway own walked
+underway-on pairs None own read walked underway = Passed underway own walked
 underway-on pairs (Some pair) own read walked underway = Showed underway own read walked
+
+-- what such a call promises, by what its steps on the chain did
+pub walked-up-to :
+    {m map : MapOf} {before was after : SeatOf} → m ≡ map → before ≡ was → IsMine map was
+    → after.count ≡ before.count
+    → (bound : Place) (at : WalkPlace) (to : Place) (shown : Option (ℕ × ℕ))
+    → HasGone m.chain.shape before.chain after.chain at.first at.place to shown
+    (passing_steps m.chain.shape at.place to)
+    → IsPlace m.chain.shape (seen_by m.chain.shape after.chain) at.first to
+    → IfSome shown (λ pair. slots_ahead m.chain.shape to < slots_ahead m.chain.shape at.place)
+    → (IsBefore bound to → to ≡ at.place) → (shown ≡ None → HasReached bound to)
+    → (begun : SeatOf) → IsWalkOf map was (walk_from begun at)
+    → HasWalkedUpTo map bound was after (walk_from begun at)
+    (walk_from begun (record { first = at.first; place = to })) shown
+walked-up-to {m} {map} {before} {was} {after} one seat mine same bound at to shown gone place ahead
+    within ended begun =
+    subst₂ (λ map was. IsMine map was → IsWalkOf map was (walk_from begun at)
+    → HasWalkedUpTo map bound was after (walk_from begun at)
+    (walk_from begun (record { first = at.first; place = to })) shown) one seat
+    (λ mine is.
+    let own = gone-mine m {before = before} {after = after} mine same gone in
+    let read = gone-read m {before = before} {after = after} mine same gone in
+    let walked = gone-walked m {before = before} {after = after} mine same {begun = begun} gone in
+    record {
+      read = read;
+      walked = walked;
+      within = within;
+      ended = ended;
+      underway = λ pairs. underway-on pairs shown own read walked;
+      worked = λ key. worked-uncounted {map = m} {call = Get key} {before = before}
+          {after = after} (gone.made key) same;
+      ahead = ahead;
+      is_walk = gone-walk m {before = before} {after = after} mine same is gone place;
+      own = own;
+    }) mine

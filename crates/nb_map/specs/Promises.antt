@@ -1,6 +1,6 @@
 -- What the calls of a map promise: one record for each kind of call. The map and its handles cite
 -- them. What an update promises is in `Updating`, and what the end of a map does in `Ending`.
-use Rattle.std.specs.Prelude.{ℕ, Bool, Option, Result, Ok, Err, ◌≡◌, ◌<◌, [], List, IfSome}
+use Rattle.std.specs.Prelude.{ℕ, Bool, Option, Result, Ok, Err, ◌≡◌, ◌<◌, [], List, IfSome, None}
 use Rattle.nb_core.specs.Log.{reply_at, IsBeginning}
 use Rattle.nb_core.specs.Tables.{IsComplete}
 use Rattle.nb_core.specs.declared.calls.Call.TheVariants.{Get}
@@ -14,11 +14,14 @@ use Rattle.nb_map.specs.Maps.{SeatOf, MapOf, IsMine, HasWorked}
 use Rattle.nb_map.specs.Progress.{IsLockFree, IsShortAtHome, IsShortRead, IsWaitFree}
 use Rattle.nb_map.specs.Refusals.{HasRefused, HasGivenUp}
 use Rattle.nb_map.specs.Steps.{get_steps, slots_ahead, passing_steps}
-use Rattle.nb_map.specs.Walks.{WalkOf, IsWalkOf, begun_by, IsUnderway, HasWalked, HasRead, with_shown}
+use Rattle.nb_map.specs.Walks.{WalkOf, IsBefore, IsWalkOf, begun_at, begun_by, walk_from, IsUnderway, HasReached, HasWalked, HasRead, with_shown}
 use Rattle.nb_map.specs.declared.faults.AddFault.TheVariants as add_fault
 use Rattle.nb_map.specs.declared.faults.AddFault.{AddFault}
 use Rattle.nb_map.specs.declared.faults.Full.{Full}
 use Rattle.nb_map.specs.declared.faults.PutFault.{PutFault}
+use Rattle.nb_map.specs.declared.map.walks.WalkPlace.{WalkPlace}
+use Rattle.nb_map.specs.declared.steps.walk.Place.TheVariants.{End}
+use Rattle.nb_map.specs.declared.steps.walk.Place.{Place}
 
 -- ---- what a write answers
 
@@ -152,14 +155,34 @@ pub record HasBegunWalk (map : MapOf) (before after : SeatOf) (walk : WalkOf) : 
   pub count : after.count ≡ before.count
   pub own : IsMine map after
 
--- what a call of a walk promises, which shows this pair, or ends the walk
-pub record HasWalkedOn (map : MapOf) (before after : SeatOf) (walk walk' : WalkOf)
+-- what the beginning of a walk at this slot of the top table promises
+pub record HasBegunWalkAt (map : MapOf) (before after : SeatOf) (slot : ℕ)
+    (at : Option WalkPlace) : Type 0 where
+  -- it begins in the top table that the seat has now seen, with this slot, or not at all where that
+  -- table has no such slot
+  pub begun : at ≡ begun_at map after slot
+  -- it is this seat's walk over this map
+  pub is_walk : IfSome at (λ at. IsWalkOf map after (walk_from after at))
+  -- it is no call of the log
+  pub logged : HasLogged before after []
+  -- it makes one step on the tables, a load of the top word, and none on the counter
+  pub grows : Extended map.chain.shape before.chain after.chain [] 1
+  pub count : after.count ≡ before.count
+  pub own : IsMine map after
+
+-- what a call of a walk promises that goes no further than a bound: it shows this pair, or has come
+-- to the bound
+pub record HasWalkedUpTo (map : MapOf) (bound : Place) (before after : SeatOf) (walk walk' : WalkOf)
     (shown : Option (ℕ × ℕ)) : Type 0 where
   -- its calls in the log are reads: such as found nothing, and at last that of the pair, if it
   -- shows one
   pub read : HasRead before after shown
   -- it passed over no other key that the map had all the while
   pub walked : HasWalked map.chain.shape before after walk walk' shown
+  -- it doesn't go beyond the bound; a walk that is beyond it stays where it is
+  pub within : IsBefore bound walk'.place → walk'.place ≡ walk.place
+  -- where it shows nothing, it has come to the bound
+  pub ended : shown ≡ None → HasReached bound walk'.place
   -- so the law of whole walks goes on from it
   pub underway :
       (pairs : List (ℕ × ℕ)) → IsUnderway map before walk pairs
@@ -175,6 +198,11 @@ pub record HasWalkedOn (map : MapOf) (before after : SeatOf) (walk walk' : WalkO
   -- it is still the seat's walk over this map
   pub is_walk : IsWalkOf map after walk'
   pub own : IsMine map after
+
+-- the same of one that goes on to the walk's end: it shows this pair, or has ended the walk
+abbrev pub HasWalkedOn :
+    (map : MapOf) → (before after : SeatOf) → (walk walk' : WalkOf) → Option (ℕ × ℕ) → Type 0
+HasWalkedOn map = HasWalkedUpTo map End
 
 -- the same of a walk by a handle, which keeps its map and its reserve
 pub record HandleHasWalkedOn (before : HandleWalkOf) (shown : Option (ℕ × ℕ))

@@ -1,6 +1,6 @@
 -- Walks over the keys of a map: where a walk is, and what it shows.
 use Rattle.std.specs.List.{IsDistinct}
-use Rattle.std.specs.Prelude.{◌≡◌, ◌<◌, ◌⊎◌, ℕ, ◌≤◌, Some, Option, None, IfSome, List, [], ◌++◌, All, ◌∷◌, ◌==◌, map, Contains}
+use Rattle.std.specs.Prelude.{◌≡◌, ◌<◌, ◌⊎◌, ℕ, ◌≤◌, Some, Option, None, IfSome, List, [], ◌++◌, All, ◌∷◌, ◌==◌, map, Contains, if◌then◌else◌, nat_lt}
 use Rattle.nb_core.specs.Log.{IsBeginning, HeldThrough, log_of, reply_at}
 use Rattle.nb_core.specs.Meaning.{place_of}
 use Rattle.nb_core.specs.Plans.{Plan, generations_of, size_of}
@@ -70,6 +70,19 @@ begun_by m seat =
     let top = (seen_by m.chain.shape seat.chain).top in
     record { begun = seat; first = top; place = Slot top 0 }
 
+-- It may begin with another slot of that table, where there is such a one.
+abbrev pub begun_at : MapOf → SeatOf → (slot : ℕ) → Option WalkPlace
+begun_at m seat slot =
+    let top = (seen_by m.chain.shape seat.chain).top in
+    if nat_lt slot (size_of m.chain.shape top)
+    then Some (record { first = top; place = Slot top slot })
+    else None
+
+-- where a part of a walk ends that goes up to a slot of its first table: at the walk's end, where the
+-- table has no such slot
+abbrev pub bound_at : Plan → (first end : ℕ) → Place
+bound_at p first end = if nat_lt end (size_of p first) then Slot first end else End
+
 -- ---- what it shows
 
 -- the key's first place from the walk's first table on comes at or after the one of two places, and
@@ -93,15 +106,18 @@ pub record HasPassed (p : Plan) (before after : SeenBy) (first : ℕ) (from to :
       (k : ℕ) → HeldThrough (log_of before.seen) (log_of after.seen) k
       → IsPassedOver p after first from to k → IsShown k shown
 
--- It did so as this walk, which is then at the place that it went to: at the end, where it shows
--- nothing.
+-- It did so as this walk, which is then at the place that it went to.
 pub record HasWalked (p : Plan) (before after : SeatOf) (walk walk' : WalkOf)
     (shown : Option (ℕ × ℕ)) : Type 0 where
   pub later : IsLater before after
   pub begun : walk'.begun ≡ walk.begun
   pub first : walk'.first ≡ walk.first
   pub passed : HasPassed p before.chain after.chain walk.first walk.place walk'.place shown
-  pub ended : shown ≡ None → walk'.place ≡ End
+
+-- A walk that is here has come to a bound: to the end, or to this slot or beyond it.
+abbrev pub HasReached : (bound place : Place) → Type 0
+HasReached End place = place ≡ End
+HasReached (Slot g i) place = IsBefore place (Slot g i) → ⊥
 
 -- the read of the pair that is shown
 abbrev pub hit : Option (ℕ × ℕ) → List (Call × Reply)
@@ -135,7 +151,7 @@ pub data IsUnderway (m : MapOf) : SeatOf → WalkOf → List (ℕ × ℕ) → Ty
       → HasRead before after (Some pair) → HasWalked m.chain.shape before after walk walk'
       (Some pair)
       → IsUnderway m after walk' (pair ∷ shown)
-  Ended :
+  Passed :
       {before after : SeatOf} {walk walk' : WalkOf} {shown : List (ℕ × ℕ)}
       → IsUnderway m before walk shown → IsMine m after
       → HasWalked m.chain.shape before after walk walk' None → IsUnderway m after walk' shown

@@ -178,7 +178,7 @@ walked-on found went = record {
     keys = keys-with found has.pairs keys has.keys;
     is = went.underway has.pairs has.is;
   };
-  ended = λ none. went.walked.ended (no-key found none);
+  ended = λ none. went.ended (no-key found none);
   worked = went.worked;
   ahead = key-ahead _ _ found went.ahead;
   is_walk = went.is_walk;

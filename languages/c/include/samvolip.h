@@ -34,8 +34,9 @@
  *
  * One map. samvolip_meet and samvolip_join take two seats of one map, and two different ones.
  *
- * Walks. A cursor is taken on by samvolip_next with the handle that began it by samvolip_walk, and
- * no more once that handle was joined, closed, freed or renewed.
+ * Walks. A cursor is taken on by samvolip_next and samvolip_list with the handle that began it, by
+ * samvolip_walk or samvolip_walk_from, and no more once that handle was joined, closed, freed or
+ * renewed.
  *
  * Empty and full. A handle is a variable that the caller declares, a samvolip_seat or a
  * samvolip_ended. SAMVOLIP_SEAT_INIT or SAMVOLIP_ENDED_INIT makes it empty. So do zeros: a handle
@@ -248,7 +249,8 @@ typedef struct samvolip_slots {
     uint32_t is_last;
 } samvolip_slots;
 
-/* Where a walk is. samvolip_walk fills it. The fields are the library's. */
+/* Where a walk is. samvolip_walk and samvolip_walk_from fill it. The fields are the library's, but
+   `first` may be read: which table the walk's first one is. */
 typedef struct samvolip_cursor {
     uint32_t first;
     uint32_t table;
@@ -588,6 +590,48 @@ void samvolip_walk(samvolip_seat *seat, samvolip_cursor *cursor);
  * each key that has a slot. A key of a later table is looked for in the earlier ones as well.
  */
 int samvolip_next(samvolip_seat *seat, samvolip_cursor *cursor, uint64_t *key, uint64_t *number);
+
+/*
+ * Begins a walk with slot `slot` of the top table, in a cursor of the caller's. Which table is the
+ * top one samvolip_generation tells, and table g of the shape has 1 << exponents[g] slots. It
+ * returns SAMVOLIP_PRESENT; or SAMVOLIP_ABSENT, if the table has no such slot, and then the cursor
+ * stays as it was. Slot 0 makes it a walk over all keys, as samvolip_walk begins it.
+ *
+ * Cost: a load.
+ */
+int samvolip_walk_from(samvolip_seat *seat, size_t slot, samvolip_cursor *cursor);
+
+/*
+ * Goes on with a walk that this handle has begun, up to slot `end` of the walk's first table, and
+ * writes what it shows into the caller's array: as many entries as there is `room` for. How many
+ * they are is written to `count`. What is behind them in the array stays. It returns
+ * SAMVOLIP_PRESENT if the array is full: there may be more, and the same call goes on. It returns
+ * SAMVOLIP_ABSENT if the walk has come to the slot, or is beyond it. If the table has no slot
+ * `end`, as with SIZE_MAX, the walk goes on through the later tables to its end. With a room of 0
+ * it never gets anywhere.
+ *
+ * So several threads list a map together, each with a seat of its own:
+ *
+ *     size_t slots = (size_t)1 << shape.exponents[samvolip_generation(&seat)];
+ *     size_t from = slots / threads * mine;
+ *     size_t end = mine + 1 < threads ? from + slots / threads : SIZE_MAX;
+ *     samvolip_walk_from(&seat, from, &cursor);
+ *     do {
+ *         more = samvolip_list(&seat, &cursor, end, entries, 1024, &count);
+ *         ... entries[0] to entries[count - 1] ...
+ *     } while (more == SAMVOLIP_PRESENT);
+ *
+ * A key belongs to the part that has its first place, which is in the earliest table that has the
+ * key, from the walk's first one on. The last part, which goes on to the walk's end, has those of
+ * later tables, too. Each part shows every key of its own that the map has all the while, and none
+ * twice. If nobody writes meanwhile, all parts show together just the entries of the map, each
+ * once. If others write, another table may become the top one between the beginnings of two parts,
+ * which their cursor.first tell, and then keys may be shown by both or by none.
+ *
+ * Cost: that of samvolip_next for each entry, without the call; and a compare for each.
+ */
+int samvolip_list(samvolip_seat *seat, samvolip_cursor *cursor, size_t end,
+                  samvolip_entry *entries, size_t room, uint64_t *count);
 
 /* ---- an ended map -------------------------------------------------------------------------- */
 

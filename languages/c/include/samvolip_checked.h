@@ -299,6 +299,35 @@ static inline int samvolip_checked_next(samvolip_seat *seat, samvolip_cursor *cu
     return code;
 }
 
+static inline int samvolip_checked_walk_from(samvolip_seat *seat, size_t slot,
+                                             samvolip_cursor *cursor)
+{
+    int code;
+    samvolip_check(cursor != NULL, "samvolip_walk_from", "the cursor is NULL");
+    samvolip_enter(seat, "samvolip_walk_from");
+    code = samvolip_walk_from(seat, slot, cursor);
+    if (code == SAMVOLIP_PRESENT)
+        cursor->begun = samvolip_name_of_walks(seat);
+    samvolip_leave(seat);
+    return code;
+}
+
+static inline int samvolip_checked_list(samvolip_seat *seat, samvolip_cursor *cursor, size_t end,
+                                        samvolip_entry *entries, size_t room, uint64_t *count)
+{
+    int code;
+    samvolip_check(cursor != NULL, "samvolip_list", "the cursor is NULL");
+    samvolip_check(entries != NULL && count != NULL, "samvolip_list",
+                   "the array or the count is NULL");
+    samvolip_enter(seat, "samvolip_list");
+    samvolip_check(cursor->begun == samvolip_name_of_walks(seat), "samvolip_list",
+                   "the handle has begun no such walk on this map");
+    code = samvolip_list(seat, cursor, end, entries, room, count);
+    cursor->begun = samvolip_name_of_walks(seat);
+    samvolip_leave(seat);
+    return code;
+}
+
 static inline uint64_t samvolip_checked_ended_size(const samvolip_ended *ended)
 {
     samvolip_check_ended(ended, "samvolip_ended_size");
@@ -346,6 +375,8 @@ static inline int samvolip_checked_ended_entries(const samvolip_ended *ended,
 #define samvolip_meet samvolip_checked_meet
 #define samvolip_walk samvolip_checked_walk
 #define samvolip_next samvolip_checked_next
+#define samvolip_walk_from samvolip_checked_walk_from
+#define samvolip_list samvolip_checked_list
 #define samvolip_ended_size samvolip_checked_ended_size
 #define samvolip_ended_get samvolip_checked_ended_get
 #undef samvolip_ended_entries

@@ -30,6 +30,7 @@ int main(int count, char **words)
     uint64_t number = 0;
     samvolip_reply reply;
     samvolip_cursor cursor = {0, 0, 0, 0, 0};
+    samvolip_entry entry;
     samvolip_ended ended = SAMVOLIP_ENDED_INIT;
     EXPECT(count == 2);
     EXPECT(samvolip_open(&shape, &mine) == 0 && samvolip_split(&mine, &yours) == 0);
@@ -63,6 +64,10 @@ int main(int count, char **words)
     case 23: samvolip_entries(&theirs, NULL, 0, NULL); break;
     case 24: samvolip_renew(&theirs, NULL); break;
     case 25: samvolip_occupancy(&mine, NULL); break;
+    case 26: samvolip_walk_from(&mine, 0, NULL); break;
+    case 27: samvolip_list(&mine, &cursor, 1, &entry, 1, &number); break;
+    case 28: samvolip_walk(&mine, &cursor), samvolip_list(&mine, &cursor, 1, NULL, 0, &number); break;
+    case 29: samvolip_walk_from(&mine, 0, &cursor), samvolip_list(&mine, &cursor, 1, &entry, 1, NULL); break;
     default: return 0;
     }
     return 1;

@@ -442,6 +442,98 @@ static void walks_within_a_walk(void)
     samvolip_free(&seat);
 }
 
+/* Takes a cursor on to slot `end`, so many entries at a time, and counts each key of less than 40. Returns how many it showed. */
+static unsigned list_on(samvolip_seat *seat, samvolip_cursor *cursor, size_t end, size_t room, int *seen)
+{
+    samvolip_entry entries[50];
+    unsigned shown = 0;
+    int code;
+    do {
+        uint64_t count = 99;
+        memset(entries, 1, sizeof entries);
+        code = samvolip_list(seat, cursor, end, entries, room, &count);
+        EXPECT(code == SAMVOLIP_PRESENT ? count == room : code == SAMVOLIP_ABSENT && count <= room);
+        for (size_t i = 0; i < count; i++) {
+            EXPECT(entries[i].key < 40 && entries[i].number == entries[i].key + 7);
+            seen[entries[i].key]++;
+        }
+        for (size_t i = count; i < 50; i++)
+            EXPECT(entries[i].key == UINT64_C(0x0101010101010101) && entries[i].number == entries[i].key);
+        shown += (unsigned)count;
+    } while (code == SAMVOLIP_PRESENT);
+    return shown;
+}
+
+/* Parts of a walk, by one thread: over one table, and over two of which the second has keys that the first hasn't. */
+static void lists_parts(void)
+{
+    const samvolip_shape shape = {{5, 6}, 2, 1, 1, UINT32_MAX, 4};
+    samvolip_seat seat = SAMVOLIP_SEAT_INIT;
+    samvolip_cursor cursor, other = {7, 7, 7, 7, 7};
+    samvolip_entry entry = {98, 99};
+    uint64_t count, key, number;
+    EXPECT(samvolip_open(&shape, &seat) == SAMVOLIP_OK);
+
+    /* a map without keys; and where there is no such slot */
+    EXPECT(samvolip_walk_from(&seat, 0, &cursor) == SAMVOLIP_PRESENT);
+    EXPECT(cursor.first == 0 && cursor.table == 0 && cursor.slot == 0 && cursor.is_over == 0);
+    EXPECT(samvolip_list(&seat, &cursor, SIZE_MAX, &entry, 1, &count) == SAMVOLIP_ABSENT && count == 0);
+    EXPECT(cursor.is_over == 1 && entry.key == 98 && entry.number == 99);
+    EXPECT(samvolip_list(&seat, &cursor, 0, &entry, 1, &count) == SAMVOLIP_ABSENT && count == 0);
+    EXPECT(cursor.is_over == 1);
+    EXPECT(samvolip_walk_from(&seat, 31, &other) == SAMVOLIP_PRESENT && other.slot == 31);
+    const samvolip_cursor was = other;
+    EXPECT(samvolip_walk_from(&seat, 32, &other) == SAMVOLIP_ABSENT);
+    EXPECT(samvolip_walk_from(&seat, SIZE_MAX, &other) == SAMVOLIP_ABSENT);
+    EXPECT(memcmp(&other, &was, sizeof was) == 0);
+
+    /* eight keys, each at home in its slot; a room of 0, and one that is too small */
+    for (uint64_t k = 0; k < 8; k++)
+        EXPECT(samvolip_put(&seat, k, k + 7, NULL) == SAMVOLIP_ABSENT);
+    EXPECT(samvolip_walk_from(&seat, 2, &cursor) == SAMVOLIP_PRESENT);
+    EXPECT(samvolip_list(&seat, &cursor, 4, &entry, 0, &count) == SAMVOLIP_PRESENT && count == 0);
+    EXPECT(entry.key == 98 && cursor.slot == 2);
+    EXPECT(samvolip_list(&seat, &cursor, 0, &entry, 1, &count) == SAMVOLIP_ABSENT && count == 0);
+    EXPECT(samvolip_list(&seat, &cursor, 2, &entry, 1, &count) == SAMVOLIP_ABSENT && count == 0);
+    EXPECT(cursor.slot == 2);
+    for (uint64_t k = 2; k < 4; k++) {
+        EXPECT(samvolip_list(&seat, &cursor, 4, &entry, 1, &count) == SAMVOLIP_PRESENT && count == 1);
+        EXPECT(entry.key == k && entry.number == k + 7 && cursor.slot == k + 1);
+    }
+    EXPECT(samvolip_list(&seat, &cursor, 4, &entry, 1, &count) == SAMVOLIP_ABSENT && count == 0);
+    EXPECT(entry.key == 3 && cursor.table == 0 && cursor.slot == 4 && cursor.is_over == 0);
+
+    /* the same walk goes on by the other call, and then by parts */
+    EXPECT(samvolip_next(&seat, &cursor, &key, &number) == SAMVOLIP_PRESENT && key == 4);
+    int rest[40] = {0};
+    EXPECT(list_on(&seat, &cursor, 16, 50, rest) == 3 && rest[5] + rest[6] + rest[7] == 3);
+    EXPECT(cursor.slot == 16 && list_on(&seat, &cursor, 32, 50, rest) == 0 && cursor.is_over == 1);
+
+    /* Walks that began in the first table, one with each slot, go on where more keys are in the second one: whatever the parts are,
+       each has keys of its own, and together they have all. So have parts that begin in the second table. */
+    samvolip_cursor begun[32];
+    for (size_t slot = 0; slot < 32; slot++)
+        EXPECT(samvolip_walk_from(&seat, slot, &begun[slot]) == SAMVOLIP_PRESENT);
+    for (uint64_t k = 8; k < 40; k++)
+        EXPECT(samvolip_put(&seat, k, k + 7, NULL) == SAMVOLIP_ABSENT);
+    EXPECT(samvolip_generation(&seat) == 1);
+    for (size_t parts = 1; parts <= 32; parts++) {
+        int seen[2][40] = {{0}};
+        for (size_t part = 0; part < parts; part++) {
+            const size_t from = 32 * part / parts, end = 32 * (part + 1) / parts;
+            cursor = begun[from];
+            list_on(&seat, &cursor, end, parts % 7 + 1, seen[0]);
+            EXPECT(cursor.first == 0 && (end == 32 ? cursor.is_over == 1 : cursor.slot == end));
+            EXPECT(samvolip_walk_from(&seat, 2 * from, &cursor) == SAMVOLIP_PRESENT && cursor.first == 1);
+            list_on(&seat, &cursor, 2 * end, parts % 7 + 1, seen[1]);
+            EXPECT(cursor.first == 1 && (end == 32 ? cursor.is_over == 1 : cursor.slot == 2 * end));
+        }
+        for (int k = 0; k < 40; k++)
+            EXPECT(seen[0][k] == 1 && seen[1][k] == 1);
+    }
+    samvolip_free(&seat);
+}
+
 /* Sees that these are the numbers from 0 to count - 1, each once, with themselves and `more` as their numbers. */
 static void are_all(const samvolip_entry *entries, uint64_t count, uint64_t more)
 {
@@ -771,6 +863,7 @@ int main(void)
     refuses_when_full();
     tells_how_full();
     walks_within_a_walk();
+    lists_parts();
     splits_and_joins();
     settles();
     lists_entries();

@@ -49,6 +49,14 @@ static void walks(samvolip_seat *seat)
     EXPECT(samvolip_next(seat, &cursor, &key, &number) == SAMVOLIP_ABSENT);
     EXPECT(samvolip_next(seat, &cursor, &key, &number) == SAMVOLIP_ABSENT);
     EXPECT(seat->in_use == 0);
+
+    samvolip_entry entries[KEYS];
+    EXPECT(samvolip_walk_from(seat, 1 << 20, &other) == SAMVOLIP_ABSENT && seat->in_use == 0);
+    EXPECT(samvolip_walk_from(seat, 0, &other) == SAMVOLIP_PRESENT && seat->in_use == 0);
+    EXPECT(samvolip_list(seat, &other, SIZE_MAX, entries, KEYS, &number) == SAMVOLIP_PRESENT);
+    EXPECT(number == KEYS && seat->in_use == 0);
+    EXPECT(samvolip_list(seat, &other, SIZE_MAX, entries, KEYS, &number) == SAMVOLIP_ABSENT);
+    EXPECT(number == 0 && seat->in_use == 0);
 }
 
 /* A walk goes on after a refused renewal, and a new one is begun after one that was made. */

@@ -1,11 +1,13 @@
 /* Threads add to the keys of a growing map, read them, and walk over them; the sums are right. Eight threads make calls of all
    kinds on few keys, and what is left is what they were told. And threads walk beside others that write, while the map grows.
+   Four threads list a map by parts, at rest and while it grows.
        threads [ROUNDS]      how often each of the first four threads adds; the other tests are made again the more often */
 #include "samvolip.h"
 
 #include "expect.h"
 
 #include <pthread.h>
+#include <string.h>
 
 enum { THREADS = 4, KEYS = 1000, MOST_THREADS = 8, FEW_KEYS = 7, KEPT = 6 };
 
@@ -233,6 +235,86 @@ static void walk_beside_writers(void)
     samvolip_ended_free(&ended);
 }
 
+/* ---- parts of a walk */
+
+enum { LISTED = 100000, EARLY = 2000 };
+
+static pthread_barrier_t all_here;
+static unsigned char times[LISTED]; /* how often each mixed key was shown */
+static int is_at_rest;              /* whether the map is so while it is listed */
+
+/* Lists a part of the slots, a few entries at a time. */
+static void list_part(struct worker *worker, samvolip_cursor *cursor, size_t end)
+{
+    samvolip_entry entries[64];
+    uint64_t count;
+    int code;
+    do {
+        code = samvolip_list(&worker->seat, cursor, end, entries, 64, &count);
+        for (uint64_t i = 0; i < count; i++) {
+            const uint64_t key = samvolip_unmix(entries[i].key);
+            EXPECT(key < LISTED && entries[i].number == key + 1);
+            __atomic_fetch_add(&times[key], 1, __ATOMIC_SEQ_CST);
+        }
+    } while (code == SAMVOLIP_PRESENT);
+}
+
+/* Each thread begins its part in the first table. One of them puts most of the keys, so that they lie in a later one. */
+static void *list_over_growth(void *given)
+{
+    struct worker *worker = given;
+    const size_t part = (1 << 14) / THREADS, from = part * worker->number;
+    samvolip_cursor cursor;
+    EXPECT(samvolip_walk_from(&worker->seat, from, &cursor) == SAMVOLIP_PRESENT && cursor.first == 0);
+    pthread_barrier_wait(&all_here);
+    if (worker->number == 0)
+        for (uint64_t key = EARLY; key < LISTED; key++)
+            EXPECT(samvolip_put(&worker->seat, samvolip_mix(key), key + 1, NULL) == SAMVOLIP_ABSENT);
+    if (is_at_rest)
+        pthread_barrier_wait(&all_here);
+    list_part(worker, &cursor, from + part);
+    return NULL;
+}
+
+/* Each thread begins its part in the top table, and the last one goes on to the end. */
+static void *list_at_rest(void *given)
+{
+    struct worker *worker = given;
+    const size_t part = (1 << 18) / THREADS, from = part * worker->number;
+    samvolip_cursor cursor;
+    EXPECT(samvolip_walk_from(&worker->seat, from, &cursor) == SAMVOLIP_PRESENT && cursor.first == 1);
+    list_part(worker, &cursor, worker->number + 1 < THREADS ? from + part : SIZE_MAX);
+    return NULL;
+}
+
+/* No key is shown twice. A key that the map had all the while is shown. */
+static void shown_once(void)
+{
+    for (uint64_t key = 0; key < LISTED; key++)
+        EXPECT(times[key] == 1 || (times[key] == 0 && key >= EARLY && !is_at_rest));
+    memset(times, 0, sizeof times);
+}
+
+static void lists_together(void)
+{
+    const samvolip_shape shape = {{14, 18}, 2, THREADS, THREADS, 18, 64};
+    EXPECT(pthread_barrier_init(&all_here, NULL, THREADS) == 0);
+    for (is_at_rest = 0; is_at_rest < 2; is_at_rest++) {
+        struct worker workers[THREADS] = {{SAMVOLIP_SEAT_INIT, 0, 0, 0, {0}}};
+        EXPECT(samvolip_open(&shape, &workers[0].seat) == SAMVOLIP_OK);
+        for (uint64_t key = 0; key < EARLY; key++)
+            EXPECT(samvolip_put(&workers[0].seat, samvolip_mix(key), key + 1, NULL) == SAMVOLIP_ABSENT);
+        all_work(workers, THREADS, list_over_growth);
+        shown_once();
+        if (is_at_rest) {
+            all_work(workers, THREADS, list_at_rest);
+            shown_once();
+        }
+        samvolip_free(&workers[0].seat);
+    }
+    EXPECT(pthread_barrier_destroy(&all_here) == 0);
+}
+
 int main(int count, char **words)
 {
     if (count > 1)
@@ -242,6 +324,8 @@ int main(int count, char **words)
         eight_threads();
     for (unsigned i = 0; i < rounds; i += 10000)
         walk_beside_writers();
+    for (unsigned i = 0; i < rounds; i += 50000)
+        lists_together();
     puts("threads: well");
     return 0;
 }

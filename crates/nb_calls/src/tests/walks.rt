@@ -40,6 +40,23 @@ fn walk_beside_its_handle(rt: HostRuntime) {
     assert!(&rt; handle.next_key(&mut walk).is_none());
 }
 
+/// A walk that begins with slot 2 of the top table, which has four, and goes up to slot 3 of it.
+#[test]
+fn part_of_a_walk(rt: HostRuntime) {
+    let mut handle = alone(&rt, rt.alloc(), 1);
+    sees(
+        &rt,
+        &mut handle,
+        &[(1, Put(11), Nothing), (2, Put(12), Nothing)],
+    );
+    assert!(&rt; handle.walk_from_slot(4).is_none());
+    let Some(mut at) = handle.walk_from_slot(2) else {
+        panic!(&rt; "there is such a slot");
+    };
+    let shown = handle.next_key_before(&mut at, 3);
+    assert!(&rt; shown == Some(entry(&rt, 2, 12)));
+}
+
 /// The sums of the keys and of the numbers of a handle's map. The loop takes the handle with it.
 fn sums_of(handle: Handle) -> (u64, u64) {
     let (mut keys, mut numbers) = (0u64, 0u64);

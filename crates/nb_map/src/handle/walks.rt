@@ -3,8 +3,15 @@ ghost use Rattle.std.specs.Prelude.{◌≡◌};
 ghost use Rattle.std.specs.Iterator.{at_most};
 ghost use Rattle.nb_map.specs.Handles.{KeepsRest};
 ghost use Rattle.nb_map.specs.Maps.{IsMine, SeatOf};
-ghost use Rattle.nb_map.specs.Promises.{HandleHasWalkedOn, HasBegunWalk, HasWalkedOn, ahead_of};
-ghost use Rattle.nb_map.specs.Walks.{IsWalkOf, walk_from};
+ghost use Rattle.nb_map.specs.Promises.{
+  HandleHasWalkedOn,
+  HasBegunWalk,
+  HasBegunWalkAt,
+  HasWalkedOn,
+  HasWalkedUpTo,
+  ahead_of,
+};
+ghost use Rattle.nb_map.specs.Walks.{IsWalkOf, bound_at, walk_from};
 
 use crate::handle::Handle;
 use crate::map::{Walk, WalkPlace};
@@ -71,6 +78,14 @@ impl Handle {
         self.shared.map.walk_from_top(&mut self.seat)
     }
 
+    /// Begins such a walk with a slot of the top table: `Map::walk_from_slot`.
+    pub fn walk_from_slot(&mut self, slot: usize) -> Option<WalkPlace>
+        ensures begun { HasBegunWalkAt self.old.map self.old.seat self.new.seat slot result }
+        ensures rest { KeepsRest self.old self.new }
+    {
+        self.shared.map.walk_from_slot(&mut self.seat, slot)
+    }
+
     /// The next key of such a walk, with its number, until `None` ends it: `Map::next_key_from`.
     pub fn next_key_from(&mut self, at: &mut WalkPlace) -> Option<(Key, Num)>
         requires walk { (begun : SeatOf) × IsWalkOf self.old.map self.old.seat (walk_from begun at.old) }
@@ -80,6 +95,19 @@ impl Handle {
         ensures rest { KeepsRest self.old self.new }
     {
         self.shared.map.next_key_from(&mut self.seat, at)
+    }
+
+    /// The same up to slot `end` of the walk's first table: `Map::next_key_before`.
+    pub fn next_key_before(&mut self, at: &mut WalkPlace, end: usize) -> Option<(Key, Num)>
+        requires walk { (begun : SeatOf)
+            × IsWalkOf self.old.map self.old.seat (walk_from begun at.old) }
+        ensures walked { (begun : SeatOf)
+            → IsWalkOf self.old.map self.old.seat (walk_from begun at.old)
+            → HasWalkedUpTo self.old.map (bound_at self.old.map.chain.shape at.old.first end)
+            self.old.seat self.new.seat (walk_from begun at.old) (walk_from begun at.new) result }
+        ensures rest { KeepsRest self.old self.new }
+    {
+        self.shared.map.next_key_before(&mut self.seat, at, end)
     }
 }
 

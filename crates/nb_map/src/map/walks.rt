@@ -1,11 +1,11 @@
 //! Walks over the keys of a map, by a seat.
 ghost use Rattle.std.specs.Prelude.{◌≡◌};
 ghost use Rattle.nb_map.specs.Maps.{IsMine, SeatOf};
-ghost use Rattle.nb_map.specs.Promises.{HasBegunWalk, HasWalkedOn};
-ghost use Rattle.nb_map.specs.Walks.{IsWalkOf, walk_from};
+ghost use Rattle.nb_map.specs.Promises.{HasBegunWalk, HasBegunWalkAt, HasWalkedOn, HasWalkedUpTo};
+ghost use Rattle.nb_map.specs.Walks.{IsWalkOf, bound_at, walk_from};
 
 use crate::map::{Map, Seat};
-use crate::steps::walk::{Place, next_from};
+use crate::steps::walk::{Place, next_before, next_from};
 use nb_core::{Key, Num};
 use std::marker::Model;
 use std::snapshot::Snapshot;
@@ -66,6 +66,25 @@ impl Map {
         }
     }
 
+    /// Begins a walk with this slot of the table that is the top one now, by one load of the top
+    /// word. There is none where that table has no such slot. Slot 0 makes it a walk over all keys,
+    /// as `walk_from_top` begins it; any other one leaves out the keys whose first place comes
+    /// before it.
+    pub fn walk_from_slot(&self, seat: &mut Seat, slot: usize) -> Option<WalkPlace>
+        requires own { IsMine self.now seat.old }
+        ensures { HasBegunWalkAt self.now seat.old seat.new slot result }
+    {
+        let top = self.generation(seat);
+        if slot < self.chain.shape().size_of(top) {
+            Some(WalkPlace {
+                first: top,
+                place: Place::Slot(top, slot),
+            })
+        } else {
+            None
+        }
+    }
+
     /// The next key of a walk that this seat has begun, with its number: `while let Some((key,
     /// number)) = map.next_key(&mut seat, &mut walk)` goes through the map while others write it.
     /// Each pair that is shown is a `get` of this seat with its place in the log; no key is shown
@@ -94,5 +113,34 @@ impl Map {
         ensures own { IsMine self.now seat.new }
     {
         next_from(&self.chain, &mut seat.chain, at.first, &mut at.place)
+    }
+
+    /// The same up to slot `end` of the walk's first table: `None` says that it has come there, or
+    /// is beyond. Where that table has no such slot, the walk goes on to its end.
+    ///
+    /// So several seats share a walk while the top table stays the same: one goes from slot 0 to
+    /// slot `a`, the next one from there to slot `b`, and the last one goes on to the walk's end.
+    /// Each shows every key that the map has all the while, from the beginning of its part to its
+    /// end, and whose first place (`place_of`) lies in the part; and each key that it shows has its
+    /// first place there. Where nobody writes meanwhile, they show together just the entries of the
+    /// map, each once.
+    pub fn next_key_before(
+        &self,
+        seat: &mut Seat,
+        at: &mut WalkPlace,
+        end: usize,
+    ) -> Option<(Key, Num)>
+        requires own { IsMine self.now seat.old }
+        requires walk { (begun : SeatOf) × IsWalkOf self.now seat.old (walk_from begun at.old) }
+        ensures walked { (begun : SeatOf) → IsWalkOf self.now seat.old (walk_from begun at.old)
+            → HasWalkedUpTo self.now (bound_at self.now.chain.shape at.old.first end)
+            seat.old seat.new (walk_from begun at.old) (walk_from begun at.new) result }
+        ensures own { IsMine self.now seat.new }
+    {
+        if end < self.chain.shape().size_of(at.first) {
+            next_before(&self.chain, &mut seat.chain, at.first, &mut at.place, end)
+        } else {
+            next_from(&self.chain, &mut seat.chain, at.first, &mut at.place)
+        }
     }
 }

@@ -6,7 +6,7 @@ ghost use Rattle.nb_core.specs.declared.calls.Call.TheVariants as call;
 ghost use Rattle.nb_table.specs.Chains.{IsOwn, seen_by};
 ghost use Rattle.nb_map.specs.Calling.{HasMade};
 ghost use Rattle.nb_map.specs.Steps.{passing_steps, slots_ahead, slots_below, meeting_steps};
-ghost use Rattle.nb_map.specs.Walks.{HasPassed, IsFirstTable, IsPlace};
+ghost use Rattle.nb_map.specs.Walks.{HasPassed, HasReached, IsBefore, IsFirstTable, IsPlace};
 ghost use Rattle.nb_map.specs.declared.steps.walk.Place.TheVariants as walk_at;
 ghost use Rattle.nb_map.specs.inside.Walking.{HasGone, IsEarlier, IsFirstOf};
 
@@ -25,8 +25,8 @@ pub enum Place {
     End,
 }
 
-/// How far a walk has come in one table: to this slot, or to the table's end, and the key and
-/// number that it has found just before.
+/// How far a walk has come in one table: to this slot, or to the end of where it goes, and the key
+/// and number that it has found just before.
 #[derive(Clone, Copy)]
 pub(crate) struct Stretch {
     to: usize,
@@ -51,13 +51,45 @@ pub(crate) fn next_from(
     ensures ended { result ≡ None → place.new ≡ walk_at.End }
 {
     while let Place::Slot(g, from) = *place {
-        let Stretch { to, shown } = next_in(chain, seat, first, g, from);
+        let Stretch { to, shown } = next_in(chain, seat, first, g, from, chain.shape().size_of(g));
         *place = place_from(chain, seat, g, to);
         if shown.is_some() {
             return shown;
         }
     }
     None
+}
+
+/// Takes a walk on to the next key that the map has in the walk's first table before slot `end` of
+/// it, or to that slot. A walk that is there, or beyond, stays where it is.
+pub(crate) fn next_before(
+    chain: &Chain,
+    seat: &mut ChainSeat,
+    first: u32,
+    place: &mut Place,
+    end: usize,
+) -> Option<(Key, Num)>
+    requires own { IsOwn chain.now seat.old }
+    requires first { IsFirstTable chain.now.shape seat.old first }
+    requires place { IsPlace chain.now.shape (seen_by chain.now.shape seat.old) first place.old }
+    requires slot { end < size_of chain.now.shape first }
+    ensures gone { HasGone chain.now.shape seat.old seat.new first place.old place.new result
+        (passing_steps chain.now.shape place.old place.new) }
+    ensures place { IsPlace chain.now.shape (seen_by chain.now.shape seat.new) first place.new }
+    ensures ahead { IfSome result (λ pair. slots_ahead chain.now.shape place.new
+        < slots_ahead chain.now.shape place.old) }
+    ensures within { IsBefore (walk_at.Slot first end) place.new → place.new ≡ place.old }
+    ensures ended { result ≡ None → HasReached (walk_at.Slot first end) place.new }
+{
+    let Place::Slot(g, from) = *place else {
+        return None;
+    };
+    if g > first || from >= end {
+        return None;
+    }
+    let Stretch { to, shown } = next_in(chain, seat, first, first, from, end);
+    *place = Place::Slot(first, to);
+    shown
 }
 
 /// Slot `i` of table `g` as a place, or, where `i` is the table's end, the place that comes next.
@@ -87,23 +119,30 @@ fn place_from(chain: &Chain, seat: &mut ChainSeat, g: u32, i: usize) -> Place
     }
 }
 
-/// Takes a walk on in table `g`, from slot `from`, to the next key that the map has, or to the
-/// table's end: one load for each slot, and one more for a number.
-fn next_in(chain: &Chain, seat: &mut ChainSeat, first: u32, g: u32, from: usize) -> Stretch
+/// Takes a walk on in table `g`, from slot `from`, to the next key that the map has before slot
+/// `end` of it, or to that: one load for each slot, and one more for a number.
+fn next_in(
+    chain: &Chain,
+    seat: &mut ChainSeat,
+    first: u32,
+    g: u32,
+    from: usize,
+    end: usize,
+) -> Stretch
     requires own { IsOwn chain.now seat.old }
     requires first { IsFirstTable chain.now.shape seat.old first }
     requires table { g < generations_of chain.now.shape }
     requires behind { first ≤ g }
-    requires within { from < size_of chain.now.shape g }
+    requires some { from < end }
+    requires within { end ≤ size_of chain.now.shape g }
     ensures gone { HasGone chain.now.shape seat.old seat.new first (walk_at.Slot g from)
         (walk_at.Slot g result.to) result.shown
         ((result.to - from) * meeting_steps chain.now.shape) }
     ensures onward { from < result.to }
-    ensures within { result.to ≤ size_of chain.now.shape g }
-    ensures whole { result.shown ≡ None → result.to ≡ size_of chain.now.shape g }
+    ensures within { result.to ≤ end }
+    ensures whole { result.shown ≡ None → result.to ≡ end }
 {
-    let size = chain.shape().size_of(g);
-    for i in from..size {
+    for i in from..end {
         if let Some(key) = first_seen(chain, seat, first, g, i) {
             let value = chain.shape().value_place(g, i);
             if let Some(number) = get_at(chain, seat, key, Slot { g, i, value }) {
@@ -115,7 +154,7 @@ fn next_in(chain: &Chain, seat: &mut ChainSeat, first: u32, g: u32, from: usize)
         }
     }
     Stretch {
-        to: size,
+        to: end,
         shown: None,
     }
 }

@@ -1,4 +1,4 @@
-use Rattle.std.proofs.Common.{◌≡◌, ◌∙◌, ap, subst₂, sym}
+use Rattle.std.proofs.Common.{◌∙◌, ap, subst₂, sym}
 use Rattle.nb_map.specs.Promises.{HasWalkedOn}
 use Rattle.nb_map.specs.Walks.{IsWalkOf, walk_from}
 use Rattle.nb_map.proofs.handle.Handle.next_key_from.Goals as goal

@@ -1,14 +1,14 @@
-use Rattle.std.proofs.Common.{◌≡◌, ◌∙◌, ℕ, ◌+◌, ◌-◌, ◌*◌, ◌≤◌, ◌<◌, true, false, Option, None, Some, refl, sym, subst, arith}
+use Rattle.std.proofs.Common.{◌≡◌, ◌∙◌, ℕ, ◌+◌, ◌-◌, ◌*◌, ◌≤◌, ◌<◌, true, false, Option, None, Some, ap, refl, sym, subst, arith}
 use Rattle.std.proofs.Math.Nat.{le_refl}
-use Rattle.std.specs.Option.{IfSome, is_some}
-use Rattle.nb_core.specs.Plans.{generations_of}
+use Rattle.std.specs.Option.{is_some}
+use Rattle.nb_core.specs.Plans.{generations_of, size_of}
 use Rattle.nb_table.specs.Chains.{seen_by}
 use Rattle.nb_map.specs.inside.Walking.{HasGone}
 use Rattle.nb_map.specs.Walks.{IsPlace}
 use Rattle.nb_map.specs.Steps.{passing_steps, meeting_steps, slots_ahead}
 use Rattle.nb_map.specs.declared.steps.walk.Place.TheVariants.{Slot}
 use Rattle.nb_map.proofs.Made.{made-own, made-stays}
-use Rattle.nb_map.proofs.Passing.{slots-fall, stretch-steps, ways-add}
+use Rattle.nb_map.proofs.Passing.{if-shown, slots-fall, stretch-steps, ways-add}
 use Rattle.nb_map.proofs.Searched.{table-within}
 use Rattle.nb_map.proofs.Walked.{first-still, gone-more, gone-none, gone-then, gone-within}
 use Rattle.nb_map.proofs.steps.walk.next_from.Goals as goal
@@ -23,6 +23,15 @@ loop-place-init c =
       c.requires.place,
       le_refl (slots_ahead p c.args.place.now),
     )
+
+pub size_of-requires : goal.size_of-requires
+size_of-requires c =
+    let chain = c.args.chain.now in
+    let own = made-own chain c.requires.own (c.loop-place.invariant.0.made 0) in
+    let at = subst (IsPlace chain.shape (seen_by chain.shape c.loop-place.seat) c.args.first)
+    c.in-Slot.is c.loop-place.invariant.1 in
+    subst (λ p. c.in-Slot.g < generations_of p) (sym c.shape.ensures)
+    (table-within chain c.loop-place.seat own c.in-Slot.g at.1)
 
 pub next_in-to-requires-clause-own : goal.next_in-to-requires-clause-own
 next_in-to-requires-clause-own c = made-own c.args.chain.now c.requires.own
@@ -77,6 +86,14 @@ table c =
     table-within chain c.loop-place.seat (made-own chain c.requires.own
     (c.loop-place.invariant.0.made 0)) c.in-Slot.g (was c).1
 
+-- the stretch ends in the table
+inside : (c : After-place_from)
+    → c.next_in-to.result.to ≤ size_of c.args.chain.now.shape c.in-Slot.g
+inside c =
+    let within = c.next_in-to.ensures.within in
+    let all = ap (λ p. size_of p c.in-Slot.g) c.shape.ensures in
+    omega (arith, within, c.size_of.ensures.size, all)
+
 -- there are fewer slots before it now
 fewer :
     (c : After-place_from) → slots_ahead c.args.chain.now.shape c.place_from.result
@@ -84,7 +101,7 @@ fewer :
 fewer c =
     let p = c.args.chain.now.shape in
     let fall = slots-fall p c.in-Slot.g c.in-Slot.from c.next_in-to.result.to (table c)
-    c.next_in-to.ensures.onward c.next_in-to.ensures.within in
+    c.next_in-to.ensures.onward (inside c) in
     omega (arith, fall, c.place_from.ensures.slots)
 
 no-more :
@@ -111,7 +128,7 @@ gone c =
     let is_first = first-still chain c.requires.own c.requires.first
     (c.loop-place.invariant.0.made 0) in
     let steps = stretch-steps p g from to place (table c)
-    c.next_in-to.ensures.onward c.next_in-to.ensures.within c.place_from.ensures.slots in
+    c.next_in-to.ensures.onward (inside c) c.place_from.ensures.slots in
     let stretch =
     gone-within chain ((to - from) * meeting_steps p + 1) (passing_steps p (Slot g from) place) steps
     (gone-then chain own is_first c.next_in-to.ensures.gone c.place_from.ensures.made
@@ -135,17 +152,12 @@ returns-then-is_some-clause-place c =
     c.place_from.ensures.place c.args.first
     (was (goal.at.returns-then-is_some-clause-place c).After-place_from).0
 
--- what holds anyway holds where something is shown
-if-some : {P : Type 0} (shown : Option (ℕ × ℕ)) → P → IfSome shown (λ pair. P)
-if-some None holds = tt
-if-some (Some pair) holds = holds
-
 pub returns-then-is_some-clause-ahead : goal.returns-then-is_some-clause-ahead
 returns-then-is_some-clause-ahead c =
     let at = (goal.at.returns-then-is_some-clause-ahead c).After-place_from in
     let few = fewer at in
     let most = no-more at in
-    if-some c.next_in-to.result.shown (omega (arith, few, most))
+    if-shown c.next_in-to.result.shown (omega (arith, few, most))
 
 pub loop-place-smaller : goal.loop-place-smaller
 loop-place-smaller c =
