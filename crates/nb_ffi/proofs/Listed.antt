@@ -7,8 +7,8 @@ use Rattle.nb_map.specs.Promises as of_map
 use Rattle.nb_map.specs.Walks.{IsWalkOf, bound_at, walk_from}
 use Rattle.nb_map.specs.declared.map.walks.WalkPlace.{WalkPlace}
 use Rattle.nb_ffi.specs.Entries.{entry_of, written_over}
-use Rattle.nb_ffi.specs.Listing.{HasListedAll, HasShown}
-use Rattle.nb_ffi.specs.Listing.HasShown.{Begun, Showed}
+use Rattle.nb_ffi.specs.Listing.{HasListedWholePart, HasShownUpTo}
+use Rattle.nb_ffi.specs.Listing.HasShownUpTo.{Begun, Showed}
 use Rattle.nb_ffi.specs.declared.ended_map.MapEntry.{MapEntry}
 
 -- so many pairs were written so far, and each walk that the seat began goes on from here
@@ -20,7 +20,7 @@ pub record HasCome (end : ℕ) (before : HandleOf) (from : WalkPlace) (room : Li
   pub written : room' ≡ written_over pairs room
   pub shown :
       (begun : SeatOf) → IsWalkOf before.map before.seat (walk_from begun from)
-      → HasShown end begun before from now at pairs
+      → HasShownUpTo end begun before from now at pairs
       × IsWalkOf now.map now.seat (walk_from begun at)
 
 pub come-begun :
@@ -81,7 +81,7 @@ module _ {end : ℕ} {before : HandleOf} {from : WalkPlace} {room : List MapEntr
   pub come-all :
       {now after : HandleOf} {at to : WalkPlace} {room' : List MapEntry} {count : ℕ}
       → (come : HasCome end before from room now at room' count) → Walked end now after at to None
-      → KeepsRest now after → HasListedAll end from to come.pairs before after
+      → KeepsRest now after → HasListedWholePart end from to come.pairs before after
   come-all {now} {at = at} come walked rest = λ begun is.
       let so_far = come.shown begun is in (
         now,

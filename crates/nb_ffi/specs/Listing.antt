@@ -22,28 +22,28 @@ IsBegun slot code cursor cursor' before after =
 
 -- Some calls of the walk that this seat began took it from one place to another, up to a slot of
 -- its first table. They showed these pairs, one after another, and each showed one.
-pub data HasShown (end : ℕ) (begun : SeatOf) (before : HandleOf) (from : WalkPlace) :
+pub data HasShownUpTo (end : ℕ) (begun : SeatOf) (before : HandleOf) (from : WalkPlace) :
     (after : HandleOf) → (to : WalkPlace) → List (ℕ × ℕ) → Type 0 where
-  Begun : HasShown end begun before from before from []
+  Begun : HasShownUpTo end begun before from before from []
   Showed :
       {now after : HandleOf} {at to : WalkPlace} {pairs : List (ℕ × ℕ)} {pair : ℕ × ℕ}
-      → HasShown end begun before from now at pairs
+      → HasShownUpTo end begun before from now at pairs
       → HasWalkedUpTo end begun at to (Some pair) now after
-      → HasShown end begun before from after to (pairs ++ pair ∷ [])
+      → HasShownUpTo end begun before from after to (pairs ++ pair ∷ [])
 
 -- so did calls of each walk that the seat began and that was here
-abbrev pub HasListed :
+abbrev pub HasListedPart :
     (end : ℕ) → (from to : WalkPlace) → List (ℕ × ℕ) → (before after : HandleOf) → Type 0
-HasListed end from to pairs before after =
+HasListedPart end from to pairs before after =
     (begun : SeatOf) → IsWalkOf before.map before.seat (walk_from begun from)
-    → HasShown end begun before from after to pairs
+    → HasShownUpTo end begun before from after to pairs
 
 -- and one more of them showed nothing, since the walk has come to the slot, or to its end
-abbrev pub HasListedAll :
+abbrev pub HasListedWholePart :
     (end : ℕ) → (from to : WalkPlace) → List (ℕ × ℕ) → (before after : HandleOf) → Type 0
-HasListedAll end from to pairs before after =
+HasListedWholePart end from to pairs before after =
     (begun : SeatOf) → IsWalkOf before.map before.seat (walk_from begun from)
-    → (now : HandleOf) × (at : WalkPlace) × HasShown end begun before from now at pairs
+    → (now : HandleOf) × (at : WalkPlace) × HasShownUpTo end begun before from now at pairs
     × HasWalkedUpTo end begun at to None now after
 
 -- A part of a walk was listed with this code. What it showed is in the array, behind which that is
@@ -54,10 +54,10 @@ pub data IsList (end : ℕ) (code : ℤ) (cursor cursor' : Cursor) (count' : ℕ
   Full :
       code ≡ PRESENT → (pairs : List (ℕ × ℕ)) → count' ≡ length pairs
       → length pairs ≡ length room → room' ≡ written_over pairs room
-      → StaysOpen before after (HasListed end (place_in cursor) (place_in cursor') pairs)
+      → StaysOpen before after (HasListedPart end (place_in cursor) (place_in cursor') pairs)
       → IsList end code cursor cursor' count' room room' before after
   All :
       code ≡ ABSENT → (pairs : List (ℕ × ℕ)) → count' ≡ length pairs
       → length pairs ≤ length room → room' ≡ written_over pairs room
-      → StaysOpen before after (HasListedAll end (place_in cursor) (place_in cursor') pairs)
+      → StaysOpen before after (HasListedWholePart end (place_in cursor) (place_in cursor') pairs)
       → IsList end code cursor cursor' count' room room' before after

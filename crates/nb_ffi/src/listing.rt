@@ -3,7 +3,7 @@ ghost use Rattle.std.specs.Prelude.{IfSome, List, None, length, ℕ, ◌≡◌, 
 ghost use Rattle.nb_map.specs.Maps.{SeatOf};
 ghost use Rattle.nb_map.specs.Walks.{IsWalkOf, walk_from};
 ghost use Rattle.nb_ffi.specs.Entries.{written_over};
-ghost use Rattle.nb_ffi.specs.Listing.{HasListed, HasListedAll};
+ghost use Rattle.nb_ffi.specs.Listing.{HasListedPart, HasListedWholePart};
 
 use crate::ended_map::MapEntry;
 use nb_map::{Handle, WalkPlace};
@@ -21,10 +21,10 @@ pub(crate) fn list(
         × IsWalkOf handle.old.map handle.old.seat (walk_from begun at.old) }
     ensures full { result ≡ None → (pairs : List (ℕ × ℕ)) × (length pairs ≡ length room.old)
         × (room.new ≡ written_over pairs room.old)
-        × HasListed end at.old at.new pairs handle.old handle.new }
+        × HasListedPart end at.old at.new pairs handle.old handle.new }
     ensures all { IfSome result (λ count. (pairs : List (ℕ × ℕ)) × (count ≡ length pairs)
         × (length pairs ≤ length room.old) × (room.new ≡ written_over pairs room.old)
-        × HasListedAll end at.old at.new pairs handle.old handle.new) }
+        × HasListedWholePart end at.old at.new pairs handle.old handle.new) }
 {
     for i in 0..room.len() {
         let Some((key, number)) = handle.next_key_before(at, end) else {

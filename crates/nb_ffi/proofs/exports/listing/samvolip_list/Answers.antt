@@ -1,5 +1,5 @@
 use Rattle.std.proofs.Common.{◌∙◌, refl, subst₂, sym}
-use Rattle.nb_ffi.specs.Listing.{HasListed, HasListedAll}
+use Rattle.nb_ffi.specs.Listing.{HasListedPart, HasListedWholePart}
 use Rattle.nb_ffi.specs.Listing.IsList.{All, Full}
 use Rattle.nb_ffi.proofs.exports.listing.samvolip_list.Goals as goal
 
@@ -13,7 +13,7 @@ returns-in-Some c =
       new = new;
       was = c.lend.ensures.value;
       is = refl;
-      holds = subst₂ (λ from to. HasListedAll c.args.end from to pairs old new) c.place-at.ensures
+      holds = subst₂ (λ from to. HasListedWholePart c.args.end from to pairs old new) c.place-at.ensures
           (sym c.at.ensures) listed;
     })
 
@@ -27,6 +27,6 @@ returns-in-None c =
       new = new;
       was = c.lend.ensures.value;
       is = refl;
-      holds = subst₂ (λ from to. HasListed c.args.end from to pairs old new) c.place-at.ensures
+      holds = subst₂ (λ from to. HasListedPart c.args.end from to pairs old new) c.place-at.ensures
           (sym c.at.ensures) listed;
     })
