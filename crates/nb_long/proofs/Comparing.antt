@@ -1,147 +1,116 @@
 -- Writes where the key has an equal value: rounds that have changed nothing, and the last one.
-use Rattle.std.proofs.Common.{◌≡◌, ◌∙◌, ℕ, Bool, true, false, [], ◌∷◌, ◌++◌, Option, Some, None, Result, Ok, Err, ap, ap₂, refl, subst, sym, arith}
-use Rattle.std.proofs.lemmas.Bool.Decides.{nat_tests}
-use Rattle.std.proofs.lemmas.List.Elements.{All-append, All-cons, All-nil}
+use Rattle.std.proofs.Common.{◌≡◌, ℕ, Bool, true, false, [], ◌∷◌, Option, Some, None, Result, Ok, Err, refl, subst, arith}
+use Rattle.std.proofs.lemmas.List.Elements.{All-cons, All-nil}
 use Rattle.boxcar.specs.Table.{Shows, Where}
-use Rattle.nb_core.specs.Log.{holds_of, reply_at}
 use Rattle.nb_core.specs.declared.calls.Call.{Call}
 use Rattle.nb_core.specs.declared.calls.Call.TheVariants as call
 use Rattle.nb_core.specs.declared.calls.Change.{Change}
 use Rattle.nb_core.specs.declared.calls.Reply.{Reply}
-use Rattle.nb_core.specs.declared.calls.Want.TheVariants as want
-use Rattle.nb_map.proofs.Theorems.{logs_add_up, replies_fit}
-use Rattle.nb_map.specs.Logs.{HasReplied}
-use Rattle.nb_map.specs.Maps.{IsMine, MapOf, SeatOf}
-use Rattle.nb_map.specs.Promises.{HasTriedToWrite, Refused, Replied}
+use Rattle.nb_map.proofs.Theorems.{logs_add_up}
+use Rattle.nb_map.specs.Maps.{HasWorked, IsMine, MapOf, SeatOf}
+use Rattle.nb_map.specs.NamedCalls.{exchange_of}
+use Rattle.nb_map.specs.Promises.{HasGot, HasTriedToWrite, Outcome, Refused, Replied}
+use Rattle.nb_map.specs.declared.faults.PutFault.{PutFault}
 use Rattle.nb_map.specs.declared.faults.PutFault.TheVariants as put_fault
-use Rattle.nb_long.proofs.Rounds.{HasRound, free-then, gives-up, idles, round-free}
-use Rattle.nb_long.specs.Promises.{HasAnsweredIf, HasChangedIf, HasMadeRound}
-use Rattle.nb_long.specs.Typed.{HasCompared, HasIdled, HasMadeLast, IsIdle, IsLockFreeIf, LongMapOf, last_call, read_of}
+use Rattle.nb_long.proofs.Rounds.{HasIdled, HasRound, exchange-won, last-then, lost-round, round-worked, worked-then}
+use Rattle.nb_long.specs.Promises.{HasAnsweredIf, HasChangedIf, HasGotValue, HasMadeRound}
+use Rattle.nb_long.specs.Typed.{HasCompared, IsIdle, LongMapOf, read_of, round_steps}
+use Rattle.nb_long.specs.Updating.{IsLost}
 use Rattle.nb_long.specs.declared.map.Compared.{Compared}
 use Rattle.nb_long.specs.declared.map.Unshown.{Unshown}
 
--- ---- refusals
-
--- a write that asks for a number puts none at an absent key, so it is never refused as full
-pub never-full :
-    {m : MapOf} {key n : ℕ} {change : Change} {before after : SeatOf} {tries : ℕ}
-    → HasTriedToWrite m (call.Write key (want.Equal n) change) before after tries
-    (Refused put_fault.Full)
-    → ⊥
-never-full tried = let fills : true ≡ false = tried.answered.just.0 in cc
-
 -- ---- one round
 
--- a condition on a number holds of that number alone
-matched-is : (n : ℕ) (before : Option ℕ) → holds_of (want.Equal n) before ≡ true → before ≡ Some n
-matched-is n (Some m) holds = grind (arith, nat_tests)
-matched-is n None holds = cc
+-- an exchange for a number puts none at an absent key, so it is never refused as full
+pub never-full :
+    {m : MapOf} {key n tries : ℕ} (new : Option ℕ) {before after : SeatOf}
+    → HasTriedToWrite m (exchange_of key (Some n) new) before after tries (Refused put_fault.Full)
+    → ⊥
+never-full new tried = let fills : true ≡ false = tried.answered.just.0 in cc
+
+-- the read has shown this
+pub round-of :
+    {V : Type 0} {m : LongMapOf} {key n : ℕ} {new : Option ℕ} {before read after : SeatOf}
+    {shown : Where V} {outcome : Outcome PutFault}
+    → IsMine m.map before → HasGotValue m key before read (Ok (Some shown)) → n ≡ shown.index
+    → HasTriedToWrite m.map (exchange_of key (Some n) new) read after 1 outcome
+    → HasRound m key (Some shown.index) new before after outcome
+round-of {m = m} {key} {n} {new} {before} {read} {after} {shown} {outcome} own got is wrote = record {
+  read = read;
+  own = own;
+  got = subst (HasGot m.map key before read) got.shown.1 got.got;
+  wrote = subst (λ n. HasTriedToWrite m.map (exchange_of key (Some n) new) read after 1 outcome) is
+      wrote;
+}
 
 module _
-    {V : Type 0} {eq : V → V → Bool} {m : LongMapOf} {key : ℕ} {value : V} {change : Change}
-    {before then' after : SeatOf} {n : ℕ}
+    {V : Type 0} {eq : V → V → Bool} {m : LongMapOf} {key : ℕ} {value : V} {new : Option ℕ}
+    {before after : SeatOf}
   where
-    -- the value that was shown is equal, and the write matched
+    -- the value that was shown is equal, and the exchange is won
     pub matches :
         (shown : Where V) (reply : Reply)
-        → HasRound m key n change before then' after (Replied reply) → Shows m.store shown
-        → n ≡ shown.index → eq shown.value value ≡ true → reply.matched ≡ true
-        → HasMadeRound eq m key value change before after
+        → HasRound m key (Some shown.index) new before after (Replied reply)
+        → Shows m.store shown → eq shown.value value ≡ true → reply.matched ≡ true
+        → HasMadeRound eq m key value new before after
         (Ok (Some (record { found = Some shown; done = true })))
-    matches shown reply round shows is equal matched = record {
-      answered = (
-        shows,
-        equal,
-        subst (λ n. HasMadeLast key (last_call key n change true) before after) is (record {
-          earlier = asked ∷ [];
-          idle = All-cons (IsIdle key) asked [] refl (All-nil (IsIdle key));
-          logged = logs_add_up.more round.got.replied
-              (subst (HasReplied write then' after) reply-is round.wrote.answered);
-        }),
-      );
-      lock_free = round-free round;
-      own = round.wrote.own;
-    }
-      where
-        write : Call
-        write = call.Write key (want.Equal n) change
+    matches shown reply round shows equal matched =
+        let asked : Call × Reply = read_of key (Some shown.index) in
+        record {
+          answered = (
+            shows,
+            equal,
+            record {
+              earlier = asked ∷ [];
+              idle = All-cons (IsIdle key) asked [] refl (All-nil (IsIdle key));
+              logged = logs_add_up.more round.got.replied
+                  (exchange-won {found = Some shown.index} new round.wrote matched).answered;
+            },
+          );
+          worked = round-worked round (call.Get key) refl (λ fills. fills);
+          own = round.wrote.own;
+        }
 
-        asked : Call × Reply
-        asked = read_of key (Some n)
-
-        fits : reply ≡ reply_at write reply.before
-        fits = replies_fit then' after write reply round.wrote.answered
-
-        stood : reply.before ≡ Some n
-        stood = matched-is n reply.before (sym (ap (λ (r : Reply). r.matched) fits) ∙ matched)
-
-        reply-is : reply ≡ record { before = Some n; matched = true }
-        reply-is = ap₂ (λ b m. record { before = b; matched = m }) stood matched
-
-    -- the write found another number
-    pub misses :
-        (reply : Reply) → HasRound m key n change before then' after (Replied reply)
-        → reply.matched ≡ false → HasMadeRound eq m key value change before after (Ok None)
-    misses reply round missed = record {
-      answered = idles round reply round.wrote.answered missed;
-      lock_free = round-free round;
-      own = round.wrote.own;
-    }
-
-    -- the write was refused, since other seats came first
-    pub comes-late :
-        HasRound m key n change before then' after (Refused put_fault.Contended)
-        → HasMadeRound eq m key value change before after (Ok None)
-    comes-late round = record {
-      answered = gives-up round round.wrote.answered.unmade round.wrote.answered.just;
-      lock_free = round-free round;
+    -- it is lost
+    pub loses :
+        {n : ℕ} (outcome : Outcome PutFault) → HasRound m key (Some n) new before after outcome
+        → IsLost outcome → HasMadeRound eq m key value new before after (Ok None)
+    loses outcome round lost = record {
+      answered = lost-round outcome round lost;
+      worked = round-worked round (call.Get key) refl (λ fills. fills);
       own = round.wrote.own;
     }
 
 -- ---- rounds one after another
 
-last-then :
-    {m : LongMapOf} {key : ℕ} {before then' after : SeatOf} {made : Call × Reply}
-    → HasIdled m key before then' → HasMadeLast key made then' after
-    → HasMadeLast key made before after
-last-then {key = key} a b = record {
-  earlier = b.earlier ++ a.calls;
-  idle = All-append (IsIdle key) b.earlier a.calls b.idle a.idle;
-  logged = logs_add_up.more a.logged b.logged;
-}
-
-compared-then :
-    {V : Type 0} (eq : V → V → Bool) (m : LongMapOf) (key : ℕ) (value : V) (change : Change)
-    (before then' after : SeatOf) (found : Option (Where V)) (done : Bool)
-    → HasIdled m key before then'
-    → HasCompared eq m key value change then' after found done
-    → HasCompared eq m key value change before after found done
-compared-then eq m key value change before then' after (Some found) done idled
-    (shows, equal, last) = (shows, equal, last-then idled last)
-compared-then eq m key value change before then' after None done idled (none, last) =
-    (none, last-then idled last)
-
-answered-then :
-    {V : Type 0} (eq : V → V → Bool) (m : LongMapOf) (key : ℕ) (value : V) (change : Change)
-    (before then' after : SeatOf) (answer : Result (Compared V) Unshown)
-    → HasIdled m key before then'
-    → HasAnsweredIf eq m key value change then' after answer
-    → HasAnsweredIf eq m key value change before after answer
-answered-then eq m key value change before then' after (Ok compared) idled last =
-    compared-then eq m key value change before then' after compared.found compared.done idled last
-answered-then eq m key value change before then' after (Err unshown) idled (n, last) =
-    (n, last-then idled last)
-
 -- the answer of the last round is that of the call
-pub changed-then :
-    {V : Type 0} (eq : V → V → Bool) (m : LongMapOf) (key : ℕ) (value : V) (change : Change)
-    {before then' after : SeatOf} (answer : Result (Compared V) Unshown)
-    → IsMine m.map before → HasIdled m key before then'
-    → HasAnsweredIf eq m key value change then' after answer → IsLockFreeIf m key then' after
-    → IsMine m.map after → HasChangedIf eq m key value change before after answer
-changed-then eq m key value change {before} {then'} {after} answer mine idled last free own =
-    record {
-      answered = answered-then eq m key value change before then' after answer idled last;
-      lock_free = free-then m key before then' after mine idled free;
+module _
+    {V : Type 0} (eq : V → V → Bool) {m : LongMapOf} {key : ℕ} (value : V) (change : Change)
+    {before now : SeatOf} (after : SeatOf) (mine : IsMine m.map before)
+    (idled : HasIdled m (call.Get key) key before now)
+  where
+    compared-then :
+        (found : Option (Where V)) (done : Bool)
+        → HasCompared eq m key value change now after found done
+        → HasCompared eq m key value change before after found done
+    compared-then (Some found) done (shows, equal, last) =
+        (shows, equal, last-then mine idled last)
+    compared-then None done (none, last) = (none, last-then mine idled last)
+
+    answered-then :
+        (answer : Result (Compared V) Unshown)
+        → HasAnsweredIf eq m key value change now after answer
+        → HasAnsweredIf eq m key value change before after answer
+    answered-then (Ok compared) last = compared-then compared.found compared.done last
+    answered-then (Err unshown) (n, last) = (n, last-then mine idled last)
+
+    pub changed-then :
+        (answer : Result (Compared V) Unshown)
+        → HasAnsweredIf eq m key value change now after answer
+        → HasWorked m.map (call.Get key) now after (round_steps m.map.chain.shape)
+        → IsMine m.map after → HasChangedIf eq m key value change before after answer
+    changed-then answer last worked own = record {
+      answered = answered-then answer last;
+      lock_free = worked-then mine idled (round_steps m.map.chain.shape) (omega arith) worked;
       own = own;
     }

@@ -89,40 +89,44 @@ no-wins k s e later none =
     of true is = absurd (omega (arith, is))
     of false is = refl
 
+-- one call more or less
+past :
+    (P : Call × Reply → Type 0) (b : Bool) (made : Call × Reply) (calls : List (Call × Reply))
+    → All P (cond b (made ∷ calls) calls) → All P calls
+past P true made calls all = All-tail P made calls all
+past P false made calls all = all
+
 -- what holds of all calls of a seat holds of the earlier ones
 earlier-calls :
     (P : Call × Reply → Type 0) (s : ℕ) (e : Event) (later : List Event)
     → All P (calls_of s (log_of (e ∷ later))) → All P (calls_of s (log_of later))
-earlier-calls P s (Won r g i a b c reply) later all = past (r == s) all
-  where
-    past : (b : Bool) → All P (cond b ((c, reply) ∷ calls_of s (log_of later))
-        (calls_of s (log_of later)))
-        → All P (calls_of s (log_of later))
-    past true all = All-tail P (c, reply) (calls_of s (log_of later)) all
-    past false all = all
-earlier-calls P s (Read r c reply) later all = past (r == s) all
-  where
-    past : (b : Bool) → All P (cond b ((c, reply) ∷ calls_of s (log_of later))
-        (calls_of s (log_of later)))
-        → All P (calls_of s (log_of later))
-    past true all = All-tail P (c, reply) (calls_of s (log_of later)) all
-    past false all = all
+earlier-calls P s (Won r g i a b c reply) later all = past P (r == s) (c, reply) (calls_of s (log_of later)) all
+earlier-calls P s (Read r c reply) later all = past P (r == s) (c, reply) (calls_of s (log_of later)) all
 earlier-calls P s _ later all = all
 
 -- Where other seats have won no exchange on the key, and the seat's own calls have changed nothing,
--- the key's number stays.
+-- the key's number stays, and is all that the seat's calls found at the key.
 number-stays :
     (p : Plan) → IsPlan p → (later h : List Event) → IsLegal p (later ++ h) → (k s : ℕ)
     → All (IsIdle k) (calls_of s (log_of later)) → wins k s later ≡ 0
-    → get (map_of (later ++ h)) k ≡ get (map_of h) k
-number-stays p plan [] h legal k s idle none = refl
+    → (get (map_of (later ++ h)) k ≡ get (map_of h) k)
+    × All (λ made. made.1.before ≡ get (map_of h) k) (calls_of s (log_of later))
+number-stays p plan [] h legal k s idle none =
+    (refl, All-nil (λ made. made.1.before ≡ get (map_of h) k))
 number-stays p plan (e ∷ later) h legal k s idle none =
-    one e legal idle (no-wins k s e later none).0
-    ∙ number-stays p plan later h legal.0 k s (earlier-calls (IsIdle k) s e later idle)
-    (no-wins k s e later none).1
+    let (other, none') = no-wins k s e later none in
+    let (stays, rest) = number-stays p plan later h legal.0 k s
+    (earlier-calls (IsIdle k) s e later idle) none' in
+    (one e legal idle other ∙ stays, replies e legal idle stays rest)
   where
     m : Numbers
     m = map_of (later ++ h)
+
+    Same : Call × Reply → Type 0
+    Same made = made.1.before ≡ get (map_of h) k
+
+    calls : List (Call × Reply)
+    calls = calls_of s (log_of later)
 
     one : (e : Event) → IsLegal p (e ∷ later ++ h)
         → All (IsIdle k) (calls_of s (log_of (e ∷ later))) → is_win_of_another k s e ≡ false
@@ -131,9 +135,9 @@ number-stays p plan (e ∷ later) h legal k s idle none =
         elim (cases_Bool (r == s)) [
           | inl mine ↦
               ap (λ m. get m k) (win-is-call p plan (later ++ h) r g i a b c reply legal
-              ∙ idle-leaves k c reply m (All-head (IsIdle k) (c, reply) (calls_of s (log_of later))
-              (subst (λ b. All (IsIdle k) (cond b ((c, reply) ∷ calls_of s (log_of later))
-              (calls_of s (log_of later)))) mine idle)) legal.3.0)
+              ∙ idle-leaves k c reply m (All-head (IsIdle k) (c, reply) calls
+              (subst (λ b. All (IsIdle k) (cond b ((c, reply) ∷ calls) calls)) mine idle))
+              legal.3.0)
           | inr not_mine ↦ other-key m (key_of_call c) k b
               (λ same. absurd (never (key_of_call c == k) (r == s) (eq-eqb (key_of_call c) k same)
               not_mine other))
@@ -145,41 +149,21 @@ number-stays p plan (e ∷ later) h legal k s idle none =
         never false b is is' other = cc
     one _ legal idle other = refl
 
--- And all that the seat's calls found at the key is that number.
-replies-same :
-    (p : Plan) → IsPlan p → (later h : List Event) → IsLegal p (later ++ h) → (k s : ℕ)
-    → All (IsIdle k) (calls_of s (log_of later)) → wins k s later ≡ 0
-    → All (λ made. made.1.before ≡ get (map_of h) k) (calls_of s (log_of later))
-replies-same p plan [] h legal k s idle none = All-nil (λ made. made.1.before ≡ get (map_of h) k)
-replies-same p plan (e ∷ later) h legal k s idle none =
-    one e legal idle
-    (replies-same p plan later h legal.0 k s (earlier-calls (IsIdle k) s e later idle)
-    (no-wins k s e later none).1)
-  where
-    Same : Call × Reply → Type 0
-    Same made = made.1.before ≡ get (map_of h) k
-
-    calls : List (Call × Reply)
-    calls = calls_of s (log_of later)
-
-    stays : get (map_of (later ++ h)) k ≡ get (map_of h) k
-    stays = number-stays p plan later h legal.0 k s (earlier-calls (IsIdle k) s e later idle)
-        (no-wins k s e later none).1
-
-    more : (c : Call) (r : Reply) (b : Bool) → r ≡ reply_of c (map_of (later ++ h))
-        → All (IsIdle k) (cond b ((c, r) ∷ calls) calls)
+    more : (c : Call) (r : Reply) (b : Bool) → r ≡ reply_of c m
+        → All (IsIdle k) (cond b ((c, r) ∷ calls) calls) → get m k ≡ get (map_of h) k
         → All Same calls → All Same (cond b ((c, r) ∷ calls) calls)
-    more c r true is idle rest = All-cons Same (c, r) calls
-        (idle-replies k c r (map_of (later ++ h)) (All-head (IsIdle k) (c, r) calls idle) is
-        ∙ stays) rest
-    more c r false is idle rest = rest
+    more c r true is idle stays rest = All-cons Same (c, r) calls
+        (idle-replies k c r m (All-head (IsIdle k) (c, r) calls idle) is ∙ stays) rest
+    more c r false is idle stays rest = rest
 
-    one : (e : Event) → IsLegal p (e ∷ later ++ h)
-        → All (IsIdle k) (calls_of s (log_of (e ∷ later))) → All Same calls
-        → All Same (calls_of s (log_of (e ∷ later)))
-    one (Won r g i a b c reply) legal idle rest = more c reply (r == s) legal.3.0 idle rest
-    one (Read r c reply) legal idle rest = more c reply (r == s) legal.3.0 idle rest
-    one _ legal idle rest = rest
+    replies : (e : Event) → IsLegal p (e ∷ later ++ h)
+        → All (IsIdle k) (calls_of s (log_of (e ∷ later))) → get m k ≡ get (map_of h) k
+        → All Same calls → All Same (calls_of s (log_of (e ∷ later)))
+    replies (Won r g i a b c reply) legal idle stays rest =
+        more c reply (r == s) legal.3.0 idle stays rest
+    replies (Read r c reply) legal idle stays rest =
+        more c reply (r == s) legal.3.0 idle stays rest
+    replies _ legal idle stays rest = rest
 
 -- ---- a read, and a write on what it found
 
@@ -234,8 +218,8 @@ others-won {p} {key} {wanted} {found} {change} {before} {after} {reply = reply} 
         let h = before.chain.seen in
         let Same : Call × Reply → Type 0 = λ made. made.1.before ≡ get (map_of h) key in
         let all : All Same made = subst (All Same) calls
-        (replies-same p plan grown.later h (subst (IsLegal p) grown.seen grown.legal) key
-        before.chain.number (subst (All (IsIdle key)) (sym calls) idle) none) in
+        (number-stays p plan grown.later h (subst (IsLegal p) grown.seen grown.legal) key
+        before.chain.number (subst (All (IsIdle key)) (sym calls) idle) none).1 in
         let here : reply.before ≡ get (map_of h) key =
         All-head Same (write, reply) (read ∷ []) all in
         let there : found ≡ get (map_of h) key =

@@ -1,18 +1,18 @@
--- The rounds of a call that compares: what their steps add up to, and what they count.
-use Rattle.std.proofs.Common.{◌≡◌, ◌∙◌, ◌+◌, ◌*◌, ◌≤◌, ◌<◌, ℕ, suc, zero, false, min, pos, List, [], ◌∷◌, ◌++◌, length, Ok, Some, ap, ap₂, refl, subst, subst₂, sym, inl, inr, arith}
+-- The rounds of a call that reads a key and exchanges what it found: what their steps add up to, and
+-- what they count.
+use Rattle.std.proofs.Common.{◌≡◌, ◌∙◌, ◌+◌, ◌*◌, ◌≤◌, ◌<◌, ℕ, suc, zero, true, false, min, pos, List, [], ◌∷◌, ◌++◌, length, Option, Some, None, ap, ap₂, refl, subst, subst₂, sym, inl, inr, arith}
 use Rattle.std.specs.List.{All}
 use Rattle.std.proofs.Math.IntN.{◌+ℤ◌}
-use Rattle.std.proofs.Math.Nat.{add-mul, mul-le-mul_right}
-use Rattle.std.proofs.lemmas.Bool.{eq-eqb}
+use Rattle.std.proofs.Math.Nat.{mul-le-mul_right}
+use Rattle.std.proofs.lemmas.Bool.{eq-eqb, eqb-true}
 use Rattle.std.proofs.lemmas.Int.{ints}
 use Rattle.std.proofs.lemmas.List.{append_assoc}
 use Rattle.std.proofs.lemmas.List.Elements.{All-append, All-cons, All-nil, All-weaker}
-use Rattle.boxcar.specs.Table.{Where}
 use Rattle.nb_core.proofs.Theorems.{calls_append, passed_over_adds}
 use Rattle.nb_core.specs.Calls.{Fills}
 use Rattle.nb_core.specs.History.{key_of_call}
 use Rattle.nb_core.specs.Laws.{Lasts}
-use Rattle.nb_core.specs.Log.{IsBeginning, calls_of, reply_at}
+use Rattle.nb_core.specs.Log.{IsBeginning, calls_of, holds_of}
 use Rattle.nb_core.specs.Meaning.{net_of, passed_over}
 use Rattle.nb_core.specs.Plans.{Plan, generations_of}
 use Rattle.nb_core.specs.Tables.{HasSlotBelow, Tables, tables_at}
@@ -20,7 +20,7 @@ use Rattle.nb_core.specs.declared.calls.Call.{Call}
 use Rattle.nb_core.specs.declared.calls.Call.TheVariants as call
 use Rattle.nb_core.specs.declared.calls.Change.{Change}
 use Rattle.nb_core.specs.declared.calls.Reply.{Reply}
-use Rattle.nb_core.specs.declared.calls.Want.TheVariants as want
+use Rattle.nb_core.specs.declared.calls.Want.{Want}
 use Rattle.nb_core.specs.declared.events.Event.{Event}
 use Rattle.nb_core.specs.declared.events.Event.TheVariants.{Claim, Install}
 use Rattle.nb_count.specs.Counts.{CountSeatOf}
@@ -28,15 +28,17 @@ use Rattle.nb_table.proofs.Theorems.{steps_add_up}
 use Rattle.nb_table.specs.Chains.{ChainOf, Grown, IsOwn, SeenBy}
 use Rattle.nb_map.proofs.Theorems.{logs_add_up, replies_fit}
 use Rattle.nb_map.specs.Calling.{HasCountedTurned, HasStepped, MayMake}
-use Rattle.nb_map.specs.Logs.{HasLogged, HasReplied, log}
+use Rattle.nb_map.specs.Logs.{HasLogged, log}
 use Rattle.nb_map.specs.Maps.{HasWorked, IsMine, MapOf, SeatOf, accounted}
+use Rattle.nb_map.specs.NamedCalls.{change_to, exchange_of, want_of}
 use Rattle.nb_map.specs.Progress.{passed_since}
-use Rattle.nb_map.specs.Promises.{HasGot, HasTriedToWrite, Outcome}
+use Rattle.nb_map.specs.Promises.{Found, HasGot, HasTriedToWrite, Matched, Outcome, Refused, Replied}
+use Rattle.nb_map.specs.Refusals.{IsJust}
 use Rattle.nb_map.specs.Steps.{put_steps}
 use Rattle.nb_map.specs.declared.faults.PutFault.{PutFault}
 use Rattle.nb_long.proofs.Passed.{others-won}
-use Rattle.nb_long.specs.Promises.{HasGotValue}
-use Rattle.nb_long.specs.Typed.{HasIdled, IsIdle, IsLockFreeIf, LongMapOf, passed_on, round_steps}
+use Rattle.nb_long.specs.Typed.{HasLostRound, HasMadeLast, IsIdle, IsLockFreeIf, LongMapOf, passed_on, read_of, round_steps}
+use Rattle.nb_long.specs.Updating.{IsLost}
 
 -- ---- steps as of another call of the key
 
@@ -72,14 +74,6 @@ stepped-as {p} {c} {before} {after} c' same fills (made, steps) = (
     few = steps.few;
   },
 )
-
--- what a write on a number may make, a read may make
-stepped-as-read :
-    {p : Plan} {key n most : ℕ} {change : Change} {before after : SeenBy}
-    → HasStepped p (call.Write key (want.Equal n) change) before after most
-    → HasStepped p (call.Get key) before after most
-stepped-as-read {key = key} {n} {change = change} steps =
-    stepped-as {c = call.Write key (want.Equal n) change} (call.Get key) refl (λ fills. fills) steps
 
 -- more steps may be allowed than were made
 pub stepped-within :
@@ -262,162 +256,212 @@ passed-sum key start mid after a b =
         + passed_over m (length start.chain.seen) k s) (sym is)
         (sym (is' ∙ ap (λ h. later' ++ h) is)) (passed_over_adds later' later start.chain.seen k s)
 
--- rounds that are fewer take fewer steps
-pub times : (a b most : ℕ) → a ≤ b → a * most ≤ b * most
-times a b most below = mul-le-mul_right most below
-
-one-round : (passed most : ℕ) → most ≤ (passed + 1) * most
-one-round passed most =
-    let more = times 1 (passed + 1) most (omega arith) in omega (arith, more)
-
 -- ---- one round
 
--- A read, and a write with one try on the number that it found.
-pub record HasRound (m : LongMapOf) (key n : ℕ) (change : Change) (before then' after : SeatOf)
-    (outcome : Outcome PutFault) : Type 0 where
-  pub own : IsMine m.map before
-  pub got : HasGot m.map key before then' (Some n)
-  pub wrote : HasTriedToWrite m.map (call.Write key (want.Equal n) change) then' after 1 outcome
+-- the condition of an exchange holds of the number that it is to find, and of nothing else
+holds-there : (found : Option ℕ) → holds_of (want_of found) found ≡ true
+holds-there None = refl
+holds-there (Some n) = eq-eqb n n refl
 
--- the read has shown this
-pub round-of :
-    {V : Type 0} {m : LongMapOf} {key n : ℕ} {change : Change} {before then' after : SeatOf}
-    {shown : Where V} {outcome : Outcome PutFault}
-    → IsMine m.map before → HasGotValue m key before then' (Ok (Some shown)) → n ≡ shown.index
-    → HasTriedToWrite m.map (call.Write key (want.Equal n) change) then' after 1 outcome
-    → HasRound m key n change before then' after outcome
-round-of {m = m} {key = key} {before = before} {then'} own got is wrote = record {
-  own = own;
-  got = subst (HasGot m.map key before then') (got.shown.1 ∙ ap Some (sym is)) got.got;
-  wrote = wrote;
-}
+there-is : (was found : Option ℕ) → holds_of (want_of was) found ≡ true → found ≡ was
+there-is None None holds = refl
+there-is None (Some n) holds = absurd cc
+there-is (Some n) None holds = absurd cc
+there-is (Some n) (Some f) holds = ap Some (eqb-true f n holds)
+
+-- an exchange that matched found this number
+pub exchange-won :
+    {m : MapOf} {key tries : ℕ} {found : Option ℕ} (new : Option ℕ) {before after : SeatOf}
+    {reply : Reply}
+    → HasTriedToWrite m (exchange_of key found new) before after tries (Replied reply)
+    → reply.matched ≡ true
+    → HasTriedToWrite m (exchange_of key found new) before after tries
+    (Replied (record { before = found; matched = true }))
+exchange-won {m} {key} {tries} {found} new {before} {after} {reply} tried matched =
+    let exchange : Call = exchange_of key found new in
+    let fits = replies_fit before after exchange reply tried.answered in
+    let there : reply.before ≡ found = there-is found reply.before
+    (sym (ap (λ (r : Reply). r.matched) fits) ∙ matched) in
+    subst (λ reply. HasTriedToWrite m exchange before after tries (Replied reply))
+    (ap₂ (λ b m. record { before = b; matched = m }) there matched) tried
+
+-- a write that didn't match does nothing to the number of keys
+uncounted-missed :
+    (key : ℕ) (want : Want) (change : Change) (reply : Reply) → reply.matched ≡ false
+    → net_of ((call.Write key want change, reply) ∷ []) ≡ pos 0
+uncounted-missed key want change reply missed = rw missed
+
+-- A read, and an exchange, with one try, of the number that it found.
+pub record HasRound (m : LongMapOf) (key : ℕ) (found new : Option ℕ) (before after : SeatOf)
+    (outcome : Outcome PutFault) : Type 0 where
+  pub read : SeatOf
+  pub own : IsMine m.map before
+  pub got : HasGot m.map key before read found
+  pub wrote : HasTriedToWrite m.map (exchange_of key found new) read after 1 outcome
 
 module _
-    {m : LongMapOf} {key n : ℕ} {change : Change} {before then' after : SeatOf}
-    {outcome : Outcome PutFault} (round : HasRound m key n change before then' after outcome)
+    {m : LongMapOf} {key : ℕ} {found new : Option ℕ} {before after : SeatOf}
+    {outcome : Outcome PutFault} (round : HasRound m key found new before after outcome)
   where
     abbrev p : Plan
     p = m.map.chain.shape
 
-    abbrev write : Call
-    write = call.Write key (want.Equal n) change
+    abbrev exchange : Call
+    exchange = exchange_of key found new
+
+    read-count : round.read.count ≡ before.count
+    read-count = uncounted round.own round.got.own round.got.replied refl round.got.worked
 
     one-try : (t : ℕ) → min 1 (t + 1) ≡ 1
     one-try t = omega arith
 
-    write-steps : HasStepped p (call.Get key) then'.chain after.chain (put_steps p 1)
-    write-steps = subst (λ t. HasStepped p (call.Get key) then'.chain after.chain (put_steps p t))
-        (one-try (passed_since write then'.chain after.chain))
-        (stepped-as-read round.wrote.wait_free.steps)
-
-    all-steps : HasStepped p (call.Get key) before.chain after.chain (round_steps p)
-    all-steps = stepped-then m.map.chain round.own.chain round.got.worked.steps write-steps
-
-    read-count : then'.count ≡ before.count
-    read-count = uncounted round.own round.got.own round.got.replied refl round.got.worked
-
-    -- it is lock-free
-    pub round-free : IsLockFreeIf m key before after
-    round-free = record {
-      steps = stepped-within (round_steps p) ((passed_on key before after + 1) * round_steps p)
-          (one-round (passed_on key before after) (round_steps p)) all-steps;
+    -- to the tables it has done what a call of the key may that fills it if the exchange does
+    pub round-worked :
+        (c : Call) → key_of_call c ≡ key → (Fills exchange → Fills c)
+        → HasWorked m.map c before after (round_steps p)
+    round-worked c same fills = record {
+      steps = stepped-as c same fills (stepped-then m.map.chain round.own.chain
+          (stepped-as {c = call.Get key} exchange refl (λ fills. absurd cc) round.got.worked.steps)
+          (subst (λ t. HasStepped p exchange round.read.chain after.chain (put_steps p t))
+          (one-try (passed_since exchange round.read.chain after.chain))
+          round.wrote.wait_free.steps));
       net = round.wrote.wait_free.net;
       count = round.wrote.wait_free.count ∙ ap (accounted round.wrote.wait_free.net) read-count;
     }
 
-    -- it has changed nothing, and another seat has won an exchange on the key
-    idled :
-        (calls : List (Call × Reply)) → All (IsIdle key) calls → HasLogged before after calls
-        → after.count ≡ then'.count → 1 ≤ passed_on key before after → HasIdled m key before after
-    idled calls idle logged same won = record {
-      calls = calls;
-      idle = idle;
-      logged = logged;
-      steps = stepped-within (round_steps p) (passed_on key before after * round_steps p)
-          (fits (round_steps p)
-          (times 1 (passed_on key before after) (round_steps p) won)) all-steps;
-      count = same ∙ read-count;
+-- where its exchange is lost, it has changed nothing
+pub lost-round :
+    {m : LongMapOf} {key : ℕ} {found new : Option ℕ} {before after : SeatOf}
+    (outcome : Outcome PutFault) → HasRound m key found new before after outcome → IsLost outcome
+    → HasLostRound key before after
+lost-round {key = key} {found} {new} {before} {after} (Replied reply) round missed =
+    let exchange : Call = exchange_of key found new in
+    let asked : Call × Reply = read_of key found in
+    let both = logs_add_up.more round.got.replied round.wrote.answered in
+    record {
+      made = (exchange, reply) ∷ asked ∷ [];
+      idle = All-cons (IsIdle key) (exchange, reply) (asked ∷ []) (refl, missed)
+          (All-cons (IsIdle key) asked [] refl (All-nil (IsIdle key)));
+      logged = both;
+      count = uncounted round.got.own round.wrote.own round.wrote.answered
+          (uncounted-missed key (want_of found) (change_to new) reply missed)
+          round.wrote.wait_free ∙ read-count round;
+      won = others-won round.own.chain.plan (holds-there found)
+          (round-worked round exchange refl (λ fills. fills)).steps.1.grown both
+          (replies_fit round.read after exchange reply round.wrote.answered) missed;
     }
-      where
-        fits : (most : ℕ) {c : ℕ} → 1 * most ≤ c → most ≤ c
-        fits most less = omega (arith, less)
-
-    -- the write found another number
-    pub idles : (reply : Reply) → HasReplied write then' after reply → reply.matched ≡ false
-        → HasIdled m key before after
-    idles reply replied missed =
-        let asked : Call × Reply = (call.Get key, reply_at (call.Get key) (Some n)) in
-        let both = logs_add_up.more round.got.replied replied in
-        idled ((write, reply) ∷ asked ∷ [])
-        (All-cons (IsIdle key) (write, reply) (asked ∷ []) (refl, missed)
-        (All-cons (IsIdle key) asked [] refl (All-nil (IsIdle key)))) both
-        (uncounted round.got.own round.wrote.own replied (none reply missed)
-        round.wrote.wait_free)
-        (others-won round.own.chain.plan (eq-eqb n n refl) all-steps.1.grown both
-        (replies_fit then' after write reply replied) missed)
-      where
-        none : (reply : Reply) → reply.matched ≡ false → net_of ((write, reply) ∷ []) ≡ pos 0
-        none reply missed = rw missed
-
-    -- the write was refused, since other seats came first
-    pub gives-up : HasLogged then' after [] → 1 ≤ passed_since write then'.chain after.chain
-        → HasIdled m key before after
-    gives-up refused won =
-        let asked : Call × Reply = (call.Get key, reply_at (call.Get key) (Some n)) in
-        let sum = passed-sum key before then' after round.got.worked.steps.1.grown
-        write-steps.1.grown in
-        let here : 1 ≤ passed_on key then' after = won in
-        idled (asked ∷ []) (All-cons (IsIdle key) asked [] refl (All-nil (IsIdle key)))
-        (logs_add_up.more round.got.replied refused)
-        (uncounted round.got.own round.wrote.own refused refl round.wrote.wait_free)
-        (omega (arith, sum, here))
+lost-round {m = m} {key} {found} {new} {before} {after} (Refused refusal) round lost =
+    let exchange : Call = exchange_of key found new in
+    let asked : Call × Reply = read_of key found in
+    let just : 1 ≤ passed_on key round.read after =
+    subst (IsJust m.map.chain.shape exchange round.read.chain after.chain 1) lost
+    round.wrote.answered.just in
+    let sum = passed-sum key before round.read after round.got.worked.steps.1.grown
+    round.wrote.wait_free.steps.1.grown in
+    record {
+      made = asked ∷ [];
+      idle = All-cons (IsIdle key) asked [] refl (All-nil (IsIdle key));
+      logged = logs_add_up.more round.got.replied round.wrote.answered.unmade;
+      count = uncounted round.got.own round.wrote.own round.wrote.answered.unmade refl
+          round.wrote.wait_free ∙ read-count round;
+      won = omega (arith, just, sum);
+    }
+lost-round (Found number) round lost = absurd lost
+lost-round (Matched held) round lost = absurd lost
 
 -- ---- rounds one after another
 
+-- The seat has made calls alone that changed nothing, or none, and counted nothing. Its steps were
+-- such as this call of the key may make, and no more than a round takes for each exchange that other
+-- seats have won on the key meanwhile.
+pub record HasIdled (m : LongMapOf) (c : Call) (key : ℕ) (before after : SeatOf) : Type 0 where
+  pub calls : List (Call × Reply)
+  pub idle : All (IsIdle key) calls
+  pub logged : HasLogged before after calls
+  pub steps : HasStepped m.map.chain.shape c before.chain after.chain
+      (passed_on key before after * round_steps m.map.chain.shape)
+  pub count : after.count ≡ before.count
+
 pub idled-none :
-    {m : LongMapOf} {key : ℕ} {seat : SeatOf} → IsMine m.map seat → HasIdled m key seat seat
-idled-none {m} {key} {seat} mine = record {
+    {m : LongMapOf} {key : ℕ} {seat : SeatOf} (c : Call) → IsMine m.map seat
+    → HasIdled m c key seat seat
+idled-none {m} {key} {seat} c mine = record {
   calls = [];
   idle = All-nil (IsIdle key);
   logged = logs_add_up.none mine;
   steps = stepped-within 0 (passed_on key seat seat * round_steps m.map.chain.shape)
-      (omega arith) (stepped-none m.map.chain (call.Get key) seat.chain mine.chain);
+      (omega arith) (stepped-none m.map.chain c seat.chain mine.chain);
   count = refl;
 }
 
-pub idled-then :
-    {m : LongMapOf} {key : ℕ} {before then' after : SeatOf} → IsMine m.map before
-    → HasIdled m key before then' → HasIdled m key then' after → HasIdled m key before after
-idled-then {m} {key} {before} {then'} {after} mine a b =
-    let most = round_steps m.map.chain.shape in
-    record {
-      calls = b.calls ++ a.calls;
-      idle = All-append (IsIdle key) b.calls a.calls b.idle a.idle;
-      logged = logs_add_up.more a.logged b.logged;
-      steps = subst (HasStepped m.map.chain.shape (call.Get key) before.chain after.chain)
-          (sym (add-mul (passed_on key before then') (passed_on key then' after) most)
-          ∙ ap (λ passed. passed * most)
-          (passed-sum key before then' after a.steps.1.grown b.steps.1.grown))
-          (stepped-then m.map.chain mine.chain a.steps b.steps);
-      count = b.count ∙ a.count;
+module _
+    {m : LongMapOf} {c : Call} {key : ℕ} {before now : SeatOf} (mine : IsMine m.map before)
+    (idled : HasIdled m c key before now)
+  where
+    abbrev most : ℕ
+    most = round_steps m.map.chain.shape
+
+    -- as of another call
+    pub idled-as :
+        (c' : Call) → key_of_call c' ≡ key_of_call c → (Fills c → Fills c')
+        → HasIdled m c' key before now
+    idled-as c' same fills = record {
+      calls = idled.calls;
+      idle = idled.idle;
+      logged = idled.logged;
+      steps = stepped-as c' same fills idled.steps;
+      count = idled.count;
     }
 
--- the last round after others
-pub free-then :
-    (m : LongMapOf) (key : ℕ) (before then' after : SeatOf) → IsMine m.map before
-    → HasIdled m key before then' → IsLockFreeIf m key then' after → IsLockFreeIf m key before after
-free-then m key before then' after mine a b =
-    let most = round_steps m.map.chain.shape in
-    let sum = passed-sum key before then' after a.steps.1.grown b.steps.1.grown in
-    let all : passed_on key before then' + (passed_on key then' after + 1)
-    ≡ passed_on key before after + 1 = omega (arith, sum) in
-    record {
-      steps = subst (HasStepped m.map.chain.shape (call.Get key) before.chain after.chain)
-          (sym (add-mul (passed_on key before then') (passed_on key then' after + 1) most)
-          ∙ ap (λ rounds. rounds * most) all)
-          (stepped-then m.map.chain mine.chain a.steps b.steps);
-      net = b.net;
-      count = b.count ∙ ap (accounted b.net) a.count;
+    -- one more is lost
+    pub idled-more :
+        {after : SeatOf} → HasLostRound key now after → HasWorked m.map c now after most
+        → HasIdled m c key before after
+    idled-more {after} lost worked =
+        let sum = passed-sum key before now after idled.steps.1.grown worked.steps.1.grown in
+        record {
+          calls = lost.made ++ idled.calls;
+          idle = All-append (IsIdle key) lost.made idled.calls lost.idle idled.idle;
+          logged = logs_add_up.more idled.logged lost.logged;
+          steps = stepped-within (passed_on key before now * most + most)
+              (passed_on key before after * most)
+              (one-more (passed_on key before now) (passed_on key before after) most
+              (omega (arith, lost.won, sum)))
+              (stepped-then m.map.chain mine.chain idled.steps worked.steps);
+          count = lost.count ∙ idled.count;
+        }
+      where
+        one-more : (a b r : ℕ) → a + 1 ≤ b → a * r + r ≤ b * r
+        one-more a b r less =
+            let more : (a + 1) * r ≤ b * r = mul-le-mul_right r less in omega (arith, more)
+
+    -- the last one, or a part of it
+    pub worked-then :
+        {after : SeatOf} (most' : ℕ) → most' ≤ most → HasWorked m.map c now after most'
+        → HasWorked m.map c before after ((passed_on key before after + 1) * most)
+    worked-then {after} most' within worked =
+        let sum = passed-sum key before now after idled.steps.1.grown worked.steps.1.grown in
+        record {
+          steps = stepped-within (passed_on key before now * most + most')
+              ((passed_on key before after + 1) * most)
+              (one-more (passed_on key before now) (passed_on key before after) most most'
+              (omega (arith, sum)) within)
+              (stepped-then m.map.chain mine.chain idled.steps worked.steps);
+          net = worked.net;
+          count = worked.count ∙ ap (accounted worked.net) idled.count;
+        }
+      where
+        one-more : (a b r most : ℕ) → a ≤ b → most ≤ r → a * r + most ≤ (b + 1) * r
+        one-more a b r most less within =
+            let more : a * r ≤ b * r = mul-le-mul_right r less in omega (arith, more)
+
+    pub last-then :
+        {after : SeatOf} {made : Call × Reply} → HasMadeLast key made now after
+        → HasMadeLast key made before after
+    last-then last = record {
+      earlier = last.earlier ++ idled.calls;
+      idle = All-append (IsIdle key) last.earlier idled.calls last.idle idled.idle;
+      logged = logs_add_up.more idled.logged last.logged;
     }
 
 -- no round at all

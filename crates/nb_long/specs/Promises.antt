@@ -3,15 +3,17 @@
 -- of these kinds (`HasGot`, `HasWritten` and `HasMet` of nb_map/specs/Promises.antt).
 use Rattle.std.specs.Prelude.{◌≡◌, ◌<◌, ℕ, Bool, IfOk, Option, Some, None, Result, Ok, Err}
 use Rattle.boxcar.specs.Table.{Shelves, Where}
+use Rattle.nb_core.specs.declared.calls.Call.TheVariants as call
 use Rattle.nb_core.specs.declared.calls.Change.{Change}
 use Rattle.nb_core.specs.declared.calls.Change.TheVariants as change
 use Rattle.nb_core.specs.declared.calls.Want.{Want}
 use Rattle.nb_core.specs.declared.numbers.TheConstants.{VALUE_MAX}
-use Rattle.nb_map.specs.Maps.{IsMine, SeatOf}
+use Rattle.nb_map.specs.Maps.{HasWorked, IsMine, SeatOf}
+use Rattle.nb_map.specs.NamedCalls.{change_to}
 use Rattle.nb_map.specs.Promises.{HasGot, HasWritten, Refused, Replied}
 use Rattle.nb_map.specs.declared.faults.AddFault.TheVariants as add_fault
 use Rattle.nb_long.specs.Stores.{HasStored}
-use Rattle.nb_long.specs.Typed.{HasCompared, HasIdled, IsLockFreeIf, IsShown, IsUnshown, LongMapOf, number_of, put_where}
+use Rattle.nb_long.specs.Typed.{HasCompared, HasLostRound, IsLockFreeIf, IsShown, IsUnshown, LongMapOf, number_of, put_where, round_steps}
 use Rattle.nb_long.specs.declared.map.Compared.{Compared}
 use Rattle.nb_long.specs.declared.map.LongFault.{LongFault}
 use Rattle.nb_long.specs.declared.map.LongFault.TheVariants as fault
@@ -118,20 +120,21 @@ pub record HasReplacedIf {V : Type 0} (eq : V → V → Bool) (m : LongMapOf) (k
   pub own : IsMine m.map after
 
 -- The answer of a round of these: that of the whole call. Or there is none, since another seat has
--- written the key after it was read, and the round has changed nothing.
+-- written the key after it was read, and the round has changed nothing. The change sets the key to
+-- the new number, or takes it out.
 abbrev pub HasAnsweredRound :
-    {V : Type 0} → (V → V → Bool) → LongMapOf → (key : ℕ) → V → Change → (before after : SeatOf)
-    → Result (Option (Compared V)) Unshown → Type 0
-HasAnsweredRound eq m key value change before after (Ok (Some compared)) =
-    HasAnsweredIf eq m key value change before after (Ok compared)
-HasAnsweredRound eq m key value change before after (Ok None) = HasIdled m key before after
-HasAnsweredRound eq m key value change before after (Err unshown) =
-    HasAnsweredIf eq m key value change before after (Err unshown)
+    {V : Type 0} → (V → V → Bool) → LongMapOf → (key : ℕ) → V → (new : Option ℕ)
+    → (before after : SeatOf) → Result (Option (Compared V)) Unshown → Type 0
+HasAnsweredRound eq m key value new before after (Ok (Some compared)) =
+    HasAnsweredIf eq m key value (change_to new) before after (Ok compared)
+HasAnsweredRound eq m key value new before after (Ok None) = HasLostRound key before after
+HasAnsweredRound eq m key value new before after (Err unshown) =
+    HasAnsweredIf eq m key value (change_to new) before after (Err unshown)
 
 -- what a round promises
 pub record HasMadeRound {V : Type 0} (eq : V → V → Bool) (m : LongMapOf) (key : ℕ) (value : V)
-    (change : Change) (before after : SeatOf) (result : Result (Option (Compared V)) Unshown) :
+    (new : Option ℕ) (before after : SeatOf) (result : Result (Option (Compared V)) Unshown) :
     Type 0 where
-  pub answered : HasAnsweredRound eq m key value change before after result
-  pub lock_free : IsLockFreeIf m key before after
+  pub answered : HasAnsweredRound eq m key value new before after result
+  pub worked : HasWorked m.map (call.Get key) before after (round_steps m.map.chain.shape)
   pub own : IsMine m.map after

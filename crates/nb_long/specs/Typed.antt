@@ -1,6 +1,6 @@
 -- How contracts see a typed map, and what its calls are made of: calls of the map of numbers, in
 -- its log, with values that the store holds under these numbers.
-use Rattle.std.specs.Prelude.{◌≡◌, ℕ, ◌+◌, ◌*◌, Bool, true, false, List, ◌∷◌, Option, Some, None, option_map, Result, Ok, Err, All}
+use Rattle.std.specs.Prelude.{◌≡◌, ℕ, ◌+◌, ◌*◌, ◌≤◌, Bool, true, false, List, ◌∷◌, Option, Some, None, option_map, Result, Ok, Err, All}
 use Rattle.boxcar.specs.Table.{Shelves, Shows, Where}
 use Rattle.nb_core.specs.Log.{reply_at}
 use Rattle.nb_core.specs.Plans.{Plan}
@@ -11,7 +11,6 @@ use Rattle.nb_core.specs.declared.calls.Change.{Change}
 use Rattle.nb_core.specs.declared.calls.Reply.{Reply}
 use Rattle.nb_core.specs.declared.calls.Want.TheVariants as want
 use Rattle.nb_core.specs.declared.calls.Want.{Want}
-use Rattle.nb_map.specs.Calling.{HasStepped}
 use Rattle.nb_map.specs.Logs.{HasLogged}
 use Rattle.nb_map.specs.Maps.{HasWorked, MapOf, SeatOf}
 use Rattle.nb_map.specs.Progress.{passed_since}
@@ -62,16 +61,14 @@ passed_on key before after = passed_since (call.Get key) before.chain after.chai
 abbrev pub round_steps : Plan → ℕ
 round_steps p = get_steps p + put_steps p 1
 
--- The seat has made such calls alone, or none, and counted nothing. Its steps were such as a read
--- of the key may make, and no more than a round takes for each exchange that other seats have won
--- on the key meanwhile.
-pub record HasIdled (m : LongMapOf) (key : ℕ) (before after : SeatOf) : Type 0 where
-  pub calls : List (Call × Reply)
-  pub idle : All (IsIdle key) calls
-  pub logged : HasLogged before after calls
-  pub steps : HasStepped m.map.chain.shape (call.Get key) before.chain after.chain
-      (passed_on key before after * round_steps m.map.chain.shape)
+-- The seat has made such calls alone, and counted nothing, and another seat has won an exchange on
+-- the key meanwhile.
+pub record HasLostRound (key : ℕ) (before after : SeatOf) : Type 0 where
+  pub made : List (Call × Reply)
+  pub idle : All (IsIdle key) made
+  pub logged : HasLogged before after made
   pub count : after.count ≡ before.count
+  pub won : 1 ≤ passed_on key before after
 
 -- The call is lock-free: it has taken no more steps than a round takes for each exchange that other
 -- seats have won on its key meanwhile, and one round more. To the tables it has done no more than a

@@ -37,28 +37,28 @@ worked-steps set call worked =
 -- up to a moment and since then
 passed-sum :
     (call : map_call.Call) {start mid after : SeatOf} → IsLater start mid → IsLater mid after
-    → passed_since call start.map.chain mid.map.chain
-    + passed_since call mid.map.chain after.map.chain
-    ≡ passed_since call start.map.chain after.map.chain
+    → passed_since call start.chain mid.chain
+    + passed_since call mid.chain after.chain
+    ≡ passed_since call start.chain after.chain
 passed-sum call {start} {mid} {after} a b =
-    subst (λ s. passed_since call start.map.chain mid.map.chain
-    + passed_over after.map.chain.seen (length mid.map.chain.seen) (key_of_call call) s
-    ≡ passed_since call start.map.chain after.map.chain) (sym a.number)
+    subst (λ s. passed_since call start.chain mid.chain
+    + passed_over after.chain.seen (length mid.chain.seen) (key_of_call call) s
+    ≡ passed_since call start.chain after.chain) (sym a.number)
     (omega (
       arith,
-      at mid.map.chain.seen after.map.chain.seen a.seen.later b.seen.later a.seen.is b.seen.is
-          (key_of_call call) start.map.chain.number,
+      at mid.chain.seen after.chain.seen a.seen.later b.seen.later a.seen.is b.seen.is
+          (key_of_call call) start.chain.number,
     ))
   where
-    at : (m a later later' : List Event) → m ≡ later ++ start.map.chain.seen → a ≡ later' ++ m
+    at : (m a later later' : List Event) → m ≡ later ++ start.chain.seen → a ≡ later' ++ m
         → (k s : ℕ)
-        → passed_over a (length start.map.chain.seen) k s ≡ passed_over a (length m) k s
-        + passed_over m (length start.map.chain.seen) k s
+        → passed_over a (length start.chain.seen) k s ≡ passed_over a (length m) k s
+        + passed_over m (length start.chain.seen) k s
     at m a later later' is is' k s =
-        subst₂ (λ m a. passed_over a (length start.map.chain.seen) k s
-        ≡ passed_over a (length m) k s + passed_over m (length start.map.chain.seen) k s) (sym is)
+        subst₂ (λ m a. passed_over a (length start.chain.seen) k s
+        ≡ passed_over a (length m) k s + passed_over m (length start.chain.seen) k s) (sym is)
         (sym (is' ∙ ap (λ h. later' ++ h) is))
-        (passed_over_adds later' later start.map.chain.seen k s)
+        (passed_over_adds later' later start.chain.seen k s)
 
 -- a write of more tries has a greater bound
 put-more : (p : Plan) (a b : ℕ) → a ≤ b → put_steps p a ≤ put_steps p b
@@ -114,8 +114,8 @@ module _ (set : SetOf) (before : SeatOf) where
       grows (Remove k) =
           let sum = passed-sum (call_for (Remove k)) a b in
           put-more (shape_of set)
-          (passed_since (call_for (Remove k)) before.map.chain now.map.chain + 1)
-          (passed_since (call_for (Remove k)) before.map.chain after.map.chain + 1)
+          (passed_since (call_for (Remove k)) before.chain now.chain + 1)
+          (passed_since (call_for (Remove k)) before.chain after.chain + 1)
           (omega (arith, sum))
 
   -- ---- the way of a walk
@@ -198,8 +198,8 @@ module _ (set : SetOf) (before : SeatOf) where
         short,
         worked-steps set (Remove k) wrote.lock_free,
         put-more (shape_of set)
-            (passed_since (call_for (Remove k)) now.map.chain after.map.chain + 1)
-            (passed_since (call_for (Remove k)) before.map.chain after.map.chain + 1)
+            (passed_since (call_for (Remove k)) now.chain after.chain + 1)
+            (passed_since (call_for (Remove k)) before.chain after.chain + 1)
             (omega (arith, sum)),
         removals-grow a b calls,
         removals-more after (Remove k, went) calls,

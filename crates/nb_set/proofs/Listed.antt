@@ -4,7 +4,6 @@ use Rattle.std.specs.FinMap.{contains_key}
 use Rattle.std.specs.List.{list_any}
 use Rattle.std.specs.Ordering.{eq_by_cmp, nat_cmp}
 use Rattle.std.proofs.lemmas.List.Elements.{All-weaker}
-use Rattle.nb_core.proofs.Seating.{All-unmap}
 use Rattle.nb_map.specs.Entries as of_map
 use Rattle.nb_map.specs.Logs as map_logs
 use Rattle.nb_map.specs.Opening.{map_of_entries}
@@ -14,7 +13,7 @@ use Rattle.nb_set.specs.Log.{set_of_log}
 use Rattle.nb_set.specs.OfMap.{entry_of, log_as}
 use Rattle.nb_set.specs.Opening.{set_of_keys}
 use Rattle.nb_set.specs.Sets.{SeatOf, log}
-use Rattle.nb_set.proofs.Dealt.{ended-with, in-map}
+use Rattle.nb_set.proofs.Dealt.{ended-with}
 use Rattle.nb_set.proofs.Items.{left, same-keys}
 use Rattle.nb_set.proofs.Opened.{any-reverse, entries-have, is_of, set-has}
 use Rattle.nb_set.proofs.Read.{AreKeys, read}
@@ -38,7 +37,7 @@ keys-of-entries entries q =
 
 pub listed-as :
     (before after : List SeatOf) (entries : List (ℕ × ℕ)) (keys : List ℕ) → keys ≡ keys_of entries
-    → of_map.HaveListed (in-map before) (in-map after) entries → HaveListed before after keys
+    → of_map.HaveListed before after entries → HaveListed before after keys
 listed-as before after entries keys are listed =
     let ended : EndedOf = record { map = listed.ended } in
     let content = left ended listed.left.replayed in
@@ -54,9 +53,8 @@ listed-as before after entries keys are listed =
       };
       whole = log_as listed.whole;
       replayed = whole.0;
-      logs = All-weaker (λ seat. map_logs.log seat.map ≡ listed.whole)
-          (λ seat. log seat ≡ log_as listed.whole) (λ seat is. ap log_as is) after
-          (All-unmap (λ seat. map_logs.log seat ≡ listed.whole) (λ seat. seat.map) after listed.logs);
+      logs = All-weaker (λ seat. map_logs.log seat ≡ listed.whole)
+          (λ seat. log seat ≡ log_as listed.whole) (λ seat is. ap log_as is) after listed.logs;
       leaves = same-keys (set_of_log (log_as listed.whole)) (set_left ended)
           (λ q. whole.1 q ∙ ap (λ m. contains_key m q) listed.leaves ∙ sym (content q));
     })

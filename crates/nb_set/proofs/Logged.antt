@@ -15,24 +15,24 @@ use Rattle.nb_set.proofs.Read.{calls-as, read}
 -- the log of a seat after calls of the map
 pub logged-as :
     {before after : SeatOf} {made : List (map_call.Call × Reply)}
-    → of_map.HasLogged before.map after.map made
+    → of_map.HasLogged before after made
     → HasLogged before after (map call_as made)
 logged-as {before} {after} {made} logged = record {
   number = logged.number;
   later = log_as logged.later;
-  grown = ap log_as logged.grown ∙ map-append entry_as logged.later (of_map.log before.map);
-  replayed = (read (of_map.log after.map) logged.replayed).0;
+  grown = ap log_as logged.grown ∙ map-append entry_as logged.later (of_map.log before);
+  replayed = (read (of_map.log after) logged.replayed).0;
   own = calls-as (seat_number before) logged.later ∙ ap (map call_as) logged.own;
 }
 
 -- after one call, with the reply that the map gives for what was at the key
 replied-as :
     {before after : SeatOf} (call : map_call.Call) (reply : Reply)
-    → of_map.HasReplied call before.map after.map reply
+    → of_map.HasReplied call before after reply
     → HasLogged before after (call_as (call, reply_at call reply.before) ∷ [])
 replied-as {before} {after} call reply logged =
     subst (λ r. HasLogged before after (call_as (call, r) ∷ []))
-    (theorems.replies_fit before.map after.map call reply logged) (logged-as logged)
+    (theorems.replies_fit before after call reply logged) (logged-as logged)
 
 -- ---- each call of the set
 
@@ -45,7 +45,7 @@ is-new (Some n) false some = refl
 
 pub added :
     {before after : SeatOf} (k : ℕ) (number : Option ℕ) (came : Bool) → is_some number ≡ not came
-    → of_map.HasFound (call_for (Add k)) before.map after.map number
+    → of_map.HasFound (call_for (Add k)) before after number
     → HasReplied (Add k) before after came
 added {before} {after} k number came new (reply, is, logged) =
     subst (HasReplied (Add k) before after) (is-new number came new)
@@ -60,7 +60,7 @@ added {before} {after} k number came new (reply, is, logged) =
 
 pub removed :
     {before after : SeatOf} (k : ℕ) (number : Option ℕ) (gone : Bool) → gone ≡ is_some number
-    → of_map.HasFound (call_for (Remove k)) before.map after.map number
+    → of_map.HasFound (call_for (Remove k)) before after number
     → HasReplied (Remove k) before after gone
 removed {before} {after} k number gone was (reply, is, logged) =
     subst (HasReplied (Remove k) before after) (sym was)
@@ -69,7 +69,7 @@ removed {before} {after} k number gone was (reply, is, logged) =
 
 pub contained :
     {before after : SeatOf} (k : ℕ) (number : Option ℕ) (found : Bool) → is_some number ≡ found
-    → of_map.HasReplied (call_for (Contains k)) before.map after.map
+    → of_map.HasReplied (call_for (Contains k)) before after
     (reply_at (call_for (Contains k)) number)
     → HasReplied (Contains k) before after found
 contained {before} {after} k number found is logged =

@@ -1,14 +1,12 @@
 -- A map that has entries from the start, as a set that has keys from the start.
-use Rattle.std.proofs.Common.{◌≡◌, ◌∙◌, ℕ, ◌||◌, Bool, true, false, List, [], ◌∷◌, length, map, reverse, is_some, ap, sym, subst, refl, inl, inr, arith}
+use Rattle.std.proofs.Common.{◌≡◌, ◌∙◌, ℕ, ◌||◌, Bool, true, false, List, [], ◌∷◌, map, reverse, is_some, ap, sym, subst, refl, inl, inr, arith}
 use Rattle.std.specs.FinMap as numbers
 use Rattle.std.specs.FinMap.{contains_key, from_entries, get-empty}
 use Rattle.std.specs.List.{list_any}
 use Rattle.std.specs.Ordering.{eq_by_cmp, nat_cmp}
-use Rattle.std.proofs.lemmas.List.{length-map, reverse-append}
-use Rattle.std.proofs.lemmas.List.Elements.{All-map, All-weaker}
+use Rattle.std.proofs.lemmas.List.{reverse-append}
+use Rattle.std.proofs.lemmas.List.Elements.{All-weaker}
 use Rattle.std.proofs.lemmas.List.Folds.{list_any-append}
-use Rattle.std.proofs.lemmas.List.FromFn.{length-range_with_len}
-use mathlib.Core.List.{map-map}
 use Rattle.nb_core.specs.Log.{Numbers}
 use Rattle.nb_core.specs.Plans.{Plan}
 use Rattle.nb_core.specs.Tables.{tables_at}
@@ -27,7 +25,7 @@ use Rattle.nb_set.specs.Handles.{as_handle}
 use Rattle.nb_set.specs.Log.{Add, Keys, set_of_log}
 use Rattle.nb_set.specs.OfMap.{call_for, entry_of, log_as}
 use Rattle.nb_set.specs.Opening.{BeginsWith, HasAskedFor, HaveBegunWith, IsTooSmallFor, set_of_keys}
-use Rattle.nb_set.specs.Sets.{SetOf, log, seat_number, seat_on, shape_of}
+use Rattle.nb_set.specs.Sets.{SetOf, log, shape_of}
 use Rattle.nb_set.proofs.Items.{keys-are, len-is, same-keys}
 use Rattle.nb_set.proofs.Read.{AreKeys, keys-put, read}
 
@@ -119,7 +117,7 @@ filled-add (e ∷ es) k filled =
 asked-as :
     (set : SetOf) (content : Keys) (m : Numbers) → AreKeys content m → (seat : maps.SeatOf)
     → crowding.HasAskedFor (shape_of set) (map put_entry (numbers.entries m)) seat.chain
-    → HasAskedFor set (map Add (numbers.keys content)) (seat_on seat)
+    → HasAskedFor set (map Add (numbers.keys content)) seat
 asked-as set content m are seat asked =
     asked-weaker (shape_of set) (map put_entry (numbers.entries m))
     (map call_for (map Add (numbers.keys content))) seat.chain
@@ -130,21 +128,19 @@ asked-as set content m are seat asked =
 
 pub begun-as :
     (set : SetOf) (content : Keys) (m : Numbers) (seats : List maps.SeatOf) → AreKeys content m
-    → of_map.HaveBegunWith set.map m seats → HaveBegunWith set content (map seat_on seats)
+    → of_map.HaveBegunWith set.map m seats → HaveBegunWith set content seats
 begun-as set content m seats are begun =
     let (replayed, keys) = read begun.whole begun.replayed in
     record {
-      numbered = map-map seat_number seat_on seats ∙ begun.numbered;
+      numbered = begun.numbered;
       whole = log_as begun.whole;
       replayed = replayed;
-      logs = All-map (λ seat. log seat ≡ log_as begun.whole) seat_on seats
-          (All-weaker _ (λ seat. log (seat_on seat) ≡ log_as begun.whole)
-          (λ seat is. ap log_as is) seats begun.logs);
+      logs = All-weaker _ (λ seat. log seat ≡ log_as begun.whole) (λ seat is. ap log_as is) seats
+          begun.logs;
       leaves = same-keys (set_of_log (log_as begun.whole)) content
           (λ k. keys k ∙ ap (λ (m : Numbers). contains_key m k) begun.leaves ∙ sym (are k));
-      claimed = All-map (HasAskedFor set (map Add (numbers.keys content))) seat_on seats
-          (All-weaker _ (λ seat. HasAskedFor set (map Add (numbers.keys content)) (seat_on seat))
-          (asked-as set content m are) seats begun.claimed);
+      claimed = All-weaker _ (HasAskedFor set (map Add (numbers.keys content)))
+          (asked-as set content m are) seats begun.claimed;
     }
 
 pub begins-as :
@@ -154,19 +150,3 @@ begins-as p content m handle are begins = record {
   made = begins.made;
   begun = begun-as (record { map = handle.map }) content m (handles.seats_of handle) are begins.begun;
 }
-
--- ---- how many they are
-
-seats-many :
-    (m : maps.MapOf) (content : Numbers) (seats : List maps.SeatOf)
-    → of_map.HaveBegunWith m content seats → length seats ≡ m.chain.shape.seats
-seats-many m content seats begun =
-    sym (length-map seats (λ seat. seat.chain.number)) ∙ ap length begun.numbered
-    ∙ length-range_with_len 0 m.chain.shape.seats
-
--- a seat for each of the shape's
-pub seats-made :
-    (m : maps.MapOf) (p : Plan) (content : Numbers) (seats : List maps.SeatOf) → maps.IsMadeFor m p
-    → of_map.HaveBegunWith m content seats → length seats ≡ p.seats
-seats-made m p content seats made begun =
-    seats-many m content seats begun ∙ ap (λ p. p.seats) made.shape

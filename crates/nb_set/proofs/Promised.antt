@@ -25,7 +25,7 @@ use Rattle.nb_set.proofs.Walked.{asked, key_of}
 pub added :
     {set : SetOf} {before after : SeatOf} (k : ℕ) (number : Option ℕ) (came : Bool)
     → is_some number ≡ not came
-    → of_map.HasWritten set.map (put_if_absent_of k 0) before.map after.map (Found number)
+    → of_map.HasWritten set.map (put_if_absent_of k 0) before after (Found number)
     → HasWritten set (Add k) before after (Ok came)
 added k number came is wrote = record {
   answered = replies.added k number came is wrote.answered;
@@ -37,7 +37,7 @@ added k number came is wrote = record {
 
 pub refused :
     {set : SetOf} {before after : SeatOf} (k : ℕ) (full : Full)
-    → of_map.HasWritten set.map (put_if_absent_of k 0) before.map after.map (Refused add_fault.Full)
+    → of_map.HasWritten set.map (put_if_absent_of k 0) before after (Refused add_fault.Full)
     → HasWritten set (Add k) before after (Err full)
 refused k full wrote = record {
   answered = (logged-as wrote.answered.unmade, wrote.answered.just.1);
@@ -50,7 +50,7 @@ refused k full wrote = record {
 pub removed :
     {set : SetOf} {before after : SeatOf} (k : ℕ) (number : Option ℕ) (went : Bool)
     → went ≡ is_some number
-    → of_map.HasWritten set.map (remove_of k) before.map after.map (Found number)
+    → of_map.HasWritten set.map (remove_of k) before after (Found number)
     → HasWritten set (Remove k) before after (Ok went)
 removed k number went is wrote = record {
   answered = replies.removed k number went is wrote.answered;
@@ -64,7 +64,7 @@ removed k number went is wrote = record {
 
 pub looked-up :
     {set : SetOf} {before after : SeatOf} (k : ℕ) (number : Option ℕ) (found : Bool)
-    → is_some number ≡ found → of_map.HasGot set.map k before.map after.map number
+    → is_some number ≡ found → of_map.HasGot set.map k before after number
     → HasLookedUp set k before after found
 looked-up k number found is got = record {
   replied = replies.contained k number found is got.replied;
@@ -77,8 +77,8 @@ looked-up k number found is got = record {
 
 -- one step of which nothing came
 looked-once :
-    {p : Plan} {before after : SeatOf} → Extended p before.map.chain after.map.chain [] 1
-    → after.map.count ≡ before.map.count → HasLookedOnce before after
+    {p : Plan} {before after : SeatOf} → Extended p before.chain after.chain [] 1
+    → after.count ≡ before.count → HasLookedOnce before after
 looked-once grows count = record {
   later = grows.others;
   seen = grows.seen;
@@ -88,7 +88,7 @@ looked-once grows count = record {
 }
 
 grown-later :
-    {p : Plan} {before after : SeatOf} → Extended p before.map.chain after.map.chain [] 1
+    {p : Plan} {before after : SeatOf} → Extended p before.chain after.chain [] 1
     → IsLater before after
 grown-later grows = record {
   number = grows.number;
@@ -97,7 +97,7 @@ grown-later grows = record {
 
 pub seen-top :
     {set : SetOf} {before after : SeatOf} {top : ℕ}
-    → of_map.HasSeenTop set.map before.map after.map top → HasSeenTop set before after top
+    → of_map.HasSeenTop set.map before after top → HasSeenTop set before after top
 seen-top {before = before} {after = after} looked = record {
   found = looked.found;
   complete = looked.complete;
@@ -108,7 +108,7 @@ seen-top {before = before} {after = after} looked = record {
 }
 
 pub estimated :
-    {set : SetOf} {before after : SeatOf} → of_map.HasEstimated set.map before.map after.map
+    {set : SetOf} {before after : SeatOf} → of_map.HasEstimated set.map before after
     → HasEstimated set before after
 estimated looked = record {
   logged = logged-as looked.logged;
@@ -123,7 +123,7 @@ estimated looked = record {
 
 pub met :
     {set : SetOf} {other before after : SeatOf}
-    → of_map.HasMet set.map other.map before.map after.map → HasMet set other before after
+    → of_map.HasMet set.map other before after → HasMet set other before after
 met {before = before} {after = after} here = record {
   logged = logged-as here.logged;
   knows = begins-as here.knows;
@@ -137,9 +137,9 @@ met {before = before} {after = after} here = record {
 
 pub begun-walk :
     {set : SetOf} {before after : SeatOf} {walk : WalkOf}
-    → of_map.HasBegunWalk set.map before.map after.map walk.map → HasBegunWalk set before after walk
+    → of_map.HasBegunWalk set.map before after walk.map → HasBegunWalk set before after walk
 begun-walk {before = before} {after = after} began = record {
-  begun = ap (λ (walk : walks.WalkOf). record { map = walk.begun }) began.begun;
+  begun = ap (λ (walk : walks.WalkOf). walk.begun) began.begun;
   is_walk = began.is_walk;
   shown = record { pairs = []; keys = refl; is = began.underway };
   logged = logged-as began.logged;
@@ -168,11 +168,11 @@ key-ahead less more (Some pair) ahead = ahead
 
 pub walked-on :
     {set : SetOf} {before after : SeatOf} {walk walk' : WalkOf} (found : Option (ℕ × ℕ))
-    → of_map.HasWalkedOn set.map before.map after.map walk.map walk'.map found
+    → of_map.HasWalkedOn set.map before after walk.map walk'.map found
     → HasWalkedOn set before after walk walk' (key_of found)
 walked-on found went = record {
   asked = asked found went.read;
-  begun = ap (λ seat. record { map = seat }) went.walked.begun;
+  begun = went.walked.begun;
   shown = λ keys has. record {
     pairs = walks.with_shown found has.pairs;
     keys = keys-with found has.pairs keys has.keys;

@@ -1,5 +1,5 @@
 -- A map made anew, as a set made anew.
-use Rattle.std.proofs.Common.{ℕ, List, [], ◌∷◌, map, All, is_some, ap, sym, subst₂, inl, inr}
+use Rattle.std.proofs.Common.{ℕ, List, [], ◌∷◌, map, All, is_some, ap, inl, inr}
 use Rattle.std.proofs.lemmas.List.Elements.{All-cons, All-head, All-nil, All-tail}
 use Rattle.nb_core.specs.Plans.{Plan}
 use Rattle.nb_core.specs.declared.calls.Call as map_call
@@ -13,8 +13,7 @@ use Rattle.nb_set.specs.Handles.{as_handle, seats_of}
 use Rattle.nb_set.specs.OfMap.{call_as, call_for}
 use Rattle.nb_set.specs.Renewing.{HasOnlyAsked, HasRenewed, HasTooMany, HaveOnlyAsked, IsAsk, IsKept}
 use Rattle.nb_set.specs.Sets.{SeatOf, SetOf}
-use Rattle.nb_set.proofs.Dealt.{in-map}
-use Rattle.nb_set.proofs.Handles.{ended-as, seats-in}
+use Rattle.nb_set.proofs.Dealt.{ended-with}
 use Rattle.nb_set.proofs.Items.{left}
 use Rattle.nb_set.proofs.Logged.{logged-as}
 use Rattle.nb_set.proofs.Opened.{begins-as, too-small}
@@ -28,7 +27,7 @@ renewed-as p before after renewed =
     let ended : EndedOf = record { map = renewed.ended } in
     record {
       ended = ended;
-      left = ended-as before renewed.ended renewed.left;
+      left = ended-with _ (record { map = renewed.ended }) renewed.left;
       begun = begins-as p (set_left ended) (ending.map_left renewed.ended) after
           (left ended renewed.left.replayed) renewed.begun;
     }
@@ -40,7 +39,7 @@ too-many-as p before many =
     let ended : EndedOf = record { map = many.ended } in
     record {
       ended = ended;
-      left = ended-as before many.ended many.left;
+      left = ended-with _ (record { map = many.ended }) many.left;
       small = too-small p (set_left ended) (ending.map_left many.ended)
           (left ended many.left.replayed) many.small;
     }
@@ -57,7 +56,7 @@ asks-as (call ∷ made) reads =
 
 pub only-asked :
     {set : SetOf} {before after : SeatOf} {most : ℕ}
-    → HasOnlyRead set.map before.map after.map most → HasOnlyAsked set before after most
+    → HasOnlyRead set.map before after most → HasOnlyAsked set before after most
 only-asked read = record {
   made = map call_as read.made;
   asks = asks-as read.made read.reads;
@@ -72,7 +71,7 @@ only-asked read = record {
 -- each of these seats has only asked for keys
 pub asked-as :
     (set : SetOf) (before after : List SeatOf)
-    → HaveOnlyRead set.map (in-map before) (in-map after) → HaveOnlyAsked set before after
+    → HaveOnlyRead set.map before after → HaveOnlyAsked set before after
 asked-as set [] [] each = tt
 asked-as set [] (new ∷ after) each = absurd each
 asked-as set (old ∷ before) [] each = absurd each
@@ -86,7 +85,5 @@ kept-as before after (inl same) = inl (ap as_handle same)
 kept-as before after (inr (same, read)) =
     inr (
       ap (λ m. record { map = m }) same,
-      asked-as (as_handle before).set
-          (seats_of (as_handle before)) (seats_of (as_handle after))
-          (subst₂ (HaveOnlyRead before.map) (sym (seats-in before)) (sym (seats-in after)) read),
+      asked-as (as_handle before).set (seats_of (as_handle before)) (seats_of (as_handle after)) read,
     )

@@ -9,7 +9,7 @@ use Rattle.nb_set.proofs.Logged.{logged-as}
 
 pub sampled :
     {set : SetOf} {before after : SeatOf} {found : Occupancy}
-    → of_map.HasSampled set.map before.map after.map found → HasSampled set before after found
+    → of_map.HasSampled set.map before after found → HasSampled set before after found
 sampled {before = before} looked = record {
   promised = looked;
   logged = logged-as looked.logged;
@@ -20,7 +20,7 @@ sampled {before = before} looked = record {
         seen = record {
           later = looked.grown.later ++ first.others;
           is = looked.grown.seen ∙ ap (λ h. looked.grown.later ++ h) first.seen
-              ∙ sym (append_assoc looked.grown.later first.others before.map.chain.seen);
+              ∙ sym (append_assoc looked.grown.later first.others before.chain.seen);
         };
       };
   own = looked.own;

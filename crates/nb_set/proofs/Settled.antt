@@ -1,23 +1,19 @@
 -- What the settled seats of a map know, as those of the set.
-use Rattle.std.proofs.Common.{◌≡◌, ◌∙◌, ◌==◌, ℕ, List, [], ◌∷◌, map, ap, sym, subst}
-use Rattle.std.specs.List.{All, AllZip, count_by}
-use mathlib.Core.List.{map-map}
+use Rattle.std.proofs.Common.{◌∙◌, ℕ, List, [], ◌∷◌, ap, sym}
+use Rattle.std.specs.List.{AllZip}
 use Rattle.nb_core.specs.Log as map_log
 use Rattle.nb_map.specs.Settling as of_map
-use Rattle.nb_table.specs.Chains.{SeenBy}
-use Rattle.nb_table.specs.Settling.{caught_up}
-use Rattle.nb_table.specs.Views.{HasSeen}
 use Rattle.nb_set.specs.OfMap.{log_as}
 use Rattle.nb_set.specs.Sets.{SeatOf, SetOf, shape_of}
 use Rattle.nb_set.specs.Settling.{HasCaughtUp, HaveSettled, as_left}
-use Rattle.nb_set.proofs.Dealt.{ended-with, in-map}
+use Rattle.nb_set.proofs.Dealt.{ended-with}
 use Rattle.nb_set.proofs.Items.{len-left}
 use Rattle.nb_set.proofs.Logged.{logged-as}
 
 -- one seat
 caught-up :
     (set : SetOf) (whole : List map_log.Entry) (before after : SeatOf)
-    → of_map.HasCaughtUp set.map whole before.map after.map
+    → of_map.HasCaughtUp set.map whole before after
     → HasCaughtUp set (log_as whole) before after
 caught-up set whole before after has = record {
   knows = ap log_as has.knows;
@@ -34,7 +30,7 @@ caught-up set whole before after has = record {
 -- and all of them
 all-caught-up :
     (set : SetOf) (whole : List map_log.Entry) (before after : List SeatOf)
-    → AllZip (of_map.HasCaughtUp set.map whole) (in-map before) (in-map after)
+    → AllZip (of_map.HasCaughtUp set.map whole) before after
     → AllZip (HasCaughtUp set (log_as whole)) before after
 all-caught-up set whole [] [] each = tt
 all-caught-up set whole [] (s' ∷ after) each = absurd each
@@ -42,30 +38,15 @@ all-caught-up set whole (s ∷ before) [] each = absurd each
 all-caught-up set whole (s ∷ before) (s' ∷ after) each =
     (caught-up set whole s s' each.0, all-caught-up set whole before after each.1)
 
--- the chain's seats in them
-chains-in :
-    (seats : List SeatOf)
-    → map (λ seat. seat.chain) (in-map seats) ≡ map (λ seat. seat.map.chain) seats
-chains-in seats = map-map (λ seat. seat.chain) (λ seat. seat.map) seats
-
 pub have-settled :
     (set : SetOf) (before after : List SeatOf) (size : ℕ)
-    → of_map.HaveSettled set.map (in-map before) (in-map after) size
+    → of_map.HaveSettled set.map before after size
     → HaveSettled set before after size
 have-settled set before after size s =
     let h = s.tables.history in
     let ended = as_left (shape_of set) h size in
     record {
-      tables = record {
-        history = h;
-        legal = s.tables.legal;
-        seen = subst (All (λ seat. HasSeen h seat.number seat.seen)) (chains-in before)
-            s.tables.seen;
-        once = λ n below. subst (λ (xs : List SeenBy). count_by (λ seat. seat.number == n) xs ≡ 1)
-            (chains-in before) (s.tables.once n below);
-        is = sym (chains-in after) ∙ s.tables.is
-            ∙ ap (map (caught_up (shape_of set) h)) (chains-in before);
-      };
+      tables = s.tables;
       ended = ended-with before ended s.ended;
       left = s.left;
       keys = s.keys ∙ sym (len-left ended s.ended.replayed);

@@ -22,7 +22,7 @@ later-more {a} first next = record {
   seen = record {
     later = next.seen.later ++ first.seen.later;
     is = next.seen.is ∙ ap (λ seen. next.seen.later ++ seen) first.seen.is
-        ∙ sym (append_assoc next.seen.later first.seen.later a.map.chain.seen);
+        ∙ sym (append_assoc next.seen.later first.seen.later a.chain.seen);
   };
 }
 

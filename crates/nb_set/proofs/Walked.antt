@@ -37,7 +37,7 @@ missed-as (made ∷ misses) missed =
     (missed-as misses (All-tail walks.IsMiss made misses missed))
 
 pub asked :
-    {before after : SeatOf} (shown : Option (ℕ × ℕ)) → walks.HasRead before.map after.map shown
+    {before after : SeatOf} (shown : Option (ℕ × ℕ)) → walks.HasRead before after shown
     → HasAsked before after (key_of shown)
 asked {before} {after} shown read = record {
   misses = map call_as read.misses;
@@ -91,7 +91,7 @@ held-as first last replayed k held log begun begins =
 
 pub whole_walk : WholeWalk
 whole_walk set seat walk shown has ended =
-    let all = theorems.whole_walk set.map seat.map walk.map has.pairs has.is ended in
+    let all = theorems.whole_walk set.map seat walk.map has.pairs has.is ended in
     record {
       once = subst (IsDistinct (λ a b. a == b)) has.keys all.once;
       made = map call_as all.made;
@@ -100,7 +100,7 @@ whole_walk set seat walk shown has ended =
           (seen-as all.made has.pairs all.read);
       held = λ k held.
           subst (λ keys. Contains keys k) has.keys
-          (all.held k (held-as (of_map.log walk.map.begun) (of_map.log seat.map)
+          (all.held k (held-as (of_map.log walk.map.begun) (of_map.log seat)
           all.logged.replayed k held));
     }
 

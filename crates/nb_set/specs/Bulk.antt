@@ -62,7 +62,7 @@ KeepsNone f k keep g = keep ≡ false
 abbrev pub removal_steps : SetOf → (before after : SeatOf) → Call → ℕ
 removal_steps set before after (Add k) = 0
 removal_steps set before after (Remove k) =
-    let passed = passed_since (call_for (Remove k)) before.map.chain after.map.chain in
+    let passed = passed_since (call_for (Remove k)) before.chain after.chain in
     put_steps (shape_of set) (passed + 1)
 removal_steps set before after (Contains k) = 0
 

@@ -1,5 +1,5 @@
 -- What is left of a set when all its seats are gathered.
-use Rattle.std.specs.Prelude.{◌≡◌, ◌<◌, ◌==◌, ℕ, List, [], ◌++◌, All, count_by, length, map}
+use Rattle.std.specs.Prelude.{◌≡◌, ◌<◌, ◌==◌, ℕ, List, [], ◌++◌, All, count_by, length}
 use Rattle.nb_core.specs.Plans.{Plan}
 use Rattle.nb_map.specs.Ending as of_map
 use Rattle.nb_set.specs.Log.{Entry, IsReplayed, Keys, calls_of, set_of_log}
@@ -35,4 +35,4 @@ pub record EndedWith (seats : List SeatOf) (ended : EndedOf) : Type 0 where
 -- what is left of the tables: their shape, and the history that left them, of which each seat has
 -- seen a beginning with all its own events
 abbrev pub HasTablesLeft : Plan → List SeatOf → EndedOf → Type 0
-HasTablesLeft p seats ended = of_map.HasTablesLeft p (map (λ seat. seat.map) seats) ended.map
+HasTablesLeft p seats ended = of_map.HasTablesLeft p seats ended.map

@@ -9,7 +9,7 @@ use Rattle.nb_set.specs.Walks.{IsLater}
 pub record HasSampled (set : SetOf) (before after : SeatOf) (found : Occupancy) : Type 0 where
   -- what the map promises that the set is kept in: which slots were looked at and counted, and
   -- which steps were made
-  pub promised : of_map.HasSampled set.map before.map after.map found
+  pub promised : of_map.HasSampled set.map before after found
   -- it is no call of the set's log
   pub logged : HasLogged before after []
   -- the seat has forgotten nothing, so its walks go on, and is still the set's

@@ -1,8 +1,8 @@
 -- How contracts see a handle of a set.
 use Rattle.std.specs.List.{flat_map}
-use Rattle.std.specs.Prelude.{◌≡◌, [], ◌∷◌, List, length, map}
+use Rattle.std.specs.Prelude.{◌≡◌, [], ◌∷◌, List, length}
 use Rattle.nb_map.specs.Handles as handles
-use Rattle.nb_set.specs.Sets.{SeatOf, SetOf, seat_on, shape_of}
+use Rattle.nb_set.specs.Sets.{SeatOf, SetOf, shape_of}
 use Rattle.nb_set.specs.Walks.{WalkOf}
 
 -- a handle: the set that it is of, its own seat, and the seats that it has in reserve
@@ -15,8 +15,8 @@ pub record HandleOf : Type 0 where
 abbrev pub as_handle : handles.HandleOf → HandleOf
 as_handle handle = record {
   set = record { map = handle.map };
-  seat = seat_on handle.seat;
-  reserve = map seat_on handle.reserve;
+  seat = handle.seat;
+  reserve = handle.reserve;
 }
 
 -- all seats that it holds, its own first

@@ -1,28 +1,17 @@
--- What is in a set, its seats, walks and handles, and in what is left of it, and how contracts see
--- it.
-use Rattle.std.specs.Prelude.{◌≤◌}
+-- What is in a set, its walks and handles, and in what is left of it, and how contracts see it.
 use Rattle.nb_set.specs.Ending.{EndedOf}
 use Rattle.nb_set.specs.Handles.{HandleOf, HandleWalkOf, as_handle, as_walk}
-use Rattle.nb_set.specs.Sets.{SeatOf, SetOf}
+use Rattle.nb_set.specs.Sets.{SetOf}
 use Rattle.nb_set.specs.Walks.{WalkOf}
 use Rattle.nb_set.specs.declared.ended.SetEnded.TheInside as ended
 use Rattle.nb_set.specs.declared.handle.Handle.TheInside as handle
 use Rattle.nb_set.specs.declared.handle_walk.HandleWalk.TheInside as handle_walk
 use Rattle.nb_set.specs.declared.set.LongSet.TheInside as set
-use Rattle.nb_set.specs.declared.set.Seat.TheInside as seat
 use Rattle.nb_set.specs.declared.set.Walk.TheInside as walk
 
 -- the set, as contracts see it
 abbrev pub set_of : set.Inside → SetOf
 set_of c = record { map = c.map }
-
--- there is room for all seats
-pub record IsSet (c : set.Inside) : Type 0 where
-  pub room : c.map.chain.shape.seats ≤ c.room
-
--- the seat, as contracts see it
-abbrev pub seat_of : seat.Inside → SeatOf
-seat_of c = record { map = c.map }
 
 -- the walk, as contracts see it
 abbrev pub walk_of : walk.Inside → WalkOf

@@ -23,7 +23,7 @@ IsTooSmallFor p content = size_of p (generations_of p - 1) < finite.len content
 -- is new to the tables.
 abbrev pub HasAskedFor : SetOf → List Call → SeatOf → Type 0
 HasAskedFor set calls seat =
-    of_map.HasAskedFor (shape_of set) (map call_for calls) seat.map.chain
+    of_map.HasAskedFor (shape_of set) (map call_for calls) seat.chain
 
 -- The seats of a new set, numbered by their places. Their logs are one and the same log, which
 -- leaves this set. They have claimed slots for its keys alone, so every other slot is free.

@@ -29,8 +29,8 @@ HasAnswered set call before after (Err full) =
 -- Or the call is refused, and it has made none.
 abbrev pub HasCalledMap : Call → (before after : SeatOf) → Result Bool Full → Type 0
 HasCalledMap call before after (Ok answer) =
-    (reply : Reply) × of_map.HasReplied (call_for call) before.map after.map reply
-HasCalledMap call before after (Err full) = of_map.HasLogged before.map after.map []
+    (reply : Reply) × of_map.HasReplied (call_for call) before after reply
+HasCalledMap call before after (Err full) = of_map.HasLogged before after []
 
 -- what `add` and `remove` promise, which try again for as long as it takes
 pub record HasWritten (set : SetOf) (call : Call) (before after : SeatOf)
@@ -71,7 +71,7 @@ pub record HasSeenTop (set : SetOf) (before after : SeatOf) (top : ℕ) : Type 0
   -- and they are
   pub complete :
       (g : ℕ) → g < top
-      → IsComplete (shape_of set) (tables_at (shape_of set) after.map.chain.seen) g
+      → IsComplete (shape_of set) (tables_at (shape_of set) after.chain.seen) g
   -- it is no call of the log, and makes one step, the look
   pub logged : HasLogged before after []
   pub looked : HasLookedOnce before after
@@ -83,11 +83,11 @@ pub record HasSeenTop (set : SetOf) (before after : SeatOf) (top : ℕ) : Type 0
 pub record HasEstimated (set : SetOf) (before after : SeatOf) : Type 0 where
   -- it is no call of the log, and makes no step on the tables
   pub logged : HasLogged before after []
-  pub chain : after.map.chain ≡ before.map.chain
+  pub chain : after.chain ≡ before.chain
   -- it makes as many steps on the counter as that has stripes
   pub count :
-      let count = before.map.count in
-      after.map.count ≡ record count { steps = count.steps + set.map.counter.stripes }
+      let count = before.count in
+      after.count ≡ record count { steps = count.steps + set.map.counter.stripes }
   -- the seat has forgotten nothing, and is still the set's
   pub later : IsLater before after
   pub own : IsMine set after
@@ -99,7 +99,7 @@ pub record HasMet (set : SetOf) (other before after : SeatOf) : Type 0 where
   pub knows : IsBeginning (log other) (log after)
   -- it makes one step, a look, and has then seen all that the other had
   pub looked : HasLookedOnce before after
-  pub seen : IsBeginning other.map.chain.seen after.map.chain.seen
+  pub seen : IsBeginning other.chain.seen after.chain.seen
   -- it has forgotten nothing, and is still the set's
   pub later : IsLater before after
   pub own : IsMine set after

@@ -42,7 +42,7 @@ pub record HasOnlyAsked (set : SetOf) (before after : SeatOf) (most : ℕ) : Typ
   pub claims : (calls : List Call) → HasAskedFor set calls before → HasAskedFor set calls after
   pub short : steps_of after ≤ steps_of before + most
   -- it made no step on the counter
-  pub count : after.map.count ≡ before.map.count
+  pub count : after.count ≡ before.count
   pub own : IsMine set after
 
 -- each of these seats has only asked for keys, in at most the steps of a walk

@@ -23,8 +23,8 @@ pub record HasCaughtUp (set : SetOf) (whole : List Entry) (before after : SeatOf
   -- it is no call of the log
   pub logged : HasLogged before after []
   -- it makes no step on the tables that is counted as the seat's, and none on the counter
-  pub grows : Grown (shape_of set) before.map.chain after.map.chain [] 0
-  pub count : after.map.count ≡ before.map.count
+  pub grows : Grown (shape_of set) before.chain after.chain [] 0
+  pub count : after.count ≡ before.count
   -- the seat has forgotten nothing, so its walks go on, and is still the set's
   pub later : IsLater before after
   pub own : IsMine set after
@@ -34,8 +34,8 @@ pub record HasCaughtUp (set : SetOf) (whole : List Entry) (before after : SeatOf
 pub record HaveSettled (set : SetOf) (before after : List SeatOf) (size : ℕ) : Type 0 where
   -- there is one history of all that was done to the tables, and each seat has seen it now
   pub tables :
-      Settled (shape_of set) (map (λ seat. seat.map.chain) before)
-      (map (λ seat. seat.map.chain) after)
+      Settled (shape_of set) (map (λ seat. seat.chain) before)
+      (map (λ seat. seat.chain) after)
   -- its log is the log of all calls: it goes on from each seat's log, and no call is missing
   pub ended : EndedWith before (as_left (shape_of set) tables.history size)
   pub left : HasTablesLeft (shape_of set) before (as_left (shape_of set) tables.history size)

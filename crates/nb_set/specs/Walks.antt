@@ -14,15 +14,15 @@ pub record WalkOf : Type 0 where
 
 -- the walk's seat, as it was when the walk began
 abbrev pub begun : WalkOf → SeatOf
-begun walk = record { map = walk.map.begun }
+begun walk = walk.map.begun
 
 -- the walk is of this set, and this seat began it
 abbrev pub IsWalkOf : SetOf → SeatOf → WalkOf → Type 0
-IsWalkOf set seat walk = walks.IsWalkOf set.map seat.map walk.map
+IsWalkOf set seat walk = walks.IsWalkOf set.map seat walk.map
 
 -- the seat is the one that it was, and has forgotten nothing
 abbrev pub IsLater : (before after : SeatOf) → Type 0
-IsLater before after = walks.IsLater before.map after.map
+IsLater before after = walks.IsLater before after
 
 -- the walk is at its end
 abbrev pub HasEnded : WalkOf → Type 0
@@ -63,7 +63,7 @@ with_shown (Some k) shown = k ∷ shown
 pub record HasShown (set : SetOf) (seat : SeatOf) (walk : WalkOf) (shown : List ℕ) : Type 0 where
   pub pairs : List (ℕ × ℕ)
   pub keys : map (λ pair. pair.0) pairs ≡ shown
-  pub is : walks.IsUnderway set.map seat.map walk.map pairs
+  pub is : walks.IsUnderway set.map seat walk.map pairs
 
 -- What a whole walk has shown, from its seat's log as it began to that as it ended: no key twice;
 -- keys that the seat has seen in the set meanwhile; and each key that the set had all the while.

@@ -16,5 +16,7 @@ mod set;
 pub use ended::SetEnded;
 pub use handle::Handle;
 pub use handle_walk::HandleWalk;
-pub use nb_map::{Full, FullAfter, Occupancy, OpenFault, RenewFault, SettleFault, SplitFault};
-pub use set::{LongSet, Seat, Walk};
+pub use nb_map::{
+    Full, FullAfter, Occupancy, OpenFault, RenewFault, Seat, SettleFault, SplitFault,
+};
+pub use set::{LongSet, Walk};

@@ -1,9 +1,9 @@
-//! The set, its seats and its walks.
-ghost use Rattle.std.specs.Prelude.{◌≡◌, ◌≤◌, ◌↔◌, All, IfErr, IfOk, List, Ok, [], is_ok, length, map, true, vec_capacity};
+//! The set and its walks. A seat of the set is a seat of the map that it is kept in.
+ghost use Rattle.std.specs.Prelude.{◌≡◌, ◌↔◌, All, IfErr, IfOk, Ok, [], is_ok, length, true};
 ghost use Rattle.nb_set.specs.Ending.{EndedWith, HasTablesLeft};
 ghost use Rattle.nb_set.specs.Log as call;
 ghost use Rattle.nb_set.specs.Promises.{HasBegunWalk, HasEstimated, HasLookedUp, HasMet, HasSeenTop, HasWalkedOn, HasWritten};
-ghost use Rattle.nb_set.specs.Sets.{AreMine, IsMadeFor, IsMine, log, new_seats, seat_on, shape_of};
+ghost use Rattle.nb_set.specs.Sets.{AreMine, IsMadeFor, IsMine, log, new_seats, shape_of};
 ghost use Rattle.nb_set.specs.Walks.{IsWalkOf};
 
 pub(crate) mod bulk;
@@ -13,8 +13,8 @@ pub(crate) mod opening;
 mod settling;
 
 use crate::ended::SetEnded;
-use nb_core::{Key, NotAll, Num, OutOfMemory, SeatRoom, Shape};
-use nb_map::{Full, Map};
+use nb_core::{Key, NotAll, Num, OutOfMemory, Shape};
+use nb_map::{Full, Map, Seat};
 use std::alloc::Global;
 use std::marker::Model;
 use std::sync::Wait;
@@ -23,8 +23,6 @@ use std::sync::Wait;
 #[derive(Drop)]
 pub struct LongSet {
     map: Map,
-    /// Room for the map's seats, so that `finish` takes no memory.
-    room: SeatRoom<nb_map::Seat>,
 }
 
 impl Model for LongSet {
@@ -32,28 +30,9 @@ impl Model for LongSet {
 
     ghost Value = { SetOf };
 
-    ghost use Rattle.nb_set.specs.Inside.{IsSet, set_of};
+    ghost use Rattle.nb_set.specs.Inside.{set_of};
 
     ghost view = { set_of };
-
-    ghost invariant = { IsSet };
-}
-
-/// The right of one holder to make calls of a set. Contracts see what it has seen of the calls of
-/// all seats, its own among them.
-#[derive(Drop)]
-pub struct Seat {
-    pub(crate) map: nb_map::Seat,
-}
-
-impl Model for Seat {
-    ghost use Rattle.nb_set.specs.Sets.{SeatOf};
-
-    ghost Value = { SeatOf };
-
-    ghost use Rattle.nb_set.specs.Inside.{seat_of};
-
-    ghost view = { seat_of };
 }
 
 /// A walk over the keys of a set, which `LongSet::walk` begins and `LongSet::next_key` takes on. It
@@ -84,11 +63,8 @@ impl LongSet {
         ensures empty { IfOk result (λ made. All (λ seat. log seat ≡ []) made.1.items) }
         ensures own { IfOk result (λ made. AreMine made.0 made.1.items) }
     {
-        let mut seats = Vec::with_capacity(alloc, shape.seats())?;
-        let room = SeatRoom::new(alloc, shape.seats())?;
-        let (map, map_seats) = Map::new(alloc, shape)?;
-        put_on_set(map_seats, &mut seats);
-        Ok((LongSet { map, room }, seats))
+        let (map, seats) = Map::new(alloc, shape)?;
+        Ok((LongSet { map }, seats))
     }
 
     /// The shape that the set was made with. It makes no step.
@@ -109,7 +85,7 @@ impl LongSet {
         requires own { IsMine self.now seat.old }
         ensures { HasWritten self.now (call.Add key) seat.old seat.new result }
     {
-        let before = self.map.put_if_absent(rt, &mut seat.map, key, present())?;
+        let before = self.map.put_if_absent(rt, seat, key, present())?;
         Ok(before.is_none())
     }
 
@@ -119,7 +95,7 @@ impl LongSet {
         requires own { IsMine self.now seat.old }
         ensures { HasWritten self.now (call.Remove key) seat.old seat.new (Ok result) }
     {
-        self.map.remove(rt, &mut seat.map, key).is_some()
+        self.map.remove(rt, seat, key).is_some()
     }
 
     /// Whether the set has a key. `Set.contains`. At most two steps where the key is at home in the
@@ -130,7 +106,7 @@ impl LongSet {
         requires own { IsMine self.now seat.old }
         ensures { HasLookedUp self.now key seat.old seat.new result }
     {
-        self.map.contains_key(&mut seat.map, key)
+        self.map.contains_key(seat, key)
     }
 
     /// About how many keys the set has, modulo 2^64. While others write it is no more than a guess.
@@ -139,7 +115,7 @@ impl LongSet {
         requires own { IsMine self.now seat.old }
         ensures { HasEstimated self.now seat.old seat.new }
     {
-        self.map.size_estimate(&mut seat.map)
+        self.map.size_estimate(seat)
     }
 
     /// How many tables are known to be complete, from the first one on: how often the set has
@@ -148,7 +124,7 @@ impl LongSet {
         requires own { IsMine self.now seat.old }
         ensures { HasSeenTop self.now seat.old seat.new result }
     {
-        self.map.generation(&mut seat.map)
+        self.map.generation(seat)
     }
 
     /// Begins a walk over the set's keys, by one step. The seat may make what calls it likes
@@ -157,7 +133,7 @@ impl LongSet {
         requires own { IsMine self.now seat.old }
         ensures { HasBegunWalk self.now seat.old seat.new result }
     {
-        let map = self.map.walk(&mut seat.map);
+        let map = self.map.walk(seat);
         Walk { map }
     }
 
@@ -173,7 +149,7 @@ impl LongSet {
         requires walk { IsWalkOf self.now seat.old walk.old }
         ensures { HasWalkedOn self.now seat.old seat.new walk.old walk.new result }
     {
-        let (key, _) = self.map.next_key(&mut seat.map, &mut walk.map)?;
+        let (key, _) = self.map.next_key(seat, &mut walk.map)?;
         Some(key)
     }
 
@@ -184,7 +160,7 @@ impl LongSet {
         ensures a { HasMet self.now b.old a.old a.new }
         ensures b { HasMet self.now a.old b.old b.new }
     {
-        self.map.meet(&mut a.map, &mut b.map);
+        self.map.meet(a, b);
     }
 
     /// With all seats: what is left of the set. With another number of seats everything comes back,
@@ -197,13 +173,12 @@ impl LongSet {
         ensures back { IfErr result (λ given. (given.whole ≡ self)
             × (given.seats.items ≡ seats.items)) }
     {
-        if seats.len() != self.map.shape().seats() {
-            return Err(NotAll { whole: self, seats });
-        }
-        let LongSet { map, room } = self;
-        match map.finish(of_map(seats, room.into_vec())) {
+        match self.map.finish(seats) {
             Ok(map) => Ok(SetEnded { map }),
-            Err(_) => unreachable!(),
+            Err(NotAll { whole: map, seats }) => Err(NotAll {
+                whole: LongSet { map },
+                seats,
+            }),
         }
     }
 }
@@ -215,30 +190,5 @@ pub(crate) fn present() -> Num
     match Num::new(0) {
         Ok(number) => number,
         Err(_) => unreachable!(),
-    }
-}
-
-/// The map's seats in these seats of a set, in a vector that has room for them.
-pub(crate) fn of_map(seats: Vec<Seat>, room: Vec<nb_map::Seat>) -> Vec<nb_map::Seat>
-    requires empty { room.items ≡ [] }
-    requires room { length seats.items ≤ vec_capacity room }
-    ensures { result.items ≡ map (λ seat. seat.map) seats.items }
-{
-    let mut map_seats = room;
-    for seat in seats {
-        let Seat { map } = seat;
-        map_seats.push_reserved(map);
-    }
-    map_seats
-}
-
-/// Puts a map's seats, as those of a set, into a vector that has room for them.
-pub(crate) fn put_on_set(map_seats: Vec<nb_map::Seat>, seats: &mut Vec<Seat>)
-    requires empty { seats.old.items ≡ [] }
-    requires room { length map_seats.items ≤ vec_capacity seats.old }
-    ensures { seats.new.items ≡ map seat_on map_seats.items }
-{
-    for map in map_seats {
-        seats.push_reserved(Seat { map });
     }
 }

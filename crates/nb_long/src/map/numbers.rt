@@ -1,12 +1,11 @@
 //! What a typed map asks of its map of numbers.
 ghost use Rattle.std.specs.Prelude.{◌≡◌};
-ghost use Rattle.nb_core.specs.declared.calls.Call.TheVariants as call;
 ghost use Rattle.nb_map.specs.Handles.{HandleOf, handle_on};
 ghost use Rattle.nb_map.specs.NamedCalls.{exchange_of, put_if_absent_of, put_of, replace_of};
 ghost use Rattle.nb_map.specs.Promises.{Found, HasGot, HasTriedToWrite, HasWritten, found_or_full, replied_or_refused};
 ghost use Rattle.nb_long.specs.Numbers.{HasCalled, IsSeated};
 
-use nb_core::{Change, Key, Num, Reply, Want};
+use nb_core::{Key, Num, Reply};
 use nb_map::{Full, Handle, Map, PutFault, Seat};
 use std::sync::Wait;
 
@@ -61,19 +60,6 @@ pub(crate) trait Numbers {
         ensures { HasCalled (λ m before after. HasWritten m (replace_of key number) before after
             (Found result)) (handle self.now caller.old) (handle self.now caller.new) };
 
-    /// `Map::put_if_match`, with one try.
-    fn put_if_match(
-        &self,
-        caller: &mut Self::Caller,
-        key: Key,
-        want: Want,
-        change: Change,
-    ) -> Exchange
-        requires own { IsSeated (handle self.now caller.old) }
-        ensures { HasCalled (λ m before after. HasTriedToWrite m (call.Write key want change)
-            before after 1 (replied_or_refused result)) (handle self.now caller.old)
-            (handle self.now caller.new) };
-
     /// `Map::compare_exchange`, with one try.
     fn compare_exchange(
         &self,
@@ -112,10 +98,6 @@ impl Numbers for ByHandle {
         handle.replace(rt, key, number)
     }
 
-    fn put_if_match(&self, handle: &mut Handle, key: Key, want: Want, change: Change) -> Exchange {
-        handle.put_if_match(key, want, change, 1)
-    }
-
     fn compare_exchange(
         &self,
         handle: &mut Handle,
@@ -146,10 +128,6 @@ impl Numbers for Map {
 
     fn replace<R: Wait>(&self, rt: &R, seat: &mut Seat, key: Key, number: Num) -> Option<Num> {
         self.replace(rt, seat, key, number)
-    }
-
-    fn put_if_match(&self, seat: &mut Seat, key: Key, want: Want, change: Change) -> Exchange {
-        self.put_if_match(seat, key, want, change, 1)
     }
 
     fn compare_exchange(

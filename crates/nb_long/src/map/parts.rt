@@ -1,10 +1,8 @@
 //! The two parts of a typed map, borrowed, and the calls that take both.
-ghost use Rattle.std.specs.Prelude.{false, ℕ, ◌≡◌};
-ghost use Rattle.nb_core.specs.Calls.{overflows};
-ghost use Rattle.nb_core.specs.Log.{Numbers};
-ghost use Rattle.nb_core.specs.declared.calls.Call.TheVariants as call;
+ghost use Rattle.std.specs.Prelude.{◌≡◌};
 ghost use Rattle.nb_core.specs.declared.calls.Change.TheVariants as change;
 ghost use Rattle.nb_core.specs.declared.calls.Want.TheVariants as want;
+ghost use Rattle.nb_map.specs.NamedCalls.{change_to};
 ghost use Rattle.nb_long.specs.Numbers.{HasCalledOver, IsSeated};
 ghost use Rattle.nb_long.specs.Promises.{HasChangedIf, HasGotValue, HasMadeRound, HasPutValue, HasReplacedIf};
 ghost use Rattle.nb_long.specs.Typed.{number_of};
@@ -12,7 +10,7 @@ ghost use Rattle.nb_long.specs.Typed.{number_of};
 use crate::map::numbers::Numbers;
 use crate::map::{Compared, LongFault, Stored, Unshown};
 use crate::store::{Found, Receipt, Store};
-use nb_core::{Change, Key, Num, Want};
+use nb_core::{Key, Num};
 use nb_map::{Full, PutFault};
 use std::sync::Wait;
 
@@ -115,8 +113,8 @@ impl<M: Numbers, V: Drop> Parts<'_, M, V> {
             (M.handle self.now.map.now caller.old) (M.handle self.now.map.now caller.new) }
     {
         let receipt = self.store.push(rt, new)?;
-        let change = Change::Put(receipt.number());
-        match self.change_if(rt, caller, key, old, &change) {
+        let number = Some(receipt.number());
+        match self.change_if(rt, caller, key, old, &number) {
             Ok(Compared { found, done }) => Ok(Stored {
                 before: number_in(&found),
                 done,
@@ -174,29 +172,27 @@ impl<'a, M: Numbers, V> Parts<'a, M, V> {
             (λ m before after. HasChangedIf V.eq m key value.now change.Remove before after result)
             (M.handle self.now.map.now caller.old) (M.handle self.now.map.now caller.new) }
     {
-        self.change_if(rt, caller, key, value, &Change::Remove)
+        self.change_if(rt, caller, key, value, &None)
     }
 
-    /// Changes what a key has, where that is a value equal to this one.
+    /// Sets a key to this number, or takes it out, where it has a value equal to this one.
     fn change_if<R: Wait>(
         &self,
         rt: &R,
         caller: &mut M::Caller,
         key: Key,
         value: &V,
-        change: &Change,
+        new: &Option<Num>,
     ) -> Result<Compared<V>, Unshown>
     where
         V: PartialEq,
         requires own { IsSeated (M.handle self.now.map.now caller.old) }
-        requires in_range { (n : ℕ) (m : Numbers)
-            → overflows (call.Write key (want.Equal n) change.now) m ≡ false }
         ensures { HasCalledOver self.now.store.now
-            (λ m before after. HasChangedIf V.eq m key value.now change.now before after result)
+            (λ m before after. HasChangedIf V.eq m key value.now (change_to new.now) before after result)
             (M.handle self.now.map.now caller.old) (M.handle self.now.map.now caller.new) }
     {
         for _ in rt.forever() {
-            if let Some(compared) = self.change_once(caller, key, value, change)? {
+            if let Some(compared) = self.change_once(caller, key, value, *new)? {
                 return Ok(compared);
             }
         }
@@ -209,15 +205,13 @@ impl<'a, M: Numbers, V> Parts<'a, M, V> {
         caller: &mut M::Caller,
         key: Key,
         value: &V,
-        change: &Change,
+        new: Option<Num>,
     ) -> Result<Option<Compared<V>>, Unshown>
     where
         V: PartialEq,
         requires own { IsSeated (M.handle self.now.map.now caller.old) }
-        requires in_range { (n : ℕ) (m : Numbers)
-            → overflows (call.Write key (want.Equal n) change.now) m ≡ false }
         ensures { HasCalledOver self.now.store.now
-            (λ m before after. HasMadeRound V.eq m key value.now change.now before after result)
+            (λ m before after. HasMadeRound V.eq m key value.now new before after result)
             (M.handle self.now.map.now caller.old) (M.handle self.now.map.now caller.new) }
     {
         let Some(found) = self.get(caller, key)? else {
@@ -232,10 +226,7 @@ impl<'a, M: Numbers, V> Parts<'a, M, V> {
         if !equal {
             return Ok(Some(Compared { found, done: false }));
         }
-        match self
-            .map
-            .put_if_match(caller, key, Want::Equal(number), *change)
-        {
+        match self.map.compare_exchange(caller, key, Some(number), new) {
             Ok(reply) if reply.matched => Ok(Some(Compared { found, done: true })),
             Ok(_) => Ok(None),
             Err(PutFault::Contended) => Ok(None),

@@ -6,9 +6,9 @@ ghost use Rattle.nb_set.specs.Log as call;
 ghost use Rattle.nb_set.specs.Promises.{HasWritten};
 ghost use Rattle.nb_set.specs.Sets.{IsMine};
 
-use crate::set::{LongSet, Seat};
+use crate::set::LongSet;
 use nb_core::Key;
-use nb_map::FullAfter;
+use nb_map::{FullAfter, Seat};
 use std::sync::Wait;
 
 impl LongSet {

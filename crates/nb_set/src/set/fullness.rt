@@ -2,8 +2,8 @@
 ghost use Rattle.nb_set.specs.Fullness.{HasSampled};
 ghost use Rattle.nb_set.specs.Sets.{IsMine};
 
-use crate::set::{LongSet, Seat};
-use nb_map::Occupancy;
+use crate::set::LongSet;
+use nb_map::{Occupancy, Seat};
 
 impl LongSet {
     /// How full the set's top table is: `Map::occupancy`. It makes one step, and one for each slot
@@ -12,6 +12,6 @@ impl LongSet {
         requires own { IsMine self.now seat.old }
         ensures { HasSampled self.now seat.old seat.new result }
     {
-        self.map.occupancy(&mut seat.map)
+        self.map.occupancy(seat)
     }
 }

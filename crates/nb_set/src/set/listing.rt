@@ -5,17 +5,16 @@ ghost use Rattle.nb_set.specs.Listing.{HaveListed};
 ghost use Rattle.nb_set.specs.Renewing.{HaveOnlyAsked};
 ghost use Rattle.nb_set.specs.Sets.{AreMine, shape_of};
 
-use crate::set::{LongSet, Seat, of_map, put_on_set};
+use crate::set::LongSet;
 use nb_core::{Key, Num, OutOfMemory};
-use nb_map::SettleFault;
+use nb_map::{Seat, SettleFault};
 use std::alloc::Global;
-use std::mem;
 
 impl LongSet {
     /// With all seats: all keys of the set at this moment, each once, in no order. Afterwards each
     /// seat's log is one and the same, which leaves just these keys; and the set goes on. It takes
-    /// memory for the keys twice, and for five vectors of seats. Where that is refused, the seats
-    /// have only asked for keys; where a seat is missing, the seats are as they were.
+    /// memory for the keys twice, and what `settle` takes. Where that is refused, the seats have only
+    /// asked for keys; where a seat is missing, the seats are as they were.
     pub fn keys(&self, alloc: Global, seats: &mut Vec<Seat>) -> Result<Vec<Key>, SettleFault>
         requires own { AreMine self.now seats.old.items }
         ensures all { (result ≡ Err fault.NotAll)
@@ -27,20 +26,7 @@ impl LongSet {
         ensures own { AreMine self.now seats.new.items }
         ensures back { result ≡ Err fault.NotAll → seats.new.items ≡ seats.old.items }
     {
-        let count = seats.len();
-        if count != self.map.shape().seats() {
-            return Err(SettleFault::NotAll);
-        }
-        let Ok(map_room) = Vec::with_capacity(alloc, count) else {
-            return Err(SettleFault::OutOfMemory);
-        };
-        let Ok(room) = Vec::with_capacity(alloc, count) else {
-            return Err(SettleFault::OutOfMemory);
-        };
-        let given = mem::replace(seats, room);
-        let mut map_seats = of_map(given, map_room);
-        let listed = self.map.entries(alloc, &mut map_seats);
-        put_on_set(map_seats, seats);
+        let listed = self.map.entries(alloc, seats);
         keys_listed(alloc, listed)
     }
 }

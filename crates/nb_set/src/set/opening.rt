@@ -5,9 +5,9 @@ ghost use Rattle.nb_set.specs.OfMap.{entry_of};
 ghost use Rattle.nb_set.specs.Opening.{HaveBegunWith, IsTooSmallFor, set_of_keys};
 ghost use Rattle.nb_set.specs.Sets.{AreMine, IsMadeFor};
 
-use crate::set::{LongSet, Seat, present, put_on_set};
-use nb_core::{Key, Num, OutOfMemory, SeatRoom, Shape};
-use nb_map::{Map, OpenFault};
+use crate::set::{LongSet, present};
+use nb_core::{Key, Num, OutOfMemory, Shape};
+use nb_map::{Map, OpenFault, Seat};
 use std::alloc::Global;
 
 impl LongSet {
@@ -25,12 +25,9 @@ impl LongSet {
         ensures own { IfOk result (λ made. AreMine made.0 made.1.items) }
         ensures full { result ≡ Err fault.Full → IsTooSmallFor shape (set_of_keys keys.now) }
     {
-        let mut seats = Vec::with_capacity(alloc, shape.seats())?;
-        let room = SeatRoom::new(alloc, shape.seats())?;
         let entries = entries_of(alloc, keys)?;
-        let (map, map_seats) = Map::with_entries(alloc, shape, entries.as_slice())?;
-        put_on_set(map_seats, &mut seats);
-        Ok((LongSet { map, room }, seats))
+        let (map, seats) = Map::with_entries(alloc, shape, entries.as_slice())?;
+        Ok((LongSet { map }, seats))
     }
 }
 

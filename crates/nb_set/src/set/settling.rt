@@ -4,15 +4,14 @@ ghost use Rattle.nb_map.specs.declared.faults.SettleFault.TheVariants as fault;
 ghost use Rattle.nb_set.specs.Sets.{AreMine, shape_of};
 ghost use Rattle.nb_set.specs.Settling.{HaveSettled};
 
-use crate::set::{LongSet, Seat, of_map, put_on_set};
-use nb_map::SettleFault;
+use crate::set::LongSet;
+use nb_map::{Seat, SettleFault};
 use std::alloc::Global;
-use std::mem;
 
 impl LongSet {
     /// With all seats: how many keys the set has, exactly. Afterwards each seat's log is one and the
     /// same log of all calls that were made, as if the set had been finished; and the set goes on.
-    /// It takes memory for five vectors of seats. Where that is refused, or a seat is missing, the
+    /// It takes memory for three vectors of seats. Where that is refused, or a seat is missing, the
     /// seats are as they were.
     pub fn settle(&self, alloc: Global, seats: &mut Vec<Seat>) -> Result<u64, SettleFault>
         requires own { AreMine self.now seats.old.items }
@@ -22,20 +21,6 @@ impl LongSet {
         ensures own { AreMine self.now seats.new.items }
         ensures back { IfErr result (λ _. seats.new.items ≡ seats.old.items) }
     {
-        let count = seats.len();
-        if count != self.map.shape().seats() {
-            return Err(SettleFault::NotAll);
-        }
-        let Ok(map_room) = Vec::with_capacity(alloc, count) else {
-            return Err(SettleFault::OutOfMemory);
-        };
-        let Ok(room) = Vec::with_capacity(alloc, count) else {
-            return Err(SettleFault::OutOfMemory);
-        };
-        let given = mem::replace(seats, room);
-        let mut map_seats = of_map(given, map_room);
-        let size = self.map.settle(alloc, &mut map_seats);
-        put_on_set(map_seats, seats);
-        size
+        self.map.settle(alloc, seats)
     }
 }

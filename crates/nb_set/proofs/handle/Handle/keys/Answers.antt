@@ -1,10 +1,8 @@
-use Rattle.std.proofs.Common.{IfOk, subst, subst₂, sym}
+use Rattle.std.proofs.Common.{IfOk, subst}
 use Rattle.std.proofs.lemmas.Result.{IfOk-weaker}
-use Rattle.nb_map.specs.Entries as of_map
 use Rattle.nb_set.specs.Handles.{HandleOf, as_handle, seats_of}
 use Rattle.nb_set.specs.Listing.{HaveListed}
 use Rattle.nb_set.specs.Renewing.{IsKept}
-use Rattle.nb_set.proofs.Handles.{seats-in}
 use Rattle.nb_set.proofs.Listed.{listed-as}
 use Rattle.nb_set.proofs.Renewed.{kept-as}
 use Rattle.nb_set.proofs.handle.Handle.keys.Goals as goal
@@ -19,8 +17,7 @@ returns-clause-listed c =
     (λ keys found.
     let listed = rw found.1 at c.entries-listed.ensures.listed in
     listed-as (seats_of (as_handle before)) (seats_of (as_handle after)) found.0.items keys.items
-    found.2 (subst₂ (λ xs ys. of_map.HaveListed xs ys found.0.items) (sym (seats-in before))
-    (sym (seats-in after)) listed))
+    found.2 listed)
     c.keys_listed.ensures.keys)
 
 pub returns-clause-kept : goal.returns-clause-kept

@@ -1,9 +1,7 @@
-use Rattle.std.proofs.Common.{IfOk, subst, subst₂, sym}
+use Rattle.std.proofs.Common.{IfOk, subst}
 use Rattle.std.proofs.lemmas.Result.{IfOk-weaker}
-use Rattle.nb_map.specs.Settling as of_map
 use Rattle.nb_set.specs.Handles.{HandleOf, as_handle, seats_of}
 use Rattle.nb_set.specs.Settling.{HaveSettled}
-use Rattle.nb_set.proofs.Handles.{seats-in}
 use Rattle.nb_set.proofs.Settled.{have-settled}
 use Rattle.nb_set.proofs.handle.Handle.settle.Goals as goal
 
@@ -15,6 +13,4 @@ returns-clause-settled c =
     (seats_of (as_handle after)))) c.self.view_is
     (IfOk-weaker c.settle.result _ _
     (λ size settled. have-settled (as_handle before).set (seats_of (as_handle before))
-    (seats_of (as_handle after)) size
-    (subst₂ (λ xs ys. of_map.HaveSettled before.map xs ys size) (sym (seats-in before))
-    (sym (seats-in after)) settled)) c.settle.ensures.settled)
+    (seats_of (as_handle after)) size settled) c.settle.ensures.settled)

@@ -1,8 +1,9 @@
 use Rattle.std.proofs.Common.{◌∙◌, ap, arith, length, map, refl, sym}
 use Rattle.std.proofs.lemmas.List.{length-map}
+use mathlib.Core.List.{map-map}
 use Rattle.nb_core.proofs.Seating.{all-moved, moved-count, moved-more, none-moved}
+use Rattle.nb_map.specs.Handles as handles
 use Rattle.nb_set.specs.Handles.{as_handle, handle_on, seats_of}
-use Rattle.nb_set.proofs.Handles.{split-as}
 use Rattle.nb_set.proofs.handle.Handle.split_all.Goals as goal
 
 pub loop-map-init : goal.loop-map-init
@@ -10,7 +11,8 @@ loop-map-init c = (
   tt,
   tt,
   none-moved (sym (ap (λ handle. map (handle_on handle.set) (seats_of handle)) c.self.view_is)
-      ∙ sym (split-as c.self.inside.map)
+      ∙ sym (map-map as_handle (handles.handle_on c.self.inside.map.map)
+      (handles.seats_of c.self.inside.map))
       ∙ ap (map as_handle) (sym c.in-Ok-split_all.ensures.split
       ∙ sym c.into_iter-map-iterator.ensures.into_iter_gives.0)) c.in-Ok.ensures.items,
   omega (arith, c.in-Ok.ensures.capacity, c.seats.ensures),
