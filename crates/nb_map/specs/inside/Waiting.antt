@@ -10,7 +10,7 @@ use Rattle.nb_map.specs.Calling.{HasMade}
 use Rattle.nb_map.specs.Logs.{HasLogged, made_in}
 use Rattle.nb_map.specs.Maps.{HasWorked, IsMine, MapOf, SeatOf}
 use Rattle.nb_map.specs.Progress.{IsAloneAtHome, IsKnownHome, IsLastSeen, IsShortAtHome, passed_since}
-use Rattle.nb_map.specs.Promises.{Found, HasAnswered, HasTriedToWrite, HasWritten, Outcome, Refused, Replied}
+use Rattle.nb_map.specs.Promises.{HasAnswered, HasTriedToWrite, HasWritten, Outcome, Refused, Replied}
 use Rattle.nb_map.specs.Refusals.{HasRefused, IsJust, IsJustAdd}
 use Rattle.nb_map.specs.Steps.{climb_steps, home_steps, put_steps}
 use Rattle.nb_map.specs.declared.faults.AddFault.TheVariants as add_fault
@@ -19,8 +19,6 @@ use Rattle.nb_map.specs.declared.faults.PutFault.TheVariants as fault
 use Rattle.nb_map.specs.declared.faults.PutFault.{PutFault}
 use Rattle.nb_map.specs.declared.map.answers.Gone.TheVariants as gone
 use Rattle.nb_map.specs.declared.map.answers.Gone.{Gone}
-use Rattle.nb_map.specs.declared.map.answers.Tried.TheVariants as tried
-use Rattle.nb_map.specs.declared.map.answers.Tried.{Tried}
 use Rattle.nb_map.specs.declared.steps.write.Straight.TheVariants as straight
 use Rattle.nb_map.specs.declared.steps.write.Straight.{Straight}
 
@@ -145,22 +143,13 @@ pub record HasGoneOnWith (map : MapOf) (call : Call) (before after : SeatOf) (tr
 
 -- ---- what the general way answers
 
--- what a write that waits found, or why it is refused
-abbrev pub outcome_of_gone : Gone → Outcome AddFault
-outcome_of_gone (gone.Found number) = Found (Some number)
-outcome_of_gone gone.Nothing = Found None
-outcome_of_gone gone.Full = Refused add_fault.Full
-outcome_of_gone gone.ValueRange = Refused add_fault.ValueRange
+-- what a write found, or why it is refused
+abbrev pub answer_of : {Fault : Type 0} → Gone Fault → Result (Option ℕ) Fault
+answer_of (gone.Found number) = Ok (Some number)
+answer_of gone.Nothing = Ok None
+answer_of (gone.Refused fault) = Err fault
 
--- the same of a write with tries
-abbrev pub outcome_of_tried : Tried → Outcome PutFault
-outcome_of_tried (tried.Found number) = Found (Some number)
-outcome_of_tried tried.Nothing = Found None
-outcome_of_tried tried.Full = Refused fault.Full
-outcome_of_tried tried.Contended = Refused fault.Contended
-outcome_of_tried tried.ValueRange = Refused fault.ValueRange
-
--- what a reply found, or the refusal
-abbrev pub before_or_refused : {Fault : Type 0} → Result Reply Fault → Outcome Fault
-before_or_refused (Ok reply) = Found reply.before
-before_or_refused (Err refusal) = Refused refusal
+-- the same of a reply
+abbrev pub before_of : {Fault : Type 0} → Result Reply Fault → Result (Option ℕ) Fault
+before_of (Ok reply) = Ok reply.before
+before_of (Err fault) = Err fault

@@ -40,11 +40,7 @@ impl Map {
     {
         match self.write_straight(seat, key, Want::Any, Change::Put(number)) {
             Some(reply) => Ok(reply.before),
-            None => match self.put_general(rt, seat, key, number).answer() {
-                Ok(found) => Ok(found),
-                Err(AddFault::Full) => Err(Full),
-                Err(AddFault::ValueRange) => unreachable!(),
-            },
+            None => self.put_general(rt, seat, key, number).answer(),
         }
     }
 
@@ -63,11 +59,7 @@ impl Map {
     {
         match self.write_straight(seat, key, Want::Absent, Change::Put(number)) {
             Some(reply) => Ok(reply.before),
-            None => match self.put_if_absent_general(rt, seat, key, number).answer() {
-                Ok(found) => Ok(found),
-                Err(AddFault::Full) => Err(Full),
-                Err(AddFault::ValueRange) => unreachable!(),
-            },
+            None => self.put_if_absent_general(rt, seat, key, number).answer(),
         }
     }
 
