@@ -1,6 +1,5 @@
 -- A write that looked at its key's home slot in vain, and then goes the general way.
 use Rattle.std.proofs.Common.{◌≡◌, ◌∙◌, ℕ, ◌+◌, ◌-◌, min, List, [], Result, Ok, Err, inl, inr, ap, refl, arith}
-use Rattle.nb_core.specs.Plans.{Plan}
 use Rattle.nb_core.specs.History.{key_of_call}
 use Rattle.nb_core.specs.declared.calls.Call.{Call}
 use Rattle.nb_core.specs.declared.calls.Reply.{Reply}
@@ -16,14 +15,15 @@ use Rattle.nb_map.proofs.Straight.{at-known}
 use Rattle.nb_map.specs.Calling.{HasMade}
 use Rattle.nb_map.specs.Logs.{HasLogged}
 use Rattle.nb_map.specs.Maps.{MapOf, SeatOf, accounted}
-use Rattle.nb_map.specs.Progress.{IsAloneAtHome, IsShortAtHome, passed_since}
-use Rattle.nb_map.specs.Promises.{Found, HasAnswered, HasTriedToWrite, HasWritten, Matched, Outcome, Refused, Replied, replied_or_refused}
-use Rattle.nb_map.specs.Refusals.{HasGivenUp, HasRefused, IsJust, IsJustAdd, as_put_fault}
+use Rattle.nb_map.specs.Progress.{IsAloneAtHome, IsLockFree, IsShortAtHome, IsWaitFree, passed_since}
+use Rattle.nb_map.specs.Promises.{Found, HasAnswered, HasTriedToWrite, HasWritten, Matched, Outcome, Refused, Replied, found_or_refused, replied_or_refused}
+use Rattle.nb_map.specs.Refusals.{HasGivenUp, HasRefused, IsJust}
 use Rattle.nb_map.specs.Steps.{climb_steps, put_steps}
 use Rattle.nb_map.specs.declared.faults.AddFault.{AddFault}
-use Rattle.nb_map.specs.declared.faults.AddFault.TheVariants.{Full, ValueRange}
+use Rattle.nb_map.specs.declared.faults.AddFault.TheVariants as add_fault
+use Rattle.nb_map.specs.declared.faults.PutFault.TheVariants as fault
 use Rattle.nb_map.specs.declared.faults.PutFault.{PutFault}
-use Rattle.nb_map.specs.inside.Waiting.{HasGoneOn, HasGoneOnWith, HasLookedInVain, IsAway, IsAwayWith, IsStopped, before_or_refused}
+use Rattle.nb_map.specs.inside.Waiting.{HasGoneOn, HasGoneOnWith, HasLookedInVain, IsAway, IsAwayWith, IsStopped, before_of}
 use Rattle.nb_map.specs.inside.Climbing.{IsSpent}
 
 -- ---- on the tables
@@ -129,13 +129,6 @@ climbed-with chain {call} tries left own load made spent =
     (omega (arith, spent.lost, passed-sum call quiet.grown made.grown))
     (made-then own quiet made)
 
--- a reason that is just where it may wait is so of any number of tries
-pub just-told :
-    (p : Plan) (call : Call) (before after : SeenBy) (tries : ℕ) (refusal : AddFault)
-    → IsJustAdd p call after refusal → IsJust p call before after tries (as_put_fault refusal)
-just-told p call before after tries Full just = just
-just-told p call before after tries ValueRange just = just
-
 -- ---- on the map
 
 module _ {map : MapOf} {call : Call} {before then : SeatOf} (away : IsAway map call before then)
@@ -173,6 +166,41 @@ module _ {map : MapOf} {call : Call} {before then : SeatOf} (away : IsAway map c
           short = short-both map.chain away.looked made;
           own = on.own;
         }
+
+-- a write that is made or refused with one try is one that waits
+module _ {map : MapOf} {call : Call} {before after : SeatOf} where
+  lock-free : IsWaitFree map call before after 1 → IsLockFree map call before after
+  lock-free worked =
+      let (calls, made) = worked.steps in
+      record {
+        steps = (calls, made-within _ _ (put-rises map.chain.shape _ _ (omega arith)) made);
+        net = worked.net;
+        count = worked.count;
+      }
+
+  pub written :
+      (reply : Reply) → HasTriedToWrite map call before after 1 (Replied reply)
+      → HasWritten map call before after (Replied reply)
+  written reply tried = record {
+    answered = tried.answered;
+    lock_free = lock-free tried.wait_free;
+    short = tried.short;
+    own = tried.own;
+  }
+
+  pub overflown :
+      HasTriedToWrite map call before after 1 (Refused fault.ValueRange)
+      → HasWritten map call before after (Refused add_fault.ValueRange)
+  overflown tried = record {
+    answered = record {
+      unmade = tried.answered.unmade;
+      just = tried.answered.just;
+      looked = tried.answered.looked;
+    };
+    lock_free = lock-free tried.wait_free;
+    short = tried.short;
+    own = tried.own;
+  }
 
 module _ {map : MapOf} {call : Call} {before then : SeatOf} {tries left : ℕ}
     (aside : IsAwayWith map call before then tries left) where
@@ -218,7 +246,7 @@ module _ {map : MapOf} {call : Call} {before after : SeatOf} where
   pub found-on :
       (answer : Result Reply AddFault)
       → HasGoneOn map call before after (replied_or_refused answer)
-      → HasGoneOn map call before after (before_or_refused answer)
+      → HasGoneOn map call before after (found_or_refused (before_of answer))
   found-on (Ok reply) on =
       record { answered = (reply, refl, on.answered); worked = on.worked; own = on.own }
   found-on (Err refusal) on = on
@@ -226,7 +254,7 @@ module _ {map : MapOf} {call : Call} {before after : SeatOf} where
   pub found-with :
       {tries : ℕ} (answer : Result Reply PutFault)
       → HasGoneOnWith map call before after tries (replied_or_refused answer)
-      → HasGoneOnWith map call before after tries (before_or_refused answer)
+      → HasGoneOnWith map call before after tries (found_or_refused (before_of answer))
   found-with (Ok reply) on =
       record { answered = (reply, refl, on.answered); worked = on.worked; own = on.own }
   found-with (Err refusal) on = on

@@ -1,5 +1,5 @@
 -- A write that looks at its key's home slot first, in the table that its seat remembers.
-use Rattle.std.proofs.Common.{◌≡◌, ◌⊎◌, ℕ, ◌+◌, ◌-◌, ◌<◌, ◌≤◌, List, [], Option, Result, inl, subst, sym, arith}
+use Rattle.std.proofs.Common.{◌≡◌, ◌⊎◌, ℕ, ◌+◌, ◌-◌, ◌<◌, ◌≤◌, [], Result, inl, subst, sym, arith}
 use Rattle.std.proofs.lemmas.Nat.{pow_pos}
 use Rattle.nb_core.specs.History.{key_of_call}
 use Rattle.nb_core.specs.declared.calls.Call.{Call}
@@ -10,12 +10,14 @@ use Rattle.nb_map.proofs.Made.{made-within}
 use Rattle.nb_map.proofs.Searched.{others-none, reached-up-to, ready-up-to, table-within}
 use Rattle.nb_map.proofs.AtHome.{whole-bound}
 use Rattle.nb_map.specs.Calling.{HasMade}
-use Rattle.nb_map.specs.Progress.{IsAloneAtHome, IsKnownHome, IsLastSeen, IsShortAtHome}
-use Rattle.nb_map.specs.Steps.{home_steps, put_steps}
-use Rattle.nb_map.specs.declared.faults.PutFault.{PutFault}
+use Rattle.nb_map.specs.Progress.{IsAloneAtHome, IsKnownHome, IsLastSeen}
+use Rattle.nb_map.specs.Steps.{home_steps}
+use Rattle.nb_map.specs.Logs.{made_in}
+use Rattle.nb_map.specs.Refusals.{IsJustAdd}
+use Rattle.nb_map.specs.declared.faults.AddFault.{AddFault}
+use Rattle.std.specs.Prelude.{IfErr}
 use Rattle.nb_map.specs.inside.Climbing.{IsAt, IsSpent, rung_at}
-use Rattle.nb_map.specs.inside.Waiting.{HasLookedInVain}
-use Rattle.nb_map.specs.inside.Writing.{IsShortThere}
+use Rattle.nb_map.specs.inside.Waiting.{HasBeenTold, HasLookedInVain}
 
 -- any call may begin in any table up to the top
 at-up-to :
@@ -47,34 +49,36 @@ module _ (chain : ChainOf) {start : SeenBy} (known : ℕ) (own : IsOwn chain sta
   pub at-known : (call : Call) → IsAt chain call start (rung_at known)
   at-known = at-up-to chain known own (omega (arith, own.known, is))
 
-  module _ {call : Call} {after : SeenBy} {calls : List (Call × Reply)} {tries left : ℕ}
-      (made : HasMade chain.shape call start after calls
-      (home_steps + (tries - left)))
-      (spent : IsSpent call start after tries left) where
-    -- where it ends at the home slot there
-    pub made-there : HasMade chain.shape call start after calls (put_steps chain.shape tries)
-    made-there =
-        made-within _ _
-        (omega (
-          arith,
-          whole-bound chain.shape own.plan known (tries - left) tries (at-known call).table
-              (omega arith),
-        ))
-        made
-
-  pub short-there :
-      {call : Call} {after : SeenBy} (told : Option (Result Reply PutFault))
-      → IsShortThere chain.shape known call start after told
-      → IsShortAtHome chain.shape call start after
-  short-there {call} {after} told short =
+  -- a write with one try is told at the home slot there
+  pub told-there :
+      {call : Call} {after : SeenBy} (left : ℕ) (told : Result Reply AddFault)
+      → HasMade chain.shape call start after (made_in call told) (home_steps + (1 - left))
+      → IfErr told (IsJustAdd chain.shape call after) → start.steps < after.steps
+      → (IsAloneAtHome chain.shape known call start after
+      → IsKnownHome chain.shape known call start → after.steps ≤ start.steps + 3)
+      → (IsAloneAtHome chain.shape known call start after
+      → IsLastSeen chain.shape known after → after.steps ≤ start.steps + 5)
+      → HasBeenTold chain.shape call start after told
+  told-there {call} {after} left told made refused looked three five =
       let p = chain.shape in
+      let alone : IsAloneAtHome p start.top call start after
+      → IsAloneAtHome p known call start after =
+      subst (λ g. IsAloneAtHome p g call start after) (sym is) in
       record {
-        three_steps = λ alone way.
-            (short.known (subst (λ g. IsAloneAtHome p g call start after) (sym is) alone)
-            (subst (λ g. IsKnownHome p g call start) (sym is) way)).1;
-        five_steps = λ alone last.
-            (short.claimed (subst (λ g. IsAloneAtHome p g call start after) (sym is) alone)
-            (subst (λ g. IsLastSeen p g after) (sym is) last)).1;
+        made = made-within _ _
+            (omega (
+              arith,
+              whole-bound p own.plan known (1 - left) 1 (at-known call).table (omega arith),
+            ))
+            made;
+        refused = refused;
+        looked = looked;
+        short = record {
+          three_steps = λ here way.
+              three (alone here) (subst (λ g. IsKnownHome p g call start) (sym is) way);
+          five_steps = λ here last.
+              five (alone here) (subst (λ g. IsLastSeen p g after) (sym is) last);
+        };
       }
 
   -- a write with one try has looked at the home slot there in vain

@@ -32,13 +32,12 @@ use Rattle.nb_map.proofs.Searched.{made-then}
 use Rattle.nb_map.proofs.Spent.{no-read, passed-sum, spent-later, spent-none}
 use Rattle.nb_map.specs.Calling.{HasMade}
 use Rattle.nb_map.specs.inside.Reading.{read_of}
-use Rattle.nb_map.specs.inside.Climbing.{GoesOn, IsAbove, IsAtSlot, IsRefused, IsSpent, IsTried, IsVisit, IsWithoutTries, made_by}
+use Rattle.nb_map.specs.inside.Climbing.{GoesOn, IsAbove, IsAtSlot, IsSpent, IsTried, IsWithoutTries, made_if_tried}
 use Rattle.nb_map.specs.inside.Writing.{IsDecided}
 use Rattle.nb_map.specs.Progress.{passed_since}
 use Rattle.nb_map.specs.declared.steps.rung.Below.TheVariants.{HasKey}
-use Rattle.nb_map.specs.declared.steps.rung.Visit.{Visit}
-use Rattle.nb_map.specs.declared.steps.rung.Visit.TheVariants.{Told, Refused, Above}
-use Rattle.nb_map.specs.Steps.{slot_visit_steps}
+use Rattle.nb_map.specs.declared.steps.rung.Attempt.{Attempt}
+use Rattle.nb_map.specs.declared.steps.rung.Attempt.TheVariants.{Told, Overflow, Lost, Copied}
 use Rattle.nb_map.specs.declared.steps.decide.Decision.{Decision}
 use Rattle.nb_map.specs.declared.steps.decide.Decision.TheVariants as decision
 use Rattle.nb_core.proofs.Theorems.{beginnings_are_legal, decided, log_is_replayed, lost_exchange, passed_over_adds, passed_settled}
@@ -366,31 +365,23 @@ module _ (chain : ChainOf) where
       {number : Option ℕ} (at : IsAtSlot chain call start slot)
       (tried : HasTried p call start now slot tries left from (Some number)) where
     pub last-made :
-        (visit : Visit) → IsWithoutTries call number visit
-        → HasMade p call start now (made_by call visit) (2 + (tries - left))
+        (last : Attempt) → IsWithoutTries call number last
+        → HasMade p call start now (made_if_tried call last) (2 + (tries - left))
     last-made (Told reply) is =
         made-within _ _ (omega arith) (tried-left at tried reply is.0 is.1)
-    last-made (Refused why) is = made-within _ _ (omega arith) (tried-none at tried is.0)
-    last-made (Above below) is = absurd is
+    last-made Overflow is = absurd is
+    last-made Lost is = made-within _ _ (omega arith) (tried-none at tried is)
+    last-made (Copied word) is = absurd is
 
     pub last-tried :
-        (visit : Visit) → left ≡ 0 → IsWithoutTries call number visit
-        → IsTried p call start now slot tries left (Ok visit)
+        (last : Attempt) → left ≡ 0 → IsWithoutTries call number last
+        → IsTried p call start now slot tries left last
     last-tried (Told reply) none is =
         reply-fits call number reply is.1
-    last-tried (Refused why) none is =
-        subst (IsRefused p call start now tries) (sym is.1)
-        (omega (arith, tried.spent.lost, none), no-read call number is.0)
-    last-tried (Above below) none is = absurd is
-
-  -- what it comes to at the slot is what it comes to in the table
-  pub tried-visit :
-      (call : Call) (start now : SeenBy) (slot : Slot) (tries left : ℕ) (visit : Visit)
-      → IsTried p call start now slot tries left (Ok visit)
-      → IsVisit p call start now slot.g tries left visit × (2 ≤ slot_visit_steps p slot.g visit)
-  tried-visit call start now slot tries left (Told reply) is = (is, omega arith)
-  tried-visit call start now slot tries left (Refused why) is = (is, omega arith)
-  tried-visit call start now slot tries left (Above below) is = absurd is
+    last-tried Overflow none is = absurd is
+    last-tried Lost none is =
+        (omega (arith, tried.spent.lost, none), no-read call number is)
+    last-tried (Copied word) none is = absurd is
 
   -- it goes on in the next table, once the slot is finished
   pub tried-above :

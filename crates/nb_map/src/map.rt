@@ -25,6 +25,7 @@ mod walks;
 
 use crate::faults::PutFault;
 use crate::steps::get::get_in;
+use crate::steps::write::Straight;
 pub use ended::Ended;
 use nb_core::{Change, Key, Num, OutOfMemory, Reply, SeatRoom, Shape, Want};
 use nb_count::{CountSeat, Counter};
@@ -162,10 +163,11 @@ impl Map {
     {
         // By reference, since Rattle's borrow checker covers no second move of these two.
         let (asked, made) = (&want, &change);
-        match self.try_straight(seat, key, *asked, *made, tries) {
-            Ok(Ok(reply)) => Ok(reply),
-            Ok(Err(fault)) => Err(fault),
-            Err(left) => self.put_if_match_general(seat, key, *asked, *made, left),
+        let mut left = tries;
+        match self.try_straight(seat, key, *asked, *made, &mut left) {
+            Straight::Made(reply) => Ok(reply),
+            Straight::Overflow => Err(PutFault::ValueRange),
+            Straight::GoesOn => self.put_if_match_general(seat, key, *asked, *made, left),
         }
     }
 

@@ -10,7 +10,6 @@ use Rattle.nb_core.specs.declared.calls.Call.{Call}
 use Rattle.nb_core.specs.declared.calls.Reply.{Reply}
 use Rattle.nb_core.specs.declared.slot_paths.Slot.{Slot}
 use Rattle.nb_core.specs.declared.states.KeyState.TheVariants.{Claimed}
-use Rattle.nb_core.specs.declared.states.ValueState.{ValueState}
 use Rattle.nb_table.specs.Chains.{ChainOf, IsOwn, SeenBy, seen_by}
 use Rattle.nb_table.specs.Conditions.{IsReached}
 use Rattle.nb_map.specs.Progress.{passed_since}
@@ -18,6 +17,8 @@ use Rattle.nb_map.specs.Refusals.{IsJust, IsJustAdd}
 use Rattle.nb_map.specs.declared.faults.AddFault.TheVariants as add_fault
 use Rattle.nb_map.specs.declared.faults.PutFault.TheVariants as fault
 use Rattle.nb_map.specs.declared.faults.PutFault.{PutFault}
+use Rattle.nb_map.specs.declared.steps.rung.Attempt.TheVariants as attempt
+use Rattle.nb_map.specs.declared.steps.rung.Attempt.{Attempt}
 use Rattle.nb_map.specs.declared.steps.rung.Below.TheVariants as below
 use Rattle.nb_map.specs.declared.steps.rung.Below.{Below}
 use Rattle.nb_map.specs.declared.steps.rung.Rung.{Rung}
@@ -108,23 +109,22 @@ IsVisit p call before after g tries left (Above below) = GoesOn p call after g b
 -- made or refused there; or the slot is being copied, and holds the value of this word, primed or
 -- final
 abbrev pub IsTried :
-    Plan → Call → (before after : SeenBy) → Slot → (tries left : ℕ) → Result Visit ValueState
-    → Type 0
-IsTried p call before after at tries left (Ok (Told reply)) = IsReplied call reply
-IsTried p call before after at tries left (Ok (Refused why)) =
-    IsRefused p call before after tries why
-IsTried p call before after at tries left (Ok (Above below)) = ⊥
-IsTried p call before after at tries left (Err word) =
+    Plan → Call → (before after : SeenBy) → Slot → (tries left : ℕ) → Attempt → Type 0
+IsTried p call before after at tries left (attempt.Told reply) = IsReplied call reply
+IsTried p call before after at tries left attempt.Overflow =
+    IsRefused p call before after tries fault.ValueRange
+IsTried p call before after at tries left attempt.Lost =
+    IsRefused p call before after tries fault.Contended
+IsTried p call before after at tries left (attempt.Copied word) =
     (IsUnprimed word → ⊥) × ((seen_by p after).value at.g at.i ≡ word) × (1 ≤ left)
 
 -- what a call without further tries comes to, which has found this number at its key, or none: it
 -- is made if it leaves that as it is
-abbrev pub IsWithoutTries : Call → Option ℕ → Visit → Type 0
-IsWithoutTries call found (Told reply) =
+abbrev pub IsWithoutTries : Call → Option ℕ → Attempt → Type 0
+IsWithoutTries call found (attempt.Told reply) =
     (leaves_alone call found ≡ true) × (reply ≡ reply_at call found)
-IsWithoutTries call found (Refused why) =
-    (leaves_alone call found ≡ false) × (why ≡ fault.Contended)
-IsWithoutTries call found (Above below) = ⊥
+IsWithoutTries call found attempt.Lost = leaves_alone call found ≡ false
+IsWithoutTries call found _ = ⊥
 
 -- the call, where it was made
 abbrev pub made_by : Call → Visit → List (Call × Reply)
@@ -133,9 +133,9 @@ made_by call (Refused why) = []
 made_by call (Above below) = []
 
 -- the same at its key's slot
-abbrev pub made_if_tried : Call → Result Visit ValueState → List (Call × Reply)
-made_if_tried call (Ok visit) = made_by call visit
-made_if_tried call (Err word) = []
+abbrev pub made_if_tried : Call → Attempt → List (Call × Reply)
+made_if_tried call (attempt.Told reply) = (call, reply) ∷ []
+made_if_tried call _ = []
 
 -- ---- the search for the key's slot
 

@@ -1,5 +1,7 @@
 -- Writes come in two parts: a straight way, at the key's home slot, and a general one.
-use Rattle.std.specs.Prelude.{ℕ, [], ◌≡◌, ◌⊎◌, ◌+◌, ◌-◌, ◌<◌, ◌≤◌, min, IfErr, Option, None, Some, Result, Ok, Err}
+use Rattle.std.specs.Prelude.{ℕ, [], true, ◌≡◌, ◌⊎◌, ◌+◌, ◌-◌, ◌<◌, ◌≤◌, min, IfErr, Option, None, Some, Result, Ok, Err}
+use Rattle.nb_core.specs.Calls.{overflows}
+use Rattle.nb_core.specs.Log.{Numbers}
 use Rattle.nb_core.specs.Plans.{Plan}
 use Rattle.nb_core.specs.declared.calls.Call.{Call}
 use Rattle.nb_core.specs.declared.calls.Reply.{Reply}
@@ -8,7 +10,7 @@ use Rattle.nb_map.specs.Calling.{HasMade}
 use Rattle.nb_map.specs.Logs.{HasLogged, made_in}
 use Rattle.nb_map.specs.Maps.{HasWorked, IsMine, MapOf, SeatOf}
 use Rattle.nb_map.specs.Progress.{IsAloneAtHome, IsKnownHome, IsLastSeen, IsShortAtHome, passed_since}
-use Rattle.nb_map.specs.Promises.{Found, HasAnswered, HasTriedToWrite, HasWritten, Outcome, Refused, replied_or_refused}
+use Rattle.nb_map.specs.Promises.{HasAnswered, HasTriedToWrite, HasWritten, Outcome, Refused, Replied}
 use Rattle.nb_map.specs.Refusals.{HasRefused, IsJust, IsJustAdd}
 use Rattle.nb_map.specs.Steps.{climb_steps, home_steps, put_steps}
 use Rattle.nb_map.specs.declared.faults.AddFault.TheVariants as add_fault
@@ -17,8 +19,8 @@ use Rattle.nb_map.specs.declared.faults.PutFault.TheVariants as fault
 use Rattle.nb_map.specs.declared.faults.PutFault.{PutFault}
 use Rattle.nb_map.specs.declared.map.answers.Gone.TheVariants as gone
 use Rattle.nb_map.specs.declared.map.answers.Gone.{Gone}
-use Rattle.nb_map.specs.declared.map.answers.Tried.TheVariants as tried
-use Rattle.nb_map.specs.declared.map.answers.Tried.{Tried}
+use Rattle.nb_map.specs.declared.steps.write.Straight.TheVariants as straight
+use Rattle.nb_map.specs.declared.steps.write.Straight.{Straight}
 
 -- ---- on the tables
 
@@ -47,10 +49,12 @@ pub record HasLookedInVain (chain : ChainOf) (call : Call) (before after : SeenB
 
 -- what the straight way comes to, which begins with one try and has so many left
 abbrev pub HasTriedAtHome :
-    ChainOf → Call → (before after : SeenBy) → (left : ℕ) → Option (Result Reply AddFault) → Type 0
-HasTriedAtHome chain call before after left (Some told) =
-    HasBeenTold chain.shape call before after told
-HasTriedAtHome chain call before after left None =
+    ChainOf → Call → (before after : SeenBy) → (left : ℕ) → Straight → Type 0
+HasTriedAtHome chain call before after left (straight.Made reply) =
+    HasBeenTold chain.shape call before after (Ok reply)
+HasTriedAtHome chain call before after left straight.Overflow =
+    HasBeenTold chain.shape call before after (Err add_fault.ValueRange)
+HasTriedAtHome chain call before after left straight.GoesOn =
     HasLookedInVain chain call before after (1 - left)
 
 -- what the general way comes to: the same as the straight one, after a look at the top word
@@ -81,27 +85,36 @@ pub record IsAway (map : MapOf) (call : Call) (before after : SeatOf) : Type 0 w
   pub count : after.count ≡ before.count
   pub own : IsMine map after
 
--- what the straight way comes to: the whole promise of the write, or a look in vain
-abbrev pub HasGoneStraight :
-    MapOf → Call → (before after : SeatOf) → Option (Result Reply AddFault) → Type 0
-HasGoneStraight map call before after (Some told) =
-    HasWritten map call before after (replied_or_refused told)
+-- no sum comes past the greatest number by the call
+abbrev pub CantOverflow : Call → Type 0
+CantOverflow call = (m : Numbers) → overflows call m ≡ true → ⊥
+
+-- what the straight way comes to of such a write: its whole promise, or a look in vain
+abbrev pub HasGoneStraight : MapOf → Call → (before after : SeatOf) → Option Reply → Type 0
+HasGoneStraight map call before after (Some reply) =
+    HasWritten map call before after (Replied reply)
 HasGoneStraight map call before after None = IsAway map call before after
 
--- the same of a write with so many tries, of which so many are left
+-- the seat has looked in vain, and of so many tries so many are left
 pub record IsAwayWith (map : MapOf) (call : Call) (before after : SeatOf) (tries left : ℕ) :
     Type 0 where
   pub away : IsAway map call before after
   pub all : left + away.lost ≡ tries
 
--- what the straight way comes to of such a write
+-- what the straight way comes to of any write with so many tries, of which so many are left
 abbrev pub HasTriedStraight :
-    MapOf → Call → (before after : SeatOf) → (tries : ℕ) → Result (Result Reply PutFault) ℕ
-    → Type 0
-HasTriedStraight map call before after tries (Ok told) =
-    HasTriedToWrite map call before after tries (replied_or_refused told)
-HasTriedStraight map call before after tries (Err left) =
+    MapOf → Call → (before after : SeatOf) → (tries left : ℕ) → Straight → Type 0
+HasTriedStraight map call before after tries left (straight.Made reply) =
+    HasTriedToWrite map call before after tries (Replied reply)
+HasTriedStraight map call before after tries left straight.Overflow =
+    HasTriedToWrite map call before after tries (Refused fault.ValueRange)
+HasTriedStraight map call before after tries left straight.GoesOn =
     IsAwayWith map call before after tries left
+
+-- the reply of a write that is made, and else that it goes on
+abbrev pub made_or_on : Option Reply → Straight
+made_or_on (Some reply) = straight.Made reply
+made_or_on None = straight.GoesOn
 
 -- what the general way promises of a write, from the look in vain on
 pub record HasGoneOn (map : MapOf) (call : Call) (before after : SeatOf)
@@ -130,22 +143,13 @@ pub record HasGoneOnWith (map : MapOf) (call : Call) (before after : SeatOf) (tr
 
 -- ---- what the general way answers
 
--- what a write that waits found, or why it is refused
-abbrev pub outcome_of_gone : Gone → Outcome AddFault
-outcome_of_gone (gone.Found number) = Found (Some number)
-outcome_of_gone gone.Nothing = Found None
-outcome_of_gone gone.Full = Refused add_fault.Full
-outcome_of_gone gone.ValueRange = Refused add_fault.ValueRange
+-- what a write found, or why it is refused
+abbrev pub answer_of : {Fault : Type 0} → Gone Fault → Result (Option ℕ) Fault
+answer_of (gone.Found number) = Ok (Some number)
+answer_of gone.Nothing = Ok None
+answer_of (gone.Refused fault) = Err fault
 
--- the same of a write with tries
-abbrev pub outcome_of_tried : Tried → Outcome PutFault
-outcome_of_tried (tried.Found number) = Found (Some number)
-outcome_of_tried tried.Nothing = Found None
-outcome_of_tried tried.Full = Refused fault.Full
-outcome_of_tried tried.Contended = Refused fault.Contended
-outcome_of_tried tried.ValueRange = Refused fault.ValueRange
-
--- what a reply found, or the refusal
-abbrev pub before_or_refused : {Fault : Type 0} → Result Reply Fault → Outcome Fault
-before_or_refused (Ok reply) = Found reply.before
-before_or_refused (Err refusal) = Refused refusal
+-- the same of a reply
+abbrev pub before_of : {Fault : Type 0} → Result Reply Fault → Result (Option ℕ) Fault
+before_of (Ok reply) = Ok reply.before
+before_of (Err fault) = Err fault

@@ -1,21 +1,15 @@
--- What a write does to what it finds, and what it comes to at its key's home slot.
+-- What a write does to what it finds, and where its key's home slot is.
 use Rattle.std.specs.FinMap as map
-use Rattle.std.specs.Prelude.{List, [], ◌≡◌, ℕ, true, false, Option, None, Some, IsSome, Result, Ok, Err, ◌+◌, ◌≤◌}
+use Rattle.std.specs.Prelude.{◌≡◌, ℕ, true, false, Option}
 use Rattle.nb_core.specs.Calls.{leaves_alone, overflows}
 use Rattle.nb_core.specs.History.{IsExchange, number_in_value, key_of_call}
 use Rattle.nb_core.specs.Log.{Numbers, reply_at}
 use Rattle.nb_core.specs.Paths.{IsPlaced}
-use Rattle.nb_core.specs.Plans.{Plan}
 use Rattle.nb_core.specs.Tables.{IsInstalled, IsReady, IsUnprimed, path_slot}
 use Rattle.nb_core.specs.declared.calls.Call.{Call}
-use Rattle.nb_core.specs.declared.calls.Reply.{Reply}
 use Rattle.nb_core.specs.declared.slot_paths.Slot.{Slot}
 use Rattle.nb_core.specs.declared.states.ValueState.{ValueState}
 use Rattle.nb_table.specs.Chains.{ChainOf, IsOwn, SeenBy, seen_by}
-use Rattle.nb_map.specs.Logs.{made_in}
-use Rattle.nb_map.specs.Progress.{IsAloneAtHome, IsKnownHome, IsLastSeen}
-use Rattle.nb_map.specs.Refusals.{IsJust}
-use Rattle.nb_map.specs.declared.faults.PutFault.{PutFault}
 use Rattle.nb_map.specs.declared.steps.decide.Decision.TheVariants as decision
 use Rattle.nb_map.specs.declared.steps.decide.Decision.{Decision}
 
@@ -45,29 +39,3 @@ pub record IsHomeOf (chain : ChainOf) (call : Call) (seat : SeenBy) (home : Slot
   pub is : path_slot chain.shape home.g (key_of_call call) 0 ≡ home.i
   pub installed : IsInstalled (seen_by chain.shape seat) home.g
   pub ready : IsReady chain.shape (seen_by chain.shape seat) home.g
-
--- what the seat has seen where a write with so many tries, of which so many are left, was told this
--- at its key's home slot: a reason for its refusal; or nothing, and a try is left
-abbrev pub IsToldAtHome :
-    Plan → Call → (before after : SeenBy) → (tries left : ℕ) → Option (Result Reply PutFault)
-    → Type 0
-IsToldAtHome p call before after tries left (Some (Ok reply)) = Unit {0}
-IsToldAtHome p call before after tries left (Some (Err fault)) =
-    IsJust p call before after tries fault
-IsToldAtHome p call before after tries left None = 1 ≤ left
-
--- who is alone with its key at home is told there: in three steps, and where it may have to claim
--- the home slot first, in five, while the seat knows of no table above
-pub record IsShortThere (p : Plan) (g : ℕ) (call : Call) (before after : SeenBy)
-    (told : Option (Result Reply PutFault)) : Type 0 where
-  pub known :
-      IsAloneAtHome p g call before after → IsKnownHome p g call before
-      → IsSome told × (after.steps ≤ before.steps + 3)
-  pub claimed :
-      IsAloneAtHome p g call before after → IsLastSeen p g after
-      → IsSome told × (after.steps ≤ before.steps + 5)
-
--- the call, where it was made there
-abbrev pub made_at_home : Call → Option (Result Reply PutFault) → List (Call × Reply)
-made_at_home call None = []
-made_at_home call (Some told) = made_in call told

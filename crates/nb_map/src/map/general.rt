@@ -1,13 +1,14 @@
 //! The general way of the calls of `ConcurrentMap`, where the straight one didn't do: up the tables,
 //! for as long as other seats come first. Each call has its own copy of it, in which its condition
 //! and its change are known.
+ghost use Rattle.nb_core.specs.Calls.{Fills};
 ghost use Rattle.nb_core.specs.declared.calls.Call.TheVariants as call;
 ghost use Rattle.nb_map.specs.Maps.{IsMine};
 ghost use Rattle.nb_map.specs.NamedCalls.{add_of, put_if_absent_of, put_of, remove_if_of, remove_of, replace_if_of, replace_of};
-ghost use Rattle.nb_map.specs.Promises.{Found, Matched, replied_or_refused};
-ghost use Rattle.nb_map.specs.inside.Waiting.{HasGoneOn, outcome_of_gone};
+ghost use Rattle.nb_map.specs.Promises.{Found, Matched, Replied, found_or_full, found_or_refused, replied_or_refused};
+ghost use Rattle.nb_map.specs.inside.Waiting.{CantOverflow, HasGoneOn, answer_of};
 
-use crate::faults::AddFault;
+use crate::faults::{AddFault, Full};
 use crate::map::answers::Gone;
 use crate::map::{Map, Seat};
 use crate::steps::write::write_general;
@@ -24,11 +25,12 @@ impl Map {
         seat: &mut Seat,
         key: Key,
         number: Num,
-    ) -> Gone
+    ) -> Gone<Full>
         requires own { IsMine self.now seat.old }
-        ensures { HasGoneOn self.now (put_of key number) seat.old seat.new (outcome_of_gone result) }
+        ensures { HasGoneOn self.now (put_of key number) seat.old seat.new
+            (found_or_full (answer_of result)) }
     {
-        Gone::of(self.write_general(rt, seat, key, Want::Any, Change::Put(number)))
+        self.put_on(rt, seat, key, Want::Any, Change::Put(number))
     }
 
     /// Goes on with `put_if_absent`.
@@ -40,12 +42,12 @@ impl Map {
         seat: &mut Seat,
         key: Key,
         number: Num,
-    ) -> Gone
+    ) -> Gone<Full>
         requires own { IsMine self.now seat.old }
         ensures { HasGoneOn self.now (put_if_absent_of key number) seat.old seat.new
-            (outcome_of_gone result) }
+            (found_or_full (answer_of result)) }
     {
-        Gone::of(self.write_general(rt, seat, key, Want::Absent, Change::Put(number)))
+        self.put_on(rt, seat, key, Want::Absent, Change::Put(number))
     }
 
     /// Goes on with `replace`.
@@ -61,10 +63,8 @@ impl Map {
         requires own { IsMine self.now seat.old }
         ensures { HasGoneOn self.now (replace_of key number) seat.old seat.new (Found result) }
     {
-        match self.write_general(rt, seat, key, Want::Present, Change::Put(number)) {
-            Ok(reply) => reply.before,
-            Err(_) => unreachable!(),
-        }
+        self.set_on(rt, seat, key, Want::Present, Change::Put(number))
+            .before
     }
 
     /// Goes on with `replace_if`.
@@ -81,10 +81,8 @@ impl Map {
         requires own { IsMine self.now seat.old }
         ensures { HasGoneOn self.now (replace_if_of key old new) seat.old seat.new (Matched result) }
     {
-        match self.write_general(rt, seat, key, Want::Equal(old), Change::Put(new)) {
-            Ok(reply) => reply.matched,
-            Err(_) => unreachable!(),
-        }
+        self.set_on(rt, seat, key, Want::Equal(old), Change::Put(new))
+            .matched
     }
 
     /// Goes on with `remove`.
@@ -94,10 +92,7 @@ impl Map {
         requires own { IsMine self.now seat.old }
         ensures { HasGoneOn self.now (remove_of key) seat.old seat.new (Found result) }
     {
-        match self.write_general(rt, seat, key, Want::Any, Change::Remove) {
-            Ok(reply) => reply.before,
-            Err(_) => unreachable!(),
-        }
+        self.set_on(rt, seat, key, Want::Any, Change::Remove).before
     }
 
     /// Goes on with `remove_if`.
@@ -113,10 +108,8 @@ impl Map {
         requires own { IsMine self.now seat.old }
         ensures { HasGoneOn self.now (remove_if_of key number) seat.old seat.new (Matched result) }
     {
-        match self.write_general(rt, seat, key, Want::Equal(number), Change::Remove) {
-            Ok(reply) => reply.matched,
-            Err(_) => unreachable!(),
-        }
+        self.set_on(rt, seat, key, Want::Equal(number), Change::Remove)
+            .matched
     }
 
     /// Goes on with `add`.
@@ -128,11 +121,56 @@ impl Map {
         seat: &mut Seat,
         key: Key,
         number: Num,
-    ) -> Gone
+    ) -> Gone<AddFault>
         requires own { IsMine self.now seat.old }
-        ensures { HasGoneOn self.now (add_of key number) seat.old seat.new (outcome_of_gone result) }
+        ensures { HasGoneOn self.now (add_of key number) seat.old seat.new
+            (found_or_refused (answer_of result)) }
     {
         Gone::of(self.write_general(rt, seat, key, Want::Any, Change::Add(number)))
+    }
+
+    /// Goes on with a write that puts no sum: it is refused only as full.
+    #[inline(always)]
+    fn put_on<R: Wait>(
+        &self,
+        rt: &R,
+        seat: &mut Seat,
+        key: Key,
+        want: Want,
+        change: Change,
+    ) -> Gone<Full>
+        requires own { IsMine self.now seat.old }
+        requires no_sum { CantOverflow (call.Write key want change) }
+        ensures { HasGoneOn self.now (call.Write key want change) seat.old seat.new
+            (found_or_full (answer_of result)) }
+    {
+        match self.write_general(rt, seat, key, want, change) {
+            Ok(reply) => Gone::of(Ok(reply)),
+            Err(AddFault::Full) => Gone::Refused(Full),
+            Err(AddFault::ValueRange) => unreachable!(),
+        }
+    }
+
+    /// Goes on with a write that puts no sum, and no number at an absent key: nothing refuses it.
+    #[inline(always)]
+    fn set_on<R: Wait>(
+        &self,
+        rt: &R,
+        seat: &mut Seat,
+        key: Key,
+        want: Want,
+        change: Change,
+    ) -> Reply
+        requires own { IsMine self.now seat.old }
+        requires no_sum { CantOverflow (call.Write key want change) }
+        requires fills_none { Fills (call.Write key want change) → ⊥ }
+        ensures { HasGoneOn self.now (call.Write key want change) seat.old seat.new
+            (Replied result) }
+    {
+        match self.write_general(rt, seat, key, want, change) {
+            Ok(reply) => reply,
+            Err(_) => unreachable!(),
+        }
     }
 
     /// Goes on with a write, and counts what it did to the number of keys.

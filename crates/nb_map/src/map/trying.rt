@@ -8,12 +8,12 @@ ghost use Rattle.nb_core.specs.declared.calls.Call.TheVariants as call;
 ghost use Rattle.nb_map.specs.Maps.{IsMine};
 ghost use Rattle.nb_map.specs.NamedCalls.{add_of, exchange_of, put_if_absent_of, put_of, remove_of};
 ghost use Rattle.nb_map.specs.Promises.{HasTriedToWrite, found_or_refused, replied_or_refused};
-ghost use Rattle.nb_map.specs.inside.Waiting.{HasTriedStraight};
+ghost use Rattle.nb_map.specs.inside.Waiting.{CantOverflow, HasTriedStraight, made_or_on};
 
 use crate::faults::PutFault;
 use crate::map::{Map, Seat};
 use crate::steps::pause::{NoPause, rest_if_lost};
-use crate::steps::write::write_straight;
+use crate::steps::write::{Straight, write_home};
 use nb_core::{Call, Change, Key, Num, Reply, Want};
 
 impl Map {
@@ -32,10 +32,10 @@ impl Map {
         ensures { HasTriedToWrite self.now (put_of key number) seat.old seat.new tries
             (found_or_refused result) }
     {
-        match self.try_straight(seat, key, Want::Any, Change::Put(number), tries) {
-            Ok(Ok(reply)) => Ok(reply.before),
-            Ok(Err(fault)) => Err(fault),
-            Err(left) => self.try_put_general(seat, key, number, left).answer(),
+        let mut left = tries;
+        match self.try_set(seat, key, Want::Any, Change::Put(number), &mut left) {
+            Some(reply) => Ok(reply.before),
+            None => self.try_put_general(seat, key, number, left).answer(),
         }
     }
 
@@ -54,10 +54,10 @@ impl Map {
         ensures { HasTriedToWrite self.now (put_if_absent_of key number) seat.old seat.new tries
             (found_or_refused result) }
     {
-        match self.try_straight(seat, key, Want::Absent, Change::Put(number), tries) {
-            Ok(Ok(reply)) => Ok(reply.before),
-            Ok(Err(fault)) => Err(fault),
-            Err(left) => self
+        let mut left = tries;
+        match self.try_set(seat, key, Want::Absent, Change::Put(number), &mut left) {
+            Some(reply) => Ok(reply.before),
+            None => self
                 .try_put_if_absent_general(seat, key, number, left)
                 .answer(),
         }
@@ -78,10 +78,11 @@ impl Map {
         ensures { HasTriedToWrite self.now (add_of key number) seat.old seat.new tries
             (found_or_refused result) }
     {
-        match self.try_straight(seat, key, Want::Any, Change::Add(number), tries) {
-            Ok(Ok(reply)) => Ok(reply.before),
-            Ok(Err(fault)) => Err(fault),
-            Err(left) => self.try_add_general(seat, key, number, left).answer(),
+        let mut left = tries;
+        match self.try_straight(seat, key, Want::Any, Change::Add(number), &mut left) {
+            Straight::Made(reply) => Ok(reply.before),
+            Straight::Overflow => Err(PutFault::ValueRange),
+            Straight::GoesOn => self.try_add_general(seat, key, number, left).answer(),
         }
     }
 
@@ -94,10 +95,10 @@ impl Map {
         ensures { HasTriedToWrite self.now (remove_of key) seat.old seat.new tries
             (found_or_refused result) }
     {
-        match self.try_straight(seat, key, Want::Any, Change::Remove, tries) {
-            Ok(Ok(reply)) => Ok(reply.before),
-            Ok(Err(fault)) => Err(fault),
-            Err(left) => self.try_remove_general(seat, key, left).answer(),
+        let mut left = tries;
+        match self.try_set(seat, key, Want::Any, Change::Remove, &mut left) {
+            Some(reply) => Ok(reply.before),
+            None => self.try_remove_general(seat, key, left).answer(),
         }
     }
 
@@ -129,10 +130,33 @@ impl Map {
         self.put_if_match(seat, key, want, change, tries)
     }
 
+    /// The straight way of a write that puts no sum: so it isn't refused there.
+    #[inline(always)]
+    fn try_set(
+        &self,
+        seat: &mut Seat,
+        key: Key,
+        want: Want,
+        change: Change,
+        tries: &mut u32,
+    ) -> Option<Reply>
+        requires own { IsMine self.now seat.old }
+        requires some { 1 ≤ tries.old }
+        requires no_sum { CantOverflow (call.Write key want change) }
+        ensures { HasTriedStraight self.now (call.Write key want change) seat.old seat.new
+            tries.old tries.new (made_or_on result) }
+    {
+        match self.try_straight(seat, key, want, change, tries) {
+            Straight::Made(reply) => Some(reply),
+            Straight::Overflow => unreachable!(),
+            Straight::GoesOn => None,
+        }
+    }
+
     /// The straight way of a write with so many tries, its first one, and the count of what it did
     /// to the number of keys. It rests where the loss of its try has shown that there is nothing
-    /// left to do, as of a put of the number that the other write has put. `Err` says that it has
-    /// to go on by the general way, and how many tries it has left for that, maybe none.
+    /// left to do, as of a put of the number that the other write has put. Where it has to go on by
+    /// the general way, its lost try is taken from the tries, of which maybe none is left.
     #[inline(always)]
     pub(super) fn try_straight(
         &self,
@@ -140,23 +164,26 @@ impl Map {
         key: Key,
         want: Want,
         change: Change,
-        tries: u32,
-    ) -> Result<Result<Reply, PutFault>, u32>
+        tries: &mut u32,
+    ) -> Straight
         requires own { IsMine self.now seat.old }
-        requires some { 1 ≤ tries }
-        ensures { HasTriedStraight self.now (call.Write key want change) seat.old seat.new tries
-            result }
+        requires some { 1 ≤ tries.old }
+        ensures { HasTriedStraight self.now (call.Write key want change) seat.old seat.new
+            tries.old tries.new result }
     {
         let call = Call::Write { key, want, change };
         let mut left = 1;
-        match write_straight(&self.chain, &mut seat.chain, &call, &mut left, &mut NoPause) {
-            Some(Ok(reply)) => {
+        match write_home(&self.chain, &mut seat.chain, &call, &mut left, &mut NoPause) {
+            Straight::Made(reply) => {
                 rest_if_lost(left);
                 self.count(&mut seat.count, &change, &reply);
-                Ok(Ok(reply))
+                Straight::Made(reply)
             }
-            Some(Err(fault)) => Ok(Err(PutFault::from(fault))),
-            None => Err(tries - (1 - left)),
+            Straight::Overflow => Straight::Overflow,
+            Straight::GoesOn => {
+                *tries -= 1 - left;
+                Straight::GoesOn
+            }
         }
     }
 }

@@ -9,13 +9,13 @@ ghost use Rattle.nb_core.specs.declared.calls.Call.TheVariants as call;
 ghost use Rattle.nb_map.specs.Maps.{IsMine};
 ghost use Rattle.nb_map.specs.NamedCalls.{add_of, put_if_absent_of, put_of, remove_if_of, remove_of, replace_if_of, replace_of};
 ghost use Rattle.nb_map.specs.Promises.{Found, HasWritten, Matched, found_or_full, found_or_refused};
-ghost use Rattle.nb_map.specs.inside.Waiting.{HasGoneStraight};
+ghost use Rattle.nb_map.specs.inside.Waiting.{CantOverflow, HasGoneStraight};
 
 use crate::faults::{AddFault, Full};
 use crate::map::{Map, Seat};
-use crate::steps::pause::{NoPause, rest_if_lost};
-use crate::steps::write::write_straight;
-use nb_core::{Call, Change, Key, Num, Reply, Want};
+use crate::steps::pause::rest_if_lost;
+use crate::steps::write::Straight;
+use nb_core::{Change, Key, Num, Reply, Want};
 use std::sync::Wait;
 
 impl Map {
@@ -39,14 +39,8 @@ impl Map {
         ensures { HasWritten self.now (put_of key number) seat.old seat.new (found_or_full result) }
     {
         match self.write_straight(seat, key, Want::Any, Change::Put(number)) {
-            Some(Ok(reply)) => Ok(reply.before),
-            Some(Err(AddFault::Full)) => Err(Full),
-            Some(Err(AddFault::ValueRange)) => unreachable!(),
-            None => match self.put_general(rt, seat, key, number).answer() {
-                Ok(found) => Ok(found),
-                Err(AddFault::Full) => Err(Full),
-                Err(AddFault::ValueRange) => unreachable!(),
-            },
+            Some(reply) => Ok(reply.before),
+            None => self.put_general(rt, seat, key, number).answer(),
         }
     }
 
@@ -64,14 +58,8 @@ impl Map {
             (found_or_full result) }
     {
         match self.write_straight(seat, key, Want::Absent, Change::Put(number)) {
-            Some(Ok(reply)) => Ok(reply.before),
-            Some(Err(AddFault::Full)) => Err(Full),
-            Some(Err(AddFault::ValueRange)) => unreachable!(),
-            None => match self.put_if_absent_general(rt, seat, key, number).answer() {
-                Ok(found) => Ok(found),
-                Err(AddFault::Full) => Err(Full),
-                Err(AddFault::ValueRange) => unreachable!(),
-            },
+            Some(reply) => Ok(reply.before),
+            None => self.put_if_absent_general(rt, seat, key, number).answer(),
         }
     }
 
@@ -82,8 +70,7 @@ impl Map {
         ensures { HasWritten self.now (replace_of key number) seat.old seat.new (Found result) }
     {
         match self.write_straight(seat, key, Want::Present, Change::Put(number)) {
-            Some(Ok(reply)) => reply.before,
-            Some(Err(_)) => unreachable!(),
+            Some(reply) => reply.before,
             None => self.replace_general(rt, seat, key, number),
         }
     }
@@ -96,8 +83,7 @@ impl Map {
             (Matched result) }
     {
         match self.write_straight(seat, key, Want::Equal(old), Change::Put(new)) {
-            Some(Ok(reply)) => reply.matched,
-            Some(Err(_)) => unreachable!(),
+            Some(reply) => reply.matched,
             None => self.replace_if_general(rt, seat, key, old, new),
         }
     }
@@ -109,8 +95,7 @@ impl Map {
         ensures { HasWritten self.now (remove_of key) seat.old seat.new (Found result) }
     {
         match self.write_straight(seat, key, Want::Any, Change::Remove) {
-            Some(Ok(reply)) => reply.before,
-            Some(Err(_)) => unreachable!(),
+            Some(reply) => reply.before,
             None => self.remove_general(rt, seat, key),
         }
     }
@@ -122,8 +107,7 @@ impl Map {
         ensures { HasWritten self.now (remove_if_of key number) seat.old seat.new (Matched result) }
     {
         match self.write_straight(seat, key, Want::Equal(number), Change::Remove) {
-            Some(Ok(reply)) => reply.matched,
-            Some(Err(_)) => unreachable!(),
+            Some(reply) => reply.matched,
             None => self.remove_if_general(rt, seat, key, number),
         }
     }
@@ -141,37 +125,31 @@ impl Map {
         ensures { HasWritten self.now (add_of key number) seat.old seat.new
             (found_or_refused result) }
     {
-        match self.write_straight(seat, key, Want::Any, Change::Add(number)) {
-            Some(Ok(reply)) => Ok(reply.before),
-            Some(Err(fault)) => Err(fault),
-            None => self.add_general(rt, seat, key, number).answer(),
+        let mut left = 1;
+        match self.try_straight(seat, key, Want::Any, Change::Add(number), &mut left) {
+            Straight::Made(reply) => Ok(reply.before),
+            Straight::Overflow => Err(AddFault::ValueRange),
+            Straight::GoesOn => {
+                rest_if_lost(left);
+                self.add_general(rt, seat, key, number).answer()
+            }
         }
     }
 
-    /// The straight way of a write, which rests where it loses its try, and the count of what it
-    /// did to the number of keys. Its condition and its change are known in each call that uses it,
-    /// and so what is left of it there is short.
+    /// The straight way of a write that puts no sum: so it isn't refused there. It rests where it
+    /// loses its try. Its condition and its change are known in each call that uses it, and so what
+    /// is left of it there is short.
     #[inline(always)]
-    fn write_straight(
-        &self,
-        seat: &mut Seat,
-        key: Key,
-        want: Want,
-        change: Change,
-    ) -> Option<Result<Reply, AddFault>>
+    fn write_straight(&self, seat: &mut Seat, key: Key, want: Want, change: Change) -> Option<Reply>
         requires own { IsMine self.now seat.old }
+        requires no_sum { CantOverflow (call.Write key want change) }
         ensures { HasGoneStraight self.now (call.Write key want change) seat.old seat.new result }
     {
-        let call = Call::Write { key, want, change };
         let mut left = 1;
-        match write_straight(&self.chain, &mut seat.chain, &call, &mut left, &mut NoPause) {
-            Some(Ok(reply)) => {
-                rest_if_lost(left);
-                self.count(&mut seat.count, &change, &reply);
-                Some(Ok(reply))
-            }
-            Some(Err(fault)) => Some(Err(fault)),
-            None => {
+        match self.try_straight(seat, key, want, change, &mut left) {
+            Straight::Made(reply) => Some(reply),
+            Straight::Overflow => unreachable!(),
+            Straight::GoesOn => {
                 rest_if_lost(left);
                 None
             }

@@ -11,7 +11,7 @@ ghost use Rattle.nb_map.specs.inside.Climbing.{IsAbove, IsAtSlot, IsSpent, IsTri
 use crate::faults::PutFault;
 use crate::steps::decide::{Decision, decide};
 use crate::steps::pause::Pause;
-use crate::steps::rung::{Below, Visit};
+use crate::steps::rung::{Attempt, Below, Visit};
 use nb_copy::copy_and_count;
 use nb_core::{Call, Num, Reply, Slot, ValueWord};
 use nb_table::{Chain, ChainSeat};
@@ -38,8 +38,10 @@ pub(crate) fn call_at<P: Pause>(
     ensures serves { P.serves pause.new chain.now }
 {
     match try_at(chain, seat, call, slot, tries, pause) {
-        Ok(visit) => visit,
-        Err(word) => {
+        Attempt::Told(reply) => Visit::Told(reply),
+        Attempt::Overflow => Visit::Refused(PutFault::ValueRange),
+        Attempt::Lost => Visit::Refused(PutFault::Contended),
+        Attempt::Copied(word) => {
             pass_slot(chain, seat, slot, word);
             Visit::Above(Below::HasKey)
         }
@@ -48,8 +50,7 @@ pub(crate) fn call_at<P: Pause>(
 
 /// The same as far as the slot goes. What the slot's value shows decides the call, by a load or by
 /// an exchange that was lost; or the call exchanges that value, and takes one from its tries for
-/// each exchange that it loses to another write. `Err` has the value's word where the slot is being
-/// copied.
+/// each exchange that it loses to another write.
 #[inline(always)]
 pub(crate) fn try_at<P: Pause>(
     chain: &Chain,
@@ -58,7 +59,7 @@ pub(crate) fn try_at<P: Pause>(
     slot: Slot,
     tries: &mut u32,
     pause: &mut P,
-) -> Result<Visit, ValueWord>
+) -> Attempt
     requires at { IsAtSlot chain.now call.now seat.old slot }
     requires some { 1 ≤ tries.old }
     requires serves { P.serves pause.old chain.now }
@@ -72,20 +73,20 @@ pub(crate) fn try_at<P: Pause>(
     let mut from = chain.load_value_word_at(seat, slot, Some(*call));
     while let Some(number) = from.shows() {
         match decide(call, &number, &Some(from)) {
-            Decision::Leave(reply) => return Ok(Visit::Told(reply)),
-            Decision::Overflow => return Ok(Visit::Refused(PutFault::ValueRange)),
+            Decision::Leave(reply) => return Attempt::Told(reply),
+            Decision::Overflow => return Attempt::Overflow,
             Decision::Exchange(to) => {
                 pause.before_exchange(chain);
                 let Err(found) = chain.win_value_at(seat, slot, *call, from, to) else {
-                    return Ok(Visit::Told(Reply {
+                    return Attempt::Told(Reply {
                         before: number,
                         matched: true,
-                    }));
+                    });
                 };
                 if let Some(shown) = found.shows() {
                     *tries -= 1;
                     if *tries == 0 {
-                        return Ok(without_tries(call, &shown));
+                        return without_tries(call, &shown);
                     }
                     pause.after_loss(chain);
                 }
@@ -93,17 +94,17 @@ pub(crate) fn try_at<P: Pause>(
             }
         }
     }
-    Err(from)
+    Attempt::Copied(from)
 }
 
 /// What a call comes to that has lost its last try, and has found this number at its key, or none.
 #[inline(always)]
-fn without_tries(call: &Call, found: &Option<Num>) -> Visit
+fn without_tries(call: &Call, found: &Option<Num>) -> Attempt
     ensures { IsWithoutTries call.now found.now result }
 {
     match decide(call, found, &None) {
-        Decision::Leave(reply) => Visit::Told(reply),
-        _ => Visit::Refused(PutFault::Contended),
+        Decision::Leave(reply) => Attempt::Told(reply),
+        _ => Attempt::Lost,
     }
 }
 

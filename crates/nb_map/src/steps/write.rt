@@ -1,5 +1,5 @@
 //! Where a write begins: at its key's home slot in the table that the seat remembers.
-ghost use Rattle.std.specs.Prelude.{IfErr, IsTrue, [], false, min, ◌+◌, ◌-◌, ◌<◌, ◌≡◌, ◌≢◌, ◌≤◌};
+ghost use Rattle.std.specs.Prelude.{IfErr, IsTrue, [], false, min, ◌+◌, ◌<◌, ◌≡◌, ◌≢◌, ◌≤◌};
 ghost use Rattle.nb_core.specs.Calls.{Fills};
 ghost use Rattle.nb_core.specs.History.{key_of_call};
 ghost use Rattle.nb_core.specs.declared.calls.Call.TheVariants as call;
@@ -9,21 +9,32 @@ ghost use Rattle.nb_map.specs.Calling.{HasMade};
 ghost use Rattle.nb_map.specs.Logs.{made_in};
 ghost use Rattle.nb_map.specs.Progress.{IsAtHome, IsHomeSlot, IsLastSeen, IsShortAtHome, passed_since};
 ghost use Rattle.nb_map.specs.Refusals.{IsJust, IsJustAdd};
-ghost use Rattle.nb_map.specs.Steps.{home_steps, put_steps};
-ghost use Rattle.nb_map.specs.inside.Climbing.{IsAt, IsSpent, rung_at};
+ghost use Rattle.nb_map.specs.Steps.{put_steps};
+ghost use Rattle.nb_map.specs.inside.Climbing.{IsAt, rung_at};
 ghost use Rattle.nb_map.specs.inside.Waiting.{HasClimbed, HasClimbedWith, HasTriedAtHome};
-ghost use Rattle.nb_map.specs.inside.Writing.{IsHomeOf, IsShortThere, IsToldAtHome, made_at_home};
+ghost use Rattle.nb_map.specs.inside.Writing.{IsHomeOf};
 
 use crate::faults::{AddFault, PutFault};
 use crate::steps::claim::has_next;
 use crate::steps::climb::climb;
 use crate::steps::decide::{Decision, decide};
 use crate::steps::pause::{Pause, Rest};
-use crate::steps::rung::{Rung, Visit};
+use crate::steps::rung::{Attempt, Rung};
 use crate::steps::slot::try_at;
 use nb_core::{Call, Change, Key, KeyState, KeyWord, Reply, Slot, Want};
 use nb_table::{Chain, ChainSeat};
 use std::sync::Wait;
+
+/// What the straight way of a write comes to.
+#[derive(Clone, Copy)]
+pub(crate) enum Straight {
+    /// It is made, and this is its reply.
+    Made(Reply),
+    /// It would put a number past the greatest one, and is refused.
+    Overflow,
+    /// It has to go on by the general way.
+    GoesOn,
+}
 
 /// Changes what the map has at a key, where the condition holds of it, and replies what it had. An
 /// exchange that another seat came before is tried again, so many times in all: first at the key's
@@ -55,10 +66,10 @@ pub fn put_if_match_in<P: Pause>(
 {
     let call = Call::Write { key, want, change };
     let mut left = 1;
-    match write_straight(chain, seat, &call, &mut left, pause) {
-        Some(Ok(reply)) => Ok(reply),
-        Some(Err(fault)) => Err(PutFault::from(fault)),
-        None => {
+    match write_home(chain, seat, &call, &mut left, pause) {
+        Straight::Made(reply) => Ok(reply),
+        Straight::Overflow => Err(PutFault::ValueRange),
+        Straight::GoesOn => {
             if left == 0 && 1 < tries {
                 pause.after_loss(chain);
             }
@@ -67,30 +78,43 @@ pub fn put_if_match_in<P: Pause>(
     }
 }
 
-/// The straight way of a write: its first try, at its key's home slot, and whether that is left.
-/// `None` says that it has to go on by the general way.
+/// The straight way of a write: its first try, at its key's home slot in the table that its seat
+/// remembers as the top one, and whether that try is left. The write is made there if the slot is
+/// its key's; if it is empty and the write leaves an absent key alone; or if it is empty and can be
+/// claimed for the key. No loop over slots or tables is on this way, so that it can stand in the
+/// code of the call.
 #[inline(always)]
-pub(crate) fn write_straight<P: Pause>(
+#[tactic(auto, using(nb_core::proofs::Theorems::linked))]
+pub(crate) fn write_home<P: Pause>(
     chain: &Chain,
     seat: &mut ChainSeat,
     call: &Call,
     left: &mut u32,
     pause: &mut P,
-) -> Option<Result<Reply, AddFault>>
+) -> Straight
     requires own { IsOwn chain.now seat.old }
     requires serves { P.serves pause.old chain.now }
     ensures tried { HasTriedAtHome chain.now call.now seat.old seat.new left.new result }
     ensures left { left.new ≤ 1 }
     ensures serves { P.serves pause.new chain.now }
 {
-    let known = seat.known_top();
+    let top = seat.known_top();
+    let home = chain.shape().path(top, call.key()).slot(0);
     *left = 1;
-    match write_home(chain, seat, call, known, left, pause) {
-        Some(Ok(reply)) => Some(Ok(reply)),
-        Some(Err(PutFault::Full)) => Some(Err(AddFault::Full)),
-        Some(Err(PutFault::ValueRange)) => Some(Err(AddFault::ValueRange)),
-        Some(Err(PutFault::Contended)) => None,
-        None => None,
+    let word = chain.load_key_word_at(seat, home, Some(*call));
+    if is_free(word, call.key()) {
+        if let Decision::Leave(reply) = decide(call, &None, &None) {
+            return Straight::Made(reply);
+        }
+    }
+    if !has_home(chain, seat, call, home, word) {
+        return Straight::GoesOn;
+    }
+    match try_at(chain, seat, call, home, left, pause) {
+        Attempt::Told(reply) => Straight::Made(reply),
+        Attempt::Overflow => Straight::Overflow,
+        Attempt::Lost => Straight::GoesOn,
+        Attempt::Copied(_) => Straight::GoesOn,
     }
 }
 
@@ -166,52 +190,6 @@ fn write_rounds<R: Wait>(
         }
     }
     unreachable!()
-}
-
-/// The straight way of a write, at its key's home slot in the table that its seat remembers as the
-/// top one. The write is made there if the slot is its key's; if it is empty and the write leaves
-/// an absent key alone; or if it is empty and can be claimed for the key. `None` says that the
-/// write has to look further. No loop over slots or tables is on this way, so that it can stand in
-/// the code of the call.
-#[inline(always)]
-#[tactic(auto, using(nb_core::proofs::Theorems::linked))]
-fn write_home<P: Pause>(
-    chain: &Chain,
-    seat: &mut ChainSeat,
-    call: &Call,
-    top: u32,
-    tries: &mut u32,
-    pause: &mut P,
-) -> Option<Result<Reply, PutFault>>
-    requires at { IsAt chain.now call.now seat.old (rung_at top) }
-    requires some { 1 ≤ tries.old }
-    requires serves { P.serves pause.old chain.now }
-    ensures made { HasMade chain.now.shape call.now seat.old seat.new
-        (made_at_home call.now result)
-        (home_steps + (tries.old - tries.new)) }
-    ensures told { IsToldAtHome chain.now.shape call.now seat.old seat.new tries.old tries.new
-        result }
-    ensures spent { IsSpent call.now seat.old seat.new tries.old tries.new }
-    ensures looked { seat.old.steps < seat.new.steps }
-    ensures short { IsShortThere chain.now.shape top call.now seat.old seat.new result }
-    ensures serves { P.serves pause.new chain.now }
-{
-    let home = chain.shape().path(top, call.key()).slot(0);
-    let word = chain.load_key_word_at(seat, home, Some(*call));
-    if is_free(word, call.key()) {
-        if let Decision::Leave(reply) = decide(call, &None, &None) {
-            return Some(Ok(reply));
-        }
-    }
-    if !has_home(chain, seat, call, home, word) {
-        return None;
-    }
-    match try_at(chain, seat, call, home, tries, pause) {
-        Ok(Visit::Told(reply)) => Some(Ok(reply)),
-        Ok(Visit::Refused(fault)) => Some(Err(fault)),
-        Ok(Visit::Above(_)) => unreachable!(),
-        Err(_) => None,
-    }
 }
 
 /// Whether the slot is empty. It is first asked whether it is the key's, as it is mostly.

@@ -1,5 +1,5 @@
 use Rattle.nb_map.proofs.Away.{tried_on}
 use Rattle.nb_map.proofs.map.Map.try_put_if_absent.Goals as goal
 
-pub returns-in-Err : goal.returns-in-Err
-returns-in-Err c = tried_on c.in-Err.ensures _ (rw c.answer.ensures c.try_put_if_absent_general.ensures)
+pub returns-in-None : goal.returns-in-None
+returns-in-None c = tried_on c.in-None.ensures _ (rw c.answer.ensures c.try_put_if_absent_general.ensures)

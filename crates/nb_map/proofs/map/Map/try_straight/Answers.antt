@@ -2,25 +2,24 @@ use Rattle.std.proofs.Common.{◌-◌, ap, arith, refl, subst₂, sym}
 use Rattle.std.proofs.lemmas.Int.{ints}
 use Rattle.nb_core.specs.declared.calls.Call.TheVariants as call
 use Rattle.nb_map.proofs.AtHome.{put-rises}
-use Rattle.nb_map.proofs.Away.{just-told}
 use Rattle.nb_map.proofs.Counted.{kept-mine, uncounted-mine}
 use Rattle.nb_map.proofs.Logged.{logged, worked-uncounted}
 use Rattle.nb_map.proofs.Made.{made-within}
 use Rattle.nb_map.specs.Maps.{IsMine, SeatOf}
 use Rattle.nb_map.specs.Promises.{HasTriedToWrite, Refused, Replied}
-use Rattle.nb_map.specs.Refusals.{as_put_fault}
+use Rattle.nb_map.specs.declared.faults.PutFault.TheVariants.{ValueRange}
 use Rattle.nb_map.specs.inside.Models.{map_within}
 use Rattle.nb_map.specs.inside.Waiting.{IsAwayWith}
 use Rattle.nb_map.proofs.map.Map.try_straight.Goals as goal
 
-pub returns-in-Some-Ok : goal.returns-in-Some-Ok
-returns-in-Some-Ok c =
+pub returns-in-Made : goal.returns-in-Made
+returns-in-Made c =
     let mine = subst₂ IsMine (sym c.self.view_is) (sym c.seat.view_is) c.requires.own in
-    let after : SeatOf = record { chain = c.write_straight.new.seat; count = c.count.new.seat } in
+    let after : SeatOf = record { chain = c.write_home.new.seat; count = c.count.new.seat } in
     let write = call.Write c.args.key c.args.want c.args.change in
-    let made = rw c.in-Some-Ok.field-0-is at c.in-Some-Ok.ensures.tried.made in
+    let made = c.in-Made.ensures.tried.made in
     let added = ap (λ count. count.added) c.count.ensures in
-    subst₂ (λ map before. HasTriedToWrite map write before after c.args.tries (Replied c.in-Some-Ok.reply))
+    subst₂ (λ map before. HasTriedToWrite map write before after c.args.tries.now (Replied c.in-Made.reply))
     c.self.view_is c.seat.view_is
     (record {
       answered = logged {after = after} mine made;
@@ -32,49 +31,45 @@ returns-in-Some-Ok c =
         net = _;
         count = c.count.ensures;
       };
-      short = c.in-Some-Ok.ensures.tried.short;
+      short = c.in-Made.ensures.tried.short;
       own = kept-mine {after = after} mine made (ap (λ count. count.counter) c.count.ensures)
           (omega (arith, ints, added));
     })
 
-pub returns-in-Some-Err : goal.returns-in-Some-Err
-returns-in-Some-Err c =
+pub returns-in-Overflow : goal.returns-in-Overflow
+returns-in-Overflow c =
     let mine = subst₂ IsMine (sym c.self.view_is) (sym c.seat.view_is) c.requires.own in
-    let after : SeatOf = record { chain = c.write_straight.new.seat; count = c.seat.inside.count } in
+    let after : SeatOf = record { chain = c.write_home.new.seat; count = c.seat.inside.count } in
     let write = call.Write c.args.key c.args.want c.args.change in
-    let made = rw c.in-Some-Err.field-0-is at c.in-Some-Err.ensures.tried.made in
-    rw c.from.ensures
-    (subst₂ (λ map before. HasTriedToWrite map write before after c.args.tries
-    (Refused (as_put_fault c.in-Some-Err.fault)))
+    let made = c.in-Overflow.ensures.tried.made in
+    subst₂ (λ map before. HasTriedToWrite map write before after c.args.tries.now (Refused ValueRange))
     c.self.view_is c.seat.view_is
     (record {
       answered = record {
         unmade = logged {after = after} mine made;
-        just = just-told (map_within c.self.inside).chain.shape write c.seat.inside.chain
-            c.write_straight.new.seat c.args.tries c.in-Some-Err.fault
-            (rw c.in-Some-Err.field-0-is at c.in-Some-Err.ensures.tried.refused);
-        looked = c.in-Some-Err.ensures.tried.looked;
+        just = c.in-Overflow.ensures.tried.refused;
+        looked = c.in-Overflow.ensures.tried.looked;
       };
       wait_free = worked-uncounted {after = after}
           (made-within _ _ (put-rises (map_within c.self.inside).chain.shape 1 _ (omega (arith, c.requires.some))) made) refl;
-      short = c.in-Some-Err.ensures.tried.short;
+      short = c.in-Overflow.ensures.tried.short;
       own = uncounted-mine {after = after} mine made refl refl;
-    }))
+    })
 
-pub returns-in-None : goal.returns-in-None
-returns-in-None c =
+pub returns-in-GoesOn : goal.returns-in-GoesOn
+returns-in-GoesOn c =
     let mine = subst₂ IsMine (sym c.self.view_is) (sym c.seat.view_is) c.requires.own in
-    let after : SeatOf = record { chain = c.write_straight.new.seat; count = c.seat.inside.count } in
+    let after : SeatOf = record { chain = c.write_home.new.seat; count = c.seat.inside.count } in
     let write = call.Write c.args.key c.args.want c.args.change in
-    subst₂ (λ map before. IsAwayWith map write before after c.args.tries
-    (c.args.tries - (1 - c.write_straight.new.left))) c.self.view_is c.seat.view_is
+    subst₂ (λ map before. IsAwayWith map write before after c.args.tries.now
+    (c.args.tries.now - (1 - c.write_home.new.left))) c.self.view_is c.seat.view_is
     (record {
       away = record {
         mine = mine;
-        lost = 1 - c.write_straight.new.left;
-        looked = c.in-None.ensures.tried;
+        lost = 1 - c.write_home.new.left;
+        looked = c.in-GoesOn.ensures.tried;
         count = refl;
-        own = uncounted-mine {after = after} mine c.in-None.ensures.tried.made refl refl;
+        own = uncounted-mine {after = after} mine c.in-GoesOn.ensures.tried.made refl refl;
       };
-      all = omega (arith, c.requires.some, c.in-None.ensures.left);
+      all = omega (arith, c.requires.some, c.in-GoesOn.ensures.left);
     })

@@ -1,4 +1,5 @@
-use Rattle.std.proofs.Common.{◌≡◌, ◌∙◌, ◌+◌, ◌<◌, ◌≤◌, ℕ, IsTrue, cond, List, [], ◌∷◌, None, Some, Result, ap, refl, subst, sym, arith, rules}
+use Rattle.std.proofs.Common.{◌≡◌, ◌∙◌, ◌+◌, ◌-◌, ◌<◌, ◌≤◌, ℕ, IsTrue, cond, List, [], ◌∷◌, None, Some, Result, Ok, Err, ap, inl, inr, refl, subst, sym, arith, rules}
+use Rattle.std.specs.Prelude.{IfErr}
 use Rattle.std.proofs.lemmas.Nat.{pow_pos}
 use Rattle.nb_core.specs.Calls.{Fills}
 use Rattle.nb_core.specs.History.{key_of_call}
@@ -10,12 +11,16 @@ use Rattle.nb_core.specs.declared.slot_paths.Slot.{Slot}
 use Rattle.nb_core.specs.declared.states.KeyState.TheVariants.{Claimed, Empty}
 use Rattle.nb_table.specs.Chains.{Extended, SeenBy, seen_by}
 use Rattle.nb_table.specs.Events.{read, shown_by_key}
-use Rattle.nb_map.specs.Logs.{as_replied}
 use Rattle.nb_map.specs.Calling.{HasMade}
 use Rattle.nb_map.specs.Progress.{IsAloneAtHome, IsAtHome, IsKnownHome, IsLastSeen}
-use Rattle.nb_map.specs.declared.faults.PutFault.{PutFault}
-use Rattle.nb_map.specs.inside.Climbing.{rung_at}
-use Rattle.nb_map.specs.inside.Writing.{IsDecided, IsShortThere}
+use Rattle.nb_map.specs.Logs.{as_replied, made_in}
+use Rattle.nb_map.specs.Refusals.{IsJustAdd}
+use Rattle.nb_map.specs.declared.faults.AddFault.TheVariants.{ValueRange}
+use Rattle.nb_map.specs.declared.faults.AddFault.{AddFault}
+use Rattle.nb_map.specs.inside.Climbing.{IsAt, IsSpent, rung_at}
+use Rattle.nb_map.specs.inside.Waiting.{HasBeenTold, HasLookedInVain}
+use Rattle.nb_map.specs.inside.Writing.{IsDecided}
+use Rattle.nb_map.proofs.Straight.{at-known, in-vain, told-there}
 use Rattle.nb_map.proofs.HomeSlot.{made-look, own-slot}
 use Rattle.nb_map.proofs.Tried.{acts-unless}
 use Rattle.nb_map.proofs.Home.{primed-away}
@@ -23,7 +28,7 @@ use Rattle.nb_map.proofs.Made.{made-none, made-read, made-within}
 use Rattle.nb_map.proofs.OnPath.{at-home, found-on_path, load-on_path, slot-is, slot-of_path, slot-on_path, slot-reached}
 use Rattle.nb_map.proofs.Rungs.{at-stays, slot-stays}
 use Rattle.nb_map.proofs.Searched.{made-then}
-use Rattle.nb_map.proofs.Spent.{passed-sum, refused-longer, spent-none, spent-sooner}
+use Rattle.nb_map.proofs.Spent.{passed-sum, spent-none, spent-sooner}
 use Rattle.nb_map.proofs.steps.write.write_home.Given.{Over}
 use Rattle.nb_map.proofs.steps.write.write_home.Goals as goal
 use Rattle.nb_map.proofs.steps.write.write_home.Goals.{After-has_home, then-is_free+in_default, else-is_free}
@@ -38,50 +43,59 @@ load_key_word_at-word-requires-clause-slot g c =
 pub load_key_word_at-word-requires-clause-reached :
     goal.load_key_word_at-word-requires-clause-reached
 load_key_word_at-word-requires-clause-reached g c =
-    slot-reached c.args.chain.now c.requires.at
+    slot-reached c.args.chain.now
+    (at-known c.args.chain.now c.known_top-top.result c.requires.own c.known_top-top.ensures c.args.call.now)
     (slot-of_path c.shape.ensures c.key.ensures c.path.ensures c.slot-home.ensures)
 
 pub load_key_word_at-word-requires-clause-on_path :
     goal.load_key_word_at-word-requires-clause-on_path
 load_key_word_at-word-requires-clause-on_path g c =
-    slot-on_path c.args.chain.now c.requires.at
+    slot-on_path c.args.chain.now
+    (at-known c.args.chain.now c.known_top-top.result c.requires.own c.known_top-top.ensures c.args.call.now)
     (slot-of_path c.shape.ensures c.key.ensures c.path.ensures c.slot-home.ensures)
     (pow_pos _)
 
 pub returns-in-Leave : goal.returns-in-Leave
 returns-in-Leave g c =
-    let p = c.args.chain.now.shape in
+    let chain = c.args.chain.now in
+    let p = chain.shape in
     let call = c.args.call.now in
     let old = c.args.seat.now in
     let left = subst (IsDecided call None) c.in-Leave.is c.decide.ensures in
     let empty = c.is_free.ensures.yes c.if-is_free.true in
     let load = (steps_add_up.one c.load_key_word_at-word.ensures.grows).steps in
-    let home = path_slot p c.args.top (key_of_call call) 0 in
+    let home = path_slot p c.known_top-top.result (key_of_call call) 0 in
     let shown = load-on_path call c.load_key_word_at-word.result
     (slot-of_path c.shape.ensures c.key.ensures c.path.ensures c.slot-home.ensures)
     c.load_key_word_at-word.ensures.grows in
+    let told : Result Reply AddFault = Ok c.in-Leave.reply in
     record {
-      made = made-within 1 _ (omega arith)
+      tried = told-there chain c.known_top-top.result c.requires.own c.known_top-top.ensures 1
+          told
+          (made-within 1 _ (omega arith)
           (subst (λ made. HasMade p call old c.load_key_word_at-word.new.seat made 1)
           (ap (λ b. cond b (as_replied call None) []) left.0
           ∙ ap (λ r. (call, r) ∷ []) (sym left.1))
           (made-read p call (Some None)
           (subst (λ s. Extended p old c.load_key_word_at-word.new.seat (read old.number call
-          (shown_by_key p c.args.top home s (key_of_call call))) 1) empty shown)));
-      told = tt;
-      spent = spent-none call old c.load_key_word_at-word.new.seat c.args.tries.now;
-      looked = omega (arith, load);
-      short = record {
-        known = λ alone known. (refl, omega (arith, load));
-        claimed = λ alone last. (refl, omega (arith, load));
-      };
+          (shown_by_key p c.known_top-top.result home s (key_of_call call))) 1) empty shown))))
+          tt (omega (arith, load)) (λ alone known. omega (arith, load))
+          (λ alone last. omega (arith, load));
+      left = omega arith;
       serves = c.requires.serves;
     }
+
+-- where it looks
+at :
+    (g : Over) (c : After-has_home g)
+    → IsAt c.args.chain.now c.args.call.now c.args.seat.now (rung_at c.known_top-top.result)
+at g c =
+    at-known c.args.chain.now c.known_top-top.result c.requires.own c.known_top-top.ensures c.args.call.now
 
 -- the slot's place on the path
 place :
     (g : Over) (c : After-has_home g)
-    → IsOnPathAt c.args.chain.now.shape c.args.top (key_of_call c.args.call.now) 0 c.slot-home.result
+    → IsOnPathAt c.args.chain.now.shape c.known_top-top.result (key_of_call c.args.call.now) 0 c.slot-home.result
 place g c = slot-of_path c.shape.ensures c.key.ensures c.path.ensures c.slot-home.ensures
 
 pub has_home-requires-clause-home : goal.has_home-requires-clause-home
@@ -89,18 +103,19 @@ has_home-requires-clause-home g c =
     let p = c.args.chain.now.shape in
     let seen = seen_by p c.load_key_word_at-word.new.seat in
     let load = steps_add_up.one c.load_key_word_at-word.ensures.grows in
-    let lasting = steps_add_up.stays c.requires.at.own load in
-    let table = c.requires.at.table in
-    let place : IsOnPathAt p c.args.top (key_of_call c.args.call.now) 0 c.slot-home.result =
+    let lasting = steps_add_up.stays c.requires.own load in
+    let at = at-known c.args.chain.now c.known_top-top.result c.requires.own c.known_top-top.ensures c.args.call.now in
+    let table = at.table in
+    let place : IsOnPathAt p c.known_top-top.result (key_of_call c.args.call.now) 0 c.slot-home.result =
     slot-of_path c.shape.ensures c.key.ensures c.path.ensures c.slot-home.ensures in
     record {
-      own = steps_add_up.own c.requires.at.own load;
+      own = steps_add_up.own c.requires.own load;
       slot = place.placed;
       is = slot-is place;
       installed = subst (λ (home : Slot). IsInstalled seen home.g) (sym place.is)
-          (lasting.installed c.args.top c.requires.at.reached.installed);
+          (lasting.installed c.known_top-top.result at.reached.installed);
       ready = subst (λ (home : Slot). IsReady p seen home.g) (sym place.is)
-          (lasting.ready c.args.top table c.requires.at.known);
+          (lasting.ready c.known_top-top.result table at.known);
     }
 
 -- ---- the slot is the key's, or is claimed for it
@@ -114,13 +129,13 @@ fills g c empty = elim c.if-is_free.branch [
 ]
 
 abbrev home : (g : Over) (c : After-has_home g) → ℕ
-home g c = path_slot c.args.chain.now.shape c.args.top (key_of_call c.args.call.now) 0
+home g c = path_slot c.args.chain.now.shape c.known_top-top.result (key_of_call c.args.call.now) 0
 
 -- what the load showed
 shown :
     (g : Over) (c : After-has_home g)
     → Extended c.args.chain.now.shape c.args.seat.now c.load_key_word_at-word.new.seat
-    (read c.args.seat.now.number c.args.call.now (shown_by_key c.args.chain.now.shape c.args.top
+    (read c.args.seat.now.number c.args.call.now (shown_by_key c.args.chain.now.shape c.known_top-top.result
     (home g c) c.load_key_word_at-word.result (key_of_call c.args.call.now))) 1
 shown g c =
     load-on_path c.args.call.now c.load_key_word_at-word.result (place g c)
@@ -128,7 +143,7 @@ shown g c =
 
 found :
     (g : Over) (c : After-has_home g)
-    → (seen_by c.args.chain.now.shape c.load_key_word_at-word.new.seat).key c.args.top (home g c)
+    → (seen_by c.args.chain.now.shape c.load_key_word_at-word.new.seat).key c.known_top-top.result (home g c)
     ≡ c.load_key_word_at-word.result
 found g c =
     found-on_path (seen_by c.args.chain.now.shape c.load_key_word_at-word.new.seat)
@@ -139,8 +154,8 @@ looked :
     (g : Over) (c : After-has_home g)
     → HasMade c.args.chain.now.shape c.args.call.now c.args.seat.now c.has_home.new.seat [] 3
 looked g c =
-    made-look c.args.chain.now (rung_at c.args.top) (home g c) c.load_key_word_at-word.result
-    c.requires.at refl (shown g c) (found g c) (fills g c) c.has_home.ensures.made
+    made-look c.args.chain.now (rung_at c.known_top-top.result) (home g c) c.load_key_word_at-word.result
+    (at g c) refl (shown g c) (found g c) (fills g c) c.has_home.ensures.made
 
 -- and one step was made at least
 looked-on :
@@ -159,12 +174,12 @@ looked-on g c made =
 one-step :
     (g : Over) (c : After-has_home g) {after : SeenBy} {calls : List (Call × Reply)} {most : ℕ}
     → HasMade c.args.chain.now.shape c.args.call.now c.has_home.new.seat after calls most
-    → IsAloneAtHome c.args.chain.now.shape c.args.top c.args.call.now c.args.seat.now after
-    → IsKnownHome c.args.chain.now.shape c.args.top c.args.call.now c.args.seat.now
+    → IsAloneAtHome c.args.chain.now.shape c.known_top-top.result c.args.call.now c.args.seat.now after
+    → IsKnownHome c.args.chain.now.shape c.known_top-top.result c.args.call.now c.args.seat.now
     → IsTrue c.has_home.result × (c.has_home.new.seat.steps ≤ c.args.seat.now.steps + 1)
 one-step g c made alone known =
-    let word = own-slot c.args.chain.now (rung_at c.args.top) (home g c)
-    c.load_key_word_at-word.result c.requires.at refl (shown g c) (found g c) (fills g c)
+    let word = own-slot c.args.chain.now (rung_at c.known_top-top.result) (home g c)
+    c.load_key_word_at-word.result (at g c) refl (shown g c) (found g c) (fills g c)
     c.has_home.ensures.made made alone known in
     let kept = c.has_home.ensures.kept word in
     let load = (steps_add_up.one c.load_key_word_at-word.ensures.grows).steps in
@@ -173,74 +188,63 @@ one-step g c made alone known =
     (kept.0, omega (arith, load, same))
 
 -- with the call at the slot, three steps, and five where it was claimed
-slot-short :
-    (g : Over) (c : After-has_home g) {after : SeenBy} {calls : List (Call × Reply)} {lost : ℕ}
-    (told : Result Reply PutFault)
-    → HasMade c.args.chain.now.shape c.args.call.now c.has_home.new.seat after calls (2 + lost)
-    → (IsAloneAtHome c.args.chain.now.shape c.args.top c.args.call.now c.args.seat.now after
-    → lost ≡ 0)
-    → IsShortThere c.args.chain.now.shape c.args.top c.args.call.now c.args.seat.now after
-    (Some told)
-slot-short g c told made none =
+told-here :
+    (g : Over) (c : After-has_home g) {after : SeenBy} {left : ℕ} (told : Result Reply AddFault)
+    → HasMade c.args.chain.now.shape c.args.call.now c.has_home.new.seat after
+    (made_in c.args.call.now told) (2 + (1 - left))
+    → IsSpent c.args.call.now c.has_home.new.seat after 1 left
+    → IfErr told (IsJustAdd c.args.chain.now.shape c.args.call.now after)
+    → HasBeenTold c.args.chain.now.shape c.args.call.now c.args.seat.now after told
+told-here g c {left = left} told made spent refused =
     let look = looked g c in
-    record {
-      known = λ alone known. (
-        refl,
-        omega (
-          arith,
-          (one-step g c made alone known).1,
-          made.grown.steps,
-          made.few,
-          none alone,
-        ),
-      );
-      claimed = λ alone last. (
-        refl,
-        omega (
-          arith,
-          look.grown.steps,
-          look.few,
-          made.grown.steps,
-          made.few,
-          none alone,
-        ),
-      );
-    }
+    let sum = passed-sum c.args.call.now look.grown made.grown in
+    told-there c.args.chain.now c.known_top-top.result c.requires.own c.known_top-top.ensures left told
+    (made-within _ _ (omega arith) (made-then c.requires.own look made)) refused
+    (looked-on g c made)
+    (λ alone known.
+    omega (
+      arith,
+      (one-step g c made alone known).1,
+      made.grown.steps,
+      made.few,
+      alone.alone,
+      spent.lost,
+      sum,
+    ))
+    (λ alone last.
+    omega (
+      arith,
+      look.grown.steps,
+      look.few,
+      made.grown.steps,
+      made.few,
+      alone.alone,
+      spent.lost,
+      sum,
+    ))
 
-pub returns-then-not-has_home-clause-made : goal.returns-then-not-has_home-clause-made
-returns-then-not-has_home-clause-made g c =
-    made-within 3 _ (omega arith)
-    (looked g (goal.at.returns-then-not-has_home-clause-made g c).After-has_home)
-
-pub returns-then-not-has_home-clause-told : goal.returns-then-not-has_home-clause-told
-returns-then-not-has_home-clause-told g c = c.requires.some
-
-pub returns-then-not-has_home-clause-spent : goal.returns-then-not-has_home-clause-spent
-returns-then-not-has_home-clause-spent g c =
-    spent-none c.args.call.now c.args.seat.now c.has_home.new.seat c.args.tries.now
-
-pub returns-then-not-has_home-clause-looked : goal.returns-then-not-has_home-clause-looked
-returns-then-not-has_home-clause-looked g c =
-    let load = (steps_add_up.one c.load_key_word_at-word.ensures.grows).steps in
-    omega (arith, load, c.has_home.ensures.made.grown.steps)
-
-pub returns-then-not-has_home-clause-short : goal.returns-then-not-has_home-clause-short
-returns-then-not-has_home-clause-short g c =
-    let there = (goal.at.returns-then-not-has_home-clause-short g c).After-has_home in
+pub returns-then-not-has_home : goal.returns-then-not-has_home
+returns-then-not-has_home g c =
+    let there = (goal.at.returns-then-not-has_home g c).After-has_home in
     let chain = c.args.chain.now in
-    let own = (at-stays chain c.requires.at (looked g there)).own in
+    let own = (at-stays chain (at g there) (looked g there)).own in
     let not = c.if-not-has_home.true in
     let p = chain.shape in
     let seat = c.has_home.new.seat in
     let none = subst (λ (home : Slot). IsLastSeen p home.g seat
     → IsAtHome p (seen_by p seat) home.g (key_of_call c.args.call.now) → ⊥) (place g there).is
     (c.has_home.ensures.away (search (rules, not))) in
+    let quiet = made-none chain c.args.call.now seat own in
     record {
-      known = λ alone known.
-          let had = (one-step g there (made-none chain c.args.call.now c.has_home.new.seat own)
-          alone known).0 in
-          absurd cc;
-      claimed = λ alone last. absurd (none last alone.home);
+      tried = in-vain chain c.known_top-top.result c.requires.own c.known_top-top.ensures 1
+          (made-within 3 _ (omega arith) (looked g there))
+          (spent-none c.args.call.now c.args.seat.now seat 1) (looked-on g there quiet)
+          (λ alone way. elim way [
+            | inl known ↦ let had = (one-step g there quiet alone known).0 in absurd cc
+            | inr last ↦ none last alone.home
+          ]);
+      left = omega arith;
+      serves = c.requires.serves;
     }
 
 -- ---- the call there
@@ -249,80 +253,76 @@ pub try_at-requires-clause-at : goal.try_at-requires-clause-at
 try_at-requires-clause-at g c =
     let there = (goal.at.try_at-requires-clause-at g c).After-has_home in
     let chain = c.args.chain.now in
-    let here = at-stays chain c.requires.at (looked g there) in
+    let here = at-stays chain (at g there) (looked g there) in
     at-home chain (place g there) here (c.has_home.ensures.claimed (search rules))
 
-pub returns-in-Ok-Told : goal.returns-in-Ok-Told
-returns-in-Ok-Told g c =
-    let there = (goal.at.returns-in-Ok-Told g c).After-has_home in
-    let look = looked g there in
-    let visit = c.in-Ok-Told.ensures in
-    let made = rw c.in-Ok-Told.field-0-is at visit.made in
+pub returns-in-Told : goal.returns-in-Told
+returns-in-Told g c =
+    let visit = c.in-Told.ensures in
     record {
-      made = made-within _ _ (omega arith) (made-then c.requires.at.own look made);
-      told = tt;
-      spent = spent-sooner look.grown visit.made.grown visit.spent;
-      looked = looked-on g there visit.made;
-      short = slot-short g there _ visit.made (λ alone.
-          omega (
-            arith,
-            alone.alone,
-            visit.spent.lost,
-            passed-sum c.args.call.now look.grown visit.made.grown,
-          ));
+      tried = told-here g (goal.at.returns-in-Told g c).After-has_home (Ok c.in-Told.reply) visit.made
+          visit.spent tt;
+      left = visit.spent.fewer;
       serves = visit.serves;
     }
 
-pub returns-in-Ok-Refused : goal.returns-in-Ok-Refused
-returns-in-Ok-Refused g c =
-    let there = (goal.at.returns-in-Ok-Refused g c).After-has_home in
-    let call = c.args.call.now in
-    let look = looked g there in
-    let visit = c.in-Ok-Refused.ensures in
-    let made = rw c.in-Ok-Refused.field-0-is at visit.made in
+pub returns-in-Overflow : goal.returns-in-Overflow
+returns-in-Overflow g c =
+    let visit = c.in-Overflow.ensures in
     record {
-      made = made-within _ _ (omega arith) (made-then c.requires.at.own look made);
-      told = (refused-longer look.grown visit.made.grown
-          (spent-none call c.args.seat.now c.has_home.new.seat c.args.tries.now)
-          c.in-Ok-Refused.fault (rw c.in-Ok-Refused.field-0-is at visit.tried)).0;
-      spent = spent-sooner look.grown visit.made.grown visit.spent;
-      looked = looked-on g there visit.made;
-      short = slot-short g there _ visit.made (λ alone.
-          omega (
-            arith,
-            alone.alone,
-            visit.spent.lost,
-            passed-sum call look.grown visit.made.grown,
-          ));
+      tried = told-here g (goal.at.returns-in-Overflow g c).After-has_home (Err ValueRange) visit.made
+          visit.spent visit.tried.0;
+      left = visit.spent.fewer;
       serves = visit.serves;
     }
 
-pub returns-in-Err : goal.returns-in-Err
-returns-in-Err g c =
-    let there = (goal.at.returns-in-Err g c).After-has_home in
+-- it was lost there
+vain-here :
+    (g : Over) (c : After-has_home g) {after : SeenBy} {left : ℕ}
+    → HasMade c.args.chain.now.shape c.args.call.now c.has_home.new.seat after [] (2 + (1 - left))
+    → IsSpent c.args.call.now c.has_home.new.seat after 1 left
+    → (IsAloneAtHome c.args.chain.now.shape c.known_top-top.result c.args.call.now c.args.seat.now after
+    → ⊥)
+    → HasLookedInVain c.args.chain.now c.args.call.now c.args.seat.now after (1 - left)
+vain-here g c {left = left} made spent away =
+    let look = looked g c in
+    in-vain c.args.chain.now c.known_top-top.result c.requires.own c.known_top-top.ensures left
+    (made-within _ _ (omega arith) (made-then c.requires.own look made))
+    (spent-sooner look.grown made.grown spent) (looked-on g c made) (λ alone way. away alone)
+
+pub returns-in-Lost : goal.returns-in-Lost
+returns-in-Lost g c =
+    let there = (goal.at.returns-in-Lost g c).After-has_home in
+    let tried = c.in-Lost.ensures in
+    let sum = passed-sum c.args.call.now (looked g there).grown tried.made.grown in
+    record {
+      tried = vain-here g there tried.made tried.spent
+          (λ alone. absurd (omega (arith, alone.alone, sum, tried.tried.0)));
+      left = tried.spent.fewer;
+      serves = tried.serves;
+    }
+
+pub returns-in-Copied : goal.returns-in-Copied
+returns-in-Copied g c =
+    let there = (goal.at.returns-in-Copied g c).After-has_home in
     let chain = c.args.chain.now in
     let p = chain.shape in
-    let look = looked g there in
-    let tried = c.in-Err.ensures in
-    let primed = tried.tried in
+    let tried = c.in-Copied.ensures in
     let k = key_of_call c.args.call.now in
     let seen = seen_by p c.try_at.new.seat in
     let is = (place g there).is in
-    let here = at-home chain (place g there) (at-stays chain c.requires.at look)
+    let here = at-home chain (place g there) (at-stays chain (at g there) (looked g there))
     (c.has_home.ensures.claimed (search rules)) in
-    let away = primed-away p seen c.args.top k
-    (subst (λ (home : Slot). seen.key home.g home.i ≡ Claimed k) is
-    (slot-stays chain here tried.made).claimed)
-    (λ unprimed. primed.0 (subst IsUnprimed
-    (subst (λ (home : Slot). seen.value home.g home.i ≡ c.in-Err.field-0) is primed.1) unprimed)) in
     record {
-      made = made-within _ _ (omega arith) (made-then c.requires.at.own look tried.made);
-      told = primed.2;
-      spent = spent-sooner look.grown tried.made.grown tried.spent;
-      looked = looked-on g there tried.made;
-      short = record {
-        known = λ alone known. absurd (away alone.home);
-        claimed = λ alone last. absurd (away alone.home);
-      };
+      tried = vain-here g there tried.made tried.spent
+          (λ alone.
+          primed-away p seen c.known_top-top.result k
+          (subst (λ (home : Slot). seen.key home.g home.i ≡ Claimed k) is
+          (slot-stays chain here tried.made).claimed)
+          (λ unprimed.
+          tried.tried.0 (subst IsUnprimed
+          (subst (λ (home : Slot). seen.value home.g home.i ≡ c.in-Copied.field-0) is tried.tried.1) unprimed))
+          alone.home);
+      left = tried.spent.fewer;
       serves = tried.serves;
     }
