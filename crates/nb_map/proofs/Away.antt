@@ -1,5 +1,5 @@
 -- A write that looked at its key's home slot in vain, and then goes the general way.
-use Rattle.std.proofs.Common.{◌≡◌, ◌∙◌, ℕ, ◌+◌, ◌-◌, min, List, [], Result, Ok, Err, inl, inr, ap, refl, arith}
+use Rattle.std.proofs.Common.{◌≡◌, ◌∙◌, ℕ, ◌+◌, ◌-◌, min, List, [], inl, inr, ap, refl, arith}
 use Rattle.nb_core.specs.History.{key_of_call}
 use Rattle.nb_core.specs.declared.calls.Call.{Call}
 use Rattle.nb_core.specs.declared.calls.Reply.{Reply}
@@ -16,14 +16,14 @@ use Rattle.nb_map.specs.Calling.{HasMade}
 use Rattle.nb_map.specs.Logs.{HasLogged}
 use Rattle.nb_map.specs.Maps.{MapOf, SeatOf, accounted}
 use Rattle.nb_map.specs.Progress.{IsAloneAtHome, IsLockFree, IsShortAtHome, IsWaitFree, passed_since}
-use Rattle.nb_map.specs.Promises.{Found, HasAnswered, HasTriedToWrite, HasWritten, Matched, Outcome, Refused, Replied, found_or_refused, replied_or_refused}
+use Rattle.nb_map.specs.Promises.{Found, HasAnswered, HasTriedToWrite, HasWritten, Matched, Outcome, Refused, Replied}
 use Rattle.nb_map.specs.Refusals.{HasGivenUp, HasRefused, IsJust}
 use Rattle.nb_map.specs.Steps.{climb_steps, put_steps}
 use Rattle.nb_map.specs.declared.faults.AddFault.{AddFault}
 use Rattle.nb_map.specs.declared.faults.AddFault.TheVariants as add_fault
 use Rattle.nb_map.specs.declared.faults.PutFault.TheVariants as fault
 use Rattle.nb_map.specs.declared.faults.PutFault.{PutFault}
-use Rattle.nb_map.specs.inside.Waiting.{HasGoneOn, HasGoneOnWith, HasLookedInVain, IsAway, IsAwayWith, IsStopped, before_of}
+use Rattle.nb_map.specs.inside.Waiting.{HasGoneOn, HasGoneOnWith, HasLookedInVain, IsAway, IsAwayWith, IsStopped}
 use Rattle.nb_map.specs.inside.Climbing.{IsSpent}
 
 -- ---- on the tables
@@ -239,22 +239,3 @@ module _ {map : MapOf} {call : Call} {before then : SeatOf} {tries left : ℕ}
         short = short-both map.chain aside.away.looked made;
         own = on.own;
       }
-
--- ---- what a reply found
-
-module _ {map : MapOf} {call : Call} {before after : SeatOf} where
-  pub found-on :
-      (answer : Result Reply AddFault)
-      → HasGoneOn map call before after (replied_or_refused answer)
-      → HasGoneOn map call before after (found_or_refused (before_of answer))
-  found-on (Ok reply) on =
-      record { answered = (reply, refl, on.answered); worked = on.worked; own = on.own }
-  found-on (Err refusal) on = on
-
-  pub found-with :
-      {tries : ℕ} (answer : Result Reply PutFault)
-      → HasGoneOnWith map call before after tries (replied_or_refused answer)
-      → HasGoneOnWith map call before after tries (found_or_refused (before_of answer))
-  found-with (Ok reply) on =
-      record { answered = (reply, refl, on.answered); worked = on.worked; own = on.own }
-  found-with (Err refusal) on = on

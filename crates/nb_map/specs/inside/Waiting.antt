@@ -17,8 +17,13 @@ use Rattle.nb_map.specs.declared.faults.AddFault.TheVariants as add_fault
 use Rattle.nb_map.specs.declared.faults.AddFault.{AddFault}
 use Rattle.nb_map.specs.declared.faults.PutFault.TheVariants as fault
 use Rattle.nb_map.specs.declared.faults.PutFault.{PutFault}
+use Rattle.nb_map.specs.declared.faults.Full.{Full}
+use Rattle.nb_map.specs.declared.map.answers.Added.TheVariants as added
+use Rattle.nb_map.specs.declared.map.answers.Added.{Added}
 use Rattle.nb_map.specs.declared.map.answers.Gone.TheVariants as gone
 use Rattle.nb_map.specs.declared.map.answers.Gone.{Gone}
+use Rattle.nb_map.specs.declared.map.answers.Tried.TheVariants as tried
+use Rattle.nb_map.specs.declared.map.answers.Tried.{Tried}
 use Rattle.nb_map.specs.declared.steps.write.Straight.TheVariants as straight
 use Rattle.nb_map.specs.declared.steps.write.Straight.{Straight}
 
@@ -143,13 +148,23 @@ pub record HasGoneOnWith (map : MapOf) (call : Call) (before after : SeatOf) (tr
 
 -- ---- what the general way answers
 
--- what a write found, or why it is refused
-abbrev pub answer_of : {Fault : Type 0} → Gone Fault → Result (Option ℕ) Fault
-answer_of (gone.Found number) = Ok (Some number)
-answer_of gone.Nothing = Ok None
-answer_of (gone.Refused fault) = Err fault
+-- what a put that waits found, or that it is refused
+abbrev pub answer_of_put : Gone → Result (Option ℕ) Full
+answer_of_put (gone.Found number) = Ok (Some number)
+answer_of_put gone.Nothing = Ok None
+answer_of_put gone.Full = Err (record {})
 
--- the same of a reply
-abbrev pub before_of : {Fault : Type 0} → Result Reply Fault → Result (Option ℕ) Fault
-before_of (Ok reply) = Ok reply.before
-before_of (Err fault) = Err fault
+-- what an add that waits found, or why it is refused
+abbrev pub answer_of_added : Added → Result (Option ℕ) AddFault
+answer_of_added (added.Found number) = Ok (Some number)
+answer_of_added added.Nothing = Ok None
+answer_of_added added.Full = Err add_fault.Full
+answer_of_added added.ValueRange = Err add_fault.ValueRange
+
+-- the same of a write with tries
+abbrev pub answer_of_tried : Tried → Result (Option ℕ) PutFault
+answer_of_tried (tried.Found number) = Ok (Some number)
+answer_of_tried tried.Nothing = Ok None
+answer_of_tried tried.Full = Err fault.Full
+answer_of_tried tried.Contended = Err fault.Contended
+answer_of_tried tried.ValueRange = Err fault.ValueRange

@@ -6,10 +6,10 @@ ghost use Rattle.nb_core.specs.declared.calls.Call.TheVariants as call;
 ghost use Rattle.nb_map.specs.Maps.{IsMine};
 ghost use Rattle.nb_map.specs.NamedCalls.{add_of, put_if_absent_of, put_of, remove_if_of, remove_of, replace_if_of, replace_of};
 ghost use Rattle.nb_map.specs.Promises.{Found, Matched, Replied, found_or_full, found_or_refused, replied_or_refused};
-ghost use Rattle.nb_map.specs.inside.Waiting.{CantOverflow, HasGoneOn, answer_of};
+ghost use Rattle.nb_map.specs.inside.Waiting.{CantOverflow, HasGoneOn, answer_of_added, answer_of_put};
 
-use crate::faults::{AddFault, Full};
-use crate::map::answers::Gone;
+use crate::faults::AddFault;
+use crate::map::answers::{Added, Gone};
 use crate::map::{Map, Seat};
 use crate::steps::write::write_general;
 use nb_core::{Change, Key, Num, Reply, Want};
@@ -25,10 +25,10 @@ impl Map {
         seat: &mut Seat,
         key: Key,
         number: Num,
-    ) -> Gone<Full>
+    ) -> Gone
         requires own { IsMine self.now seat.old }
         ensures { HasGoneOn self.now (put_of key number) seat.old seat.new
-            (found_or_full (answer_of result)) }
+            (found_or_full (answer_of_put result)) }
     {
         self.put_on(rt, seat, key, Want::Any, Change::Put(number))
     }
@@ -42,10 +42,10 @@ impl Map {
         seat: &mut Seat,
         key: Key,
         number: Num,
-    ) -> Gone<Full>
+    ) -> Gone
         requires own { IsMine self.now seat.old }
         ensures { HasGoneOn self.now (put_if_absent_of key number) seat.old seat.new
-            (found_or_full (answer_of result)) }
+            (found_or_full (answer_of_put result)) }
     {
         self.put_on(rt, seat, key, Want::Absent, Change::Put(number))
     }
@@ -121,32 +121,35 @@ impl Map {
         seat: &mut Seat,
         key: Key,
         number: Num,
-    ) -> Gone<AddFault>
+    ) -> Added
         requires own { IsMine self.now seat.old }
         ensures { HasGoneOn self.now (add_of key number) seat.old seat.new
-            (found_or_refused (answer_of result)) }
+            (found_or_refused (answer_of_added result)) }
     {
-        Gone::of(self.write_general(rt, seat, key, Want::Any, Change::Add(number)))
+        match self.write_general(rt, seat, key, Want::Any, Change::Add(number)) {
+            Ok(reply) => match reply.before {
+                Some(found) => Added::Found(found),
+                None => Added::Nothing,
+            },
+            Err(AddFault::Full) => Added::Full,
+            Err(AddFault::ValueRange) => Added::ValueRange,
+        }
     }
 
     /// Goes on with a write that puts no sum: it is refused only as full.
     #[inline(always)]
-    fn put_on<R: Wait>(
-        &self,
-        rt: &R,
-        seat: &mut Seat,
-        key: Key,
-        want: Want,
-        change: Change,
-    ) -> Gone<Full>
+    fn put_on<R: Wait>(&self, rt: &R, seat: &mut Seat, key: Key, want: Want, change: Change) -> Gone
         requires own { IsMine self.now seat.old }
         requires no_sum { CantOverflow (call.Write key want change) }
         ensures { HasGoneOn self.now (call.Write key want change) seat.old seat.new
-            (found_or_full (answer_of result)) }
+            (found_or_full (answer_of_put result)) }
     {
         match self.write_general(rt, seat, key, want, change) {
-            Ok(reply) => Gone::of(Ok(reply)),
-            Err(AddFault::Full) => Gone::Refused(Full),
+            Ok(reply) => match reply.before {
+                Some(found) => Gone::Found(found),
+                None => Gone::Nothing,
+            },
+            Err(AddFault::Full) => Gone::Full,
             Err(AddFault::ValueRange) => unreachable!(),
         }
     }

@@ -5,10 +5,10 @@ ghost use Rattle.nb_core.specs.declared.calls.Call.TheVariants as call;
 ghost use Rattle.nb_map.specs.Maps.{IsMine};
 ghost use Rattle.nb_map.specs.NamedCalls.{add_of, put_if_absent_of, put_of, remove_of};
 ghost use Rattle.nb_map.specs.Promises.{found_or_refused, replied_or_refused};
-ghost use Rattle.nb_map.specs.inside.Waiting.{HasGoneOnWith, answer_of};
+ghost use Rattle.nb_map.specs.inside.Waiting.{HasGoneOnWith, answer_of_tried};
 
 use crate::faults::PutFault;
-use crate::map::answers::Gone;
+use crate::map::answers::Tried;
 use crate::map::{Map, Seat};
 use crate::steps::pause::NoPause;
 use crate::steps::write::write_above;
@@ -24,12 +24,12 @@ impl Map {
         key: Key,
         number: Num,
         tries: u32,
-    ) -> Gone<PutFault>
+    ) -> Tried
         requires own { IsMine self.now seat.old }
         ensures { HasGoneOnWith self.now (put_of key number) seat.old seat.new tries
-            (found_or_refused (answer_of result)) }
+            (found_or_refused (answer_of_tried result)) }
     {
-        Gone::of(self.write_above(seat, key, Want::Any, Change::Put(number), tries))
+        self.find_above(seat, key, Want::Any, Change::Put(number), tries)
     }
 
     /// Goes on with `try_put_if_absent`.
@@ -41,12 +41,12 @@ impl Map {
         key: Key,
         number: Num,
         tries: u32,
-    ) -> Gone<PutFault>
+    ) -> Tried
         requires own { IsMine self.now seat.old }
         ensures { HasGoneOnWith self.now (put_if_absent_of key number) seat.old seat.new tries
-            (found_or_refused (answer_of result)) }
+            (found_or_refused (answer_of_tried result)) }
     {
-        Gone::of(self.write_above(seat, key, Want::Absent, Change::Put(number), tries))
+        self.find_above(seat, key, Want::Absent, Change::Put(number), tries)
     }
 
     /// Goes on with `try_add`.
@@ -58,23 +58,23 @@ impl Map {
         key: Key,
         number: Num,
         tries: u32,
-    ) -> Gone<PutFault>
+    ) -> Tried
         requires own { IsMine self.now seat.old }
         ensures { HasGoneOnWith self.now (add_of key number) seat.old seat.new tries
-            (found_or_refused (answer_of result)) }
+            (found_or_refused (answer_of_tried result)) }
     {
-        Gone::of(self.write_above(seat, key, Want::Any, Change::Add(number), tries))
+        self.find_above(seat, key, Want::Any, Change::Add(number), tries)
     }
 
     /// Goes on with `try_remove`.
     #[cold]
     #[inline(never)]
-    pub(super) fn try_remove_general(&self, seat: &mut Seat, key: Key, tries: u32) -> Gone<PutFault>
+    pub(super) fn try_remove_general(&self, seat: &mut Seat, key: Key, tries: u32) -> Tried
         requires own { IsMine self.now seat.old }
         ensures { HasGoneOnWith self.now (remove_of key) seat.old seat.new tries
-            (found_or_refused (answer_of result)) }
+            (found_or_refused (answer_of_tried result)) }
     {
-        Gone::of(self.write_above(seat, key, Want::Any, Change::Remove, tries))
+        self.find_above(seat, key, Want::Any, Change::Remove, tries)
     }
 
     /// Goes on with `put_if_match`.
@@ -93,6 +93,24 @@ impl Map {
             (replied_or_refused result) }
     {
         self.write_above(seat, key, want, change, tries)
+    }
+
+    /// Goes on with a write, and tells what it found.
+    #[inline(always)]
+    fn find_above(&self, seat: &mut Seat, key: Key, want: Want, change: Change, tries: u32) -> Tried
+        requires own { IsMine self.now seat.old }
+        ensures { HasGoneOnWith self.now (call.Write key want change) seat.old seat.new tries
+            (found_or_refused (answer_of_tried result)) }
+    {
+        match self.write_above(seat, key, want, change, tries) {
+            Ok(reply) => match reply.before {
+                Some(found) => Tried::Found(found),
+                None => Tried::Nothing,
+            },
+            Err(PutFault::Full) => Tried::Full,
+            Err(PutFault::Contended) => Tried::Contended,
+            Err(PutFault::ValueRange) => Tried::ValueRange,
+        }
     }
 
     /// Goes on with a write, and counts what it did to the number of keys.
