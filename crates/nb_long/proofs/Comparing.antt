@@ -35,13 +35,14 @@ pub round-of :
     → IsMine m.map before → HasGotValue m key before read (Ok (Some shown)) → n ≡ shown.index
     → HasTriedToWrite m.map (exchange_of key (Some n) new) read after 1 outcome
     → HasRound m key (Some shown.index) new before after outcome
-round-of {m = m} {key} {n} {new} {before} {read} {after} {shown} {outcome} own got is wrote = record {
-  read = read;
-  own = own;
-  got = subst (HasGot m.map key before read) got.shown.1 got.got;
-  wrote = subst (λ n. HasTriedToWrite m.map (exchange_of key (Some n) new) read after 1 outcome) is
-      wrote;
-}
+round-of {m = m} {key} {n} {new} {before} {read} {after} {shown} {outcome} own got is wrote =
+    record {
+      read = read;
+      own = own;
+      got = subst (HasGot m.map key before read) got.shown.1 got.got;
+      wrote = subst (λ n. HasTriedToWrite m.map (exchange_of key (Some n) new) read after 1 outcome) is
+          wrote;
+    }
 
 module _
     {V : Type 0} {eq : V → V → Bool} {m : LongMapOf} {key : ℕ} {value : V} {new : Option ℕ}

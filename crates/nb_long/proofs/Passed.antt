@@ -100,8 +100,10 @@ past P false made calls all = all
 earlier-calls :
     (P : Call × Reply → Type 0) (s : ℕ) (e : Event) (later : List Event)
     → All P (calls_of s (log_of (e ∷ later))) → All P (calls_of s (log_of later))
-earlier-calls P s (Won r g i a b c reply) later all = past P (r == s) (c, reply) (calls_of s (log_of later)) all
-earlier-calls P s (Read r c reply) later all = past P (r == s) (c, reply) (calls_of s (log_of later)) all
+earlier-calls P s (Won r g i a b c reply) later all =
+    past P (r == s) (c, reply) (calls_of s (log_of later)) all
+earlier-calls P s (Read r c reply) later all =
+    past P (r == s) (c, reply) (calls_of s (log_of later)) all
 earlier-calls P s _ later all = all
 
 -- Where other seats have won no exchange on the key, and the seat's own calls have changed nothing,

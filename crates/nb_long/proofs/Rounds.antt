@@ -1,5 +1,5 @@
--- The rounds of a call that reads a key and exchanges what it found: what their steps add up to, and
--- what they count.
+-- The rounds of a call that reads a key and exchanges what it found: what their steps add up to,
+-- and what they count.
 use Rattle.std.proofs.Common.{◌≡◌, ◌∙◌, ◌+◌, ◌*◌, ◌≤◌, ◌<◌, ℕ, suc, zero, true, false, min, pos, List, [], ◌∷◌, ◌++◌, length, Option, Some, None, ap, ap₂, refl, subst, subst₂, sym, inl, inr, arith}
 use Rattle.std.specs.List.{All}
 use Rattle.std.proofs.Math.IntN.{◌+ℤ◌}
@@ -372,8 +372,8 @@ lost-round (Matched held) round lost = absurd lost
 -- ---- rounds one after another
 
 -- The seat has made calls alone that changed nothing, or none, and counted nothing. Its steps were
--- such as this call of the key may make, and no more than a round takes for each exchange that other
--- seats have won on the key meanwhile.
+-- such as this call of the key may make, and no more than a round takes for each exchange that
+-- other seats have won on the key meanwhile.
 pub record HasIdled (m : LongMapOf) (c : Call) (key : ℕ) (before after : SeatOf) : Type 0 where
   pub calls : List (Call × Reply)
   pub idle : All (IsIdle key) calls

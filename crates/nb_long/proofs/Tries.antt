@@ -297,13 +297,20 @@ module _ {F V : Type 0} {m : LongMapOf} {Step : F → Option (Bor V) → Option 
         updated-so (Err (fault.OutOfMemory value)) (found, last-then mine come.idled last, asked) tt
         (free-read (got-of asked.got))
     come-end (Err (fault.ValueRange placed)) (found, last, asked, shows, past) =
-        updated-so (Err (fault.ValueRange placed)) (found, last-then mine come.idled last, asked, shows, past)
+        updated-so (Err (fault.ValueRange placed)) (
+          found,
+          last-then mine come.idled last,
+          asked,
+          shows,
+          past,
+        )
         shows (free-read (got-of asked.got))
     come-end (Err (fault.Full receipt)) (last, tried) =
         updated-so (Err (fault.Full receipt)) (last-then mine come.idled last, tried) tried.stored.0
         (free-exchange tried)
     come-end (Err fault.Unshown) (n, last, (unshown, got)) =
-        updated-so (Err fault.Unshown) (n, last-then mine come.idled last, (unshown, got)) tt (free-read got.got)
+        updated-so (Err fault.Unshown) (n, last-then mine come.idled last, (unshown, got)) tt
+        (free-read got.got)
 
 -- the same, of the map and the seat by other names
 pub updated-on :

@@ -188,7 +188,8 @@ impl<'a, M: Numbers, V> Parts<'a, M, V> {
         V: PartialEq,
         requires own { IsSeated (M.handle self.now.map.now caller.old) }
         ensures { HasCalledOver self.now.store.now
-            (λ m before after. HasChangedIf V.eq m key value.now (change_to new.now) before after result)
+            (λ m before after. HasChangedIf V.eq m key value.now (change_to new.now) before after
+            result)
             (M.handle self.now.map.now caller.old) (M.handle self.now.map.now caller.new) }
     {
         for _ in rt.forever() {

@@ -26,7 +26,8 @@ returns-in_err-compared g c =
     let inv = c.loop.invariant in
     let round = next-done inv.rest c.in_err-compared.ensures in
     rw (p.1, p.2) (record {
-      done = changed-then g.V.PartialEq.eq c.args.value.now (change_to c.args.new.now) _ c.requires.own
+      done = changed-then g.V.PartialEq.eq c.args.value.now (change_to c.args.new.now) _
+          c.requires.own
           inv.idled (Err c.in_err-compared.field-0.0) round.answered round.worked round.own;
       rest = next-rest inv.rest c.in_err-compared.ensures;
     })
@@ -37,7 +38,8 @@ returns-in-Some-2 g c =
     let called = rw c.in-Some-2.is at c.in_ok-compared.ensures in
     let round = next-done inv.rest called in
     record {
-      done = changed-then g.V.PartialEq.eq c.args.value.now (change_to c.args.new.now) _ c.requires.own
+      done = changed-then g.V.PartialEq.eq c.args.value.now (change_to c.args.new.now) _
+          c.requires.own
           inv.idled (Ok c.in-Some-2.compared) round.answered round.worked round.own;
       rest = next-rest inv.rest called;
     }
