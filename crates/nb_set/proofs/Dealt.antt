@@ -38,5 +38,6 @@ ended-with seats ended with = record {
   logs = All-weaker (of_map.HasAll (of_map.log_left ended.map)) (HasAll (log_left ended))
       (has-all (of_map.log_left ended.map)) seats with.logs;
   once = with.once;
-  made = All-map (λ entry. entry.seat < length seats) entry_as (of_map.log_left ended.map) with.made;
+  made = All-map (λ entry. entry.seat < length seats) entry_as (of_map.log_left ended.map)
+      with.made;
 }

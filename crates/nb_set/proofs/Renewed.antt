@@ -85,5 +85,6 @@ kept-as before after (inl same) = inl (ap as_handle same)
 kept-as before after (inr (same, read)) =
     inr (
       ap (λ m. record { map = m }) same,
-      asked-as (as_handle before).set (seats_of (as_handle before)) (seats_of (as_handle after)) read,
+      asked-as (as_handle before).set (seats_of (as_handle before)) (seats_of (as_handle after))
+          read,
     )

@@ -13,8 +13,8 @@ use std::alloc::Global;
 impl LongSet {
     /// With all seats: all keys of the set at this moment, each once, in no order. Afterwards each
     /// seat's log is one and the same, which leaves just these keys; and the set goes on. It takes
-    /// memory for the keys twice, and what `settle` takes. Where that is refused, the seats have only
-    /// asked for keys; where a seat is missing, the seats are as they were.
+    /// memory for the keys twice, and what `settle` takes. Where that is refused, the seats have
+    /// only asked for keys; where a seat is missing, the seats are as they were.
     pub fn keys(&self, alloc: Global, seats: &mut Vec<Seat>) -> Result<Vec<Key>, SettleFault>
         requires own { AreMine self.now seats.old.items }
         ensures all { (result ≡ Err fault.NotAll)

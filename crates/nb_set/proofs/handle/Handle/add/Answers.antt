@@ -14,7 +14,8 @@ pub returns-in_err-before-clause-wrote : goal.returns-in_err-before-clause-wrote
 returns-in_err-before-clause-wrote g c =
     let p = err_from_is_err_and c.from_residual.result c.from_residual.ensures.1 in
     rw (p.1)
-    (subst (λ (handle : HandleOf). HasWritten handle.set (Add c.args.key) handle.seat c.put_if_absent.new.self.seat
+    (subst (λ (handle : HandleOf). HasWritten handle.set (Add c.args.key) handle.seat
+    c.put_if_absent.new.self.seat
     (Err p.0)) c.self.view_is
     (refused c.args.key p.0
     (subst (λ n. of_map.HasWritten c.self.inside.map.map (put_if_absent_of c.args.key n)
@@ -23,7 +24,8 @@ returns-in_err-before-clause-wrote g c =
 
 pub returns-clause-wrote : goal.returns-clause-wrote
 returns-clause-wrote g c =
-    subst (λ (handle : HandleOf). HasWritten handle.set (Add c.args.key) handle.seat c.put_if_absent.new.self.seat
+    subst (λ (handle : HandleOf). HasWritten handle.set (Add c.args.key) handle.seat
+    c.put_if_absent.new.self.seat
     (Ok c.is_none.result)) c.self.view_is
     (added c.args.key c.in_ok-before.before c.is_none.result c.is_none.ensures
     (subst (λ n. of_map.HasWritten c.self.inside.map.map (put_if_absent_of c.args.key n)

@@ -8,5 +8,6 @@ use Rattle.nb_set.proofs.handle.Handle.begin_walk.Goals as goal
 pub returns-clause-begun : goal.returns-clause-begun
 returns-clause-begun c =
     let walk : WalkOf = record { map = c.begin_walk-map.result } in
-    subst (λ (handle : HandleOf). HasBegunWalk handle.set handle.seat c.begin_walk-map.new.self.seat walk) c.self.view_is
+    subst (λ (handle : HandleOf). HasBegunWalk handle.set handle.seat
+    c.begin_walk-map.new.self.seat walk) c.self.view_is
     (begun-walk c.begin_walk-map.ensures.begun)

@@ -6,6 +6,7 @@ use Rattle.nb_set.proofs.handle.Handle.generation.Goals as goal
 
 pub returns-clause-looked : goal.returns-clause-looked
 returns-clause-looked c =
-    subst (λ (handle : HandleOf). HasSeenTop handle.set handle.seat c.generation.new.self.seat c.generation.result)
+    subst (λ (handle : HandleOf). HasSeenTop handle.set handle.seat c.generation.new.self.seat
+    c.generation.result)
     c.self.view_is
     (seen-top c.generation.ensures.looked)

@@ -6,6 +6,7 @@ use Rattle.nb_set.proofs.handle.Handle.occupancy.Goals as goal
 
 pub returns-clause-looked : goal.returns-clause-looked
 returns-clause-looked c =
-    subst (λ (handle : HandleOf). HasSampled handle.set handle.seat c.occupancy.new.self.seat c.occupancy.result)
+    subst (λ (handle : HandleOf). HasSampled handle.set handle.seat c.occupancy.new.self.seat
+    c.occupancy.result)
     c.self.view_is
     (sampled c.occupancy.ensures.looked)

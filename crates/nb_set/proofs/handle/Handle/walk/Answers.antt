@@ -8,5 +8,6 @@ use Rattle.nb_set.proofs.handle.Handle.walk.Goals as goal
 pub returns-clause-begun : goal.returns-clause-begun
 returns-clause-begun c =
     let walk : WalkOf = record { map = c.walk.result.walk } in
-    subst (λ (handle : HandleOf). HasBegunWalk handle.set handle.seat c.walk.result.handle.seat walk) c.self.view_is
+    subst (λ (handle : HandleOf). HasBegunWalk handle.set handle.seat c.walk.result.handle.seat
+    walk) c.self.view_is
     (begun-walk c.walk.ensures.begun)

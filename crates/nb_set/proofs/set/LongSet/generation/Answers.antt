@@ -5,5 +5,6 @@ use Rattle.nb_set.proofs.set.LongSet.generation.Goals as goal
 
 pub returns : goal.returns
 returns c =
-    subst (λ set. HasSeenTop set c.args.seat.now c.generation.new.seat c.generation.result) c.self.view_is
+    subst (λ set. HasSeenTop set c.args.seat.now c.generation.new.seat c.generation.result)
+    c.self.view_is
     (seen-top c.generation.ensures)

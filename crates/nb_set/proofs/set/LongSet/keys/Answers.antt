@@ -10,7 +10,8 @@ returns-clause-listed c =
     IfOk-weaker c.keys_listed.result _ _
     (λ keys found.
     let listed = rw found.1 at c.entries-listed.ensures.listed in
-    listed-as c.args.seats.now.items c.entries-listed.new.seats.items found.0.items keys.items found.2
+    listed-as c.args.seats.now.items c.entries-listed.new.seats.items found.0.items keys.items
+    found.2
     listed)
     c.keys_listed.ensures.keys
 

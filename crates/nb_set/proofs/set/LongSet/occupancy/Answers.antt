@@ -5,5 +5,6 @@ use Rattle.nb_set.proofs.set.LongSet.occupancy.Goals as goal
 
 pub returns : goal.returns
 returns c =
-    subst (λ set. HasSampled set c.args.seat.now c.occupancy.new.seat c.occupancy.result) c.self.view_is
+    subst (λ set. HasSampled set c.args.seat.now c.occupancy.new.seat c.occupancy.result)
+    c.self.view_is
     (sampled c.occupancy.ensures)
