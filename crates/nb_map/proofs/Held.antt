@@ -28,12 +28,7 @@ module _ (m : MapOf) (seats front : List SeatOf) (last : SeatOf) (are : seats �
   pub last-mine : IsMine m last
   last-mine = All-head (IsMine m) last [] (All-right (IsMine m) front (last ∷ []) both)
 
--- all seats of a handle, by its own and those in reserve
-pub all-mine : (m : MapOf) (own : SeatOf) (reserve : List SeatOf) → IsMine m own → AreMine m reserve
-    → AreMine m (own ∷ reserve)
-all-mine m own reserve mine rest = All-cons (IsMine m) own reserve mine rest
-
--- and back
+-- a handle's own seat, of all its seats
 pub own-mine : (m : MapOf) (own : SeatOf) (reserve : List SeatOf) → AreMine m (own ∷ reserve)
     → IsMine m own
 own-mine m own reserve mine = All-head (IsMine m) own reserve mine
