@@ -12,7 +12,7 @@ fail() { cat "$made/told"; echo "$*"; exit 1; }
 while read -r version home; do
     flags=(--enable-native-access=ALL-UNNAMED -cp "$made/samvolip.jar:$made/$version")
     if [ "$version" = 17 ]; then flags+=(--add-modules jdk.incubator.foreign); release=17; else release=22; fi
-    "$home/bin/javac" --release $release -cp "$made/samvolip.jar" -d "$made/$version" "$here"/tests/*.java "$here"/examples/*.java
+    "$home/bin/javac" --release $release -cp "$made/samvolip.jar" -d "$made/$version" "$here"/tests/*.java "$here"/examples/*.java "$here"/bench/*.java
     "$home/bin/java" "${flags[@]}" -Dsamvolip="$library" SamvolipTest "$here" > "$made/told" 2>&1 || fail "the test of Java $version fails"
     "$home/bin/java" "${flags[@]}" -Dsamvolip="$(dirname "$library")" Visits > "$made/told" 2> "$made/errors" || { cat "$made/errors"; fail "the example of Java $version fails"; }
     diff "$here/examples/Visits.out" "$made/told" || fail "the example of Java $version prints something else"

@@ -1,10 +1,11 @@
 /*
  * samvolip.h - a concurrent map from whole numbers to whole numbers.
  *
- * Many threads read and write one map at the same time, and none holds up another. It is Cliff
- * Click's non-blocking hash map, proved in Rattle. docs/c.md says what is proved, and what a caller
- * has to keep. The header is for C99 and C++11, with GCC's or Clang's builtins. samvolip.hpp is a
- * map for C++17 over it, which any thread may call.
+ * Many threads read and write one map at the same time, and none holds up another. The library
+ * behind this header is Cliff Click's non-blocking hash map, proved in Rattle; the code in the header
+ * is tested. docs/c.md says what is proved, and what a caller has to keep. The header is for C99 and
+ * C++11, with GCC's or Clang's builtins. samvolip.hpp is a map for C++17 over it, which any thread
+ * may call.
  *
  *
  * A map in ten lines

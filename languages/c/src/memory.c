@@ -1,6 +1,7 @@
 /* memory.c - the memory of libsamvolip.so and libsamvolip.a, in C and not proved. Small blocks are the program's malloc's, as they
-   are without this file. Large ones, which the tables of large maps need, are the system's: zero, in huge pages, and given back when
-   they are freed. The linker puts these functions in place of those that the library's code calls (--wrap, by the file `links`).
+   are without this file. Large ones, which the tables of large maps need, are the system's: zero, in huge pages where Linux has some,
+   and given back when they are freed. The linker puts these functions in place of those that the library's code calls (--wrap, by the
+   file `links`).
 
    A large block begins at a multiple of a huge page. So nearly all pointers are told at a glance to be malloc's, and the others by
    the list of large blocks. The list has no lock, so nobody waits for a thread that was stopped, or that a forked child lacks. */

@@ -1,6 +1,6 @@
 /**
- * A map from whole numbers to whole numbers that many threads read and write at the same time, without locks. It is the map of samvolip.h,
- * which is proved in Rattle.
+ * A map from whole numbers to whole numbers that many threads read and write at the same time, without locks. It calls the library
+ * of samvolip.h, which is proved in Rattle; this package is only tested.
  *
  * <p>{@link samvolip.SamvolipMap} is a map that any thread may call. {@link samvolip.Seat} is a seat that the program holds itself, the
  * right of one thread at a time to call; it saves the look at the thread's own seat. Both have the calls of {@link samvolip.LongMap}.

@@ -1,5 +1,5 @@
-//! A map from whole numbers to whole numbers that many threads read and write at the same time, without locks. It is the
-//! map of `samvolip.h`, which is proved in Rattle.
+//! A map from whole numbers to whole numbers that many threads read and write at the same time, without locks. It
+//! calls the library of `samvolip.h`, which is proved in Rattle; this crate is only tested.
 //!
 //! ```
 //! use samvolip::Map;
