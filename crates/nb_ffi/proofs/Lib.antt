@@ -8,4 +8,5 @@ mod Lending
 mod Listed
 mod SeatBox
 mod Walking
+mod Whole
 mod Writing

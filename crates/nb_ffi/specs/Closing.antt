@@ -10,14 +10,15 @@ use Rattle.nb_ffi.specs.declared.life.CloseFault.TheVariants as fault
 pub record IsEndWith (handle : HandleOf) (ended : EndedOf) : Type 0 where
   pub with_all : EndedWith (seats_of handle) ended
   pub tables : HasTablesLeft handle.map.chain.shape (seats_of handle) ended
+  pub whole : IsWhole handle
 
 -- the same, in a place for it
 abbrev pub IsEndOf : HandleOf → EndedMap → Type 0
 IsEndOf handle left = (ended : EndedOf) × (left.ended ≡ Some ended) × IsEndWith handle ended
 
--- Where closing a handle is refused, it comes back, for want of memory or of seats. A map is given
--- up only by a handle that has all seats.
+-- Where closing a handle is refused, it comes back: for want of seats, or else of memory. A map is
+-- given up only by a handle that has all seats.
 abbrev pub IsHandedBack : HandleOf → CloseFault → Type 0
-IsHandedBack handle (fault.OutOfMemory back) = back.value ≡ handle
+IsHandedBack handle (fault.OutOfMemory back) = (back.value ≡ handle) × IsWhole handle
 IsHandedBack handle (fault.NotAllSeats back) = (back.value ≡ handle) × (IsWhole handle → ⊥)
 IsHandedBack handle fault.Lost = IsWhole handle

@@ -1,13 +1,17 @@
 -- How contracts see what C has of a map's handle.
 use Rattle.std.specs.Prelude.{◌≡◌, [], ◌∷◌, ◌++◌, Option, Some}
 use Rattle.nb_core.specs.Plans.{Plan}
-use Rattle.nb_map.specs.Handles.{HandleOf, handle_on, seats_of}
+use Rattle.nb_map.specs.Handles.{HandleOf, IsWhole, handle_on, seats_of}
 use Rattle.nb_map.specs.Logs.{HaveEmptyLogs}
 use Rattle.nb_map.specs.Maps.{AreMine, IsMadeFor, new_seats}
 
 -- it stands for a handle of a map
 abbrev pub IsOpen : Option HandleOf → Type 0
 IsOpen held = (handle : HandleOf) × (held ≡ Some handle)
+
+-- it stands for a handle that has all seats of its map
+abbrev pub HasAllSeats : Option HandleOf → Type 0
+HasAllSeats held = (handle : HandleOf) × (held ≡ Some handle) × IsWhole handle
 
 -- it did and does, and the handle has changed like this
 pub record StaysOpen (before after : Option HandleOf) (Change : HandleOf → HandleOf → Type 0) :

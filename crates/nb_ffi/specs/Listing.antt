@@ -1,5 +1,5 @@
 -- Parts of a walk, which are written into a caller's array.
-use Rattle.std.specs.Prelude.{◌≡◌, ◌≤◌, ◌⊎◌, ◌++◌, ◌∷◌, ℕ, ℤ, List, [], length, Option, Some, None}
+use Rattle.std.specs.Prelude.{◌≡◌, ◌<◌, ◌⊎◌, ◌++◌, ◌∷◌, ℕ, ℤ, List, [], length, Option, Some, None}
 use Rattle.nb_map.specs.Handles.{HandleOf}
 use Rattle.nb_map.specs.Maps.{SeatOf}
 use Rattle.nb_map.specs.Walks.{IsWalkOf, walk_from}
@@ -58,6 +58,6 @@ pub data IsList (end : ℕ) (code : ℤ) (cursor cursor' : Cursor) (count' : ℕ
       → IsList end code cursor cursor' count' room room' before after
   All :
       code ≡ ABSENT → (pairs : List (ℕ × ℕ)) → count' ≡ length pairs
-      → length pairs ≤ length room → room' ≡ written_over pairs room
+      → length pairs < length room → room' ≡ written_over pairs room
       → StaysOpen before after (HasListedWholePart end (place_in cursor) (place_in cursor') pairs)
       → IsList end code cursor cursor' count' room room' before after

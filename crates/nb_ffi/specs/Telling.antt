@@ -1,5 +1,5 @@
 -- What the exports come to, by their codes.
-use Rattle.std.specs.Prelude.{◌≡◌, ◌≤◌, ◌+◌, ◌^◌, ◌++◌, ◌⊎◌, ℕ, ℤ, [], length, Option, Some, None, Result, Ok, Err}
+use Rattle.std.specs.Prelude.{◌≡◌, ◌≢◌, ◌≤◌, ◌+◌, ◌^◌, ◌++◌, ◌⊎◌, ℕ, ℤ, [], length, Option, Some, None, Result, Ok, Err}
 use Rattle.std.specs.FinMap as numbers
 use Rattle.nb_core.specs.Plans.{Plan}
 use Rattle.nb_core.specs.declared.calls.Call.{Call}
@@ -14,7 +14,7 @@ use Rattle.nb_map.specs.declared.occupancy.Occupancy.{Occupancy}
 use Rattle.nb_ffi.specs.Closing.{IsEndOf}
 use Rattle.nb_ffi.specs.Codes.{fault_code, occupancy_in_c, reply_in_c}
 use Rattle.nb_ffi.specs.Cursors.{walk_in}
-use Rattle.nb_ffi.specs.Handles.{IsNew, IsPartOf, StaysOpen}
+use Rattle.nb_ffi.specs.Handles.{HasAllSeats, IsNew, IsPartOf, StaysOpen}
 use Rattle.nb_ffi.specs.Promises.{HasGot, HasMet, HasSampled, HasTriedToWrite, HasWalkedOn}
 use Rattle.nb_ffi.specs.declared.codes.WriteReply.{WriteReply}
 use Rattle.nb_ffi.specs.declared.codes.TheConstants.{ABSENT, E_LOST, E_NOT_ALL_SEATS, E_NO_SEAT, E_SEATS, OK, E_OUT_OF_MEMORY, PRESENT}
@@ -107,6 +107,10 @@ IsOpening (Ok p) code before after =
     ⊎ ((code ≡ E_OUT_OF_MEMORY) × (after ≡ before))
 IsOpening (Err refusal) code before after = (code ≡ refusal) × (after ≡ before)
 
+-- it stands for a handle that has a seat in reserve
+abbrev pub HasReserve : Option HandleOf → Type 0
+HasReserve held = (handle : HandleOf) × (held ≡ Some handle) × (handle.reserve ≢ [])
+
 -- A handle was split with this code; or both are as they were, for want of memory or of a seat in
 -- reserve.
 pub data IsSplit (code : ℤ) (before after other other' : Option HandleOf) : Type 0 where
@@ -115,7 +119,7 @@ pub data IsSplit (code : ℤ) (before after other other' : Option HandleOf) : Ty
       → StaysOpen before after (λ old new. IsPartOf old new part)
       → IsSplit code before after other other'
   Kept :
-      code ≡ E_OUT_OF_MEMORY → after ≡ before → other' ≡ other
+      code ≡ E_OUT_OF_MEMORY → HasReserve before → after ≡ before → other' ≡ other
       → IsSplit code before after other other'
   Lacks :
       code ≡ E_NO_SEAT → (handle : HandleOf) → before ≡ Some handle → handle.reserve ≡ []
@@ -151,7 +155,7 @@ pub data IsClose (code : ℤ) (before after : Option HandleOf) (left left' : Opt
       → left' ≡ Some end → IsEndOf handle end
       → IsClose code before after left left'
   Kept :
-      code ≡ E_OUT_OF_MEMORY → after ≡ before → left' ≡ left
+      code ≡ E_OUT_OF_MEMORY → HasAllSeats before → after ≡ before → left' ≡ left
       → IsClose code before after left left'
   Lacks :
       code ≡ E_NOT_ALL_SEATS → (handle : HandleOf) → before ≡ Some handle

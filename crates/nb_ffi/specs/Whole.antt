@@ -3,10 +3,11 @@ use Rattle.std.specs.Prelude.{◌≡◌, ◌≤◌, ◌<◌, ℕ, ℤ, List, Opt
 use Rattle.nb_core.specs.Plans.{Plan}
 use Rattle.nb_map.specs.Entries.{HaveListed}
 use Rattle.nb_map.specs.Handles.{HandleOf, IsSameMap, IsWhole, seats_of}
+use Rattle.nb_map.specs.Maps.{AreMine}
 use Rattle.nb_map.specs.Renewing.{HasRenewed, HasTooMany, IsKept}
 use Rattle.nb_map.specs.Settling.{HaveSettled}
 use Rattle.nb_ffi.specs.Entries.{written_over}
-use Rattle.nb_ffi.specs.Handles.{StaysOpen}
+use Rattle.nb_ffi.specs.Handles.{HasAllSeats, StaysOpen}
 use Rattle.nb_ffi.specs.declared.codes.TheConstants.{E_FULL, E_NOT_ALL_SEATS, E_OUT_OF_MEMORY, E_ROOM, OK}
 use Rattle.nb_ffi.specs.declared.ended_map.MapEntry.{MapEntry}
 
@@ -23,6 +24,7 @@ pub record LacksSeats (before after : Option HandleOf) : Type 0 where
 pub record HasSettled (size : ℕ) (before after : HandleOf) : Type 0 where
   pub promised : HaveSettled before.map (seats_of before) (seats_of after) size
   pub map : IsSameMap before after
+  pub whole : IsWhole before
 
 -- Seats were settled with this code, and the number of keys is written; or all is as it was, for
 -- want of memory or of seats.
@@ -31,7 +33,7 @@ pub data IsSettling (code : ℤ) (size size' : ℕ) (before after : Option Handl
       code ≡ OK → StaysOpen before after (HasSettled size')
       → IsSettling code size size' before after
   Kept :
-      code ≡ E_OUT_OF_MEMORY → size' ≡ size → after ≡ before
+      code ≡ E_OUT_OF_MEMORY → HasAllSeats before → size' ≡ size → after ≡ before
       → IsSettling code size size' before after
   Lacks :
       code ≡ E_NOT_ALL_SEATS → size' ≡ size → LacksSeats before after
@@ -39,9 +41,11 @@ pub data IsSettling (code : ℤ) (size size' : ℕ) (before after : Option Handl
 
 -- ---- all entries
 
--- these are the entries of the handle's map
-abbrev pub HasListed : List (ℕ × ℕ) → (before after : HandleOf) → Type 0
-HasListed entries before after = HaveListed (seats_of before) (seats_of after) entries
+-- these are the entries of the handle's map, which goes on
+pub record HasListed (entries : List (ℕ × ℕ)) (before after : HandleOf) : Type 0 where
+  pub promised : HaveListed (seats_of before) (seats_of after) entries
+  pub kept : IsKept before after
+  pub whole : IsWhole before
 
 -- Entries were listed with this code, and it is written how many: they are in the array, or that is
 -- as it was, and too small. Or nothing is written, for want of memory or of seats.
@@ -57,7 +61,8 @@ pub data IsListing (code : ℤ) (count count' : ℕ) (room room' : List MapEntry
       → length room < length entries → room' ≡ room → StaysOpen before after (HasListed entries)
       → IsListing code count count' room room' before after
   Kept :
-      code ≡ E_OUT_OF_MEMORY → count' ≡ count → room' ≡ room → StaysOpen before after IsKept
+      code ≡ E_OUT_OF_MEMORY → count' ≡ count → room' ≡ room → HasAllSeats before
+      → StaysOpen before after IsKept
       → IsListing code count count' room room' before after
   Lacks :
       code ≡ E_NOT_ALL_SEATS → count' ≡ count → room' ≡ room → LacksSeats before after
@@ -65,20 +70,27 @@ pub data IsListing (code : ℤ) (count count' : ℕ) (room room' : List MapEntry
 
 -- ---- a new map
 
+-- a handle that had all seats of a map has all seats of a new one of this shape
+pub record HasMadeAnew (p : Plan) (before after : HandleOf) : Type 0 where
+  pub promised : HasRenewed p before after
+  pub own : AreMine after.map (seats_of after)
+  pub whole : IsWhole before
+
 -- A map was made anew with this code, in the shape that was asked for. Or the handle is of the old
 -- one still, which has too many keys for it, or there was no memory; or all is as it was, for want
 -- of seats, or since the shape is none.
 pub data IsRenewing (asked : Result Plan ℤ) (code : ℤ) (before after : Option HandleOf) :
     Type 0 where
   Renewed :
-      code ≡ OK → (p : Plan) → asked ≡ Ok p → StaysOpen before after (HasRenewed p)
+      code ≡ OK → (p : Plan) → asked ≡ Ok p → StaysOpen before after (HasMadeAnew p)
       → IsRenewing asked code before after
   Full :
-      code ≡ E_FULL → (p : Plan) → asked ≡ Ok p
+      code ≡ E_FULL → (p : Plan) → asked ≡ Ok p → HasAllSeats before
       → StaysOpen before after (λ old new. HasTooMany p old × IsKept old new)
       → IsRenewing asked code before after
   Kept :
-      code ≡ E_OUT_OF_MEMORY → (p : Plan) → asked ≡ Ok p → StaysOpen before after IsKept
+      code ≡ E_OUT_OF_MEMORY → (p : Plan) → asked ≡ Ok p → HasAllSeats before
+      → StaysOpen before after IsKept
       → IsRenewing asked code before after
   Lacks :
       code ≡ E_NOT_ALL_SEATS → (p : Plan) → asked ≡ Ok p → LacksSeats before after

@@ -1,5 +1,5 @@
 //! How the handles of C are opened, split, joined and closed.
-ghost use Rattle.std.specs.Prelude.{Err, IfErr, IfOk, [], length, nat_lt, ◌+◌, ◌^◌, ◌≡◌};
+ghost use Rattle.std.specs.Prelude.{Err, IfErr, IfOk, [], length, nat_lt, ◌+◌, ◌^◌, ◌↔◌, ◌≡◌};
 ghost use Rattle.nb_map.specs.Handles.{seats_of};
 ghost use Rattle.nb_map.specs.declared.faults.SplitFault.TheVariants as fault;
 ghost use Rattle.nb_ffi.specs.Closing.{IsEndOf, IsHandedBack};
@@ -35,7 +35,7 @@ pub(crate) fn opened(alloc: Global, shape: Shape) -> Result<Box<Handle, Global>,
 pub(crate) fn split(handle: &mut Handle, alloc: Global) -> Result<Box<Handle, Global>, SplitFault>
     ensures split { IfOk result (λ other. IsPartOf handle.old handle.new other.value) }
     ensures refused { IfErr result (λ _. handle.new ≡ handle.old) }
-    ensures no_seat { result ≡ Err fault.NoSeat → handle.old.reserve ≡ [] }
+    ensures no_seat { (result ≡ Err fault.NoSeat) ↔ (handle.old.reserve ≡ []) }
 {
     let _ = handle.seats();
     let part = handle.split()?;

@@ -1,5 +1,5 @@
 //! Parts of a walk, which are written into a caller's array.
-ghost use Rattle.std.specs.Prelude.{IfSome, List, None, length, ℕ, ◌≡◌, ◌≤◌};
+ghost use Rattle.std.specs.Prelude.{IfSome, List, None, length, ℕ, ◌<◌, ◌≡◌};
 ghost use Rattle.nb_map.specs.Maps.{SeatOf};
 ghost use Rattle.nb_map.specs.Walks.{IsWalkOf, walk_from};
 ghost use Rattle.nb_ffi.specs.Entries.{written_over};
@@ -23,7 +23,7 @@ pub(crate) fn list(
         × (room.new ≡ written_over pairs room.old)
         × HasListedPart end at.old at.new pairs handle.old handle.new }
     ensures all { IfSome result (λ count. (pairs : List (ℕ × ℕ)) × (count ≡ length pairs)
-        × (length pairs ≤ length room.old) × (room.new ≡ written_over pairs room.old)
+        × (length pairs < length room.old) × (room.new ≡ written_over pairs room.old)
         × HasListedWholePart end at.old at.new pairs handle.old handle.new) }
 {
     for i in 0..room.len() {

@@ -68,8 +68,9 @@
  * Memory. samvolip_open reserves all tables of the map, and the map keeps them until it is freed.
  * samvolip_open, samvolip_split, samvolip_settle, samvolip_entries, samvolip_renew, samvolip_close
  * and samvolip_ended_entries take memory; no other call does. It is the program's malloc's, but for
- * blocks of a megabyte and more, the tables of large maps. Those libsamvolip.so and libsamvolip.a
- * take from the system, in huge pages where it has some, and give back when they are freed.
+ * blocks of a megabyte and more, as tables and lists of large maps are. Those libsamvolip.so and
+ * libsamvolip.a take from the system, in huge pages where it has some, and give back when they are
+ * freed. So a handle is used with the copy of the library that opened its map.
  *
  * Versions. samvolip_open tells the library which header the program was compiled with: its version
  * and the sizes of its structs. The library takes each header of its series, from version 0.9.0 on,
@@ -574,8 +575,8 @@ void samvolip_meet(samvolip_seat *seat, samvolip_seat *other);
 
 /*
  * Begins a walk over the map's keys, in a cursor of the caller's. Others may write the map
- * meanwhile, and so may the seat: no call of it but samvolip_renew ends a walk. A seat may have any
- * number of walks at a time. There is nothing to free.
+ * meanwhile, and so may the seat: of its calls only those end a walk that join, close, free or renew
+ * it. A seat may have any number of walks at a time. There is nothing to free.
  *
  * Cost: a load.
  */
@@ -611,9 +612,12 @@ int samvolip_walk_from(samvolip_seat *seat, size_t slot, samvolip_cursor *cursor
  * `end`, as with SIZE_MAX, the walk goes on through the later tables to its end. With a room of 0
  * it never gets anywhere.
  *
- * So several threads list a map together, each with a seat of its own:
+ * So several threads list a map together, each with a seat of its own, if one of them reckons
+ * `slots` for all:
  *
- *     size_t slots = (size_t)1 << shape.exponents[samvolip_generation(&seat)];
+ *     uint32_t top = samvolip_generation(&seat);
+ *     size_t slots = (size_t)1 << shape.exponents[top];
+ *
  *     size_t from = slots / threads * mine;
  *     size_t end = mine + 1 < threads ? from + slots / threads : SIZE_MAX;
  *     samvolip_walk_from(&seat, from, &cursor);
@@ -626,8 +630,8 @@ int samvolip_walk_from(samvolip_seat *seat, size_t slot, samvolip_cursor *cursor
  * key, from the walk's first one on. The last part, which goes on to the walk's end, has those of
  * later tables, too. Each part shows every key of its own that the map has all the while, and none
  * twice. If nobody writes meanwhile, all parts show together just the entries of the map, each
- * once. If others write, another table may become the top one between the beginnings of two parts,
- * which their cursor.first tell, and then keys may be shown by both or by none.
+ * once. If others write, another table may become the top one before a part begins. So the parts fit
+ * together if each cursor.first is `top`; else keys may be shown by two of them or by none.
  *
  * Cost: that of samvolip_next for each entry, without the call; and a compare for each.
  */

@@ -58,14 +58,16 @@ static inline void samvolip_check_ended(const samvolip_ended *ended, const char 
     samvolip_check(ended->handle != NULL, call, "the handle is empty");
 }
 
-/* A name for a new map, from the address of what its first handle stands for and a count of the
-   maps that this file has opened. Two maps hardly ever have one name. Then a check is missed. */
+/* How many maps the program has opened and made anew: one count for all its files. */
+__attribute__((weak)) uintptr_t samvolip_checked_maps;
+
+/* A name for a new map, from the address of what its first handle stands for and that count. Two
+   maps hardly ever have one name. Then a check is missed. */
 static inline uintptr_t samvolip_name_of_map(const samvolip_seat *seat)
 {
-    static uintptr_t maps;
     uintptr_t address;
     memcpy(&address, &seat->handle, sizeof address);
-    return address + __atomic_add_fetch(&maps, 1, __ATOMIC_SEQ_CST);
+    return address + __atomic_add_fetch(&samvolip_checked_maps, 1, __ATOMIC_SEQ_CST);
 }
 
 static inline int samvolip_checked_open(const samvolip_shape *shape, samvolip_seat *seat)

@@ -77,7 +77,7 @@ static void *new_pages(size_t size)
 
 void *__wrap_malloc(size_t size)
 {
-    if (size < LARGE)
+    if (size < LARGE || size > PTRDIFF_MAX - HUGE_PAGE)
         return __real_malloc(size);
     size_t whole = (size + PAGE - 1) / PAGE * PAGE;
     void *block = new_pages(whole);
@@ -97,7 +97,8 @@ void __wrap_free(void *block)
     /* it leaves the list first: once the pages are back, another block may begin there */
     size_t size = large->size;
     atomic_store(&large->begin, 0);
-    munmap(block, size);
+    if (munmap(block, size) != 0)
+        madvise(block, size, MADV_DONTNEED);
 }
 
 /* What malloc gave stays with malloc, however much it grows. */

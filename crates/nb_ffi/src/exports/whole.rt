@@ -61,8 +61,12 @@ pub extern "C" fn samvolip_renew(alloc: Global, seat: &mut SeatHandle, shape: &M
         Ok(shape) => shape,
         Err(code) => return code,
     };
-    match seat.lend().renew(alloc, shape) {
-        Ok(()) => OK,
+    let handle = seat.lend();
+    match handle.renew(alloc, shape) {
+        Ok(()) => {
+            handle.known();
+            OK
+        }
         Err(RenewFault::Full) => E_FULL,
         Err(RenewFault::NotAll) => E_NOT_ALL_SEATS,
         Err(RenewFault::OutOfMemory) => E_OUT_OF_MEMORY,

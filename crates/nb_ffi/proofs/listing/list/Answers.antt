@@ -1,4 +1,4 @@
-use Rattle.std.proofs.Common.{◌≡◌, ◌≢◌, ℕ, None, Option, Some, refl, rules, subst, sym}
+use Rattle.std.proofs.Common.{◌≡◌, ◌≢◌, ◌<◌, ℕ, None, Option, Some, arith, length, refl, rules, subst, sym}
 use Rattle.nb_ffi.proofs.Listed.{Walked, come-all, come-begun, come-more}
 use Rattle.nb_ffi.proofs.listing.list.Goals as goal
 
@@ -13,10 +13,11 @@ next_key_before-requires c =
 pub returns-in_default-clause-all : goal.returns-in_default-clause-all
 returns-in_default-clause-all c =
     let come = c.loop-i.invariant in
-    let next = c.next_key_before in (
+    let next = c.next_key_before in
+    let less : c.loop-i.i < length c.args.room.now = search rules in (
       come.pairs,
       sym come.many,
-      come.fits,
+      omega (arith, come.many, less),
       come.written,
       come-all come (subst (Walked c.args.end c.loop-i.handle next.new.self c.loop-i.at next.new.at)
           (none-of next.result c.in_default.not-Some) next.ensures.walked) next.ensures.rest,

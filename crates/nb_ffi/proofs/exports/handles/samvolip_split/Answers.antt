@@ -13,6 +13,6 @@ returns-in-Ok c = Split refl c.in-Ok.part.value c.fill.ensures (record {
 
 pub returns-in-Err-NoSeat : goal.returns-in-Err-NoSeat
 returns-in-Err-NoSeat c = Lacks refl c.lend.result.now c.lend.ensures.value
-    (c.in-Err-NoSeat.ensures.no_seat cc) same refl where
+    (c.in-Err-NoSeat.ensures.no_seat.0 cc) same refl where
       same : Some c.split.new.handle ≡ c.args.seat.now.handle
       same = rw (c.in-Err-NoSeat.ensures.refused, c.lend.ensures.value) refl

@@ -1,6 +1,7 @@
 use Rattle.std.proofs.Common.{◌∙◌, ap, arith, refl}
 use Rattle.nb_ffi.specs.Entries.{written_over}
 use Rattle.nb_ffi.specs.Whole.IsListing.{Listed, Long}
+use Rattle.nb_ffi.proofs.Whole.{whole-unless}
 use Rattle.nb_ffi.proofs.exports.whole.samvolip_entries.Goals as goal
 
 pub returns-then-len-entries : goal.returns-then-len-entries
@@ -11,7 +12,11 @@ returns-then-len-entries c = Long refl c.in-Ok.listed.items
       new = c.entries.new.self;
       was = c.lend.ensures.value;
       is = refl;
-      holds = c.in-Ok.ensures.listed;
+      holds = record {
+        promised = c.in-Ok.ensures.listed;
+        kept = c.in-Ok.ensures.kept;
+        whole = whole-unless c.lend.result.now c.in-Ok.ensures.all (λ is. absurd cc);
+      };
     })
 
 pub returns-else-len-entries : goal.returns-else-len-entries
@@ -24,5 +29,9 @@ returns-else-len-entries c = Listed refl c.in-Ok.listed.items
       new = c.entries.new.self;
       was = c.lend.ensures.value;
       is = refl;
-      holds = c.in-Ok.ensures.listed;
+      holds = record {
+        promised = c.in-Ok.ensures.listed;
+        kept = c.in-Ok.ensures.kept;
+        whole = whole-unless c.lend.result.now c.in-Ok.ensures.all (λ is. absurd cc);
+      };
     })
