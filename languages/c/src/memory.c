@@ -77,8 +77,10 @@ static void *new_pages(size_t size)
 
 void *__wrap_malloc(size_t size)
 {
-    if (size < LARGE || size > PTRDIFF_MAX - HUGE_PAGE)
+    if (size < LARGE)
         return __real_malloc(size);
+    if (size > PTRDIFF_MAX - HUGE_PAGE)
+        return NULL;
     size_t whole = (size + PAGE - 1) / PAGE * PAGE;
     void *block = new_pages(whole);
     if (block == NULL || is_listed(block, whole))
