@@ -5,10 +5,10 @@ use Rattle.nb_core.specs.declared.calls.Call.{Call}
 use Rattle.nb_map.specs.Fullness as fullness
 use Rattle.nb_map.specs.Handles.{HandleOf, KeepsRest}
 use Rattle.nb_map.specs.Maps.{MapOf, SeatOf}
+use Rattle.nb_map.specs.Progress.{Tries}
 use Rattle.nb_map.specs.Promises as of_map
 use Rattle.nb_map.specs.Promises.{Outcome}
 use Rattle.nb_map.specs.Walks.{IsWalkOf, bound_at, walk_from}
-use Rattle.nb_map.specs.declared.faults.PutFault.{PutFault}
 use Rattle.nb_map.specs.declared.map.walks.WalkPlace.{WalkPlace}
 use Rattle.nb_map.specs.declared.occupancy.Occupancy.{Occupancy}
 use Rattle.nb_ffi.specs.Cursors.{walk_in}
@@ -27,10 +27,9 @@ abbrev pub HasGot : (key : ℕ) → Option ℕ → (before after : HandleOf) →
 HasGot key found = HasCalled (λ m before after. of_map.HasGot m key before after found)
 
 -- a write that has so many tries, and one at least
-abbrev pub HasTriedToWrite :
-    Call → (tries : ℕ) → Outcome PutFault → (before after : HandleOf) → Type 0
-HasTriedToWrite call tries outcome =
-    HasCalled (λ m before after. of_map.HasTriedToWrite m call before after (max tries 1) outcome)
+abbrev pub HasWritten : Call → (tries : ℕ) → Outcome → (before after : HandleOf) → Type 0
+HasWritten call tries outcome =
+    HasCalled (λ m before after. of_map.HasWritten m call before after (Tries (max tries 1)) outcome)
 
 -- ---- looks at the map as a whole
 

@@ -15,7 +15,7 @@ use Rattle.nb_ffi.specs.Closing.{IsEndOf}
 use Rattle.nb_ffi.specs.Codes.{fault_code, occupancy_in_c, reply_in_c}
 use Rattle.nb_ffi.specs.Cursors.{walk_in}
 use Rattle.nb_ffi.specs.Handles.{HasAllSeats, IsNew, IsPartOf, StaysOpen}
-use Rattle.nb_ffi.specs.Promises.{HasGot, HasMet, HasSampled, HasTriedToWrite, HasWalkedOn}
+use Rattle.nb_ffi.specs.Promises.{HasGot, HasMet, HasSampled, HasWalkedOn, HasWritten}
 use Rattle.nb_ffi.specs.declared.codes.WriteReply.{WriteReply}
 use Rattle.nb_ffi.specs.declared.codes.TheConstants.{ABSENT, E_LOST, E_NOT_ALL_SEATS, E_NO_SEAT, E_SEATS, OK, E_OUT_OF_MEMORY, PRESENT}
 use Rattle.nb_ffi.specs.declared.cursor.Cursor.{Cursor}
@@ -40,9 +40,9 @@ abbrev pub IsWrite :
     → Type 0
 IsWrite (Ok call) tries code reply reply' before after =
     ((code ≡ OK) × ((made : Reply) × (reply' ≡ reply_in_c made)
-    × StaysOpen before after (HasTriedToWrite call tries (Replied made))))
+    × StaysOpen before after (HasWritten call tries (Replied made))))
     ⊎ ((fault : PutFault) × (code ≡ fault_code fault) × (reply' ≡ reply)
-    × StaysOpen before after (HasTriedToWrite call tries (Refused fault)))
+    × StaysOpen before after (HasWritten call tries (Refused fault)))
 IsWrite (Err refusal) tries code reply reply' before after =
     (code ≡ refusal) × (reply' ≡ reply) × (after ≡ before)
 
@@ -61,7 +61,7 @@ abbrev pub IsNamedWrite :
     → Type 0
 IsNamedWrite (Ok call) tries code number number' before after =
     (answer : Result (Option ℕ) PutFault) × IsTold answer code number number'
-    × StaysOpen before after (HasTriedToWrite call tries (found_or_refused answer))
+    × StaysOpen before after (HasWritten call tries (found_or_refused answer))
 IsNamedWrite (Err refusal) tries code number number' before after =
     (code ≡ refusal) × (number' ≡ number) × (after ≡ before)
 

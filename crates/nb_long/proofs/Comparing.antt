@@ -9,8 +9,8 @@ use Rattle.nb_core.specs.declared.calls.Reply.{Reply}
 use Rattle.nb_map.proofs.Theorems.{logs_add_up}
 use Rattle.nb_map.specs.Maps.{HasWorked, IsMine, MapOf, SeatOf}
 use Rattle.nb_map.specs.NamedCalls.{exchange_of}
-use Rattle.nb_map.specs.Promises.{HasGot, HasTriedToWrite, Outcome, Refused, Replied}
-use Rattle.nb_map.specs.declared.faults.PutFault.{PutFault}
+use Rattle.nb_map.specs.Progress.{Limit, Tries}
+use Rattle.nb_map.specs.Promises.{HasGot, HasWritten, Outcome, Refused, Replied}
 use Rattle.nb_map.specs.declared.faults.PutFault.TheVariants as put_fault
 use Rattle.nb_long.proofs.Rounds.{HasIdled, HasRound, exchange-won, last-then, lost-round, round-worked, worked-then}
 use Rattle.nb_long.specs.Promises.{HasAnsweredIf, HasChangedIf, HasGotValue, HasMadeRound}
@@ -23,24 +23,24 @@ use Rattle.nb_long.specs.declared.map.Unshown.{Unshown}
 
 -- an exchange for a number puts none at an absent key, so it is never refused as full
 pub never-full :
-    {m : MapOf} {key n tries : ℕ} (new : Option ℕ) {before after : SeatOf}
-    → HasTriedToWrite m (exchange_of key (Some n) new) before after tries (Refused put_fault.Full)
+    {m : MapOf} {key n : ℕ} {limit : Limit} (new : Option ℕ) {before after : SeatOf}
+    → HasWritten m (exchange_of key (Some n) new) before after limit (Refused put_fault.Full)
     → ⊥
 never-full new tried = let fills : true ≡ false = tried.answered.just.0 in cc
 
 -- the read has shown this
 pub round-of :
     {V : Type 0} {m : LongMapOf} {key n : ℕ} {new : Option ℕ} {before read after : SeatOf}
-    {shown : Where V} {outcome : Outcome PutFault}
+    {shown : Where V} {outcome : Outcome}
     → IsMine m.map before → HasGotValue m key before read (Ok (Some shown)) → n ≡ shown.index
-    → HasTriedToWrite m.map (exchange_of key (Some n) new) read after 1 outcome
+    → HasWritten m.map (exchange_of key (Some n) new) read after (Tries 1) outcome
     → HasRound m key (Some shown.index) new before after outcome
 round-of {m = m} {key} {n} {new} {before} {read} {after} {shown} {outcome} own got is wrote =
     record {
       read = read;
       own = own;
       got = subst (HasGot m.map key before read) got.shown.1 got.got;
-      wrote = subst (λ n. HasTriedToWrite m.map (exchange_of key (Some n) new) read after 1 outcome) is
+      wrote = subst (λ n. HasWritten m.map (exchange_of key (Some n) new) read after (Tries 1) outcome) is
           wrote;
     }
 
@@ -74,7 +74,7 @@ module _
 
     -- it is lost
     pub loses :
-        {n : ℕ} (outcome : Outcome PutFault) → HasRound m key (Some n) new before after outcome
+        {n : ℕ} (outcome : Outcome) → HasRound m key (Some n) new before after outcome
         → IsLost outcome → HasMadeRound eq m key value new before after (Ok None)
     loses outcome round lost = record {
       answered = lost-round outcome round lost;

@@ -31,11 +31,10 @@ use Rattle.nb_map.specs.Calling.{HasCountedTurned, HasStepped, MayMake}
 use Rattle.nb_map.specs.Logs.{HasLogged, log}
 use Rattle.nb_map.specs.Maps.{HasWorked, IsMine, MapOf, SeatOf, accounted}
 use Rattle.nb_map.specs.NamedCalls.{change_to, exchange_of, want_of}
-use Rattle.nb_map.specs.Progress.{passed_since}
-use Rattle.nb_map.specs.Promises.{Found, HasGot, HasTriedToWrite, Matched, Outcome, Refused, Replied}
+use Rattle.nb_map.specs.Progress.{Limit, Tries, passed_since}
+use Rattle.nb_map.specs.Promises.{Found, HasGot, HasWritten, Matched, Outcome, Refused, Replied}
 use Rattle.nb_map.specs.Refusals.{IsJust}
 use Rattle.nb_map.specs.Steps.{put_steps}
-use Rattle.nb_map.specs.declared.faults.PutFault.{PutFault}
 use Rattle.nb_long.proofs.Passed.{others-won}
 use Rattle.nb_long.specs.Typed.{HasLostRound, HasMadeLast, IsIdle, IsLockFreeIf, LongMapOf, passed_on, read_of, round_steps}
 use Rattle.nb_long.specs.Updating.{IsLost}
@@ -271,18 +270,18 @@ there-is (Some n) (Some f) holds = ap Some (eqb-true f n holds)
 
 -- an exchange that matched found this number
 pub exchange-won :
-    {m : MapOf} {key tries : ℕ} {found : Option ℕ} (new : Option ℕ) {before after : SeatOf}
-    {reply : Reply}
-    → HasTriedToWrite m (exchange_of key found new) before after tries (Replied reply)
+    {m : MapOf} {key : ℕ} {limit : Limit} {found : Option ℕ} (new : Option ℕ)
+    {before after : SeatOf} {reply : Reply}
+    → HasWritten m (exchange_of key found new) before after limit (Replied reply)
     → reply.matched ≡ true
-    → HasTriedToWrite m (exchange_of key found new) before after tries
+    → HasWritten m (exchange_of key found new) before after limit
     (Replied (record { before = found; matched = true }))
-exchange-won {m} {key} {tries} {found} new {before} {after} {reply} tried matched =
+exchange-won {m} {key} {limit} {found} new {before} {after} {reply} tried matched =
     let exchange : Call = exchange_of key found new in
     let fits = replies_fit before after exchange reply tried.answered in
     let there : reply.before ≡ found = there-is found reply.before
     (sym (ap (λ (r : Reply). r.matched) fits) ∙ matched) in
-    subst (λ reply. HasTriedToWrite m exchange before after tries (Replied reply))
+    subst (λ reply. HasWritten m exchange before after limit (Replied reply))
     (ap₂ (λ b m. record { before = b; matched = m }) there matched) tried
 
 -- a write that didn't match does nothing to the number of keys
@@ -293,15 +292,15 @@ uncounted-missed key want change reply missed = rw missed
 
 -- A read, and an exchange, with one try, of the number that it found.
 pub record HasRound (m : LongMapOf) (key : ℕ) (found new : Option ℕ) (before after : SeatOf)
-    (outcome : Outcome PutFault) : Type 0 where
+    (outcome : Outcome) : Type 0 where
   pub read : SeatOf
   pub own : IsMine m.map before
   pub got : HasGot m.map key before read found
-  pub wrote : HasTriedToWrite m.map (exchange_of key found new) read after 1 outcome
+  pub wrote : HasWritten m.map (exchange_of key found new) read after (Tries 1) outcome
 
 module _
     {m : LongMapOf} {key : ℕ} {found new : Option ℕ} {before after : SeatOf}
-    {outcome : Outcome PutFault} (round : HasRound m key found new before after outcome)
+    {outcome : Outcome} (round : HasRound m key found new before after outcome)
   where
     abbrev p : Plan
     p = m.map.chain.shape
@@ -324,15 +323,15 @@ module _
           (stepped-as {c = call.Get key} exchange refl (λ fills. absurd cc) round.got.worked.steps)
           (subst (λ t. HasStepped p exchange round.read.chain after.chain (put_steps p t))
           (one-try (passed_since exchange round.read.chain after.chain))
-          round.wrote.wait_free.steps));
-      net = round.wrote.wait_free.net;
-      count = round.wrote.wait_free.count ∙ ap (accounted round.wrote.wait_free.net) read-count;
+          round.wrote.non_blocking.steps));
+      net = round.wrote.non_blocking.net;
+      count = round.wrote.non_blocking.count ∙ ap (accounted round.wrote.non_blocking.net) read-count;
     }
 
 -- where its exchange is lost, it has changed nothing
 pub lost-round :
     {m : LongMapOf} {key : ℕ} {found new : Option ℕ} {before after : SeatOf}
-    (outcome : Outcome PutFault) → HasRound m key found new before after outcome → IsLost outcome
+    (outcome : Outcome) → HasRound m key found new before after outcome → IsLost outcome
     → HasLostRound key before after
 lost-round {key = key} {found} {new} {before} {after} (Replied reply) round missed =
     let exchange : Call = exchange_of key found new in
@@ -345,7 +344,7 @@ lost-round {key = key} {found} {new} {before} {after} (Replied reply) round miss
       logged = both;
       count = uncounted round.got.own round.wrote.own round.wrote.answered
           (uncounted-missed key (want_of found) (change_to new) reply missed)
-          round.wrote.wait_free ∙ read-count round;
+          round.wrote.non_blocking ∙ read-count round;
       won = others-won round.own.chain.plan (holds-there found)
           (round-worked round exchange refl (λ fills. fills)).steps.1.grown both
           (replies_fit round.read after exchange reply round.wrote.answered) missed;
@@ -354,16 +353,16 @@ lost-round {m = m} {key} {found} {new} {before} {after} (Refused refusal) round 
     let exchange : Call = exchange_of key found new in
     let asked : Call × Reply = read_of key found in
     let just : 1 ≤ passed_on key round.read after =
-    subst (IsJust m.map.chain.shape exchange round.read.chain after.chain 1) lost
+    subst (IsJust m.map.chain.shape exchange round.read.chain after.chain (Tries 1)) lost
     round.wrote.answered.just in
     let sum = passed-sum key before round.read after round.got.worked.steps.1.grown
-    round.wrote.wait_free.steps.1.grown in
+    round.wrote.non_blocking.steps.1.grown in
     record {
       made = asked ∷ [];
       idle = All-cons (IsIdle key) asked [] refl (All-nil (IsIdle key));
       logged = logs_add_up.more round.got.replied round.wrote.answered.unmade;
       count = uncounted round.got.own round.wrote.own round.wrote.answered.unmade refl
-          round.wrote.wait_free ∙ read-count round;
+          round.wrote.non_blocking ∙ read-count round;
       won = omega (arith, just, sum);
     }
 lost-round (Found number) round lost = absurd lost

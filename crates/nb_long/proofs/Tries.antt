@@ -9,9 +9,9 @@ use Rattle.nb_core.specs.declared.calls.Call.{Call}
 use Rattle.nb_core.specs.declared.calls.Call.TheVariants.{Get}
 use Rattle.nb_map.proofs.Theorems.{logs_add_up}
 use Rattle.nb_map.specs.Maps.{HasWorked, IsMine, SeatOf}
-use Rattle.nb_map.specs.Promises.{HasGot, HasTriedToWrite, Outcome, Refused}
+use Rattle.nb_map.specs.Progress.{Tries}
+use Rattle.nb_map.specs.Promises.{HasGot, HasWritten, Outcome, Refused}
 use Rattle.nb_map.specs.Steps.{get_steps}
-use Rattle.nb_map.specs.declared.faults.PutFault.{PutFault}
 use Rattle.nb_map.specs.declared.faults.PutFault.TheVariants as put_fault
 use Rattle.nb_long.proofs.Rounds.{HasIdled, HasRound, idled-as, idled-more, idled-none, last-then, lost-round, passed-sum, round-worked, stepped-as, worked-then}
 use Rattle.nb_long.specs.Promises.{HasGotValue}
@@ -69,7 +69,7 @@ got-of {m = m} {key} {before} {after} {found} got =
 round-of :
     {F V : Type 0} {m : LongMapOf} {Step : F → Option (Bor V) → Option V → F → Type 0} {key : ℕ}
     {before after : SeatOf} {function left : F} {found new : Option (Where V)}
-    {outcome : Outcome PutFault} → IsMine m.map before
+    {outcome : Outcome} → IsMine m.map before
     → HasTriedOnce m Step key before function found new after left outcome
     → HasRound m key (number_of found) (number_of new) before after outcome
 round-of mine tried = record {
@@ -115,8 +115,8 @@ module _
     -- it is stored, and exchanged for what was found
     module _ (after : SeatOf) (new : Option (Where V)) (stored : IsStored m.store value new) where
       once :
-          {outcome : Outcome PutFault}
-          → HasTriedToWrite m.map (exchange_for key found new) read after 1 outcome
+          {outcome : Outcome}
+          → HasWritten m.map (exchange_for key found new) read after (Tries 1) outcome
           → HasTriedOnce m Step key before function found new after left outcome
       once wrote =
           record { read = read; value = value; asked = asked; stored = stored; wrote = wrote }
@@ -185,7 +185,7 @@ module _ {F V : Type 0} {m : LongMapOf} {Step : F → Option (Bor V) → Option 
     (come : HasCome m Step key before first now function) where
   -- ---- one try more
 
-  module _ {after : SeatOf} {left : F} {found new : Option (Where V)} {outcome : Outcome PutFault}
+  module _ {after : SeatOf} {left : F} {found new : Option (Where V)} {outcome : Outcome}
       (tried : HasTriedOnce m Step key now function found new after left outcome) where
     abbrev ask : Call
     ask = exchange_for key found new

@@ -7,6 +7,7 @@ use Rattle.nb_core.specs.declared.calls.Want.{Want}
 use Rattle.nb_map.proofs.Theorems.{replies_fit}
 use Rattle.nb_map.specs.Logs.{HasReplied}
 use Rattle.nb_map.specs.Maps.{MapOf, SeatOf}
+use Rattle.nb_map.specs.Progress.{Unlimited}
 use Rattle.nb_map.specs.Promises.{Found, HasWritten, Replied}
 use Rattle.nb_long.specs.Promises.{HasPutValue}
 use Rattle.nb_long.specs.Stores.{HasStored}
@@ -17,8 +18,8 @@ use Rattle.nb_long.specs.declared.map.Stored.{Stored}
 replied :
     {m : MapOf} {key number : ℕ} {want : Want} {before after : SeatOf} {was : Option ℕ}
     {done : Bool} → done ≡ holds_of want was
-    → HasWritten m (call.Write key want (change.Put number)) before after (Found was)
-    → HasWritten m (call.Write key want (change.Put number)) before after
+    → HasWritten m (call.Write key want (change.Put number)) before after Unlimited (Found was)
+    → HasWritten m (call.Write key want (change.Put number)) before after Unlimited
     (Replied (record { before = was; matched = done }))
 replied {m} {key} {number} {want} {before} {after} {was} {done} holds wrote =
     let write = call.Write key want (change.Put number) in
@@ -29,7 +30,7 @@ replied {m} {key} {number} {want} {before} {after} {was} {done} holds wrote =
           ∙ ap (reply_at write) wrote.answered.1
           ∙ ap (λ (matched : Bool). record { before = was; matched = matched }) (sym holds))
           wrote.answered.2;
-      lock_free = wrote.lock_free;
+      non_blocking = wrote.non_blocking;
       short = wrote.short;
       own = wrote.own;
     }
@@ -40,12 +41,12 @@ pub put-value :
     (stored : Stored V) (number : ℕ) → number ≡ stored.receipt.index
     → HasStored m.store value stored.receipt → stored.done ≡ holds_of want stored.before
     → stored.compared ≡ None
-    → HasWritten m.map (call.Write key want (change.Put number)) before after (Found stored.before)
+    → HasWritten m.map (call.Write key want (change.Put number)) before after Unlimited (Found stored.before)
     → HasPutValue m key want value before after (Ok stored)
 put-value m key want value {before} {after} stored number is held holds none wrote = record {
   kept = held;
   wrote = subst (λ number. HasWritten m.map (call.Write key want (change.Put number)) before
-      after (Replied (record { before = stored.before; matched = stored.done }))) is
+      after Unlimited (Replied (record { before = stored.before; matched = stored.done }))) is
       (replied holds wrote);
   uncompared = none;
   own = wrote.own;

@@ -10,8 +10,9 @@ use Rattle.nb_core.specs.declared.calls.Want.{Want}
 use Rattle.nb_core.specs.declared.numbers.TheConstants.{VALUE_MAX}
 use Rattle.nb_map.specs.Maps.{HasWorked, IsMine, SeatOf}
 use Rattle.nb_map.specs.NamedCalls.{change_to}
+use Rattle.nb_map.specs.Progress.{Unlimited}
 use Rattle.nb_map.specs.Promises.{HasGot, HasWritten, Refused, Replied}
-use Rattle.nb_map.specs.declared.faults.AddFault.TheVariants as add_fault
+use Rattle.nb_map.specs.declared.faults.PutFault.TheVariants as put_fault
 use Rattle.nb_long.specs.Stores.{HasStored}
 use Rattle.nb_long.specs.Typed.{HasCompared, HasLostRound, IsLockFreeIf, IsShown, IsUnshown, LongMapOf, number_of, put_where, round_steps}
 use Rattle.nb_long.specs.declared.map.Compared.{Compared}
@@ -49,12 +50,12 @@ abbrev pub HasPut :
     {V : Type 0} → LongMapOf → (key : ℕ) → Want → (before after : SeatOf)
     → Result (Stored V) (LongFault V) → Type 0
 HasPut m key want before after (Ok stored) =
-    HasWritten m.map (put_where key want stored.receipt) before after
+    HasWritten m.map (put_where key want stored.receipt) before after Unlimited
     (Replied (record { before = stored.before; matched = stored.done }))
 HasPut m key want before after (Err (fault.OutOfMemory back)) = after ≡ before
 HasPut m key want before after (Err (fault.ValueRange placed)) = after ≡ before
 HasPut m key want before after (Err (fault.Full receipt)) =
-    HasWritten m.map (put_where key want receipt) before after (Refused add_fault.Full)
+    HasWritten m.map (put_where key want receipt) before after Unlimited (Refused put_fault.Full)
 HasPut m key want before after (Err (fault.Unshown receipt)) = ⊥
 
 -- what `put`, `put_if_absent` and `replace` promise

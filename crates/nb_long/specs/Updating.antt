@@ -12,9 +12,9 @@ use Rattle.nb_core.specs.declared.calls.Reply.{Reply}
 use Rattle.nb_core.specs.declared.numbers.TheConstants.{VALUE_MAX}
 use Rattle.nb_map.specs.Maps.{HasWorked, IsMine, SeatOf}
 use Rattle.nb_map.specs.NamedCalls.{exchange_of}
-use Rattle.nb_map.specs.Promises.{Found, HasTriedToWrite, Matched, Outcome, Refused, Replied}
+use Rattle.nb_map.specs.Progress.{Tries}
+use Rattle.nb_map.specs.Promises.{Found, HasWritten, Matched, Outcome, Refused, Replied}
 use Rattle.nb_map.specs.declared.faults.PutFault.TheVariants as put_fault
-use Rattle.nb_map.specs.declared.faults.PutFault.{PutFault}
 use Rattle.nb_long.specs.Promises.{HasGotValue}
 use Rattle.nb_long.specs.Typed.{HasMadeLast, LongMapOf, number_of, passed_on, read_of, round_steps}
 use Rattle.nb_long.specs.declared.map.Unshown.{Unshown}
@@ -61,16 +61,16 @@ exchange_for key found new = exchange_of key (number_of found) (number_of new)
 -- stored, and its number is exchanged for the one that was found, with one try.
 pub record HasTriedOnce {F V : Type 0} (m : LongMapOf)
     (Step : F → Option (Bor V) → Option V → F → Type 0) (key : ℕ) (before : SeatOf) (function : F)
-    (found new : Option (Where V)) (after : SeatOf) (left : F) (outcome : Outcome PutFault) :
+    (found new : Option (Where V)) (after : SeatOf) (left : F) (outcome : Outcome) :
     Type 0 where
   pub read : SeatOf
   pub value : Option V
   pub asked : HasBegunTry m Step key before function found value read left
   pub stored : IsStored m.store value new
-  pub wrote : HasTriedToWrite m.map (exchange_for key found new) read after 1 outcome
+  pub wrote : HasWritten m.map (exchange_for key found new) read after (Tries 1) outcome
 
 -- The exchange is lost: something else was at the key by then, or other seats came first.
-abbrev pub IsLost : Outcome PutFault → Type 0
+abbrev pub IsLost : Outcome → Type 0
 IsLost (Replied reply) = reply.matched ≡ false
 IsLost (Refused refusal) = refusal ≡ put_fault.Contended
 IsLost (Found number) = ⊥
@@ -86,7 +86,7 @@ pub data HasLost {F V : Type 0} (m : LongMapOf) (Step : F → Option (Bor V) →
   Lost :
       {calls : List Call} {now : SeatOf} {function : F}
       → HasLost m Step key before first calls now function
-      → (found new : Option (Where V)) (after : SeatOf) (left : F) (outcome : Outcome PutFault)
+      → (found new : Option (Where V)) (after : SeatOf) (left : F) (outcome : Outcome)
       → HasTriedOnce m Step key now function found new after left outcome → IsLost outcome
       → HasLost m Step key before first (exchange_for key found new ∷ calls) after left
 
@@ -181,7 +181,7 @@ abbrev pub HasEndedTry :
 HasEndedTry m Step key before function after left (Ok (Some updated)) =
     IsLastTry m Step key before before function after left (Ok updated)
 HasEndedTry m Step key before function after left (Ok None) =
-    (found : Option (Where _)) × (new : Option (Where _)) × (outcome : Outcome PutFault)
+    (found : Option (Where _)) × (new : Option (Where _)) × (outcome : Outcome)
     × HasTriedOnce m Step key before function found new after left outcome × IsLost outcome
 HasEndedTry m Step key before function after left (Err refusal) =
     IsLastTry m Step key before before function after left (Err refusal)
@@ -192,14 +192,14 @@ abbrev pub HasExchanged :
     → (before after : SeatOf) → Result (Option (Updated V)) (UpdateFault V) → Type 0
 HasExchanged m key found new before after (Ok (Some updated)) =
     (updated ≡ record { found = found; new = new })
-    × HasTriedToWrite m.map (exchange_for key found new) before after 1
+    × HasWritten m.map (exchange_for key found new) before after (Tries 1)
     (Replied (record { before = number_of found; matched = true }))
 HasExchanged m key found new before after (Ok None) =
-    (outcome : Outcome PutFault)
-    × HasTriedToWrite m.map (exchange_for key found new) before after 1 outcome × IsLost outcome
+    (outcome : Outcome)
+    × HasWritten m.map (exchange_for key found new) before after (Tries 1) outcome × IsLost outcome
 HasExchanged m key found new before after (Err (fault.Full receipt)) =
     (found ≡ None) × (new ≡ Some receipt)
-    × HasTriedToWrite m.map (exchange_for key found new) before after 1 (Refused put_fault.Full)
+    × HasWritten m.map (exchange_for key found new) before after (Tries 1) (Refused put_fault.Full)
 HasExchanged m key found new before after (Err (fault.OutOfMemory value)) = ⊥
 HasExchanged m key found new before after (Err (fault.ValueRange placed)) = ⊥
 HasExchanged m key found new before after (Err fault.Unshown) = ⊥

@@ -7,6 +7,7 @@ ghost use Rattle.nb_map.specs.Ending.{EndedWith, HasTablesLeft};
 ghost use Rattle.nb_map.specs.Logs.{HaveEmptyLogs};
 ghost use Rattle.nb_map.specs.Maps.{AreMine, IsMadeFor, IsMine, new_seats};
 ghost use Rattle.nb_map.specs.NamedCalls.{remove_of};
+ghost use Rattle.nb_map.specs.Progress.{Unlimited};
 ghost use Rattle.nb_map.specs.Promises.{HasGot, HasMet, HasWritten};
 ghost use Rattle.nb_map.specs.Promises as outcome;
 ghost use Rattle.nb_long.specs.Handles.{IsWhole, KeepsRest, seats_of};
@@ -150,7 +151,7 @@ impl<V: Drop> Handle<V> {
     /// Takes out a key, and answers the number that was there: `LongMap::remove`.
     pub fn remove<R: Wait>(&mut self, rt: &R, key: Key) -> Option<Num>
         ensures wrote { HasWritten self.old.map.map (remove_of key) self.old.seat self.new.seat
-            (outcome.Found result) }
+            Unlimited (outcome.Found result) }
         ensures rest { KeepsRest self.old self.new }
     {
         self.map.remove(rt, key)

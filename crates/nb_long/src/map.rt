@@ -7,6 +7,7 @@ ghost use Rattle.nb_map.specs.Ending.{EndedWith, HasTablesLeft};
 ghost use Rattle.nb_map.specs.Logs.{HaveEmptyLogs};
 ghost use Rattle.nb_map.specs.Maps.{AreMine, IsMadeFor, IsMine, new_seats};
 ghost use Rattle.nb_map.specs.NamedCalls.{remove_of};
+ghost use Rattle.nb_map.specs.Progress.{Unlimited};
 ghost use Rattle.nb_map.specs.Promises.{HasMet, HasWritten};
 ghost use Rattle.nb_map.specs.Promises as outcome;
 ghost use Rattle.nb_long.specs.Promises.{HasChangedIf, HasGotValue, HasPutValue, HasReplacedIf, with_token};
@@ -217,7 +218,7 @@ impl<V> LongMap<V> {
     pub fn remove<R: Wait>(&self, rt: &R, seat: &mut Seat, key: Key) -> Option<Num>
         requires own { IsMine self.now.map seat.old }
         ensures { HasWritten self.now.map (remove_of key) seat.old seat.new
-            (outcome.Found result) }
+            Unlimited (outcome.Found result) }
     {
         self.map.remove(rt, seat, key)
     }

@@ -7,7 +7,7 @@ use Rattle.nb_table.proofs.Theorems.{steps_add_up}
 use Rattle.nb_table.specs.Chains.{ChainOf, Grown, IsOwn, SeenBy}
 use Rattle.nb_map.proofs.Bounds.{climb-bound}
 use Rattle.nb_map.specs.Progress.{IsLastSeen}
-use Rattle.nb_map.specs.Steps.{climb_steps, get_steps, home_steps, put_steps, slots_below}
+use Rattle.nb_map.specs.Steps.{climb_steps, home_steps, lost_steps, put_steps, slots_below}
 
 -- of a table above, who doesn't know it in the end didn't know it before
 pub last-before :
@@ -20,16 +20,6 @@ last-before g own a last = record {
 
 -- ---- bounds of steps
 
--- a write may make some steps more for each of its tries than a read
-put-more : (p : Plan) (tries : ℕ) → get_steps p + tries ≤ put_steps p tries
-put-more p tries =
-    fits (slots_below p (generations_of p)) (generations_of p) (size_of p (generations_of p - 1))
-    tries
-  where
-    fits : (t tables n tries : ℕ)
-        → 8 * (t + tables) * (n + 8) + tries ≤ 8 * (t + tries + tables) * (n + 8)
-    fits t tables n tries = omega arith
-
 -- a write of more tries has a greater bound
 pub put-rises : (p : Plan) (a b : ℕ) → a ≤ b → put_steps p a ≤ put_steps p b
 put-rises p a b less =
@@ -39,24 +29,29 @@ put-rises p a b less =
     more : (s g x y : ℕ) → x ≤ y → 8 * (s + x + g) ≤ 8 * (s + y + g)
     more s g x y below = omega (arith, below)
 
+-- more lost exchanges have a greater bound
+pub lost-rises : (p : Plan) (a b : ℕ) → a ≤ b → lost_steps p a ≤ lost_steps p b
+lost-rises p a b less =
+    mul-le-mul_right (size_of p (generations_of p - 1) + 8) (omega (arith, less))
+
+-- a lost exchange is one step
+pub lost-few : (p : Plan) (lost most : ℕ) → lost ≤ most → lost ≤ lost_steps p most
+lost-few p lost most less = fits (size_of p (generations_of p - 1)) less
+  where
+    fits : (n : ℕ) → lost ≤ most → lost ≤ 8 * most * (n + 8)
+    fits n less = omega (arith, less)
+
 -- what a write does at its key's home slot, the load of the top word, and what it does from there
 -- on
 pub whole-bound :
-    (p : Plan) → IsPlan p → (g lost tries : ℕ) → g < generations_of p → lost ≤ tries
-    → 1 + (home_steps + climb_steps p + lost) ≤ put_steps p tries
-whole-bound p plan g lost tries table few =
-    omega (arith, climb-bound p plan g table, put-more p tries, few)
-
--- the same, where rounds come after the look at the home slot
-pub before-bound :
-    (p : Plan) (lost passed all : ℕ) → lost + passed ≤ all
-    → 1 + (home_steps + lost + put_steps p passed) ≤ put_steps p (all + 1)
-before-bound p lost passed all both =
+    (p : Plan) → IsPlan p → (g lost more tries : ℕ) → g < generations_of p → lost + more ≤ tries
+    → home_steps + lost + (1 + (climb_steps p + lost_steps p more)) ≤ put_steps p tries
+whole-bound p plan g lost more tries table few =
     let n = size_of p (generations_of p - 1) in
-    fits (slots_below p (generations_of p)) (generations_of p) n lost passed all
-    (mul-le-mul_right (n + 8) both)
+    fits (slots_below p (generations_of p)) (generations_of p) n (climb_steps p) lost more tries
+    (omega (arith, climb-bound p plan g table)) (mul-le-mul_right (n + 8) few)
   where
-    fits : (t tables n lost passed all : ℕ) → (lost + passed) * (n + 8) ≤ all * (n + 8)
-        → 1 + (5 + lost + 8 * (t + passed + tables) * (n + 8))
-        ≤ 8 * (t + (all + 1) + tables) * (n + 8)
-    fits t tables n lost passed all both = omega (arith, both)
+    fits : (t tables n climbed lost more tries : ℕ) → 8 + climbed ≤ 8 * (t + tables) * (n + 8)
+        → (lost + more) * (n + 8) ≤ tries * (n + 8)
+        → 5 + lost + (1 + (climbed + 8 * more * (n + 8))) ≤ 8 * (t + tries + tables) * (n + 8)
+    fits t tables n climbed lost more tries climb few = omega (arith, climb, few)

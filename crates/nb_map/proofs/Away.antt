@@ -1,80 +1,86 @@
 -- A write that looked at its key's home slot in vain, and then goes the general way.
-use Rattle.std.proofs.Common.{◌≡◌, ◌∙◌, ℕ, ◌+◌, ◌-◌, min, List, [], inl, inr, ap, refl, arith}
+use Rattle.std.proofs.Common.{◌≡◌, ◌∙◌, ℕ, ◌+◌, ◌≤◌, List, [], inl, inr, ap, refl, subst, arith, Ok, Err}
 use Rattle.nb_core.specs.History.{key_of_call}
+use Rattle.nb_core.specs.Meaning.{net_of_call}
 use Rattle.nb_core.specs.declared.calls.Call.{Call}
 use Rattle.nb_core.specs.declared.calls.Reply.{Reply}
 use Rattle.nb_core.specs.declared.events.Event.{Event}
 use Rattle.nb_table.specs.Chains.{ChainOf, Extended, Grown, IsOwn, SeenBy}
-use Rattle.nb_map.proofs.AtHome.{before-bound, last-before, put-rises, whole-bound}
+use Rattle.nb_map.proofs.AtHome.{last-before, lost-rises, put-rises, whole-bound}
+use Rattle.nb_map.proofs.Counted.{counted-mine, uncounted-mine}
 use Rattle.nb_map.proofs.Home.{home-before}
-use Rattle.nb_map.proofs.Logged.{logged, logged-then}
+use Rattle.nb_map.proofs.Logged.{logged, logged-then, worked-uncounted}
 use Rattle.nb_map.proofs.Made.{made-own, made-quiet, made-stays, made-within}
 use Rattle.nb_map.proofs.Searched.{made-then}
 use Rattle.nb_map.proofs.Spent.{just-longer, passed-sum}
 use Rattle.nb_map.proofs.Straight.{at-known}
 use Rattle.nb_map.specs.Calling.{HasMade}
 use Rattle.nb_map.specs.Logs.{HasLogged}
-use Rattle.nb_map.specs.Maps.{MapOf, SeatOf, accounted}
-use Rattle.nb_map.specs.Progress.{IsAloneAtHome, IsLockFree, IsShortAtHome, IsWaitFree, passed_since}
-use Rattle.nb_map.specs.Promises.{Found, HasAnswered, HasTriedToWrite, HasWritten, Matched, Outcome, Refused, Replied}
-use Rattle.nb_map.specs.Refusals.{HasGivenUp, HasRefused, IsJust}
-use Rattle.nb_map.specs.Steps.{climb_steps, put_steps}
-use Rattle.nb_map.specs.declared.faults.AddFault.{AddFault}
-use Rattle.nb_map.specs.declared.faults.AddFault.TheVariants as add_fault
-use Rattle.nb_map.specs.declared.faults.PutFault.TheVariants as fault
+use Rattle.nb_map.specs.Maps.{IsMine, MapOf, SeatOf, accounted}
+use Rattle.nb_map.specs.Progress.{IsAloneAtHome, IsShortAtHome, Limit, Tries, Unlimited, passed_since, within}
+use Rattle.nb_map.specs.Promises.{Found, HasAnswered, HasWritten, Matched, Outcome, Refused, Replied}
+use Rattle.nb_map.specs.Refusals.{AreAllTries, HasRefused, IsJust}
+use Rattle.nb_map.specs.Steps.{climb_steps, lost_steps, put_steps}
 use Rattle.nb_map.specs.declared.faults.PutFault.{PutFault}
-use Rattle.nb_map.specs.inside.Waiting.{HasGoneOn, HasGoneOnWith, HasLookedInVain, IsAway, IsAwayWith, IsStopped}
-use Rattle.nb_map.specs.inside.Climbing.{IsSpent}
+use Rattle.nb_map.specs.inside.Waiting.{HasClimbed, HasGoneOn, HasLookedInVain, HasYetToWrite, IsLeft, IsStopped, general_steps}
+
+-- ---- what is left of the tries
+
+-- with more exchanges that others won, no fewer may be lost
+within-rises : (limit : Limit) (a b : ℕ) → a ≤ b → within limit a ≤ within limit b
+within-rises Unlimited a b less = less
+within-rises (Tries tries) a b less = omega (arith, less)
+
+-- both ways together lose no more exchanges than the write may
+lost-within :
+    (limit left : Limit) (lost passed passed' : ℕ) → IsLeft limit lost left → lost ≤ passed
+    → lost + within left passed' ≤ within limit (passed + passed' + 1)
+lost-within Unlimited Unlimited lost passed passed' rest few = omega (arith, few)
+lost-within Unlimited (Tries left) lost passed passed' rest few = absurd rest
+lost-within (Tries tries) Unlimited lost passed passed' rest few = absurd rest
+lost-within (Tries tries) (Tries left) lost passed passed' rest few = omega (arith, rest, few)
+
+-- and have lost all tries where the general way has lost those that were left
+lost-all :
+    (limit left : Limit) (lost passed passed' : ℕ) → IsLeft limit lost left → lost ≤ passed
+    → AreAllTries left passed' → AreAllTries limit (passed + passed')
+lost-all Unlimited Unlimited lost passed passed' rest few all = all
+lost-all Unlimited (Tries left) lost passed passed' rest few all = absurd rest
+lost-all (Tries tries) Unlimited lost passed passed' rest few all = absurd rest
+lost-all (Tries tries) (Tries left) lost passed passed' rest few all =
+    omega (arith, rest, few, all)
 
 -- ---- on the tables
 
 module _ (chain : ChainOf) {call : Call} {before then : SeenBy} {lost : ℕ}
     (away : HasLookedInVain chain call before then lost) where
-  -- both ways together take no more steps than a write may
-  pub made-both :
-      {after : SeenBy} {calls : List (Call × Reply)}
-      → HasMade chain.shape call then after calls
-      (1 + put_steps chain.shape (passed_since call then after))
-      → HasMade chain.shape call before after calls
-      (put_steps chain.shape (passed_since call before after + 1))
-  made-both {after} made =
-      made-within _ _
-      (omega (
-        arith,
-        before-bound chain.shape lost (passed_since call then after)
-            (passed_since call before after)
-            (omega (arith, away.passed, passed-sum call away.made.grown made.grown)),
-      ))
-      (made-then away.own away.made made)
-
-  -- the same of a write with so many tries, of which so many are left
-  module _ (tries left : ℕ) (all : left + lost ≡ tries) where
-    pub made-above :
+  module _ (limit left : Limit) (rest : IsLeft limit lost left) where
+    -- both ways together take no more steps than a write may
+    pub made-both :
         {after : SeenBy} {calls : List (Call × Reply)}
         → HasMade chain.shape call then after calls
-        (1 + (climb_steps chain.shape + min left (passed_since call then after)))
+        (general_steps chain.shape left (passed_since call then after))
         → HasMade chain.shape call before after calls
-        (put_steps chain.shape (min tries (passed_since call before after + 1)))
-    made-above {after} made =
+        (put_steps chain.shape (within limit (passed_since call before after + 1)))
+    made-both {after} made =
         made-within _ _
-        (omega (
-          arith,
-          whole-bound chain.shape away.own.plan before.top
-              (lost + min left (passed_since call then after))
-              (min tries (passed_since call before after + 1))
-              (at-known chain before.top away.own refl call).table
-              (omega (arith, all, away.passed, passed-sum call away.made.grown made.grown)),
-        ))
+        (whole-bound chain.shape away.own.plan before.top lost
+        (within left (passed_since call then after))
+        (within limit (passed_since call before after + 1))
+        (at-known chain before.top away.own refl call).table
+        (subst (λ passed. lost + within left (passed_since call then after)
+        ≤ within limit (passed + 1)) (passed-sum call away.made.grown made.grown)
+        (lost-within limit left lost _ _ rest away.passed)))
         (made-then away.own away.made made)
 
-    -- what is just for those that are left is just for all
-    pub just-above :
+    -- what is just for the tries that are left is just for all
+    pub just-both :
         {after : SeenBy} {own : List Event} {count : ℕ} → Grown chain.shape then after own count
         → (fault : PutFault)
-        → IsJust chain.shape call then after left fault → IsJust chain.shape call before after tries fault
-    just-above grown =
-        just-longer chain.shape call tries left away.made.grown grown
-        (omega (arith, all, away.passed))
+        → IsJust chain.shape call then after left fault → IsJust chain.shape call before after limit fault
+    just-both grown =
+        just-longer chain.shape call limit left away.made.grown grown
+        (lost-all limit left lost _ _ rest away.passed)
 
   -- and it wasn't alone at home
   pub short-both :
@@ -96,146 +102,118 @@ module _ (chain : ChainOf) {call : Call} {before then : SeenBy} {lost : ℕ}
             absurd (away.away (here alone) (inr (last-before before.top mine made.grown last)));
       }
 
--- the general way of a write that waits: the load of the top word, and the rounds after it
+-- the general way: the load of the top word, and the way up
 pub climbed :
     (chain : ChainOf) {call : Call} {start first after : SeenBy} {calls : List (Call × Reply)}
-    → IsOwn chain start → Extended chain.shape start first [] 1
+    (limit : Limit) → IsOwn chain start → Extended chain.shape start first [] 1
     → HasMade chain.shape call first after calls
-    (put_steps chain.shape (passed_since call first after))
+    (climb_steps chain.shape + lost_steps chain.shape (within limit (passed_since call first after)))
     → HasMade chain.shape call start after calls
-    (1 + put_steps chain.shape (passed_since call start after))
-climbed chain {call} {start} {first} {after} own load made =
+    (general_steps chain.shape limit (passed_since call start after))
+climbed chain {call} {start} {first} {after} limit own load made =
     let quiet = made-quiet chain.shape call load in
     made-within _ _
     (omega (
       arith,
-      put-rises chain.shape (passed_since call first after) (passed_since call start after)
-          (omega (arith, passed-sum call quiet.grown made.grown)),
+      lost-rises chain.shape (within limit (passed_since call first after))
+          (within limit (passed_since call start after))
+          (within-rises limit _ _ (omega (arith, passed-sum call quiet.grown made.grown))),
     ))
-    (made-then own quiet made)
-
--- the general way of a write with tries: the load of the top word, and the way up
-pub climbed-with :
-    (chain : ChainOf) {call : Call} {start first after : SeenBy} {calls : List (Call × Reply)}
-    (tries left : ℕ)
-    → IsOwn chain start → Extended chain.shape start first [] 1
-    → HasMade chain.shape call first after calls (climb_steps chain.shape + (tries - left))
-    → IsSpent call first after tries left
-    → HasMade chain.shape call start after calls
-    (1 + (climb_steps chain.shape + min tries (passed_since call start after)))
-climbed-with chain {call} tries left own load made spent =
-    let quiet = made-quiet chain.shape call load in
-    made-within _ _
-    (omega (arith, spent.lost, passed-sum call quiet.grown made.grown))
     (made-then own quiet made)
 
 -- ---- on the map
 
-module _ {map : MapOf} {call : Call} {before then : SeatOf} (away : IsAway map call before then)
+module _ {map : MapOf} {call : Call} {before after : SeatOf} {limit : Limit} (mine : IsMine map before)
   where
-    -- the look in vain is no call
-    vain : HasLogged before then []
-    vain = logged away.mine away.looked.made
-
-    answered-both :
-        (after : SeatOf) (outcome : Outcome AddFault)
-        → HasAnswered (HasRefused map call then after) call then after outcome
-        → HasAnswered (HasRefused map call before after) call before after outcome
-    answered-both after (Found number) (reply, is, made) = (reply, is, logged-then vain made)
-    answered-both after (Matched held) (reply, is, made) = (reply, is, logged-then vain made)
-    answered-both after (Replied reply) made = logged-then vain made
-    answered-both after (Refused fault) refused = record {
-      unmade = logged-then vain refused.unmade;
-      just = refused.just;
-      looked = omega (arith, away.looked.made.grown.steps, refused.looked);
+    -- the general way has made the write, and what that did to the number of keys is counted
+    pub made_on :
+        (reply : Reply)
+        → HasClimbed map.chain.shape call before.chain after.chain limit (Ok reply)
+        → after.count ≡ accounted (net_of_call call reply) before.count
+        → HasGoneOn map call before after limit (Replied reply)
+    made_on reply climbed counted = record {
+      answered = logged mine climbed.made;
+      worked = record { steps = (_, climbed.made); net = net_of_call call reply; count = counted };
+      own = counted-mine reply mine climbed.made counted;
     }
 
-    -- so both together are the write
-    pub gone_on :
-        {after : SeatOf} (outcome : Outcome AddFault) → HasGoneOn map call then after outcome
-        → HasWritten map call before after outcome
-    gone_on {after} outcome on =
-        let (calls, made) = on.worked.steps in
-        record {
-          answered = answered-both after outcome on.answered;
-          lock_free = record {
-            steps = (calls, made-both map.chain away.looked made);
-            net = on.worked.net;
-            count = on.worked.count ∙ ap (accounted on.worked.net) away.count;
-          };
-          short = short-both map.chain away.looked made;
-          own = on.own;
-        }
+    -- or the write is refused there
+    pub stopped_on :
+        (fault : PutFault)
+        → HasClimbed map.chain.shape call before.chain after.chain limit (Err fault)
+        → after.count ≡ before.count → HasGoneOn map call before after limit (Refused fault)
+    stopped_on fault climbed same = record {
+      answered = record { unmade = logged mine climbed.made; just = climbed.refused };
+      worked = worked-uncounted climbed.made same;
+      own = uncounted-mine mine climbed.made same refl;
+    }
 
--- a write that is made or refused with one try is one that waits
-module _ {map : MapOf} {call : Call} {before after : SeatOf} where
-  lock-free : IsWaitFree map call before after 1 → IsLockFree map call before after
-  lock-free worked =
-      let (calls, made) = worked.steps in
-      record {
-        steps = (calls, made-within _ _ (put-rises map.chain.shape _ _ (omega arith)) made);
-        net = worked.net;
-        count = worked.count;
-      }
+module _ {map : MapOf} {call : Call} {before then : SeatOf} {limit left : Limit}
+    (away : HasYetToWrite map call before then limit left) where
+  -- the look in vain is no call
+  vain : HasLogged before then []
+  vain = logged away.mine away.looked.made
 
-  pub written :
-      (reply : Reply) → HasTriedToWrite map call before after 1 (Replied reply)
-      → HasWritten map call before after (Replied reply)
-  written reply tried = record {
-    answered = tried.answered;
-    lock_free = lock-free tried.wait_free;
-    short = tried.short;
-    own = tried.own;
-  }
-
-  pub overflown :
-      HasTriedToWrite map call before after 1 (Refused fault.ValueRange)
-      → HasWritten map call before after (Refused add_fault.ValueRange)
-  overflown tried = record {
-    answered = record {
-      unmade = tried.answered.unmade;
-      just = tried.answered.just;
-      looked = tried.answered.looked;
-    };
-    lock_free = lock-free tried.wait_free;
-    short = tried.short;
-    own = tried.own;
-  }
-
-module _ {map : MapOf} {call : Call} {before then : SeatOf} {tries left : ℕ}
-    (aside : IsAwayWith map call before then tries left) where
-  answered-with :
+  answered-both :
       (after : SeatOf) {calls : List (Call × Reply)} {most : ℕ}
-      → HasMade map.chain.shape call then.chain after.chain calls most
-      → (outcome : Outcome PutFault)
+      → HasMade map.chain.shape call then.chain after.chain calls most → (outcome : Outcome)
       → HasAnswered (IsStopped map call then after left) call then after outcome
-      → HasAnswered (HasGivenUp map call before after tries) call before after outcome
-  answered-with after made (Found number) (reply, is, told) =
-      (reply, is, logged-then (vain aside.away) told)
-  answered-with after made (Matched held) (reply, is, told) =
-      (reply, is, logged-then (vain aside.away) told)
-  answered-with after made (Replied reply) told = logged-then (vain aside.away) told
-  answered-with after made (Refused fault) refused = record {
-    unmade = logged-then (vain aside.away) refused.unmade;
-    just = just-above map.chain aside.away.looked tries left aside.all made.grown fault
-        refused.just;
-    looked = omega (arith, aside.away.looked.looked, made.grown.steps);
+      → HasAnswered (HasRefused map call before after limit) call before after outcome
+  answered-both after made (Found number) (reply, is, told) = (reply, is, logged-then vain told)
+  answered-both after made (Matched held) (reply, is, told) = (reply, is, logged-then vain told)
+  answered-both after made (Replied reply) told = logged-then vain told
+  answered-both after made (Refused fault) refused = record {
+    unmade = logged-then vain refused.unmade;
+    just = just-both map.chain away.looked limit left away.left_over made.grown fault refused.just;
+    looked = omega (arith, away.looked.looked, made.grown.steps);
   }
 
-  -- so it is with a write that has so many tries
-  pub tried_on :
-      {after : SeatOf} (outcome : Outcome PutFault)
-      → HasGoneOnWith map call then after left outcome
-      → HasTriedToWrite map call before after tries outcome
-  tried_on {after} outcome on =
+  -- so both ways together are the write
+  pub gone_on :
+      {after : SeatOf} (outcome : Outcome) → HasGoneOn map call then after left outcome
+      → HasWritten map call before after limit outcome
+  gone_on {after} outcome on =
       let (calls, made) = on.worked.steps in
       record {
-        answered = answered-with after made outcome on.answered;
-        wait_free = record {
-          steps = (calls, made-above map.chain aside.away.looked tries left aside.all made);
+        answered = answered-both after made outcome on.answered;
+        non_blocking = record {
+          steps = (calls, made-both map.chain away.looked limit left away.left_over made);
           net = on.worked.net;
-          count = on.worked.count ∙ ap (accounted on.worked.net) aside.away.count;
+          count = on.worked.count ∙ ap (accounted on.worked.net) away.count;
         };
-        short = short-both map.chain aside.away.looked made;
+        short = short-both map.chain away.looked made;
         own = on.own;
       }
+
+-- ---- a write that waits
+
+-- what takes one try takes as many as it may
+module _ {map : MapOf} {call : Call} {before after : SeatOf} where
+  pub unlimited :
+      {outcome told : Outcome} → HasWritten map call before after (Tries 1) outcome
+      → HasAnswered (HasRefused map call before after Unlimited) call before after told
+      → HasWritten map call before after Unlimited told
+  unlimited written answered =
+      let (calls, made) = written.non_blocking.steps in
+      record {
+        answered = answered;
+        non_blocking = record {
+          steps = (calls, made-within _ _ (put-rises map.chain.shape _ _ (omega arith)) made);
+          net = written.non_blocking.net;
+          count = written.non_blocking.count;
+        };
+        short = written.short;
+        own = written.own;
+      }
+
+  pub unlimited-rest :
+      {left : Limit} → HasYetToWrite map call before after (Tries 1) left
+      → HasYetToWrite map call before after Unlimited Unlimited
+  unlimited-rest away = record {
+    mine = away.mine;
+    lost = away.lost;
+    looked = away.looked;
+    left_over = tt;
+    count = away.count;
+    own = away.own;
+  }

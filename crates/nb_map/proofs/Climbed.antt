@@ -56,7 +56,7 @@ visit-here p call start after g tries some (Above below) is = (is, some)
 -- ---- from table to table
 
 -- A call that began with so many tries has come to a rung, with so many left.
-pub record HasClimbed (chain : ChainOf) (call : Call) (start now : SeenBy) (rung : Rung)
+pub record HasClimbedTo (chain : ChainOf) (call : Call) (start now : SeenBy) (rung : Rung)
     (tries left : ℕ) : Type 0 where
   pub made : HasMade chain.shape call start now [] (rungs_below chain.shape rung.g
       + (tries - left))
@@ -68,7 +68,7 @@ pub record HasClimbed (chain : ChainOf) (call : Call) (start now : SeenBy) (rung
 pub climbed-none :
     (chain : ChainOf) (call : Call) (start : SeenBy) (rung : Rung) (tries : ℕ)
     → IsAt chain call start rung → 1 ≤ tries
-    → HasClimbed chain call start start rung tries tries
+    → HasClimbedTo chain call start start rung tries tries
 climbed-none chain call start rung tries at some = record {
   made = made-within 0 _ (omega arith) (made-none chain call start at.own);
   at = at;
@@ -78,14 +78,14 @@ climbed-none chain call start rung tries at some = record {
 
 module _ (chain : ChainOf) {call : Call} {start now after : SeenBy} {rung : Rung}
     {tries left left' : ℕ} (own : IsOwn chain start)
-    (climbed : HasClimbed chain call start now rung tries left)
+    (climbed : HasClimbedTo chain call start now rung tries left)
     (spent : IsSpent call now after left left') where
   -- it goes on in the next table
   pub climbed-above :
       (below : Below) → HasMade chain.shape call now after []
       (rung_steps chain.shape rung.g + (left - left'))
       → GoesOn chain.shape call after rung.g below → 1 ≤ left'
-      → HasClimbed chain call start after (record { g = rung.g + 1; from = 0; below = below })
+      → HasClimbedTo chain call start after (record { g = rung.g + 1; from = 0; below = below })
       tries left'
   climbed-above below made on some = record {
     made =

@@ -4,7 +4,7 @@ use Rattle.std.proofs.Math.IntN.{◌+ℤ◌}
 use Rattle.std.proofs.lemmas.Int.{ints}
 use Rattle.nb_core.specs.History.{seat_of_event}
 use Rattle.nb_core.specs.Log.{calls_of, log_of}
-use Rattle.nb_core.specs.Meaning.{net_of}
+use Rattle.nb_core.specs.Meaning.{net_of, net_of_call}
 use Rattle.nb_core.specs.Plans.{Plan}
 use Rattle.nb_core.specs.declared.calls.Call.{Call}
 use Rattle.nb_core.specs.declared.calls.Call.TheVariants.{Get}
@@ -14,7 +14,7 @@ use Rattle.nb_core.specs.declared.events.Event.TheVariants.{Claim, Kill, Won, Co
 use Rattle.nb_table.specs.Chains.{Extended, SeenBy, own_events}
 use Rattle.nb_map.proofs.Made.{calls-append, made-own, made-quiet}
 use Rattle.nb_map.specs.Calling.{HasMade}
-use Rattle.nb_map.specs.Maps.{IsMine, MapOf, SeatOf}
+use Rattle.nb_map.specs.Maps.{IsMine, MapOf, SeatOf, accounted}
 
 -- a seat's calls are those of its own events
 calls-own :
@@ -112,6 +112,16 @@ kept-mine {map} mine steps counter added =
       counter = counter ∙ mine.counter;
       counted = omega (arith, ints, net, added, was);
     }
+
+-- after a call that has counted what it did
+pub counted-mine :
+    {map : MapOf} {call : Call} {before after : SeatOf} (reply : Reply) {most : ℕ}
+    → IsMine map before
+    → HasMade map.chain.shape call before.chain after.chain ((call, reply) ∷ []) most
+    → after.count ≡ accounted (net_of_call call reply) before.count → IsMine map after
+counted-mine reply mine steps counted =
+    let added = ap (λ count. count.added) counted in
+    kept-mine mine steps (ap (λ count. count.counter) counted) (omega (arith, ints, added))
 
 -- after steps of a call that counted nothing, and made none that would count
 pub uncounted-mine :

@@ -8,7 +8,8 @@ use Rattle.nb_map.proofs.Logged.{logged-same, logged-then}
 use Rattle.nb_map.specs.Bulk.{put_entry}
 use Rattle.nb_map.specs.Crowding.{IsFilled}
 use Rattle.nb_map.specs.Maps.{IsMine, MapOf, SeatOf}
-use Rattle.nb_map.specs.Promises.{Found, HasTriedToWrite, Outcome, found_or_refused}
+use Rattle.nb_map.specs.Progress.{Tries}
+use Rattle.nb_map.specs.Promises.{Found, HasWritten, Outcome, found_or_refused}
 use Rattle.nb_map.specs.declared.faults.PutFault.{PutFault}
 use Rattle.nb_map.specs.inside.Filling.{HasClaimedFor, HasFilled, HasPut, puts_of}
 
@@ -44,19 +45,19 @@ module _ (m : MapOf) (all : List (ℕ × ℕ)) where
 
   -- a put of one of them claims a slot for no other key
   pub claims-more :
-      {before after : SeatOf} {outcome : Outcome PutFault} (first rest : List (ℕ × ℕ))
+      {before after : SeatOf} {outcome : Outcome} (first rest : List (ℕ × ℕ))
       (entry : ℕ × ℕ) → all ≡ first ++ (entry ∷ rest) → IsMine m before
-      → HasTriedToWrite m (put_entry entry) before after 1 outcome
+      → HasWritten m (put_entry entry) before after (Tries 1) outcome
       → HasClaimedFor m all before → HasClaimedFor m all after
   claims-more first rest entry are mine wrote claimed =
       asks_add_up.more mine.chain.plan (λ k filled. filled)
-      (λ fills. entry-filled all first rest entry are) claimed wrote.wait_free.steps
+      (λ fills. entry-filled all first rest entry are) claimed wrote.non_blocking.steps
 
   -- one more is put
   pub put-more :
       {before mid after : SeatOf} {first : List (ℕ × ℕ)} (rest : List (ℕ × ℕ)) (entry : ℕ × ℕ)
       {found : Option ℕ} → all ≡ first ++ (entry ∷ rest) → HasPut m all first before mid
-      → HasTriedToWrite m (put_entry entry) mid after 1 (Found found)
+      → HasWritten m (put_entry entry) mid after (Tries 1) (Found found)
       → HasPut m all (first ++ (entry ∷ [])) before after
   put-more {first = first} rest entry are put wrote = record {
     made = (put_entry entry, wrote.answered.0) ∷ put.made;
@@ -71,7 +72,7 @@ module _ (m : MapOf) (all : List (ℕ × ℕ)) where
   pub put-next :
       {before mid after : SeatOf} {first : List (ℕ × ℕ)} (rest : List (ℕ × ℕ)) (entry : ℕ × ℕ)
       (result : Result (Option ℕ) PutFault) → is_err result ≡ false
-      → HasTriedToWrite m (put_entry entry) mid after 1 (found_or_refused result)
+      → HasWritten m (put_entry entry) mid after (Tries 1) (found_or_refused result)
       → all ≡ first ++ (entry ∷ rest) → HasPut m all first before mid
       → (put : List (ℕ × ℕ)) × (all ≡ put ++ rest) × HasPut m all put before after
   put-next {first = first} rest entry (Ok found) done wrote are put = (
@@ -85,7 +86,7 @@ module _ (m : MapOf) (all : List (ℕ × ℕ)) where
   pub put-refused :
       {before mid after : SeatOf} {first : List (ℕ × ℕ)} (rest : List (ℕ × ℕ)) (entry : ℕ × ℕ)
       (result : Result (Option ℕ) PutFault) → is_err result ≡ true
-      → HasTriedToWrite m (put_entry entry) mid after 1 (found_or_refused result)
+      → HasWritten m (put_entry entry) mid after (Tries 1) (found_or_refused result)
       → all ≡ first ++ (entry ∷ rest) → entry.1 ≤ VALUE_MAX → HasPut m all first before mid
       → HasFilled m all before after false
   put-refused rest entry (Ok found) refused wrote are small put = absurd cc

@@ -10,7 +10,7 @@ use Rattle.std.specs.Prelude.{nat_lt}
 use Rattle.std.specs.Set.{distinct_count, is_member, unique_keys}
 use Rattle.std.proofs.lemmas.Bool.{cases_Bool, eq-eqb, eqb-true, ltb-true, ne_eqb, or_left, or_right}
 use Rattle.std.proofs.lemmas.List.{append-nil, map-append}
-use Rattle.std.proofs.lemmas.List.Elements.{All-append, All-cons, All-head, All-map, All-nil, All-same, All-tail, All-weaker}
+use Rattle.std.proofs.lemmas.List.Elements.{All-append, All-cons, All-head, All-nil, All-tail, All-weaker}
 use Rattle.std.proofs.lemmas.List.Sums.{sum_by-cons}
 use Rattle.std.proofs.lemmas.List.FromFn.{length-map-range_with_len}
 use Rattle.std.proofs.lemmas.Map.Made.{is_member-filter}
@@ -35,10 +35,10 @@ use Rattle.nb_map.specs.Bulk.{put_entry}
 use Rattle.nb_map.specs.Crowding.{HasAskedFor, HasAskedIn, IsClaimOf, IsFilled, fills, others_filled}
 use Rattle.nb_map.specs.Ending.{HasAll}
 use Rattle.nb_map.specs.Logs.{HasLogged, log}
-use Rattle.nb_map.specs.Maps.{IsMadeFor, IsMine, MapOf, SeatOf, new_seat, new_seats}
-use Rattle.nb_map.specs.Progress.{passed_since}
+use Rattle.nb_map.specs.Maps.{IsMine, MapOf, SeatOf, new_seat, new_seats}
+use Rattle.nb_map.specs.Progress.{Tries, passed_since}
 use Rattle.nb_map.specs.Opening.{HaveBegunWith, IsTooSmallFor, map_of_entries}
-use Rattle.nb_map.specs.Refusals.{HasGivenUp}
+use Rattle.nb_map.specs.Refusals.{HasRefused}
 use Rattle.nb_map.specs.Settling.{HasCaughtUp, HaveSettled, as_left}
 use Rattle.nb_map.specs.declared.faults.PutFault.{PutFault}
 use Rattle.nb_map.specs.declared.faults.PutFault.TheVariants as fault
@@ -431,7 +431,7 @@ module _
   pub refused-small :
       (then : SeatOf) (next : ℕ × ℕ) (fault : PutFault) → IsFilled (puts_of entries) next.0
       → next.1 ≤ VALUE_MAX → then.chain.number ≡ last.chain.number
-      → HasGivenUp m (put_entry next) then last 1 fault
+      → HasRefused m (put_entry next) then last (Tries 1) fault
       → IsTooSmallFor m.chain.shape (map_of_entries entries)
   refused-small then next fault.Full filled small number given =
       too-small m.chain.shape (reverse entries) next.0 filled

@@ -66,7 +66,7 @@ module _ {F : Type 0} (Step : F → Option ℕ → Option ℕ → F → Type 0) 
   -- the newest call of an update was this, with this reply, after others, and found this at the key
   data IsNewest (call : Call) (reply : Reply) (calls : List (Call × Reply)) (found : Option ℕ) :
       Type 0 where
-    IsRead : call ≡ Get k → reply.before ≡ found → calls ≡ [] → IsNewest call reply calls found
+    IsTheRead : call ≡ Get k → reply.before ≡ found → calls ≡ [] → IsNewest call reply calls found
     IsLost :
         (was new : Option ℕ) (f : F) → HasTried Step k first calls was f
         → call ≡ exchange_of k was new → reply.matched ≡ false → reply.before ≡ found
@@ -79,7 +79,7 @@ module _ {F : Type 0} (Step : F → Option ℕ → Option ℕ → F → Type 0) 
       → IsNewest call reply calls found
   newest (updating.Read read) call reply calls is =
       let pair = ap (first-or (call, reply)) is in
-      IsRead (sym (ap (λ (made : Call × Reply). made.0) pair))
+      IsTheRead (sym (ap (λ (made : Call × Reply). made.0) pair))
       (sym (ap (λ (made : Call × Reply). made.1.before) pair)) (sym (ap others-of is))
   newest (updating.Lost {calls = earlier} {was = was} {f = f} tried new g lost step missed)
       call reply calls is =
@@ -167,7 +167,7 @@ module _ {F : Type 0} (Step : F → Option ℕ → Option ℕ → F → Type 0) 
             ∙ sym (win_replies p plan (later ++ h) legal.0 r g i a b c legal.1.1 legal.2).0)
 
         none : IsNewest c reply earlier found → ⊥
-        none (IsRead read found-is none-before) =
+        none (IsTheRead read found-is none-before) =
             subst (λ c. IsExchange c legal.2.key a b) read legal.2.exchange
         none (IsLost was new f tried exchange missed found-is) =
             false-true (sym missed ∙ matched)
@@ -214,7 +214,7 @@ module _ {F : Type 0} (Step : F → Option ℕ → Option ℕ → F → Type 0) 
 
         mine : calls ≡ (c, reply) ∷ earlier → IsNewest c reply earlier found
             → IsPassed calls found (event ∷ later)
-        mine made (IsRead read found-is none-before) =
+        mine made (IsTheRead read found-is none-before) =
             let there : reply.before ≡ get m k =
             ap (λ (r : Reply). r.before) (legal.3.0 ∙ ap (λ c. reply_of c m) read) in
             own-read (omega (arith, ap length made, ap length none-before)) (sym there ∙ found-is)

@@ -13,7 +13,7 @@ use Rattle.nb_map.proofs.Searched.{made-then}
 use Rattle.nb_map.proofs.Spent.{passed-sum}
 use Rattle.nb_map.specs.Calling.{HasMade}
 use Rattle.nb_map.specs.Progress.{passed_since}
-use Rattle.nb_map.specs.Steps.{climb_steps, get_steps, put_steps, slots_below}
+use Rattle.nb_map.specs.Steps.{climb_steps, get_steps, lost_steps, slots_below}
 use Rattle.nb_map.specs.inside.Climbing.{IsSpent}
 
 -- the slots below a table are those of the tables before it
@@ -37,15 +37,11 @@ slots-few p plan g below =
 climbed-few : (p : Plan) → IsPlan p → climb_steps p ≤ get_steps p
 climbed-few p plan = omega (arith, climb-bound p plan 0 plan.tables.0)
 
--- the most steps of rounds in which others won so many exchanges, all contended
-abbrev pub round_steps : Plan → ℕ → ℕ
-round_steps p passed = 8 * passed * (size_of p (generations_of p - 1) + 8)
-
 -- one more contended round: others won more exchanges in it than the tables have slots
 round-bound :
     (p : Plan) → IsPlan p → (passed passed' all lost : ℕ) → 2 ^ 32 - 1 ≤ passed'
     → passed + passed' ≤ all → lost ≤ passed'
-    → round_steps p passed + (climb_steps p + lost) ≤ round_steps p all
+    → lost_steps p passed + (climb_steps p + lost) ≤ lost_steps p all
 round-bound p plan passed passed' all lost contended both fewer =
     let n = size_of p (generations_of p - 1) in
     let few = slots-few p plan (generations_of p) (omega arith) in
@@ -65,25 +61,22 @@ round-bound p plan passed passed' all lost contended both fewer =
 
 -- the last round
 last-bound :
-    (p : Plan) → IsPlan p → (passed passed' all lost : ℕ) → passed + passed' ≤ all
-    → lost ≤ passed'
-    → round_steps p passed + (climb_steps p + lost) ≤ put_steps p all
-last-bound p plan passed passed' all lost both fewer =
+    (p : Plan) → (passed passed' all climbed lost : ℕ) → passed + passed' ≤ all → lost ≤ passed'
+    → lost_steps p passed + (climbed + lost) ≤ climbed + lost_steps p all
+last-bound p passed passed' all climbed lost both fewer =
     let n = size_of p (generations_of p - 1) in
-    fits (slots_below p (generations_of p)) (generations_of p) n passed passed' all (climb_steps p)
-    lost (climbed-few p plan) (mul-le-mul_right (n + 8) both) fewer
+    fits n passed passed' all climbed lost (mul-le-mul_right (n + 8) both) fewer
   where
-    fits : (t tables n passed passed' all climbed lost : ℕ)
-        → climbed ≤ 8 * (t + tables) * (n + 8) → (passed + passed') * (n + 8) ≤ all * (n + 8)
-        → lost ≤ passed'
-        → 8 * passed * (n + 8) + (climbed + lost) ≤ 8 * (t + all + tables) * (n + 8)
-    fits t tables n passed passed' all climbed lost few both fewer = omega (arith, few, both, fewer)
+    fits : (n passed passed' all climbed lost : ℕ)
+        → (passed + passed') * (n + 8) ≤ all * (n + 8) → lost ≤ passed'
+        → 8 * passed * (n + 8) + (climbed + lost) ≤ climbed + 8 * all * (n + 8)
+    fits n passed passed' all climbed lost both fewer = omega (arith, both, fewer)
 
 -- The seat has made some contended rounds, and then another one.
 module _ (chain : ChainOf) {call : Call} {start now after : SeenBy} {left : ℕ}
     {calls : List (Call × Reply)} (own : IsOwn chain start)
     (rounds : HasMade chain.shape call start now []
-    (round_steps chain.shape (passed_since call start now)))
+    (lost_steps chain.shape (passed_since call start now)))
     (round : HasMade chain.shape call now after calls
     (climb_steps chain.shape + (2 ^ 32 - 1 - left)))
     (spent : IsSpent call now after (2 ^ 32 - 1) left) where
@@ -91,7 +84,7 @@ module _ (chain : ChainOf) {call : Call} {start now after : SeenBy} {left : ℕ}
   pub rounds-more :
       2 ^ 32 - 1 ≤ passed_since call now after
       → HasMade chain.shape call start after calls
-      (round_steps chain.shape (passed_since call start after))
+      (lost_steps chain.shape (passed_since call start after))
   rounds-more contended =
       made-within _ _
       (round-bound chain.shape own.plan (passed_since call start now) (passed_since call now after)
@@ -101,10 +94,10 @@ module _ (chain : ChainOf) {call : Call} {start now after : SeenBy} {left : ℕ}
 
   -- or it was the last one
   pub rounds-end : HasMade chain.shape call start after calls
-      (put_steps chain.shape (passed_since call start after))
+      (climb_steps chain.shape + lost_steps chain.shape (passed_since call start after))
   rounds-end =
       made-within _ _
-      (last-bound chain.shape own.plan (passed_since call start now) (passed_since call now after)
-      (passed_since call start after) (2 ^ 32 - 1 - left)
+      (last-bound chain.shape (passed_since call start now) (passed_since call now after)
+      (passed_since call start after) (climb_steps chain.shape) (2 ^ 32 - 1 - left)
       (omega (arith, passed-sum call rounds.grown round.grown)) (omega (arith, spent.lost)))
       (made-then own rounds round)

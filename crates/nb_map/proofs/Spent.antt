@@ -1,5 +1,5 @@
 -- The tries that a call loses, and the exchanges that others won meanwhile.
-use Rattle.std.proofs.Common.{◌≡◌, ◌∙◌, ℕ, ◌+◌, ◌≤◌, List, ◌++◌, length, Option, ap, false, refl, sym, subst, subst₂, arith}
+use Rattle.std.proofs.Common.{◌≡◌, ◌∙◌, ℕ, ◌+◌, List, ◌++◌, length, Option, ap, false, refl, sym, subst, subst₂, arith}
 use Rattle.nb_core.proofs.Theorems.{passed_over_adds}
 use Rattle.nb_core.specs.Calls.{leaves_alone}
 use Rattle.nb_core.specs.History.{key_of_call}
@@ -8,11 +8,11 @@ use Rattle.nb_core.specs.Plans.{Plan}
 use Rattle.nb_core.specs.declared.calls.Call.{Call}
 use Rattle.nb_core.specs.declared.events.Event.{Event}
 use Rattle.nb_table.specs.Chains.{Grown, SeenBy}
-use Rattle.nb_map.specs.Progress.{passed_since}
-use Rattle.nb_map.specs.Refusals.{IsJust}
+use Rattle.nb_map.specs.Progress.{Limit, Tries, passed_since}
+use Rattle.nb_map.specs.Refusals.{AreAllTries, IsJust}
 use Rattle.nb_map.specs.declared.faults.PutFault.{PutFault}
 use Rattle.nb_map.specs.declared.faults.PutFault.TheVariants.{Full, Contended, ValueRange}
-use Rattle.nb_map.specs.inside.Climbing.{IsRead, IsRefused, IsSpent}
+use Rattle.nb_map.specs.inside.Climbing.{IsRefused, IsSpent, LeavesAllAlone}
 
 -- ---- the exchanges that others won
 
@@ -86,26 +86,29 @@ spent-sooner {call = call} {start} {mid} {tries = tries} a b spent =
 -- a refusal that is just for the tries that were left is so for all
 pub just-longer :
     (p : Plan) (call : Call) {start mid after : SeenBy} {own own' : List Event} {count count' : ℕ}
-    (tries left : ℕ)
-    → Grown p start mid own count → Grown p mid after own' count'
-    → tries ≤ left + passed_since call start mid → (fault : PutFault)
-    → IsJust p call mid after left fault → IsJust p call start after tries fault
-just-longer p call tries left a b spent Full just = just
-just-longer p call tries left a b spent Contended just =
-    omega (arith, spent, just, passed-sum call a b)
-just-longer p call tries left a b spent ValueRange just = just
+    (limit left : Limit) → Grown p start mid own count → Grown p mid after own' count'
+    → (AreAllTries left (passed_since call mid after)
+    → AreAllTries limit (passed_since call start mid + passed_since call mid after))
+    → (fault : PutFault) → IsJust p call mid after left fault → IsJust p call start after limit fault
+just-longer p call limit left a b all Full just = just
+just-longer p call limit left a b all Contended just =
+    subst (AreAllTries limit) (passed-sum call a b) (all just)
+just-longer p call limit left a b all ValueRange just = just
 
 pub refused-longer :
     {p : Plan} {call : Call} {start mid after : SeenBy} {own own' : List Event} {count count' : ℕ}
     {tries left : ℕ} → Grown p start mid own count → Grown p mid after own' count'
     → IsSpent call start mid tries left → (fault : PutFault)
     → IsRefused p call mid after left fault → IsRefused p call start after tries fault
-refused-longer {p} {call} {tries = tries} {left} a b spent fault refused =
-    (just-longer p call tries left a b spent.lost fault refused.0, refused.1)
+refused-longer {p} {call} {tries = tries} {left} a b spent fault refused = (
+  just-longer p call (Tries tries) (Tries left) a b (λ all. omega (arith, spent.lost, all))
+      fault refused.0,
+  refused.1,
+)
 
 -- a call that acts is no read
 pub no-read :
-    (call : Call) (number : Option ℕ) → leaves_alone call number ≡ false → IsRead call → ⊥
+    (call : Call) (number : Option ℕ) → leaves_alone call number ≡ false → LeavesAllAlone call → ⊥
 no-read call number acts read =
     let alone = read number in
     cc

@@ -10,11 +10,11 @@ use Rattle.nb_map.proofs.Made.{made-within}
 use Rattle.nb_map.proofs.Searched.{others-none, reached-up-to, ready-up-to, table-within}
 use Rattle.nb_map.proofs.AtHome.{whole-bound}
 use Rattle.nb_map.specs.Calling.{HasMade}
-use Rattle.nb_map.specs.Progress.{IsAloneAtHome, IsKnownHome, IsLastSeen}
+use Rattle.nb_map.specs.Progress.{IsAloneAtHome, IsKnownHome, IsLastSeen, Unlimited}
 use Rattle.nb_map.specs.Steps.{home_steps}
 use Rattle.nb_map.specs.Logs.{made_in}
-use Rattle.nb_map.specs.Refusals.{IsJustAdd}
-use Rattle.nb_map.specs.declared.faults.AddFault.{AddFault}
+use Rattle.nb_map.specs.Refusals.{IsJust}
+use Rattle.nb_map.specs.declared.faults.PutFault.{PutFault}
 use Rattle.std.specs.Prelude.{IfErr}
 use Rattle.nb_map.specs.inside.Climbing.{IsAt, IsSpent, rung_at}
 use Rattle.nb_map.specs.inside.Waiting.{HasBeenTold, HasLookedInVain}
@@ -51,9 +51,9 @@ module _ (chain : ChainOf) {start : SeenBy} (known : ℕ) (own : IsOwn chain sta
 
   -- a write with one try is told at the home slot there
   pub told-there :
-      {call : Call} {after : SeenBy} (left : ℕ) (told : Result Reply AddFault)
+      {call : Call} {after : SeenBy} (left : ℕ) (told : Result Reply PutFault)
       → HasMade chain.shape call start after (made_in call told) (home_steps + (1 - left))
-      → IfErr told (IsJustAdd chain.shape call after) → start.steps < after.steps
+      → IfErr told (IsJust chain.shape call start after Unlimited) → start.steps < after.steps
       → (IsAloneAtHome chain.shape known call start after
       → IsKnownHome chain.shape known call start → after.steps ≤ start.steps + 3)
       → (IsAloneAtHome chain.shape known call start after
@@ -68,7 +68,7 @@ module _ (chain : ChainOf) {start : SeenBy} (known : ℕ) (own : IsOwn chain sta
         made = made-within _ _
             (omega (
               arith,
-              whole-bound p own.plan known (1 - left) 1 (at-known call).table (omega arith),
+              whole-bound p own.plan known (1 - left) 0 1 (at-known call).table (omega arith),
             ))
             made;
         refused = refused;

@@ -25,7 +25,7 @@ use Rattle.nb_map.specs.Calling.{HasMade, HasStepped, MayMake}
 use Rattle.nb_map.specs.Logs.{HasLogged, log}
 use Rattle.nb_map.specs.Maps.{IsMine, MapOf, SeatOf, accounted}
 use Rattle.nb_map.specs.NamedCalls.{remove_if_of}
-use Rattle.nb_map.specs.Progress.{passed_since}
+use Rattle.nb_map.specs.Progress.{Unlimited, passed_since}
 use Rattle.nb_map.specs.Promises.{HasBegunWalk, HasWalkedOn, HasWritten, Matched}
 use Rattle.nb_map.specs.Entries.{IsRead}
 use Rattle.nb_map.specs.Steps.{get_steps, passing_steps, put_steps, slots_ahead, slots_below}
@@ -357,12 +357,12 @@ module _ {m : MapOf} {before : SeatOf} (mine : IsMine m before) where
   pub come-removed :
       {now after : SeatOf} {walk : WalkOf} {shown : List (ℕ × ℕ)} {calls : List (Call × Reply)}
       (k n : ℕ) {removed : Bool} → HasComeTo m before now walk shown calls
-      → (wrote : HasWritten m (remove_if_of k n) now after (Matched removed))
+      → (wrote : HasWritten m (remove_if_of k n) now after Unlimited (Matched removed))
       → HasComeTo m before after walk shown ((remove_if_of k n, wrote.answered.0) ∷ calls)
   come-removed {now} {after} {walk} {shown} {calls} k n come wrote =
       let reply = wrote.answered.0 in
       let logged : HasLogged now after ((remove_if_of k n, reply) ∷ []) = wrote.answered.2 in
-      let later = walk_lasts.later wrote.lock_free in
+      let later = walk_lasts.later wrote.non_blocking in
       record {
         mine = wrote.own;
         is_walk = walk_lasts.lasts come.is_walk wrote.own later;
@@ -370,17 +370,17 @@ module _ {m : MapOf} {before : SeatOf} (mine : IsMine m before) where
         underway = Rested come.underway wrote.own later;
         logged = logged-then come.logged logged;
         steps = λ key. stepped-more now after _ mine fits (come.steps key)
-            (_, made-unfilled key (λ fills. absurd cc) wrote.lock_free.steps.1);
-        count = wrote.lock_free.count ∙ ap (accounted wrote.lock_free.net) come.count
+            (_, made-unfilled key (λ fills. absurd cc) wrote.non_blocking.steps.1);
+        count = wrote.non_blocking.count ∙ ap (accounted wrote.non_blocking.net) come.count
             ∙ counted-removal k n reply (replies_fit now after (remove_if_of k n) reply logged)
-            wrote.lock_free.net (nets logged) calls before.count;
+            wrote.non_blocking.net (nets logged) calls before.count;
       }
     where
       nets : {reply : Reply} → HasLogged now after ((remove_if_of k n, reply) ∷ [])
-          → wrote.lock_free.net ≡ net_of_call (remove_if_of k n) reply
+          → wrote.non_blocking.net ≡ net_of_call (remove_if_of k n) reply
       nets logged =
-          let steps = made-logged wrote.lock_free.steps.1 logged in
-          let added = ap (λ count. count.added) wrote.lock_free.count in
+          let steps = made-logged wrote.non_blocking.steps.1 logged in
+          let added = ap (λ count. count.added) wrote.non_blocking.count in
           omega (arith, ints, net-made steps, added, come.mine.counted, wrote.own.counted)
 
       fits : far_steps m before now walk.place calls
@@ -388,7 +388,7 @@ module _ {m : MapOf} {before : SeatOf} (mine : IsMine m before) where
           ≤ far_steps m before after walk.place ((remove_if_of k n, wrote.answered.0) ∷ calls)
       fits =
           let a = (come.steps 0).1.grown in
-          let b = wrote.lock_free.steps.1.grown in
+          let b = wrote.non_blocking.steps.1.grown in
           let sum = passed-sum (Get k) a b in
           let one = put-rises m.chain.shape
           (passed_since (Get k) now.chain after.chain + 1)
@@ -462,7 +462,7 @@ module _ {F : Type 0} {Step : F → (k n : ℕ) → Bool → F → Type 0} {firs
         {now mid after : SeatOf} {walk walk' : WalkOf} {f : F} (k n : ℕ) (g : F) {removed : Bool}
         → HasSweptTo m before Step first now walk f
         → HasWalkedOn m now mid walk walk' (Some (k, n)) → Step f k n false g
-        → HasWritten m (remove_if_of k n) mid after (Matched removed)
+        → HasWritten m (remove_if_of k n) mid after Unlimited (Matched removed)
         → HasSweptTo m before Step first after walk' g
     sweep-refused k n g sweep on step wrote = record {
       shown = (k, n) ∷ sweep.shown;

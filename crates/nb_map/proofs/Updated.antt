@@ -18,7 +18,7 @@ use Rattle.nb_core.specs.declared.events.Event.{Event}
 use Rattle.nb_core.specs.declared.events.Event.TheVariants.{Claim, Install}
 use Rattle.nb_table.specs.Chains.{SeenBy}
 use Rattle.nb_map.proofs.Counted.{calls-later, net-made}
-use Rattle.nb_map.proofs.Spent.{passed-sum}
+use Rattle.nb_map.proofs.Spent.{just-longer}
 use Rattle.nb_map.proofs.Logged.{counted-none, logged}
 use Rattle.nb_map.proofs.Made.{made-more, made-within}
 use Rattle.nb_map.proofs.Passed.{passed-lost}
@@ -28,11 +28,10 @@ use Rattle.nb_map.specs.Logs.{HasLogged, HasReplied, log}
 use Rattle.nb_map.specs.Steps.{get_steps}
 use Rattle.nb_map.specs.Promises.{HasGot}
 use Rattle.nb_map.specs.Maps.{HasWorked, IsMine, MapOf, SeatOf, accounted}
-use Rattle.nb_map.specs.Refusals.{IsJust}
 use Rattle.nb_map.specs.Steps.{put_steps}
 use Rattle.nb_map.specs.Steps.{slots_below}
-use Rattle.nb_map.specs.Refusals.{HasGivenUp}
-use Rattle.nb_map.specs.Progress.{IsWaitFree}
+use Rattle.nb_map.specs.Refusals.{HasRefused}
+use Rattle.nb_map.specs.Progress.{IsNonBlocking, Tries}
 use Rattle.nb_map.specs.NamedCalls.{change_to, exchange_of, want_of}
 use Rattle.nb_map.specs.Updating.{HasTried, IsUpdate, Lost, Read, asked_for}
 use Rattle.nb_map.specs.Steps.{update_steps}
@@ -212,7 +211,7 @@ module _ {F : Type 0} {m : MapOf} {Step : F → Option ℕ → Option ℕ → F 
 
     -- one more exchange
     module _ (new : Option ℕ) (g : F) (step : Step f found new g) {after : SeatOf}
-        (mine' : IsMine m after) (worked : IsWaitFree m (exchange_of k found new) now after tries)
+        (mine' : IsMine m after) (worked : IsNonBlocking m (exchange_of k found new) now after (Tries tries))
       where
         abbrev call : Call
         call = exchange_of k found new
@@ -330,7 +329,7 @@ module _ {F : Type 0} {m : MapOf} {Step : F → Option ℕ → Option ℕ → F 
 
         -- it was refused
         pub come-refused :
-            (refusal : PutFault) → rounds < tries → HasGivenUp m call now after tries refusal
+            (refusal : PutFault) → rounds < tries → HasRefused m call now after (Tries tries) refusal
             → IsUpdate m Step first k before after tries (Err refusal)
         come-refused refusal less given = record {
           calls = come.calls;
@@ -342,7 +341,8 @@ module _ {F : Type 0} {m : MapOf} {Step : F → Option ℕ → Option ℕ → F 
           ended = (
             omega (arith, come.lost, less),
             logged mine (both given.unmade),
-            longer refusal given.just,
+            just-longer shape call (Tries tries) (Tries tries) come.made.grown
+                worked.steps.1.grown (λ all. omega (arith, all)) refusal given.just,
           );
           call = chosen.0;
           asked = chosen-asked;
@@ -352,11 +352,3 @@ module _ {F : Type 0} {m : MapOf} {Step : F → Option ℕ → Option ℕ → F 
             count = still given.unmade refl ∙ sym (counted-none before.count);
           };
         }
-          where
-            longer : (refusal : PutFault)
-                → IsJust shape call now.chain after.chain tries refusal
-                → IsJust shape call before.chain after.chain tries refusal
-            longer fault.Full just = just
-            longer fault.Contended just =
-                omega (arith, just, passed-sum call come.made.grown worked.steps.1.grown)
-            longer fault.ValueRange just = just

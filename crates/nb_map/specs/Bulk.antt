@@ -16,12 +16,12 @@ use Rattle.nb_table.specs.Chains.{SeenBy}
 use Rattle.nb_map.specs.Calling.{HasStepped}
 use Rattle.nb_map.specs.Maps.{MapOf, SeatOf, IsMine}
 use Rattle.nb_map.specs.NamedCalls.{put_of, remove_if_of}
-use Rattle.nb_map.specs.Progress.{passed_since}
+use Rattle.nb_map.specs.Progress.{Unlimited, passed_since}
 use Rattle.nb_map.specs.Promises.{HasWritten, Found, Refused}
 use Rattle.nb_map.specs.Steps.{get_steps, put_steps, slots_below}
 use Rattle.nb_map.specs.Walks.{HasShownAll}
-use Rattle.nb_map.specs.declared.faults.AddFault.TheVariants as add_fault
 use Rattle.nb_map.specs.declared.faults.FullAfter.{FullAfter}
+use Rattle.nb_map.specs.declared.faults.PutFault.TheVariants as fault
 
 -- ---- what a walk calls that shows its entries to a function
 
@@ -128,7 +128,7 @@ pub data HasPutAll (m : MapOf) (before : SeatOf) : List (ℕ × ℕ) → SeatOf 
   Again :
       {entries : List (ℕ × ℕ)} {then after : SeatOf} → HasPutAll m before entries then
       → (entry : ℕ × ℕ) (found : Option ℕ)
-      → HasWritten m (put_entry entry) then after (Found found)
+      → HasWritten m (put_entry entry) then after Unlimited (Found found)
       → HasPutAll m before (entries ++ (entry ∷ [])) after
 
 -- What `extend` promises: it has put all the entries. Or it has put the first ones, and says how
@@ -140,4 +140,4 @@ HasExtended m entries before after (Err full) =
     (first rest : List (ℕ × ℕ)) × (next : ℕ × ℕ) × (then : SeatOf)
     × (entries ≡ first ++ (next ∷ rest)) × (length first ≡ full.put)
     × HasPutAll m before first then
-    × HasWritten m (put_entry next) then after (Refused add_fault.Full)
+    × HasWritten m (put_entry next) then after Unlimited (Refused fault.Full)

@@ -2,10 +2,11 @@
 use Rattle.std.specs.Prelude.{◌≡◌, ℕ, max, min, Option, Some, None, Result, Ok, Err, unwrap_or}
 use Rattle.nb_map.specs.Maps.{MapOf, SeatOf}
 use Rattle.nb_map.specs.NamedCalls.{put_if_absent_of}
+use Rattle.nb_map.specs.Progress.{Unlimited}
 use Rattle.nb_map.specs.Promises.{HasWritten, Found, Refused}
 use Rattle.nb_map.specs.Updating.{IsUpdate}
-use Rattle.nb_map.specs.declared.faults.AddFault.TheVariants as add_fault
 use Rattle.nb_map.specs.declared.faults.Full.{Full}
+use Rattle.nb_map.specs.declared.faults.PutFault.TheVariants as fault
 use Rattle.nb_map.specs.declared.faults.PutFault.{PutFault}
 
 -- ---- the number that is there, or the one that is put
@@ -16,9 +17,9 @@ abbrev pub HasGotOrPut :
     MapOf → (key number : ℕ) → (before after : SeatOf) → Result ℕ Full → Type 0
 HasGotOrPut m key number before after (Ok now) =
     (found : Option ℕ) × (unwrap_or found number ≡ now)
-    × HasWritten m (put_if_absent_of key number) before after (Found found)
+    × HasWritten m (put_if_absent_of key number) before after Unlimited (Found found)
 HasGotOrPut m key number before after (Err full) =
-    HasWritten m (put_if_absent_of key number) before after (Refused add_fault.Full)
+    HasWritten m (put_if_absent_of key number) before after Unlimited (Refused fault.Full)
 
 -- ---- the greater and the less of two numbers
 

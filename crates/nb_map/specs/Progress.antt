@@ -1,4 +1,4 @@
--- How long a call works: lock-free or wait-free, and short at home.
+-- How long a call works, with a limit on its tries or without one; and how short it is at home.
 use Rattle.std.specs.Prelude.{ℕ, length, ◌+◌, min, ◌≡◌, ◌⊎◌, suc, ◌≤◌}
 use Rattle.nb_core.specs.Calls.{Fills}
 use Rattle.nb_core.specs.History.{key_of_call}
@@ -16,18 +16,23 @@ abbrev pub passed_since : Call → (before after : SeenBy) → ℕ
 passed_since call before after =
     passed_over after.seen (length before.seen) (key_of_call call) before.number
 
+-- how many tries a write has: as many as it takes, or so many
+pub data Limit : Type 0 where
+  Unlimited : Limit
+  Tries : ℕ → Limit
+
+-- so many tries, or as many as the limit allows if these are fewer
+abbrev pub within : Limit → ℕ → ℕ
+within Unlimited n = n
+within (Tries tries) n = min tries n
+
 -- The call has made no more steps than a write may that has as many tries as others won exchanges
 -- on its key, and one more: these are counted from the seat's last step before the call. So the
--- call is lock-free: its bound grows only with other writes of its key.
-abbrev pub IsLockFree : MapOf → Call → (before after : SeatOf) → Type 0
-IsLockFree map call before after = HasWorked map call before after
-    (put_steps map.chain.shape (passed_since call before.chain after.chain + 1))
-
--- The call has made no more steps than its tries take, whatever other seats do; and no more than as
--- many tries take as others won exchanges on its key, and one more.
-abbrev pub IsWaitFree : MapOf → Call → (before after : SeatOf) → (tries : ℕ) → Type 0
-IsWaitFree map call before after tries = HasWorked map call before after
-    (put_steps map.chain.shape (min tries (passed_since call before.chain after.chain + 1)))
+-- call is lock-free: its bound grows only with other writes of its key. If it has so many tries, it
+-- is wait-free: it has made no more steps than these take, whatever other seats do.
+abbrev pub IsNonBlocking : MapOf → Call → (before after : SeatOf) → Limit → Type 0
+IsNonBlocking map call before after limit = HasWorked map call before after
+    (put_steps map.chain.shape (within limit (passed_since call before.chain after.chain + 1)))
 
 -- ---- at home
 

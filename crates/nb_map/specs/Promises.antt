@@ -11,13 +11,12 @@ use Rattle.nb_table.specs.Chains.{Extended, seen_by}
 use Rattle.nb_map.specs.Handles.{HandleWalkOf, KeepsRest}
 use Rattle.nb_map.specs.Logs.{HasReplied, HasFound, HasMatched, log, HasLogged}
 use Rattle.nb_map.specs.Maps.{SeatOf, MapOf, IsMine, HasWorked}
-use Rattle.nb_map.specs.Progress.{IsLockFree, IsShortAtHome, IsShortRead, IsWaitFree}
-use Rattle.nb_map.specs.Refusals.{HasRefused, HasGivenUp}
+use Rattle.nb_map.specs.Progress.{IsNonBlocking, IsShortAtHome, IsShortRead, Limit}
+use Rattle.nb_map.specs.Refusals.{HasRefused}
 use Rattle.nb_map.specs.Steps.{get_steps, slots_ahead, passing_steps}
 use Rattle.nb_map.specs.Walks.{WalkOf, IsBefore, IsWalkOf, begun_at, begun_by, walk_from, IsUnderway, HasReached, HasWalked, HasRead, with_shown}
-use Rattle.nb_map.specs.declared.faults.AddFault.TheVariants as add_fault
-use Rattle.nb_map.specs.declared.faults.AddFault.{AddFault}
 use Rattle.nb_map.specs.declared.faults.Full.{Full}
+use Rattle.nb_map.specs.declared.faults.PutFault.TheVariants as fault
 use Rattle.nb_map.specs.declared.faults.PutFault.{PutFault}
 use Rattle.nb_map.specs.declared.map.walks.WalkPlace.{WalkPlace}
 use Rattle.nb_map.specs.declared.steps.walk.Place.TheVariants.{End}
@@ -26,30 +25,29 @@ use Rattle.nb_map.specs.declared.steps.walk.Place.{Place}
 -- ---- what a write answers
 
 -- what it found at its key; whether its condition held; the whole reply; or why it is refused
-pub data Outcome (Fault : Type 0) : Type 0 where
-  Found : Option ℕ → Outcome Fault
-  Matched : Bool → Outcome Fault
-  Replied : Reply → Outcome Fault
-  Refused : Fault → Outcome Fault
+pub data Outcome : Type 0 where
+  Found : Option ℕ → Outcome
+  Matched : Bool → Outcome
+  Replied : Reply → Outcome
+  Refused : PutFault → Outcome
 
-abbrev pub found_or_refused : {Fault : Type 0} → Result (Option ℕ) Fault → Outcome Fault
+abbrev pub found_or_refused : Result (Option ℕ) PutFault → Outcome
 found_or_refused (Ok number) = Found number
 found_or_refused (Err fault) = Refused fault
 
-abbrev pub replied_or_refused : {Fault : Type 0} → Result Reply Fault → Outcome Fault
+abbrev pub replied_or_refused : Result Reply PutFault → Outcome
 replied_or_refused (Ok reply) = Replied reply
 replied_or_refused (Err fault) = Refused fault
 
 -- the same, where it can only be refused as full
-abbrev pub found_or_full : Result (Option ℕ) Full → Outcome AddFault
+abbrev pub found_or_full : Result (Option ℕ) Full → Outcome
 found_or_full (Ok number) = Found number
-found_or_full (Err full) = Refused add_fault.Full
+found_or_full (Err full) = Refused fault.Full
 
 -- The seat has made the one call, and the answer tells its reply. Or the call is refused, and then
 -- this holds of the refusal.
 abbrev pub HasAnswered :
-    {Fault : Type 0} → (Refusal : Fault → Type 0) → Call → (before after : SeatOf) → Outcome Fault
-    → Type 0
+    (Refusal : PutFault → Type 0) → Call → (before after : SeatOf) → Outcome → Type 0
 HasAnswered Refusal call before after (Found number) = HasFound call before after number
 HasAnswered Refusal call before after (Matched held) = HasMatched call before after held
 HasAnswered Refusal call before after (Replied reply) = HasReplied call before after reply
@@ -57,27 +55,14 @@ HasAnswered Refusal call before after (Refused fault) = Refusal fault
 
 -- ---- writes
 
--- what a write promises that tries again for as long as it takes
-pub record HasWritten (map : MapOf) (call : Call) (before after : SeatOf)
-    (outcome : Outcome AddFault) : Type 0 where
+-- what a write promises that has so many tries, or as many as it takes
+pub record HasWritten (map : MapOf) (call : Call) (before after : SeatOf) (limit : Limit)
+    (outcome : Outcome) : Type 0 where
   -- it is in the log once, with its reply; or it isn't there, and is refused for a just reason
-  pub answered : HasAnswered (HasRefused map call before after) call before after outcome
-  -- its steps have a bound that grows only with the exchanges that others win on its key
-  pub lock_free : IsLockFree map call before after
-  -- at most three steps, or five, where it is alone with its key at home in the table that the seat
-  -- remembered
-  pub short : IsShortAtHome map.chain.shape call before.chain after.chain
-  -- the seat is still the map's
-  pub own : IsMine map after
-
--- what a write promises that has so many tries
-pub record HasTriedToWrite (map : MapOf) (call : Call) (before after : SeatOf) (tries : ℕ)
-    (outcome : Outcome PutFault) : Type 0 where
-  -- it is in the log once, with its reply; or it isn't there, and is refused for a just reason
-  pub answered : HasAnswered (HasGivenUp map call before after tries) call before after outcome
-  -- its steps have a bound whatever others do, which grows with its tries, or with the exchanges
-  -- that others win on its key if these are fewer
-  pub wait_free : IsWaitFree map call before after tries
+  pub answered : HasAnswered (HasRefused map call before after limit) call before after outcome
+  -- its steps have a bound that grows only with the exchanges that others win on its key, and never
+  -- past what its tries take
+  pub non_blocking : IsNonBlocking map call before after limit
   -- at most three steps, or five, where it is alone with its key at home in the table that the seat
   -- remembered
   pub short : IsShortAtHome map.chain.shape call before.chain after.chain

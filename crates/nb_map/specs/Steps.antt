@@ -93,6 +93,11 @@ climb_steps p = rungs_below p (generations_of p)
 
 -- ---- a write
 
+-- the most steps for exchanges that were lost, with N slots in the last table: 8 (N + 8) for each,
+-- which pays for a further round too, where so many were lost that there is one
+abbrev pub lost_steps : Plan → (lost : ℕ) → ℕ
+lost_steps p lost = 8 * lost * (size_of p (generations_of p - 1) + 8)
+
 -- the most steps of a write, with T slots in all tables, G tables, and N slots in the last one: 8
 -- (T + tries + G) (N + 8)
 abbrev pub put_steps : Plan → (tries : ℕ) → ℕ

@@ -9,7 +9,7 @@ use Rattle.nb_core.specs.declared.calls.Reply.{Reply}
 use Rattle.nb_map.specs.Logs.{HasLogged}
 use Rattle.nb_map.specs.Maps.{MapOf, SeatOf, HasWorked}
 use Rattle.nb_map.specs.NamedCalls.{exchange_of}
-use Rattle.nb_map.specs.Progress.{passed_since}
+use Rattle.nb_map.specs.Progress.{Tries, passed_since}
 use Rattle.nb_map.specs.Refusals.{IsJust}
 use Rattle.nb_map.specs.Steps.{update_steps}
 use Rattle.nb_map.specs.declared.faults.PutFault.TheVariants as fault
@@ -48,7 +48,7 @@ IsEnd m k before after tries calls found (Some call) (Ok was) =
     × HasLogged before after ((call, record { before = found; matched = true }) ∷ calls)
 IsEnd m k before after tries calls found (Some call) (Err refusal) =
     (length calls ≤ tries) × HasLogged before after calls
-    × IsJust m.chain.shape call before.chain after.chain tries refusal
+    × IsJust m.chain.shape call before.chain after.chain (Tries tries) refusal
 IsEnd m k before after tries calls found None (Ok was) = ⊥
 IsEnd m k before after tries calls found None (Err refusal) =
     HasLogged before after calls × (refusal ≡ fault.Contended) × (length calls ≡ suc tries)

@@ -6,7 +6,8 @@ ghost use Rattle.nb_core.specs.declared.calls.Call.TheVariants as call;
 ghost use Rattle.nb_core.specs.declared.calls.Change.TheVariants as change;
 ghost use Rattle.nb_map.specs.Logs.{HaveEmptyLogs};
 ghost use Rattle.nb_map.specs.Maps.{AreMine, IsMine, accounted, new_seats};
-ghost use Rattle.nb_map.specs.Promises.{HasEstimated, HasGot, HasMet, HasSeenTop, HasTriedToWrite, replied_or_refused};
+ghost use Rattle.nb_map.specs.Progress.{Tries};
+ghost use Rattle.nb_map.specs.Promises.{HasEstimated, HasGot, HasMet, HasSeenTop, HasWritten, replied_or_refused};
 
 mod answers;
 mod bulk;
@@ -158,7 +159,7 @@ impl Map {
     ) -> Result<Reply, PutFault>
         requires own { IsMine self.now seat.old }
         requires some { 1 ≤ tries }
-        ensures { HasTriedToWrite self.now (call.Write key want change) seat.old seat.new tries
+        ensures { HasWritten self.now (call.Write key want change) seat.old seat.new (Tries tries)
             (replied_or_refused result) }
     {
         // By reference, since Rattle's borrow checker covers no second move of these two.

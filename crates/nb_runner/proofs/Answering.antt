@@ -5,8 +5,9 @@ use Rattle.nb_core.specs.declared.calls.Call.TheVariants as call
 use Rattle.nb_core.specs.declared.calls.Reply.{Reply}
 use Rattle.nb_map.specs.Logs.{HasFound, HasMatched, HasReplied}
 use Rattle.nb_map.specs.Maps.{MapOf, SeatOf}
+use Rattle.nb_map.specs.Progress.{Unlimited}
 use Rattle.nb_map.specs.Promises.{HasAnswered, found_or_full, found_or_refused}
-use Rattle.nb_map.specs.Refusals.{HasRefused}
+use Rattle.nb_map.specs.Refusals.{HasRefused, uncontended}
 use Rattle.nb_map.specs.declared.faults.AddFault.{AddFault}
 use Rattle.nb_map.specs.declared.faults.AddFault.TheVariants as fault
 use Rattle.nb_map.specs.declared.faults.Full.{Full}
@@ -41,7 +42,7 @@ module _ (m : MapOf) (s t : SeatOf) where
   pub by-put :
       (c : Command) → ((reply : Reply) → shown c reply ≡ before reply.before)
       → (put : Result (Option ℕ) Full)
-      → HasAnswered (HasRefused m (call_of c) s t) (call_of c) s t (found_or_full put)
+      → HasAnswered (HasRefused m (call_of c) s t Unlimited) (call_of c) s t (found_or_full put)
       → IsAnswered m c (of_put put) s t
   by-put c is (Ok number) answered = by-found c is number answered
   by-put c is (Err f) answered = answered
@@ -49,7 +50,8 @@ module _ (m : MapOf) (s t : SeatOf) where
   pub by-add :
       (c : Command) → ((reply : Reply) → shown c reply ≡ before reply.before)
       → (added : Result (Option ℕ) AddFault)
-      → HasAnswered (HasRefused m (call_of c) s t) (call_of c) s t (found_or_refused added)
+      → HasAnswered (HasRefused m (call_of c) s t Unlimited) (call_of c) s t
+      (found_or_refused (uncontended added))
       → IsAnswered m c (of_add added) s t
   by-add c is (Ok number) answered = by-found c is number answered
   by-add c is (Err fault.Full) answered = answered

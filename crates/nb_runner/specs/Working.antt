@@ -8,8 +8,9 @@ use Rattle.nb_core.specs.declared.calls.Reply.{Reply}
 use Rattle.nb_map.specs.Calling.{HasStepped}
 use Rattle.nb_map.specs.Logs.{HasLogged, HasReplied, log}
 use Rattle.nb_map.specs.Maps.{IsMine, MapOf, SeatOf}
+use Rattle.nb_map.specs.Progress.{Unlimited}
 use Rattle.nb_map.specs.Refusals.{HasRefused}
-use Rattle.nb_map.specs.declared.faults.AddFault.TheVariants as fault
+use Rattle.nb_map.specs.declared.faults.PutFault.TheVariants as fault
 use Rattle.nb_table.specs.Chains.{Grown}
 use Rattle.nb_script.specs.Script.{Phase}
 use Rattle.nb_runner.specs.Text.{call_of, shown}
@@ -28,8 +29,9 @@ abbrev pub IsAnswered : MapOf → Command → Answer → (before after : SeatOf)
 IsAnswered m c answer.Nothing before after = HasShownReply c answer.Nothing before after
 IsAnswered m c (answer.Value n) before after = HasShownReply c (answer.Value n) before after
 IsAnswered m c (answer.Matched b) before after = HasShownReply c (answer.Matched b) before after
-IsAnswered m c answer.Full before after = HasRefused m (call_of c) before after fault.Full
-IsAnswered m c answer.Range before after = HasRefused m (call_of c) before after fault.ValueRange
+IsAnswered m c answer.Full before after = HasRefused m (call_of c) before after Unlimited fault.Full
+IsAnswered m c answer.Range before after =
+    HasRefused m (call_of c) before after Unlimited fault.ValueRange
 
 -- the seat's steps were such as the command's call may make
 abbrev pub HasWorkedFor : MapOf → Command → (before after : SeatOf) → Type 0

@@ -4,11 +4,12 @@ use Rattle.nb_core.specs.Plans.{Plan}
 use Rattle.nb_table.specs.Chains.{Extended}
 use Rattle.nb_map.specs.Handles as handles
 use Rattle.nb_map.specs.NamedCalls.{put_if_absent_of, remove_of}
+use Rattle.nb_map.specs.Progress.{Unlimited}
 use Rattle.nb_map.specs.Promises as of_map
 use Rattle.nb_map.specs.Promises.{Found, Refused}
 use Rattle.nb_map.specs.Walks as walks
-use Rattle.nb_map.specs.declared.faults.AddFault.TheVariants as add_fault
 use Rattle.nb_map.specs.declared.faults.Full.{Full}
+use Rattle.nb_map.specs.declared.faults.PutFault.TheVariants as fault
 use Rattle.nb_set.specs.Handles.{as_walk}
 use Rattle.nb_set.specs.Log.{Add, Remove}
 use Rattle.nb_set.specs.Promises.{HandleHasWalkedOn, HasBegunWalk, HasEstimated, HasLookedUp, HasMet, HasSeenTop, HasWalkedOn, HasWritten}
@@ -25,24 +26,24 @@ use Rattle.nb_set.proofs.Walked.{asked, key_of}
 pub added :
     {set : SetOf} {before after : SeatOf} (k : ℕ) (number : Option ℕ) (came : Bool)
     → is_some number ≡ not came
-    → of_map.HasWritten set.map (put_if_absent_of k 0) before after (Found number)
+    → of_map.HasWritten set.map (put_if_absent_of k 0) before after Unlimited (Found number)
     → HasWritten set (Add k) before after (Ok came)
 added k number came is wrote = record {
   answered = replies.added k number came is wrote.answered;
   on_map = (wrote.answered.0, wrote.answered.2);
-  lock_free = wrote.lock_free;
+  lock_free = wrote.non_blocking;
   short = wrote.short;
   own = wrote.own;
 }
 
 pub refused :
     {set : SetOf} {before after : SeatOf} (k : ℕ) (full : Full)
-    → of_map.HasWritten set.map (put_if_absent_of k 0) before after (Refused add_fault.Full)
+    → of_map.HasWritten set.map (put_if_absent_of k 0) before after Unlimited (Refused fault.Full)
     → HasWritten set (Add k) before after (Err full)
 refused k full wrote = record {
   answered = (logged-as wrote.answered.unmade, wrote.answered.just.1);
   on_map = wrote.answered.unmade;
-  lock_free = wrote.lock_free;
+  lock_free = wrote.non_blocking;
   short = wrote.short;
   own = wrote.own;
 }
@@ -50,12 +51,12 @@ refused k full wrote = record {
 pub removed :
     {set : SetOf} {before after : SeatOf} (k : ℕ) (number : Option ℕ) (went : Bool)
     → went ≡ is_some number
-    → of_map.HasWritten set.map (remove_of k) before after (Found number)
+    → of_map.HasWritten set.map (remove_of k) before after Unlimited (Found number)
     → HasWritten set (Remove k) before after (Ok went)
 removed k number went is wrote = record {
   answered = replies.removed k number went is wrote.answered;
   on_map = (wrote.answered.0, wrote.answered.2);
-  lock_free = wrote.lock_free;
+  lock_free = wrote.non_blocking;
   short = wrote.short;
   own = wrote.own;
 }

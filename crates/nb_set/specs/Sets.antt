@@ -92,7 +92,8 @@ HasWorked set call before after most =
 -- It is lock-free: only where other seats' writes of the key came first did it work for longer than
 -- its tables say.
 abbrev pub IsLockFree : SetOf → Call → (before after : SeatOf) → Type 0
-IsLockFree set call before after = progress.IsLockFree set.map (call_for call) before after
+IsLockFree set call before after =
+    progress.IsNonBlocking set.map (call_for call) before after progress.Unlimited
 
 -- A look at the key is short where it is at home: two steps in the table that the seat remembered;
 -- and five in the top table, if the seat learns of no new one.

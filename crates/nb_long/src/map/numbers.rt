@@ -2,7 +2,8 @@
 ghost use Rattle.std.specs.Prelude.{◌≡◌};
 ghost use Rattle.nb_map.specs.Handles.{HandleOf, handle_on};
 ghost use Rattle.nb_map.specs.NamedCalls.{exchange_of, put_if_absent_of, put_of, replace_of};
-ghost use Rattle.nb_map.specs.Promises.{Found, HasGot, HasTriedToWrite, HasWritten, found_or_full, replied_or_refused};
+ghost use Rattle.nb_map.specs.Progress.{Tries, Unlimited};
+ghost use Rattle.nb_map.specs.Promises.{Found, HasGot, HasWritten, found_or_full, replied_or_refused};
 ghost use Rattle.nb_long.specs.Numbers.{HasCalled, IsSeated};
 
 use nb_core::{Key, Num, Reply};
@@ -33,7 +34,8 @@ pub(crate) trait Numbers {
     fn put<R: Wait>(&self, rt: &R, caller: &mut Self::Caller, key: Key, number: Num) -> Put
         requires own { IsSeated (handle self.now caller.old) }
         ensures { HasCalled (λ m before after. HasWritten m (put_of key number) before after
-            (found_or_full result)) (handle self.now caller.old) (handle self.now caller.new) };
+            Unlimited (found_or_full result)) (handle self.now caller.old)
+            (handle self.now caller.new) };
 
     /// `Map::put_if_absent`.
     fn put_if_absent<R: Wait>(
@@ -45,7 +47,7 @@ pub(crate) trait Numbers {
     ) -> Put
         requires own { IsSeated (handle self.now caller.old) }
         ensures { HasCalled (λ m before after. HasWritten m (put_if_absent_of key number)
-            before after (found_or_full result)) (handle self.now caller.old)
+            before after Unlimited (found_or_full result)) (handle self.now caller.old)
             (handle self.now caller.new) };
 
     /// `Map::replace`.
@@ -58,7 +60,8 @@ pub(crate) trait Numbers {
     ) -> Option<Num>
         requires own { IsSeated (handle self.now caller.old) }
         ensures { HasCalled (λ m before after. HasWritten m (replace_of key number) before after
-            (Found result)) (handle self.now caller.old) (handle self.now caller.new) };
+            Unlimited (Found result)) (handle self.now caller.old)
+            (handle self.now caller.new) };
 
     /// `Map::compare_exchange`, with one try.
     fn compare_exchange(
@@ -69,8 +72,8 @@ pub(crate) trait Numbers {
         new: Option<Num>,
     ) -> Exchange
         requires own { IsSeated (handle self.now caller.old) }
-        ensures { HasCalled (λ m before after. HasTriedToWrite m (exchange_of key old new)
-            before after 1 (replied_or_refused result)) (handle self.now caller.old)
+        ensures { HasCalled (λ m before after. HasWritten m (exchange_of key old new)
+            before after (Tries 1) (replied_or_refused result)) (handle self.now caller.old)
             (handle self.now caller.new) };
 }
 

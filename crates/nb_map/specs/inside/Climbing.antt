@@ -12,9 +12,8 @@ use Rattle.nb_core.specs.declared.slot_paths.Slot.{Slot}
 use Rattle.nb_core.specs.declared.states.KeyState.TheVariants.{Claimed}
 use Rattle.nb_table.specs.Chains.{ChainOf, IsOwn, SeenBy, seen_by}
 use Rattle.nb_table.specs.Conditions.{IsReached}
-use Rattle.nb_map.specs.Progress.{passed_since}
-use Rattle.nb_map.specs.Refusals.{IsJust, IsJustAdd}
-use Rattle.nb_map.specs.declared.faults.AddFault.TheVariants as add_fault
+use Rattle.nb_map.specs.Progress.{Tries, Unlimited, passed_since}
+use Rattle.nb_map.specs.Refusals.{IsJust}
 use Rattle.nb_map.specs.declared.faults.PutFault.TheVariants as fault
 use Rattle.nb_map.specs.declared.faults.PutFault.{PutFault}
 use Rattle.nb_map.specs.declared.steps.rung.Attempt.TheVariants as attempt
@@ -73,8 +72,8 @@ IsSlotOf p t g i k = (i < size_of p g) × (t.key g i ≡ Claimed k)
 -- ---- what it comes to
 
 -- the call leaves alone whatever it finds, as a read does
-abbrev pub IsRead : Call → Type 0
-IsRead call = (number : Option ℕ) → leaves_alone call number ≡ true
+abbrev pub LeavesAllAlone : Call → Type 0
+LeavesAllAlone call = (number : Option ℕ) → leaves_alone call number ≡ true
 
 -- the reply is the call's for what it found
 abbrev pub IsReplied : Call → Reply → Type 0
@@ -83,14 +82,14 @@ IsReplied call reply = reply ≡ reply_at call reply.before
 -- the call is refused for a just reason, and doesn't leave alone whatever it finds
 abbrev pub IsRefused : Plan → Call → (before after : SeenBy) → (tries : ℕ) → PutFault → Type 0
 IsRefused p call before after tries why =
-    IsJust p call before after tries why × (IsRead call → ⊥)
+    IsJust p call before after (Tries tries) why × (LeavesAllAlone call → ⊥)
 
 -- It has lost no more of its tries than others won exchanges on its key. A call that leaves alone
 -- whatever it finds loses none.
 pub record IsSpent (call : Call) (before after : SeenBy) (tries left : ℕ) : Type 0 where
   pub fewer : left ≤ tries
   pub lost : tries ≤ left + passed_since call before after
-  pub read : IsRead call → left ≡ tries
+  pub read : LeavesAllAlone call → left ≡ tries
 
 -- it may go on in the next table, where it knows this of the table that it leaves
 abbrev pub GoesOn : Plan → Call → SeenBy → (g : ℕ) → Below → Type 0
@@ -148,7 +147,7 @@ IsForAbsent call reply = (leaves_alone call None ≡ true) × (reply ≡ reply_a
 abbrev pub IsVisitHere : Plan → Call → SeenBy → (g : ℕ) → Visit → Type 0
 IsVisitHere p call seat g (Told reply) = IsForAbsent call reply
 IsVisitHere p call seat g (Refused why) =
-    (why ≡ fault.Full) × IsJustAdd p call seat add_fault.Full
+    (why ≡ fault.Full) × IsJust p call seat seat Unlimited fault.Full
 IsVisitHere p call seat g (Above below) = GoesOn p call seat g below
 
 -- the key has this slot in table g, or the call has come to this there without one

@@ -7,7 +7,8 @@ use Rattle.nb_map.specs.Bulk.{put_entry}
 use Rattle.nb_map.specs.Crowding.{HasAskedFor}
 use Rattle.nb_map.specs.Logs.{HasLogged}
 use Rattle.nb_map.specs.Maps.{IsMine, MapOf, SeatOf}
-use Rattle.nb_map.specs.Promises.{HasTriedToWrite, Refused}
+use Rattle.nb_map.specs.Progress.{Tries}
+use Rattle.nb_map.specs.Promises.{HasWritten, Refused}
 use Rattle.nb_map.specs.declared.faults.PutFault.{PutFault}
 
 -- the puts of entries, the newest first
@@ -32,4 +33,4 @@ HasFilled m entries before after true = HasPut m entries entries before after
 HasFilled m entries before after false =
     (first rest : List (ℕ × ℕ)) × (next : ℕ × ℕ) × (then : SeatOf) × (fault : PutFault)
     × (entries ≡ first ++ (next ∷ rest)) × (next.1 ≤ VALUE_MAX) × HasPut m entries first before then
-    × HasTriedToWrite m (put_entry next) then after 1 (Refused fault)
+    × HasWritten m (put_entry next) then after (Tries 1) (Refused fault)

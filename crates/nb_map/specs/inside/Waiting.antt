@@ -1,5 +1,5 @@
 -- Writes come in two parts: a straight way, at the key's home slot, and a general one.
-use Rattle.std.specs.Prelude.{ℕ, [], true, ◌≡◌, ◌⊎◌, ◌+◌, ◌-◌, ◌<◌, ◌≤◌, min, IfErr, Option, None, Some, Result, Ok, Err}
+use Rattle.std.specs.Prelude.{ℕ, [], true, ◌≡◌, ◌⊎◌, ◌+◌, ◌-◌, ◌<◌, ◌≤◌, IfErr, Option, None, Some, Result, Ok, Err}
 use Rattle.nb_core.specs.Calls.{overflows}
 use Rattle.nb_core.specs.Log.{Numbers}
 use Rattle.nb_core.specs.Plans.{Plan}
@@ -9,10 +9,10 @@ use Rattle.nb_table.specs.Chains.{ChainOf, IsOwn, SeenBy}
 use Rattle.nb_map.specs.Calling.{HasMade}
 use Rattle.nb_map.specs.Logs.{HasLogged, made_in}
 use Rattle.nb_map.specs.Maps.{HasWorked, IsMine, MapOf, SeatOf}
-use Rattle.nb_map.specs.Progress.{IsAloneAtHome, IsKnownHome, IsLastSeen, IsShortAtHome, passed_since}
-use Rattle.nb_map.specs.Promises.{HasAnswered, HasTriedToWrite, HasWritten, Outcome, Refused, Replied}
-use Rattle.nb_map.specs.Refusals.{HasRefused, IsJust, IsJustAdd}
-use Rattle.nb_map.specs.Steps.{climb_steps, home_steps, put_steps}
+use Rattle.nb_map.specs.Progress.{IsAloneAtHome, IsKnownHome, IsLastSeen, IsShortAtHome, Limit, Tries, Unlimited, passed_since, within}
+use Rattle.nb_map.specs.Promises.{HasAnswered, HasWritten, Outcome, Refused, Replied}
+use Rattle.nb_map.specs.Refusals.{IsJust}
+use Rattle.nb_map.specs.Steps.{climb_steps, home_steps, lost_steps, put_steps}
 use Rattle.nb_map.specs.declared.faults.AddFault.TheVariants as add_fault
 use Rattle.nb_map.specs.declared.faults.AddFault.{AddFault}
 use Rattle.nb_map.specs.declared.faults.PutFault.TheVariants as fault
@@ -32,9 +32,9 @@ use Rattle.nb_map.specs.declared.steps.write.Straight.{Straight}
 -- The write is told this: it is made with this reply, or refused for a just reason. It has made no
 -- more steps than one try takes, and few where it was alone at home.
 pub record HasBeenTold (p : Plan) (call : Call) (before after : SeenBy)
-    (told : Result Reply AddFault) : Type 0 where
+    (told : Result Reply PutFault) : Type 0 where
   pub made : HasMade p call before after (made_in call told) (put_steps p 1)
-  pub refused : IfErr told (IsJustAdd p call after)
+  pub refused : IfErr told (IsJust p call before after Unlimited)
   pub looked : before.steps < after.steps
   pub short : IsShortAtHome p call before after
 
@@ -58,35 +58,40 @@ abbrev pub HasTriedAtHome :
 HasTriedAtHome chain call before after left (straight.Made reply) =
     HasBeenTold chain.shape call before after (Ok reply)
 HasTriedAtHome chain call before after left straight.Overflow =
-    HasBeenTold chain.shape call before after (Err add_fault.ValueRange)
+    HasBeenTold chain.shape call before after (Err fault.ValueRange)
 HasTriedAtHome chain call before after left straight.GoesOn =
     HasLookedInVain chain call before after (1 - left)
 
--- what the general way comes to: the same as the straight one, after a look at the top word
-pub record HasClimbed (p : Plan) (call : Call) (before after : SeenBy)
-    (told : Result Reply AddFault) : Type 0 where
-  pub made :
-      HasMade p call before after (made_in call told)
-      (1 + put_steps p (passed_since call before after))
-  pub refused : IfErr told (IsJustAdd p call after)
-  pub looked : before.steps < after.steps
+-- the most steps of the general way, where others won so many exchanges on the key: the load of the
+-- top word, and the way up
+abbrev pub general_steps : Plan → Limit → (passed : ℕ) → ℕ
+general_steps p limit passed = 1 + (climb_steps p + lost_steps p (within limit passed))
 
--- What the general way comes to of a write with so many tries, maybe none: after a look at the top
--- word, the way up. Without a try it is refused.
-pub record HasClimbedWith (p : Plan) (call : Call) (before after : SeenBy) (tries : ℕ)
+-- What the general way comes to, with so many tries, maybe none, or as many as it takes. Without a
+-- try the write is refused.
+pub record HasClimbed (p : Plan) (call : Call) (before after : SeenBy) (limit : Limit)
     (told : Result Reply PutFault) : Type 0 where
   pub made :
       HasMade p call before after (made_in call told)
-      (1 + (climb_steps p + min tries (passed_since call before after)))
-  pub refused : IfErr told (IsJust p call before after tries)
+      (general_steps p limit (passed_since call before after))
+  pub refused : IfErr told (IsJust p call before after limit)
 
 -- ---- on the map
 
--- the seat has looked in vain, has lost so many exchanges, and has counted nothing
-pub record IsAway (map : MapOf) (call : Call) (before after : SeatOf) : Type 0 where
+-- what is left of the tries, after so many lost exchanges
+abbrev pub IsLeft : (limit : Limit) → (lost : ℕ) → (left : Limit) → Type 0
+IsLeft Unlimited lost Unlimited = Unit {0}
+IsLeft (Tries tries) lost (Tries left) = left + lost ≡ tries
+IsLeft _ lost _ = ⊥
+
+-- The seat has looked in vain, and has counted nothing. The write has yet to be made, with what is
+-- left of its tries.
+pub record HasYetToWrite (map : MapOf) (call : Call) (before after : SeatOf) (limit left : Limit) :
+    Type 0 where
   pub mine : IsMine map before
   pub lost : ℕ
   pub looked : HasLookedInVain map.chain call before.chain after.chain lost
+  pub left_over : IsLeft limit lost left
   pub count : after.count ≡ before.count
   pub own : IsMine map after
 
@@ -94,56 +99,34 @@ pub record IsAway (map : MapOf) (call : Call) (before after : SeatOf) : Type 0 w
 abbrev pub CantOverflow : Call → Type 0
 CantOverflow call = (m : Numbers) → overflows call m ≡ true → ⊥
 
--- what the straight way comes to of such a write: its whole promise, or a look in vain
-abbrev pub HasGoneStraight : MapOf → Call → (before after : SeatOf) → Option Reply → Type 0
-HasGoneStraight map call before after (Some reply) =
-    HasWritten map call before after (Replied reply)
-HasGoneStraight map call before after None = IsAway map call before after
-
--- the seat has looked in vain, and of so many tries so many are left
-pub record IsAwayWith (map : MapOf) (call : Call) (before after : SeatOf) (tries left : ℕ) :
-    Type 0 where
-  pub away : IsAway map call before after
-  pub all : left + away.lost ≡ tries
-
--- what the straight way comes to of any write with so many tries, of which so many are left
-abbrev pub HasTriedStraight :
-    MapOf → Call → (before after : SeatOf) → (tries left : ℕ) → Straight → Type 0
-HasTriedStraight map call before after tries left (straight.Made reply) =
-    HasTriedToWrite map call before after tries (Replied reply)
-HasTriedStraight map call before after tries left straight.Overflow =
-    HasTriedToWrite map call before after tries (Refused fault.ValueRange)
-HasTriedStraight map call before after tries left straight.GoesOn =
-    IsAwayWith map call before after tries left
+-- what the straight way comes to: the write's whole promise, or a look in vain
+abbrev pub HasGoneStraight :
+    MapOf → Call → (before after : SeatOf) → (limit left : Limit) → Straight → Type 0
+HasGoneStraight map call before after limit left (straight.Made reply) =
+    HasWritten map call before after limit (Replied reply)
+HasGoneStraight map call before after limit left straight.Overflow =
+    HasWritten map call before after limit (Refused fault.ValueRange)
+HasGoneStraight map call before after limit left straight.GoesOn =
+    HasYetToWrite map call before after limit left
 
 -- the reply of a write that is made, and else that it goes on
 abbrev pub made_or_on : Option Reply → Straight
 made_or_on (Some reply) = straight.Made reply
 made_or_on None = straight.GoesOn
 
--- what the general way promises of a write, from the look in vain on
-pub record HasGoneOn (map : MapOf) (call : Call) (before after : SeatOf)
-    (outcome : Outcome AddFault) : Type 0 where
-  pub answered : HasAnswered (HasRefused map call before after) call before after outcome
-  pub worked :
-      HasWorked map call before after
-      (1 + put_steps map.chain.shape (passed_since call before.chain after.chain))
-  pub own : IsMine map after
-
 -- it is refused for a reason that is just for so many tries
-pub record IsStopped (map : MapOf) (call : Call) (before after : SeatOf) (tries : ℕ)
+pub record IsStopped (map : MapOf) (call : Call) (before after : SeatOf) (limit : Limit)
     (fault : PutFault) : Type 0 where
   pub unmade : HasLogged before after []
-  pub just : IsJust map.chain.shape call before.chain after.chain tries fault
+  pub just : IsJust map.chain.shape call before.chain after.chain limit fault
 
--- what the general way promises of a write with so many tries, maybe none, from the look in vain on
-pub record HasGoneOnWith (map : MapOf) (call : Call) (before after : SeatOf) (tries : ℕ)
-    (outcome : Outcome PutFault) : Type 0 where
-  pub answered : HasAnswered (IsStopped map call before after tries) call before after outcome
+-- what the general way promises of a write, from the look in vain on
+pub record HasGoneOn (map : MapOf) (call : Call) (before after : SeatOf) (limit : Limit)
+    (outcome : Outcome) : Type 0 where
+  pub answered : HasAnswered (IsStopped map call before after limit) call before after outcome
   pub worked :
       HasWorked map call before after
-      (1
-      + (climb_steps map.chain.shape + min tries (passed_since call before.chain after.chain)))
+      (general_steps map.chain.shape limit (passed_since call before.chain after.chain))
   pub own : IsMine map after
 
 -- ---- what the general way answers

@@ -4,7 +4,8 @@ ghost use Rattle.std.specs.Prelude.{Option, max, unwrap_or, ℕ, ◌≡◌};
 ghost use Rattle.nb_core.specs.declared.calls.Call.TheVariants as call;
 ghost use Rattle.nb_map.specs.Handles.{KeepsRest};
 ghost use Rattle.nb_map.specs.NamedCalls.{add_of, exchange_of, put_if_absent_of, put_of, remove_of};
-ghost use Rattle.nb_map.specs.Promises.{HasGot, HasTriedToWrite, found_or_refused, replied_or_refused};
+ghost use Rattle.nb_map.specs.Progress.{Tries};
+ghost use Rattle.nb_map.specs.Promises.{HasGot, HasWritten, found_or_refused, replied_or_refused};
 ghost use Rattle.nb_map.specs.Updating.{IsUpdate};
 
 use crate::faults::PutFault;
@@ -21,8 +22,8 @@ impl Handle {
         change: Change,
         tries: u32,
     ) -> Result<Reply, PutFault>
-        ensures wrote { HasTriedToWrite self.old.map (call.Write key want change)
-            self.old.seat self.new.seat (max tries 1) (replied_or_refused result) }
+        ensures wrote { HasWritten self.old.map (call.Write key want change)
+            self.old.seat self.new.seat (Tries (max tries 1)) (replied_or_refused result) }
         ensures rest { KeepsRest self.old self.new }
     {
         self.shared
@@ -32,8 +33,8 @@ impl Handle {
 
     /// `Map::try_put`.
     pub fn try_put(&mut self, key: Key, number: Num, tries: u32) -> Result<Option<Num>, PutFault>
-        ensures wrote { HasTriedToWrite self.old.map (put_of key number) self.old.seat self.new.seat
-            (max tries 1) (found_or_refused result) }
+        ensures wrote { HasWritten self.old.map (put_of key number) self.old.seat self.new.seat
+            (Tries (max tries 1)) (found_or_refused result) }
         ensures rest { KeepsRest self.old self.new }
     {
         self.shared
@@ -48,8 +49,8 @@ impl Handle {
         number: Num,
         tries: u32,
     ) -> Result<Option<Num>, PutFault>
-        ensures wrote { HasTriedToWrite self.old.map (put_if_absent_of key number)
-            self.old.seat self.new.seat (max tries 1) (found_or_refused result) }
+        ensures wrote { HasWritten self.old.map (put_if_absent_of key number)
+            self.old.seat self.new.seat (Tries (max tries 1)) (found_or_refused result) }
         ensures rest { KeepsRest self.old self.new }
     {
         self.shared
@@ -59,8 +60,8 @@ impl Handle {
 
     /// `Map::try_add`.
     pub fn try_add(&mut self, key: Key, number: Num, tries: u32) -> Result<Option<Num>, PutFault>
-        ensures wrote { HasTriedToWrite self.old.map (add_of key number) self.old.seat self.new.seat
-            (max tries 1) (found_or_refused result) }
+        ensures wrote { HasWritten self.old.map (add_of key number) self.old.seat self.new.seat
+            (Tries (max tries 1)) (found_or_refused result) }
         ensures rest { KeepsRest self.old self.new }
     {
         self.shared
@@ -70,8 +71,8 @@ impl Handle {
 
     /// `Map::try_remove`.
     pub fn try_remove(&mut self, key: Key, tries: u32) -> Result<Option<Num>, PutFault>
-        ensures wrote { HasTriedToWrite self.old.map (remove_of key) self.old.seat self.new.seat
-            (max tries 1) (found_or_refused result) }
+        ensures wrote { HasWritten self.old.map (remove_of key) self.old.seat self.new.seat
+            (Tries (max tries 1)) (found_or_refused result) }
         ensures rest { KeepsRest self.old self.new }
     {
         self.shared
@@ -87,8 +88,8 @@ impl Handle {
         new: Option<Num>,
         tries: u32,
     ) -> Result<Reply, PutFault>
-        ensures wrote { HasTriedToWrite self.old.map (exchange_of key old new)
-            self.old.seat self.new.seat (max tries 1) (replied_or_refused result) }
+        ensures wrote { HasWritten self.old.map (exchange_of key old new)
+            self.old.seat self.new.seat (Tries (max tries 1)) (replied_or_refused result) }
         ensures rest { KeepsRest self.old self.new }
     {
         self.shared

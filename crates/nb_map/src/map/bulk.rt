@@ -4,6 +4,7 @@ ghost use Rattle.std.specs.Prelude.{Bool, false, true, ◌≡◌, ◌⊎◌};
 ghost use Rattle.nb_map.specs.Bulk.{HasExtended, HasSweptAll, Keeps, KeepsNone};
 ghost use Rattle.nb_map.specs.Maps.{IsMine};
 ghost use Rattle.nb_map.specs.NamedCalls.{remove_if_of};
+ghost use Rattle.nb_map.specs.Progress.{Unlimited};
 ghost use Rattle.nb_map.specs.Promises.{HasWritten, Matched};
 
 use crate::faults::FullAfter;
@@ -58,7 +59,7 @@ impl Map {
         ensures swept { (F.step keep.old entry.0 entry.1 true keep.new × (seat.new ≡ seat.old))
             ⊎ ((removed : Bool) × F.step keep.old entry.0 entry.1 false keep.new
             × HasWritten self.now (remove_if_of entry.0 entry.1) seat.old seat.new
-            (Matched removed)) }
+            Unlimited (Matched removed)) }
         ensures callable { F.IsAlwaysCallable keep.new }
     {
         let (key, number) = entry;

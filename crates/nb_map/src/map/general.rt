@@ -5,7 +5,9 @@ ghost use Rattle.nb_core.specs.Calls.{Fills};
 ghost use Rattle.nb_core.specs.declared.calls.Call.TheVariants as call;
 ghost use Rattle.nb_map.specs.Maps.{IsMine};
 ghost use Rattle.nb_map.specs.NamedCalls.{add_of, put_if_absent_of, put_of, remove_if_of, remove_of, replace_if_of, replace_of};
+ghost use Rattle.nb_map.specs.Progress.{Unlimited};
 ghost use Rattle.nb_map.specs.Promises.{Found, Matched, Replied, found_or_full, found_or_refused, replied_or_refused};
+ghost use Rattle.nb_map.specs.Refusals.{uncontended};
 ghost use Rattle.nb_map.specs.inside.Waiting.{CantOverflow, HasGoneOn, answer_of_added, answer_of_put};
 
 use crate::faults::AddFault;
@@ -27,7 +29,7 @@ impl Map {
         number: Num,
     ) -> Gone
         requires own { IsMine self.now seat.old }
-        ensures { HasGoneOn self.now (put_of key number) seat.old seat.new
+        ensures { HasGoneOn self.now (put_of key number) seat.old seat.new Unlimited
             (found_or_full (answer_of_put result)) }
     {
         self.put_on(rt, seat, key, Want::Any, Change::Put(number))
@@ -44,7 +46,7 @@ impl Map {
         number: Num,
     ) -> Gone
         requires own { IsMine self.now seat.old }
-        ensures { HasGoneOn self.now (put_if_absent_of key number) seat.old seat.new
+        ensures { HasGoneOn self.now (put_if_absent_of key number) seat.old seat.new Unlimited
             (found_or_full (answer_of_put result)) }
     {
         self.put_on(rt, seat, key, Want::Absent, Change::Put(number))
@@ -61,7 +63,8 @@ impl Map {
         number: Num,
     ) -> Option<Num>
         requires own { IsMine self.now seat.old }
-        ensures { HasGoneOn self.now (replace_of key number) seat.old seat.new (Found result) }
+        ensures { HasGoneOn self.now (replace_of key number) seat.old seat.new Unlimited
+            (Found result) }
     {
         self.set_on(rt, seat, key, Want::Present, Change::Put(number))
             .before
@@ -79,7 +82,8 @@ impl Map {
         new: Num,
     ) -> bool
         requires own { IsMine self.now seat.old }
-        ensures { HasGoneOn self.now (replace_if_of key old new) seat.old seat.new (Matched result) }
+        ensures { HasGoneOn self.now (replace_if_of key old new) seat.old seat.new Unlimited
+            (Matched result) }
     {
         self.set_on(rt, seat, key, Want::Equal(old), Change::Put(new))
             .matched
@@ -90,7 +94,8 @@ impl Map {
     #[inline(never)]
     pub(super) fn remove_general<R: Wait>(&self, rt: &R, seat: &mut Seat, key: Key) -> Option<Num>
         requires own { IsMine self.now seat.old }
-        ensures { HasGoneOn self.now (remove_of key) seat.old seat.new (Found result) }
+        ensures { HasGoneOn self.now (remove_of key) seat.old seat.new Unlimited
+            (Found result) }
     {
         self.set_on(rt, seat, key, Want::Any, Change::Remove).before
     }
@@ -106,7 +111,8 @@ impl Map {
         number: Num,
     ) -> bool
         requires own { IsMine self.now seat.old }
-        ensures { HasGoneOn self.now (remove_if_of key number) seat.old seat.new (Matched result) }
+        ensures { HasGoneOn self.now (remove_if_of key number) seat.old seat.new Unlimited
+            (Matched result) }
     {
         self.set_on(rt, seat, key, Want::Equal(number), Change::Remove)
             .matched
@@ -123,8 +129,8 @@ impl Map {
         number: Num,
     ) -> Added
         requires own { IsMine self.now seat.old }
-        ensures { HasGoneOn self.now (add_of key number) seat.old seat.new
-            (found_or_refused (answer_of_added result)) }
+        ensures { HasGoneOn self.now (add_of key number) seat.old seat.new Unlimited
+            (found_or_refused (uncontended (answer_of_added result))) }
     {
         match self.write_general(rt, seat, key, Want::Any, Change::Add(number)) {
             Ok(reply) => match reply.before {
@@ -141,7 +147,7 @@ impl Map {
     fn put_on<R: Wait>(&self, rt: &R, seat: &mut Seat, key: Key, want: Want, change: Change) -> Gone
         requires own { IsMine self.now seat.old }
         requires no_sum { CantOverflow (call.Write key want change) }
-        ensures { HasGoneOn self.now (call.Write key want change) seat.old seat.new
+        ensures { HasGoneOn self.now (call.Write key want change) seat.old seat.new Unlimited
             (found_or_full (answer_of_put result)) }
     {
         match self.write_general(rt, seat, key, want, change) {
@@ -167,7 +173,7 @@ impl Map {
         requires own { IsMine self.now seat.old }
         requires no_sum { CantOverflow (call.Write key want change) }
         requires fills_none { Fills (call.Write key want change) → ⊥ }
-        ensures { HasGoneOn self.now (call.Write key want change) seat.old seat.new
+        ensures { HasGoneOn self.now (call.Write key want change) seat.old seat.new Unlimited
             (Replied result) }
     {
         match self.write_general(rt, seat, key, want, change) {
@@ -187,8 +193,8 @@ impl Map {
         change: Change,
     ) -> Result<Reply, AddFault>
         requires own { IsMine self.now seat.old }
-        ensures { HasGoneOn self.now (call.Write key want change) seat.old seat.new
-            (replied_or_refused result) }
+        ensures { HasGoneOn self.now (call.Write key want change) seat.old seat.new Unlimited
+            (replied_or_refused (uncontended result)) }
     {
         let reply = write_general(rt, &self.chain, &mut seat.chain, key, want, change)?;
         self.count(&mut seat.count, &change, &reply);

@@ -7,8 +7,9 @@ ghost use Rattle.std.specs.Prelude.{◌≤◌};
 ghost use Rattle.nb_core.specs.declared.calls.Call.TheVariants as call;
 ghost use Rattle.nb_map.specs.Maps.{IsMine};
 ghost use Rattle.nb_map.specs.NamedCalls.{add_of, exchange_of, put_if_absent_of, put_of, remove_of};
-ghost use Rattle.nb_map.specs.Promises.{HasTriedToWrite, found_or_refused, replied_or_refused};
-ghost use Rattle.nb_map.specs.inside.Waiting.{CantOverflow, HasTriedStraight, made_or_on};
+ghost use Rattle.nb_map.specs.Progress.{Tries};
+ghost use Rattle.nb_map.specs.Promises.{HasWritten, found_or_refused, replied_or_refused};
+ghost use Rattle.nb_map.specs.inside.Waiting.{CantOverflow, HasGoneStraight, made_or_on};
 
 use crate::faults::PutFault;
 use crate::map::{Map, Seat};
@@ -29,7 +30,7 @@ impl Map {
     ) -> Result<Option<Num>, PutFault>
         requires own { IsMine self.now seat.old }
         requires some { 1 ≤ tries }
-        ensures { HasTriedToWrite self.now (put_of key number) seat.old seat.new tries
+        ensures { HasWritten self.now (put_of key number) seat.old seat.new (Tries tries)
             (found_or_refused result) }
     {
         let mut left = tries;
@@ -51,7 +52,7 @@ impl Map {
     ) -> Result<Option<Num>, PutFault>
         requires own { IsMine self.now seat.old }
         requires some { 1 ≤ tries }
-        ensures { HasTriedToWrite self.now (put_if_absent_of key number) seat.old seat.new tries
+        ensures { HasWritten self.now (put_if_absent_of key number) seat.old seat.new (Tries tries)
             (found_or_refused result) }
     {
         let mut left = tries;
@@ -75,7 +76,7 @@ impl Map {
     ) -> Result<Option<Num>, PutFault>
         requires own { IsMine self.now seat.old }
         requires some { 1 ≤ tries }
-        ensures { HasTriedToWrite self.now (add_of key number) seat.old seat.new tries
+        ensures { HasWritten self.now (add_of key number) seat.old seat.new (Tries tries)
             (found_or_refused result) }
     {
         let mut left = tries;
@@ -92,7 +93,7 @@ impl Map {
     pub fn try_remove(&self, seat: &mut Seat, key: Key, tries: u32) -> Result<Option<Num>, PutFault>
         requires own { IsMine self.now seat.old }
         requires some { 1 ≤ tries }
-        ensures { HasTriedToWrite self.now (remove_of key) seat.old seat.new tries
+        ensures { HasWritten self.now (remove_of key) seat.old seat.new (Tries tries)
             (found_or_refused result) }
     {
         let mut left = tries;
@@ -116,7 +117,7 @@ impl Map {
     ) -> Result<Reply, PutFault>
         requires own { IsMine self.now seat.old }
         requires some { 1 ≤ tries }
-        ensures { HasTriedToWrite self.now (exchange_of key old new) seat.old seat.new tries
+        ensures { HasWritten self.now (exchange_of key old new) seat.old seat.new (Tries tries)
             (replied_or_refused result) }
     {
         let want = match old {
@@ -143,8 +144,8 @@ impl Map {
         requires own { IsMine self.now seat.old }
         requires some { 1 ≤ tries.old }
         requires no_sum { CantOverflow (call.Write key want change) }
-        ensures { HasTriedStraight self.now (call.Write key want change) seat.old seat.new
-            tries.old tries.new (made_or_on result) }
+        ensures { HasGoneStraight self.now (call.Write key want change) seat.old seat.new
+            (Tries tries.old) (Tries tries.new) (made_or_on result) }
     {
         match self.try_straight(seat, key, want, change, tries) {
             Straight::Made(reply) => Some(reply),
@@ -168,8 +169,8 @@ impl Map {
     ) -> Straight
         requires own { IsMine self.now seat.old }
         requires some { 1 ≤ tries.old }
-        ensures { HasTriedStraight self.now (call.Write key want change) seat.old seat.new
-            tries.old tries.new result }
+        ensures { HasGoneStraight self.now (call.Write key want change) seat.old seat.new
+            (Tries tries.old) (Tries tries.new) result }
     {
         let call = Call::Write { key, want, change };
         let mut left = 1;

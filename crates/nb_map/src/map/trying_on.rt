@@ -4,8 +4,9 @@
 ghost use Rattle.nb_core.specs.declared.calls.Call.TheVariants as call;
 ghost use Rattle.nb_map.specs.Maps.{IsMine};
 ghost use Rattle.nb_map.specs.NamedCalls.{add_of, put_if_absent_of, put_of, remove_of};
+ghost use Rattle.nb_map.specs.Progress.{Tries};
 ghost use Rattle.nb_map.specs.Promises.{found_or_refused, replied_or_refused};
-ghost use Rattle.nb_map.specs.inside.Waiting.{HasGoneOnWith, answer_of_tried};
+ghost use Rattle.nb_map.specs.inside.Waiting.{HasGoneOn, answer_of_tried};
 
 use crate::faults::PutFault;
 use crate::map::answers::Tried;
@@ -26,7 +27,7 @@ impl Map {
         tries: u32,
     ) -> Tried
         requires own { IsMine self.now seat.old }
-        ensures { HasGoneOnWith self.now (put_of key number) seat.old seat.new tries
+        ensures { HasGoneOn self.now (put_of key number) seat.old seat.new (Tries tries)
             (found_or_refused (answer_of_tried result)) }
     {
         self.find_above(seat, key, Want::Any, Change::Put(number), tries)
@@ -43,7 +44,7 @@ impl Map {
         tries: u32,
     ) -> Tried
         requires own { IsMine self.now seat.old }
-        ensures { HasGoneOnWith self.now (put_if_absent_of key number) seat.old seat.new tries
+        ensures { HasGoneOn self.now (put_if_absent_of key number) seat.old seat.new (Tries tries)
             (found_or_refused (answer_of_tried result)) }
     {
         self.find_above(seat, key, Want::Absent, Change::Put(number), tries)
@@ -60,7 +61,7 @@ impl Map {
         tries: u32,
     ) -> Tried
         requires own { IsMine self.now seat.old }
-        ensures { HasGoneOnWith self.now (add_of key number) seat.old seat.new tries
+        ensures { HasGoneOn self.now (add_of key number) seat.old seat.new (Tries tries)
             (found_or_refused (answer_of_tried result)) }
     {
         self.find_above(seat, key, Want::Any, Change::Add(number), tries)
@@ -71,7 +72,7 @@ impl Map {
     #[inline(never)]
     pub(super) fn try_remove_general(&self, seat: &mut Seat, key: Key, tries: u32) -> Tried
         requires own { IsMine self.now seat.old }
-        ensures { HasGoneOnWith self.now (remove_of key) seat.old seat.new tries
+        ensures { HasGoneOn self.now (remove_of key) seat.old seat.new (Tries tries)
             (found_or_refused (answer_of_tried result)) }
     {
         self.find_above(seat, key, Want::Any, Change::Remove, tries)
@@ -89,7 +90,7 @@ impl Map {
         tries: u32,
     ) -> Result<Reply, PutFault>
         requires own { IsMine self.now seat.old }
-        ensures { HasGoneOnWith self.now (call.Write key want change) seat.old seat.new tries
+        ensures { HasGoneOn self.now (call.Write key want change) seat.old seat.new (Tries tries)
             (replied_or_refused result) }
     {
         self.write_above(seat, key, want, change, tries)
@@ -99,7 +100,7 @@ impl Map {
     #[inline(always)]
     fn find_above(&self, seat: &mut Seat, key: Key, want: Want, change: Change, tries: u32) -> Tried
         requires own { IsMine self.now seat.old }
-        ensures { HasGoneOnWith self.now (call.Write key want change) seat.old seat.new tries
+        ensures { HasGoneOn self.now (call.Write key want change) seat.old seat.new (Tries tries)
             (found_or_refused (answer_of_tried result)) }
     {
         match self.write_above(seat, key, want, change, tries) {
@@ -124,7 +125,7 @@ impl Map {
         tries: u32,
     ) -> Result<Reply, PutFault>
         requires own { IsMine self.now seat.old }
-        ensures { HasGoneOnWith self.now (call.Write key want change) seat.old seat.new tries
+        ensures { HasGoneOn self.now (call.Write key want change) seat.old seat.new (Tries tries)
             (replied_or_refused result) }
     {
         let call = Call::Write { key, want, change };

@@ -2,7 +2,8 @@
 ghost use Rattle.std.specs.Prelude.{Option, unwrap_or, ℕ, ◌≡◌, ◌≤◌};
 ghost use Rattle.nb_map.specs.Maps.{IsMine};
 ghost use Rattle.nb_map.specs.NamedCalls.{exchange_of};
-ghost use Rattle.nb_map.specs.Promises.{HasGot, HasTriedToWrite, replied_or_refused};
+ghost use Rattle.nb_map.specs.Progress.{Tries};
+ghost use Rattle.nb_map.specs.Promises.{HasGot, HasWritten, replied_or_refused};
 ghost use Rattle.nb_map.specs.Updating.{IsUpdate};
 
 use crate::faults::PutFault;
@@ -63,7 +64,7 @@ impl Map {
         requires some { 1 ≤ tries }
         requires callable { F.IsAlwaysCallable new_of.old }
         ensures exchanged { (new : Option ℕ) × F.step new_of.old found.now new new_of.new
-            × HasTriedToWrite self.now (exchange_of key found.now new) seat.old seat.new tries
+            × HasWritten self.now (exchange_of key found.now new) seat.old seat.new (Tries tries)
             (replied_or_refused result) }
         ensures callable { F.IsAlwaysCallable new_of.new }
     {

@@ -8,8 +8,10 @@
 ghost use Rattle.nb_core.specs.declared.calls.Call.TheVariants as call;
 ghost use Rattle.nb_map.specs.Maps.{IsMine};
 ghost use Rattle.nb_map.specs.NamedCalls.{add_of, put_if_absent_of, put_of, remove_if_of, remove_of, replace_if_of, replace_of};
+ghost use Rattle.nb_map.specs.Progress.{Unlimited};
 ghost use Rattle.nb_map.specs.Promises.{Found, HasWritten, Matched, found_or_full, found_or_refused};
-ghost use Rattle.nb_map.specs.inside.Waiting.{CantOverflow, HasGoneStraight};
+ghost use Rattle.nb_map.specs.Refusals.{uncontended};
+ghost use Rattle.nb_map.specs.inside.Waiting.{CantOverflow, HasGoneStraight, made_or_on};
 
 use crate::faults::{AddFault, Full};
 use crate::map::{Map, Seat};
@@ -36,7 +38,8 @@ impl Map {
         number: Num,
     ) -> Result<Option<Num>, Full>
         requires own { IsMine self.now seat.old }
-        ensures { HasWritten self.now (put_of key number) seat.old seat.new (found_or_full result) }
+        ensures { HasWritten self.now (put_of key number) seat.old seat.new Unlimited
+            (found_or_full result) }
     {
         match self.write_straight(seat, key, Want::Any, Change::Put(number)) {
             Some(reply) => Ok(reply.before),
@@ -54,7 +57,7 @@ impl Map {
         number: Num,
     ) -> Result<Option<Num>, Full>
         requires own { IsMine self.now seat.old }
-        ensures { HasWritten self.now (put_if_absent_of key number) seat.old seat.new
+        ensures { HasWritten self.now (put_if_absent_of key number) seat.old seat.new Unlimited
             (found_or_full result) }
     {
         match self.write_straight(seat, key, Want::Absent, Change::Put(number)) {
@@ -67,7 +70,8 @@ impl Map {
     /// two arguments. Lock-free, with the bound of `put`.
     pub fn replace<R: Wait>(&self, rt: &R, seat: &mut Seat, key: Key, number: Num) -> Option<Num>
         requires own { IsMine self.now seat.old }
-        ensures { HasWritten self.now (replace_of key number) seat.old seat.new (Found result) }
+        ensures { HasWritten self.now (replace_of key number) seat.old seat.new Unlimited
+            (Found result) }
     {
         match self.write_straight(seat, key, Want::Present, Change::Put(number)) {
             Some(reply) => reply.before,
@@ -79,7 +83,7 @@ impl Map {
     /// three arguments. Lock-free, with the bound of `put`.
     pub fn replace_if<R: Wait>(&self, rt: &R, seat: &mut Seat, key: Key, old: Num, new: Num) -> bool
         requires own { IsMine self.now seat.old }
-        ensures { HasWritten self.now (replace_if_of key old new) seat.old seat.new
+        ensures { HasWritten self.now (replace_if_of key old new) seat.old seat.new Unlimited
             (Matched result) }
     {
         match self.write_straight(seat, key, Want::Equal(old), Change::Put(new)) {
@@ -92,7 +96,8 @@ impl Map {
     /// Lock-free, with the bound of `put`.
     pub fn remove<R: Wait>(&self, rt: &R, seat: &mut Seat, key: Key) -> Option<Num>
         requires own { IsMine self.now seat.old }
-        ensures { HasWritten self.now (remove_of key) seat.old seat.new (Found result) }
+        ensures { HasWritten self.now (remove_of key) seat.old seat.new Unlimited
+            (Found result) }
     {
         match self.write_straight(seat, key, Want::Any, Change::Remove) {
             Some(reply) => reply.before,
@@ -104,7 +109,8 @@ impl Map {
     /// two arguments. Lock-free, with the bound of `put`.
     pub fn remove_if<R: Wait>(&self, rt: &R, seat: &mut Seat, key: Key, number: Num) -> bool
         requires own { IsMine self.now seat.old }
-        ensures { HasWritten self.now (remove_if_of key number) seat.old seat.new (Matched result) }
+        ensures { HasWritten self.now (remove_if_of key number) seat.old seat.new Unlimited
+            (Matched result) }
     {
         match self.write_straight(seat, key, Want::Equal(number), Change::Remove) {
             Some(reply) => reply.matched,
@@ -122,8 +128,8 @@ impl Map {
         number: Num,
     ) -> Result<Option<Num>, AddFault>
         requires own { IsMine self.now seat.old }
-        ensures { HasWritten self.now (add_of key number) seat.old seat.new
-            (found_or_refused result) }
+        ensures { HasWritten self.now (add_of key number) seat.old seat.new Unlimited
+            (found_or_refused (uncontended result)) }
     {
         let mut left = 1;
         match self.try_straight(seat, key, Want::Any, Change::Add(number), &mut left) {
@@ -143,7 +149,8 @@ impl Map {
     fn write_straight(&self, seat: &mut Seat, key: Key, want: Want, change: Change) -> Option<Reply>
         requires own { IsMine self.now seat.old }
         requires no_sum { CantOverflow (call.Write key want change) }
-        ensures { HasGoneStraight self.now (call.Write key want change) seat.old seat.new result }
+        ensures { HasGoneStraight self.now (call.Write key want change) seat.old seat.new
+            Unlimited Unlimited (made_or_on result) }
     {
         let mut left = 1;
         match self.try_straight(seat, key, want, change, &mut left) {

@@ -7,11 +7,11 @@ ghost use Rattle.nb_core.specs.declared.states.KeyState.TheVariants as key_is;
 ghost use Rattle.nb_table.specs.Chains.{IsOwn, seen_by};
 ghost use Rattle.nb_map.specs.Calling.{HasMade};
 ghost use Rattle.nb_map.specs.Logs.{made_in};
-ghost use Rattle.nb_map.specs.Progress.{IsAtHome, IsHomeSlot, IsLastSeen, IsShortAtHome, passed_since};
-ghost use Rattle.nb_map.specs.Refusals.{IsJust, IsJustAdd};
-ghost use Rattle.nb_map.specs.Steps.{put_steps};
+ghost use Rattle.nb_map.specs.Progress.{IsAtHome, IsHomeSlot, IsLastSeen, IsShortAtHome, Tries, Unlimited, passed_since};
+ghost use Rattle.nb_map.specs.Refusals.{IsJust, uncontended};
+ghost use Rattle.nb_map.specs.Steps.{climb_steps, lost_steps, put_steps};
 ghost use Rattle.nb_map.specs.inside.Climbing.{IsAt, rung_at};
-ghost use Rattle.nb_map.specs.inside.Waiting.{HasClimbed, HasClimbedWith, HasTriedAtHome};
+ghost use Rattle.nb_map.specs.inside.Waiting.{HasClimbed, HasTriedAtHome};
 ghost use Rattle.nb_map.specs.inside.Writing.{IsHomeOf};
 
 use crate::faults::{AddFault, PutFault};
@@ -59,7 +59,7 @@ pub fn put_if_match_in<P: Pause>(
         (put_steps chain.now.shape (min tries
         (passed_since (call.Write key want change) seat.old seat.new + 1))) }
     ensures refused { IfErr result (IsJust chain.now.shape (call.Write key want change)
-        seat.old seat.new tries) }
+        seat.old seat.new (Tries tries)) }
     ensures looked { seat.old.steps < seat.new.steps }
     ensures short { IsShortAtHome chain.now.shape (call.Write key want change) seat.old seat.new }
     ensures serves { P.serves pause.new chain.now }
@@ -130,7 +130,7 @@ pub(crate) fn write_above<P: Pause>(
 ) -> Result<Reply, PutFault>
     requires own { IsOwn chain.now seat.old }
     requires serves { P.serves pause.old chain.now }
-    ensures climbed { HasClimbedWith chain.now.shape call.now seat.old seat.new tries result }
+    ensures climbed { HasClimbed chain.now.shape call.now seat.old seat.new (Tries tries) result }
     ensures serves { P.serves pause.new chain.now }
 {
     if tries == 0 {
@@ -153,7 +153,8 @@ pub(crate) fn write_general<R: Wait>(
     change: Change,
 ) -> Result<Reply, AddFault>
     requires own { IsOwn chain.now seat.old }
-    ensures { HasClimbed chain.now.shape (call.Write key want change) seat.old seat.new result }
+    ensures { HasClimbed chain.now.shape (call.Write key want change) seat.old seat.new Unlimited
+        (uncontended result) }
 {
     let top = chain.load_top(seat);
     write_rounds(rt, chain, seat, Call::Write { key, want, change }, top)
@@ -169,9 +170,11 @@ fn write_rounds<R: Wait>(
     top: u32,
 ) -> Result<Reply, AddFault>
     requires at { IsAt chain.now call seat.old (rung_at top) }
-    ensures made { HasMade chain.now.shape call seat.old seat.new (made_in call result)
-        (put_steps chain.now.shape (passed_since call seat.old seat.new)) }
-    ensures refused { IfErr result (IsJustAdd chain.now.shape call seat.new) }
+    ensures made { HasMade chain.now.shape call seat.old seat.new (made_in call (uncontended result))
+        (climb_steps chain.now.shape
+        + lost_steps chain.now.shape (passed_since call seat.old seat.new)) }
+    ensures refused { IfErr (uncontended result)
+        (IsJust chain.now.shape call seat.old seat.new Unlimited) }
 {
     for _ in rt.forever() {
         let mut left = u32::MAX;

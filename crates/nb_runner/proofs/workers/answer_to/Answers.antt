@@ -73,34 +73,34 @@ returns-in-Get-clause-worked g c =
 pub returns-in-Put-clause-worked : goal.returns-in-Put-clause-worked
 returns-in-Put-clause-worked g c =
     subst (λ made. HasWorkedFor c.args.map.now made c.args.seat.now c.put.new.seat)
-    (sym c.in-Put.is) (_, c.put.ensures.lock_free.steps)
+    (sym c.in-Put.is) (_, c.put.ensures.non_blocking.steps)
 
 pub returns-in-PutIfAbsent-clause-worked : goal.returns-in-PutIfAbsent-clause-worked
 returns-in-PutIfAbsent-clause-worked g c =
     subst (λ made. HasWorkedFor c.args.map.now made c.args.seat.now c.put_if_absent.new.seat)
-    (sym c.in-PutIfAbsent.is) (_, c.put_if_absent.ensures.lock_free.steps)
+    (sym c.in-PutIfAbsent.is) (_, c.put_if_absent.ensures.non_blocking.steps)
 
 pub returns-in-Replace-clause-worked : goal.returns-in-Replace-clause-worked
 returns-in-Replace-clause-worked g c =
     subst (λ made. HasWorkedFor c.args.map.now made c.args.seat.now c.replace.new.seat)
-    (sym c.in-Replace.is) (_, c.replace.ensures.lock_free.steps)
+    (sym c.in-Replace.is) (_, c.replace.ensures.non_blocking.steps)
 
 pub returns-in-ReplaceIf-clause-worked : goal.returns-in-ReplaceIf-clause-worked
 returns-in-ReplaceIf-clause-worked g c =
     subst (λ made. HasWorkedFor c.args.map.now made c.args.seat.now c.replace_if.new.seat)
-    (sym c.in-ReplaceIf.is) (_, c.replace_if.ensures.lock_free.steps)
+    (sym c.in-ReplaceIf.is) (_, c.replace_if.ensures.non_blocking.steps)
 
 pub returns-in-Remove-clause-worked : goal.returns-in-Remove-clause-worked
 returns-in-Remove-clause-worked g c =
     subst (λ made. HasWorkedFor c.args.map.now made c.args.seat.now c.remove.new.seat)
-    (sym c.in-Remove.is) (_, c.remove.ensures.lock_free.steps)
+    (sym c.in-Remove.is) (_, c.remove.ensures.non_blocking.steps)
 
 pub returns-in-RemoveIf-clause-worked : goal.returns-in-RemoveIf-clause-worked
 returns-in-RemoveIf-clause-worked g c =
     subst (λ made. HasWorkedFor c.args.map.now made c.args.seat.now c.remove_if.new.seat)
-    (sym c.in-RemoveIf.is) (_, c.remove_if.ensures.lock_free.steps)
+    (sym c.in-RemoveIf.is) (_, c.remove_if.ensures.non_blocking.steps)
 
 pub returns-in-Add-clause-worked : goal.returns-in-Add-clause-worked
 returns-in-Add-clause-worked g c =
     subst (λ made. HasWorkedFor c.args.map.now made c.args.seat.now c.add.new.seat)
-    (sym c.in-Add.is) (_, c.add.ensures.lock_free.steps)
+    (sym c.in-Add.is) (_, c.add.ensures.non_blocking.steps)

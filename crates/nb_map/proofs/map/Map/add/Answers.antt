@@ -1,20 +1,18 @@
 use Rattle.std.proofs.Common.{refl}
-use Rattle.nb_map.proofs.Away.{gone_on, overflown, written}
+use Rattle.nb_map.proofs.Away.{gone_on, unlimited, unlimited-rest}
 use Rattle.nb_map.proofs.map.Map.add.Goals as goal
 
 pub returns-in-Made : goal.returns-in-Made
 returns-in-Made g c =
-    let made = written c.in-Made.reply c.in-Made.ensures in
-    record {
-      answered = (c.in-Made.reply, refl, made.answered);
-      lock_free = made.lock_free;
-      short = made.short;
-      own = made.own;
-    }
+    let made = c.in-Made.ensures in
+    unlimited made (c.in-Made.reply, refl, made.answered)
 
 pub returns-in-Overflow : goal.returns-in-Overflow
-returns-in-Overflow g c = overflown c.in-Overflow.ensures
+returns-in-Overflow g c =
+    let refused = c.in-Overflow.ensures.answered in
+    unlimited c.in-Overflow.ensures
+    (record { unmade = refused.unmade; just = refused.just; looked = refused.looked })
 
 pub returns-in-GoesOn : goal.returns-in-GoesOn
 returns-in-GoesOn g c =
-    gone_on c.in-GoesOn.ensures.away _ (rw c.answer.ensures c.add_general.ensures)
+    gone_on (unlimited-rest c.in-GoesOn.ensures) _ (rw c.answer.ensures c.add_general.ensures)

@@ -2,7 +2,8 @@ use Rattle.std.proofs.Common.{◌≡◌, ◌∙◌, ◌∷◌, ◌++◌, [], ap,
 use Rattle.std.proofs.lemmas.List.{append-nil, nil_from_length}
 use Rattle.nb_map.proofs.Filled.{put-next, put-none, put-refused}
 use Rattle.nb_map.specs.Bulk.{put_entry}
-use Rattle.nb_map.specs.Promises.{HasTriedToWrite, found_or_refused}
+use Rattle.nb_map.specs.Progress.{Tries}
+use Rattle.nb_map.specs.Promises.{HasWritten, found_or_refused}
 use Rattle.nb_map.specs.inside.Filling.{HasPut}
 use Rattle.nb_map.proofs.map.Map.fill.Goals as goal
 
@@ -16,8 +17,8 @@ pub loop-key-preserved : goal.loop-key-preserved
 loop-key-preserved c =
     let sofar = c.loop-key.invariant in
     let entry = c.in-Some.field-0-0.now in
-    let wrote : HasTriedToWrite c.args.self.now (put_entry entry) c.loop-key.seat
-    c.try_put.new.seat 1 (found_or_refused c.try_put.result) = search rules in
+    let wrote : HasWritten c.args.self.now (put_entry entry) c.loop-key.seat
+    c.try_put.new.seat (Tries 1) (found_or_refused c.try_put.result) = search rules in
     let next : c.loop-key.rest.now ≡ entry ∷ c.in-Some.tail.now = search rules in
     put-next c.args.self.now c.args.entries.now c.in-Some.tail.now entry c.try_put.result
     (search rules) wrote (sofar.1 ∙ ap (λ rest. sofar.0 ++ rest) next) sofar.2
@@ -34,8 +35,8 @@ pub returns-then-is_err : goal.returns-then-is_err
 returns-then-is_err c =
     let sofar = c.loop-key.invariant in
     let entry = c.in-Some.field-0-0.now in
-    let wrote : HasTriedToWrite c.args.self.now (put_entry entry) c.loop-key.seat
-    c.try_put.new.seat 1 (found_or_refused c.try_put.result) = search rules in
+    let wrote : HasWritten c.args.self.now (put_entry entry) c.loop-key.seat
+    c.try_put.new.seat (Tries 1) (found_or_refused c.try_put.result) = search rules in
     let next : c.loop-key.rest.now ≡ entry ∷ c.in-Some.tail.now = search rules in
     put-refused c.args.self.now c.args.entries.now c.in-Some.tail.now entry c.try_put.result
     (search rules) wrote (sofar.1 ∙ ap (λ rest. sofar.0 ++ rest) next) (search rules) sofar.2

@@ -15,14 +15,14 @@ returns-in_err-reply-clause-updated g c =
     let exchanged = c.in_err-reply.ensures.exchanged in
     rw (p.1, p.2)
     (come-refused c.requires.own c.loop-lost.invariant.1 exchanged.0 _ exchanged.1
-    exchanged.2.own exchanged.2.wait_free c.in_err-reply.field-0.0 c.loop-lost-test.true
+    exchanged.2.own exchanged.2.non_blocking c.in_err-reply.field-0.0 c.loop-lost-test.true
     exchanged.2.answered)
 
 pub returns-then-reply-clause-updated : goal.returns-then-reply-clause-updated
 returns-then-reply-clause-updated g c =
     let exchanged = c.in_ok-reply.ensures.exchanged in
     come-end c.requires.own c.loop-lost.invariant.1 exchanged.0 _ exchanged.1
-    exchanged.2.own exchanged.2.wait_free c.in_ok-reply.reply c.loop-lost-test.true
+    exchanged.2.own exchanged.2.non_blocking c.in_ok-reply.reply c.loop-lost-test.true
     exchanged.2.answered c.if-reply.true
 
 pub loop-lost-preserved : goal.loop-lost-preserved
@@ -30,7 +30,7 @@ loop-lost-preserved g c =
     let exchanged = c.in_ok-reply.ensures.exchanged in (
       c.in_ok-reply.ensures.callable,
       come-more c.requires.own c.loop-lost.invariant.1 exchanged.0 _ exchanged.1
-          exchanged.2.own exchanged.2.wait_free c.in_ok-reply.reply exchanged.2.answered
+          exchanged.2.own exchanged.2.non_blocking c.in_ok-reply.reply exchanged.2.answered
           c.if-reply.false,
     )
 

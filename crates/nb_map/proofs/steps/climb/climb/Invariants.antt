@@ -1,11 +1,11 @@
 use Rattle.std.proofs.Common.{◌-◌}
 use Rattle.nb_core.specs.Plans.{generations_of}
-use Rattle.nb_map.proofs.Climbed.{HasClimbed}
+use Rattle.nb_map.proofs.Climbed.{HasClimbedTo}
 use Rattle.nb_map.proofs.steps.climb.climb.Given as goal
 
 abbrev pub invariant-loop-reply : goal.invariant-loop-reply
 invariant-loop-reply g l = record {
-  climbed : HasClimbed l.chain l.call l.fn.seat l.seat l.rung l.fn.tries l.tries;
+  climbed : HasClimbedTo l.chain l.call l.fn.seat l.seat l.rung l.fn.tries l.tries;
   serves : g.P.Pause.serves l.pause l.chain;
 }
 

@@ -1,8 +1,9 @@
 use Rattle.std.proofs.Common.{◌-◌, arith}
 use Rattle.std.proofs.lemmas.Result.{IfErr-weaker}
 use Rattle.nb_map.proofs.AtHome.{put-rises}
-use Rattle.nb_map.proofs.Away.{just-above, made-above, short-both}
+use Rattle.nb_map.proofs.Away.{just-both, made-both, short-both}
 use Rattle.nb_map.proofs.Made.{made-within}
+use Rattle.nb_map.specs.Progress.{Tries}
 use Rattle.nb_map.proofs.steps.write.put_if_match_in.Goals as goal
 
 -- ---- at home
@@ -22,15 +23,15 @@ returns-in-Overflow-clause-made g c =
 
 pub returns-after-left-eq0-clause-made : goal.returns-after-left-eq0-clause-made
 returns-after-left-eq0-clause-made g c =
-    made-above c.args.chain.now c.in-GoesOn.ensures.tried c.args.tries
-    (c.args.tries - (1 - c.write_home.new.left)) (omega (arith, c.requires.some))
+    made-both c.args.chain.now c.in-GoesOn.ensures.tried (Tries c.args.tries)
+    (Tries (c.args.tries - (1 - c.write_home.new.left))) (omega (arith, c.requires.some))
     c.write_above.ensures.climbed.made
 
 pub returns-after-left-eq0-clause-refused : goal.returns-after-left-eq0-clause-refused
 returns-after-left-eq0-clause-refused g c =
     IfErr-weaker c.write_above.result _ _
-    (just-above c.args.chain.now c.in-GoesOn.ensures.tried c.args.tries
-    (c.args.tries - (1 - c.write_home.new.left)) (omega (arith, c.requires.some))
+    (just-both c.args.chain.now c.in-GoesOn.ensures.tried (Tries c.args.tries)
+    (Tries (c.args.tries - (1 - c.write_home.new.left))) (omega (arith, c.requires.some))
     c.write_above.ensures.climbed.made.grown)
     c.write_above.ensures.climbed.refused
 

@@ -1,8 +1,12 @@
-use Rattle.std.proofs.Common.{arith}
+use Rattle.std.proofs.lemmas.Result.{IfErr-weaker}
 use Rattle.nb_core.specs.declared.calls.Call.TheVariants as call
 use Rattle.nb_map.proofs.Away.{climbed}
+use Rattle.nb_map.proofs.Spent.{just-longer}
 use Rattle.nb_map.proofs.Straight.{at-there}
+use Rattle.nb_map.specs.Progress.{Unlimited}
+use Rattle.nb_map.specs.Refusals.{uncontended}
 use Rattle.nb_map.proofs.steps.write.write_general.Goals as goal
+use Rattle.nb_table.proofs.Theorems.{steps_add_up}
 
 pub write_rounds-requires : goal.write_rounds-requires
 write_rounds-requires g c = record {
@@ -12,10 +16,12 @@ write_rounds-requires g c = record {
 
 pub returns : goal.returns
 returns g c =
-    let rounds = c.write_rounds.ensures in
     let load = c.load_top-top.ensures.grows in
+    let rounds = c.write_rounds.ensures in
     record {
-      made = climbed c.args.chain.now c.requires.own load rounds.made;
-      refused = rounds.refused;
-      looked = omega (arith, load.steps, rounds.made.grown.steps);
+      made = climbed c.args.chain.now Unlimited c.requires.own load rounds.made;
+      refused = IfErr-weaker (uncontended c.write_rounds.result) _ _
+          (just-longer c.args.chain.now.shape (call.Write c.args.key c.args.want c.args.change)
+          Unlimited Unlimited (steps_add_up.one load) rounds.made.grown (λ none. none))
+          rounds.refused;
     }

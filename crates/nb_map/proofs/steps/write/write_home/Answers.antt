@@ -12,11 +12,11 @@ use Rattle.nb_core.specs.declared.states.KeyState.TheVariants.{Claimed, Empty}
 use Rattle.nb_table.specs.Chains.{Extended, SeenBy, seen_by}
 use Rattle.nb_table.specs.Events.{read, shown_by_key}
 use Rattle.nb_map.specs.Calling.{HasMade}
-use Rattle.nb_map.specs.Progress.{IsAloneAtHome, IsAtHome, IsKnownHome, IsLastSeen}
+use Rattle.nb_map.specs.Progress.{IsAloneAtHome, IsAtHome, IsKnownHome, IsLastSeen, Unlimited}
 use Rattle.nb_map.specs.Logs.{as_replied, made_in}
-use Rattle.nb_map.specs.Refusals.{IsJustAdd}
-use Rattle.nb_map.specs.declared.faults.AddFault.TheVariants.{ValueRange}
-use Rattle.nb_map.specs.declared.faults.AddFault.{AddFault}
+use Rattle.nb_map.specs.Refusals.{IsJust}
+use Rattle.nb_map.specs.declared.faults.PutFault.TheVariants.{ValueRange}
+use Rattle.nb_map.specs.declared.faults.PutFault.{PutFault}
 use Rattle.nb_map.specs.inside.Climbing.{IsAt, IsSpent, rung_at}
 use Rattle.nb_map.specs.inside.Waiting.{HasBeenTold, HasLookedInVain}
 use Rattle.nb_map.specs.inside.Writing.{IsDecided}
@@ -68,7 +68,7 @@ returns-in-Leave g c =
     let shown = load-on_path call c.load_key_word_at-word.result
     (slot-of_path c.shape.ensures c.key.ensures c.path.ensures c.slot-home.ensures)
     c.load_key_word_at-word.ensures.grows in
-    let told : Result Reply AddFault = Ok c.in-Leave.reply in
+    let told : Result Reply PutFault = Ok c.in-Leave.reply in
     record {
       tried = told-there chain c.known_top-top.result c.requires.own c.known_top-top.ensures 1
           told
@@ -189,11 +189,11 @@ one-step g c made alone known =
 
 -- with the call at the slot, three steps, and five where it was claimed
 told-here :
-    (g : Over) (c : After-has_home g) {after : SeenBy} {left : ℕ} (told : Result Reply AddFault)
+    (g : Over) (c : After-has_home g) {after : SeenBy} {left : ℕ} (told : Result Reply PutFault)
     → HasMade c.args.chain.now.shape c.args.call.now c.has_home.new.seat after
     (made_in c.args.call.now told) (2 + (1 - left))
     → IsSpent c.args.call.now c.has_home.new.seat after 1 left
-    → IfErr told (IsJustAdd c.args.chain.now.shape c.args.call.now after)
+    → IfErr told (IsJust c.args.chain.now.shape c.args.call.now c.args.seat.now after Unlimited)
     → HasBeenTold c.args.chain.now.shape c.args.call.now c.args.seat.now after told
 told-here g c {left = left} told made spent refused =
     let look = looked g c in

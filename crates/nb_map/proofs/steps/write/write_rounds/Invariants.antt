@@ -1,7 +1,7 @@
 use Rattle.std.proofs.Common.{[]}
-use Rattle.nb_map.proofs.Rounds.{round_steps}
 use Rattle.nb_map.specs.Calling.{HasMade}
 use Rattle.nb_map.specs.Progress.{passed_since}
+use Rattle.nb_map.specs.Steps.{lost_steps}
 use Rattle.nb_map.proofs.steps.write.write_rounds.Given as goal
 
 abbrev pub invariant-loop : goal.invariant-loop
@@ -9,5 +9,5 @@ invariant-loop g l = record {
   can_next : (goal.iterator-loop g).can_next l.iterator';
   is_finite : (goal.iterator-loop g).is_finite l.iterator';
   rounds : HasMade l.chain.shape l.call l.fn.seat l.seat []
-      (round_steps l.chain.shape (passed_since l.call l.fn.seat l.seat));
+      (lost_steps l.chain.shape (passed_since l.call l.fn.seat l.seat));
 }

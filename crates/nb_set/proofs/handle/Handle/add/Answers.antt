@@ -1,9 +1,10 @@
 use Rattle.std.proofs.Common.{Err, Ok, subst}
 use Rattle.std.proofs.lemmas.Result.{err_from_is_err_and}
 use Rattle.nb_map.specs.NamedCalls.{put_if_absent_of}
+use Rattle.nb_map.specs.Progress.{Unlimited}
 use Rattle.nb_map.specs.Promises as of_map
 use Rattle.nb_map.specs.Promises.{Found, Refused}
-use Rattle.nb_map.specs.declared.faults.AddFault.TheVariants as add_fault
+use Rattle.nb_map.specs.declared.faults.PutFault.TheVariants as fault
 use Rattle.nb_set.specs.Handles.{HandleOf}
 use Rattle.nb_set.specs.Log.{Add}
 use Rattle.nb_set.specs.Promises.{HasWritten}
@@ -19,7 +20,7 @@ returns-in_err-before-clause-wrote g c =
     (Err p.0)) c.self.view_is
     (refused c.args.key p.0
     (subst (λ n. of_map.HasWritten c.self.inside.map.map (put_if_absent_of c.args.key n)
-    c.self.inside.map.seat c.put_if_absent.new.self.seat (Refused add_fault.Full))
+    c.self.inside.map.seat c.put_if_absent.new.self.seat Unlimited (Refused fault.Full))
     c.present.ensures c.in_err-before.ensures.wrote)))
 
 pub returns-clause-wrote : goal.returns-clause-wrote
@@ -29,5 +30,5 @@ returns-clause-wrote g c =
     (Ok c.is_none.result)) c.self.view_is
     (added c.args.key c.in_ok-before.before c.is_none.result c.is_none.ensures
     (subst (λ n. of_map.HasWritten c.self.inside.map.map (put_if_absent_of c.args.key n)
-    c.self.inside.map.seat c.put_if_absent.new.self.seat (Found c.in_ok-before.before))
+    c.self.inside.map.seat c.put_if_absent.new.self.seat Unlimited (Found c.in_ok-before.before))
     c.present.ensures c.in_ok-before.ensures.wrote))
