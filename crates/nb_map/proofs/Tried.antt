@@ -36,10 +36,10 @@ use Rattle.nb_map.specs.inside.Climbing.{GoesOn, IsAbove, IsAtSlot, IsSpent, IsT
 use Rattle.nb_map.specs.inside.Writing.{IsDecided}
 use Rattle.nb_map.specs.Progress.{passed_since}
 use Rattle.nb_map.specs.declared.steps.rung.Below.TheVariants.{HasKey}
-use Rattle.nb_map.specs.declared.steps.rung.Attempt.{Attempt}
-use Rattle.nb_map.specs.declared.steps.rung.Attempt.TheVariants.{Told, Overflow, Lost, Copied}
-use Rattle.nb_map.specs.declared.steps.decide.Decision.{Decision}
-use Rattle.nb_map.specs.declared.steps.decide.Decision.TheVariants as decision
+use Rattle.nb_map.specs.declared.steps.slot.Attempt.{Attempt}
+use Rattle.nb_map.specs.declared.steps.slot.Attempt.TheVariants.{Told, Overflow, Lost, Copied}
+use Rattle.nb_map.specs.declared.steps.slot.Decision.{Decision}
+use Rattle.nb_map.specs.declared.steps.slot.Decision.TheVariants as decision
 use Rattle.nb_core.proofs.Theorems.{beginnings_are_legal, decided, log_is_replayed, lost_exchange, passed_over_adds, passed_settled}
 use Rattle.nb_table.proofs.Theorems.{steps_add_up}
 

@@ -1,13 +1,9 @@
 //! The map and its seats.
-ghost use Rattle.std.specs.Prelude.{IfOk, Option, if◌then◌else◌, is_some, pos, ℕ, ◌≡◌, ◌≤◌};
-ghost use Rattle.nb_core.specs.Meaning.{net_of_change};
+ghost use Rattle.std.specs.Prelude.{IfOk, Option, is_some, ℕ, ◌≡◌};
 ghost use Rattle.nb_core.specs.Plans.{IsPlan};
-ghost use Rattle.nb_core.specs.declared.calls.Call.TheVariants as call;
-ghost use Rattle.nb_core.specs.declared.calls.Change.TheVariants as change;
 ghost use Rattle.nb_map.specs.Logs.{HaveEmptyLogs};
-ghost use Rattle.nb_map.specs.Maps.{AreMine, IsMine, accounted, new_seats};
-ghost use Rattle.nb_map.specs.Progress.{Tries};
-ghost use Rattle.nb_map.specs.Promises.{HasEstimated, HasGot, HasMet, HasSeenTop, HasWritten, replied_or_refused};
+ghost use Rattle.nb_map.specs.Maps.{AreMine, IsMine, new_seats};
+ghost use Rattle.nb_map.specs.Promises.{HasEstimated, HasGot, HasMet, HasSeenTop};
 
 mod answers;
 mod bulk;
@@ -18,17 +14,15 @@ mod general;
 mod listing;
 mod opening;
 mod settling;
+mod straight;
 mod trying;
-mod trying_on;
 mod updating;
 mod waiting;
 mod walks;
 
-use crate::faults::PutFault;
 use crate::steps::get::get_in;
-use crate::steps::write::Straight;
 pub use ended::Ended;
-use nb_core::{Change, Key, Num, OutOfMemory, Reply, SeatRoom, Shape, Want};
+use nb_core::{Key, Num, OutOfMemory, SeatRoom, Shape};
 use nb_count::{CountSeat, Counter};
 use nb_table::{Chain, ChainSeat};
 use std::alloc::Global;
@@ -133,67 +127,6 @@ impl Map {
             × HasGot self.now key seat.old seat.new number }
     {
         self.get(seat, key).is_some()
-    }
-
-    /// Changes what the map has at a key, where the condition holds of it, and replies what it had:
-    /// a straight way, and a general one. An exchange that another seat came before is tried again,
-    /// `tries` times in all, so this waits for nobody: it takes at most 8 (T + `tries`
-    /// + G) (N + 8) steps on the chain, whose G tables have T slots and the last of them N; and
-    /// however many tries it has, at most 8 (T + w + 1 + G) (N + 8) where other seats have won `w`
-    /// exchanges on the key since this seat's last step. Where they have won none and the key is at
-    /// home in the table that the seat remembers, these are at most three: loads of the key and of
-    /// its value, and the exchange; or five, where it may have to claim its slot first
-    /// (`IsShortAtHome` says all that is asked). A key that came is counted afterwards, and one
-    /// that went, by one step on the counter. A refused write leaves the map as it is; but tables
-    /// may have been installed and copied for it, and its key may keep a slot without a number.
-    /// Where its first exchange is lost, and what that found decides the write, it rests for some
-    /// microseconds before it answers, so that others go on at the key.
-    #[inline(always)]
-    pub fn put_if_match(
-        &self,
-        seat: &mut Seat,
-        key: Key,
-        want: Want,
-        change: Change,
-        tries: u32,
-    ) -> Result<Reply, PutFault>
-        requires own { IsMine self.now seat.old }
-        requires some { 1 ≤ tries }
-        ensures { HasWritten self.now (call.Write key want change) seat.old seat.new (Tries tries)
-            (replied_or_refused result) }
-    {
-        // By reference, since Rattle's borrow checker covers no second move of these two.
-        let (asked, made) = (&want, &change);
-        let mut left = tries;
-        match self.try_straight(seat, key, *asked, *made, &mut left) {
-            Straight::Made(reply) => Ok(reply),
-            Straight::Overflow => Err(PutFault::ValueRange),
-            Straight::GoesOn => self.put_if_match_general(seat, key, *asked, *made, left),
-        }
-    }
-
-    /// Counts what a write with this change and reply did to the number of keys.
-    pub(crate) fn count(&self, seat: &mut CountSeat, change: &Change, reply: &Reply)
-        requires own { seat.old.counter ≡ self.now.counter.id }
-        ensures { seat.new
-            ≡ accounted (if reply.now.matched then net_of_change change.now reply.now.before
-            else pos 0) seat.old }
-    {
-        if !reply.matched {
-            return;
-        }
-        match *change {
-            Change::Remove => {
-                if reply.before.is_some() {
-                    self.counter.add(seat, -1);
-                }
-            }
-            Change::Put(_) | Change::Add(_) => {
-                if reply.before.is_none() {
-                    self.counter.add(seat, 1);
-                }
-            }
-        }
     }
 
     /// How many tables are known to be complete, from the first one on: the top word, by one load.

@@ -4,7 +4,6 @@
 
 pub(crate) mod claim;
 pub(crate) mod climb;
-pub(crate) mod decide;
 pub(crate) mod get;
 pub(crate) mod pause;
 pub(crate) mod rung;

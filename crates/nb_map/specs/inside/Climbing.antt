@@ -16,8 +16,8 @@ use Rattle.nb_map.specs.Progress.{Tries, Unlimited, passed_since}
 use Rattle.nb_map.specs.Refusals.{IsJust}
 use Rattle.nb_map.specs.declared.faults.PutFault.TheVariants as fault
 use Rattle.nb_map.specs.declared.faults.PutFault.{PutFault}
-use Rattle.nb_map.specs.declared.steps.rung.Attempt.TheVariants as attempt
-use Rattle.nb_map.specs.declared.steps.rung.Attempt.{Attempt}
+use Rattle.nb_map.specs.declared.steps.slot.Attempt.TheVariants as attempt
+use Rattle.nb_map.specs.declared.steps.slot.Attempt.{Attempt}
 use Rattle.nb_map.specs.declared.steps.rung.Below.TheVariants as below
 use Rattle.nb_map.specs.declared.steps.rung.Below.{Below}
 use Rattle.nb_map.specs.declared.steps.rung.Rung.{Rung}

@@ -10,8 +10,8 @@ use Rattle.nb_core.specs.declared.calls.Call.{Call}
 use Rattle.nb_core.specs.declared.slot_paths.Slot.{Slot}
 use Rattle.nb_core.specs.declared.states.ValueState.{ValueState}
 use Rattle.nb_table.specs.Chains.{ChainOf, IsOwn, SeenBy, seen_by}
-use Rattle.nb_map.specs.declared.steps.decide.Decision.TheVariants as decision
-use Rattle.nb_map.specs.declared.steps.decide.Decision.{Decision}
+use Rattle.nb_map.specs.declared.steps.slot.Decision.TheVariants as decision
+use Rattle.nb_map.specs.declared.steps.slot.Decision.{Decision}
 
 -- ---- what a call does at its key
 

@@ -3,21 +3,23 @@
 //! lock-free: only the success of others costs them anything. Each tells in the end just one call,
 //! or none if it is refused.
 //!
-//! Each goes a straight way first, which stands in its own code, with one try, and needs no memory for
-//! a call and its reply. What comes after that is in `general.rt`.
-ghost use Rattle.nb_core.specs.declared.calls.Call.TheVariants as call;
+//! Each goes a straight way first (`straight.rt`), which stands in its own code, with one try, and
+//! needs no memory for a call and its reply. Where that didn't do, it goes on by a general way, up
+//! the tables, for as long as other seats come first. Each call has its own copy of that, in which
+//! its condition and its change are known.
 ghost use Rattle.nb_map.specs.Maps.{IsMine};
 ghost use Rattle.nb_map.specs.NamedCalls.{add_of, put_if_absent_of, put_of, remove_if_of, remove_of, replace_if_of, replace_of};
 ghost use Rattle.nb_map.specs.Progress.{Unlimited};
 ghost use Rattle.nb_map.specs.Promises.{Found, HasWritten, Matched, found_or_full, found_or_refused};
 ghost use Rattle.nb_map.specs.Refusals.{uncontended};
-ghost use Rattle.nb_map.specs.inside.Waiting.{CantOverflow, HasGoneStraight, made_or_on};
+ghost use Rattle.nb_map.specs.inside.Waiting.{HasGoneOn, answer_of_added, answer_of_put};
 
 use crate::faults::{AddFault, Full};
+use crate::map::answers::{Added, Gone};
 use crate::map::{Map, Seat};
 use crate::steps::pause::rest_if_lost;
 use crate::steps::write::Straight;
-use nb_core::{Change, Key, Num, Reply, Want};
+use nb_core::{Change, Key, Num, Want};
 use std::sync::Wait;
 
 impl Map {
@@ -47,6 +49,17 @@ impl Map {
         }
     }
 
+    /// Goes on with `put`.
+    #[cold]
+    #[inline(never)]
+    fn put_general<R: Wait>(&self, rt: &R, seat: &mut Seat, key: Key, number: Num) -> Gone
+        requires own { IsMine self.now seat.old }
+        ensures { HasGoneOn self.now (put_of key number) seat.old seat.new Unlimited
+            (found_or_full (answer_of_put result)) }
+    {
+        self.put_on(rt, seat, key, Want::Any, Change::Put(number))
+    }
+
     /// Puts a number at a key that has none, and answers what was there.
     /// `ConcurrentMap.putIfAbsent`. Lock-free, with the bound of `put`.
     pub fn put_if_absent<R: Wait>(
@@ -66,6 +79,17 @@ impl Map {
         }
     }
 
+    /// Goes on with `put_if_absent`.
+    #[cold]
+    #[inline(never)]
+    fn put_if_absent_general<R: Wait>(&self, rt: &R, seat: &mut Seat, key: Key, number: Num) -> Gone
+        requires own { IsMine self.now seat.old }
+        ensures { HasGoneOn self.now (put_if_absent_of key number) seat.old seat.new Unlimited
+            (found_or_full (answer_of_put result)) }
+    {
+        self.put_on(rt, seat, key, Want::Absent, Change::Put(number))
+    }
+
     /// Puts a number in place of another, and answers what was there. `ConcurrentMap.replace` of
     /// two arguments. Lock-free, with the bound of `put`.
     pub fn replace<R: Wait>(&self, rt: &R, seat: &mut Seat, key: Key, number: Num) -> Option<Num>
@@ -77,6 +101,24 @@ impl Map {
             Some(reply) => reply.before,
             None => self.replace_general(rt, seat, key, number),
         }
+    }
+
+    /// Goes on with `replace`.
+    #[cold]
+    #[inline(never)]
+    fn replace_general<R: Wait>(
+        &self,
+        rt: &R,
+        seat: &mut Seat,
+        key: Key,
+        number: Num,
+    ) -> Option<Num>
+        requires own { IsMine self.now seat.old }
+        ensures { HasGoneOn self.now (replace_of key number) seat.old seat.new Unlimited
+            (Found result) }
+    {
+        self.set_on(rt, seat, key, Want::Present, Change::Put(number))
+            .before
     }
 
     /// Puts a number in place of this one, and answers whether it did. `ConcurrentMap.replace` of
@@ -92,6 +134,25 @@ impl Map {
         }
     }
 
+    /// Goes on with `replace_if`.
+    #[cold]
+    #[inline(never)]
+    fn replace_if_general<R: Wait>(
+        &self,
+        rt: &R,
+        seat: &mut Seat,
+        key: Key,
+        old: Num,
+        new: Num,
+    ) -> bool
+        requires own { IsMine self.now seat.old }
+        ensures { HasGoneOn self.now (replace_if_of key old new) seat.old seat.new Unlimited
+            (Matched result) }
+    {
+        self.set_on(rt, seat, key, Want::Equal(old), Change::Put(new))
+            .matched
+    }
+
     /// Takes out a key, and answers what was there. `ConcurrentMap.remove` of one argument.
     /// Lock-free, with the bound of `put`.
     pub fn remove<R: Wait>(&self, rt: &R, seat: &mut Seat, key: Key) -> Option<Num>
@@ -105,6 +166,17 @@ impl Map {
         }
     }
 
+    /// Goes on with `remove`.
+    #[cold]
+    #[inline(never)]
+    fn remove_general<R: Wait>(&self, rt: &R, seat: &mut Seat, key: Key) -> Option<Num>
+        requires own { IsMine self.now seat.old }
+        ensures { HasGoneOn self.now (remove_of key) seat.old seat.new Unlimited
+            (Found result) }
+    {
+        self.set_on(rt, seat, key, Want::Any, Change::Remove).before
+    }
+
     /// Takes out a key that has this number, and answers whether it did. `ConcurrentMap.remove` of
     /// two arguments. Lock-free, with the bound of `put`.
     pub fn remove_if<R: Wait>(&self, rt: &R, seat: &mut Seat, key: Key, number: Num) -> bool
@@ -116,6 +188,18 @@ impl Map {
             Some(reply) => reply.matched,
             None => self.remove_if_general(rt, seat, key, number),
         }
+    }
+
+    /// Goes on with `remove_if`.
+    #[cold]
+    #[inline(never)]
+    fn remove_if_general<R: Wait>(&self, rt: &R, seat: &mut Seat, key: Key, number: Num) -> bool
+        requires own { IsMine self.now seat.old }
+        ensures { HasGoneOn self.now (remove_if_of key number) seat.old seat.new Unlimited
+            (Matched result) }
+    {
+        self.set_on(rt, seat, key, Want::Equal(number), Change::Remove)
+            .matched
     }
 
     /// Raises the number at a key, an absent one counting as 0, and answers what was there.
@@ -142,24 +226,21 @@ impl Map {
         }
     }
 
-    /// The straight way of a write that puts no sum: so it isn't refused there. It rests where it
-    /// loses its try. Its condition and its change are known in each call that uses it, and so what
-    /// is left of it there is short.
-    #[inline(always)]
-    fn write_straight(&self, seat: &mut Seat, key: Key, want: Want, change: Change) -> Option<Reply>
+    /// Goes on with `add`.
+    #[cold]
+    #[inline(never)]
+    fn add_general<R: Wait>(&self, rt: &R, seat: &mut Seat, key: Key, number: Num) -> Added
         requires own { IsMine self.now seat.old }
-        requires no_sum { CantOverflow (call.Write key want change) }
-        ensures { HasGoneStraight self.now (call.Write key want change) seat.old seat.new
-            Unlimited Unlimited (made_or_on result) }
+        ensures { HasGoneOn self.now (add_of key number) seat.old seat.new Unlimited
+            (found_or_refused (uncontended (answer_of_added result))) }
     {
-        let mut left = 1;
-        match self.try_straight(seat, key, want, change, &mut left) {
-            Straight::Made(reply) => Some(reply),
-            Straight::Overflow => unreachable!(),
-            Straight::GoesOn => {
-                rest_if_lost(left);
-                None
-            }
+        match self.write_general(rt, seat, key, Want::Any, Change::Add(number)) {
+            Ok(reply) => match reply.before {
+                Some(found) => Added::Found(found),
+                None => Added::Nothing,
+            },
+            Err(AddFault::Full) => Added::Full,
+            Err(AddFault::ValueRange) => Added::ValueRange,
         }
     }
 }

@@ -1,5 +1,5 @@
 //! A slot for the key of a call that puts a number at an absent key.
-ghost use Rattle.std.specs.Prelude.{IfErr, IfOk, IsTrue, [], false, suc, ℕ, ◌+◌, ◌-◌, ◌<◌, ◌≡◌, ◌≢◌, ◌≤◌};
+ghost use Rattle.std.specs.Prelude.{IfErr, IfOk, [], suc, ℕ, ◌+◌, ◌-◌, ◌<◌, ◌≡◌, ◌≢◌, ◌≤◌};
 ghost use Rattle.nb_core.specs.Calls.{Fills};
 ghost use Rattle.nb_core.specs.History.{key_of_call};
 ghost use Rattle.nb_core.specs.Plans.{generations_of, limit_of, size_of};
@@ -14,6 +14,7 @@ ghost use Rattle.nb_map.specs.inside.Climbing.{HasBelow, IsAt, IsClaimed, IsFoun
 use crate::faults::PutFault;
 use crate::steps::rung::{Below, Rung, Visit};
 use crate::steps::search::{PathEnd, probe};
+use crate::steps::write::has_next;
 use nb_copy::complete;
 use nb_core::{Call, KeyState};
 use nb_table::{Chain, ChainSeat};
@@ -88,18 +89,6 @@ fn claim_at(
         KeyState::Dead => Err(Visit::Above(Below::Passed)),
         KeyState::Claimed(other) => { if other == key { Ok(Some(i)) } else { Ok(None) } }
     }
-}
-
-/// Whether table `g` has a next one, by a load unless it is the last table.
-#[inline]
-pub(crate) fn has_next(chain: &Chain, seat: &mut ChainSeat, g: u32) -> bool
-    requires own { IsOwn chain.now seat.old }
-    requires table { g < generations_of chain.now.shape }
-    ensures made { (call : Call) → HasMade chain.now.shape call seat.old seat.new [] 1 }
-    ensures next { IsTrue result → IsInstalled (seen_by chain.now.shape seat.new) (suc g) }
-    ensures none { result ≡ false → IsInstalled (seen_by chain.now.shape seat.new) (suc g) → ⊥ }
-{
-    g + 1 < chain.shape().generations() && chain.load_next(seat, g, None)
 }
 
 /// What a call comes to where other keys have its key's whole path: in the last table there is no

@@ -8,11 +8,10 @@ ghost use Rattle.nb_map.specs.inside.Climbing.{IsAt, IsForAbsent, IsFound, IsRef
 
 use crate::faults::PutFault;
 use crate::steps::claim::find_or_claim;
-use crate::steps::decide::{Decision, decide};
 use crate::steps::pause::Pause;
 use crate::steps::rung::{Below, Rung, Visit};
 use crate::steps::search::{PathEnd, probe};
-use crate::steps::slot::call_at;
+use crate::steps::slot::{Decision, call_at, decide};
 use nb_core::{Call, Reply, Slot};
 use nb_table::{Chain, ChainSeat};
 

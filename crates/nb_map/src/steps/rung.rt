@@ -3,7 +3,7 @@ ghost use Rattle.std.specs.Prelude.{◌≡◌};
 ghost use Rattle.nb_map.specs.inside.Climbing.{rung_at};
 
 use crate::faults::PutFault;
-use nb_core::{Reply, ValueWord};
+use nb_core::Reply;
 
 /// What a call knows of the table below the one that it has come to.
 #[derive(Clone, Copy)]
@@ -37,19 +37,6 @@ impl Rung {
             below: Below::Complete,
         }
     }
-}
-
-/// What a call comes to at its key's slot in a table.
-#[derive(Clone, Copy)]
-pub(crate) enum Attempt {
-    /// It is made, and this is its reply.
-    Told(Reply),
-    /// It would put a number past the greatest one.
-    Overflow,
-    /// It has lost its last try.
-    Lost,
-    /// The slot is being copied, and its value is this word.
-    Copied(ValueWord),
 }
 
 /// What a call comes to in a table.

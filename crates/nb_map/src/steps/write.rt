@@ -1,8 +1,11 @@
 //! Where a write begins: at its key's home slot in the table that the seat remembers.
-ghost use Rattle.std.specs.Prelude.{IfErr, IsTrue, [], false, min, ◌+◌, ◌<◌, ◌≡◌, ◌≢◌, ◌≤◌};
+ghost use Rattle.std.specs.Prelude.{IfErr, IsTrue, [], false, min, suc, ◌+◌, ◌<◌, ◌≡◌, ◌≢◌, ◌≤◌};
 ghost use Rattle.nb_core.specs.Calls.{Fills};
 ghost use Rattle.nb_core.specs.History.{key_of_call};
+ghost use Rattle.nb_core.specs.Plans.{generations_of};
+ghost use Rattle.nb_core.specs.Tables.{IsInstalled};
 ghost use Rattle.nb_core.specs.declared.calls.Call.TheVariants as call;
+ghost use Rattle.nb_core.specs.declared.calls.Call.{Call};
 ghost use Rattle.nb_core.specs.declared.states.KeyState.TheVariants as key_is;
 ghost use Rattle.nb_table.specs.Chains.{IsOwn, seen_by};
 ghost use Rattle.nb_map.specs.Calling.{HasMade};
@@ -15,12 +18,10 @@ ghost use Rattle.nb_map.specs.inside.Waiting.{HasClimbed, HasTriedAtHome};
 ghost use Rattle.nb_map.specs.inside.Writing.{IsHomeOf};
 
 use crate::faults::{AddFault, PutFault};
-use crate::steps::claim::has_next;
 use crate::steps::climb::climb;
-use crate::steps::decide::{Decision, decide};
 use crate::steps::pause::{Pause, Rest};
-use crate::steps::rung::{Attempt, Rung};
-use crate::steps::slot::try_at;
+use crate::steps::rung::Rung;
+use crate::steps::slot::{Attempt, Decision, decide, try_at};
 use nb_core::{Call, Change, Key, KeyState, KeyWord, Reply, Slot, Want};
 use nb_table::{Chain, ChainSeat};
 use std::sync::Wait;
@@ -246,4 +247,16 @@ fn claim_home(chain: &Chain, seat: &mut ChainSeat, call: &Call, home: Slot) -> b
         KeyState::Dead => false,
         KeyState::Claimed(other) => other == call.key(),
     }
+}
+
+/// Whether table `g` has a next one, by a load unless it is the last table.
+#[inline]
+pub(crate) fn has_next(chain: &Chain, seat: &mut ChainSeat, g: u32) -> bool
+    requires own { IsOwn chain.now seat.old }
+    requires table { g < generations_of chain.now.shape }
+    ensures made { (call : Call) → HasMade chain.now.shape call seat.old seat.new [] 1 }
+    ensures next { IsTrue result → IsInstalled (seen_by chain.now.shape seat.new) (suc g) }
+    ensures none { result ≡ false → IsInstalled (seen_by chain.now.shape seat.new) (suc g) → ⊥ }
+{
+    g + 1 < chain.shape().generations() && chain.load_next(seat, g, None)
 }

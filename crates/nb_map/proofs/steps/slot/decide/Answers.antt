@@ -8,7 +8,7 @@ use Rattle.nb_core.specs.declared.calls.Call.TheVariants.{Write}
 use Rattle.nb_core.specs.declared.calls.Change.{Change}
 use Rattle.nb_core.specs.declared.calls.Want.{Want}
 use Rattle.nb_core.specs.declared.numbers.TheConstants.{VALUE_MAX}
-use Rattle.nb_map.proofs.steps.decide.decide.Goals as goal
+use Rattle.nb_map.proofs.steps.slot.decide.Goals as goal
 
 -- a test that leads to an error holds
 failed : {A E : Type 0} (b : Bool) (x z : E) (y : A)

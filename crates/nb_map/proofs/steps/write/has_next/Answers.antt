@@ -2,7 +2,7 @@ use Rattle.std.proofs.Common.{◌≡◌, suc, arith, rules}
 use Rattle.nb_core.specs.Plans.{generations_of}
 use Rattle.nb_map.proofs.Made.{made-none, made-quiet, made-within}
 use Rattle.nb_map.proofs.Searched.{table-within}
-use Rattle.nb_map.proofs.steps.claim.has_next.Goals as goal
+use Rattle.nb_map.proofs.steps.write.has_next.Goals as goal
 
 pub returns-then-g-generations-clause-made : goal.returns-then-g-generations-clause-made
 returns-then-g-generations-clause-made c call =

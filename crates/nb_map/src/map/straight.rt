@@ -1,0 +1,124 @@
+//! The straight way of writes: one try at the key's home slot, and the count of what it did to the
+//! number of keys. Its condition and its change are known in each call that uses it, and so what is
+//! left of it there is short.
+ghost use Rattle.std.specs.Prelude.{if◌then◌else◌, pos, ◌≡◌, ◌≤◌};
+ghost use Rattle.nb_core.specs.Meaning.{net_of_change};
+ghost use Rattle.nb_core.specs.declared.calls.Call.TheVariants as call;
+ghost use Rattle.nb_map.specs.Maps.{IsMine, accounted};
+ghost use Rattle.nb_map.specs.Progress.{Tries, Unlimited};
+ghost use Rattle.nb_map.specs.inside.Waiting.{CantOverflow, HasGoneStraight, made_or_on};
+
+use crate::map::{Map, Seat};
+use crate::steps::pause::{NoPause, rest_if_lost};
+use crate::steps::write::{Straight, write_home};
+use nb_core::{Call, Change, Key, Reply, Want};
+use nb_count::CountSeat;
+
+impl Map {
+    /// The straight way of a write that waits and puts no sum: so it isn't refused there. It rests
+    /// where it loses its try.
+    #[inline(always)]
+    pub(super) fn write_straight(
+        &self,
+        seat: &mut Seat,
+        key: Key,
+        want: Want,
+        change: Change,
+    ) -> Option<Reply>
+        requires own { IsMine self.now seat.old }
+        requires no_sum { CantOverflow (call.Write key want change) }
+        ensures { HasGoneStraight self.now (call.Write key want change) seat.old seat.new
+            Unlimited Unlimited (made_or_on result) }
+    {
+        let mut left = 1;
+        match self.try_straight(seat, key, want, change, &mut left) {
+            Straight::Made(reply) => Some(reply),
+            Straight::Overflow => unreachable!(),
+            Straight::GoesOn => {
+                rest_if_lost(left);
+                None
+            }
+        }
+    }
+
+    /// The straight way of a write with so many tries that puts no sum: so it isn't refused there.
+    #[inline(always)]
+    pub(super) fn try_set(
+        &self,
+        seat: &mut Seat,
+        key: Key,
+        want: Want,
+        change: Change,
+        tries: &mut u32,
+    ) -> Option<Reply>
+        requires own { IsMine self.now seat.old }
+        requires some { 1 ≤ tries.old }
+        requires no_sum { CantOverflow (call.Write key want change) }
+        ensures { HasGoneStraight self.now (call.Write key want change) seat.old seat.new
+            (Tries tries.old) (Tries tries.new) (made_or_on result) }
+    {
+        match self.try_straight(seat, key, want, change, tries) {
+            Straight::Made(reply) => Some(reply),
+            Straight::Overflow => unreachable!(),
+            Straight::GoesOn => None,
+        }
+    }
+
+    /// The straight way of a write with so many tries, its first one, and the count of what it did
+    /// to the number of keys. It rests where the loss of its try has shown that there is nothing
+    /// left to do, as of a put of the number that the other write has put. Where it has to go on by
+    /// the general way, its lost try is taken from the tries, of which maybe none is left.
+    #[inline(always)]
+    pub(super) fn try_straight(
+        &self,
+        seat: &mut Seat,
+        key: Key,
+        want: Want,
+        change: Change,
+        tries: &mut u32,
+    ) -> Straight
+        requires own { IsMine self.now seat.old }
+        requires some { 1 ≤ tries.old }
+        ensures { HasGoneStraight self.now (call.Write key want change) seat.old seat.new
+            (Tries tries.old) (Tries tries.new) result }
+    {
+        let call = Call::Write { key, want, change };
+        let mut left = 1;
+        match write_home(&self.chain, &mut seat.chain, &call, &mut left, &mut NoPause) {
+            Straight::Made(reply) => {
+                rest_if_lost(left);
+                self.count(&mut seat.count, &change, &reply);
+                Straight::Made(reply)
+            }
+            Straight::Overflow => Straight::Overflow,
+            Straight::GoesOn => {
+                *tries -= 1 - left;
+                Straight::GoesOn
+            }
+        }
+    }
+
+    /// Counts what a write with this change and reply did to the number of keys.
+    pub(crate) fn count(&self, seat: &mut CountSeat, change: &Change, reply: &Reply)
+        requires own { seat.old.counter ≡ self.now.counter.id }
+        ensures { seat.new
+            ≡ accounted (if reply.now.matched then net_of_change change.now reply.now.before
+            else pos 0) seat.old }
+    {
+        if !reply.matched {
+            return;
+        }
+        match *change {
+            Change::Remove => {
+                if reply.before.is_some() {
+                    self.counter.add(seat, -1);
+                }
+            }
+            Change::Put(_) | Change::Add(_) => {
+                if reply.before.is_none() {
+                    self.counter.add(seat, 1);
+                }
+            }
+        }
+    }
+}
